@@ -1,0 +1,9 @@
+pub mod Damage
+pub mod Held
+pub mod Inside
+pub mod Lent
+pub mod Numbers
+pub mod Orders
+pub mod Spelling
+pub mod Steps
+pub mod Zeros

@@ -1,0 +1,37 @@
+-- The header that every table begins with, and its checks (ACPI 6.4, section 5.2.6).
+use Rattle.std.specs.Prelude.{ℕ, ◌&&◌, ◌==◌, List, take, length, nat_le, Result}
+use Rattle.std.specs.Str.{bytes_eq, is_utf8}
+use Rattle.acpi_base.specs.declared.error.AcpiError.{AcpiError}
+use Rattle.acpi_base.specs.declared.error.AcpiError.TheVariants.{SdtInvalidSignature, SdtInvalidOemId, SdtInvalidTableId, SdtInvalidChecksum, SdtInvalidLength}
+use Rattle.acpi_base.specs.declared.signature.Signature.{Signature}
+use Rattle.acpi_base.specs.declared.sdt.SdtHeader.{SdtHeader}
+use Rattle.acpi_base.specs.Bytes.{field_of, part, sum_of}
+use Rattle.acpi_base.specs.Steps.{◌>>=◌, holds}
+
+-- the header that the bytes begin with
+unfoldable pub header_at : List ℕ → SdtHeader
+header_at b = record {
+  signature = record { 0 = part b 0 4 };
+  length = field_of b 4 4;
+  revision = field_of b 8 1;
+  checksum = field_of b 9 1;
+  oem_id = part b 10 6;
+  oem_table_id = part b 16 8;
+  oem_revision = field_of b 24 4;
+  creator_id = field_of b 28 4;
+  creator_revision = field_of b 32 4;
+}
+
+-- the signature is this one and a text, and both ids are texts
+unfoldable pub check_names : Signature → SdtHeader → Result (Unit {0}) AcpiError
+check_names s h = do
+  _ ← holds (bytes_eq h.signature.0 s.0 && is_utf8 h.signature.0) (SdtInvalidSignature s)
+  _ ← holds (is_utf8 h.oem_id) (SdtInvalidOemId s)
+  holds (is_utf8 h.oem_table_id) (SdtInvalidTableId s)
+
+-- the names, then the length, then the sum of that many bytes
+unfoldable pub check_table : Signature → List ℕ → Result (Unit {0}) AcpiError
+check_table s b = do
+  _ ← check_names s (header_at b)
+  _ ← holds (nat_le 36 (field_of b 4 4) && nat_le (field_of b 4 4) (length b)) (SdtInvalidLength s)
+  holds (sum_of (take (field_of b 4 4) b) == 0) (SdtInvalidChecksum s)

@@ -1,0 +1,10 @@
+pub mod Bytes
+pub mod Claim
+pub mod ErrorText
+pub mod Header
+pub mod Laws
+pub mod Mapping
+pub mod Memory
+pub mod Steps
+pub mod Table
+pub mod Text

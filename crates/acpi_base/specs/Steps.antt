@@ -1,0 +1,28 @@
+-- Checks in a row, of which the first refusal counts, and calls that answer what is defined.
+use Rattle.std.specs.Prelude.{◌≡◌, ℕ, Bool, List, Option, Some, None, Result, Ok, Err, if◌then◌else◌}
+use Rattle.acpi_base.specs.declared.error.AcpiError.{AcpiError}
+use Rattle.acpi_base.specs.declared.error.AcpiError.TheVariants.{MapFailed}
+use Rattle.acpi_base.specs.Memory.{Memory, at}
+
+infixl 10 ◌>>=◌
+abbrev pub ◌>>=◌ : {A B E : Type 0} → Result A E → (A → Result B E) → Result B E
+(Ok x) >>= f = f x
+(Err e) >>= f = Err e
+
+-- a check that refuses by this error
+abbrev pub holds : {E : Type 0} → Bool → E → Result (Unit {0}) E
+holds b e = if b then Ok tt else Err e
+
+-- what is there, or the refusal
+abbrev pub value_or : {A E : Type 0} → Option A → E → Result A E
+value_or None e = Err e
+value_or (Some x) e = Ok x
+
+-- the n bytes at an address, or the refusal
+abbrev pub lent : Memory → ℕ → ℕ → Result (List ℕ) AcpiError
+lent m a n = value_or (at m a n) MapFailed
+
+-- what a call answered, seen by view, is what the definition says: its value, or its refusal
+abbrev pub Gives : {X Y E : Type 0} → (X → Y) → Result X E → Result Y E → Type 0
+Gives view (Ok x) said = said ≡ Ok (view x)
+Gives view (Err e) said = said ≡ Err e

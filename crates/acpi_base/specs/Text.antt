@@ -1,0 +1,24 @@
+-- How a signature is printed.
+use Rattle.std.specs.Prelude.{ℕ, List, [], ◌∷◌, ◌+◌, ◌/◌, ◌%◌, if◌then◌else◌, nat_lt}
+use Rattle.std.specs.Str.{is_utf8}
+use Rattle.acpi_base.specs.declared.signature.Signature.{Signature}
+
+-- the four bytes of a signature
+abbrev pub letters_of : Signature → List ℕ
+letters_of s = s.0
+
+-- a hexadecimal digit in lower case
+abbrev pub hex_digit : ℕ → ℕ
+hex_digit d = if nat_lt d 10 then 48 + d else 87 + d
+
+-- two digits for each byte
+abbrev pub hex_text : List ℕ → List ℕ
+hex_text [] = []
+hex_text (b ∷ bs) = hex_digit (b / 16) ∷ hex_digit (b % 16) ∷ hex_text bs
+
+-- the bytes where they are a text, else their digits
+abbrev pub bytes_text : List ℕ → List ℕ
+bytes_text bytes = if is_utf8 bytes then bytes else hex_text bytes
+
+abbrev pub signature_text : Signature → List ℕ
+signature_text s = bytes_text (letters_of s)

@@ -1,0 +1,47 @@
+//! What lends physical memory, and what is read from it.
+ghost use Rattle.std.specs.Prelude.{◌≡◌, ℕ, ◌<◌, ◌≤◌, List, length, Some, None, IfOk, IfErr};
+ghost use Rattle.acpi_base.specs.Memory.{Memory, IsMemory, at};
+ghost use Rattle.acpi_base.specs.declared.error.AcpiError.TheVariants.{MapFailed};
+
+use crate::error::AcpiResult;
+
+/// Lends physical memory, as the kernel or the boot loader that implements this has it mapped.
+///
+/// `memory` is what there is: regions of bytes of which no two share an address, each ending below
+/// 2^64. Two regions that adjoin are still two: a range across their border is not lent.
+pub trait AcpiHandler {
+    ghost memory: { Self → Memory };
+
+    /// The bytes from an address on, at least `size` of them, all from one region. It answers `Ok`
+    /// exactly where the `size` bytes from that address lie whole inside one region.
+    ///
+    /// Refuses with `MapFailed` otherwise.
+    fn map_physical_region(&self, address: u64, size: usize) -> AcpiResult<&[u8]>
+        requires { 0 < size }
+        ensures enough { IfOk result (λ s. size ≤ length s.now) }
+        ensures lent { IfOk result (λ s. at (memory self.now) address (length s.now) ≡ Some s.now) }
+        ensures refused { IfErr result (λ e. at (memory self.now) address size ≡ None) }
+        ensures name { IfErr result (λ e. e ≡ MapFailed) };
+
+    /// A notice: what was lent from `address` on, `mapped_length` bytes of which a mapping showed
+    /// the first `region_length`, is read no more.
+    fn unmap_physical_region(&self, address: u64, region_length: usize, mapped_length: usize);
+
+    ghost regions: { (h : Self) → IsMemory (memory h) };
+}
+
+/// A record that is read from bytes.
+pub trait PhysicalRecord: Drop {
+    /// The fewest bytes that it is read from.
+    const MIN_LENGTH: usize;
+
+    ghost MIN_LENGTH: { ℕ };
+
+    // What the bytes mean.
+    ghost reading: { List ℕ → Self };
+
+    /// The record that the bytes mean.
+    fn read(bytes: &[u8]) -> Self
+        requires { MIN_LENGTH ≤ length bytes.now }
+        ensures { result ≡ reading bytes.now };
+}

@@ -1,0 +1,21 @@
+//! The lowest layer of a reader of static ACPI tables: memory that a handler lends, mappings of
+//! records in it, and the headers and checks that every table has.
+//!
+//! Section numbers are those of the ACPI Specification, version 6.4.
+#![tactic(auto)]
+
+pub mod bytes;
+mod claim;
+pub mod error;
+pub mod handler;
+pub mod laws;
+pub mod mapping;
+pub mod sdt;
+pub mod signature;
+pub mod table;
+
+pub use error::{AcpiError, AcpiResult, MadtError};
+pub use handler::{AcpiHandler, PhysicalRecord};
+pub use mapping::PhysicalMapping;
+pub use signature::Signature;
+pub use table::AcpiTable;
