@@ -1,0 +1,75 @@
+-- A lookup answers a table exactly where that is the first valid one.
+use Rattle.std.proofs.Common.{◌≡◌, ℕ, List, [], ◌∷◌, ◌++◌, Result, Ok, Err, refl, ap, ◌∙◌}
+use Rattle.std.specs.Prelude.{IsErr, IfOk, IfErr}
+use Rattle.acpi_base.specs.Memory.{Memory}
+use Rattle.acpi_base.specs.Steps.{Gives}
+use Rattle.acpi_base.specs.Table.{Kind, table_at}
+use Rattle.acpi_base.specs.declared.error.AcpiError.{AcpiError}
+use Rattle.acpi_base.specs.declared.error.AcpiError.TheVariants.{TableMissing}
+use Rattle.acpi.specs.Laws.{LookupIsFirst}
+use Rattle.acpi.specs.Lookup.{IsFirstValid, NoneValid, lookup, or_later}
+
+abbrev done : ℕ × List ℕ → Result (ℕ × List ℕ) AcpiError
+done x = Ok x
+
+same_ok : (x y : ℕ × List ℕ) → done x ≡ done y → x ≡ y
+same_ok x y e = cc
+
+found_here : (m : Memory) (k : Kind) (p q : ℕ) (ps table found : List ℕ) → table_at m k p ≡ Ok table → or_later p (Ok table) (lookup m k ps) ≡ Ok (q, found) → IsFirstValid m k (p ∷ ps) q found
+found_here m k p q ps table found valid e =
+    let both : (p, table) ≡ (q, found) = same_ok (p, table) (q, found) e in
+    let place : p ≡ q = ap (λ (x : ℕ × List ℕ). x.0) both in
+    let same : table ≡ found = ap (λ (x : ℕ × List ℕ). x.1) both in
+    record { before = []; after = ps; listed = ap (λ x. x ∷ ps) place; none_before = tt; valid = rw (← place, ← same) valid }
+
+found_later : (m : Memory) (k : Kind) (p q : ℕ) (ps found : List ℕ) (e : AcpiError) → table_at m k p ≡ Err e → IsFirstValid m k ps q found → IsFirstValid m k (p ∷ ps) q found
+found_later m k p q ps found e refused f = record {
+  before = p ∷ f.before;
+  after = f.after;
+  listed = ap (λ x. p ∷ x) f.listed;
+  none_before = (rw refused refl, f.none_before);
+  valid = f.valid;
+}
+
+cases_found : (m : Memory) (k : Kind) (p q : ℕ) (ps found : List ℕ) (r : Result (List ℕ) AcpiError) → table_at m k p ≡ r → or_later p r (lookup m k ps) ≡ Ok (q, found) → (lookup m k ps ≡ Ok (q, found) → IsFirstValid m k ps q found) → IsFirstValid m k (p ∷ ps) q found
+cases_found m k p q ps found (Ok table) here e more = found_here m k p q ps table found here e
+cases_found m k p q ps found (Err refusal) here e more = found_later m k p q ps found refusal here (more e)
+
+pub is_first : (m : Memory) (k : Kind) (ps : List ℕ) (q : ℕ) (found : List ℕ) → lookup m k ps ≡ Ok (q, found) → IsFirstValid m k ps q found
+is_first m k [] q found e = absurd cc
+is_first m k (p ∷ ps) q found e = cases_found m k p q ps found (table_at m k p) refl e (is_first m k ps q found)
+
+pub passed : (m : Memory) (k : Kind) (p : ℕ) (later : Result (ℕ × List ℕ) AcpiError) (r : Result (List ℕ) AcpiError) → IsErr r → or_later p r later ≡ later
+passed m k p later (Ok table) h = absurd cc
+passed m k p later (Err e) h = refl
+
+looked_up : (m : Memory) (k : Kind) (before after : List ℕ) (q : ℕ) (found : List ℕ) → NoneValid m k before → table_at m k q ≡ Ok found → lookup m k (before ++ q ∷ after) ≡ Ok (q, found)
+looked_up m k [] after q found none valid = rw valid refl
+looked_up m k (p ∷ before) after q found none valid =
+    passed m k p (lookup m k (before ++ q ∷ after)) (table_at m k p) none.0 ∙ looked_up m k before after q found none.1 valid
+
+pub lookup_is_first : LookupIsFirst
+lookup_is_first m k ps p table =
+    (is_first m k ps p table, λ f. ap (lookup m k) f.listed ∙ looked_up m k f.before f.after p table f.none_before f.valid)
+
+-- ---- where none is found
+
+cases_missing : (m : Memory) (k : Kind) (p : ℕ) (ps : List ℕ) (e : AcpiError) (r : Result (List ℕ) AcpiError) → table_at m k p ≡ r → or_later p r (lookup m k ps) ≡ Err e → (lookup m k ps ≡ Err e → (e ≡ TableMissing k.signature) × NoneValid m k ps) → (e ≡ TableMissing k.signature) × NoneValid m k (p ∷ ps)
+cases_missing m k p ps e (Ok table) here said more = absurd cc
+cases_missing m k p ps e (Err refusal) here said more =
+    let later = more said in
+    (later.0, (rw here refl, later.1))
+
+pub none_valid : (m : Memory) (k : Kind) (ps : List ℕ) (e : AcpiError) → lookup m k ps ≡ Err e → (e ≡ TableMissing k.signature) × NoneValid m k ps
+none_valid m k [] e said = (cc, tt)
+none_valid m k (p ∷ ps) e said = cases_missing m k p ps e (table_at m k p) refl said (none_valid m k ps e)
+
+-- ---- calls
+
+pub gives_first : {X : Type 0} (m : Memory) (k : Kind) (ps : List ℕ) (place : X → ℕ) (bytes : X → List ℕ) (r : Result X AcpiError) → Gives (λ x. (place x, bytes x)) r (lookup m k ps) → IfOk r (λ x. IsFirstValid m k ps (place x) (bytes x))
+gives_first m k ps place bytes (Ok x) said = is_first m k ps (place x) (bytes x) said
+gives_first m k ps place bytes (Err e) said = tt
+
+pub gives_missing : {X : Type 0} (m : Memory) (k : Kind) (ps : List ℕ) (view : X → ℕ × List ℕ) (r : Result X AcpiError) → Gives view r (lookup m k ps) → IfErr r (λ e. (e ≡ TableMissing k.signature) × NoneValid m k ps)
+gives_missing m k ps view (Ok x) said = tt
+gives_missing m k ps view (Err e) said = none_valid m k ps e said

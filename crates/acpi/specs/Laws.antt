@@ -1,0 +1,20 @@
+-- What holds of the definitions.
+use Rattle.std.specs.Prelude.{◌≡◌, ℕ, ◌<◌, List, ◌∷◌, ◌++◌, Ok, IsErr, ◌↔◌}
+use Rattle.acpi_base.specs.Bytes.{IsBytes}
+use Rattle.acpi_base.specs.Memory.{Memory}
+use Rattle.acpi_base.specs.Table.{Kind, table_at}
+use Rattle.acpi.specs.Lookup.{IsFirstValid, lookup}
+use Rattle.acpi.specs.Root.{IsPointers, pointers}
+
+-- bytes spell exactly one list of pointers, the one that is computed
+abbrev pub OnePointers : Type 0
+OnePointers = (width : ℕ) (bytes ps : List ℕ) → 0 < width → IsBytes bytes → IsPointers width bytes ps ↔ (ps ≡ pointers width bytes)
+
+-- a lookup answers a table exactly where it is the first valid one
+abbrev pub LookupIsFirst : Type 0
+LookupIsFirst = (m : Memory) (k : Kind) (ps : List ℕ) (p : ℕ) (table : List ℕ) → (lookup m k ps ≡ Ok (p, table)) ↔ IsFirstValid m k ps p table
+
+-- a member that isn't valid, put anywhere into the list, changes nothing in the lookup's answer
+abbrev pub SkipsInvalid : Type 0
+SkipsInvalid = (m : Memory) (k : Kind) (p : ℕ) (before after : List ℕ) → IsErr (table_at m k p)
+    → lookup m k (before ++ p ∷ after) ≡ lookup m k (before ++ after)

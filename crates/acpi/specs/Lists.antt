@@ -1,0 +1,52 @@
+-- What a list of pointers leads to: headers, streams of AML and faults.
+use Rattle.std.specs.Prelude.{ℕ, ◌+◌, ◌-◌, List, [], ◌∷◌, length, filter_map, Result, Ok, Err}
+use Rattle.std.specs.Result.{result_ok}
+use Rattle.acpi_base.specs.declared.error.AcpiError.{AcpiError}
+use Rattle.acpi_base.specs.declared.error.AcpiError.TheVariants as refusal
+use Rattle.acpi_base.specs.declared.sdt.SdtHeader.{SdtHeader}
+use Rattle.acpi_base.specs.declared.signature.Signature.{Signature}
+use Rattle.acpi_base.specs.declared.signature.TheConstants.Signature.{SSDT}
+use Rattle.acpi_base.specs.Header.{header_at}
+use Rattle.acpi_base.specs.Memory.{Memory}
+use Rattle.acpi_base.specs.Steps.{◌>>=◌}
+use Rattle.acpi_base.specs.Table.{Kind, own_table_at, plain_kind, table_at}
+use Rattle.acpi.specs.declared.records.AmlTable.{AmlTable}
+use Rattle.acpi.specs.declared.records.TableFault.{TableFault}
+
+-- the header of the table at an address, where that is valid under the signature that it bears
+unfoldable pub own_header_at : Memory → ℕ → Result SdtHeader AcpiError
+own_header_at m p = do
+  table ← own_table_at m p
+  Ok (header_at table)
+
+-- the headers of all members that are valid under their own signatures, in order
+abbrev pub valid_headers : Memory → List ℕ → List SdtHeader
+valid_headers m ps = filter_map (λ p. result_ok (own_header_at m p)) ps
+
+-- the AML behind the header of a table
+abbrev pub stream_of : ℕ → List ℕ → AmlTable
+stream_of p table = record { address = p + 36; length = length table - 36 }
+
+-- the AML of the table at an address, where that is valid under this signature
+unfoldable pub stream_at : Memory → Signature → ℕ → Result AmlTable AcpiError
+stream_at m s p = do
+  table ← table_at m (plain_kind s) p
+  Ok (stream_of p table)
+
+-- the AML of all members that are valid SSDTs, in order
+abbrev pub ssdt_streams : Memory → List ℕ → List AmlTable
+ssdt_streams m ps = filter_map (λ p. result_ok (stream_at m SSDT p)) ps
+
+-- a table of another signature is no fault, and any other refusal is one
+abbrev pub with_fault : ℕ → AcpiError → List TableFault → List TableFault
+with_fault p (refusal.SdtInvalidSignature s) faults = faults
+with_fault p e faults = record { address = p; error = e } ∷ faults
+
+abbrev pub unless_valid : ℕ → Result (List ℕ) AcpiError → List TableFault → List TableFault
+unless_valid p (Ok table) faults = []
+unless_valid p (Err e) faults = with_fault p e faults
+
+-- the faults of the members before the first valid one, or of all where none is valid, in order
+abbrev pub faults_of : Memory → Kind → List ℕ → List TableFault
+faults_of m k [] = []
+faults_of m k (p ∷ ps) = unless_valid p (table_at m k p) (faults_of m k ps)

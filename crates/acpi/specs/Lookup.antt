@@ -1,0 +1,30 @@
+-- The first valid table of a kind that a list of pointers leads to.
+use Rattle.std.specs.Prelude.{◌≡◌, ℕ, List, [], ◌∷◌, ◌++◌, Result, Ok, Err, IsErr}
+use Rattle.std.specs.List.{AllByRecursion}
+use Rattle.acpi_base.specs.declared.error.AcpiError.{AcpiError}
+use Rattle.acpi_base.specs.declared.error.AcpiError.TheVariants.{TableMissing}
+use Rattle.acpi_base.specs.Memory.{Memory}
+use Rattle.acpi_base.specs.Table.{Kind, table_at}
+
+-- the table at p where it is valid, else what comes later
+abbrev pub or_later : ℕ → Result (List ℕ) AcpiError → Result (ℕ × List ℕ) AcpiError → Result (ℕ × List ℕ) AcpiError
+or_later p (Ok table) later = Ok (p, table)
+or_later p (Err e) later = later
+
+-- the first pointer to a valid table, with that table's bytes
+abbrev pub lookup : Memory → Kind → List ℕ → Result (ℕ × List ℕ) AcpiError
+lookup m k [] = Err (TableMissing k.signature)
+lookup m k (p ∷ ps) = or_later p (table_at m k p) (lookup m k ps)
+
+-- none of these pointers leads to a valid table
+abbrev pub NoneValid : Memory → Kind → List ℕ → Type 0
+NoneValid m k ps = AllByRecursion (λ p. IsErr (table_at m k p)) ps
+
+-- the same in the reader's words: the list is some pointers, then this one, then others; the table
+-- there is valid, and none before it is
+pub record IsFirstValid (m : Memory) (k : Kind) (ps : List ℕ) (p : ℕ) (table : List ℕ) : Type 0 where
+  pub before : List ℕ
+  pub after : List ℕ
+  pub listed : ps ≡ before ++ p ∷ after
+  pub none_before : NoneValid m k before
+  pub valid : table_at m k p ≡ Ok table

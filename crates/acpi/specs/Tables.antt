@@ -1,0 +1,29 @@
+-- What a value of `AcpiTables` shows.
+use Rattle.std.specs.Prelude.{ℕ, List, drop}
+use Rattle.acpi_base.specs.Mapping as mapping
+use Rattle.acpi_base.specs.Memory.{Memory}
+use Rattle.acpi.specs.declared.tables.AcpiTables.{AcpiTables}
+use Rattle.acpi.specs.Root.{pointers, width_of}
+
+-- the handler that lends the tables
+abbrev pub lender_of : {H h : _} → AcpiTables H h → H
+lender_of t = mapping.handler_of t.root
+
+-- the memory that it lends
+abbrev pub memory_of : {H h : _} → AcpiTables H h → Memory
+memory_of {h = h} t = h.memory (lender_of t)
+
+abbrev pub revision_of : {H h : _} → AcpiTables H h → ℕ
+revision_of t = t.revision
+
+-- where the root table starts
+abbrev pub root_address_of : {H h : _} → AcpiTables H h → ℕ
+root_address_of t = mapping.start_of t.root
+
+-- the root table's bytes
+abbrev pub root_of : {H h : _} → AcpiTables H h → List ℕ
+root_of t = mapping.bytes_of t.root
+
+-- the pointers that the root table lists
+abbrev pub pointers_of : {H h : _} → AcpiTables H h → List ℕ
+pointers_of t = pointers (width_of (revision_of t)) (drop 36 (root_of t))

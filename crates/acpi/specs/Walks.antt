@@ -1,0 +1,21 @@
+-- What a walk along the members shows: the items that are still to come.
+use Rattle.std.specs.Prelude.{List}
+use Rattle.acpi_base.specs.declared.sdt.SdtHeader.{SdtHeader}
+use Rattle.acpi_base.specs.Memory.{Memory}
+use Rattle.acpi_base.specs.Table.{Kind}
+use Rattle.acpi.specs.Lists.{faults_of, ssdt_streams, valid_headers}
+use Rattle.acpi.specs.Pointers.{pointers_left}
+use Rattle.acpi.specs.declared.records.AmlTable.{AmlTable}
+use Rattle.acpi.specs.declared.records.TableFault.{TableFault}
+use Rattle.acpi.specs.declared.headers.SdtHeaderIterator.{SdtHeaderIterator}
+use Rattle.acpi.specs.declared.ssdts.SsdtIterator.{SsdtIterator}
+use Rattle.acpi.specs.declared.faults.TableFaults.{TableFaults}
+
+abbrev pub headers_left : {H : Type 0} → (H → Memory) → SdtHeaderIterator H → List SdtHeader
+headers_left memory s = valid_headers (memory s.handler.now) (pointers_left s.pointers)
+
+abbrev pub ssdts_left : {H : Type 0} → (H → Memory) → SsdtIterator H → List AmlTable
+ssdts_left memory s = ssdt_streams (memory s.handler.now) (pointers_left s.pointers)
+
+abbrev pub faults_left : {H T : Type 0} → (H → Memory) → Kind → TableFaults H T → List TableFault
+faults_left memory k s = faults_of (memory s.handler.now) k (pointers_left s.pointers)

@@ -1,0 +1,57 @@
+//! Why listed tables of a type were passed over.
+use crate::pointers::Pointers;
+use crate::records::TableFault;
+use acpi_base::sdt::map_table;
+use acpi_base::{AcpiError, AcpiHandler, AcpiTable};
+use std::marker::PhantomData;
+
+/// The faults of the listed tables that a lookup of `T` passes over: of each one before the first
+/// that is valid for `T`, or of all where none is, in the order of the root table. A table of
+/// another signature is no fault.
+#[derive(Drop)]
+pub struct TableFaults<'t, 'h, H: AcpiHandler, T: AcpiTable> {
+    handler: &'h H,
+    pointers: Pointers<'t>,
+    sought: PhantomData<T>,
+}
+
+impl<'t, 'h, H: AcpiHandler, T: AcpiTable> TableFaults<'t, 'h, H, T> {
+    ghost use Rattle.std.specs.Prelude.{◌≡◌};
+    ghost use Rattle.acpi_base.specs.Table.{kind};
+    ghost use Rattle.acpi.specs.Lists.{faults_of};
+    ghost use Rattle.acpi.specs.Pointers.{pointers_left};
+    ghost use Rattle.acpi.specs.Walks.{faults_left};
+
+    pub(crate) fn new(handler: &'h H, pointers: Pointers<'t>) -> Self
+        ensures { faults_left H.memory (kind T.SIGNATURE T.MIN_LENGTH T.verdict) result ≡ faults_of (H.memory handler.now) (kind T.SIGNATURE T.MIN_LENGTH T.verdict) (pointers_left pointers.entry) }
+    {
+        TableFaults {
+            handler,
+            pointers,
+            sought: PhantomData,
+        }
+    }
+}
+
+impl<H: AcpiHandler, T: AcpiTable> Iterator for TableFaults<'_, '_, H, T> {
+    ghost use Rattle.std.specs.Iterator.{YieldsFirst, item_count};
+    ghost use Rattle.acpi_base.specs.Table.{kind};
+    ghost use Rattle.acpi.specs.Walks.{faults_left};
+
+    type Item = TableFault;
+
+    ghost next_gives = { YieldsFirst (faults_left H.memory (kind T.SIGNATURE T.MIN_LENGTH T.verdict)) };
+
+    ghost remaining = { item_count (faults_left H.memory (kind T.SIGNATURE T.MIN_LENGTH T.verdict)) };
+
+    fn next(&mut self) -> Option<TableFault> {
+        while let Some(address) = self.pointers.next() {
+            match map_table::<H, T>(self.handler, address) {
+                Ok(_) => self.pointers.end(),
+                Err(AcpiError::SdtInvalidSignature(_)) => {}
+                Err(error) => return Some(TableFault { address, error }),
+            }
+        }
+        None
+    }
+}

@@ -1,0 +1,46 @@
+//! The headers of all valid tables.
+use crate::pointers::Pointers;
+use acpi_base::AcpiHandler;
+use acpi_base::sdt::{SdtHeader, map_own_sdt};
+
+/// The headers of all listed tables that are valid under the signatures that they bear, in the
+/// order of the root table. A table that is listed twice comes twice.
+#[derive(Drop)]
+pub struct SdtHeaderIterator<'t, 'h, H: AcpiHandler> {
+    handler: &'h H,
+    pointers: Pointers<'t>,
+}
+
+impl<'t, 'h, H: AcpiHandler> SdtHeaderIterator<'t, 'h, H> {
+    ghost use Rattle.std.specs.Prelude.{◌≡◌};
+    ghost use Rattle.acpi.specs.Lists.{valid_headers};
+    ghost use Rattle.acpi.specs.Pointers.{pointers_left};
+    ghost use Rattle.acpi.specs.Walks.{headers_left};
+
+    pub(crate) fn new(handler: &'h H, pointers: Pointers<'t>) -> Self
+        ensures { headers_left H.memory result ≡ valid_headers (H.memory handler.now) (pointers_left pointers.entry) }
+    {
+        SdtHeaderIterator { handler, pointers }
+    }
+}
+
+impl<H: AcpiHandler> Iterator for SdtHeaderIterator<'_, '_, H> {
+    ghost use Rattle.std.specs.Iterator.{YieldsFirst, item_count};
+    ghost use Rattle.acpi.specs.Walks.{headers_left};
+
+    type Item = SdtHeader;
+
+    ghost next_gives = { YieldsFirst (headers_left H.memory) };
+
+    ghost remaining = { item_count (headers_left H.memory) };
+
+    #[tactic(auto, unfolding(crate::specs::Lists::own_header_at))]
+    fn next(&mut self) -> Option<SdtHeader> {
+        while let Some(address) = self.pointers.next() {
+            if let Ok(table) = map_own_sdt(self.handler, address) {
+                return Some(*table.get());
+            }
+        }
+        None
+    }
+}

@@ -1,0 +1,23 @@
+//! Static ACPI tables, read from memory that a handler lends: the root table and the tables that
+//! it leads to.
+//!
+//! Section numbers are those of the ACPI Specification, version 6.4.
+#![tactic(auto)]
+
+mod faults;
+mod headers;
+pub mod laws;
+mod pointers;
+mod records;
+mod ssdts;
+mod tables;
+
+pub use acpi_base::{
+    AcpiError, AcpiHandler, AcpiResult, AcpiTable, MadtError, PhysicalMapping, PhysicalRecord,
+    handler, sdt,
+};
+pub use faults::TableFaults;
+pub use headers::SdtHeaderIterator;
+pub use records::{AmlTable, Sdt, TableFault};
+pub use ssdts::SsdtIterator;
+pub use tables::AcpiTables;

@@ -1,0 +1,43 @@
+//! Plain records that lookups answer.
+ghost use Rattle.std.specs.Prelude.{◌≡◌, ◌+◌, ◌^◌, ◌<◌, ◌≤◌, length};
+ghost use Rattle.acpi_base.specs.Mapping.{bytes_of, start_of};
+ghost use Rattle.acpi.specs.Lists.{stream_of};
+
+use acpi_base::sdt::SdtHeader;
+use acpi_base::{AcpiError, AcpiHandler, PhysicalMapping, PhysicalRecord};
+
+/// A stream of AML, as it stands behind a table's header: its physical address, and its length in
+/// bytes.
+#[derive(Clone, Copy, Debug, PartialEq, Eq)]
+pub struct AmlTable {
+    pub address: u64,
+    pub length: u32,
+}
+
+/// A listed table that is refused: its physical address, and why.
+#[derive(Clone, Copy, Debug, PartialEq, Eq)]
+pub struct TableFault {
+    pub address: u64,
+    pub error: AcpiError,
+}
+
+/// Where a table lies, how many bytes it has, and whether it was found valid. No call makes one.
+#[derive(Clone, Copy, Debug, PartialEq, Eq)]
+pub struct Sdt {
+    pub physical_address: u64,
+    pub length: u32,
+    pub validated: bool,
+}
+
+/// The AML behind the header of a table.
+pub(crate) fn aml_behind<H: AcpiHandler>(table: &PhysicalMapping<'_, H, SdtHeader>) -> AmlTable
+    requires short { length (bytes_of table.now) < 2 ^ 32 }
+    requires ends { start_of table.now + length (bytes_of table.now) < 2 ^ 64 }
+    ensures { result ≡ stream_of (start_of table.now) (bytes_of table.now) }
+{
+    let bytes = table.bytes();
+    AmlTable {
+        address: table.physical_start() + SdtHeader::MIN_LENGTH as u64,
+        length: (bytes.len() - SdtHeader::MIN_LENGTH) as u32,
+    }
+}

@@ -1,0 +1,149 @@
+//! The root table, and the tables that it leads to.
+ghost use Rattle.std.specs.Prelude.{◌≡◌, Some, IfOk};
+ghost use Rattle.std.proofs.Props.{props};
+ghost use Rattle.acpi_base.specs.Mapping.{start_of, bytes_of, handler_of};
+ghost use Rattle.acpi_base.specs.Steps.{Gives};
+ghost use Rattle.acpi.specs.Root.{ok_of, root_at};
+
+use crate::faults::TableFaults;
+use crate::headers::SdtHeaderIterator;
+use crate::pointers::{Pointers, skip};
+use crate::ssdts::SsdtIterator;
+use acpi_base::sdt::{SdtHeader, map_sdt, map_table};
+use acpi_base::{AcpiError, AcpiHandler, AcpiResult, AcpiTable, PhysicalMapping, Signature};
+
+/// The tables that a root table leads to. The root table stays mapped until this is dropped.
+#[derive(Drop)]
+pub struct AcpiTables<'h, H: AcpiHandler> {
+    revision: u8,
+    root: PhysicalMapping<'h, H, SdtHeader>,
+    ghost valid: { ok_of (root_at (H.memory (handler_of root)) revision (start_of root)) ≡ Some (bytes_of root) } by { Prim.hlevel props },
+}
+
+/// The root table that a revision asks for, where it is valid.
+fn map_root<'h, H: AcpiHandler>(
+    handler: &'h H,
+    revision: u8,
+    address: u64,
+) -> AcpiResult<PhysicalMapping<'h, H, SdtHeader>>
+    ensures place { IfOk result (λ m. start_of m ≡ address) }
+    ensures handler { IfOk result (λ m. handler_of m ≡ handler.now) }
+    ensures root { Gives (λ m. bytes_of m) result (root_at (H.memory handler.now) revision address) }
+{
+    let signature = if revision == 0 {
+        Signature::RSDT
+    } else {
+        Signature::XSDT
+    };
+    map_sdt(handler, address, signature)
+}
+
+impl<'h, H: AcpiHandler> AcpiTables<'h, H> {
+    ghost use Rattle.std.specs.Prelude.{◌≡◌, ◌↔◌, ◌≤◌, ◌∷◌, ◌++◌, ℕ, List, drop, length, IfOk, IfErr, IsErr};
+    ghost use Rattle.acpi_base.specs.Steps.{Gives};
+    ghost use Rattle.acpi_base.specs.Table.{kind, table_at};
+    ghost use Rattle.acpi_base.specs.declared.error.AcpiError.TheVariants.{TableMissing};
+    ghost use Rattle.acpi.specs.Lists.{faults_of, ssdt_streams, valid_headers};
+    ghost use Rattle.acpi.specs.Lookup.{IsFirstValid, NoneValid, lookup};
+    ghost use Rattle.acpi.specs.Pointers.{pointers_left};
+    ghost use Rattle.acpi.specs.Root.{IsPointers, root_at, width_of};
+    ghost use Rattle.acpi.specs.Tables.{lender_of, memory_of, pointers_of, revision_of, root_address_of, root_of};
+    ghost use Rattle.acpi.specs.Walks.{faults_left, headers_left, ssdts_left};
+
+    /// The tables below the root table at an address: the RSDT, with pointers of four bytes, for
+    /// revision 0, else the XSDT, with pointers of eight (sections 5.2.7 and 5.2.8).
+    ///
+    /// Refuses, in this order, with `MapFailed` where 36 bytes aren't lent there,
+    /// `SdtInvalidSignature`, `SdtInvalidOemId`, `SdtInvalidTableId`, `SdtInvalidLength` where the
+    /// length is under 36, `MapFailed` where `length` bytes aren't lent, and `SdtInvalidChecksum`.
+    pub fn from_rsdt(handler: &'h H, revision: u8, address: u64) -> AcpiResult<Self>
+        ensures handler { IfOk result (λ t. lender_of t ≡ handler.now) }
+        ensures revision { IfOk result (λ t. revision_of t ≡ revision) }
+        ensures address { IfOk result (λ t. root_address_of t ≡ address) }
+        ensures root { Gives (λ t. root_of t) result (root_at (H.memory handler.now) revision address) }
+        // In the reader's words: the bytes behind the root's header spell these pointers and no others.
+        ensures pointers { IfOk result (λ t. (ps : List ℕ) → IsPointers (width_of revision) (drop 36 (root_of t)) ps ↔ (ps ≡ pointers_of t)) }
+    {
+        let root = map_root(handler, revision, address)?;
+        Ok(AcpiTables { revision, root })
+    }
+
+    /// The revision that the tables were opened with.
+    pub fn revision(&self) -> u8
+        ensures { result ≡ revision_of self.now }
+    {
+        self.revision
+    }
+
+    /// The pointers of the root table, in order.
+    fn pointers(&self) -> Pointers<'_>
+        ensures { pointers_left result ≡ pointers_of self.now }
+    {
+        let width = if self.revision == 0 { 4 } else { 8 };
+        Pointers::new(width, skip(self.root.bytes(), 36))
+    }
+
+    /// The table at an address, where it is valid for `T`.
+    fn member<T: AcpiTable>(&self, address: u64) -> AcpiResult<PhysicalMapping<'h, H, T>>
+        ensures place { IfOk result (λ m. start_of m ≡ address) }
+        ensures table { Gives (λ m. bytes_of m) result (table_at (memory_of self.now) (kind T.SIGNATURE T.MIN_LENGTH T.verdict) address) }
+    {
+        map_table(self.root.handler(), address)
+    }
+
+    /// The first member of the root list that is valid for `T`.
+    fn first_member<T: AcpiTable>(&self) -> AcpiResult<PhysicalMapping<'h, H, T>>
+        ensures { Gives (λ m. (start_of m, bytes_of m)) result (lookup (memory_of self.now) (kind T.SIGNATURE T.MIN_LENGTH T.verdict) (pointers_of self.now)) }
+    {
+        for address in self.pointers() {
+            if let Ok(table) = self.member::<T>(address) {
+                return Ok(table);
+            }
+        }
+        Err(AcpiError::TableMissing(T::SIGNATURE))
+    }
+
+    /// The first member of the root list that is valid for `T`: its address is the mapping's
+    /// `physical_start`, and its bytes are the mapping's.
+    ///
+    /// Refuses with `TableMissing`, carrying `T::SIGNATURE`, where no member is valid for `T`. A
+    /// member that isn't lent, or fails another check, is passed over.
+    pub fn find_table<T: AcpiTable>(&self) -> AcpiResult<PhysicalMapping<'h, H, T>>
+        ensures exact { Gives (λ m. (start_of m, bytes_of m)) result (lookup (memory_of self.now) (kind T.SIGNATURE T.MIN_LENGTH T.verdict) (pointers_of self.now)) }
+        // In the reader's words: the table found is valid, and none listed before it is.
+        ensures first { IfOk result (λ m. IsFirstValid (memory_of self.now) (kind T.SIGNATURE T.MIN_LENGTH T.verdict) (pointers_of self.now) (start_of m) (bytes_of m)) }
+        // A member that isn't valid, put anywhere into the list, changes nothing.
+        ensures skips { (before after : List ℕ) (p : ℕ) → pointers_of self.now ≡ before ++ after → IsErr (table_at (memory_of self.now) (kind T.SIGNATURE T.MIN_LENGTH T.verdict) p) → Gives (λ m. (start_of m, bytes_of m)) result (lookup (memory_of self.now) (kind T.SIGNATURE T.MIN_LENGTH T.verdict) (before ++ p ∷ after)) }
+        ensures missing { IfErr result (λ e. (e ≡ TableMissing T.SIGNATURE) × NoneValid (memory_of self.now) (kind T.SIGNATURE T.MIN_LENGTH T.verdict) (pointers_of self.now)) }
+    {
+        self.first_member::<T>()
+    }
+
+    /// The headers of all members that are valid under the signatures that they bear, in order. It
+    /// gives at most one for each pointer.
+    pub fn headers(&self) -> SdtHeaderIterator<'_, 'h, H>
+        ensures items { headers_left H.memory result ≡ valid_headers (memory_of self.now) (pointers_of self.now) }
+        ensures few { length (headers_left H.memory result) ≤ length (pointers_of self.now) }
+    {
+        SdtHeaderIterator::new(self.root.handler(), self.pointers())
+    }
+
+    /// The AML of all members that are valid SSDTs, in order (section 5.2.11.2). It gives at most
+    /// one for each pointer.
+    pub fn ssdts(&self) -> SsdtIterator<'_, 'h, H>
+        ensures items { ssdts_left H.memory result ≡ ssdt_streams (memory_of self.now) (pointers_of self.now) }
+        ensures few { length (ssdts_left H.memory result) ≤ length (pointers_of self.now) }
+    {
+        SsdtIterator::new(self.root.handler(), self.pointers())
+    }
+
+    /// Why members were passed over in a lookup of `T`: the address and the refusal of each member
+    /// before the first valid one (of all where none is valid) whose refusal isn't
+    /// `SdtInvalidSignature`, in order. It gives at most one for each pointer.
+    pub fn faults<T: AcpiTable>(&self) -> TableFaults<'_, 'h, H, T>
+        ensures items { faults_left H.memory (kind T.SIGNATURE T.MIN_LENGTH T.verdict) result ≡ faults_of (memory_of self.now) (kind T.SIGNATURE T.MIN_LENGTH T.verdict) (pointers_of self.now) }
+        ensures few { length (faults_left H.memory (kind T.SIGNATURE T.MIN_LENGTH T.verdict) result) ≤ length (pointers_of self.now) }
+    {
+        TableFaults::new(self.root.handler(), self.pointers())
+    }
+}
