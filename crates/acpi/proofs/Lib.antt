@@ -1,5 +1,10 @@
 pub mod First
+pub mod Led
+pub mod Least
 pub mod Passed
 pub mod Pieces
 pub mod Rooted
 pub mod Spelled
+pub mod Texts
+pub mod Walk
+pub mod Within

@@ -4,6 +4,7 @@ use Rattle.acpi_base.specs.Bytes.{IsBytes}
 use Rattle.acpi_base.specs.Memory.{Memory}
 use Rattle.acpi_base.specs.Table.{Kind, table_at}
 use Rattle.acpi.specs.Lookup.{IsFirstValid, lookup}
+use Rattle.acpi.specs.Search.{area, second_area}
 use Rattle.acpi.specs.Root.{IsPointers, pointers}
 
 -- bytes spell exactly one list of pointers, the one that is computed
@@ -18,3 +19,11 @@ LookupIsFirst = (m : Memory) (k : Kind) (ps : List ℕ) (p : ℕ) (table : List 
 abbrev pub SkipsInvalid : Type 0
 SkipsInvalid = (m : Memory) (k : Kind) (p : ℕ) (before after : List ℕ) → IsErr (table_at m k p)
     → lookup m k (before ++ p ∷ after) ≡ lookup m k (before ++ after)
+
+-- where the second area of the search lies, by the word that names it
+abbrev pub SecondAreas : Type 0
+SecondAreas =
+    (second_area 0x9fc0 ≡ area 0x9fc00 0xa0000)
+    × (second_area 0 ≡ area 0x80000 0xa0000)
+    × (second_area 0xa000 ≡ area 0x80000 0xa0000)
+    × (second_area 0x9fff ≡ area 0x9fff0 0xa03f0)

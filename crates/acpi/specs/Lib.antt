@@ -1,7 +1,10 @@
 pub mod Laws
 pub mod Lists
 pub mod Lookup
+pub mod Opened
 pub mod Pointers
 pub mod Root
+pub mod Rsdp
+pub mod Search
 pub mod Tables
 pub mod Walks

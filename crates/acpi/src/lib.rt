@@ -9,6 +9,7 @@ mod headers;
 pub mod laws;
 mod pointers;
 mod records;
+pub mod rsdp;
 mod ssdts;
 mod tables;
 

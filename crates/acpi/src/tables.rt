@@ -8,9 +8,12 @@ ghost use Rattle.acpi.specs.Root.{ok_of, root_at};
 use crate::faults::TableFaults;
 use crate::headers::SdtHeaderIterator;
 use crate::pointers::{Pointers, skip};
+use crate::rsdp::{Rsdp, map_rsdp};
 use crate::ssdts::SsdtIterator;
 use acpi_base::sdt::{SdtHeader, map_sdt, map_table};
-use acpi_base::{AcpiError, AcpiHandler, AcpiResult, AcpiTable, PhysicalMapping, Signature};
+use acpi_base::{
+    AcpiError, AcpiHandler, AcpiResult, AcpiTable, PhysicalMapping, PhysicalRecord, Signature,
+};
 
 /// The tables that a root table leads to. The root table stays mapped until this is dropped.
 #[derive(Drop)]
@@ -39,16 +42,76 @@ fn map_root<'h, H: AcpiHandler>(
 }
 
 impl<'h, H: AcpiHandler> AcpiTables<'h, H> {
-    ghost use Rattle.std.specs.Prelude.{◌≡◌, ◌↔◌, ◌≤◌, ◌∷◌, ◌++◌, ℕ, List, drop, length, IfOk, IfErr, IsErr};
+    ghost use Rattle.std.specs.Prelude.{◌≡◌, ◌↔◌, ◌≤◌, ◌∷◌, ◌++◌, ℕ, List, drop, length, IfOk, IfErr, IsErr, IsOk};
     ghost use Rattle.acpi_base.specs.Steps.{Gives};
     ghost use Rattle.acpi_base.specs.Table.{kind, table_at};
     ghost use Rattle.acpi_base.specs.declared.error.AcpiError.TheVariants.{TableMissing};
     ghost use Rattle.acpi.specs.Lists.{faults_of, ssdt_streams, valid_headers};
     ghost use Rattle.acpi.specs.Lookup.{IsFirstValid, NoneValid, lookup};
+    ghost use Rattle.acpi.specs.Opened.{opened_at, opened_by_rsdp, opened_by_search, opened_of};
     ghost use Rattle.acpi.specs.Pointers.{pointers_left};
     ghost use Rattle.acpi.specs.Root.{IsPointers, root_at, width_of};
+    ghost use Rattle.acpi.specs.Rsdp.{root_of_rsdp, rsdp_at};
     ghost use Rattle.acpi.specs.Tables.{lender_of, memory_of, pointers_of, revision_of, root_address_of, root_of};
     ghost use Rattle.acpi.specs.Walks.{faults_left, headers_left, ssdts_left};
+
+    /// The tables below the root table that the RSDP at an address leads to: the RSDT for its
+    /// revision 0, else the XSDT (sections 5.2.5.3, 5.2.7 and 5.2.8).
+    ///
+    /// Refuses first with what the RSDP is refused with: `MapFailed` where 36 bytes aren't lent,
+    /// `RsdpIncorrectSignature`, `RsdpInvalidOemId`, `RsdpInvalidChecksum` where the first 20 bytes
+    /// don't sum to 0 or, above revision 0, the length is under 36, `MapFailed` where that many
+    /// bytes aren't lent, and `RsdpInvalidChecksum` where they don't sum to 0. Then as `from_rsdt`.
+    pub fn from_rsdp(handler: &'h H, address: u64) -> AcpiResult<Self>
+        ensures handler { IfOk result (λ t. lender_of t ≡ handler.now) }
+        ensures exact { Gives (λ t. opened_of t) result (opened_by_rsdp (H.memory handler.now) address) }
+    {
+        let rsdp = map_rsdp(handler, address)?;
+        AcpiTables::from_root(handler, rsdp)
+    }
+
+    /// The tables below the root table that the RSDP leads to which `Rsdp::search_for_on_bios`
+    /// finds (section 5.2.5.1). No later candidate is tried where the root table is bad.
+    ///
+    /// Refuses first as that search does, with `MapFailed` or `NoValidRsdp`, and then as
+    /// `from_rsdt`.
+    pub fn search_for_rsdp_bios(handler: &'h H) -> AcpiResult<Self>
+        ensures handler { IfOk result (λ t. lender_of t ≡ handler.now) }
+        ensures exact { Gives (λ t. opened_of t) result (opened_by_search (H.memory handler.now)) }
+    {
+        let rsdp = Rsdp::search_for_on_bios(handler)?;
+        AcpiTables::from_root(handler, rsdp)
+    }
+
+    /// The tables below the root table that a valid RSDP leads to. Of the mapping only the address
+    /// counts: the fields are read from the handler's memory there, where all checks of the RSDP
+    /// hold.
+    ///
+    /// Refuses as `from_rsdt`.
+    #[tactic(auto, using(crate::proofs::Led::valid_lent))]
+    pub fn from_validated_rsdp(
+        handler: &'h H,
+        mapping: PhysicalMapping<'h, H, Rsdp>,
+    ) -> AcpiResult<Self>
+        requires { IsOk (rsdp_at (H.memory handler.now) (start_of mapping)) }
+        ensures handler { IfOk result (λ t. lender_of t ≡ handler.now) }
+        ensures exact { Gives (λ t. opened_of t) result (opened_by_rsdp (H.memory handler.now) (start_of mapping.entry)) }
+    {
+        let address = mapping.physical_start();
+        drop(mapping);
+        let rsdp = PhysicalMapping::map(handler, address, Rsdp::MIN_LENGTH)?;
+        AcpiTables::from_root(handler, rsdp)
+    }
+
+    /// The tables below the root table that an RSDP leads to, which is unmapped first.
+    fn from_root(handler: &'h H, rsdp: PhysicalMapping<'h, H, Rsdp>) -> AcpiResult<Self>
+        ensures handler { IfOk result (λ t. lender_of t ≡ handler.now) }
+        ensures exact { Gives (λ t. opened_of t) result (opened_at (H.memory handler.now) (root_of_rsdp (bytes_of rsdp.entry))) }
+    {
+        let (revision, address) = rsdp.get().root();
+        drop(rsdp);
+        AcpiTables::from_rsdt(handler, revision, address)
+    }
 
     /// The tables below the root table at an address: the RSDT, with pointers of four bytes, for
     /// revision 0, else the XSDT, with pointers of eight (sections 5.2.7 and 5.2.8).
@@ -58,9 +121,7 @@ impl<'h, H: AcpiHandler> AcpiTables<'h, H> {
     /// length is under 36, `MapFailed` where `length` bytes aren't lent, and `SdtInvalidChecksum`.
     pub fn from_rsdt(handler: &'h H, revision: u8, address: u64) -> AcpiResult<Self>
         ensures handler { IfOk result (λ t. lender_of t ≡ handler.now) }
-        ensures revision { IfOk result (λ t. revision_of t ≡ revision) }
-        ensures address { IfOk result (λ t. root_address_of t ≡ address) }
-        ensures root { Gives (λ t. root_of t) result (root_at (H.memory handler.now) revision address) }
+        ensures exact { Gives (λ t. opened_of t) result (opened_at (H.memory handler.now) (revision, address)) }
         // In the reader's words: the bytes behind the root's header spell these pointers and no others.
         ensures pointers { IfOk result (λ t. (ps : List ℕ) → IsPointers (width_of revision) (drop 36 (root_of t)) ps ↔ (ps ≡ pointers_of t)) }
     {

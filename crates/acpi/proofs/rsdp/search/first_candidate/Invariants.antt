@@ -1,0 +1,8 @@
+use Rattle.std.proofs.Common.{◌≡◌, ◌+◌, ◌-◌, ◌*◌}
+use Rattle.acpi.specs.Search.{count_of, walk}
+use Rattle.acpi.proofs.rsdp.search.first_candidate.Given as goal
+
+abbrev pub invariant-loop-k : goal.invariant-loop-k
+invariant-loop-k g l =
+    let m = g.H.AcpiHandler.memory l.handler in
+    walk m (count_of l.area - l.k) (l.area.start + 16 * l.k) ≡ walk m (count_of l.area) l.area.start

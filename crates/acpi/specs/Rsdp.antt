@@ -1,0 +1,120 @@
+-- The RSDP: its fields, its checks, and the RSDP at an address (ACPI 6.4, section 5.2.5.3).
+use Rattle.std.specs.Prelude.{ℕ, ◌==◌, List, [], ◌∷◌, take, length, nat_le, Option, Some, None, Result, Ok, if◌then◌else◌}
+use Rattle.std.specs.Str.{bytes_eq, is_utf8}
+use Rattle.acpi_base.specs.declared.error.AcpiError.{AcpiError}
+use Rattle.acpi_base.specs.declared.error.AcpiError.TheVariants.{RsdpIncorrectSignature, RsdpInvalidOemId, RsdpInvalidChecksum}
+use Rattle.acpi_base.specs.Bytes.{field_of, part, sum_of}
+use Rattle.acpi_base.specs.Memory.{Memory}
+use Rattle.acpi_base.specs.Steps.{◌>>=◌, holds, lent}
+use Rattle.acpi.specs.declared.rsdp.Rsdp.{Rsdp}
+
+-- the RSDP that the bytes begin with
+unfoldable pub rsdp_of : List ℕ → Rsdp
+rsdp_of b = record {
+  signature = part b 0 8;
+  checksum = field_of b 8 1;
+  oem_id = part b 9 6;
+  revision = field_of b 15 1;
+  rsdt_address = field_of b 16 4;
+  length = field_of b 20 4;
+  xsdt_address = field_of b 24 8;
+  ext_checksum = field_of b 32 1;
+}
+
+-- what every revision has
+abbrev pub signature_of : Rsdp → List ℕ
+signature_of r = r.signature
+
+abbrev pub checksum_of : Rsdp → ℕ
+checksum_of r = r.checksum
+
+abbrev pub oem_id_of : Rsdp → List ℕ
+oem_id_of r = r.oem_id
+
+abbrev pub revision_of : Rsdp → ℕ
+revision_of r = r.revision
+
+abbrev pub rsdt_address_of : Rsdp → ℕ
+rsdt_address_of r = r.rsdt_address
+
+-- what revision 0 does not have
+abbrev pub unless_first : {A : Type 0} → Rsdp → A → Option A
+unless_first r x = if r.revision == 0 then None else Some x
+
+abbrev pub extended_length_of : Rsdp → Option ℕ
+extended_length_of r = unless_first r r.length
+
+abbrev pub xsdt_address_of : Rsdp → Option ℕ
+xsdt_address_of r = unless_first r r.xsdt_address
+
+abbrev pub ext_checksum_of : Rsdp → Option ℕ
+ext_checksum_of r = unless_first r r.ext_checksum
+
+-- where an RSDP leads, as revision and address of the root table: to the RSDT for revision 0, else
+-- to the XSDT
+abbrev pub root_of : Rsdp → ℕ × ℕ
+root_of r = if r.revision == 0 then (0, r.rsdt_address) else (r.revision, r.xsdt_address)
+
+-- the same, for the RSDP's bytes
+abbrev pub root_of_rsdp : List ℕ → ℕ × ℕ
+root_of_rsdp b = root_of (rsdp_of b)
+
+-- ---- the checks
+
+-- the text `RSD PTR `
+abbrev pub rsd_ptr : List ℕ
+rsd_ptr = 82 ∷ 83 ∷ 68 ∷ 32 ∷ 80 ∷ 84 ∷ 82 ∷ 32 ∷ []
+
+-- bytes that sum to 0
+unfoldable pub check_sum : List ℕ → Result (Unit {0}) AcpiError
+check_sum b = holds (sum_of b == 0) RsdpInvalidChecksum
+
+-- the signature, the id, and the sum of the first 20 bytes
+unfoldable pub check_first : List ℕ → Result (Unit {0}) AcpiError
+check_first b = do
+  _ ← holds (bytes_eq (rsdp_of b).signature rsd_ptr) RsdpIncorrectSignature
+  _ ← holds (is_utf8 (rsdp_of b).oem_id) RsdpInvalidOemId
+  check_sum (take 20 b)
+
+-- a length is at least 36
+abbrev pub check_length : Option ℕ → Result (Option ℕ) AcpiError
+check_length None = Ok None
+check_length (Some n) = do
+  _ ← holds (nat_le 36 n) RsdpInvalidChecksum
+  Ok (Some n)
+
+-- how many bytes are to sum to 0 as a whole, where the first checks hold: for revision 0 none
+unfoldable pub length_of : List ℕ → Result (Option ℕ) AcpiError
+length_of b = do
+  _ ← check_first b
+  check_length (extended_length_of (rsdp_of b))
+
+-- the sum of the whole, out of the bytes at hand
+abbrev pub check_whole : List ℕ → Option ℕ → Result (Unit {0}) AcpiError
+check_whole b None = Ok tt
+check_whole b (Some n) = do
+  _ ← holds (nat_le n (length b)) RsdpInvalidChecksum
+  check_sum (take n b)
+
+-- all checks, over the bytes at hand
+unfoldable pub check_rsdp : List ℕ → Result (Unit {0}) AcpiError
+check_rsdp b = do
+  n ← length_of b
+  check_whole b n
+
+-- ---- at an address
+
+-- the sum of the whole, as it is lent
+abbrev pub check_whole_at : Memory → ℕ → Option ℕ → Result (Unit {0}) AcpiError
+check_whole_at m a None = Ok tt
+check_whole_at m a (Some n) = do
+  whole ← lent m a n
+  check_sum whole
+
+-- the RSDP's 36 bytes at an address, or the refusal of the first check that fails
+unfoldable pub rsdp_at : Memory → ℕ → Result (List ℕ) AcpiError
+rsdp_at m a = do
+  b ← lent m a 36
+  n ← length_of b
+  _ ← check_whole_at m a n
+  Ok b

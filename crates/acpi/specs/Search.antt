@@ -1,0 +1,116 @@
+-- The search for the RSDP on systems that boot by a BIOS (ACPI 6.4, section 5.2.5.1).
+use Rattle.std.specs.Prelude.{◌≡◌, ◌⊎◌, ℕ, zero, suc, ◌+◌, ◌-◌, ◌*◌, ◌/◌, ◌<◌, ◌≤◌, ◌&&◌, nat_le, nat_lt, List, Option, Some, None, Result, Ok, Err, if◌then◌else◌}
+use Rattle.acpi_base.specs.declared.error.AcpiError.{AcpiError}
+use Rattle.acpi_base.specs.declared.error.AcpiError.TheVariants.{MapFailed, NoValidRsdp}
+use Rattle.acpi_base.specs.Bytes.{field_of}
+use Rattle.acpi_base.specs.Memory.{Memory, at}
+use Rattle.acpi_base.specs.Steps.{◌>>=◌, lent}
+use Rattle.acpi.specs.declared.rsdp.area.Area.{Area}
+use Rattle.acpi.specs.Rsdp.{rsdp_at}
+
+abbrev pub area : ℕ → ℕ → Area
+area start end = record { start = start; end = end }
+
+-- the read-only memory of the BIOS
+abbrev pub first_area : Area
+first_area = area 0xe0000 0x100000
+
+-- the first KiB of the extended BIOS data area, which begins at 16 times the word, or where it can't
+-- be there, the memory that it may lie in
+abbrev pub second_area : ℕ → Area
+second_area word =
+    if nat_le 0x80000 (16 * word) && nat_lt (16 * word) 0x9ffff then area (16 * word) (16 * word + 1024) else area 0x80000 0xa0000
+
+-- ---- what a search finds
+
+-- an address in steps of 16 from the area's start, with 20 bytes in the area
+abbrev pub IsCandidate : Area → ℕ → Type 0
+IsCandidate s a = (k : ℕ) × (a ≡ s.start + 16 * k) × (a + 20 ≤ s.end)
+
+-- a check refuses the RSDP there
+abbrev pub IsRefused : Memory → ℕ → Type 0
+IsRefused m a = (e : AcpiError) × (rsdp_at m a ≡ Err e)
+
+-- an area is asked for with 16 bytes behind it
+abbrev pub room_of : Area → ℕ
+room_of s = s.end - s.start + 16
+
+abbrev pub IsLent : Memory → Area → Type 0
+IsLent m s = (b : List ℕ) × (at m s.start (room_of s) ≡ Some b)
+
+-- the area is lent, and this is its least valid candidate: its address and its bytes
+pub record IsLeast (m : Memory) (s : Area) (found : ℕ × List ℕ) : Type 0 where
+  pub lent : IsLent m s
+  pub candidate : IsCandidate s found.0
+  pub valid : rsdp_at m found.0 ≡ Ok found.1
+  pub least : (a : ℕ) → a < found.0 → IsCandidate s a → IsRefused m a
+
+-- the area is lent, and no candidate is valid
+pub record HasNone (m : Memory) (s : Area) : Type 0 where
+  pub lent : IsLent m s
+  pub refused : (a : ℕ) → IsCandidate s a → IsRefused m a
+
+-- the word is lent, and this is the second area
+abbrev pub IsSecond : Memory → Area → Type 0
+IsSecond m s = (b : List ℕ) × (at m 0x40e 2 ≡ Some b) × (s ≡ second_area (field_of b 0 2))
+
+-- the least valid candidate of the first area, or where that has none, of the second
+abbrev pub IsFound : Memory → ℕ × List ℕ → Type 0
+IsFound m found =
+    (s : Area) × IsSecond m s × (IsLeast m first_area found ⊎ (HasNone m first_area × IsLeast m s found))
+
+-- no area has a valid candidate
+abbrev pub IsMissing : Memory → Type 0
+IsMissing m = (s : Area) × IsSecond m s × HasNone m first_area × HasNone m s
+
+-- the word isn't lent, or the first area, or the second where the first has no valid candidate
+abbrev pub IsUnlent : Memory → Type 0
+IsUnlent m =
+    (at m 0x40e 2 ≡ None)
+    ⊎ ((at m first_area.start (room_of first_area) ≡ None)
+    ⊎ ((s : Area) × IsSecond m s × HasNone m first_area × (at m s.start (room_of s) ≡ None)))
+
+-- what a search answered, seen by view, is the least valid candidate, or the refusal has its cause
+abbrev pub IsSearched : {X : Type 0} → Memory → (X → ℕ × List ℕ) → Result X AcpiError → Type 0
+IsSearched m view (Ok x) = IsFound m (view x)
+IsSearched m view (Err e) = ((e ≡ MapFailed) × IsUnlent m) ⊎ ((e ≡ NoValidRsdp) × IsMissing m)
+
+-- ---- step by step
+
+-- how many candidates an area has
+abbrev pub count_of : Area → ℕ
+count_of s = (s.end - s.start - 4) / 16
+
+abbrev pub or_later : ℕ → Result (List ℕ) AcpiError → Option (ℕ × List ℕ) → Option (ℕ × List ℕ)
+or_later a (Ok b) later = Some (a, b)
+or_later a (Err e) later = later
+
+-- the first valid of n candidates from an address on
+abbrev pub walk : Memory → ℕ → ℕ → Option (ℕ × List ℕ)
+walk m zero a = None
+walk m (suc n) a = or_later a (rsdp_at m a) (walk m n (a + 16))
+
+-- the first valid candidate of an area, if it has one
+unfoldable pub found_in : Memory → Area → Result (Option (ℕ × List ℕ)) AcpiError
+found_in m s = do
+  _ ← lent m s.start (room_of s)
+  Ok (walk m (count_of s) s.start)
+
+-- the word that names the second area
+unfoldable pub word_in : Memory → Result ℕ AcpiError
+word_in m = do
+  b ← lent m 0x40e 2
+  Ok (field_of b 0 2)
+
+abbrev pub or_else : Option (ℕ × List ℕ) → Result (ℕ × List ℕ) AcpiError → Result (ℕ × List ℕ) AcpiError
+or_else (Some found) later = Ok found
+or_else None later = later
+
+-- the RSDP that the areas have, or the refusal
+unfoldable pub found_rsdp : Memory → Result (ℕ × List ℕ) AcpiError
+found_rsdp m = do
+  word ← word_in m
+  first ← found_in m first_area
+  or_else first (do
+    second ← found_in m (second_area word)
+    or_else second (Err NoValidRsdp))

@@ -1,0 +1,238 @@
+//! The Root System Description Pointer (RSDP), which leads to the root table.
+ghost use Rattle.std.specs.Prelude.{◌≡◌, ◌≤◌, IfOk};
+ghost use Rattle.acpi_base.specs.Mapping.{start_of, bytes_of, handler_of};
+ghost use Rattle.acpi_base.specs.Steps.{Gives};
+ghost use Rattle.acpi.specs.Rsdp.{check_sum, check_whole_at, rsdp_at};
+
+mod area;
+mod search;
+
+use acpi_base::bytes::{byte_sum, field, text_of};
+use acpi_base::{AcpiError, AcpiHandler, AcpiResult, PhysicalMapping, PhysicalRecord};
+
+/// The RSDP's 36 bytes (section 5.2.5.3). Revision 0 has only the first 20 of them: the fields
+/// behind mean nothing there.
+#[derive(Clone, Copy)]
+pub struct Rsdp {
+    signature: [u8; 8],
+    checksum: u8,
+    oem_id: [u8; 6],
+    revision: u8,
+    rsdt_address: u32,
+    length: u32,
+    xsdt_address: u64,
+    ext_checksum: u8,
+}
+
+impl PhysicalRecord for Rsdp {
+    ghost use Rattle.acpi.specs.Rsdp.{rsdp_of};
+
+    const MIN_LENGTH: usize = 36;
+
+    ghost MIN_LENGTH = { 36 };
+
+    ghost reading = { rsdp_of };
+
+    #[tactic(auto, unfolding(crate::specs::Rsdp::rsdp_of))]
+    fn read(bytes: &[u8]) -> Self {
+        Rsdp {
+            signature: [
+                bytes[0], bytes[1], bytes[2], bytes[3], bytes[4], bytes[5], bytes[6], bytes[7],
+            ],
+            checksum: field(bytes, 8, 1) as u8,
+            oem_id: [
+                bytes[9], bytes[10], bytes[11], bytes[12], bytes[13], bytes[14],
+            ],
+            revision: field(bytes, 15, 1) as u8,
+            rsdt_address: field(bytes, 16, 4) as u32,
+            length: field(bytes, 20, 4) as u32,
+            xsdt_address: field(bytes, 24, 8),
+            ext_checksum: field(bytes, 32, 1) as u8,
+        }
+    }
+}
+
+impl Rsdp {
+    ghost use Rattle.std.specs.Prelude.{◌≡◌, ◌≤◌, length, IfOk, IfSome, IsUtf8, MatchOption};
+    ghost use Rattle.acpi_base.specs.Steps.{Gives};
+    ghost use Rattle.acpi.specs.Rsdp.{rsdp_of, signature_of, checksum_of, oem_id_of, revision_of, rsdt_address_of, extended_length_of, xsdt_address_of, ext_checksum_of, root_of, unless_first, check_first, length_of, check_rsdp};
+
+    /// `RSD PTR ` where the RSDP is valid.
+    pub fn signature(&self) -> [u8; 8]
+        ensures { result ≡ signature_of self.now }
+    {
+        self.signature
+    }
+
+    /// The byte that makes the first 20 bytes sum to 0 modulo 256.
+    pub fn checksum(&self) -> u8
+        ensures { result ≡ checksum_of self.now }
+    {
+        self.checksum
+    }
+
+    /// The OEM's name, or `None` where it is no UTF-8.
+    pub fn oem_id(&self) -> Option<&str>
+        ensures { MatchOption result (¬ (IsUtf8 (oem_id_of self.now))) (λ text. (text.now ≡ oem_id_of self.now) × IsUtf8 (oem_id_of self.now)) }
+    {
+        text_of(&self.oem_id)
+    }
+
+    /// The revision of this structure: 0 in ACPI 1.0, and 2 since.
+    pub fn revision(&self) -> u8
+        ensures { result ≡ revision_of self.now }
+    {
+        self.revision
+    }
+
+    /// The physical address of the RSDT.
+    pub fn rsdt_address(&self) -> u32
+        ensures { result ≡ rsdt_address_of self.now }
+    {
+        self.rsdt_address
+    }
+
+    /// How many bytes the whole RSDP has, or `None` for revision 0.
+    pub fn length(&self) -> Option<u32>
+        ensures { result ≡ extended_length_of self.now }
+    {
+        self.unless_first(self.length)
+    }
+
+    /// The physical address of the XSDT, or `None` for revision 0.
+    pub fn xsdt_address(&self) -> Option<u64>
+        ensures { result ≡ xsdt_address_of self.now }
+    {
+        self.unless_first(self.xsdt_address)
+    }
+
+    /// The byte that makes the whole RSDP sum to 0 modulo 256, or `None` for revision 0.
+    pub fn ext_checksum(&self) -> Option<u8>
+        ensures { result ≡ ext_checksum_of self.now }
+    {
+        self.unless_first(self.ext_checksum)
+    }
+
+    /// A field that revision 0 does not have.
+    fn unless_first<T: Copy>(&self, field: T) -> Option<T>
+        ensures { result ≡ unless_first self.now field }
+    {
+        if self.revision == 0 {
+            None
+        } else {
+            Some(field)
+        }
+    }
+
+    /// Where a valid RSDP leads: the revision of the root table and its physical address. For
+    /// revision 0 that is the RSDT, else the XSDT.
+    pub(crate) fn root(&self) -> (u8, u64)
+        ensures { result ≡ root_of self.now }
+    {
+        match self.xsdt_address() {
+            None => (0, self.rsdt_address as u64),
+            Some(address) => (self.revision, address),
+        }
+    }
+
+    /// Checks the RSDP that this was read from, whose bytes these are. Bytes behind its length are
+    /// not looked at.
+    ///
+    /// Refuses, in this order, with `RsdpIncorrectSignature` where the signature is not `RSD PTR `,
+    /// `RsdpInvalidOemId` where the OEM id is no UTF-8, and `RsdpInvalidChecksum` where the first
+    /// 20 bytes do not sum to 0 modulo 256. For a revision above 0 it also refuses with
+    /// `RsdpInvalidChecksum` where the length is under 36 or past the bytes, or where that many
+    /// bytes do not sum to 0.
+    #[tactic(auto, unfolding(crate::specs::Rsdp::check_rsdp))]
+    pub fn validate(&self, bytes: &[u8]) -> AcpiResult<()>
+        requires least { 36 ≤ length bytes.now }
+        requires read { self.now ≡ rsdp_of bytes.now }
+        ensures { result ≡ check_rsdp bytes.now }
+    {
+        match self.summed_length(bytes)? {
+            None => Ok(()),
+            Some(length) => {
+                if length > bytes.len() {
+                    return Err(AcpiError::RsdpInvalidChecksum);
+                }
+                check_sum(&bytes[..length])
+            }
+        }
+    }
+
+    /// The checks of the first 20 bytes, which every revision has.
+    #[tactic(auto, unfolding(crate::specs::Rsdp::check_first), using(crate::proofs::Texts::text_test, crate::proofs::Texts::no_text_test))]
+    fn validate_first(&self, bytes: &[u8]) -> AcpiResult<()>
+        requires least { 36 ≤ length bytes.now }
+        requires read { self.now ≡ rsdp_of bytes.now }
+        ensures { result ≡ check_first bytes.now }
+    {
+        if self.signature != *b"RSD PTR " {
+            return Err(AcpiError::RsdpIncorrectSignature);
+        }
+        if self.oem_id().is_none() {
+            return Err(AcpiError::RsdpInvalidOemId);
+        }
+        check_sum(&bytes[..20])
+    }
+
+    /// How many bytes are to sum to 0 beside the first 20, where the first checks hold: none for
+    /// revision 0.
+    #[tactic(auto, unfolding(crate::specs::Rsdp::length_of))]
+    fn summed_length(&self, bytes: &[u8]) -> AcpiResult<Option<usize>>
+        requires least { 36 ≤ length bytes.now }
+        requires read { self.now ≡ rsdp_of bytes.now }
+        ensures long { IfOk result (λ o. IfSome o (λ n. 36 ≤ n)) }
+        ensures length { Gives (λ o. o) result (length_of bytes.now) }
+    {
+        self.validate_first(bytes)?;
+        match self.length() {
+            None => Ok(None),
+            Some(length) if length < 36 => Err(AcpiError::RsdpInvalidChecksum),
+            Some(length) => Ok(Some(length as usize)),
+        }
+    }
+}
+
+/// Bytes of an RSDP that are to sum to 0 modulo 256.
+#[tactic(auto, unfolding(crate::specs::Rsdp::check_sum))]
+fn check_sum(bytes: &[u8]) -> AcpiResult<()>
+    ensures { result ≡ check_sum bytes.now }
+{
+    if byte_sum(bytes) != 0 {
+        return Err(AcpiError::RsdpInvalidChecksum);
+    }
+    Ok(())
+}
+
+/// The sum over the whole of an RSDP, whose length says that it has so many bytes.
+fn check_whole<H: AcpiHandler>(handler: &H, address: u64, length: usize) -> AcpiResult<()>
+    requires { 36 ≤ length }
+    ensures { result ≡ check_whole_at (H.memory handler.now) address (Some length) }
+{
+    let whole = PhysicalMapping::<'_, H, Rsdp>::map(handler, address, length)?;
+    check_sum(whole.bytes())
+}
+
+/// The RSDP at an address, where it is valid: a mapping of its 36 bytes.
+///
+/// Refuses, in this order, with `MapFailed` where 36 bytes aren't lent, `RsdpIncorrectSignature`
+/// where the signature is not `RSD PTR `, `RsdpInvalidOemId` where the OEM id is no UTF-8, and
+/// `RsdpInvalidChecksum` where the first 20 bytes do not sum to 0 modulo 256. For a revision above
+/// 0 it goes on with `RsdpInvalidChecksum` where the length is under 36, `MapFailed` where that
+/// many bytes aren't lent, and `RsdpInvalidChecksum` where they do not sum to 0.
+#[tactic(auto, unfolding(crate::specs::Rsdp::rsdp_at))]
+pub(crate) fn map_rsdp<'h, H: AcpiHandler>(
+    handler: &'h H,
+    address: u64,
+) -> AcpiResult<PhysicalMapping<'h, H, Rsdp>>
+    ensures place { IfOk result (λ m. start_of m ≡ address) }
+    ensures handler { IfOk result (λ m. handler_of m ≡ handler.now) }
+    ensures rsdp { Gives (λ m. bytes_of m) result (rsdp_at (H.memory handler.now) address) }
+{
+    let rsdp = PhysicalMapping::<'h, H, Rsdp>::map(handler, address, 36)?;
+    if let Some(length) = rsdp.get().summed_length(rsdp.bytes())? {
+        check_whole(handler, address, length)?;
+    }
+    Ok(rsdp)
+}

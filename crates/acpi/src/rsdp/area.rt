@@ -1,0 +1,41 @@
+//! Where the search for the RSDP looks.
+ghost use Rattle.std.specs.Prelude.{◌≡◌, ◌<◌, ◌≤◌, ◌^◌, ◌+◌};
+ghost use Rattle.acpi.specs.Search as search;
+
+/// A range of physical addresses; `end` is the first behind it.
+#[derive(Clone, Copy)]
+pub(crate) struct Area {
+    pub(crate) start: u64,
+    pub(crate) end: u64,
+}
+
+/// The read-only memory of the BIOS, which is searched first.
+pub(crate) fn first_area() -> Area
+    ensures { result ≡ search.first_area }
+{
+    Area {
+        start: 0xe0000,
+        end: 0x100000,
+    }
+}
+
+/// What is searched second: the first KiB of the extended BIOS data area (EBDA), whose address is
+/// 16 times the word; where that area can't be there, all of the memory that it may lie in.
+pub(crate) fn second_area(word: u16) -> Area
+    ensures value { result ≡ search.second_area word }
+    ensures some { result.start + 20 ≤ result.end }
+    ensures low { result.end < 2 ^ 32 }
+{
+    let start = 16 * word as u64;
+    if start >= 0x80000 && start < 0x9ffff {
+        Area {
+            start,
+            end: start + 1024,
+        }
+    } else {
+        Area {
+            start: 0x80000,
+            end: 0xa0000,
+        }
+    }
+}

@@ -1,0 +1,137 @@
+//! The search for the RSDP in the firmware's areas, on systems that boot by a BIOS.
+ghost use Rattle.std.specs.Prelude.{◌≡◌, ◌<◌, ◌≤◌, ◌^◌, ◌+◌, length, Ok, IfOk, IfSome};
+ghost use Rattle.std.specs.Option.{option_map};
+ghost use Rattle.std.specs.Str.{bytes_eq};
+ghost use Rattle.acpi_base.specs.Bytes.{part};
+ghost use Rattle.acpi_base.specs.Mapping.{start_of, bytes_of, handler_of};
+ghost use Rattle.acpi_base.specs.Steps.{Gives, lent};
+ghost use Rattle.acpi.specs.Rsdp.{rsd_ptr};
+ghost use Rattle.acpi.specs.Search.{count_of, found_in, found_rsdp, room_of, walk, word_in};
+
+use super::area::{Area, first_area, second_area};
+use super::{Rsdp, map_rsdp};
+use acpi_base::bytes::field;
+use acpi_base::{AcpiError, AcpiHandler, AcpiResult, PhysicalMapping, PhysicalRecord};
+
+/// Bytes that are mapped as they are.
+#[derive(Clone, Copy)]
+struct Span;
+
+impl PhysicalRecord for Span {
+    const MIN_LENGTH: usize = 1;
+
+    ghost MIN_LENGTH = { 1 };
+
+    ghost reading = { λ b. record {} };
+
+    fn read(_bytes: &[u8]) -> Self {
+        Span
+    }
+}
+
+/// Whether the signature of an RSDP stands at an offset.
+fn has_signature(bytes: &[u8], offset: usize) -> bool
+    requires { offset + 8 ≤ length bytes.now }
+    ensures { result ≡ bytes_eq (part bytes.now offset 8) rsd_ptr }
+{
+    let front = &bytes[offset..];
+    let signature = &front[..8];
+    signature == b"RSD PTR ".as_slice()
+}
+
+/// The least valid candidate of an area that is lent, with the 16 bytes behind it, as these bytes.
+/// Only a candidate that has the signature is mapped.
+#[tactic(auto, using(crate::proofs::Within::length_lent))]
+fn first_candidate<'h, H: AcpiHandler>(
+    handler: &'h H,
+    area: Area,
+    bytes: &[u8],
+) -> Option<PhysicalMapping<'h, H, Rsdp>>
+    requires some { area.start + 20 ≤ area.end }
+    requires low { area.end < 2 ^ 32 }
+    requires lent { lent (H.memory handler.now) area.start (room_of area) ≡ Ok bytes.now }
+    ensures handler { IfSome result (λ m. handler_of m ≡ handler.now) }
+    ensures found { option_map (λ m. (start_of m, bytes_of m)) result ≡ walk (H.memory handler.now) (count_of area) area.start }
+{
+    let candidates = (area.end - area.start - 4) / 16;
+    for k in 0..candidates {
+        let offset = 16 * k;
+        if !has_signature(bytes, offset as usize) {
+            continue;
+        }
+        if let Ok(found) = map_rsdp(handler, area.start + offset) {
+            return Some(found);
+        }
+    }
+    None
+}
+
+/// The least valid candidate of an area, if it has one.
+///
+/// Refuses with `MapFailed` where the area isn't lent with the 16 bytes behind it.
+#[tactic(auto, unfolding(crate::specs::Search::found_in))]
+fn search_area<'h, H: AcpiHandler>(
+    handler: &'h H,
+    area: Area,
+) -> AcpiResult<Option<PhysicalMapping<'h, H, Rsdp>>>
+    requires some { area.start + 20 ≤ area.end }
+    requires low { area.end < 2 ^ 32 }
+    ensures handler { IfOk result (λ o. IfSome o (λ m. handler_of m ≡ handler.now)) }
+    ensures found { Gives (λ o. option_map (λ m. (start_of m, bytes_of m)) o) result (found_in (H.memory handler.now) area) }
+{
+    let length = (area.end - area.start + 16) as usize;
+    let mapping = PhysicalMapping::<'h, H, Span>::map(handler, area.start, length)?;
+    Ok(first_candidate(handler, area, mapping.bytes()))
+}
+
+/// The word that names the second area.
+#[tactic(auto, unfolding(crate::specs::Search::word_in))]
+fn area_word<H: AcpiHandler>(handler: &H) -> AcpiResult<u16>
+    ensures { Gives (λ w. w) result (word_in (H.memory handler.now)) }
+{
+    let word = PhysicalMapping::<'_, H, Span>::map(handler, 0x40e, 2)?;
+    Ok(field(word.bytes(), 0, 2) as u16)
+}
+
+/// The search, step by step.
+#[tactic(auto, unfolding(crate::specs::Search::found_rsdp))]
+fn search_areas<'h, H: AcpiHandler>(handler: &'h H) -> AcpiResult<PhysicalMapping<'h, H, Rsdp>>
+    ensures handler { IfOk result (λ m. handler_of m ≡ handler.now) }
+    ensures found { Gives (λ m. (start_of m, bytes_of m)) result (found_rsdp (H.memory handler.now)) }
+{
+    let word = area_word(handler)?;
+    if let Some(found) = search_area(handler, first_area())? {
+        return Ok(found);
+    }
+    search_area(handler, second_area(word))?.ok_or(AcpiError::NoValidRsdp)
+}
+
+impl Rsdp {
+    ghost use Rattle.std.specs.Prelude.{◌≡◌, IfOk};
+    ghost use Rattle.acpi_base.specs.Mapping.{start_of, bytes_of, handler_of};
+    ghost use Rattle.acpi_base.specs.Steps.{Gives};
+    ghost use Rattle.acpi.specs.Search.{IsSearched, found_rsdp};
+
+    /// The RSDP of a system that boots by a BIOS (section 5.2.5.1): a mapping of the 36 bytes of
+    /// the least valid candidate.
+    ///
+    /// Candidates stand every 16 bytes from the start of an area, with 20 bytes inside it. The
+    /// first area is 0xe0000..0x100000. The second is the first 1024 bytes of the extended BIOS
+    /// data area, which begins at 16 times the word at 0x40e; where that is under 0x80000, or
+    /// 0x9ffff or above, it is 0x80000..0xa0000. The second area is asked for only where the first
+    /// has no valid RSDP, and each is asked for with 16 bytes behind it. A candidate that fails any
+    /// check is skipped, also one that isn't lent as far as its length says.
+    ///
+    /// Refuses with `MapFailed` where the word or an area that is asked for isn't lent, and with
+    /// `NoValidRsdp` where no candidate is left.
+    #[tactic(auto, using(crate::proofs::Least::searched))]
+    pub fn search_for_on_bios<'h, H: AcpiHandler>(
+        handler: &'h H,
+    ) -> AcpiResult<PhysicalMapping<'h, H, Rsdp>>
+        ensures handler { IfOk result (λ m. handler_of m ≡ handler.now) }
+        ensures exact { Gives (λ m. (start_of m, bytes_of m)) result (found_rsdp (H.memory handler.now)) }
+        ensures least { IsSearched (H.memory handler.now) (λ m. (start_of m, bytes_of m)) result }
+    {
+        search_areas(handler)
+    }
+}
