@@ -1,3 +1,4 @@
+pub mod Bits
 pub mod First
 pub mod Led
 pub mod Least

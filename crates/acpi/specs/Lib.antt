@@ -7,4 +7,5 @@ pub mod Root
 pub mod Rsdp
 pub mod Search
 pub mod Tables
+pub mod Timer
 pub mod Walks

@@ -5,11 +5,13 @@ use Rattle.acpi_base.specs.declared.error.AcpiError.{AcpiError}
 use Rattle.acpi_base.specs.declared.error.AcpiError.TheVariants as refusal
 use Rattle.acpi_base.specs.declared.sdt.SdtHeader.{SdtHeader}
 use Rattle.acpi_base.specs.declared.signature.Signature.{Signature}
-use Rattle.acpi_base.specs.declared.signature.TheConstants.Signature.{SSDT}
-use Rattle.acpi_base.specs.Header.{header_at}
+use Rattle.acpi_base.specs.declared.signature.TheConstants.Signature.{DSDT, FADT, SSDT}
+use Rattle.acpi_base.specs.Header.{check_table, header_at}
 use Rattle.acpi_base.specs.Memory.{Memory}
 use Rattle.acpi_base.specs.Steps.{◌>>=◌}
-use Rattle.acpi_base.specs.Table.{Kind, own_table_at, plain_kind, table_at}
+use Rattle.acpi_base.specs.Table.{Kind, kind, own_table_at, plain_kind, table_at}
+use Rattle.acpi_fixed.specs.Fadt.{dsdt_address_of, fadt_at}
+use Rattle.acpi.specs.Lookup.{lookup}
 use Rattle.acpi.specs.declared.records.AmlTable.{AmlTable}
 use Rattle.acpi.specs.declared.records.TableFault.{TableFault}
 
@@ -50,3 +52,15 @@ unless_valid p (Err e) faults = with_fault p e faults
 abbrev pub faults_of : Memory → Kind → List ℕ → List TableFault
 faults_of m k [] = []
 faults_of m k (p ∷ ps) = unless_valid p (table_at m k p) (faults_of m k ps)
+
+-- ---- the DSDT, which the FADT leads to
+
+abbrev pub fadt_kind : Kind
+fadt_kind = kind FADT 116 (check_table FADT)
+
+-- the AML of the DSDT: the first valid FADT, its address of the DSDT, and the table there
+abbrev pub dsdt_stream : Memory → List ℕ → Result AmlTable AcpiError
+dsdt_stream m ps = do
+  found ← lookup m fadt_kind ps
+  address ← dsdt_address_of (fadt_at found.1)
+  stream_at m DSDT address

@@ -7,12 +7,17 @@
 mod faults;
 mod headers;
 pub mod laws;
+pub mod platform;
 mod pointers;
 mod records;
 pub mod rsdp;
 mod ssdts;
 mod tables;
 
+pub use acpi_base::address;
+pub use acpi_fixed::bgrt;
+pub use acpi_fixed::fadt;
+pub use acpi_fixed::fadt::PowerProfile;
 pub use acpi_base::{
     AcpiError, AcpiHandler, AcpiResult, AcpiTable, MadtError, PhysicalMapping, PhysicalRecord,
     handler, sdt,

@@ -8,8 +8,10 @@ ghost use Rattle.acpi.specs.Root.{ok_of, root_at};
 use crate::faults::TableFaults;
 use crate::headers::SdtHeaderIterator;
 use crate::pointers::{Pointers, skip};
+use crate::records::{AmlTable, aml_behind};
 use crate::rsdp::{Rsdp, map_rsdp};
 use crate::ssdts::SsdtIterator;
+use acpi_fixed::fadt::Fadt;
 use acpi_base::sdt::{SdtHeader, map_sdt, map_table};
 use acpi_base::{
     AcpiError, AcpiHandler, AcpiResult, AcpiTable, PhysicalMapping, PhysicalRecord, Signature,
@@ -46,7 +48,8 @@ impl<'h, H: AcpiHandler> AcpiTables<'h, H> {
     ghost use Rattle.acpi_base.specs.Steps.{Gives};
     ghost use Rattle.acpi_base.specs.Table.{kind, table_at};
     ghost use Rattle.acpi_base.specs.declared.error.AcpiError.TheVariants.{TableMissing};
-    ghost use Rattle.acpi.specs.Lists.{faults_of, ssdt_streams, valid_headers};
+    ghost use Rattle.acpi_base.specs.declared.signature.TheConstants.Signature.{DSDT};
+    ghost use Rattle.acpi.specs.Lists.{dsdt_stream, faults_of, ssdt_streams, stream_at, valid_headers};
     ghost use Rattle.acpi.specs.Lookup.{IsFirstValid, NoneValid, lookup};
     ghost use Rattle.acpi.specs.Opened.{opened_at, opened_by_rsdp, opened_by_search, opened_of};
     ghost use Rattle.acpi.specs.Pointers.{pointers_left};
@@ -196,6 +199,29 @@ impl<'h, H: AcpiHandler> AcpiTables<'h, H> {
         ensures few { length (ssdts_left H.memory result) ≤ length (pointers_of self.now) }
     {
         SsdtIterator::new(self.root.handler(), self.pointers())
+    }
+
+    /// The AML of the DSDT (section 5.2.11.1): that of the table at the address that the first valid
+    /// FADT gives (section 5.2.9).
+    ///
+    /// Refuses, in this order, with `TableMissing` where no valid FADT is listed,
+    /// `InvalidDsdtAddress` where that gives no address, and with what the table there is refused
+    /// with: `MapFailed`, `SdtInvalidSignature` and so on, carrying the DSDT's signature.
+    pub fn dsdt(&self) -> AcpiResult<AmlTable>
+        ensures { result ≡ dsdt_stream (memory_of self.now) (pointers_of self.now) }
+    {
+        let fadt = self.find_table::<Fadt>()?;
+        let address = fadt.dsdt_address()?;
+        self.dsdt_at(address)
+    }
+
+    /// The AML of the DSDT at an address.
+    #[tactic(auto, unfolding(crate::specs::Lists::stream_at))]
+    fn dsdt_at(&self, address: u64) -> AcpiResult<AmlTable>
+        ensures { result ≡ stream_at (memory_of self.now) DSDT address }
+    {
+        let dsdt = map_sdt(self.root.handler(), address, Signature::DSDT)?;
+        Ok(aml_behind(&dsdt))
     }
 
     /// Why members were passed over in a lookup of `T`: the address and the refusal of each member

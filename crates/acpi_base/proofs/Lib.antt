@@ -1,3 +1,4 @@
+pub mod Codes
 pub mod Damage
 pub mod Held
 pub mod Inside

@@ -1,6 +1,9 @@
+pub mod Address
+pub mod AddressLaws
 pub mod Bytes
 pub mod Claim
 pub mod ErrorText
+pub mod Extended
 pub mod Header
 pub mod Laws
 pub mod Mapping

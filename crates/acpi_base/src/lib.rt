@@ -4,9 +4,11 @@
 //! Section numbers are those of the ACPI Specification, version 6.4.
 #![tactic(auto)]
 
+pub mod address;
 pub mod bytes;
 mod claim;
 pub mod error;
+pub mod extended;
 pub mod handler;
 pub mod laws;
 pub mod mapping;

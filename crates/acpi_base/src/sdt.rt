@@ -7,6 +7,7 @@ ghost use Rattle.acpi_base.specs.Table.{length_in};
 
 use crate::bytes::{is_text, text_of};
 pub use crate::bytes::{byte_sum, field};
+pub use crate::extended::ExtendedField;
 use crate::error::{AcpiError, AcpiResult};
 use crate::handler::PhysicalRecord;
 pub use crate::signature::Signature;

@@ -1,0 +1,36 @@
+//! What the platform has, as the tables say together.
+ghost use Rattle.std.specs.Prelude.{◌≡◌};
+
+use acpi_base::AcpiResult;
+use acpi_base::address::GenericAddress;
+use acpi_fixed::fadt::Fadt;
+
+/// The power management timer (section 4.8.3.3): where its register lies, and whether it counts in
+/// 32 bits or in 24.
+#[derive(Clone, Copy, Debug, PartialEq, Eq)]
+pub struct PmTimer {
+    pub base: GenericAddress,
+    pub supports_32bit: bool,
+}
+
+impl PmTimer {
+    ghost use Rattle.acpi.specs.Timer.{timer_of};
+
+    /// The timer that a FADT describes, or `None` where it has none: the block of
+    /// `Fadt::pm_timer_block`, and bit 8 of the flags.
+    ///
+    /// Refuses with `InvalidGenericAddress` where that block is refused.
+    #[tactic(auto, using(crate::proofs::Bits::is_test))]
+    pub fn new(fadt: &Fadt) -> AcpiResult<Option<PmTimer>>
+        ensures { result ≡ timer_of fadt.now }
+    {
+        let Some(base) = fadt.pm_timer_block()? else {
+            return Ok(None);
+        };
+        let supports_32bit = fadt.flags.pm_timer_is_32_bit();
+        Ok(Some(PmTimer {
+            base,
+            supports_32bit,
+        }))
+    }
+}

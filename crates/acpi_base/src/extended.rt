@@ -1,0 +1,32 @@
+//! Fields that only tables of later revisions have.
+ghost use Rattle.std.specs.Prelude.{◌≡◌};
+
+/// A field that a table or an entry has from a revision on, and only where it is long enough: from
+/// `MIN_REVISION` on, the value that its bytes spell, if all of them lie in the table that it was
+/// read from.
+#[derive(Clone, Copy)]
+pub struct ExtendedField<T: Copy, const MIN_REVISION: u8> {
+    value: Option<T>,
+}
+
+impl<T: Copy, const MIN_REVISION: u8> ExtendedField<T, MIN_REVISION> {
+    ghost use Rattle.acpi_base.specs.Extended.{held_of, shown_of};
+
+    /// A field whose bytes spell this value, or `None` where they don't all lie in the table.
+    pub fn new(value: Option<T>) -> Self
+        ensures { held_of result ≡ value }
+    {
+        ExtendedField { value }
+    }
+
+    /// The value, where a table of this revision has the field and all its bytes lie in the table.
+    pub fn access(&self, revision: u8) -> Option<T>
+        ensures { result ≡ shown_of self.now revision }
+    {
+        if revision >= MIN_REVISION {
+            self.value
+        } else {
+            None
+        }
+    }
+}

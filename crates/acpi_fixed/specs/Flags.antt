@@ -1,0 +1,14 @@
+-- The bits of the FADT's flags.
+use Rattle.std.specs.Prelude.{ℕ}
+use Rattle.acpi_fixed.specs.declared.fadt.flags.ArmBootArchFlags.{ArmBootArchFlags}
+use Rattle.acpi_fixed.specs.declared.fadt.flags.FixedFeatureFlags.{FixedFeatureFlags}
+use Rattle.acpi_fixed.specs.declared.fadt.flags.IaPcBootArchFlags.{IaPcBootArchFlags}
+
+abbrev pub feature_bits : FixedFeatureFlags → ℕ
+feature_bits f = f.0
+
+abbrev pub pc_bits : IaPcBootArchFlags → ℕ
+pc_bits f = f.0
+
+abbrev pub arm_bits : ArmBootArchFlags → ℕ
+arm_bits f = f.0

@@ -1,0 +1,336 @@
+//! The fixed hardware: where its registers lie, and what it can do.
+ghost use Rattle.std.specs.Prelude.{◌≡◌, ◌<◌};
+
+mod flags;
+mod registers;
+
+use acpi_base::address::GenericAddress;
+use acpi_base::sdt::{ExtendedField, SdtHeader, field};
+use acpi_base::{AcpiError, AcpiResult, AcpiTable, PhysicalRecord, Signature};
+pub use flags::{ArmBootArchFlags, FixedFeatureFlags, IaPcBootArchFlags};
+use registers::{
+    RawAddress, RegisterBlock, address_from, extended_address, extended_number, raw_at,
+    register_from,
+};
+
+/// What the machine is for (section 5.2.9).
+#[derive(Clone, Copy, Debug, PartialEq, Eq)]
+pub enum PowerProfile {
+    Unspecified,
+    Desktop,
+    Mobile,
+    Workstation,
+    EnterpriseServer,
+    /// A server for a small office or a home.
+    SohoServer,
+    AppliancePc,
+    PerformanceServer,
+    Tablet,
+    /// Any other code.
+    Reserved(u8),
+}
+
+/// The Fixed ACPI Description Table (section 5.2.9). A public field that reaches past the end of a
+/// short table is read as if zeros followed.
+///
+/// Later versions of the table give an address a second time in a wider field. The calls here take
+/// that one where a table of revision 2 or above has it whole and it isn't 0.
+#[derive(Clone, Copy)]
+pub struct Fadt {
+    header: SdtHeader,
+    firmware_ctrl: u32,
+    dsdt_address: u32,
+    preferred_pm_profile: u8,
+    /// The interrupt that carries the machine's events: a vector of the 8259, or a global system
+    /// interrupt where the machine has none.
+    pub sci_interrupt: u16,
+    /// The port that the five commands below are written to. 0: there is no system management
+    /// mode.
+    pub smi_cmd_port: u32,
+    /// The command that takes the hardware registers from the firmware.
+    pub acpi_enable: u8,
+    /// The command that gives them back.
+    pub acpi_disable: u8,
+    /// The command that asks the firmware for S4.
+    pub s4bios_req: u8,
+    /// The command that takes over the processors' performance states. 0: there is none.
+    pub pstate_control: u8,
+    /// The number of the first event of the second block of general purpose events.
+    pub gpe1_base: u8,
+    /// The command that says that the system follows changes of C states.
+    pub c_state_control: u8,
+    /// The longest time into C2 and back, in microseconds. Above 100: there is no C2.
+    pub worst_c2_latency: u16,
+    /// The longest time into C3 and back, in microseconds. Above 1000: there is no C3.
+    pub worst_c3_latency: u16,
+    /// How many strides to read to write back all caches, where `WBINVD` doesn't do it.
+    pub flush_size: u16,
+    /// The width of a cache line for this, in bytes.
+    pub flush_stride: u16,
+    /// Where the duty cycle's setting lies in the processor's control register, in bits.
+    pub duty_offset: u8,
+    /// How wide this setting is, in bits.
+    pub duty_width: u8,
+    /// The clock's register of the alarm's day of the month. 0: there is none.
+    pub day_alarm: u8,
+    /// The clock's register of the alarm's month. 0: there is none.
+    pub month_alarm: u8,
+    /// The clock's register of the century. 0: there is none.
+    pub century: u8,
+    pub iapc_boot_arch: IaPcBootArchFlags,
+    pub flags: FixedFeatureFlags,
+    /// What to write to the reset register to reset the machine.
+    pub reset_value: u8,
+    pub arm_boot_arch: ArmBootArchFlags,
+    reset_register: RawAddress,
+    x_firmware_ctrl: ExtendedField<u64, 2>,
+    x_dsdt_address: ExtendedField<u64, 2>,
+    pm1a_event: RegisterBlock,
+    pm1b_event: RegisterBlock,
+    pm1a_control: RegisterBlock,
+    pm1b_control: RegisterBlock,
+    pm2_control: RegisterBlock,
+    pm_timer: RegisterBlock,
+    gpe0: RegisterBlock,
+    gpe1: RegisterBlock,
+    sleep_control: ExtendedField<RawAddress, 2>,
+    sleep_status: ExtendedField<RawAddress, 2>,
+}
+
+impl PhysicalRecord for Fadt {
+    ghost use Rattle.acpi_fixed.specs.Fadt.{fadt_at};
+
+    const MIN_LENGTH: usize = 116;
+
+    ghost MIN_LENGTH = { 116 };
+
+    ghost reading = { fadt_at };
+
+    #[tactic(auto, unfolding(crate::specs::Fadt::fadt_at))]
+    fn read(bytes: &[u8]) -> Self {
+        Fadt {
+            header: SdtHeader::read(bytes),
+            firmware_ctrl: field(bytes, 36, 4) as u32,
+            dsdt_address: field(bytes, 40, 4) as u32,
+            preferred_pm_profile: field(bytes, 45, 1) as u8,
+            sci_interrupt: field(bytes, 46, 2) as u16,
+            smi_cmd_port: field(bytes, 48, 4) as u32,
+            acpi_enable: field(bytes, 52, 1) as u8,
+            acpi_disable: field(bytes, 53, 1) as u8,
+            s4bios_req: field(bytes, 54, 1) as u8,
+            pstate_control: field(bytes, 55, 1) as u8,
+            gpe1_base: field(bytes, 94, 1) as u8,
+            c_state_control: field(bytes, 95, 1) as u8,
+            worst_c2_latency: field(bytes, 96, 2) as u16,
+            worst_c3_latency: field(bytes, 98, 2) as u16,
+            flush_size: field(bytes, 100, 2) as u16,
+            flush_stride: field(bytes, 102, 2) as u16,
+            duty_offset: field(bytes, 104, 1) as u8,
+            duty_width: field(bytes, 105, 1) as u8,
+            day_alarm: field(bytes, 106, 1) as u8,
+            month_alarm: field(bytes, 107, 1) as u8,
+            century: field(bytes, 108, 1) as u8,
+            iapc_boot_arch: IaPcBootArchFlags::new(field(bytes, 109, 2) as u16),
+            flags: FixedFeatureFlags::new(field(bytes, 112, 4) as u32),
+            reset_value: field(bytes, 128, 1) as u8,
+            arm_boot_arch: ArmBootArchFlags::new(field(bytes, 129, 2) as u16),
+            reset_register: raw_at(bytes, 116),
+            x_firmware_ctrl: extended_number(bytes, 132),
+            x_dsdt_address: extended_number(bytes, 140),
+            pm1a_event: RegisterBlock::read(bytes, 148, 56, 88),
+            pm1b_event: RegisterBlock::read(bytes, 160, 60, 88),
+            pm1a_control: RegisterBlock::read(bytes, 172, 64, 89),
+            pm1b_control: RegisterBlock::read(bytes, 184, 68, 89),
+            pm2_control: RegisterBlock::read(bytes, 196, 72, 90),
+            pm_timer: RegisterBlock::read(bytes, 208, 76, 91),
+            gpe0: RegisterBlock::read(bytes, 220, 80, 92),
+            gpe1: RegisterBlock::read(bytes, 232, 84, 93),
+            sleep_control: extended_address(bytes, 244),
+            sleep_status: extended_address(bytes, 256),
+        }
+    }
+}
+
+impl AcpiTable for Fadt {
+    ghost use Rattle.std.proofs.Common.{lit≤};
+    ghost use Rattle.acpi_base.specs.Header.{check_table};
+    ghost use Rattle.acpi_base.specs.declared.signature.TheConstants.Signature.{FADT};
+    ghost use Rattle.acpi_fixed.specs.Fadt.{header_of, header_of-fadt_at};
+
+    const SIGNATURE: Signature = Signature::FADT;
+
+    ghost SIGNATURE = { FADT };
+
+    ghost header_in = { header_of };
+
+    ghost verdict = { check_table FADT };
+
+    fn header(&self) -> &SdtHeader {
+        &self.header
+    }
+
+    #[tactic(auto, unfolding(crate::specs::Fadt::fadt_at))]
+    fn validate(&self, bytes: &[u8]) -> AcpiResult<()> {
+        self.header.validate(Signature::FADT, bytes)
+    }
+
+    ghost least = { lit≤ tt };
+
+    ghost header_cut = { λ b h. header_of-fadt_at b };
+}
+
+impl Fadt {
+    ghost use Rattle.acpi_base.specs.Address.{generic_address_of};
+    ghost use Rattle.acpi_fixed.specs.Fadt.{facs_address_of, dsdt_address_of, profile_code_of, profile_of};
+    ghost use Rattle.acpi_fixed.specs.Fadt.{pm1a_event_of, pm1b_event_of, pm1a_control_of, pm1b_control_of};
+    ghost use Rattle.acpi_fixed.specs.Fadt.{pm2_control_of, pm_timer_of, gpe0_of, gpe1_of};
+    ghost use Rattle.acpi_fixed.specs.Fadt.{reset_bytes_of, control_bytes_of, status_bytes_of};
+    ghost use Rattle.acpi_fixed.specs.Registers.{block_of, optional_block_of, register_of, timer_block_of};
+
+    /// What the machine is for.
+    pub fn power_profile(&self) -> PowerProfile
+        ensures { result ≡ profile_of (profile_code_of self.now) }
+    {
+        match self.preferred_pm_profile {
+            0 => PowerProfile::Unspecified,
+            1 => PowerProfile::Desktop,
+            2 => PowerProfile::Mobile,
+            3 => PowerProfile::Workstation,
+            4 => PowerProfile::EnterpriseServer,
+            5 => PowerProfile::SohoServer,
+            6 => PowerProfile::AppliancePc,
+            7 => PowerProfile::PerformanceServer,
+            8 => PowerProfile::Tablet,
+            other => PowerProfile::Reserved(other),
+        }
+    }
+
+    /// The physical address of the FACS: the 64-bit one where it is there and not 0, else the
+    /// 32-bit one.
+    ///
+    /// Refuses with `InvalidFacsAddress` where that is 0.
+    pub fn facs_address(&self) -> AcpiResult<u64>
+        ensures { result ≡ facs_address_of self.now }
+    {
+        let wide = self.x_firmware_ctrl.access(self.header.revision);
+        address_from(AcpiError::InvalidFacsAddress, wide, self.firmware_ctrl)
+    }
+
+    /// The physical address of the DSDT: the 64-bit one where it is there and not 0, else the
+    /// 32-bit one.
+    ///
+    /// Refuses with `InvalidDsdtAddress` where that is 0.
+    pub fn dsdt_address(&self) -> AcpiResult<u64>
+        ensures { result ≡ dsdt_address_of self.now }
+    {
+        let wide = self.x_dsdt_address.access(self.header.revision);
+        address_from(AcpiError::InvalidDsdtAddress, wide, self.dsdt_address)
+    }
+
+    /// The status and enable registers of the fixed events: the extended block where its address
+    /// isn't 0, else the ports, at address 0 too.
+    ///
+    /// Refuses with `InvalidGenericAddress` a reserved code in the extended block, and a length of
+    /// 32 bytes and more where the ports count.
+    pub fn pm1a_event_block(&self) -> AcpiResult<GenericAddress>
+        ensures { result ≡ block_of (pm1a_event_of self.now) }
+    {
+        self.pm1a_event.block(self.header.revision)
+    }
+
+    /// The second block of event registers, or `None` where neither field gives an address.
+    ///
+    /// Refuses as `pm1a_event_block` does.
+    pub fn pm1b_event_block(&self) -> AcpiResult<Option<GenericAddress>>
+        ensures { result ≡ optional_block_of (pm1b_event_of self.now) }
+    {
+        self.pm1b_event.optional_block(self.header.revision)
+    }
+
+    /// The control registers of the fixed hardware: the extended block where its address isn't 0,
+    /// else the ports, at address 0 too.
+    ///
+    /// Refuses as `pm1a_event_block` does.
+    pub fn pm1a_control_block(&self) -> AcpiResult<GenericAddress>
+        ensures { result ≡ block_of (pm1a_control_of self.now) }
+    {
+        self.pm1a_control.block(self.header.revision)
+    }
+
+    /// The second block of control registers, or `None` where neither field gives an address.
+    ///
+    /// Refuses as `pm1a_event_block` does.
+    pub fn pm1b_control_block(&self) -> AcpiResult<Option<GenericAddress>>
+        ensures { result ≡ optional_block_of (pm1b_control_of self.now) }
+    {
+        self.pm1b_control.optional_block(self.header.revision)
+    }
+
+    /// The second control register, or `None` where neither field gives an address.
+    ///
+    /// Refuses as `pm1a_event_block` does.
+    pub fn pm2_control_block(&self) -> AcpiResult<Option<GenericAddress>>
+        ensures { result ≡ optional_block_of (pm2_control_of self.now) }
+    {
+        self.pm2_control.optional_block(self.header.revision)
+    }
+
+    /// The power management timer, or `None` where its length isn't 4 or neither field gives an
+    /// address..
+    ///
+    /// Refuses a reserved code in the extended block with `InvalidGenericAddress`.
+    pub fn pm_timer_block(&self) -> AcpiResult<Option<GenericAddress>>
+        ensures { result ≡ timer_block_of (pm_timer_of self.now) }
+    {
+        self.pm_timer.timer_block(self.header.revision)
+    }
+
+    /// The registers of the first general purpose events, or `None` where neither field gives an
+    /// address.
+    ///
+    /// Refuses as `pm1a_event_block` does.
+    pub fn gpe0_block(&self) -> AcpiResult<Option<GenericAddress>>
+        ensures { result ≡ optional_block_of (gpe0_of self.now) }
+    {
+        self.gpe0.optional_block(self.header.revision)
+    }
+
+    /// The registers of further general purpose events, or `None` where neither field gives an
+    /// address.
+    ///
+    /// Refuses as `pm1a_event_block` does.
+    pub fn gpe1_block(&self) -> AcpiResult<Option<GenericAddress>>
+        ensures { result ≡ optional_block_of (gpe1_of self.now) }
+    {
+        self.gpe1.optional_block(self.header.revision)
+    }
+
+    /// The register that resets the machine, where the flags say that there is one.
+    ///
+    /// Refuses a reserved code with `InvalidGenericAddress`.
+    pub fn reset_register(&self) -> AcpiResult<GenericAddress>
+        ensures { result ≡ generic_address_of (reset_bytes_of self.now) }
+    {
+        GenericAddress::from_raw(self.reset_register)
+    }
+
+    /// The register that puts a machine of reduced hardware to sleep, or `None` where the table has
+    /// no field for it.
+    ///
+    /// Refuses a reserved code with `InvalidGenericAddress`.
+    pub fn sleep_control_register(&self) -> AcpiResult<Option<GenericAddress>>
+        ensures { result ≡ register_of (control_bytes_of self.now) }
+    {
+        register_from(self.sleep_control.access(self.header.revision))
+    }
+
+    /// The register that says how a machine of reduced hardware woke, or `None` where the table has
+    /// no field for it.
+    ///
+    /// Refuses a reserved code with `InvalidGenericAddress`.
+    pub fn sleep_status_register(&self) -> AcpiResult<Option<GenericAddress>>
+        ensures { result ≡ register_of (status_bytes_of self.now) }
+    {
+        register_from(self.sleep_status.access(self.header.revision))
+    }
+}

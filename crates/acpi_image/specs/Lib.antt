@@ -1,0 +1,4 @@
+pub mod ErrorText
+pub mod Held
+pub mod Image
+pub mod Regions

@@ -1,0 +1,11 @@
+//! Physical memory from a file of bytes, as a handler that lends it.
+#![tactic(auto)]
+
+mod error;
+pub mod image;
+mod reader;
+mod record;
+#[cfg(test)]
+mod tests;
+
+pub use image::{ImageError, MemoryImage};

@@ -1,0 +1,91 @@
+//! The lines that the program prints.
+
+use acpi::bgrt::Bgrt;
+use acpi::{AcpiError, AcpiHandler, AcpiTable, AcpiTables};
+use std::io;
+use std::io::Write;
+
+/// Prints each part of the tables.
+pub(crate) fn print_parts<H: AcpiHandler, W: Write>(
+    tables: &AcpiTables<'_, H>,
+    out: &mut W,
+) -> io::Result<()> {
+    print_revision(tables, out)?;
+    print_headers(tables, out)?;
+    print_ssdts(tables, out)?;
+    print_bgrt(tables, out)
+}
+
+/// Prints why tables were passed over, for each type of table that the program looks for.
+pub(crate) fn print_skipped_tables<H: AcpiHandler, E: Write>(
+    tables: &AcpiTables<'_, H>,
+    err: &mut E,
+) -> io::Result<()> {
+    print_skipped::<H, Bgrt, E>(tables, err)
+}
+
+/// `skipped SIG ADDRESS: REFUSAL` for each table that the lookup of a type passes over, but for
+/// those of another signature.
+fn print_skipped<H: AcpiHandler, T: AcpiTable, E: Write>(
+    tables: &AcpiTables<'_, H>,
+    err: &mut E,
+) -> io::Result<()> {
+    for fault in tables.faults::<T>() {
+        let (signature, address, refusal) = (T::SIGNATURE, fault.address, fault.error);
+        writeln!(err, "skipped {signature} {address:#x}: {refusal}")?;
+    }
+    Ok(())
+}
+
+/// `revision R`, the one that the tables were opened with.
+fn print_revision<H: AcpiHandler, W: Write>(
+    tables: &AcpiTables<'_, H>,
+    out: &mut W,
+) -> io::Result<()> {
+    let revision = tables.revision();
+    writeln!(out, "revision {revision}")
+}
+
+/// `table SIG length L revision R` for each valid table.
+fn print_headers<H: AcpiHandler, W: Write>(
+    tables: &AcpiTables<'_, H>,
+    out: &mut W,
+) -> io::Result<()> {
+    for header in tables.headers() {
+        let (signature, length, revision) = (header.signature, header.length, header.revision);
+        writeln!(out, "table {signature} length {length} revision {revision}")?;
+    }
+    Ok(())
+}
+
+/// `ssdt ADDRESS length L` for the AML of each valid SSDT.
+fn print_ssdts<H: AcpiHandler, W: Write>(
+    tables: &AcpiTables<'_, H>,
+    out: &mut W,
+) -> io::Result<()> {
+    for stream in tables.ssdts() {
+        let (address, length) = (stream.address, stream.length);
+        writeln!(out, "ssdt {address:#x} length {length}")?;
+    }
+    Ok(())
+}
+
+/// `bgrt displayed yes|no angle A offset X Y`.
+fn print_bgrt<H: AcpiHandler, W: Write>(tables: &AcpiTables<'_, H>, out: &mut W) -> io::Result<()> {
+    let graphic = match tables.find_table::<Bgrt>() {
+        Ok(graphic) => graphic,
+        Err(refusal) => return print_refused("bgrt", refusal, out),
+    };
+    let displayed = if graphic.was_displayed() { "yes" } else { "no" };
+    let angle = graphic.orientation_offset();
+    let (x, y) = graphic.image_offset();
+    writeln!(
+        out,
+        "bgrt displayed {displayed} angle {angle} offset {x} {y}"
+    )
+}
+
+/// `PART: `, and why this part is refused.
+fn print_refused<W: Write>(part: &str, refusal: AcpiError, out: &mut W) -> io::Result<()> {
+    writeln!(out, "{part}: {refusal}")
+}
