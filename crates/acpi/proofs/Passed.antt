@@ -1,5 +1,5 @@
 -- A member that isn't valid changes nothing, and lists over members are no longer than the members.
-use Rattle.std.proofs.Common.{◌≡◌, ℕ, ◌+◌, ◌≤◌, List, [], ◌∷◌, ◌++◌, length, Option, Some, None, Result, Ok, Err, ap, arith}
+use Rattle.std.proofs.Common.{◌≡◌, ℕ, ◌+◌, ◌≤◌, List, [], ◌∷◌, ◌++◌, length, Option, Some, None, Result, Ok, Err, ap, arith, zero, suc, ◌^◌, ◌<◌, drop, length-drop}
 use Rattle.std.specs.Prelude.{IsErr, filter_map}
 use Rattle.std.specs.List.{cons_option}
 use Rattle.acpi_base.specs.Memory.{Memory}
@@ -11,6 +11,7 @@ use Rattle.acpi.proofs.First.{passed}
 use Rattle.acpi.specs.Laws.{SkipsInvalid}
 use Rattle.acpi.specs.Lists.{faults_of, unless_valid, with_fault}
 use Rattle.acpi.specs.Lookup.{lookup, or_later}
+use Rattle.acpi.specs.Root.{pieces, pointers}
 use Rattle.acpi.specs.declared.records.TableFault.{TableFault}
 
 pub skips_invalid : SkipsInvalid
@@ -39,3 +40,17 @@ faults_more p (Err e) faults = fault_more p e faults
 pub faults_few : (m : Memory) (k : Kind) (ps : List ℕ) → length (faults_of m k ps) ≤ length ps
 faults_few m k [] = omega arith
 faults_few m k (p ∷ ps) = omega (arith, faults_more p (table_at m k p) (faults_of m k ps), faults_few m k ps)
+
+-- ---- a list over the pointers of a short root has few items
+
+pieces_few : (n w : ℕ) (b : List ℕ) → length (pieces n w b) ≤ n
+pieces_few zero w b = omega arith
+pieces_few (suc n) w [] = omega arith
+pieces_few (suc n) w (x ∷ b) = omega (arith, pieces_few n w (drop w (x ∷ b)))
+
+pointers_few : (w : ℕ) (b : List ℕ) → length (pointers w b) ≤ length b
+unfolding pointers
+pointers_few w b = pieces_few (length b) w b
+
+pub fits_root : (n w : ℕ) (root : List ℕ) → length root < 2 ^ 32 → n ≤ length (pointers w (drop 36 root)) → n < 2 ^ 32
+fits_root n w root short few = omega (arith, pointers_few w (drop 36 root), length-drop 36 root, short, few)

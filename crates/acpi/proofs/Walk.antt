@@ -1,5 +1,5 @@
 -- The candidates, one at a time.
-use Rattle.std.proofs.Common.{◌≡◌, ℕ, zero, suc, ◌+◌, ◌-◌, ◌*◌, ◌<◌, ◌≤◌, List, Option, Ok, Err, false, refl, sym, ◌∙◌, arith}
+use Rattle.std.proofs.Common.{◌≡◌, ℕ, zero, suc, ◌+◌, ◌-◌, ◌*◌, ◌<◌, ◌≤◌, List, Option, Some, Ok, Err, false, refl, sym, ◌∙◌, arith}
 use Rattle.std.specs.Str.{bytes_eq}
 use Rattle.acpi_base.specs.Bytes.{part}
 use Rattle.acpi_base.specs.Memory.{Memory, IsMemory}
@@ -22,6 +22,10 @@ module _ (m : Memory) (n k start : ℕ) (all : Option (ℕ × List ℕ)) (so_far
       let next : start + 16 * k + 16 ≡ start + 16 * (k + 1) = omega arith in
       let step = walk_step m (n - k) (start + 16 * k) (omega arith) in
       rw (less, next) at (sym step ∙ so_far)
+
+  -- the candidate in turn is valid
+  pub walk_here : (b : List ℕ) → rsdp_at m (start + 16 * k) ≡ Ok b → Some (start + 16 * k, b) ≡ all
+  walk_here b valid = rw valid at turned
 
   -- the candidate in turn is refused
   pub walk_later : (e : AcpiError) → rsdp_at m (start + 16 * k) ≡ Err e → walk m (n - (k + 1)) (start + 16 * (k + 1)) ≡ all

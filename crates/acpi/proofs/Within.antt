@@ -15,6 +15,7 @@ there_is : {A E : Type 0} (o : Option A) (e : E) (x : A) → value_or o e ≡ Ok
 there_is None e x given = absurd cc
 there_is (Some y) e x given = cc
 
+-- what is lent is there
 pub at_lent : (m : Memory) (a n : ℕ) (b : List ℕ) → lent m a n ≡ Ok b → at m a n ≡ Some b
 at_lent m a n b e = there_is _ _ _ e
 

@@ -2,12 +2,15 @@
 use Rattle.std.specs.Prelude.{◌≡◌, ◌⊎◌, ℕ, zero, suc, ◌+◌, ◌-◌, ◌*◌, ◌/◌, ◌<◌, ◌≤◌, ◌&&◌, nat_le, nat_lt, List, Option, Some, None, Result, Ok, Err, if◌then◌else◌}
 use Rattle.acpi_base.specs.declared.error.AcpiError.{AcpiError}
 use Rattle.acpi_base.specs.declared.error.AcpiError.TheVariants.{MapFailed, NoValidRsdp}
+use Rattle.acpi_base.specs.declared.mapping.PhysicalMapping.{PhysicalMapping}
 use Rattle.acpi_base.specs.Bytes.{field_of}
+use Rattle.acpi_base.specs.Mapping.{start_of, bytes_of}
 use Rattle.acpi_base.specs.Memory.{Memory, at}
 use Rattle.acpi_base.specs.Steps.{◌>>=◌, lent}
 use Rattle.acpi.specs.declared.rsdp.area.Area.{Area}
 use Rattle.acpi.specs.Rsdp.{rsdp_at}
 
+-- the addresses from start to below end
 abbrev pub area : ℕ → ℕ → Area
 area start end = record { start = start; end = end }
 
@@ -15,13 +18,17 @@ area start end = record { start = start; end = end }
 abbrev pub first_area : Area
 first_area = area 0xe0000 0x100000
 
--- the first KiB of the extended BIOS data area, which begins at 16 times the word, or where it can't
--- be there, the memory that it may lie in
+-- the first KiB of the extended BIOS data area, which begins at 16 times the word; where it can't be
+-- there, all of the memory that it may lie in
 abbrev pub second_area : ℕ → Area
 second_area word =
     if nat_le 0x80000 (16 * word) && nat_lt (16 * word) 0x9ffff then area (16 * word) (16 * word + 1024) else area 0x80000 0xa0000
 
 -- ---- what a search finds
+
+-- an RSDP as its address and its 36 bytes
+abbrev pub placed : {H T : _} {h t : _} → PhysicalMapping H T h t → ℕ × List ℕ
+placed m = (start_of m, bytes_of m)
 
 -- an address in steps of 16 from the area's start, with 20 bytes in the area
 abbrev pub IsCandidate : Area → ℕ → Type 0
@@ -35,10 +42,11 @@ IsRefused m a = (e : AcpiError) × (rsdp_at m a ≡ Err e)
 abbrev pub room_of : Area → ℕ
 room_of s = s.end - s.start + 16
 
+-- the area is lent so
 abbrev pub IsLent : Memory → Area → Type 0
 IsLent m s = (b : List ℕ) × (at m s.start (room_of s) ≡ Some b)
 
--- the area is lent, and this is its least valid candidate: its address and its bytes
+-- the area is lent, and this is its least valid candidate
 pub record IsLeast (m : Memory) (s : Area) (found : ℕ × List ℕ) : Type 0 where
   pub lent : IsLent m s
   pub candidate : IsCandidate s found.0
@@ -77,10 +85,11 @@ IsSearched m view (Err e) = ((e ≡ MapFailed) × IsUnlent m) ⊎ ((e ≡ NoVali
 
 -- ---- step by step
 
--- how many candidates an area has
+-- how many candidates an area has: one in 16 bytes, as long as 20 bytes are left
 abbrev pub count_of : Area → ℕ
 count_of s = (s.end - s.start - 4) / 16
 
+-- the candidate at an address, or what comes later where that is refused
 abbrev pub or_later : ℕ → Result (List ℕ) AcpiError → Option (ℕ × List ℕ) → Option (ℕ × List ℕ)
 or_later a (Ok b) later = Some (a, b)
 or_later a (Err e) later = later
@@ -102,6 +111,7 @@ word_in m = do
   b ← lent m 0x40e 2
   Ok (field_of b 0 2)
 
+-- what was found, or what comes later where nothing was
 abbrev pub or_else : Option (ℕ × List ℕ) → Result (ℕ × List ℕ) AcpiError → Result (ℕ × List ℕ) AcpiError
 or_else (Some found) later = Ok found
 or_else None later = later

@@ -14,14 +14,12 @@ pub mod rsdp;
 mod ssdts;
 mod tables;
 
-pub use acpi_base::address;
-pub use acpi_fixed::bgrt;
-pub use acpi_fixed::fadt;
-pub use acpi_fixed::fadt::PowerProfile;
 pub use acpi_base::{
     AcpiError, AcpiHandler, AcpiResult, AcpiTable, MadtError, PhysicalMapping, PhysicalRecord,
-    handler, sdt,
+    address, handler, sdt,
 };
+pub use acpi_fixed::fadt::PowerProfile;
+pub use acpi_fixed::{bgrt, fadt};
 pub use faults::TableFaults;
 pub use headers::SdtHeaderIterator;
 pub use records::{AmlTable, Sdt, TableFault};

@@ -1,5 +1,5 @@
 //! The root table, and the tables that it leads to.
-ghost use Rattle.std.specs.Prelude.{◌≡◌, Some, IfOk};
+ghost use Rattle.std.specs.Prelude.{◌≡◌, ◌^◌, ◌<◌, length, Some, IfOk};
 ghost use Rattle.std.proofs.Props.{props};
 ghost use Rattle.acpi_base.specs.Mapping.{start_of, bytes_of, handler_of};
 ghost use Rattle.acpi_base.specs.Steps.{Gives};
@@ -11,11 +11,11 @@ use crate::pointers::{Pointers, skip};
 use crate::records::{AmlTable, aml_behind};
 use crate::rsdp::{Rsdp, map_rsdp};
 use crate::ssdts::SsdtIterator;
-use acpi_fixed::fadt::Fadt;
 use acpi_base::sdt::{SdtHeader, map_sdt, map_table};
 use acpi_base::{
     AcpiError, AcpiHandler, AcpiResult, AcpiTable, PhysicalMapping, PhysicalRecord, Signature,
 };
+use acpi_fixed::fadt::Fadt;
 
 /// The tables that a root table leads to. The root table stays mapped until this is dropped.
 #[derive(Drop)]
@@ -23,6 +23,7 @@ pub struct AcpiTables<'h, H: AcpiHandler> {
     revision: u8,
     root: PhysicalMapping<'h, H, SdtHeader>,
     ghost valid: { ok_of (root_at (H.memory (handler_of root)) revision (start_of root)) ≡ Some (bytes_of root) } by { Prim.hlevel props },
+    ghost short: { length (bytes_of root) < 2 ^ 32 },
 }
 
 /// The root table that a revision asks for, where it is valid.
@@ -33,6 +34,7 @@ fn map_root<'h, H: AcpiHandler>(
 ) -> AcpiResult<PhysicalMapping<'h, H, SdtHeader>>
     ensures place { IfOk result (λ m. start_of m ≡ address) }
     ensures handler { IfOk result (λ m. handler_of m ≡ handler.now) }
+    ensures short { IfOk result (λ m. length (bytes_of m) < 2 ^ 32) }
     ensures root { Gives (λ m. bytes_of m) result (root_at (H.memory handler.now) revision address) }
 {
     let signature = if revision == 0 {
@@ -44,7 +46,7 @@ fn map_root<'h, H: AcpiHandler>(
 }
 
 impl<'h, H: AcpiHandler> AcpiTables<'h, H> {
-    ghost use Rattle.std.specs.Prelude.{◌≡◌, ◌↔◌, ◌≤◌, ◌∷◌, ◌++◌, ℕ, List, drop, length, IfOk, IfErr, IsErr, IsOk};
+    ghost use Rattle.std.specs.Prelude.{◌≡◌, ◌^◌, ◌<◌, ◌↔◌, ◌≤◌, ◌∷◌, ◌++◌, ℕ, List, drop, length, IfOk, IfErr, IsErr, IsOk};
     ghost use Rattle.acpi_base.specs.Steps.{Gives};
     ghost use Rattle.acpi_base.specs.Table.{kind, table_at};
     ghost use Rattle.acpi_base.specs.declared.error.AcpiError.TheVariants.{TableMissing};
@@ -188,6 +190,7 @@ impl<'h, H: AcpiHandler> AcpiTables<'h, H> {
     pub fn headers(&self) -> SdtHeaderIterator<'_, 'h, H>
         ensures items { headers_left H.memory result ≡ valid_headers (memory_of self.now) (pointers_of self.now) }
         ensures few { length (headers_left H.memory result) ≤ length (pointers_of self.now) }
+        ensures fits { length (headers_left H.memory result) < 2 ^ 32 }
     {
         SdtHeaderIterator::new(self.root.handler(), self.pointers())
     }
@@ -197,6 +200,7 @@ impl<'h, H: AcpiHandler> AcpiTables<'h, H> {
     pub fn ssdts(&self) -> SsdtIterator<'_, 'h, H>
         ensures items { ssdts_left H.memory result ≡ ssdt_streams (memory_of self.now) (pointers_of self.now) }
         ensures few { length (ssdts_left H.memory result) ≤ length (pointers_of self.now) }
+        ensures fits { length (ssdts_left H.memory result) < 2 ^ 32 }
     {
         SsdtIterator::new(self.root.handler(), self.pointers())
     }
@@ -230,6 +234,7 @@ impl<'h, H: AcpiHandler> AcpiTables<'h, H> {
     pub fn faults<T: AcpiTable>(&self) -> TableFaults<'_, 'h, H, T>
         ensures items { faults_left H.memory (kind T.SIGNATURE T.MIN_LENGTH T.verdict) result ≡ faults_of (memory_of self.now) (kind T.SIGNATURE T.MIN_LENGTH T.verdict) (pointers_of self.now) }
         ensures few { length (faults_left H.memory (kind T.SIGNATURE T.MIN_LENGTH T.verdict) result) ≤ length (pointers_of self.now) }
+        ensures fits { length (faults_left H.memory (kind T.SIGNATURE T.MIN_LENGTH T.verdict) result) < 2 ^ 32 }
     {
         TableFaults::new(self.root.handler(), self.pointers())
     }

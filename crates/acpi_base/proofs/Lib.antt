@@ -4,6 +4,7 @@ pub mod Held
 pub mod Inside
 pub mod Lent
 pub mod Numbers
+pub mod OneRegion
 pub mod Orders
 pub mod Spelling
 pub mod Steps

@@ -8,6 +8,7 @@ pub mod Header
 pub mod Laws
 pub mod Mapping
 pub mod Memory
+pub mod OneRegion
 pub mod Steps
 pub mod Table
 pub mod Text

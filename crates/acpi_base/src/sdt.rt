@@ -7,8 +7,8 @@ ghost use Rattle.acpi_base.specs.Table.{length_in};
 
 use crate::bytes::{is_text, text_of};
 pub use crate::bytes::{byte_sum, field};
-pub use crate::extended::ExtendedField;
 use crate::error::{AcpiError, AcpiResult};
+pub use crate::extended::ExtendedField;
 use crate::handler::PhysicalRecord;
 pub use crate::signature::Signature;
 pub use crate::table::{AcpiTable, map_own_sdt, map_sdt, map_table};

@@ -139,8 +139,11 @@ pub fn map_own_sdt<'h, H: AcpiHandler>(
     ensures handler { IfOk result (λ m. handler_of m ≡ handler.now) }
     ensures table { Gives (λ m. bytes_of m) result (own_table_at (H.memory handler.now) address) }
 {
-    let header: PhysicalMapping<'h, H, SdtHeader> =
-        PhysicalMapping::map(handler, address, SdtHeader::MIN_LENGTH)?;
+    let header: PhysicalMapping<'h, H, SdtHeader> = PhysicalMapping::map(
+        handler,
+        address,
+        SdtHeader::MIN_LENGTH,
+    )?;
     let signature = header.signature;
     map_plain(header, signature)
 }

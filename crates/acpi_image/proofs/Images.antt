@@ -8,7 +8,6 @@ use Rattle.std.proofs.Math.Seq.{take-append_seam, drop-append_seam}
 use Rattle.acpi_base.specs.Bytes.{IsBytes, number, spelling, field_of}
 use Rattle.acpi_base.specs.Memory.{Memory, Region, IsMemory, IsRegion, end_of}
 use Rattle.acpi_base.proofs.Steps.{bind_ok, holds_ok}
-use Rattle.acpi_base.specs.Steps.{◌>>=◌, holds}
 use Rattle.acpi_image.specs.Image.{GivesOrFull, IsImage, ample, records_with, next_at, record_at, record_spelling, records_from, records_in, shares_any}
 use Rattle.acpi_image.specs.declared.error.ImageError.{ImageError}
 use Rattle.acpi_base.proofs.Spelling.{IsBytes-drop, IsBytes-take, length-spelling, number-spelling, spelling-number}

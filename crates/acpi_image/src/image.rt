@@ -38,7 +38,8 @@ impl<'a> MemoryImage<'a> {
     /// Refuses, records in order, and for each in this order, with `Truncated` where fewer than 16
     /// bytes are left or fewer than `length` behind them, `EndTooLarge` where `start + length` is
     /// above 2^64 - 1, `Overlap` where it shares a byte with an earlier record, and `OutOfMemory`
-    /// where a growth is refused. Records that only touch share no byte, nor does one without bytes.
+    /// where a growth is refused. Records that only touch share no byte, and one without bytes
+    /// shares none.
     pub fn from_bytes(alloc: Global, bytes: &'a [u8]) -> Result<MemoryImage<'a>, ImageError>
         // The file is the records of the memory, and nothing else.
         ensures found { IfOk result (λ i. IsImage bytes.now (memory_of i)) }

@@ -1,7 +1,8 @@
 //! The lines that the program prints.
 
 use acpi::bgrt::Bgrt;
-use acpi::{AcpiError, AcpiHandler, AcpiTable, AcpiTables};
+use acpi::fadt::Fadt;
+use acpi::{AcpiError, AcpiHandler, AcpiTable, AcpiTables, AmlTable};
 use std::io;
 use std::io::Write;
 
@@ -12,6 +13,7 @@ pub(crate) fn print_parts<H: AcpiHandler, W: Write>(
 ) -> io::Result<()> {
     print_revision(tables, out)?;
     print_headers(tables, out)?;
+    print_dsdt(tables, out)?;
     print_ssdts(tables, out)?;
     print_bgrt(tables, out)
 }
@@ -21,6 +23,7 @@ pub(crate) fn print_skipped_tables<H: AcpiHandler, E: Write>(
     tables: &AcpiTables<'_, H>,
     err: &mut E,
 ) -> io::Result<()> {
+    print_skipped::<H, Fadt, E>(tables, err)?;
     print_skipped::<H, Bgrt, E>(tables, err)
 }
 
@@ -58,14 +61,21 @@ fn print_headers<H: AcpiHandler, W: Write>(
     Ok(())
 }
 
+/// `dsdt ADDRESS length L` for the AML of the DSDT.
+fn print_dsdt<H: AcpiHandler, W: Write>(tables: &AcpiTables<'_, H>, out: &mut W) -> io::Result<()> {
+    match tables.dsdt() {
+        Ok(stream) => print_stream("dsdt", stream, out),
+        Err(refusal) => print_refused("dsdt", refusal, out),
+    }
+}
+
 /// `ssdt ADDRESS length L` for the AML of each valid SSDT.
 fn print_ssdts<H: AcpiHandler, W: Write>(
     tables: &AcpiTables<'_, H>,
     out: &mut W,
 ) -> io::Result<()> {
     for stream in tables.ssdts() {
-        let (address, length) = (stream.address, stream.length);
-        writeln!(out, "ssdt {address:#x} length {length}")?;
+        print_stream("ssdt", stream, out)?;
     }
     Ok(())
 }
@@ -83,6 +93,12 @@ fn print_bgrt<H: AcpiHandler, W: Write>(tables: &AcpiTables<'_, H>, out: &mut W)
         out,
         "bgrt displayed {displayed} angle {angle} offset {x} {y}"
     )
+}
+
+/// `PART ADDRESS length L` for a stream of AML.
+fn print_stream<W: Write>(part: &str, stream: AmlTable, out: &mut W) -> io::Result<()> {
+    let (address, length) = (stream.address, stream.length);
+    writeln!(out, "{part} {address:#x} length {length}")
 }
 
 /// `PART: `, and why this part is refused.

@@ -1,6 +1,8 @@
 //! Runs over images that are spelled out byte by byte. Bytes that are not named are zero.
 ghost use Rattle.std.specs.Prelude.{◌+◌, ◌≤◌, length};
 
+mod parts;
+
 use crate::refusing::Refusing;
 use crate::run::run;
 use crate::words::{Command, parse_command};
@@ -82,7 +84,8 @@ fn check_run(
 #[test]
 fn prints_the_boot_graphic(rt: HostRuntime) {
     let file = one_graphic();
-    let lines = "revision 0\nbgrt displayed yes angle 180 offset 0 0\n";
+    let lines =
+        "revision 0\ntable BGRT length 56 revision 0\ndsdt: TableMissing FACP\nbgrt displayed yes angle 180 offset 0 0\n";
     for (revision, address) in [("0", "0x1000"), ("000", "0x0000000000001000")] {
         let words = rsdt_words(revision, address);
         check_run(&rt, rt.alloc(), &words, Some(&file), (0, lines, ""));
@@ -93,7 +96,7 @@ fn prints_the_boot_graphic(rt: HostRuntime) {
 fn prints_what_a_part_is_refused_for(rt: HostRuntime) {
     let file = empty_root(36, 0x9F);
     let words = rsdt_words("0", "0x1000");
-    let lines = "revision 0\nbgrt: TableMissing BGRT\n";
+    let lines = "revision 0\ndsdt: TableMissing FACP\nbgrt: TableMissing BGRT\n";
     check_run(&rt, rt.alloc(), &words, Some(&file), (0, lines, ""));
 }
 
@@ -214,8 +217,11 @@ fn wrong_words(rt: HostRuntime) {
     check_usage(&rt, alloc, &["some.image", "rsdt ", "0", "0x1000"]);
     check_usage(&rt, alloc, &["some.image", "", "0", "0x1000"]);
     check_usage(&rt, alloc, &["rsdt", "0", "0x1000"]);
-    check_usage(&rt, alloc, &["some.image", "rsdp", "0x1000"]);
-    check_usage(&rt, alloc, &["some.image", "bios"]);
+    check_usage(&rt, alloc, &["some.image", "rsdp"]);
+    check_usage(&rt, alloc, &["some.image", "rsdp", "1000"]);
+    check_usage(&rt, alloc, &["some.image", "rsdp", "0", "0x1000"]);
+    check_usage(&rt, alloc, &["some.image", "bios", "0xe0000"]);
+    check_usage(&rt, alloc, &["some.image", "Bios"]);
 }
 
 /// Checks that a run ends with status 1 where any one write is refused, and how many it makes.
@@ -258,6 +264,6 @@ fn each_write_refused_in_turn(rt: HostRuntime) -> Result<(), Fail> {
     check_refused_writes(&rt, alloc, &words, Some(&[]), 1);
     check_refused_writes(&rt, alloc, &words, Some(without_last(&graphic)), 1);
     check_refused_writes(&rt, alloc, &words, None, 1);
-    check_refused_writes(&rt, alloc, &["some.image", "bios"], None, 2);
+    check_refused_writes(&rt, alloc, &["some.image", "bios", "more"], None, 2);
     Ok(())
 }

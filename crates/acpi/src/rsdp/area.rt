@@ -10,14 +10,10 @@ pub(crate) struct Area {
 }
 
 /// The read-only memory of the BIOS, which is searched first.
-pub(crate) fn first_area() -> Area
-    ensures { result ≡ search.first_area }
-{
-    Area {
-        start: 0xe0000,
-        end: 0x100000,
-    }
-}
+pub(crate) const FIRST_AREA: Area = Area {
+    start: 0xe0000,
+    end: 0x100000,
+};
 
 /// What is searched second: the first KiB of the extended BIOS data area (EBDA), whose address is
 /// 16 times the word; where that area can't be there, all of the memory that it may lie in.

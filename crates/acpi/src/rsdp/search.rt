@@ -3,12 +3,12 @@ ghost use Rattle.std.specs.Prelude.{◌≡◌, ◌<◌, ◌≤◌, ◌^◌, ◌+
 ghost use Rattle.std.specs.Option.{option_map};
 ghost use Rattle.std.specs.Str.{bytes_eq};
 ghost use Rattle.acpi_base.specs.Bytes.{part};
-ghost use Rattle.acpi_base.specs.Mapping.{start_of, bytes_of, handler_of};
+ghost use Rattle.acpi_base.specs.Mapping.{handler_of};
 ghost use Rattle.acpi_base.specs.Steps.{Gives, lent};
 ghost use Rattle.acpi.specs.Rsdp.{rsd_ptr};
-ghost use Rattle.acpi.specs.Search.{count_of, found_in, found_rsdp, room_of, walk, word_in};
+ghost use Rattle.acpi.specs.Search.{count_of, found_in, found_rsdp, placed, room_of, walk, word_in};
 
-use super::area::{Area, first_area, second_area};
+use super::area::{Area, FIRST_AREA, second_area};
 use super::{Rsdp, map_rsdp};
 use acpi_base::bytes::field;
 use acpi_base::{AcpiError, AcpiHandler, AcpiResult, PhysicalMapping, PhysicalRecord};
@@ -40,7 +40,6 @@ fn has_signature(bytes: &[u8], offset: usize) -> bool
 }
 
 /// The least valid candidate of an area that is lent, with the 16 bytes behind it, as these bytes.
-/// Only a candidate that has the signature is mapped.
 #[tactic(auto, using(crate::proofs::Within::length_lent))]
 fn first_candidate<'h, H: AcpiHandler>(
     handler: &'h H,
@@ -51,11 +50,12 @@ fn first_candidate<'h, H: AcpiHandler>(
     requires low { area.end < 2 ^ 32 }
     requires lent { lent (H.memory handler.now) area.start (room_of area) ≡ Ok bytes.now }
     ensures handler { IfSome result (λ m. handler_of m ≡ handler.now) }
-    ensures found { option_map (λ m. (start_of m, bytes_of m)) result ≡ walk (H.memory handler.now) (count_of area) area.start }
+    ensures found { option_map placed result ≡ walk (H.memory handler.now) (count_of area) area.start }
 {
     let candidates = (area.end - area.start - 4) / 16;
     for k in 0..candidates {
         let offset = 16 * k;
+        // nearly all lack the signature, and that shows without a request for each
         if !has_signature(bytes, offset as usize) {
             continue;
         }
@@ -77,7 +77,7 @@ fn search_area<'h, H: AcpiHandler>(
     requires some { area.start + 20 ≤ area.end }
     requires low { area.end < 2 ^ 32 }
     ensures handler { IfOk result (λ o. IfSome o (λ m. handler_of m ≡ handler.now)) }
-    ensures found { Gives (λ o. option_map (λ m. (start_of m, bytes_of m)) o) result (found_in (H.memory handler.now) area) }
+    ensures found { Gives (option_map placed) result (found_in (H.memory handler.now) area) }
 {
     let length = (area.end - area.start + 16) as usize;
     let mapping = PhysicalMapping::<'h, H, Span>::map(handler, area.start, length)?;
@@ -97,20 +97,21 @@ fn area_word<H: AcpiHandler>(handler: &H) -> AcpiResult<u16>
 #[tactic(auto, unfolding(crate::specs::Search::found_rsdp))]
 fn search_areas<'h, H: AcpiHandler>(handler: &'h H) -> AcpiResult<PhysicalMapping<'h, H, Rsdp>>
     ensures handler { IfOk result (λ m. handler_of m ≡ handler.now) }
-    ensures found { Gives (λ m. (start_of m, bytes_of m)) result (found_rsdp (H.memory handler.now)) }
+    ensures found { Gives placed result (found_rsdp (H.memory handler.now)) }
 {
     let word = area_word(handler)?;
-    if let Some(found) = search_area(handler, first_area())? {
+    if let Some(found) = search_area(handler, FIRST_AREA)? {
         return Ok(found);
     }
     search_area(handler, second_area(word))?.ok_or(AcpiError::NoValidRsdp)
 }
 
 impl Rsdp {
-    ghost use Rattle.std.specs.Prelude.{◌≡◌, IfOk};
-    ghost use Rattle.acpi_base.specs.Mapping.{start_of, bytes_of, handler_of};
+    ghost use Rattle.std.specs.Prelude.{◌≡◌, IfOk, IsOk};
+    ghost use Rattle.acpi_base.specs.Mapping.{handler_of, start_of};
     ghost use Rattle.acpi_base.specs.Steps.{Gives};
-    ghost use Rattle.acpi.specs.Search.{IsSearched, found_rsdp};
+    ghost use Rattle.acpi.specs.Rsdp.{rsdp_at};
+    ghost use Rattle.acpi.specs.Search.{IsSearched, found_rsdp, placed};
 
     /// The RSDP of a system that boots by a BIOS (section 5.2.5.1): a mapping of the 36 bytes of
     /// the least valid candidate.
@@ -124,13 +125,15 @@ impl Rsdp {
     ///
     /// Refuses with `MapFailed` where the word or an area that is asked for isn't lent, and with
     /// `NoValidRsdp` where no candidate is left.
-    #[tactic(auto, using(crate::proofs::Least::searched))]
+    #[tactic(auto, using(crate::proofs::Least::searched, crate::proofs::Led::found_valid))]
     pub fn search_for_on_bios<'h, H: AcpiHandler>(
         handler: &'h H,
     ) -> AcpiResult<PhysicalMapping<'h, H, Rsdp>>
         ensures handler { IfOk result (λ m. handler_of m ≡ handler.now) }
-        ensures exact { Gives (λ m. (start_of m, bytes_of m)) result (found_rsdp (H.memory handler.now)) }
-        ensures least { IsSearched (H.memory handler.now) (λ m. (start_of m, bytes_of m)) result }
+        ensures exact { Gives placed result (found_rsdp (H.memory handler.now)) }
+        ensures valid { IfOk result (λ m. IsOk (rsdp_at (H.memory handler.now) (start_of m))) }
+        // In the reader's words: the least valid candidate, or the cause of the refusal.
+        ensures least { IsSearched (H.memory handler.now) placed result }
     {
         search_areas(handler)
     }

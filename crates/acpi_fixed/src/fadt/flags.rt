@@ -24,154 +24,156 @@ impl FixedFeatureFlags {
         FixedFeatureFlags(bits)
     }
 
-    /// `WBINVD` or an equivalent writes back and drops all caches, and keeps memory coherent.
+    /// Whether `WBINVD` or an equivalent writes back and drops all caches, with memory coherent.
     pub fn supports_equivalent_to_wbinvd(&self) -> bool
         ensures { IsTrue result ↔ HasBit (feature_bits self.now) 0 }
     {
         has_bit(self.0, 0)
     }
 
-    /// `WBINVD` writes back all caches and keeps memory coherent, but may leave them filled.
+    /// Whether `WBINVD` writes back all caches, with memory coherent, but may leave them filled.
     pub fn wbinvd_flushes_all_caches(&self) -> bool
         ensures { IsTrue result ↔ HasBit (feature_bits self.now) 1 }
     {
         has_bit(self.0, 1)
     }
 
-    /// Each processor has the power state C1.
+    /// Whether each processor has the power state C1.
     pub fn all_procs_support_c1_power_state(&self) -> bool
         ensures { IsTrue result ↔ HasBit (feature_bits self.now) 2 }
     {
         has_bit(self.0, 2)
     }
 
-    /// The power state C2 works with one processor and with several; else with one alone.
+    /// Whether the power state C2 works with several processors too, and not with one alone.
     pub fn c2_configured_for_mp_system(&self) -> bool
         ensures { IsTrue result ↔ HasBit (feature_bits self.now) 3 }
     {
         has_bit(self.0, 3)
     }
 
-    /// The power button is handled by a control method or is absent, and not by fixed registers.
+    /// Whether the power button is handled by a control method or is absent; else it is handled by
+    /// fixed registers.
     pub fn power_button_is_control_method(&self) -> bool
         ensures { IsTrue result ↔ HasBit (feature_bits self.now) 4 }
     {
         has_bit(self.0, 4)
     }
 
-    /// The sleep button is handled by a control method or is absent, and not by fixed registers.
+    /// Whether the sleep button is handled by a control method or is absent; else it is handled by
+    /// fixed registers.
     pub fn sleep_button_is_control_method(&self) -> bool
         ensures { IsTrue result ↔ HasBit (feature_bits self.now) 5 }
     {
         has_bit(self.0, 5)
     }
 
-    /// A wake by the real time clock shows in no fixed register.
+    /// Whether a wake by the real time clock shows in no fixed register.
     pub fn no_rtc_wake_in_fixed_register_space(&self) -> bool
         ensures { IsTrue result ↔ HasBit (feature_bits self.now) 6 }
     {
         has_bit(self.0, 6)
     }
 
-    /// The real time clock can wake the machine from S4.
+    /// Whether the real time clock can wake the machine from S4.
     pub fn rtc_wakes_system_from_s4(&self) -> bool
         ensures { IsTrue result ↔ HasBit (feature_bits self.now) 7 }
     {
         has_bit(self.0, 7)
     }
 
-    /// The power management timer counts 32 bits; else 24.
+    /// Whether the power management timer counts 32 bits; else it counts 24.
     pub fn pm_timer_is_32_bit(&self) -> bool
         ensures { IsTrue result ↔ HasBit (feature_bits self.now) 8 }
     {
         has_bit(self.0, 8)
     }
 
-    /// The machine can be docked.
+    /// Whether the machine can be docked.
     pub fn supports_docking(&self) -> bool
         ensures { IsTrue result ↔ HasBit (feature_bits self.now) 9 }
     {
         has_bit(self.0, 9)
     }
 
-    /// A write of `reset_value` to the reset register resets the machine.
+    /// Whether a write of `reset_value` to the reset register resets the machine.
     pub fn supports_system_reset_via_fadt(&self) -> bool
         ensures { IsTrue result ↔ HasBit (feature_bits self.now) 10 }
     {
         has_bit(self.0, 10)
     }
 
-    /// The machine cannot be extended, and its case stays closed.
+    /// Whether the machine cannot be extended inside and its case is sealed.
     pub fn case_is_sealed(&self) -> bool
         ensures { IsTrue result ↔ HasBit (feature_bits self.now) 11 }
     {
         has_bit(self.0, 11)
     }
 
-    /// The machine cannot tell whether a screen, keyboard or mouse is there.
+    /// Whether the machine cannot tell if a screen, keyboard or mouse is there.
     pub fn system_is_headless(&self) -> bool
         ensures { IsTrue result ↔ HasBit (feature_bits self.now) 12 }
     {
         has_bit(self.0, 12)
     }
 
-    /// A processor instruction has to follow a write of the sleep type.
+    /// Whether a processor instruction has to follow a write of the sleep type.
     pub fn use_instr_after_write_to_slp_typx(&self) -> bool
         ensures { IsTrue result ↔ HasBit (feature_bits self.now) 13 }
     {
         has_bit(self.0, 13)
     }
 
-    /// The PM1 registers have the bits for a wake by PCI Express.
+    /// Whether the PM1 registers have the bits for a wake by PCI Express.
     pub fn supports_pciexp_wake_in_pm1(&self) -> bool
         ensures { IsTrue result ↔ HasBit (feature_bits self.now) 14 }
     {
         has_bit(self.0, 14)
     }
 
-    /// Timers should be taken from the power management timer or the HPET.
+    /// Whether timers should be taken from the power management timer or the HPET.
     pub fn use_pm_or_hpet_for_monotonically_decreasing_timers(&self) -> bool
         ensures { IsTrue result ↔ HasBit (feature_bits self.now) 15 }
     {
         has_bit(self.0, 15)
     }
 
-    /// The clock's status is right after a wake from S4.
+    /// Whether the clock's status is right after a wake from S4.
     pub fn rtc_sts_is_valid_after_wakeup_from_s4(&self) -> bool
         ensures { IsTrue result ↔ HasBit (feature_bits self.now) 16 }
     {
         has_bit(self.0, 16)
     }
 
-    /// Wake events may stay armed when the machine enters S5.
+    /// Whether wake events may stay armed when the machine enters S5.
     pub fn ospm_may_leave_gpe_wake_events_armed_before_s5(&self) -> bool
         ensures { IsTrue result ↔ HasBit (feature_bits self.now) 17 }
     {
         has_bit(self.0, 17)
     }
 
-    /// Local APICs have to use the cluster model in logical mode.
+    /// Whether local APICs have to use the cluster model in logical mode.
     pub fn lapics_must_use_cluster_model_for_logical_mode(&self) -> bool
         ensures { IsTrue result ↔ HasBit (feature_bits self.now) 18 }
     {
         has_bit(self.0, 18)
     }
 
-    /// Local xAPICs have to use the physical destination mode.
+    /// Whether local xAPICs have to use the physical destination mode.
     pub fn local_xapics_must_use_physical_destination_mode(&self) -> bool
         ensures { IsTrue result ↔ HasBit (feature_bits self.now) 19 }
     {
         has_bit(self.0, 19)
     }
 
-    /// The machine has reduced hardware: fixed features are handled by software.
+    /// Whether the machine has reduced hardware, with software in place of the fixed features.
     pub fn system_is_hw_reduced_acpi(&self) -> bool
         ensures { IsTrue result ↔ HasBit (feature_bits self.now) 20 }
     {
         has_bit(self.0, 20)
     }
 
-    /// S0 saves as much power as S3, so that S3 is of no use.
+    /// Whether S0 saves as much power as S3, so that S3 is of no use.
     pub fn no_benefit_to_s3(&self) -> bool
         ensures { IsTrue result ↔ HasBit (feature_bits self.now) 21 }
     {
@@ -193,42 +195,42 @@ impl IaPcBootArchFlags {
         IaPcBootArchFlags(bits)
     }
 
-    /// The machine has devices on LPC or ISA that a user can see.
+    /// Whether the machine has devices on LPC or ISA that a user can see.
     pub fn legacy_devices_are_accessible(&self) -> bool
         ensures { IsTrue result ↔ HasBit (pc_bits self.now) 0 }
     {
         has_bit(self.0 as u32, 0)
     }
 
-    /// The motherboard has a keyboard controller at the ports 0x60 and 0x64.
+    /// Whether the motherboard has a keyboard controller at the ports 0x60 and 0x64.
     pub fn motherboard_implements_8042(&self) -> bool
         ensures { IsTrue result ↔ HasBit (pc_bits self.now) 1 }
     {
         has_bit(self.0 as u32, 1)
     }
 
-    /// VGA hardware must not be probed blindly.
+    /// Whether VGA hardware must not be probed blindly.
     pub fn dont_probe_vga(&self) -> bool
         ensures { IsTrue result ↔ HasBit (pc_bits self.now) 2 }
     {
         has_bit(self.0 as u32, 2)
     }
 
-    /// Message signalled interrupts must not be enabled.
+    /// Whether message signalled interrupts must not be enabled.
     pub fn dont_enable_msi(&self) -> bool
         ensures { IsTrue result ↔ HasBit (pc_bits self.now) 3 }
     {
         has_bit(self.0 as u32, 3)
     }
 
-    /// Power management of PCI Express links must not be enabled.
+    /// Whether power management of PCI Express links must not be enabled.
     pub fn dont_enable_pcie_aspm(&self) -> bool
         ensures { IsTrue result ↔ HasBit (pc_bits self.now) 4 }
     {
         has_bit(self.0 as u32, 4)
     }
 
-    /// The clock must be used through its control method, and not by its ports.
+    /// Whether the clock must be used through its control method, and not by its ports.
     pub fn use_time_and_alarm_namespace_for_rtc(&self) -> bool
         ensures { IsTrue result ↔ HasBit (pc_bits self.now) 5 }
     {
@@ -250,14 +252,14 @@ impl ArmBootArchFlags {
         ArmBootArchFlags(bits)
     }
 
-    /// The machine follows PSCI.
+    /// Whether the machine follows PSCI.
     pub fn implements_psci(&self) -> bool
         ensures { IsTrue result ↔ HasBit (arm_bits self.now) 0 }
     {
         has_bit(self.0 as u32, 0)
     }
 
-    /// PSCI is called by HVC in place of SMC.
+    /// Whether PSCI is called by HVC in place of SMC.
     pub fn use_hvc_as_psci_conduit(&self) -> bool
         ensures { IsTrue result ↔ HasBit (arm_bits self.now) 1 }
     {

@@ -1,0 +1,167 @@
+//! What is opened and found, over each handler.
+
+use crate::example::{Window, Wsmt, find_both};
+use crate::handlers::{Exact, Recording};
+use crate::samples::{
+    empty_root, front, long_graphic, one_graphic, short_graphic, short_last_pointer, split_graphic,
+    two_tables,
+};
+use acpi::bgrt::{Bgrt, ImageType};
+use acpi::sdt::{SdtHeader, Signature, map_table};
+use acpi::{AcpiError, AcpiHandler, AcpiTables, PhysicalMapping};
+use acpi_image::MemoryImage;
+use std::process::Abort;
+use std::test::Fail;
+
+/// Checks a row over each handler of an image: the image itself, which lends all to a record's end,
+/// one that lends just what is asked for, and both of them recorded.
+macro_rules! over_each_handler {
+    ($rt:expr, $file:expr, $row:ident) => {{
+        let file = $file;
+        let image = MemoryImage::from_bytes($rt.alloc(), &file)?;
+        let exact = Exact::new(&image);
+        $row(&$rt, &image)?;
+        $row(&$rt, &exact)?;
+        $row(&$rt, &Recording::new(&image))?;
+        $row(&$rt, &Recording::new(&exact))?;
+    }};
+}
+
+fn check_empty<H: AcpiHandler>(rt: &impl Abort, handler: &H) -> Result<(), AcpiError> {
+    let tables = AcpiTables::from_rsdt(handler, 0, 0x1000)?;
+    assert_eq!(rt; tables.revision(), 0);
+    let graphic = tables.find_table::<Bgrt>().err();
+    assert_eq!(rt; graphic, Some(AcpiError::TableMissing(Signature::BGRT)));
+    let protections = tables.find_table::<Wsmt>().err();
+    assert_eq!(rt; protections, Some(AcpiError::TableMissing(Signature::WSMT)));
+    Ok(())
+}
+
+#[test]
+fn an_empty_root_lists_no_table(rt: HostRuntime) -> Result<(), Fail> {
+    over_each_handler!(rt, empty_root(), check_empty);
+    Ok(())
+}
+
+fn check_graphic<H: AcpiHandler>(rt: &impl Abort, handler: &H) -> Result<(), AcpiError> {
+    let tables = AcpiTables::from_rsdt(handler, 0, 0x1000)?;
+    let graphic = tables.find_table::<Bgrt>()?;
+    assert_eq!(rt; graphic.physical_start(), 0x2000);
+    assert_eq!(rt; graphic.region_length(), 56);
+    assert_eq!(rt; graphic.bytes(), &one_graphic()[72..]);
+    assert_eq!(rt; graphic.version, 1);
+    assert!(rt; graphic.was_displayed());
+    assert_eq!(rt; graphic.orientation_offset(), 180);
+    assert_eq!(rt; graphic.image_type(), ImageType::Bitmap);
+    assert_eq!(rt; graphic.image_address, 0);
+    assert_eq!(rt; graphic.image_offset(), (0, 0));
+    Ok(())
+}
+
+#[test]
+fn a_boot_graphic_is_found(rt: HostRuntime) -> Result<(), Fail> {
+    over_each_handler!(rt, one_graphic(), check_graphic);
+    over_each_handler!(rt, long_graphic(), check_graphic);
+    Ok(())
+}
+
+/// A boot graphic that its header says is longer than what is lent.
+fn check_cut_graphic<H: AcpiHandler>(rt: &impl Abort, handler: &H) -> Result<(), AcpiError> {
+    let header = PhysicalMapping::<H, SdtHeader>::map(handler, 0x2000, 36)?;
+    assert_eq!(rt; header.length, 56);
+    let alone = map_table::<H, Bgrt>(handler, 0x2000).err();
+    assert_eq!(rt; alone, Some(AcpiError::MapFailed));
+    let tables = AcpiTables::from_rsdt(handler, 0, 0x1000)?;
+    let graphic = tables.find_table::<Bgrt>().err();
+    assert_eq!(rt; graphic, Some(AcpiError::TableMissing(Signature::BGRT)));
+    Ok(())
+}
+
+#[test]
+fn a_table_that_is_not_lent_whole_is_missing(rt: HostRuntime) -> Result<(), Fail> {
+    over_each_handler!(rt, short_graphic(), check_cut_graphic);
+    over_each_handler!(rt, split_graphic(), check_cut_graphic);
+    Ok(())
+}
+
+/// The place of the boot graphic below the XSDT at 0x3000.
+fn graphic_place<H: AcpiHandler>(handler: &H) -> Result<u64, AcpiError> {
+    let tables = AcpiTables::from_rsdt(handler, 2, 0x3000)?;
+    Ok(tables.find_table::<Bgrt>()?.physical_start())
+}
+
+fn check_last_pointer<H: AcpiHandler>(rt: &impl Abort, handler: &H) -> Result<(), AcpiError> {
+    assert_eq!(rt; AcpiTables::from_rsdt(handler, 2, 0x3000)?.revision(), 2);
+    assert_eq!(rt; graphic_place(handler)?, 0x1234);
+    Ok(())
+}
+
+fn check_both_pointers<H: AcpiHandler>(rt: &impl Abort, handler: &H) -> Result<(), AcpiError> {
+    assert_eq!(rt; graphic_place(handler)?, 0x10_0000);
+    Ok(())
+}
+
+#[test]
+fn a_short_last_pointer_is_filled_up(rt: HostRuntime) -> Result<(), Fail> {
+    // Nothing is lent at 0x100000, the pointer before it.
+    over_each_handler!(rt, short_last_pointer(0x20_0000), check_last_pointer);
+    over_each_handler!(rt, short_last_pointer(0x10_0000), check_both_pointers);
+    Ok(())
+}
+
+#[test]
+fn more_is_lent_than_is_mapped(rt: HostRuntime) -> Result<(), Fail> {
+    let file = long_graphic();
+    let image = MemoryImage::from_bytes(rt.alloc(), &file)?;
+    let tables = AcpiTables::from_rsdt(&image, 0, 0x1000)?;
+    let graphic = tables.find_table::<Bgrt>()?;
+    assert_eq!(rt;
+        (graphic.region_length(), graphic.mapped_length()),
+        (56, 64)
+    );
+    let exact = Exact::new(&image);
+    let tables = AcpiTables::from_rsdt(&exact, 0, 0x1000)?;
+    let graphic = tables.find_table::<Bgrt>()?;
+    assert_eq!(rt;
+        (graphic.region_length(), graphic.mapped_length()),
+        (56, 56)
+    );
+    Ok(())
+}
+
+#[test]
+fn a_window_lends_what_lies_inside_it(rt: HostRuntime) -> Result<(), Fail> {
+    let memory = [1, 2, 3, 4];
+    let window = Window::new(0x1000, &memory);
+    assert_eq!(rt; window.map_physical_region(0x1000, 1)?.len(), 4);
+    assert_eq!(rt; window.map_physical_region(0x1003, 1)?.len(), 1);
+    for (address, size) in [
+        (0xFFF, 1),
+        (0x1000, 5),
+        (0x1003, 2),
+        (0x1004, 1),
+        (u64::MAX, 1),
+    ] {
+        assert!(rt;
+            window.map_physical_region(address, size).is_err(),
+            "at {address}"
+        );
+    }
+    Ok(())
+}
+
+#[test]
+fn a_kernel_finds_a_table_of_its_own(rt: HostRuntime) {
+    let memory = two_tables();
+    let window = Window::new(0x1000, &memory);
+    assert_eq!(rt; find_both(&window, 0x1000), Ok((0xC0_0000, 7)));
+    assert_eq!(rt;
+        find_both(&window, 0x1004),
+        Err(AcpiError::SdtInvalidSignature(Signature::RSDT))
+    );
+    let short = Window::new(0x1000, front(&memory, 128));
+    assert_eq!(rt;
+        find_both(&short, 0x1000),
+        Err(AcpiError::TableMissing(Signature::WSMT))
+    );
+}
