@@ -23,7 +23,8 @@ impl<'t, 'h, H: AcpiHandler, T: AcpiTable> TableFaults<'t, 'h, H, T> {
     ghost use Rattle.acpi.specs.Walks.{faults_left};
 
     pub(crate) fn new(handler: &'h H, pointers: Pointers<'t>) -> Self
-        ensures { faults_left H.memory (kind T.SIGNATURE T.MIN_LENGTH T.verdict) result ≡ faults_of (H.memory handler.now) (kind T.SIGNATURE T.MIN_LENGTH T.verdict) (pointers_left pointers.entry) }
+        ensures { let k = kind T.SIGNATURE T.MIN_LENGTH T.verdict in
+            faults_left H.memory k result ≡ faults_of (H.memory handler.now) k (pointers_left pointers.entry) }
     {
         TableFaults {
             handler,

@@ -5,6 +5,7 @@
 #![tactic(auto)]
 
 mod faults;
+pub mod handler;
 mod headers;
 pub mod laws;
 pub mod platform;
@@ -16,7 +17,7 @@ mod tables;
 
 pub use acpi_base::{
     AcpiError, AcpiHandler, AcpiResult, AcpiTable, MadtError, PhysicalMapping, PhysicalRecord,
-    address, handler, sdt,
+    address, sdt,
 };
 pub use acpi_fixed::fadt::PowerProfile;
 pub use acpi_fixed::{bgrt, fadt};

@@ -35,7 +35,8 @@ fn map_root<'h, H: AcpiHandler>(
     ensures place { IfOk result (λ m. start_of m ≡ address) }
     ensures handler { IfOk result (λ m. handler_of m ≡ handler.now) }
     ensures short { IfOk result (λ m. length (bytes_of m) < 2 ^ 32) }
-    ensures root { Gives (λ m. bytes_of m) result (root_at (H.memory handler.now) revision address) }
+    ensures root { Gives (λ m. bytes_of m) result
+        (root_at (H.memory handler.now) revision address) }
 {
     let signature = if revision == 0 {
         Signature::RSDT
@@ -69,7 +70,8 @@ impl<'h, H: AcpiHandler> AcpiTables<'h, H> {
     /// bytes aren't lent, and `RsdpInvalidChecksum` where they don't sum to 0. Then as `from_rsdt`.
     pub fn from_rsdp(handler: &'h H, address: u64) -> AcpiResult<Self>
         ensures handler { IfOk result (λ t. lender_of t ≡ handler.now) }
-        ensures exact { Gives (λ t. opened_of t) result (opened_by_rsdp (H.memory handler.now) address) }
+        ensures exact { Gives (λ t. opened_of t) result
+            (opened_by_rsdp (H.memory handler.now) address) }
     {
         let rsdp = map_rsdp(handler, address)?;
         AcpiTables::from_root(handler, rsdp)
@@ -100,7 +102,8 @@ impl<'h, H: AcpiHandler> AcpiTables<'h, H> {
     ) -> AcpiResult<Self>
         requires { IsOk (rsdp_at (H.memory handler.now) (start_of mapping)) }
         ensures handler { IfOk result (λ t. lender_of t ≡ handler.now) }
-        ensures exact { Gives (λ t. opened_of t) result (opened_by_rsdp (H.memory handler.now) (start_of mapping.entry)) }
+        ensures exact { Gives (λ t. opened_of t) result
+            (opened_by_rsdp (H.memory handler.now) (start_of mapping.entry)) }
     {
         let address = mapping.physical_start();
         drop(mapping);
@@ -111,7 +114,8 @@ impl<'h, H: AcpiHandler> AcpiTables<'h, H> {
     /// The tables below the root table that an RSDP leads to, which is unmapped first.
     fn from_root(handler: &'h H, rsdp: PhysicalMapping<'h, H, Rsdp>) -> AcpiResult<Self>
         ensures handler { IfOk result (λ t. lender_of t ≡ handler.now) }
-        ensures exact { Gives (λ t. opened_of t) result (opened_at (H.memory handler.now) (root_of_rsdp (bytes_of rsdp.entry))) }
+        ensures exact { Gives (λ t. opened_of t) result
+            (opened_at (H.memory handler.now) (root_of_rsdp (bytes_of rsdp.entry))) }
     {
         let (revision, address) = rsdp.get().root();
         drop(rsdp);
@@ -126,9 +130,11 @@ impl<'h, H: AcpiHandler> AcpiTables<'h, H> {
     /// length is under 36, `MapFailed` where `length` bytes aren't lent, and `SdtInvalidChecksum`.
     pub fn from_rsdt(handler: &'h H, revision: u8, address: u64) -> AcpiResult<Self>
         ensures handler { IfOk result (λ t. lender_of t ≡ handler.now) }
-        ensures exact { Gives (λ t. opened_of t) result (opened_at (H.memory handler.now) (revision, address)) }
+        ensures exact { Gives (λ t. opened_of t) result
+            (opened_at (H.memory handler.now) (revision, address)) }
         // In the reader's words: the bytes behind the root's header spell these pointers and no others.
-        ensures pointers { IfOk result (λ t. (ps : List ℕ) → IsPointers (width_of revision) (drop 36 (root_of t)) ps ↔ (ps ≡ pointers_of t)) }
+        ensures pointers { IfOk result (λ t. (ps : List ℕ)
+            → IsPointers (width_of revision) (drop 36 (root_of t)) ps ↔ (ps ≡ pointers_of t)) }
     {
         let root = map_root(handler, revision, address)?;
         Ok(AcpiTables { revision, root })
@@ -152,14 +158,16 @@ impl<'h, H: AcpiHandler> AcpiTables<'h, H> {
     /// The table at an address, where it is valid for `T`.
     fn member<T: AcpiTable>(&self, address: u64) -> AcpiResult<PhysicalMapping<'h, H, T>>
         ensures place { IfOk result (λ m. start_of m ≡ address) }
-        ensures table { Gives (λ m. bytes_of m) result (table_at (memory_of self.now) (kind T.SIGNATURE T.MIN_LENGTH T.verdict) address) }
+        ensures table { Gives (λ m. bytes_of m) result
+            (table_at (memory_of self.now) (kind T.SIGNATURE T.MIN_LENGTH T.verdict) address) }
     {
         map_table(self.root.handler(), address)
     }
 
     /// The first member of the root list that is valid for `T`.
     fn first_member<T: AcpiTable>(&self) -> AcpiResult<PhysicalMapping<'h, H, T>>
-        ensures { Gives (λ m. (start_of m, bytes_of m)) result (lookup (memory_of self.now) (kind T.SIGNATURE T.MIN_LENGTH T.verdict) (pointers_of self.now)) }
+        ensures { Gives (λ m. (start_of m, bytes_of m)) result
+            (lookup (memory_of self.now) (kind T.SIGNATURE T.MIN_LENGTH T.verdict) (pointers_of self.now)) }
     {
         for address in self.pointers() {
             if let Ok(table) = self.member::<T>(address) {
@@ -175,12 +183,18 @@ impl<'h, H: AcpiHandler> AcpiTables<'h, H> {
     /// Refuses with `TableMissing`, carrying `T::SIGNATURE`, where no member is valid for `T`. A
     /// member that isn't lent, or fails another check, is passed over.
     pub fn find_table<T: AcpiTable>(&self) -> AcpiResult<PhysicalMapping<'h, H, T>>
-        ensures exact { Gives (λ m. (start_of m, bytes_of m)) result (lookup (memory_of self.now) (kind T.SIGNATURE T.MIN_LENGTH T.verdict) (pointers_of self.now)) }
+        ensures exact { Gives (λ m. (start_of m, bytes_of m)) result
+            (lookup (memory_of self.now) (kind T.SIGNATURE T.MIN_LENGTH T.verdict) (pointers_of self.now)) }
         // In the reader's words: the table found is valid, and none listed before it is.
-        ensures first { IfOk result (λ m. IsFirstValid (memory_of self.now) (kind T.SIGNATURE T.MIN_LENGTH T.verdict) (pointers_of self.now) (start_of m) (bytes_of m)) }
+        ensures first { let k = kind T.SIGNATURE T.MIN_LENGTH T.verdict in
+            IfOk result (λ m. IsFirstValid (memory_of self.now) k (pointers_of self.now) (start_of m) (bytes_of m)) }
         // A member that isn't valid, put anywhere into the list, changes nothing.
-        ensures skips { (before after : List ℕ) (p : ℕ) → pointers_of self.now ≡ before ++ after → IsErr (table_at (memory_of self.now) (kind T.SIGNATURE T.MIN_LENGTH T.verdict) p) → Gives (λ m. (start_of m, bytes_of m)) result (lookup (memory_of self.now) (kind T.SIGNATURE T.MIN_LENGTH T.verdict) (before ++ p ∷ after)) }
-        ensures missing { IfErr result (λ e. (e ≡ TableMissing T.SIGNATURE) × NoneValid (memory_of self.now) (kind T.SIGNATURE T.MIN_LENGTH T.verdict) (pointers_of self.now)) }
+        ensures skips { let k = kind T.SIGNATURE T.MIN_LENGTH T.verdict in
+            (before after : List ℕ) (p : ℕ) → pointers_of self.now ≡ before ++ after
+            → IsErr (table_at (memory_of self.now) k p)
+            → Gives (λ m. (start_of m, bytes_of m)) result (lookup (memory_of self.now) k (before ++ p ∷ after)) }
+        ensures missing { let k = kind T.SIGNATURE T.MIN_LENGTH T.verdict in
+            IfErr result (λ e. (e ≡ TableMissing T.SIGNATURE) × NoneValid (memory_of self.now) k (pointers_of self.now)) }
     {
         self.first_member::<T>()
     }
@@ -188,7 +202,8 @@ impl<'h, H: AcpiHandler> AcpiTables<'h, H> {
     /// The headers of all members that are valid under the signatures that they bear, in order. It
     /// gives at most one for each pointer.
     pub fn headers(&self) -> SdtHeaderIterator<'_, 'h, H>
-        ensures items { headers_left H.memory result ≡ valid_headers (memory_of self.now) (pointers_of self.now) }
+        ensures items { headers_left H.memory result
+            ≡ valid_headers (memory_of self.now) (pointers_of self.now) }
         ensures few { length (headers_left H.memory result) ≤ length (pointers_of self.now) }
         ensures fits { length (headers_left H.memory result) < 2 ^ 32 }
     {
@@ -198,7 +213,8 @@ impl<'h, H: AcpiHandler> AcpiTables<'h, H> {
     /// The AML of all members that are valid SSDTs, in order (section 5.2.11.2). It gives at most
     /// one for each pointer.
     pub fn ssdts(&self) -> SsdtIterator<'_, 'h, H>
-        ensures items { ssdts_left H.memory result ≡ ssdt_streams (memory_of self.now) (pointers_of self.now) }
+        ensures items { ssdts_left H.memory result
+            ≡ ssdt_streams (memory_of self.now) (pointers_of self.now) }
         ensures few { length (ssdts_left H.memory result) ≤ length (pointers_of self.now) }
         ensures fits { length (ssdts_left H.memory result) < 2 ^ 32 }
     {
@@ -232,9 +248,12 @@ impl<'h, H: AcpiHandler> AcpiTables<'h, H> {
     /// before the first valid one (of all where none is valid) whose refusal isn't
     /// `SdtInvalidSignature`, in order. It gives at most one for each pointer.
     pub fn faults<T: AcpiTable>(&self) -> TableFaults<'_, 'h, H, T>
-        ensures items { faults_left H.memory (kind T.SIGNATURE T.MIN_LENGTH T.verdict) result ≡ faults_of (memory_of self.now) (kind T.SIGNATURE T.MIN_LENGTH T.verdict) (pointers_of self.now) }
-        ensures few { length (faults_left H.memory (kind T.SIGNATURE T.MIN_LENGTH T.verdict) result) ≤ length (pointers_of self.now) }
-        ensures fits { length (faults_left H.memory (kind T.SIGNATURE T.MIN_LENGTH T.verdict) result) < 2 ^ 32 }
+        ensures items { let k = kind T.SIGNATURE T.MIN_LENGTH T.verdict in
+            faults_left H.memory k result ≡ faults_of (memory_of self.now) k (pointers_of self.now) }
+        ensures few { let k = kind T.SIGNATURE T.MIN_LENGTH T.verdict in
+            length (faults_left H.memory k result) ≤ length (pointers_of self.now) }
+        ensures fits { let k = kind T.SIGNATURE T.MIN_LENGTH T.verdict in
+            length (faults_left H.memory k result) < 2 ^ 32 }
     {
         TableFaults::new(self.root.handler(), self.pointers())
     }
