@@ -276,7 +276,7 @@ impl Fadt {
     }
 
     /// The power management timer, or `None` where its length isn't 4 or neither field gives an
-    /// address..
+    /// address.
     ///
     /// Refuses a reserved code in the extended block with `InvalidGenericAddress`.
     pub fn pm_timer_block(&self) -> AcpiResult<Option<GenericAddress>>
