@@ -11,14 +11,14 @@ use Rattle.acpi_base.specs.declared.address.AccessSize.{AccessSize}
 use Rattle.acpi_base.specs.declared.address.AccessSize.TheVariants.{Undefined, ByteAccess, WordAccess, DWordAccess, QWordAccess}
 use Rattle.acpi_base.specs.Address.{access_size_of, access_sizes, named_spaces, size_code, space_code, space_of}
 use Rattle.acpi_base.specs.AddressLaws.{HasSpaceCode, SizesDecode, SpacesDecode}
-use Rattle.acpi_base.specs.Steps.{value_or}
+use Rattle.std.specs.Option.{ok_or}
 
 -- the value of this code in a list, or the refusal
 abbrev searched : {A : Type 0} → (A → ℕ) → List A → ℕ → Result A AcpiError
-searched code_of xs code = value_or (find (λ x. code_of x == code) xs) InvalidGenericAddress
+searched code_of xs code = ok_or (find (λ x. code_of x == code) xs) InvalidGenericAddress
 
 found_first : {A : Type 0} (P : A → Type 0) (code_of : A → ℕ) (code : ℕ) (y : A) (ys : List A) (x : A) (b : Bool) → (code_of y == code) ≡ b → P y
-    → (searched code_of ys code ≡ Ok x → P x × (code_of x ≡ code)) → value_or (cond b (Some y) (find (λ z. code_of z == code) ys)) InvalidGenericAddress ≡ Ok x → P x × (code_of x ≡ code)
+    → (searched code_of ys code ≡ Ok x → P x × (code_of x ≡ code)) → ok_or (cond b (Some y) (find (λ z. code_of z == code) ys)) InvalidGenericAddress ≡ Ok x → P x × (code_of x ≡ code)
 found_first P code_of code y ys x true same here later e =
     let first : y ≡ x = cc in
     rw (← first) (here, eqb-true _ _ same)
@@ -29,7 +29,7 @@ found_is P code_of code [] x all e = absurd cc
 found_is P code_of code (y ∷ ys) x all e =
     found_first P code_of code y ys x (code_of y == code) refl all.0 (found_is P code_of code ys x all.1) e
 
-refused_first : {A : Type 0} (o : Option A) (e : AcpiError) → value_or o InvalidGenericAddress ≡ Err e → e ≡ InvalidGenericAddress
+refused_first : {A : Type 0} (o : Option A) (e : AcpiError) → ok_or o InvalidGenericAddress ≡ Err e → e ≡ InvalidGenericAddress
 refused_first None e h = cc
 refused_first (Some x) e h = absurd cc
 

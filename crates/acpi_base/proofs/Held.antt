@@ -8,7 +8,8 @@ use Rattle.acpi_base.proofs.Spelling.{IsBytes-drop, IsBytes-take}
 use Rattle.acpi_base.proofs.Steps.{bind_ok}
 use Rattle.acpi_base.specs.Bytes.{IsBytes}
 use Rattle.acpi_base.specs.Memory.{Memory, Region, IsMemory, IsRegion, at, lies_in, rest_from}
-use Rattle.acpi_base.specs.Steps.{lent, value_or}
+use Rattle.acpi_base.specs.Steps.{lent}
+use Rattle.std.specs.Option.{ok_or}
 use Rattle.acpi_base.specs.Header.{header_at}
 use Rattle.acpi_base.specs.Table.{Kind, length_in, table_at, table_of, whole_of}
 use Rattle.acpi_base.specs.declared.error.AcpiError.{AcpiError}
@@ -32,7 +33,7 @@ at_bytes m a n bytes h e =
     let parts = cond_some _ _ _ e in
     subst (λ (b : List ℕ). IsBytes b) parts.1 (IsBytes-take n (rest_from m a) (rest_bytes m a h))
 
-some_lent : (o : Option (List ℕ)) (bytes : List ℕ) → value_or o MapFailed ≡ Ok bytes → o ≡ Some bytes
+some_lent : (o : Option (List ℕ)) (bytes : List ℕ) → ok_or o MapFailed ≡ Ok bytes → o ≡ Some bytes
 some_lent None bytes e = absurd cc
 some_lent (Some s) bytes e = cc
 

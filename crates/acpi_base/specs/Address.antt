@@ -8,7 +8,8 @@ use Rattle.acpi_base.specs.declared.address.AccessSize.{AccessSize}
 use Rattle.acpi_base.specs.declared.address.AccessSize.TheVariants.{Undefined, ByteAccess, WordAccess, DWordAccess, QWordAccess}
 use Rattle.acpi_base.specs.declared.address.GenericAddress.{GenericAddress}
 use Rattle.acpi_base.specs.Bytes.{field_of}
-use Rattle.acpi_base.specs.Steps.{◌>>=◌, value_or}
+use Rattle.acpi_base.specs.Steps.{◌>>=◌}
+use Rattle.std.specs.Option.{ok_or}
 
 -- the code of each address space
 abbrev pub space_code : AddressSpace → ℕ
@@ -36,7 +37,7 @@ named_spaces =
 abbrev pub space_of : ℕ → Result AddressSpace AcpiError
 space_of code =
     if nat_le 0xc0 code then Ok (OemDefined code)
-    else value_or (find (λ s. space_code s == code) named_spaces) InvalidGenericAddress
+    else ok_or (find (λ s. space_code s == code) named_spaces) InvalidGenericAddress
 
 -- the code of each access size
 abbrev pub size_code : AccessSize → ℕ
@@ -51,7 +52,7 @@ access_sizes = Undefined ∷ ByteAccess ∷ WordAccess ∷ DWordAccess ∷ QWord
 
 -- the access size of a code
 abbrev pub access_size_of : ℕ → Result AccessSize AcpiError
-access_size_of code = value_or (find (λ s. size_code s == code) access_sizes) InvalidGenericAddress
+access_size_of code = ok_or (find (λ s. size_code s == code) access_sizes) InvalidGenericAddress
 
 -- the address that the bytes spell
 unfoldable pub generic_address_of : List ℕ → Result GenericAddress AcpiError

@@ -1,5 +1,5 @@
 -- Numbers and sums of bytes. Numbers in ACPI's tables are little-endian (ACPI 6.4, section 5.2).
-use Rattle.std.specs.Prelude.{ℕ, ◌+◌, ◌*◌, ◌/◌, ◌%◌, ◌<◌, zero, suc, List, [], ◌∷◌, take, drop, sum, slice_index}
+use Rattle.std.specs.Prelude.{ℕ, ◌+◌, ◌-◌, ◌*◌, ◌/◌, ◌%◌, ◌<◌, zero, suc, List, [], ◌∷◌, ◌++◌, length, take, drop, replicate, sum, slice_index}
 
 -- each is a byte
 abbrev pub IsBytes : List ℕ → Type 0
@@ -18,6 +18,10 @@ spelling (suc width) n = n % 256 ∷ spelling width (n / 256)
 -- the n bytes at an offset, or as many of them as there are
 abbrev pub part : List ℕ → ℕ → ℕ → List ℕ
 part bytes offset n = take n (drop offset bytes)
+
+-- the n bytes at an offset, filled up with zeros where the bytes end before
+abbrev pub filled_part : List ℕ → ℕ → ℕ → List ℕ
+filled_part bytes offset n = part bytes offset n ++ replicate (n - length (part bytes offset n)) 0
 
 -- the number of the n bytes at an offset: a byte past the end adds nothing, as a zero would
 unfoldable pub field_of : List ℕ → ℕ → ℕ → ℕ

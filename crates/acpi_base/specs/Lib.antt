@@ -1,5 +1,6 @@
 pub mod Address
 pub mod AddressLaws
+pub mod Bits
 pub mod Bytes
 pub mod Claim
 pub mod ErrorText

@@ -1,5 +1,6 @@
 -- Checks in a row, of which the first refusal counts, and calls that answer what is defined.
-use Rattle.std.specs.Prelude.{◌≡◌, ℕ, Bool, List, Option, Some, None, Result, Ok, Err, if◌then◌else◌}
+use Rattle.std.specs.Prelude.{◌≡◌, ℕ, Bool, List, Result, Ok, Err, if◌then◌else◌}
+use Rattle.std.specs.Option.{ok_or}
 use Rattle.acpi_base.specs.declared.error.AcpiError.{AcpiError}
 use Rattle.acpi_base.specs.declared.error.AcpiError.TheVariants.{MapFailed}
 use Rattle.acpi_base.specs.Memory.{Memory, at}
@@ -13,14 +14,9 @@ abbrev pub ◌>>=◌ : {A B E : Type 0} → Result A E → (A → Result B E) �
 abbrev pub holds : {E : Type 0} → Bool → E → Result (Unit {0}) E
 holds b e = if b then Ok tt else Err e
 
--- what is there, or the refusal
-abbrev pub value_or : {A E : Type 0} → Option A → E → Result A E
-value_or None e = Err e
-value_or (Some x) e = Ok x
-
 -- the n bytes at an address, or the refusal
 abbrev pub lent : Memory → ℕ → ℕ → Result (List ℕ) AcpiError
-lent m a n = value_or (at m a n) MapFailed
+lent m a n = ok_or (at m a n) MapFailed
 
 -- what a call answered, seen by view, is what the definition says: its value, or its refusal
 abbrev pub Gives : {X Y E : Type 0} → (X → Y) → Result X E → Result Y E → Type 0

@@ -4,8 +4,9 @@ ghost use Rattle.acpi_base.specs.Address.{generic_address_of};
 
 pub mod laws;
 
-use crate::bytes::field;
+use crate::bytes::{field, filled};
 use crate::error::{AcpiError, AcpiResult};
+use crate::handler::PhysicalRecord;
 
 /// What the number of a generic address counts (section 5.2.3.2).
 #[derive(Clone, Copy, Debug, PartialEq, Eq)]
@@ -94,6 +95,23 @@ impl TryFrom<u8> for AccessSize {
     }
 }
 
+/// The twelve bytes of a generic address, as a table spells them.
+pub type RawAddress = [u8; 12];
+
+impl PhysicalRecord for RawAddress {
+    ghost use Rattle.acpi_base.specs.Bytes.{filled_part};
+
+    const MIN_LENGTH: usize = 12;
+
+    ghost MIN_LENGTH = { 12 };
+
+    ghost reading = { λ b. filled_part b 0 12 };
+
+    fn read(bytes: &[u8]) -> RawAddress {
+        filled(bytes, 0)
+    }
+}
+
 /// A register (section 5.2.3.2): `bit_width` bits, the first of them `bit_offset` bits into what
 /// lies at `address` in the address space.
 #[derive(Clone, Copy, Debug, PartialEq, Eq)]
@@ -112,7 +130,7 @@ impl GenericAddress {
     /// Refuses a reserved code of the space, or else of the access size, with
     /// `InvalidGenericAddress`.
     #[tactic(auto, unfolding(crate::specs::Address::generic_address_of))]
-    pub fn from_raw(raw: [u8; 12]) -> AcpiResult<GenericAddress>
+    pub fn from_raw(raw: RawAddress) -> AcpiResult<GenericAddress>
         ensures { result ≡ generic_address_of raw }
     {
         let address_space = AddressSpace::try_from(field(&raw, 0, 1) as u8)?;

@@ -1,7 +1,8 @@
 //! Numbers, sums and texts of bytes.
-ghost use Rattle.std.specs.Prelude.{◌≡◌, ◌*◌, ◌^◌, ◌<◌, ◌≤◌, length, IsUtf8, MatchOption};
-ghost use Rattle.std.specs.Str.{is_utf8};
-ghost use Rattle.acpi_base.specs.Bytes.{field_of, number, sum_of};
+ghost use Rattle.std.specs.Prelude.{◌≡◌, ◌+◌, ◌*◌, ◌^◌, ◌<◌, ◌≤◌, nat_le, length, IsUtf8, MatchOption, true};
+ghost use Rattle.std.specs.Str.{IsAscii, is_utf8};
+ghost use Rattle.acpi_base.specs.Bits.{bits_of, has_bit};
+ghost use Rattle.acpi_base.specs.Bytes.{field_of, filled_part, number, sum_of};
 
 /// The sum of the bytes modulo 256, which is 0 over a whole table (section 5.2.6).
 #[tactic(auto, unfolding(crate::specs::Bytes::sum_of))]
@@ -15,20 +16,42 @@ pub fn byte_sum(bytes: &[u8]) -> u8
     total
 }
 
+/// The `N` bytes at an offset, filled up with zeros where the bytes end before.
+#[inline(always)]
+pub fn filled<const N: usize>(bytes: &[u8], offset: usize) -> [u8; N]
+    ensures { result ≡ filled_part bytes.now offset N }
+{
+    let rest = &bytes[offset.min(bytes.len())..];
+    let present = &rest[..N.min(rest.len())];
+    let mut filled = [0; N];
+    filled[..present.len()].copy_from_slice(present);
+    filled
+}
+
 /// The number that at most eight bytes spell, the lowest byte first.
+#[inline(always)]
 fn number_of(bytes: &[u8]) -> u64
     requires { length bytes.now ≤ 8 }
     ensures value { result ≡ number bytes.now }
     ensures fits { result < 2 ^ (8 * length bytes.now) }
 {
-    match bytes {
-        [] => 0,
-        [first, rest @ ..] => *first as u64 + 256 * number_of(rest),
-    }
+    u64::from_le_bytes(filled(bytes, 0))
+}
+
+/// The same, out of line: few tables end inside a field, and where they don't, the length is known
+/// when this is compiled.
+#[inline(never)]
+fn rest_of(bytes: &[u8]) -> u64
+    requires { length bytes.now ≤ 8 }
+    ensures value { result ≡ number bytes.now }
+    ensures fits { result < 2 ^ (8 * length bytes.now) }
+{
+    number_of(bytes)
 }
 
 /// The little-endian number of the `n` bytes at an offset, for `n` of at most 8. A byte past the
 /// end is read as zero (numbers: section 5.2).
+#[inline(always)]
 #[tactic(auto, unfolding(crate::specs::Bytes::field_of))]
 pub fn field(bytes: &[u8], offset: usize, n: usize) -> u64
     requires { n ≤ 8 }
@@ -39,7 +62,11 @@ pub fn field(bytes: &[u8], offset: usize, n: usize) -> u64
         return 0;
     }
     let rest = &bytes[offset..];
-    number_of(&rest[..n.min(rest.len())])
+    if n <= rest.len() {
+        number_of(&rest[..n])
+    } else {
+        rest_of(rest)
+    }
 }
 
 /// The text that the bytes encode in UTF-8, or `None` where they encode none.
@@ -52,10 +79,54 @@ pub fn text_of(bytes: &[u8]) -> Option<&str>
     }
 }
 
+/// Whether the `n` bytes at an offset lie in the table.
+pub(crate) fn has_part(bytes: &[u8], offset: usize, n: usize) -> bool
+    ensures { result ≡ nat_le (offset + n) (length bytes.now) }
+{
+    offset <= bytes.len() && n <= bytes.len() - offset
+}
+
+/// Whether bit `k` of a number is set, bit 0 being the lowest.
+#[inline(always)]
+pub fn has_bit(number: u64, k: u32) -> bool
+    requires { k < 64 }
+    ensures { result ≡ has_bit number k }
+{
+    (number >> k) & 1 == 1
+}
+
+/// The number of the `width` bits from bit `low` on, bit 0 being the lowest.
+#[inline(always)]
+pub fn bits(number: u64, low: u32, width: u32) -> u64
+    requires low { low < 64 }
+    requires width { width < 64 }
+    ensures value { result ≡ bits_of number low width }
+    ensures fits { result < 2 ^ width }
+{
+    (number >> low) % (1 << width)
+}
+
+/// Whether each byte is below 128. It is written without an early end, so that the compiler tests
+/// the bytes of an array all at once.
+#[inline(always)]
+fn are_plain(bytes: &[u8]) -> bool
+    ensures { (result ≡ true) → IsAscii bytes.now }
+{
+    let mut plain = true;
+    for byte in bytes {
+        plain = plain & (*byte < 128);
+    }
+    plain
+}
+
 /// Whether the bytes encode some text in UTF-8.
+#[inline(always)]
 pub(crate) fn is_text(bytes: &[u8]) -> bool
     ensures { result ≡ is_utf8 bytes.now }
 {
+    if are_plain(bytes) {
+        return true;
+    }
     match text_of(bytes) {
         Some(_) => true,
         None => false,

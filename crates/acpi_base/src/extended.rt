@@ -1,10 +1,13 @@
 //! Fields that only tables of later revisions have.
 ghost use Rattle.std.specs.Prelude.{◌≡◌};
 
+use crate::bytes::has_part;
+use crate::handler::PhysicalRecord;
+
 /// A field that a table or an entry has from a revision on, and only where it is long enough: from
 /// `MIN_REVISION` on, the value that its bytes spell, if all of them lie in the table that it was
 /// read from.
-#[derive(Clone, Copy)]
+#[derive(Clone, Copy, Debug)]
 pub struct ExtendedField<T: Copy, const MIN_REVISION: u8> {
     value: Option<T>,
 }
@@ -27,6 +30,22 @@ impl<T: Copy, const MIN_REVISION: u8> ExtendedField<T, MIN_REVISION> {
             self.value
         } else {
             None
+        }
+    }
+}
+
+impl<T: Copy + PhysicalRecord, const MIN_REVISION: u8> ExtendedField<T, MIN_REVISION> {
+    ghost use Rattle.acpi_base.specs.Extended.{extended_at};
+
+    /// The field of `T::MIN_LENGTH` bytes at an offset of a table or an entry.
+    pub fn read(bytes: &[u8], offset: usize) -> Self
+        ensures { result ≡ extended_at T.reading bytes.now offset T.MIN_LENGTH }
+    {
+        if has_part(bytes, offset, T::MIN_LENGTH) {
+            let part = &bytes[offset..offset + T::MIN_LENGTH];
+            ExtendedField::new(Some(T::read(part)))
+        } else {
+            ExtendedField::new(None)
         }
     }
 }

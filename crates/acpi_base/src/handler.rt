@@ -3,6 +3,7 @@ ghost use Rattle.std.specs.Prelude.{◌≡◌, ℕ, ◌<◌, ◌≤◌, List, le
 ghost use Rattle.acpi_base.specs.Memory.{Memory, IsMemory, at};
 ghost use Rattle.acpi_base.specs.declared.error.AcpiError.TheVariants.{MapFailed};
 
+use crate::bytes::field;
 use crate::error::AcpiResult;
 
 /// Lends physical memory, as the kernel or the boot loader that implements this has it mapped.
@@ -44,4 +45,32 @@ pub trait PhysicalRecord: Drop {
     fn read(bytes: &[u8]) -> Self
         requires { MIN_LENGTH ≤ length bytes.now }
         ensures { result ≡ reading bytes.now };
+}
+
+impl PhysicalRecord for u16 {
+    ghost use Rattle.acpi_base.specs.Bytes.{field_of};
+
+    const MIN_LENGTH: usize = 2;
+
+    ghost MIN_LENGTH = { 2 };
+
+    ghost reading = { λ b. field_of b 0 2 };
+
+    fn read(bytes: &[u8]) -> u16 {
+        field(bytes, 0, 2) as u16
+    }
+}
+
+impl PhysicalRecord for u64 {
+    ghost use Rattle.acpi_base.specs.Bytes.{field_of};
+
+    const MIN_LENGTH: usize = 8;
+
+    ghost MIN_LENGTH = { 8 };
+
+    ghost reading = { λ b. field_of b 0 8 };
+
+    fn read(bytes: &[u8]) -> u64 {
+        field(bytes, 0, 8)
+    }
 }

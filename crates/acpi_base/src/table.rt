@@ -6,7 +6,6 @@ ghost use Rattle.acpi_base.specs.Steps.{Gives};
 ghost use Rattle.acpi_base.specs.Table.{kind, own_table_at, plain_kind, table_at, table_of, whole_of};
 ghost use Rattle.acpi_base.specs.declared.error.AcpiError.{AcpiError};
 ghost use Rattle.acpi_base.specs.declared.signature.Signature.{Signature};
-ghost use Rattle.acpi_base.specs.declared.sdt.SdtHeader.{SdtHeader};
 
 use crate::error::AcpiResult;
 use crate::handler::{AcpiHandler, PhysicalRecord};
@@ -22,26 +21,23 @@ pub trait AcpiTable: PhysicalRecord {
 
     ghost SIGNATURE: { Signature };
 
-    // The header of a value.
-    ghost header_in: { Self → SdtHeader };
-
     // What `validate` answers for a table's bytes.
     ghost verdict: { List ℕ → Result (Unit {0}) AcpiError };
 
-    /// The header that the table begins with.
+    /// The header that the table begins with: that of any bytes that this value was read from.
     fn header(&self) -> &SdtHeader
-        ensures { result.now ≡ header_in self.now };
+        ensures { (b : List ℕ) → Self.MIN_LENGTH ≤ length b → self.now ≡ Self.reading b
+            → result.now ≡ header_at b };
 
     /// Checks the table that this value was read from, whose bytes these are. Most types answer
-    /// `self.header().validate(Self::SIGNATURE, bytes)`.
+    /// `self.header().validate(Self::SIGNATURE, bytes)`, and say `check_table` of their signature as
+    /// their verdict.
     fn validate(&self, bytes: &[u8]) -> AcpiResult<()>
         requires least { Self.MIN_LENGTH ≤ length bytes.now }
         requires read { self.now ≡ Self.reading bytes.now }
         ensures { result ≡ verdict bytes.now };
 
     ghost least: { 36 ≤ Self.MIN_LENGTH };
-
-    ghost header_cut: { (b : List ℕ) → Self.MIN_LENGTH ≤ length b → header_in (Self.reading b) ≡ header_at b };
 }
 
 /// What lies where a header is mapped, as long as that header says, where it has these names and

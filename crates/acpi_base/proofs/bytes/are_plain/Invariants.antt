@@ -1,0 +1,6 @@
+use Rattle.std.proofs.Common.{◌≡◌, true, take}
+use Rattle.std.specs.Str.{IsAscii}
+use Rattle.acpi_base.proofs.bytes.are_plain.Given as goal
+
+abbrev pub invariant-loop-byte : goal.invariant-loop-byte
+invariant-loop-byte l = (l.plain ≡ true) → IsAscii (take l.byte-index l.bytes)
