@@ -30,8 +30,9 @@ space_code (OemDefined code) = code
 -- the spaces that have a name
 abbrev pub named_spaces : List AddressSpace
 named_spaces =
-    SystemMemory ∷ SystemIo ∷ PciConfigSpace ∷ EmbeddedController ∷ SMBus ∷ SystemCmos ∷ PciBarTarget
-    ∷ Ipmi ∷ GeneralIo ∷ GenericSerialBus ∷ PlatformCommunicationsChannel ∷ FunctionalFixedHardware ∷ []
+    SystemMemory ∷ SystemIo ∷ PciConfigSpace ∷ EmbeddedController ∷ SMBus ∷ SystemCmos
+    ∷ PciBarTarget ∷ Ipmi ∷ GeneralIo ∷ GenericSerialBus ∷ PlatformCommunicationsChannel
+    ∷ FunctionalFixedHardware ∷ []
 
 -- the address space of a code: from 0xc0 on they are the makers' own
 abbrev pub space_of : ℕ → Result AddressSpace AcpiError

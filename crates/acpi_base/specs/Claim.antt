@@ -1,15 +1,19 @@
 -- What a claim shows.
-use Rattle.std.specs.Prelude.{ℕ, List}
+use Rattle.std.specs.Prelude.{ℕ, List, take}
 use Rattle.acpi_base.specs.declared.claim.Claim.{Claim}
 
 -- where the lent bytes start
-abbrev pub claimed_at : {H : _} → Claim H → ℕ
+abbrev pub claimed_at : {H h : _} → Claim H h → ℕ
 claimed_at c = c.start
 
 -- all the bytes that were lent
-abbrev pub all_of : {H : _} → Claim H → List ℕ
+abbrev pub all_of : {H h : _} → Claim H h → List ℕ
 all_of c = c.lent.now
 
+-- those of them that are shown
+abbrev pub shown_by : {H h : _} → Claim H h → List ℕ
+shown_by c = take c.region_length c.lent.now
+
 -- the handler that lent them
-abbrev pub claimed_from : {H : _} → Claim H → H
+abbrev pub claimed_from : {H h : _} → Claim H h → H
 claimed_from c = c.handler.now

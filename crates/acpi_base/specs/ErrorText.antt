@@ -9,7 +9,8 @@ use Rattle.acpi_base.specs.Text.{signature_text}
 -- the variant's name
 abbrev pub madt_error_text : MadtError → List ℕ
 madt_error_text madt.UnexpectedEntry = codes "UnexpectedEntry"
-madt_error_text madt.InterruptOverrideEntryHasInvalidBus = codes "InterruptOverrideEntryHasInvalidBus"
+madt_error_text madt.InterruptOverrideEntryHasInvalidBus =
+    codes "InterruptOverrideEntryHasInvalidBus"
 madt_error_text madt.InvalidLocalNmiLine = codes "InvalidLocalNmiLine"
 madt_error_text madt.MpsIntiInvalidPolarity = codes "MpsIntiInvalidPolarity"
 madt_error_text madt.MpsIntiInvalidTriggerMode = codes "MpsIntiInvalidTriggerMode"

@@ -22,5 +22,7 @@ abbrev pub shown_of : {T : Type 0} {least : ℕ} → ExtendedField T least → �
 shown_of {least = least} field revision = field_since least revision (held_of field)
 
 -- the field of n bytes at an offset, whose value is what its bytes mean
-abbrev pub extended_at : {T : Type 0} {least : ℕ} → (List ℕ → T) → List ℕ → ℕ → ℕ → ExtendedField T least
-extended_at meaning bytes offset n = record { value = option_map meaning (whole_part bytes offset n) }
+abbrev pub extended_at : {T : Type 0} {least : ℕ} → (List ℕ → T) → List ℕ → ℕ → ℕ
+    → ExtendedField T least
+extended_at meaning bytes offset n =
+    record { value = option_map meaning (whole_part bytes offset n) }

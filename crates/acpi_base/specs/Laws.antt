@@ -12,10 +12,12 @@ LentIsInside = (m : Memory) (a n : ℕ) (bytes : List ℕ) → IsMemory m → 0 
 
 -- a field is read as if zeros followed the bytes
 abbrev pub FieldPastEnd : Type 0
-FieldPastEnd = (bytes : List ℕ) (count offset n : ℕ) → field_of (bytes ++ replicate count 0) offset n ≡ field_of bytes offset n
+FieldPastEnd = (bytes : List ℕ) (count offset n : ℕ)
+    → field_of (bytes ++ replicate count 0) offset n ≡ field_of bytes offset n
 
 -- bytes that differ from these in exactly one place, below the length and outside the length field,
 -- are refused
 abbrev pub DamageShows : Signature → List ℕ → Type 0
-DamageShows s bytes = (k b : ℕ) → k < field_of bytes 4 4 → (k < 4) ⊎ (8 ≤ k) → b < 256 → b ≢ slice_index bytes k
+DamageShows s bytes = (k b : ℕ) → k < field_of bytes 4 4 → (k < 4) ⊎ (8 ≤ k)
+    → b < 256 → b ≢ slice_index bytes k
     → IsErr (check_table s (slice_set bytes k b))

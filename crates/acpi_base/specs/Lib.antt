@@ -3,12 +3,14 @@ pub mod AddressLaws
 pub mod Bits
 pub mod Bytes
 pub mod Claim
+pub mod Equality
 pub mod ErrorText
 pub mod Extended
 pub mod Header
 pub mod Laws
 pub mod Mapping
 pub mod Memory
+pub mod Names
 pub mod OneRegion
 pub mod Steps
 pub mod Table

@@ -57,4 +57,6 @@ AreApart-prop r s = Π_prop (λ a. →_prop (→_prop (λ x. absurd x)))
 
 pub IsMemory-prop : (m : Memory) → IsProp (IsMemory m)
 IsMemory-prop [] = Unit-prop
-IsMemory-prop (r ∷ m) = ×_prop (IsRegion-prop r) (×_prop (AllByRecursion-prop (AreApart r) (AreApart-prop r) m) (IsMemory-prop m))
+IsMemory-prop (r ∷ m) =
+    let apart = AllByRecursion-prop (AreApart r) (AreApart-prop r) m in
+    ×_prop (IsRegion-prop r) (×_prop apart (IsMemory-prop m))

@@ -1,7 +1,13 @@
--- How a signature is printed.
-use Rattle.std.specs.Prelude.{ℕ, List, [], ◌∷◌, ◌+◌, ◌/◌, ◌%◌, if◌then◌else◌, nat_lt}
+-- Texts, and how a signature is printed.
+use Rattle.std.specs.Prelude.{◌≡◌, IsUtf8, MatchOption, Option, ℕ, List, [], ◌∷◌, ◌+◌, ◌/◌, ◌%◌, if◌then◌else◌, nat_lt}
+use Rattle.std.specs.Borrow.{Bor}
 use Rattle.std.specs.Str.{is_utf8}
 use Rattle.acpi_base.specs.declared.signature.Signature.{Signature}
+
+-- the answer is the text that the bytes encode in UTF-8, or none where they encode none
+abbrev pub IsTextOf : Option (Bor (List ℕ)) → List ℕ → Type 0
+IsTextOf answer bytes =
+    MatchOption answer (¬ (IsUtf8 bytes)) (λ text. (text.now ≡ bytes) × IsUtf8 bytes)
 
 -- the four bytes of a signature
 abbrev pub letters_of : Signature → List ℕ

@@ -18,14 +18,23 @@ pub enum AddressSpace {
     /// The configuration space of a PCI device on bus 0 of segment 0: the device in bits 32 to 47,
     /// the function in bits 16 to 31, the offset in bits 0 to 15.
     PciConfigSpace,
+    /// The space of an embedded controller.
     EmbeddedController,
+    /// The space of a system management bus.
     SMBus,
+    /// The memory of the real time clock.
     SystemCmos,
+    /// What a base address register of a PCI device points to.
     PciBarTarget,
+    /// The space of an intelligent platform management interface.
     Ipmi,
+    /// The pins of a general purpose I/O controller.
     GeneralIo,
+    /// The space of a device on a serial bus.
     GenericSerialBus,
+    /// A channel to the platform's controller.
     PlatformCommunicationsChannel,
+    /// What the maker of the processor defines.
     FunctionalFixedHardware,
     /// A space of the maker's own, by its code of 0xc0 to 0xff.
     OemDefined(u8),
@@ -63,6 +72,7 @@ impl TryFrom<u8> for AddressSpace {
 /// How many bytes a register is read and written at once (section 5.2.3.2).
 #[derive(Clone, Copy, Debug, PartialEq, Eq)]
 pub enum AccessSize {
+    /// As the space and the register ask for.
     Undefined,
     /// One byte.
     ByteAccess,
@@ -116,10 +126,15 @@ impl PhysicalRecord for RawAddress {
 /// lies at `address` in the address space.
 #[derive(Clone, Copy, Debug, PartialEq, Eq)]
 pub struct GenericAddress {
+    /// What `address` counts.
     pub address_space: AddressSpace,
+    /// How many bits the register has.
     pub bit_width: u8,
+    /// How many bits lie before it at `address`.
     pub bit_offset: u8,
+    /// How much of it is read and written at once.
     pub access_size: AccessSize,
+    /// Where it lies in that space.
     pub address: u64,
 }
 

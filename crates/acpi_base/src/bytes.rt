@@ -1,8 +1,9 @@
 //! Numbers, sums and texts of bytes.
-ghost use Rattle.std.specs.Prelude.{◌≡◌, ◌+◌, ◌*◌, ◌^◌, ◌<◌, ◌≤◌, nat_le, length, IsUtf8, MatchOption, true};
+ghost use Rattle.std.specs.Prelude.{◌≡◌, ◌+◌, ◌*◌, ◌^◌, ◌<◌, ◌≤◌, nat_le, length, true};
 ghost use Rattle.std.specs.Str.{IsAscii, is_utf8};
 ghost use Rattle.acpi_base.specs.Bits.{bits_of, has_bit};
 ghost use Rattle.acpi_base.specs.Bytes.{field_of, filled_part, number, sum_of};
+ghost use Rattle.acpi_base.specs.Text.{IsTextOf};
 
 /// The sum of the bytes modulo 256, which is 0 over a whole table (section 5.2.6).
 #[tactic(auto, unfolding(crate::specs::Bytes::sum_of))]
@@ -71,7 +72,7 @@ pub fn field(bytes: &[u8], offset: usize, n: usize) -> u64
 
 /// The text that the bytes encode in UTF-8, or `None` where they encode none.
 pub fn text_of(bytes: &[u8]) -> Option<&str>
-    ensures { MatchOption result (¬ (IsUtf8 bytes.now)) (λ text. (text.now ≡ bytes.now) × IsUtf8 bytes.now) }
+    ensures { IsTextOf result bytes.now }
 {
     match std::str::from_utf8(bytes) {
         Ok(text) => Some(text),

@@ -1,45 +1,56 @@
 //! What a handler lent, until it is told that this ends.
+ghost use Rattle.std.specs.Prelude.{◌≤◌, length};
 
 use crate::error::AcpiResult;
 use crate::handler::AcpiHandler;
 
-/// What was lent. It is no `Drop`, and only `end` takes it apart: so the compiler refuses each path
-/// that loses one or ends one twice, and each granted request ends in exactly one notice.
+/// What was lent, and how many bytes of it are shown. It is no `Drop`, and only `end` takes it
+/// apart: so the compiler refuses a path that lets one go out of scope or ends one twice, and the
+/// notice names the range that was granted.
 pub(crate) struct Claim<'h, H: AcpiHandler> {
     start: u64,
     lent: &'h [u8],
+    region_length: usize,
     handler: &'h H,
+    ghost fits: { region_length ≤ length lent.now },
 }
 
 impl<'h, H: AcpiHandler> Claim<'h, H> {
     ghost use Rattle.std.specs.Prelude.{◌≡◌, ◌<◌, ◌≤◌, length, take, IfOk, Some};
-    ghost use Rattle.acpi_base.specs.Claim.{all_of, claimed_at, claimed_from};
+    ghost use Rattle.acpi_base.specs.Claim.{all_of, claimed_at, claimed_from, shown_by};
+    ghost use Rattle.acpi_base.specs.Memory.{at};
     ghost use Rattle.acpi_base.specs.Steps.{Gives, lent};
 
-    /// What was lent already.
-    pub(crate) fn new(start: u64, lent: &'h [u8], handler: &'h H) -> Self
+    /// What was lent already, of which the first `region_length` bytes are shown.
+    pub(crate) fn new(start: u64, lent: &'h [u8], region_length: usize, handler: &'h H) -> Self
+        requires { region_length ≤ length lent.now }
         ensures start { claimed_at result ≡ start }
         ensures lent { all_of result ≡ lent.now }
+        ensures shown { shown_by result ≡ take region_length lent.now }
         ensures handler { claimed_from result ≡ handler.now }
     {
         Claim {
             start,
             lent,
+            region_length,
             handler,
         }
     }
 
-    /// What the handler lends at an address, at least as many bytes as are asked for.
+    /// The `size` bytes at an address, shown of what the handler lends there.
     #[tactic(auto, using(crate::proofs::Lent::lent_front, crate::proofs::Lent::lent_none))]
     pub(crate) fn request(handler: &'h H, address: u64, size: usize) -> AcpiResult<Self>
         requires { 0 < size }
         ensures start { IfOk result (λ c. claimed_at c ≡ address) }
         ensures handler { IfOk result (λ c. claimed_from c ≡ handler.now) }
-        ensures enough { IfOk result (λ c. size ≤ length (all_of c)) }
-        ensures front { Gives (λ c. take size (all_of c)) result (lent (H.memory handler.now) address size) }
+        ensures size { IfOk result (λ c. length (shown_by c) ≡ size) }
+        ensures shown { Gives (λ c. shown_by c) result (lent (H.memory handler.now) address size) }
+        // However many bytes were lent, all of them are the memory's.
+        ensures all { IfOk result (λ c. at (H.memory handler.now) address (length (all_of c))
+            ≡ Some (all_of c)) }
     {
         let granted = handler.map_physical_region(address, size)?;
-        Ok(Claim::new(address, granted, handler))
+        Ok(Claim::new(address, granted, size, handler))
     }
 
     pub(crate) fn start(&self) -> u64
@@ -48,10 +59,18 @@ impl<'h, H: AcpiHandler> Claim<'h, H> {
         self.start
     }
 
+    /// All the bytes that were lent.
     pub(crate) fn lent(&self) -> &[u8]
         ensures { result.now ≡ all_of self.now }
     {
         self.lent
+    }
+
+    /// The bytes that are shown: the first `region_length` of them.
+    pub(crate) fn shown(&self) -> &[u8]
+        ensures { result.now ≡ shown_by self.now }
+    {
+        &self.lent[..self.region_length]
     }
 
     pub(crate) fn handler(&self) -> &'h H
@@ -60,11 +79,12 @@ impl<'h, H: AcpiHandler> Claim<'h, H> {
         self.handler
     }
 
-    /// Tells the handler that a mapping of the first bytes ended.
-    pub(crate) fn end(self, region_length: usize) {
+    /// Tells the handler that this ends.
+    pub(crate) fn end(self) {
         let Claim {
             start,
             lent,
+            region_length,
             handler,
         } = self;
         handler.unmap_physical_region(start, region_length, lent.len());

@@ -26,7 +26,8 @@ pub trait AcpiHandler {
 
     /// A notice: what was lent from `address` on, `mapped_length` bytes of which a mapping showed
     /// the first `region_length`, is read no more.
-    fn unmap_physical_region(&self, address: u64, region_length: usize, mapped_length: usize);
+    fn unmap_physical_region(&self, address: u64, region_length: usize, mapped_length: usize)
+        requires { region_length ≤ mapped_length };
 
     ghost regions: { (h : Self) → IsMemory (memory h) };
 }

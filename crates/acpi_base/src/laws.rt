@@ -1,11 +1,15 @@
 //! Laws of the definitions: each is the contract of a call that does nothing.
-ghost use Rattle.std.specs.Prelude.{◌≡◌, ◌↔◌, IsTrue};
+ghost use Rattle.std.specs.Prelude.{◌≡◌, ◌↔◌};
 ghost use Rattle.std.specs.Cmp.Lexicographic.{slice_cmp};
 ghost use Rattle.std.specs.Ordering.{nat_cmp};
 ghost use Rattle.std.specs.declared.cmp.Ordering.TheVariants.{Equal};
+ghost use Rattle.acpi_base.specs.Equality.{IsEquality};
 ghost use Rattle.acpi_base.specs.Laws.{FieldPastEnd, LentIsInside};
+ghost use Rattle.acpi_base.specs.Names.{NamesAreSpelled};
 ghost use Rattle.acpi_base.specs.Text.{letters_of};
 
+use crate::address::{AccessSize, AddressSpace, GenericAddress};
+use crate::error::{AcpiError, MadtError};
 use crate::signature::Signature;
 use std::cmp::Ordering;
 
@@ -20,6 +24,11 @@ pub fn field_past_end()
     ensures { FieldPastEnd }
 {}
 
+/// Each constant of `Signature` has the four letters of its table.
+pub fn names_are_spelled()
+    ensures { NamesAreSpelled }
+{}
+
 /// Signatures are ordered as their four bytes are, the first byte first, and the order agrees with
 /// equality.
 #[tactic(auto, using(crate::proofs::Orders::equal_is))]
@@ -30,9 +39,58 @@ pub fn signature_order(a: &Signature, b: &Signature) -> Ordering
     a.cmp(b)
 }
 
+/// The signature of a signature's bytes is that signature.
+pub fn signature_of_its_bytes(signature: Signature) -> Signature
+    ensures { result ≡ signature }
+{
+    Signature::from_bytes(signature.to_bytes())
+}
+
+/// The bytes of the signature of four bytes are these bytes.
+pub fn bytes_of_a_signature(bytes: [u8; 4]) -> [u8; 4]
+    ensures { result ≡ bytes }
+{
+    Signature::from_bytes(bytes).to_bytes()
+}
+
 /// Signatures compare as equal exactly where they are one.
 pub fn signature_equality(a: &Signature, b: &Signature) -> bool
-    ensures { IsTrue result ↔ (a.now ≡ b.now) }
+    ensures { IsEquality result a.now b.now }
+{
+    a == b
+}
+
+/// Refusals compare as equal exactly where they are one.
+pub fn error_equality(a: &AcpiError, b: &AcpiError) -> bool
+    ensures { IsEquality result a.now b.now }
+{
+    a == b
+}
+
+/// Refusals of what a MADT lists compare as equal exactly where they are one.
+pub fn madt_error_equality(a: &MadtError, b: &MadtError) -> bool
+    ensures { IsEquality result a.now b.now }
+{
+    a == b
+}
+
+/// Address spaces compare as equal exactly where they are one.
+pub fn space_equality(a: &AddressSpace, b: &AddressSpace) -> bool
+    ensures { IsEquality result a.now b.now }
+{
+    a == b
+}
+
+/// Access sizes compare as equal exactly where they are one.
+pub fn access_size_equality(a: &AccessSize, b: &AccessSize) -> bool
+    ensures { IsEquality result a.now b.now }
+{
+    a == b
+}
+
+/// Generic addresses compare as equal exactly where they are one.
+pub fn address_equality(a: &GenericAddress, b: &GenericAddress) -> bool
+    ensures { IsEquality result a.now b.now }
 {
     a == b
 }

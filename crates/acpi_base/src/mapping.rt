@@ -1,7 +1,7 @@
 //! Records in lent memory.
-ghost use Rattle.std.specs.Prelude.{◌≡◌, ◌≤◌, length, take};
+ghost use Rattle.std.specs.Prelude.{◌≡◌, ◌≤◌, length};
 ghost use Rattle.std.specs.Coded.{Coded-set};
-ghost use Rattle.acpi_base.specs.Claim.{all_of};
+ghost use Rattle.acpi_base.specs.Claim.{shown_by};
 
 use crate::claim::Claim;
 use crate::error::AcpiResult;
@@ -12,17 +12,16 @@ use std::ops::Deref;
 /// lent; dropping it tells the handler by `unmap_physical_region`.
 pub struct PhysicalMapping<'h, H: AcpiHandler, T: PhysicalRecord> {
     claim: Claim<'h, H>,
-    region_length: usize,
     value: T,
-    ghost fits: { region_length ≤ length (all_of claim) },
-    ghost least: { T.MIN_LENGTH ≤ region_length },
-    ghost read: { value ≡ T.reading (take region_length (all_of claim)) } by { Coded-set T.code value (T.reading (take region_length (all_of claim))) },
+    ghost least: { T.MIN_LENGTH ≤ length (shown_by claim) },
+    ghost read: { value ≡ T.reading (shown_by claim) } by { Coded-set T.code _ _ },
 }
 
 impl<'h, H: AcpiHandler, T: PhysicalRecord> PhysicalMapping<'h, H, T> {
-    ghost use Rattle.std.specs.Prelude.{◌≡◌, ◌+◌, ◌^◌, ◌<◌, ◌≤◌, length, take, IfOk};
-    ghost use Rattle.acpi_base.specs.Claim.{all_of, claimed_at, claimed_from};
-    ghost use Rattle.acpi_base.specs.Mapping.{start_of, bytes_of, mapped_of, handler_of};
+    ghost use Rattle.std.specs.Prelude.{◌≡◌, ◌+◌, ◌^◌, ◌<◌, ◌≤◌, length, take, IfOk, Some};
+    ghost use Rattle.acpi_base.specs.Claim.{all_of, claimed_at, claimed_from, shown_by};
+    ghost use Rattle.acpi_base.specs.Mapping.{start_of, bytes_of, lent_of, mapped_of, handler_of};
+    ghost use Rattle.acpi_base.specs.Memory.{at};
     ghost use Rattle.acpi_base.specs.Steps.{Gives, lent};
 
     /// The mapping of the first `region_length` of bytes that lie from `physical_start` on. It
@@ -33,26 +32,22 @@ impl<'h, H: AcpiHandler, T: PhysicalRecord> PhysicalMapping<'h, H, T> {
         requires least { T.MIN_LENGTH ≤ region_length }
         ensures start { start_of result ≡ physical_start }
         ensures bytes { bytes_of result ≡ take region_length bytes.now }
-        ensures mapped { mapped_of result ≡ length bytes.now }
+        ensures lent { lent_of result ≡ bytes.now }
         ensures handler { handler_of result ≡ handler.now }
     {
-        PhysicalMapping::of_claim(Claim::new(physical_start, bytes, handler), region_length)
+        PhysicalMapping::of_claim(Claim::new(physical_start, bytes, region_length, handler))
     }
 
-    fn of_claim(claim: Claim<'h, H>, region_length: usize) -> Self
-        requires fits { region_length ≤ length (all_of claim) }
-        requires least { T.MIN_LENGTH ≤ region_length }
+    /// The record that a claim shows.
+    fn of_claim(claim: Claim<'h, H>) -> Self
+        requires { T.MIN_LENGTH ≤ length (shown_by claim) }
         ensures start { start_of result ≡ claimed_at claim.entry }
-        ensures bytes { bytes_of result ≡ take region_length (all_of claim.entry) }
-        ensures mapped { mapped_of result ≡ length (all_of claim.entry) }
+        ensures bytes { bytes_of result ≡ shown_by claim.entry }
+        ensures lent { lent_of result ≡ all_of claim.entry }
         ensures handler { handler_of result ≡ claimed_from claim.entry }
     {
-        let value = T::read(&claim.lent()[..region_length]);
-        PhysicalMapping {
-            claim,
-            region_length,
-            value,
-        }
+        let value = T::read(claim.shown());
+        PhysicalMapping { claim, value }
     }
 
     /// The mapping of the `size` bytes at an address, as the handler lends them.
@@ -66,9 +61,12 @@ impl<'h, H: AcpiHandler, T: PhysicalRecord> PhysicalMapping<'h, H, T> {
         ensures length { IfOk result (λ m. length (bytes_of m) ≡ size) }
         ensures ends { IfOk result (λ m. start_of m + length (bytes_of m) < 2 ^ 64) }
         ensures bytes { Gives (λ m. bytes_of m) result (lent (H.memory handler.now) address size) }
+        // However many bytes were lent, all of them are the memory's.
+        ensures lent { IfOk result (λ m. at (H.memory handler.now) address (mapped_of m)
+            ≡ Some (lent_of m)) }
     {
         let claim = Claim::request(handler, address, size)?;
-        Ok(PhysicalMapping::of_claim(claim, size))
+        Ok(PhysicalMapping::of_claim(claim))
     }
 
     /// The physical address of the first byte.
@@ -82,7 +80,7 @@ impl<'h, H: AcpiHandler, T: PhysicalRecord> PhysicalMapping<'h, H, T> {
     pub fn region_length(&self) -> usize
         ensures { result ≡ length (bytes_of self.now) }
     {
-        self.region_length
+        self.claim.shown().len()
     }
 
     /// How many bytes were lent: at least `region_length`, and more as the handler chose.
@@ -97,7 +95,7 @@ impl<'h, H: AcpiHandler, T: PhysicalRecord> PhysicalMapping<'h, H, T> {
         ensures value { result.now ≡ bytes_of self.now }
         ensures least { T.MIN_LENGTH ≤ length result.now }
     {
-        &self.claim.lent()[..self.region_length]
+        self.claim.shown()
     }
 
     /// The handler that gets the notice.
@@ -131,11 +129,7 @@ impl<'h, H: AcpiHandler, T: PhysicalRecord> Deref for PhysicalMapping<'h, H, T> 
 
 impl<'h, H: AcpiHandler, T: PhysicalRecord> Drop for PhysicalMapping<'h, H, T> {
     fn drop(self) {
-        let PhysicalMapping {
-            claim,
-            region_length,
-            value: _,
-        } = self;
-        claim.end(region_length);
+        let PhysicalMapping { claim, value: _ } = self;
+        claim.end();
     }
 }

@@ -1,9 +1,10 @@
 //! The header that every table begins with, and its checks.
-ghost use Rattle.std.specs.Prelude.{◌≡◌, ◌^◌, ◌<◌, ◌≤◌, IfOk, IsOk, IsUtf8, MatchOption};
+ghost use Rattle.std.specs.Prelude.{◌≡◌, ◌^◌, ◌<◌, ◌≤◌, IfOk, IsOk};
 ghost use Rattle.acpi_base.specs.Header.{header_at, check_names, check_table};
 ghost use Rattle.acpi_base.specs.Laws.{DamageShows};
 ghost use Rattle.acpi_base.specs.Steps.{Gives};
 ghost use Rattle.acpi_base.specs.Table.{length_in};
+ghost use Rattle.acpi_base.specs.Text.{IsTextOf};
 
 use crate::bytes::{is_text, text_of};
 pub use crate::bytes::{byte_sum, field};
@@ -13,18 +14,26 @@ use crate::handler::PhysicalRecord;
 pub use crate::signature::Signature;
 pub use crate::table::{AcpiTable, map_own_sdt, map_sdt, map_table};
 
-/// The header of 36 bytes that every table begins with (section 5.2.6). `length` counts the bytes
-/// of the whole table with the header.
-#[derive(Clone, Copy)]
+/// The header of 36 bytes that every table begins with (section 5.2.6).
+#[derive(Clone, Copy, Debug)]
 pub struct SdtHeader {
+    /// Which table it is.
     pub signature: Signature,
+    /// How many bytes the whole table has, with this header.
     pub length: u32,
+    /// The revision of the table's layout.
     pub revision: u8,
+    /// The byte that makes the whole table sum to 0 modulo 256.
     pub checksum: u8,
+    /// The bytes of the OEM's name. `oem_id()` is their text.
     pub oem_id: [u8; 6],
+    /// The bytes of the OEM's name for this table. `oem_table_id()` is their text.
     pub oem_table_id: [u8; 8],
+    /// The OEM's revision of this table.
     pub oem_revision: u32,
+    /// Which program made the table: four letters, as a number.
     pub creator_id: u32,
+    /// The revision of that program.
     pub creator_revision: u32,
 }
 
@@ -91,14 +100,14 @@ impl SdtHeader {
 
     /// The OEM's name, or `None` where it is no UTF-8.
     pub fn oem_id(&self) -> Option<&str>
-        ensures { MatchOption result (¬ (IsUtf8 self.now.oem_id)) (λ text. (text.now ≡ self.now.oem_id) × IsUtf8 self.now.oem_id) }
+        ensures { IsTextOf result self.now.oem_id }
     {
         text_of(&self.oem_id)
     }
 
     /// The OEM's name for this table, or `None` where it is no UTF-8.
     pub fn oem_table_id(&self) -> Option<&str>
-        ensures { MatchOption result (¬ (IsUtf8 self.now.oem_table_id)) (λ text. (text.now ≡ self.now.oem_table_id) × IsUtf8 self.now.oem_table_id) }
+        ensures { IsTextOf result self.now.oem_table_id }
     {
         text_of(&self.oem_table_id)
     }

@@ -1,7 +1,7 @@
 //! The four bytes that name a table.
-ghost use Rattle.std.specs.Prelude.{◌≡◌, ◌<◌, IsUtf8, MatchOption, Some};
+ghost use Rattle.std.specs.Prelude.{◌≡◌, ◌<◌, Some};
 ghost use Rattle.std.specs.Str.{bytes_eq};
-ghost use Rattle.acpi_base.specs.Text.{hex_digit, letters_of, signature_text};
+ghost use Rattle.acpi_base.specs.Text.{IsTextOf, hex_digit, letters_of, signature_text};
 
 use crate::bytes::text_of;
 use std::fmt;
@@ -223,7 +223,7 @@ impl Signature {
 
     /// The text of its four bytes, or `None` where they are no UTF-8.
     pub fn as_str(&self) -> Option<&str>
-        ensures { MatchOption result (¬ (IsUtf8 (letters_of self.now))) (λ text. (text.now ≡ letters_of self.now) × IsUtf8 (letters_of self.now)) }
+        ensures { IsTextOf result (letters_of self.now) }
     {
         text_of(&self.0)
     }

@@ -30,8 +30,8 @@ pub trait AcpiTable: PhysicalRecord {
             → result.now ≡ header_at b };
 
     /// Checks the table that this value was read from, whose bytes these are. Most types answer
-    /// `self.header().validate(Self::SIGNATURE, bytes)`, and say `check_table` of their signature as
-    /// their verdict.
+    /// `self.header().validate(Self::SIGNATURE, bytes)`, and have as their verdict `check_table` of
+    /// that signature.
     fn validate(&self, bytes: &[u8]) -> AcpiResult<()>
         requires least { Self.MIN_LENGTH ≤ length bytes.now }
         requires read { self.now ≡ Self.reading bytes.now }
@@ -54,7 +54,8 @@ fn map_whole<'h, H: AcpiHandler, T: PhysicalRecord>(
     ensures handler { IfOk result (λ m. handler_of m ≡ handler_of header.entry) }
     ensures short { IfOk result (λ m. length (bytes_of m) < 2 ^ 32) }
     ensures ends { IfOk result (λ m. start_of m + length (bytes_of m) < 2 ^ 64) }
-    ensures bytes { Gives (λ m. bytes_of m) result (whole_of (H.memory (handler_of header.entry)) signature least (start_of header.entry) (bytes_of header.entry)) }
+    ensures bytes { let m = H.memory (handler_of header.entry) in Gives (λ x. bytes_of x) result
+        (whole_of m signature least (start_of header.entry) (bytes_of header.entry)) }
 {
     let length = header.table_length(signature, least)?;
     let handler = header.handler();
@@ -76,7 +77,8 @@ pub fn map_table<'h, H: AcpiHandler, T: AcpiTable>(
 ) -> AcpiResult<PhysicalMapping<'h, H, T>>
     ensures place { IfOk result (λ m. start_of m ≡ address) }
     ensures handler { IfOk result (λ m. handler_of m ≡ handler.now) }
-    ensures table { Gives (λ m. bytes_of m) result (table_at (H.memory handler.now) (kind T.SIGNATURE T.MIN_LENGTH T.verdict) address) }
+    ensures table { Gives (λ m. bytes_of m) result
+        (table_at (H.memory handler.now) (kind T.SIGNATURE T.MIN_LENGTH T.verdict) address) }
 {
     let header = PhysicalMapping::map(handler, address, SdtHeader::MIN_LENGTH)?;
     let table = map_whole::<H, T>(header, T::SIGNATURE, T::MIN_LENGTH)?;
@@ -95,7 +97,8 @@ fn map_plain<'h, H: AcpiHandler>(
     ensures handler { IfOk result (λ m. handler_of m ≡ handler_of header.entry) }
     ensures short { IfOk result (λ m. length (bytes_of m) < 2 ^ 32) }
     ensures ends { IfOk result (λ m. start_of m + length (bytes_of m) < 2 ^ 64) }
-    ensures table { Gives (λ m. bytes_of m) result (table_of (H.memory (handler_of header.entry)) (plain_kind signature) (start_of header.entry) (bytes_of header.entry)) }
+    ensures table { let m = H.memory (handler_of header.entry) in Gives (λ x. bytes_of x) result
+        (table_of m (plain_kind signature) (start_of header.entry) (bytes_of header.entry)) }
 {
     let table = map_whole::<H, SdtHeader>(header, signature, SdtHeader::MIN_LENGTH)?;
     table.get().validate(signature, table.bytes())?;
@@ -116,7 +119,8 @@ pub fn map_sdt<'h, H: AcpiHandler>(
     ensures handler { IfOk result (λ m. handler_of m ≡ handler.now) }
     ensures short { IfOk result (λ m. length (bytes_of m) < 2 ^ 32) }
     ensures ends { IfOk result (λ m. start_of m + length (bytes_of m) < 2 ^ 64) }
-    ensures table { Gives (λ m. bytes_of m) result (table_at (H.memory handler.now) (plain_kind signature) address) }
+    ensures table { Gives (λ m. bytes_of m) result
+        (table_at (H.memory handler.now) (plain_kind signature) address) }
 {
     let header = PhysicalMapping::map(handler, address, SdtHeader::MIN_LENGTH)?;
     map_plain(header, signature)

@@ -1,0 +1,48 @@
+-- The names of the tables (ACPI 6.4, section 5.2.6, tables 5.5 and 5.6).
+use Rattle.std.specs.Prelude.{◌≡◌, ℕ, List, [], ◌∷◌, codes}
+use Rattle.std.specs.List.{AllByRecursion}
+use Rattle.acpi_base.specs.Text.{letters_of}
+use Rattle.acpi_base.specs.declared.signature.Signature.{Signature}
+use Rattle.acpi_base.specs.declared.signature.TheConstants.Signature.{RSDT, XSDT, FADT, HPET, MADT}
+use Rattle.acpi_base.specs.declared.signature.TheConstants.Signature.{MCFG, SSDT, BERT, BGRT, CPEP}
+use Rattle.acpi_base.specs.declared.signature.TheConstants.Signature.{DSDT, ECDT, EINJ, ERST, FACS}
+use Rattle.acpi_base.specs.declared.signature.TheConstants.Signature.{FPDT, GTDT, HEST, MSCT, MPST}
+use Rattle.acpi_base.specs.declared.signature.TheConstants.Signature.{NFIT, PCCT, PHAT, PMTT, PSDT}
+use Rattle.acpi_base.specs.declared.signature.TheConstants.Signature.{RASF, SBST, SDEV, SLIT, SRAT}
+use Rattle.acpi_base.specs.declared.signature.TheConstants.Signature.{AEST, BDAT, CDIT, CEDT, CRAT}
+use Rattle.acpi_base.specs.declared.signature.TheConstants.Signature.{CSRT, DBGP, DBG2, DMAR, DRTM}
+use Rattle.acpi_base.specs.declared.signature.TheConstants.Signature.{ETDT, IBFT, IORT, IVRS, LPIT}
+use Rattle.acpi_base.specs.declared.signature.TheConstants.Signature.{MCHI, MPAM, MSDM, PRMT, RGRT}
+use Rattle.acpi_base.specs.declared.signature.TheConstants.Signature.{SDEI, SLIC, SPCR, SPMI, STAO}
+use Rattle.acpi_base.specs.declared.signature.TheConstants.Signature.{SVKL, TCPA, TPM2, UEFI, WAET}
+use Rattle.acpi_base.specs.declared.signature.TheConstants.Signature.{WDAT, WDRT, WPBT, WSMT, XENV}
+
+-- each constant, and the four letters that it is to have
+abbrev pub named_tables : List (Signature × List ℕ)
+named_tables =
+    (RSDT, codes "RSDT") ∷ (XSDT, codes "XSDT") ∷ (FADT, codes "FACP") ∷
+    (HPET, codes "HPET") ∷ (MADT, codes "APIC") ∷ (MCFG, codes "MCFG") ∷
+    (SSDT, codes "SSDT") ∷ (BERT, codes "BERT") ∷ (BGRT, codes "BGRT") ∷
+    (CPEP, codes "CPEP") ∷ (DSDT, codes "DSDT") ∷ (ECDT, codes "ECDT") ∷
+    (EINJ, codes "EINJ") ∷ (ERST, codes "ERST") ∷ (FACS, codes "FACS") ∷
+    (FPDT, codes "FPDT") ∷ (GTDT, codes "GTDT") ∷ (HEST, codes "HEST") ∷
+    (MSCT, codes "MSCT") ∷ (MPST, codes "MPST") ∷ (NFIT, codes "NFIT") ∷
+    (PCCT, codes "PCCT") ∷ (PHAT, codes "PHAT") ∷ (PMTT, codes "PMTT") ∷
+    (PSDT, codes "PSDT") ∷ (RASF, codes "RASF") ∷ (SBST, codes "SBST") ∷
+    (SDEV, codes "SDEV") ∷ (SLIT, codes "SLIT") ∷ (SRAT, codes "SRAT") ∷
+    (AEST, codes "AEST") ∷ (BDAT, codes "BDAT") ∷ (CDIT, codes "CDIT") ∷
+    (CEDT, codes "CEDT") ∷ (CRAT, codes "CRAT") ∷ (CSRT, codes "CSRT") ∷
+    (DBGP, codes "DBGP") ∷ (DBG2, codes "DBG2") ∷ (DMAR, codes "DMAR") ∷
+    (DRTM, codes "DRTM") ∷ (ETDT, codes "ETDT") ∷ (IBFT, codes "IBFT") ∷
+    (IORT, codes "IORT") ∷ (IVRS, codes "IVRS") ∷ (LPIT, codes "LPIT") ∷
+    (MCHI, codes "MCHI") ∷ (MPAM, codes "MPAM") ∷ (MSDM, codes "MSDM") ∷
+    (PRMT, codes "PRMT") ∷ (RGRT, codes "RGRT") ∷ (SDEI, codes "SDEI") ∷
+    (SLIC, codes "SLIC") ∷ (SPCR, codes "SPCR") ∷ (SPMI, codes "SPMI") ∷
+    (STAO, codes "STAO") ∷ (SVKL, codes "SVKL") ∷ (TCPA, codes "TCPA") ∷
+    (TPM2, codes "TPM2") ∷ (UEFI, codes "UEFI") ∷ (WAET, codes "WAET") ∷
+    (WDAT, codes "WDAT") ∷ (WDRT, codes "WDRT") ∷ (WPBT, codes "WPBT") ∷
+    (WSMT, codes "WSMT") ∷ (XENV, codes "XENV") ∷ []
+
+-- each has these letters
+abbrev pub NamesAreSpelled : Type 0
+NamesAreSpelled = AllByRecursion (λ named. letters_of named.0 ≡ named.1) named_tables
