@@ -1,8 +1,7 @@
 -- The boot graphic (ACPI 6.4, section 5.2.22).
-use Rattle.std.specs.Prelude.{◌≡◌, ℕ, List, refl, ◌==◌, if◌then◌else◌}
+use Rattle.std.specs.Prelude.{ℕ, List, ◌==◌, if◌then◌else◌}
 use Rattle.acpi_base.specs.Bytes.{field_of}
 use Rattle.acpi_base.specs.Header.{header_at}
-use Rattle.acpi_base.specs.declared.sdt.SdtHeader.{SdtHeader}
 use Rattle.acpi_fixed.specs.declared.bgrt.Bgrt.{Bgrt}
 use Rattle.acpi_fixed.specs.declared.bgrt.ImageType.{ImageType}
 use Rattle.acpi_fixed.specs.declared.bgrt.ImageType.TheVariants.{Bitmap, Reserved}
@@ -20,26 +19,19 @@ bgrt_at b = record {
 }
 
 -- what the fields of a table hold that calls show
-abbrev pub header_of : Bgrt → SdtHeader
-header_of g = g.header
 
 abbrev pub status_of : Bgrt → ℕ
 status_of g = g.status
 
-abbrev pub image_code_of : Bgrt → ℕ
-image_code_of g = g.image_type
+-- right, and down
+abbrev pub offset_of : Bgrt → ℕ × ℕ
+offset_of g = (g.x, g.y)
 
-abbrev pub x_of : Bgrt → ℕ
-x_of g = g.x
+-- code 0 is a bitmap, and every other code is reserved
+abbrev pub image_type_of : Bgrt → ImageType
+image_type_of g = if g.image_type == 0 then Bitmap else Reserved
 
-abbrev pub y_of : Bgrt → ℕ
-y_of g = g.y
-
--- 0 is a bitmap, and every other code is reserved
-abbrev pub image_type_of : ℕ → ImageType
-image_type_of code = if code == 0 then Bitmap else Reserved
-
--- the header is the one that the bytes begin with
-pub header_of-bgrt_at : (b : List ℕ) → header_of (bgrt_at b) ≡ header_at b
-unfolding bgrt_at
-header_of-bgrt_at b = refl
+-- the place of each in their order
+abbrev pub rank_of : ImageType → ℕ
+rank_of Bitmap = 0
+rank_of Reserved = 1

@@ -1,25 +1,54 @@
 -- Blocks of registers and addresses that the FADT gives in two ways: by a field of its first
 -- versions, and by an extended one (ACPI 6.4, section 5.2.9).
-use Rattle.std.specs.Prelude.{ℕ, ◌-◌, ◌*◌, ◌&&◌, ◌==◌, nat_lt, List, ◌++◌, length, replicate, Option, Some, None, is_none, Result, Ok, Err, if◌then◌else◌}
+use Rattle.std.specs.Prelude.{ℕ, ◌*◌, ◌&&◌, ◌==◌, nat_lt, if◌then◌else◌}
+use Rattle.std.specs.Prelude.{List, Option, Some, None, is_none, Result, Ok, Err}
+use Rattle.std.specs.Option.{option_map, option_map_or}
 use Rattle.acpi_base.specs.declared.address.AccessSize.TheVariants.{Undefined}
 use Rattle.acpi_base.specs.declared.address.AddressSpace.TheVariants.{SystemIo}
 use Rattle.acpi_base.specs.declared.address.GenericAddress.{GenericAddress}
 use Rattle.acpi_base.specs.declared.error.AcpiError.{AcpiError}
 use Rattle.acpi_base.specs.declared.error.AcpiError.TheVariants.{InvalidGenericAddress}
 use Rattle.acpi_base.specs.Address.{generic_address_of}
-use Rattle.acpi_base.specs.Bytes.{field_of, part}
+use Rattle.acpi_base.specs.Bytes.{field_of, filled_part}
+use Rattle.acpi_base.specs.Extended.{field_since, whole_part}
 use Rattle.acpi_base.specs.Steps.{◌>>=◌, holds}
+use Rattle.acpi_fixed.specs.declared.fadt.registers.RegisterBlock.{RegisterBlock}
+use Rattle.acpi_fixed.specs.declared.fadt.registers.Registers.{Registers}
 
--- the n bytes at an offset, filled up with zeros where the table ends before
-abbrev pub filled_part : List ℕ → ℕ → ℕ → List ℕ
-filled_part bytes offset n = part bytes offset n ++ replicate (n - length (part bytes offset n)) 0
+-- what the n bytes at an offset mean, in a table of revision 2 and above that has all of them
+abbrev pub extended_in : {T : Type 0} → (List ℕ → T) → List ℕ → ℕ → ℕ → Option T
+extended_in meaning b offset n =
+    field_since 2 (field_of b 8 1) (option_map meaning (whole_part b offset n))
 
--- what a table says of a block: the bytes of its extended field, where the table has it, and the
--- address and the number of bytes that the first versions have
-pub record Block : Type 0 where
-  pub extended : Option (List ℕ)
-  pub address : ℕ
-  pub size : ℕ
+abbrev pub extended_number : List ℕ → ℕ → Option ℕ
+extended_number b offset = extended_in (λ p. field_of p 0 8) b offset 8
+
+abbrev pub extended_address : List ℕ → ℕ → Option (List ℕ)
+extended_address b offset = extended_in (λ p. filled_part p 0 12) b offset 12
+
+-- the block whose address, length and extended field a table has at these offsets
+abbrev pub block_at : List ℕ → ℕ → ℕ → ℕ → RegisterBlock
+block_at b address size extended = record {
+  address = field_of b address 4;
+  size = field_of b size 1;
+  extended = extended_address b extended;
+}
+
+-- where a table has each register
+abbrev pub registers_at : List ℕ → Registers
+registers_at b = record {
+  pm1a_event = block_at b 56 88 148;
+  pm1b_event = block_at b 60 88 160;
+  pm1a_control = block_at b 64 89 172;
+  pm1b_control = block_at b 68 89 184;
+  pm2_control = block_at b 72 90 196;
+  pm_timer = block_at b 76 91 208;
+  gpe0 = block_at b 80 92 220;
+  gpe1 = block_at b 84 93 232;
+  reset = filled_part b 116 12;
+  sleep_control = extended_address b 244;
+  sleep_status = extended_address b 256;
+}
 
 -- the extended field, where its address is not 0
 abbrev pub usable_extended : Option (List ℕ) → Option (List ℕ)
@@ -38,27 +67,22 @@ ports_at address size = do
     address = address;
   })
 
--- what the bytes spell, or else the other
-abbrev pub decoded_or : Option (List ℕ) → Result GenericAddress AcpiError
-    → Result GenericAddress AcpiError
-decoded_or (Some raw) other = generic_address_of raw
-decoded_or None other = other
-
 -- the extended block where its address is not 0, else the ports
-abbrev pub block_of : Block → Result GenericAddress AcpiError
-block_of b = decoded_or (usable_extended b.extended) (ports_at b.address b.size)
+abbrev pub block_of : RegisterBlock → Result GenericAddress AcpiError
+block_of r =
+    option_map_or generic_address_of (usable_extended r.extended) (ports_at r.address r.size)
 
 -- the same for a block that a machine need not have: none where neither field gives an address
-abbrev pub optional_block_of : Block → Result (Option GenericAddress) AcpiError
-optional_block_of b =
-    if is_none (usable_extended b.extended) && b.address == 0 then Ok None
+abbrev pub optional_block_of : RegisterBlock → Result (Option GenericAddress) AcpiError
+optional_block_of r =
+    if is_none (usable_extended r.extended) && r.address == 0 then Ok None
     else do
-      block ← block_of b
+      block ← block_of r
       Ok (Some block)
 
 -- the timer's block, which a table has only where its length is 4
-abbrev pub timer_block_of : Block → Result (Option GenericAddress) AcpiError
-timer_block_of b = if b.size == 4 then optional_block_of b else Ok None
+abbrev pub timer_block_of : RegisterBlock → Result (Option GenericAddress) AcpiError
+timer_block_of r = if r.size == 4 then optional_block_of r else Ok None
 
 -- a register that only an extended field gives
 abbrev pub register_of : Option (List ℕ) → Result (Option GenericAddress) AcpiError

@@ -1,17 +1,20 @@
 //! The image that the firmware showed while it started the machine.
-ghost use Rattle.std.specs.Prelude.{◌≡◌, ◌*◌, ◌/◌, ◌%◌, ◌↔◌, IsTrue};
+ghost use Rattle.std.specs.Prelude.{◌≡◌, ◌*◌};
 
-use acpi_base::sdt::{SdtHeader, field};
+use acpi_base::bytes::{bits, field, has_bit};
+use acpi_base::sdt::SdtHeader;
 use acpi_base::{AcpiResult, AcpiTable, PhysicalRecord, Signature};
 
 /// The Boot Graphics Resource Table (section 5.2.22): an image in memory, and where on the screen
-/// it was drawn. `image_address` is its physical address.
-#[derive(Clone, Copy)]
+/// it was drawn.
+#[derive(Clone, Copy, Debug)]
 pub struct Bgrt {
     header: SdtHeader,
+    /// The version of this layout, which is 1.
     pub version: u16,
     status: u8,
     image_type: u8,
+    /// The physical address of the image.
     pub image_address: u64,
     x: u32,
     y: u32,
@@ -44,51 +47,47 @@ impl AcpiTable for Bgrt {
     ghost use Rattle.std.proofs.Common.{lit≤};
     ghost use Rattle.acpi_base.specs.Header.{check_table};
     ghost use Rattle.acpi_base.specs.declared.signature.TheConstants.Signature.{BGRT};
-    ghost use Rattle.acpi_fixed.specs.Bgrt.{header_of, header_of-bgrt_at};
 
     const SIGNATURE: Signature = Signature::BGRT;
 
     ghost SIGNATURE = { BGRT };
 
-    ghost header_in = { header_of };
-
     ghost verdict = { check_table BGRT };
 
+    #[tactic(auto, unfolding(crate::specs::Bgrt::bgrt_at))]
     fn header(&self) -> &SdtHeader {
         &self.header
     }
 
-    #[tactic(auto, unfolding(crate::specs::Bgrt::bgrt_at))]
     fn validate(&self, bytes: &[u8]) -> AcpiResult<()> {
-        self.header.validate(Signature::BGRT, bytes)
+        self.header().validate(Self::SIGNATURE, bytes)
     }
 
     ghost least = { lit≤ tt };
-
-    ghost header_cut = { λ b h. header_of-bgrt_at b };
 }
 
 impl Bgrt {
-    ghost use Rattle.acpi_fixed.specs.Bgrt.{status_of, image_code_of, image_type_of, x_of, y_of};
+    ghost use Rattle.acpi_base.specs.Bits.{bits_of, has_bit};
+    ghost use Rattle.acpi_fixed.specs.Bgrt.{image_type_of, offset_of, status_of};
 
     /// Whether the image is on the screen still, as far as the firmware knows (status bit 0).
     pub fn was_displayed(&self) -> bool
-        ensures { IsTrue result ↔ (status_of self.now % 2 ≡ 1) }
+        ensures { result ≡ has_bit (status_of self.now) 0 }
     {
-        self.status % 2 == 1
+        has_bit(self.status as u64, 0)
     }
 
     /// By how many degrees the image was turned clockwise before it was drawn: 0, 90, 180 or 270
     /// (status bits 1 and 2).
     pub fn orientation_offset(&self) -> u16
-        ensures { result ≡ status_of self.now / 2 % 4 * 90 }
+        ensures { result ≡ bits_of (status_of self.now) 1 2 * 90 }
     {
-        (self.status / 2 % 4) as u16 * 90
+        bits(self.status as u64, 1, 2) as u16 * 90
     }
 
     /// The form of the image.
     pub fn image_type(&self) -> ImageType
-        ensures { result ≡ image_type_of (image_code_of self.now) }
+        ensures { result ≡ image_type_of self.now }
     {
         match self.image_type {
             0 => ImageType::Bitmap,
@@ -99,18 +98,17 @@ impl Bgrt {
     /// How far right and how far down of the screen's upper left corner the image's upper left
     /// corner is, in pixels.
     pub fn image_offset(&self) -> (u32, u32)
-        ensures right { result.0 ≡ x_of self.now }
-        ensures down { result.1 ≡ y_of self.now }
+        ensures { result ≡ offset_of self.now }
     {
         (self.x, self.y)
     }
 }
 
-/// The form of a boot graphic. `Reserved` has no meaning yet.
+/// The form of a boot graphic, in the order of their codes.
 #[derive(Clone, Copy, Debug, PartialEq, Eq, PartialOrd, Ord, Hash)]
 pub enum ImageType {
     /// A bitmap file, as of Windows.
     Bitmap,
-    /// Any other code.
+    /// Any other code, which has no meaning yet.
     Reserved,
 }

@@ -1,30 +1,36 @@
 //! The fixed hardware: where its registers lie, and what it can do.
-ghost use Rattle.std.specs.Prelude.{◌≡◌, ◌<◌};
+ghost use Rattle.std.specs.Prelude.{◌≡◌};
 
 mod flags;
 mod registers;
 
 use acpi_base::address::GenericAddress;
-use acpi_base::sdt::{ExtendedField, SdtHeader, field};
+use acpi_base::bytes::field;
+use acpi_base::sdt::SdtHeader;
 use acpi_base::{AcpiError, AcpiResult, AcpiTable, PhysicalRecord, Signature};
 pub use flags::{ArmBootArchFlags, FixedFeatureFlags, IaPcBootArchFlags};
-use registers::{
-    RawAddress, RegisterBlock, address_from, extended_address, extended_number, raw_at,
-    register_from,
-};
+use registers::{Registers, address_from, extended_number, register_from};
 
 /// What the machine is for (section 5.2.9).
 #[derive(Clone, Copy, Debug, PartialEq, Eq)]
 pub enum PowerProfile {
+    /// Code 0: the firmware doesn't say.
     Unspecified,
+    /// Code 1: one user, on a desk, always on the mains.
     Desktop,
+    /// Code 2: carried about, on its battery at times.
     Mobile,
+    /// Code 3: one user, on a desk, with more to compute than a desktop.
     Workstation,
+    /// Code 4: many users, in a room of its own.
     EnterpriseServer,
-    /// A server for a small office or a home.
+    /// Code 5: a server for a small office or a home.
     SohoServer,
+    /// Code 6: a device for one purpose, as a set-top box.
     AppliancePc,
+    /// Code 7: a server that may spend power for speed.
     PerformanceServer,
+    /// Code 8: carried about, and used by touch.
     Tablet,
     /// Any other code.
     Reserved(u8),
@@ -35,7 +41,7 @@ pub enum PowerProfile {
 ///
 /// Later versions of the table give an address a second time in a wider field. The calls here take
 /// that one where a table of revision 2 or above has it whole and it isn't 0.
-#[derive(Clone, Copy)]
+#[derive(Clone, Copy, Debug)]
 pub struct Fadt {
     header: SdtHeader,
     firmware_ctrl: u32,
@@ -55,6 +61,7 @@ pub struct Fadt {
     pub s4bios_req: u8,
     /// The command that takes over the processors' performance states. 0: there is none.
     pub pstate_control: u8,
+    registers: Registers,
     /// The number of the first event of the second block of general purpose events.
     pub gpe1_base: u8,
     /// The command that says that the system follows changes of C states.
@@ -77,24 +84,16 @@ pub struct Fadt {
     pub month_alarm: u8,
     /// The clock's register of the century. 0: there is none.
     pub century: u8,
+    /// What a PC has.
     pub iapc_boot_arch: IaPcBootArchFlags,
+    /// What the fixed hardware does and needs.
     pub flags: FixedFeatureFlags,
     /// What to write to the reset register to reset the machine.
     pub reset_value: u8,
+    /// How an Arm machine is called.
     pub arm_boot_arch: ArmBootArchFlags,
-    reset_register: RawAddress,
-    x_firmware_ctrl: ExtendedField<u64, 2>,
-    x_dsdt_address: ExtendedField<u64, 2>,
-    pm1a_event: RegisterBlock,
-    pm1b_event: RegisterBlock,
-    pm1a_control: RegisterBlock,
-    pm1b_control: RegisterBlock,
-    pm2_control: RegisterBlock,
-    pm_timer: RegisterBlock,
-    gpe0: RegisterBlock,
-    gpe1: RegisterBlock,
-    sleep_control: ExtendedField<RawAddress, 2>,
-    sleep_status: ExtendedField<RawAddress, 2>,
+    x_firmware_ctrl: Option<u64>,
+    x_dsdt_address: Option<u64>,
 }
 
 impl PhysicalRecord for Fadt {
@@ -119,6 +118,7 @@ impl PhysicalRecord for Fadt {
             acpi_disable: field(bytes, 53, 1) as u8,
             s4bios_req: field(bytes, 54, 1) as u8,
             pstate_control: field(bytes, 55, 1) as u8,
+            registers: Registers::read(bytes),
             gpe1_base: field(bytes, 94, 1) as u8,
             c_state_control: field(bytes, 95, 1) as u8,
             worst_c2_latency: field(bytes, 96, 2) as u16,
@@ -134,19 +134,8 @@ impl PhysicalRecord for Fadt {
             flags: FixedFeatureFlags::new(field(bytes, 112, 4) as u32),
             reset_value: field(bytes, 128, 1) as u8,
             arm_boot_arch: ArmBootArchFlags::new(field(bytes, 129, 2) as u16),
-            reset_register: raw_at(bytes, 116),
             x_firmware_ctrl: extended_number(bytes, 132),
             x_dsdt_address: extended_number(bytes, 140),
-            pm1a_event: RegisterBlock::read(bytes, 148, 56, 88),
-            pm1b_event: RegisterBlock::read(bytes, 160, 60, 88),
-            pm1a_control: RegisterBlock::read(bytes, 172, 64, 89),
-            pm1b_control: RegisterBlock::read(bytes, 184, 68, 89),
-            pm2_control: RegisterBlock::read(bytes, 196, 72, 90),
-            pm_timer: RegisterBlock::read(bytes, 208, 76, 91),
-            gpe0: RegisterBlock::read(bytes, 220, 80, 92),
-            gpe1: RegisterBlock::read(bytes, 232, 84, 93),
-            sleep_control: extended_address(bytes, 244),
-            sleep_status: extended_address(bytes, 256),
         }
     }
 }
@@ -155,41 +144,34 @@ impl AcpiTable for Fadt {
     ghost use Rattle.std.proofs.Common.{lit≤};
     ghost use Rattle.acpi_base.specs.Header.{check_table};
     ghost use Rattle.acpi_base.specs.declared.signature.TheConstants.Signature.{FADT};
-    ghost use Rattle.acpi_fixed.specs.Fadt.{header_of, header_of-fadt_at};
 
     const SIGNATURE: Signature = Signature::FADT;
 
     ghost SIGNATURE = { FADT };
 
-    ghost header_in = { header_of };
-
     ghost verdict = { check_table FADT };
 
+    #[tactic(auto, unfolding(crate::specs::Fadt::fadt_at))]
     fn header(&self) -> &SdtHeader {
         &self.header
     }
 
-    #[tactic(auto, unfolding(crate::specs::Fadt::fadt_at))]
     fn validate(&self, bytes: &[u8]) -> AcpiResult<()> {
-        self.header.validate(Signature::FADT, bytes)
+        self.header().validate(Self::SIGNATURE, bytes)
     }
 
     ghost least = { lit≤ tt };
-
-    ghost header_cut = { λ b h. header_of-fadt_at b };
 }
 
 impl Fadt {
     ghost use Rattle.acpi_base.specs.Address.{generic_address_of};
-    ghost use Rattle.acpi_fixed.specs.Fadt.{facs_address_of, dsdt_address_of, profile_code_of, profile_of};
-    ghost use Rattle.acpi_fixed.specs.Fadt.{pm1a_event_of, pm1b_event_of, pm1a_control_of, pm1b_control_of};
-    ghost use Rattle.acpi_fixed.specs.Fadt.{pm2_control_of, pm_timer_of, gpe0_of, gpe1_of};
-    ghost use Rattle.acpi_fixed.specs.Fadt.{reset_bytes_of, control_bytes_of, status_bytes_of};
-    ghost use Rattle.acpi_fixed.specs.Registers.{block_of, optional_block_of, register_of, timer_block_of};
+    ghost use Rattle.acpi_fixed.specs.Fadt.{dsdt_address_of, facs_address_of, profile_of};
+    ghost use Rattle.acpi_fixed.specs.Fadt.{pm_timer_of, registers_of};
+    ghost use Rattle.acpi_fixed.specs.Registers.{block_of, optional_block_of, register_of};
 
     /// What the machine is for.
     pub fn power_profile(&self) -> PowerProfile
-        ensures { result ≡ profile_of (profile_code_of self.now) }
+        ensures { result ≡ profile_of self.now }
     {
         match self.preferred_pm_profile {
             0 => PowerProfile::Unspecified,
@@ -212,8 +194,8 @@ impl Fadt {
     pub fn facs_address(&self) -> AcpiResult<u64>
         ensures { result ≡ facs_address_of self.now }
     {
-        let wide = self.x_firmware_ctrl.access(self.header.revision);
-        address_from(AcpiError::InvalidFacsAddress, wide, self.firmware_ctrl)
+        let refusal = AcpiError::InvalidFacsAddress;
+        address_from(refusal, self.x_firmware_ctrl, self.firmware_ctrl)
     }
 
     /// The physical address of the DSDT: the 64-bit one where it is there and not 0, else the
@@ -223,8 +205,8 @@ impl Fadt {
     pub fn dsdt_address(&self) -> AcpiResult<u64>
         ensures { result ≡ dsdt_address_of self.now }
     {
-        let wide = self.x_dsdt_address.access(self.header.revision);
-        address_from(AcpiError::InvalidDsdtAddress, wide, self.dsdt_address)
+        let refusal = AcpiError::InvalidDsdtAddress;
+        address_from(refusal, self.x_dsdt_address, self.dsdt_address)
     }
 
     /// The status and enable registers of the fixed events: the extended block where its address
@@ -233,18 +215,18 @@ impl Fadt {
     /// Refuses with `InvalidGenericAddress` a reserved code in the extended block, and a length of
     /// 32 bytes and more where the ports count.
     pub fn pm1a_event_block(&self) -> AcpiResult<GenericAddress>
-        ensures { result ≡ block_of (pm1a_event_of self.now) }
+        ensures { result ≡ block_of (registers_of self.now).pm1a_event }
     {
-        self.pm1a_event.block(self.header.revision)
+        self.registers.pm1a_event.block()
     }
 
     /// The second block of event registers, or `None` where neither field gives an address.
     ///
     /// Refuses as `pm1a_event_block` does.
     pub fn pm1b_event_block(&self) -> AcpiResult<Option<GenericAddress>>
-        ensures { result ≡ optional_block_of (pm1b_event_of self.now) }
+        ensures { result ≡ optional_block_of (registers_of self.now).pm1b_event }
     {
-        self.pm1b_event.optional_block(self.header.revision)
+        self.registers.pm1b_event.optional_block()
     }
 
     /// The control registers of the fixed hardware: the extended block where its address isn't 0,
@@ -252,27 +234,27 @@ impl Fadt {
     ///
     /// Refuses as `pm1a_event_block` does.
     pub fn pm1a_control_block(&self) -> AcpiResult<GenericAddress>
-        ensures { result ≡ block_of (pm1a_control_of self.now) }
+        ensures { result ≡ block_of (registers_of self.now).pm1a_control }
     {
-        self.pm1a_control.block(self.header.revision)
+        self.registers.pm1a_control.block()
     }
 
     /// The second block of control registers, or `None` where neither field gives an address.
     ///
     /// Refuses as `pm1a_event_block` does.
     pub fn pm1b_control_block(&self) -> AcpiResult<Option<GenericAddress>>
-        ensures { result ≡ optional_block_of (pm1b_control_of self.now) }
+        ensures { result ≡ optional_block_of (registers_of self.now).pm1b_control }
     {
-        self.pm1b_control.optional_block(self.header.revision)
+        self.registers.pm1b_control.optional_block()
     }
 
     /// The second control register, or `None` where neither field gives an address.
     ///
     /// Refuses as `pm1a_event_block` does.
     pub fn pm2_control_block(&self) -> AcpiResult<Option<GenericAddress>>
-        ensures { result ≡ optional_block_of (pm2_control_of self.now) }
+        ensures { result ≡ optional_block_of (registers_of self.now).pm2_control }
     {
-        self.pm2_control.optional_block(self.header.revision)
+        self.registers.pm2_control.optional_block()
     }
 
     /// The power management timer, or `None` where its length isn't 4 or neither field gives an
@@ -280,9 +262,9 @@ impl Fadt {
     ///
     /// Refuses a reserved code in the extended block with `InvalidGenericAddress`.
     pub fn pm_timer_block(&self) -> AcpiResult<Option<GenericAddress>>
-        ensures { result ≡ timer_block_of (pm_timer_of self.now) }
+        ensures { result ≡ pm_timer_of self.now }
     {
-        self.pm_timer.timer_block(self.header.revision)
+        self.registers.pm_timer.timer_block()
     }
 
     /// The registers of the first general purpose events, or `None` where neither field gives an
@@ -290,9 +272,9 @@ impl Fadt {
     ///
     /// Refuses as `pm1a_event_block` does.
     pub fn gpe0_block(&self) -> AcpiResult<Option<GenericAddress>>
-        ensures { result ≡ optional_block_of (gpe0_of self.now) }
+        ensures { result ≡ optional_block_of (registers_of self.now).gpe0 }
     {
-        self.gpe0.optional_block(self.header.revision)
+        self.registers.gpe0.optional_block()
     }
 
     /// The registers of further general purpose events, or `None` where neither field gives an
@@ -300,18 +282,18 @@ impl Fadt {
     ///
     /// Refuses as `pm1a_event_block` does.
     pub fn gpe1_block(&self) -> AcpiResult<Option<GenericAddress>>
-        ensures { result ≡ optional_block_of (gpe1_of self.now) }
+        ensures { result ≡ optional_block_of (registers_of self.now).gpe1 }
     {
-        self.gpe1.optional_block(self.header.revision)
+        self.registers.gpe1.optional_block()
     }
 
     /// The register that resets the machine, where the flags say that there is one.
     ///
     /// Refuses a reserved code with `InvalidGenericAddress`.
     pub fn reset_register(&self) -> AcpiResult<GenericAddress>
-        ensures { result ≡ generic_address_of (reset_bytes_of self.now) }
+        ensures { result ≡ generic_address_of (registers_of self.now).reset }
     {
-        GenericAddress::from_raw(self.reset_register)
+        GenericAddress::from_raw(self.registers.reset)
     }
 
     /// The register that puts a machine of reduced hardware to sleep, or `None` where the table has
@@ -319,9 +301,9 @@ impl Fadt {
     ///
     /// Refuses a reserved code with `InvalidGenericAddress`.
     pub fn sleep_control_register(&self) -> AcpiResult<Option<GenericAddress>>
-        ensures { result ≡ register_of (control_bytes_of self.now) }
+        ensures { result ≡ register_of (registers_of self.now).sleep_control }
     {
-        register_from(self.sleep_control.access(self.header.revision))
+        register_from(self.registers.sleep_control)
     }
 
     /// The register that says how a machine of reduced hardware woke, or `None` where the table has
@@ -329,8 +311,8 @@ impl Fadt {
     ///
     /// Refuses a reserved code with `InvalidGenericAddress`.
     pub fn sleep_status_register(&self) -> AcpiResult<Option<GenericAddress>>
-        ensures { result ≡ register_of (status_bytes_of self.now) }
+        ensures { result ≡ register_of (registers_of self.now).sleep_status }
     {
-        register_from(self.sleep_status.access(self.header.revision))
+        register_from(self.registers.sleep_status)
     }
 }

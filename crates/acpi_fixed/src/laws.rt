@@ -1,8 +1,39 @@
-//! Laws of the definitions: each is the contract of a call that does nothing.
-ghost use Rattle.acpi_fixed.specs.FadtLaws.{FadtOverBytes};
+//! Laws of the types' comparisons: each is the contract of a call that compares.
+ghost use Rattle.std.specs.Prelude.{◌≡◌, fold, pos};
+ghost use Rattle.std.specs.Hash.{isize};
+ghost use Rattle.std.specs.Ordering.{nat_cmp};
+ghost use Rattle.acpi_base.specs.Equality.{IsEquality};
+ghost use Rattle.acpi_fixed.specs.Bgrt.{rank_of};
 
-/// What a FADT says of its profile, of addresses and of registers is what the bytes that it was
-/// read from say, each at its place.
-pub fn fadt_over_bytes()
-    ensures { FadtOverBytes }
-{}
+use crate::bgrt::ImageType;
+use crate::fadt::PowerProfile;
+use std::cmp::Ordering;
+use std::hash::{Hash, Hasher};
+
+/// Profiles compare as equal exactly where they are one.
+pub fn power_profile_equality(a: &PowerProfile, b: &PowerProfile) -> bool
+    ensures { IsEquality result a.now b.now }
+{
+    a == b
+}
+
+/// Forms of images compare as equal exactly where they are one.
+pub fn image_type_equality(a: &ImageType, b: &ImageType) -> bool
+    ensures { IsEquality result a.now b.now }
+{
+    a == b
+}
+
+/// `Bitmap` is below `Reserved`.
+pub fn image_type_order(a: &ImageType, b: &ImageType) -> Ordering
+    ensures { result ≡ nat_cmp (rank_of a.now) (rank_of b.now) }
+{
+    a.cmp(b)
+}
+
+/// What a hasher is fed of a form is its place in the order, and so equal forms hash alike.
+pub fn image_type_hash<H: Hasher>(form: &ImageType, state: &mut H)
+    ensures { state.new ≡ fold H.write state.old (isize (pos (rank_of form.now))) }
+{
+    form.hash(state);
+}

@@ -7,5 +7,3 @@
 pub mod bgrt;
 pub mod fadt;
 pub mod laws;
-#[cfg(test)]
-mod tests;

@@ -1,56 +1,28 @@
 //! What the FADT gives in two ways: by a field of its first versions, and by an extended one.
-ghost use Rattle.std.specs.Prelude.{◌≡◌, ◌+◌, nat_le, length};
-ghost use Rattle.std.specs.Option.{option_map};
-ghost use Rattle.acpi_base.specs.Bytes.{number};
-ghost use Rattle.acpi_base.specs.Extended.{held_of, whole_part};
-ghost use Rattle.acpi_fixed.specs.Registers.{address_or, filled_part, register_of};
+ghost use Rattle.std.specs.Prelude.{◌≡◌};
+ghost use Rattle.acpi_fixed.specs.Registers.{address_or, register_of};
+ghost use Rattle.acpi_fixed.specs.Registers.{extended_address, extended_number};
 
-use acpi_base::address::{AccessSize, AddressSpace, GenericAddress};
-use acpi_base::sdt::{ExtendedField, field};
+use acpi_base::address::{AccessSize, AddressSpace, GenericAddress, RawAddress};
+use acpi_base::bytes::{field, filled};
+use acpi_base::sdt::ExtendedField;
 use acpi_base::{AcpiError, AcpiResult};
 
-/// The twelve bytes of a generic address.
-pub(crate) type RawAddress = [u8; 12];
-
-/// Whether the `n` bytes at an offset lie in the table.
-fn has_part(bytes: &[u8], offset: usize, n: usize) -> bool
-    ensures { result ≡ nat_le (offset + n) (length bytes.now) }
+/// The number of eight bytes at an offset, which tables of revision 2 and above have, where they
+/// have all of these bytes.
+pub(crate) fn extended_number(bytes: &[u8], offset: usize) -> Option<u64>
+    ensures { result ≡ extended_number bytes.now offset }
 {
-    offset <= bytes.len() && n <= bytes.len() - offset
+    let number: ExtendedField<u64, 2> = ExtendedField::read(bytes, offset);
+    number.access(field(bytes, 8, 1) as u8)
 }
 
-/// The twelve bytes at an offset, filled up with zeros where the table ends before.
-pub(crate) fn raw_at(bytes: &[u8], offset: usize) -> RawAddress
-    ensures { result ≡ filled_part bytes.now offset 12 }
+/// The same of the twelve bytes of a generic address.
+fn extended_address(bytes: &[u8], offset: usize) -> Option<RawAddress>
+    ensures { result ≡ extended_address bytes.now offset }
 {
-    let rest = &bytes[offset.min(bytes.len())..];
-    let present = &rest[..rest.len().min(12)];
-    let mut raw = [0; 12];
-    raw[..present.len()].copy_from_slice(present);
-    raw
-}
-
-/// The extended generic address at an offset.
-pub(crate) fn extended_address(bytes: &[u8], offset: usize) -> ExtendedField<RawAddress, 2>
-    ensures { held_of result ≡ whole_part bytes.now offset 12 }
-{
-    if has_part(bytes, offset, 12) {
-        ExtendedField::new(Some(raw_at(bytes, offset)))
-    } else {
-        ExtendedField::new(None)
-    }
-}
-
-/// The extended number of eight bytes at an offset.
-#[tactic(auto, unfolding(acpi_base::specs::Bytes::field_of))]
-pub(crate) fn extended_number(bytes: &[u8], offset: usize) -> ExtendedField<u64, 2>
-    ensures { held_of result ≡ option_map number (whole_part bytes.now offset 8) }
-{
-    if has_part(bytes, offset, 8) {
-        ExtendedField::new(Some(field(bytes, offset, 8)))
-    } else {
-        ExtendedField::new(None)
-    }
+    let address: ExtendedField<RawAddress, 2> = ExtendedField::read(bytes, offset);
+    address.access(field(bytes, 8, 1) as u8)
 }
 
 /// The 64-bit address where it is there and not 0, else the 32-bit one.
@@ -81,37 +53,35 @@ pub(crate) fn register_from(raw: Option<RawAddress>) -> AcpiResult<Option<Generi
     }
 }
 
-/// A block of registers: by its extended field, and by the first port and the number of bytes that
-/// the first versions of the table have.
-#[derive(Clone, Copy)]
+/// A block of registers: by the first port and the number of bytes that the first versions of the
+/// table have, and by its extended field.
+#[derive(Clone, Copy, Debug)]
 pub(crate) struct RegisterBlock {
-    extended: ExtendedField<RawAddress, 2>,
     address: u32,
     size: u8,
+    extended: Option<RawAddress>,
 }
 
 impl RegisterBlock {
-    ghost use Rattle.acpi_base.specs.Extended.{shown_of};
-    ghost use Rattle.acpi_fixed.specs.Block.{block_at, block_under};
-    ghost use Rattle.acpi_fixed.specs.Registers.{block_of, usable_extended, optional_block_of, ports_at, timer_block_of};
+    ghost use Rattle.acpi_fixed.specs.Registers.{block_at, block_of, usable_extended};
+    ghost use Rattle.acpi_fixed.specs.Registers.{optional_block_of, ports_at, timer_block_of};
 
-    /// The block whose extended field, address and length a table has at these offsets.
-    pub(crate) fn read(bytes: &[u8], extended: usize, address: usize, size: usize) -> RegisterBlock
-        ensures { result ≡ block_at bytes.now extended address size }
+    /// The block whose address, length and extended field a table has at these offsets.
+    fn read(bytes: &[u8], address: usize, size: usize, extended: usize) -> RegisterBlock
+        ensures { result ≡ block_at bytes.now address size extended }
     {
         RegisterBlock {
-            extended: extended_address(bytes, extended),
             address: field(bytes, address, 4) as u32,
             size: field(bytes, size, 1) as u8,
+            extended: extended_address(bytes, extended),
         }
     }
 
-    /// The bytes of the extended field, where a table of this revision has it and its address is
-    /// not 0.
-    fn usable_extended(&self, revision: u8) -> Option<RawAddress>
-        ensures { result ≡ usable_extended (shown_of self.now.extended revision) }
+    /// The extended field, where its address is not 0.
+    fn usable_extended(&self) -> Option<RawAddress>
+        ensures { result ≡ usable_extended self.now.extended }
     {
-        match self.extended.access(revision) {
+        match self.extended {
             Some(raw) if field(&raw, 4, 8) != 0 => Some(raw),
             _ => None,
         }
@@ -139,10 +109,10 @@ impl RegisterBlock {
     ///
     /// Refuses with `InvalidGenericAddress` reserved codes in the extended block, and 32 bytes of
     /// ports and more.
-    pub(crate) fn block(&self, revision: u8) -> AcpiResult<GenericAddress>
-        ensures { result ≡ block_of (block_under revision self.now) }
+    pub(crate) fn block(&self) -> AcpiResult<GenericAddress>
+        ensures { result ≡ block_of self.now }
     {
-        match self.usable_extended(revision) {
+        match self.usable_extended() {
             Some(raw) => GenericAddress::from_raw(raw),
             None => self.ports(),
         }
@@ -152,24 +122,64 @@ impl RegisterBlock {
     /// address.
     ///
     /// Refuses as `block` does.
-    pub(crate) fn optional_block(&self, revision: u8) -> AcpiResult<Option<GenericAddress>>
-        ensures { result ≡ optional_block_of (block_under revision self.now) }
+    pub(crate) fn optional_block(&self) -> AcpiResult<Option<GenericAddress>>
+        ensures { result ≡ optional_block_of self.now }
     {
-        if self.usable_extended(revision).is_none() && self.address == 0 {
+        if self.usable_extended().is_none() && self.address == 0 {
             return Ok(None);
         }
-        Ok(Some(self.block(revision)?))
+        Ok(Some(self.block()?))
     }
 
     /// The same for the timer, which a machine has only where the length is 4.
     ///
     /// Refuses as `block` does.
-    pub(crate) fn timer_block(&self, revision: u8) -> AcpiResult<Option<GenericAddress>>
-        ensures { result ≡ timer_block_of (block_under revision self.now) }
+    pub(crate) fn timer_block(&self) -> AcpiResult<Option<GenericAddress>>
+        ensures { result ≡ timer_block_of self.now }
     {
         if self.size != 4 {
             return Ok(None);
         }
-        self.optional_block(revision)
+        self.optional_block()
+    }
+}
+
+/// Where the registers lie.
+#[derive(Clone, Copy, Debug)]
+pub(crate) struct Registers {
+    pub(crate) pm1a_event: RegisterBlock,
+    pub(crate) pm1b_event: RegisterBlock,
+    pub(crate) pm1a_control: RegisterBlock,
+    pub(crate) pm1b_control: RegisterBlock,
+    pub(crate) pm2_control: RegisterBlock,
+    pub(crate) pm_timer: RegisterBlock,
+    pub(crate) gpe0: RegisterBlock,
+    pub(crate) gpe1: RegisterBlock,
+    pub(crate) reset: RawAddress,
+    pub(crate) sleep_control: Option<RawAddress>,
+    pub(crate) sleep_status: Option<RawAddress>,
+}
+
+impl Registers {
+    ghost use Rattle.acpi_fixed.specs.Registers.{registers_at};
+
+    /// The registers that a table says: each block by the offsets of its address, of its length and
+    /// of its extended field.
+    pub(crate) fn read(bytes: &[u8]) -> Registers
+        ensures { result ≡ registers_at bytes.now }
+    {
+        Registers {
+            pm1a_event: RegisterBlock::read(bytes, 56, 88, 148),
+            pm1b_event: RegisterBlock::read(bytes, 60, 88, 160),
+            pm1a_control: RegisterBlock::read(bytes, 64, 89, 172),
+            pm1b_control: RegisterBlock::read(bytes, 68, 89, 184),
+            pm2_control: RegisterBlock::read(bytes, 72, 90, 196),
+            pm_timer: RegisterBlock::read(bytes, 76, 91, 208),
+            gpe0: RegisterBlock::read(bytes, 80, 92, 220),
+            gpe1: RegisterBlock::read(bytes, 84, 93, 232),
+            reset: filled(bytes, 116),
+            sleep_control: extended_address(bytes, 244),
+            sleep_status: extended_address(bytes, 256),
+        }
     }
 }
