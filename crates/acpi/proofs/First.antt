@@ -7,15 +7,19 @@ use Rattle.acpi_base.specs.Table.{Kind, table_at}
 use Rattle.acpi_base.specs.declared.error.AcpiError.{AcpiError}
 use Rattle.acpi_base.specs.declared.error.AcpiError.TheVariants.{TableMissing}
 use Rattle.acpi.specs.Laws.{LookupIsFirst}
-use Rattle.acpi.specs.Lookup.{IsFirstValid, NoneValid, lookup, or_later}
+use Rattle.acpi.specs.Later.{or_later}
+use Rattle.acpi.specs.Lookup.{IsFirstValid, NoneValid, lookup}
 
 abbrev done : ℕ × List ℕ → Result (ℕ × List ℕ) AcpiError
 done x = Ok x
 
+abbrev pub here : ℕ → List ℕ → Result (ℕ × List ℕ) AcpiError
+here p table = Ok (p, table)
+
 same_ok : (x y : ℕ × List ℕ) → done x ≡ done y → x ≡ y
 same_ok x y e = cc
 
-found_here : (m : Memory) (k : Kind) (p q : ℕ) (ps table found : List ℕ) → table_at m k p ≡ Ok table → or_later p (Ok table) (lookup m k ps) ≡ Ok (q, found) → IsFirstValid m k (p ∷ ps) q found
+found_here : (m : Memory) (k : Kind) (p q : ℕ) (ps table found : List ℕ) → table_at m k p ≡ Ok table → here p table ≡ Ok (q, found) → IsFirstValid m k (p ∷ ps) q found
 found_here m k p q ps table found valid e =
     let both : (p, table) ≡ (q, found) = same_ok (p, table) (q, found) e in
     let place : p ≡ q = ap (λ (x : ℕ × List ℕ). x.0) both in
@@ -31,7 +35,7 @@ found_later m k p q ps found e refused f = record {
   valid = f.valid;
 }
 
-cases_found : (m : Memory) (k : Kind) (p q : ℕ) (ps found : List ℕ) (r : Result (List ℕ) AcpiError) → table_at m k p ≡ r → or_later p r (lookup m k ps) ≡ Ok (q, found) → (lookup m k ps ≡ Ok (q, found) → IsFirstValid m k ps q found) → IsFirstValid m k (p ∷ ps) q found
+cases_found : (m : Memory) (k : Kind) (p q : ℕ) (ps found : List ℕ) (r : Result (List ℕ) AcpiError) → table_at m k p ≡ r → or_later (here p) r (lookup m k ps) ≡ Ok (q, found) → (lookup m k ps ≡ Ok (q, found) → IsFirstValid m k ps q found) → IsFirstValid m k (p ∷ ps) q found
 cases_found m k p q ps found (Ok table) here e more = found_here m k p q ps table found here e
 cases_found m k p q ps found (Err refusal) here e more = found_later m k p q ps found refusal here (more e)
 
@@ -39,14 +43,14 @@ pub is_first : (m : Memory) (k : Kind) (ps : List ℕ) (q : ℕ) (found : List �
 is_first m k [] q found e = absurd cc
 is_first m k (p ∷ ps) q found e = cases_found m k p q ps found (table_at m k p) refl e (is_first m k ps q found)
 
-pub passed : (m : Memory) (k : Kind) (p : ℕ) (later : Result (ℕ × List ℕ) AcpiError) (r : Result (List ℕ) AcpiError) → IsErr r → or_later p r later ≡ later
-passed m k p later (Ok table) h = absurd cc
-passed m k p later (Err e) h = refl
+pub passed : {A B E : Type 0} (found : A → B) (r : Result A E) (later : B) → IsErr r → or_later found r later ≡ later
+passed found (Ok table) later h = absurd cc
+passed found (Err e) later h = refl
 
 looked_up : (m : Memory) (k : Kind) (before after : List ℕ) (q : ℕ) (found : List ℕ) → NoneValid m k before → table_at m k q ≡ Ok found → lookup m k (before ++ q ∷ after) ≡ Ok (q, found)
 looked_up m k [] after q found none valid = rw valid refl
 looked_up m k (p ∷ before) after q found none valid =
-    passed m k p (lookup m k (before ++ q ∷ after)) (table_at m k p) none.0 ∙ looked_up m k before after q found none.1 valid
+    passed (here p) (table_at m k p) (lookup m k (before ++ q ∷ after)) none.0 ∙ looked_up m k before after q found none.1 valid
 
 pub lookup_is_first : LookupIsFirst
 lookup_is_first m k ps p table =
@@ -54,7 +58,7 @@ lookup_is_first m k ps p table =
 
 -- ---- where none is found
 
-cases_missing : (m : Memory) (k : Kind) (p : ℕ) (ps : List ℕ) (e : AcpiError) (r : Result (List ℕ) AcpiError) → table_at m k p ≡ r → or_later p r (lookup m k ps) ≡ Err e → (lookup m k ps ≡ Err e → (e ≡ TableMissing k.signature) × NoneValid m k ps) → (e ≡ TableMissing k.signature) × NoneValid m k (p ∷ ps)
+cases_missing : (m : Memory) (k : Kind) (p : ℕ) (ps : List ℕ) (e : AcpiError) (r : Result (List ℕ) AcpiError) → table_at m k p ≡ r → or_later (here p) r (lookup m k ps) ≡ Err e → (lookup m k ps ≡ Err e → (e ≡ TableMissing k.signature) × NoneValid m k ps) → (e ≡ TableMissing k.signature) × NoneValid m k (p ∷ ps)
 cases_missing m k p ps e (Ok table) here said more = absurd cc
 cases_missing m k p ps e (Err refusal) here said more =
     let later = more said in

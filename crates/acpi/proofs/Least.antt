@@ -6,8 +6,10 @@ use Rattle.acpi_base.specs.Bytes.{field_of}
 use Rattle.acpi_base.specs.Memory.{Memory, at}
 use Rattle.acpi_base.specs.Steps.{◌>>=◌, Gives, value_or}
 use Rattle.acpi.specs.declared.rsdp.area.Area.{Area}
+use Rattle.acpi.proofs.Walk.{there}
+use Rattle.acpi.specs.Later.{or_later}
 use Rattle.acpi.specs.Rsdp.{rsdp_at}
-use Rattle.acpi.specs.Search.{first_area, second_area, room_of, count_of, found_in, found_rsdp, or_later, or_else, walk, word_in, IsRefused, IsLeast, HasNone, IsLent, IsSecond, IsSearched}
+use Rattle.acpi.specs.Search.{first_area, second_area, room_of, count_of, found_in, found_rsdp, or_else, walk, word_in, IsRefused, IsLeast, HasNone, IsLent, IsSecond, IsSearched}
 
 -- what n candidates from an address on have
 abbrev Says : Memory → ℕ → ℕ → Option (ℕ × List ℕ) → Type 0
@@ -27,7 +29,7 @@ one_more m n a (Some found) first h =
     (suc h.0, omega (arith, h.1), h.2 ∙ omega arith, h.3, refused_more m a h.0 first h.4)
 one_more m n a None first h = refused_more m a n first h
 
-walk_one : (m : Memory) (n a : ℕ) (r : Result (List ℕ) AcpiError) (later : Option (ℕ × List ℕ)) → rsdp_at m a ≡ r → Says m n (a + 16) later → Says m (suc n) a (or_later a r later)
+walk_one : (m : Memory) (n a : ℕ) (r : Result (List ℕ) AcpiError) (later : Option (ℕ × List ℕ)) → rsdp_at m a ≡ r → Says m n (a + 16) later → Says m (suc n) a (or_later (there a) r later)
 walk_one m n a (Ok b) later e h =
     (0, omega arith, omega arith, e, λ i less. absurd (omega (arith, less)))
 walk_one m n a (Err x) later e h = one_more m n a later (x, e) h

@@ -7,16 +7,17 @@ use Rattle.acpi_base.specs.Steps.{Gives}
 use Rattle.acpi_base.specs.Table.{Kind, table_at}
 use Rattle.acpi_base.specs.declared.error.AcpiError.{AcpiError}
 use Rattle.acpi_base.specs.declared.error.AcpiError.TheVariants as refusal
-use Rattle.acpi.proofs.First.{passed}
+use Rattle.acpi.proofs.First.{here, passed}
 use Rattle.acpi.specs.Laws.{SkipsInvalid}
 use Rattle.acpi.specs.Lists.{faults_of, unless_valid, with_fault}
-use Rattle.acpi.specs.Lookup.{lookup, or_later}
+use Rattle.acpi.specs.Later.{or_later}
+use Rattle.acpi.specs.Lookup.{lookup}
 use Rattle.acpi.specs.Root.{pieces, pointers}
 use Rattle.acpi.specs.declared.records.TableFault.{TableFault}
 
 pub skips_invalid : SkipsInvalid
-skips_invalid m k p [] after h = passed m k p (lookup m k after) (table_at m k p) h
-skips_invalid m k p (q ∷ before) after h = ap (or_later q (table_at m k q)) (skips_invalid m k p before after h)
+skips_invalid m k p [] after h = passed (here p) (table_at m k p) (lookup m k after) h
+skips_invalid m k p (q ∷ before) after h = ap (or_later (here q) (table_at m k q)) (skips_invalid m k p before after h)
 
 pub gives_skipping : {X : Type 0} (m : Memory) (k : Kind) (ps : List ℕ) (view : X → ℕ × List ℕ) (r : Result X AcpiError) → Gives view r (lookup m k ps) → (before after : List ℕ) (p : ℕ) → ps ≡ before ++ after → IsErr (table_at m k p) → Gives view r (lookup m k (before ++ p ∷ after))
 gives_skipping m k ps view r said before after p listed h = rw (skips_invalid m k p before after h, ← listed) said

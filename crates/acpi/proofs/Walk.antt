@@ -6,17 +6,21 @@ use Rattle.acpi_base.specs.Memory.{Memory, IsMemory}
 use Rattle.acpi_base.specs.Steps.{lent}
 use Rattle.acpi_base.specs.declared.error.AcpiError.{AcpiError}
 use Rattle.acpi.specs.Rsdp.{rsd_ptr, rsdp_at}
-use Rattle.acpi.specs.Search.{or_later, walk}
+use Rattle.acpi.specs.Later.{or_later}
+use Rattle.acpi.specs.Search.{walk}
 use Rattle.acpi.proofs.Within.{unsigned_refused}
 
-walk_step : (m : Memory) (n a : ℕ) → 0 < n → walk m n a ≡ or_later a (rsdp_at m a) (walk m (n - 1) (a + 16))
+abbrev pub there : ℕ → List ℕ → Option (ℕ × List ℕ)
+there a b = Some (a, b)
+
+walk_step : (m : Memory) (n a : ℕ) → 0 < n → walk m n a ≡ or_later (there a) (rsdp_at m a) (walk m (n - 1) (a + 16))
 walk_step m zero a some = absurd (omega arith)
 walk_step m (suc n) a some =
     let less : suc n - 1 ≡ n = omega arith in
     rw less refl
 
 module _ (m : Memory) (n k start : ℕ) (all : Option (ℕ × List ℕ)) (so_far : walk m (n - k) (start + 16 * k) ≡ all) (turn : k < n) where
-  turned : or_later (start + 16 * k) (rsdp_at m (start + 16 * k)) (walk m (n - (k + 1)) (start + 16 * (k + 1))) ≡ all
+  turned : or_later (there (start + 16 * k)) (rsdp_at m (start + 16 * k)) (walk m (n - (k + 1)) (start + 16 * (k + 1))) ≡ all
   turned =
       let less : n - k - 1 ≡ n - (k + 1) = omega arith in
       let next : start + 16 * k + 16 ≡ start + 16 * (k + 1) = omega arith in

@@ -1,3 +1,4 @@
+pub mod Later
 pub mod Laws
 pub mod Lists
 pub mod Lookup

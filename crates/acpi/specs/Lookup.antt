@@ -5,16 +5,12 @@ use Rattle.acpi_base.specs.declared.error.AcpiError.{AcpiError}
 use Rattle.acpi_base.specs.declared.error.AcpiError.TheVariants.{TableMissing}
 use Rattle.acpi_base.specs.Memory.{Memory}
 use Rattle.acpi_base.specs.Table.{Kind, table_at}
-
--- the table at p where it is valid, else what comes later
-abbrev pub or_later : ℕ → Result (List ℕ) AcpiError → Result (ℕ × List ℕ) AcpiError → Result (ℕ × List ℕ) AcpiError
-or_later p (Ok table) later = Ok (p, table)
-or_later p (Err e) later = later
+use Rattle.acpi.specs.Later.{or_later}
 
 -- the first pointer to a valid table, with that table's bytes
 abbrev pub lookup : Memory → Kind → List ℕ → Result (ℕ × List ℕ) AcpiError
 lookup m k [] = Err (TableMissing k.signature)
-lookup m k (p ∷ ps) = or_later p (table_at m k p) (lookup m k ps)
+lookup m k (p ∷ ps) = or_later (λ table. Ok (p, table)) (table_at m k p) (lookup m k ps)
 
 -- none of these pointers leads to a valid table
 abbrev pub NoneValid : Memory → Kind → List ℕ → Type 0
@@ -22,7 +18,8 @@ NoneValid m k ps = AllByRecursion (λ p. IsErr (table_at m k p)) ps
 
 -- the same in the reader's words: the list is some pointers, then this one, then others; the table
 -- there is valid, and none before it is
-pub record IsFirstValid (m : Memory) (k : Kind) (ps : List ℕ) (p : ℕ) (table : List ℕ) : Type 0 where
+pub record IsFirstValid (m : Memory) (k : Kind) (ps : List ℕ) (p : ℕ) (table : List ℕ)
+    : Type 0 where
   pub before : List ℕ
   pub after : List ℕ
   pub listed : ps ≡ before ++ p ∷ after

@@ -3,36 +3,48 @@ use Rattle.std.specs.Prelude.{ℕ, List, Result, Ok}
 use Rattle.acpi_base.specs.declared.error.AcpiError.{AcpiError}
 use Rattle.acpi_base.specs.Memory.{Memory}
 use Rattle.acpi_base.specs.Steps.{◌>>=◌}
-use Rattle.acpi.specs.Root.{root_at}
+use Rattle.acpi.specs.Root.{root_at, root_of_revision}
 use Rattle.acpi.specs.Rsdp.{root_of_rsdp, rsdp_at}
 use Rattle.acpi.specs.Search.{found_rsdp}
-use Rattle.acpi.specs.Tables.{revision_of, root_address_of, root_of}
+use Rattle.acpi.specs.Tables.{kind_of, revision_of, root_address_of, root_of}
+use Rattle.acpi.specs.declared.root.RootKind.{RootKind}
+use Rattle.acpi.specs.declared.root.RootPlace.{RootPlace}
 use Rattle.acpi.specs.declared.tables.AcpiTables.{AcpiTables}
 
--- a revision, and where the root table lies that was opened under it, with its bytes
+-- what tables were opened with: the revision of what named the root table, and that table's kind,
+-- address and bytes
 pub record Opened : Type 0 where
   pub revision : ℕ
+  pub kind : RootKind
   pub address : ℕ
   pub root : List ℕ
 
--- what tables were opened with
 abbrev pub opened_of : {H h : _} → AcpiTables H h → Opened
-opened_of t = record { revision = revision_of t; address = root_address_of t; root = root_of t }
+opened_of t = record {
+  revision = revision_of t;
+  kind = kind_of t;
+  address = root_address_of t;
+  root = root_of t;
+}
+
+-- by what leads to the root table
+abbrev pub opened_from : Memory → RootPlace → Result Opened AcpiError
+opened_from m place = do
+  root ← root_at m place.kind place.address
+  Ok (record { revision = place.revision; kind = place.kind; address = place.address; root = root })
 
 -- by a revision and the address of the root table
 abbrev pub opened_at : Memory → ℕ × ℕ → Result Opened AcpiError
-opened_at m place = do
-  root ← root_at m place.0 place.1
-  Ok (record { revision = place.0; address = place.1; root = root })
+opened_at m given = opened_from m (root_of_revision given.0 given.1)
 
 -- by the RSDP at an address
 abbrev pub opened_by_rsdp : Memory → ℕ → Result Opened AcpiError
 opened_by_rsdp m a = do
   rsdp ← rsdp_at m a
-  opened_at m (root_of_rsdp rsdp)
+  opened_from m (root_of_rsdp rsdp)
 
 -- by the RSDP that the search of the BIOS areas finds
 abbrev pub opened_by_search : Memory → Result Opened AcpiError
 opened_by_search m = do
   found ← found_rsdp m
-  opened_at m (root_of_rsdp found.1)
+  opened_from m (root_of_rsdp found.1)

@@ -1,23 +1,49 @@
 -- The root table and its pointers (ACPI 6.4, sections 5.2.7 and 5.2.8).
-use Rattle.std.specs.Prelude.{◌≡◌, ℕ, ◌<◌, ◌^◌, ◌==◌, zero, suc, List, [], ◌∷◌, ◌++◌, take, drop, length, flat_map, replicate, if◌then◌else◌, Option, Some, None, Result, Ok, Err}
+use Rattle.std.specs.Prelude.{◌≡◌, ℕ, ◌<◌, ◌^◌, ◌==◌, zero, suc, if◌then◌else◌, Result}
+use Rattle.std.specs.Prelude.{List, [], ◌∷◌, ◌++◌, take, drop, length, flat_map, replicate}
 use Rattle.std.specs.List.{AllByRecursion}
 use Rattle.acpi_base.specs.declared.error.AcpiError.{AcpiError}
+use Rattle.acpi_base.specs.declared.signature.Signature.{Signature}
 use Rattle.acpi_base.specs.declared.signature.TheConstants.Signature.{RSDT, XSDT}
 use Rattle.acpi_base.specs.Bytes.{number, spelling}
 use Rattle.acpi_base.specs.Memory.{Memory}
 use Rattle.acpi_base.specs.Table.{Kind, plain_kind, table_at}
+use Rattle.acpi.specs.declared.root.RootKind.{RootKind}
+use Rattle.acpi.specs.declared.root.RootKind.TheVariants.{Rsdt, Xsdt}
+use Rattle.acpi.specs.declared.root.RootPlace.{RootPlace}
 
--- the root table that a revision asks for: the RSDT for 0, else the XSDT
-abbrev pub root_kind : ℕ → Kind
-root_kind revision = if revision == 0 then plain_kind RSDT else plain_kind XSDT
+-- the signature of a root table of this kind
+abbrev pub signature_of : RootKind → Signature
+signature_of Rsdt = RSDT
+signature_of Xsdt = XSDT
 
 -- how many bytes each of its pointers has
-abbrev pub width_of : ℕ → ℕ
-width_of revision = if revision == 0 then 4 else 8
+abbrev pub width_of : RootKind → ℕ
+width_of Rsdt = 4
+width_of Xsdt = 8
 
--- the root table at an address, or the first refusal
-abbrev pub root_at : Memory → ℕ → ℕ → Result (List ℕ) AcpiError
-root_at m revision address = table_at m (root_kind revision) address
+-- a root table of this kind as a table
+abbrev pub root_kind : RootKind → Kind
+root_kind kind = plain_kind (signature_of kind)
+
+-- the root table of this kind at an address, or the first refusal
+abbrev pub root_at : Memory → RootKind → ℕ → Result (List ℕ) AcpiError
+root_at m kind address = table_at m (root_kind kind) address
+
+-- ---- what leads to a root table
+
+abbrev pub place : ℕ → RootKind → ℕ → RootPlace
+place revision kind address = record { revision = revision; kind = kind; address = address }
+
+-- the kind that a revision stands for: the RSDT for 0, else the XSDT
+abbrev pub kind_of_revision : ℕ → RootKind
+kind_of_revision revision = if revision == 0 then Rsdt else Xsdt
+
+-- a root table at an address that goes by a revision
+abbrev pub root_of_revision : ℕ → ℕ → RootPlace
+root_of_revision revision address = place revision (kind_of_revision revision) address
+
+-- ---- its pointers
 
 -- the numbers of at most n pieces of the bytes, each of this width but for a shorter last one
 abbrev pub pieces : ℕ → ℕ → List ℕ → List ℕ
@@ -33,9 +59,5 @@ pointers width bytes = pieces (length bytes) width bytes
 -- are the bytes, followed by fewer zeros than a pointer has bytes
 pub record IsPointers (width : ℕ) (bytes ps : List ℕ) : Type 0 where
   pub fit : AllByRecursion (λ p. p < 256 ^ width) ps
-  pub spelled : (zeros : ℕ) × (zeros < width) × (flat_map (spelling width) ps ≡ bytes ++ replicate zeros 0)
-
--- the value of an Ok
-abbrev pub ok_of : {A E : Type 0} → Result A E → Option A
-ok_of (Ok x) = Some x
-ok_of (Err e) = None
+  pub spelled : (zeros : ℕ) × (zeros < width)
+      × (flat_map (spelling width) ps ≡ bytes ++ replicate zeros 0)

@@ -1,11 +1,16 @@
 -- The RSDP: its fields, its checks, and the RSDP at an address (ACPI 6.4, section 5.2.5.3).
-use Rattle.std.specs.Prelude.{ℕ, ◌==◌, List, [], ◌∷◌, take, length, nat_le, Option, Some, None, Result, Ok, if◌then◌else◌}
+use Rattle.std.specs.Prelude.{ℕ, ◌==◌, List, [], ◌∷◌, take, length, nat_le, if◌then◌else◌}
+use Rattle.std.specs.Prelude.{Option, Some, None, Result, Ok}
 use Rattle.std.specs.Str.{bytes_eq, is_utf8}
 use Rattle.acpi_base.specs.declared.error.AcpiError.{AcpiError}
-use Rattle.acpi_base.specs.declared.error.AcpiError.TheVariants.{RsdpIncorrectSignature, RsdpInvalidOemId, RsdpInvalidChecksum}
+use Rattle.acpi_base.specs.declared.error.AcpiError.TheVariants.{RsdpIncorrectSignature}
+use Rattle.acpi_base.specs.declared.error.AcpiError.TheVariants.{RsdpInvalidOemId, RsdpInvalidChecksum}
 use Rattle.acpi_base.specs.Bytes.{field_of, part, sum_of}
 use Rattle.acpi_base.specs.Memory.{Memory}
 use Rattle.acpi_base.specs.Steps.{◌>>=◌, holds, lent}
+use Rattle.acpi.specs.Root.{place}
+use Rattle.acpi.specs.declared.root.RootKind.TheVariants.{Rsdt, Xsdt}
+use Rattle.acpi.specs.declared.root.RootPlace.{RootPlace}
 use Rattle.acpi.specs.declared.rsdp.Rsdp.{Rsdp}
 
 -- the RSDP that the bytes begin with
@@ -50,13 +55,14 @@ xsdt_address_of r = unless_first r r.xsdt_address
 abbrev pub ext_checksum_of : Rsdp → Option ℕ
 ext_checksum_of r = unless_first r r.ext_checksum
 
--- where an RSDP leads, as revision and address of the root table: to the RSDT for revision 0, else
--- to the XSDT
-abbrev pub root_of : Rsdp → ℕ × ℕ
-root_of r = if r.revision == 0 then (0, r.rsdt_address) else (r.revision, r.xsdt_address)
+-- the root table that an RSDP leads to: the RSDT for revision 0, else the XSDT
+abbrev pub root_of : Rsdp → RootPlace
+root_of r =
+    if r.revision == 0 then place r.revision Rsdt r.rsdt_address
+    else place r.revision Xsdt r.xsdt_address
 
 -- the same, for the RSDP's bytes
-abbrev pub root_of_rsdp : List ℕ → ℕ × ℕ
+abbrev pub root_of_rsdp : List ℕ → RootPlace
 root_of_rsdp b = root_of (rsdp_of b)
 
 -- ---- the checks

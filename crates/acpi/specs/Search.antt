@@ -1,5 +1,6 @@
 -- The search for the RSDP on systems that boot by a BIOS (ACPI 6.4, section 5.2.5.1).
-use Rattle.std.specs.Prelude.{◌≡◌, ◌⊎◌, ℕ, zero, suc, ◌+◌, ◌-◌, ◌*◌, ◌/◌, ◌<◌, ◌≤◌, ◌&&◌, nat_le, nat_lt, List, Option, Some, None, Result, Ok, Err, if◌then◌else◌}
+use Rattle.std.specs.Prelude.{◌≡◌, ◌⊎◌, ℕ, zero, suc, ◌+◌, ◌-◌, ◌*◌, ◌/◌, ◌<◌, ◌≤◌, ◌&&◌, nat_le, nat_lt}
+use Rattle.std.specs.Prelude.{List, Option, Some, None, Result, Ok, Err, if◌then◌else◌}
 use Rattle.acpi_base.specs.declared.error.AcpiError.{AcpiError}
 use Rattle.acpi_base.specs.declared.error.AcpiError.TheVariants.{MapFailed, NoValidRsdp}
 use Rattle.acpi_base.specs.declared.mapping.PhysicalMapping.{PhysicalMapping}
@@ -8,6 +9,7 @@ use Rattle.acpi_base.specs.Mapping.{start_of, bytes_of}
 use Rattle.acpi_base.specs.Memory.{Memory, at}
 use Rattle.acpi_base.specs.Steps.{◌>>=◌, lent}
 use Rattle.acpi.specs.declared.rsdp.area.Area.{Area}
+use Rattle.acpi.specs.Later.{or_later}
 use Rattle.acpi.specs.Rsdp.{rsdp_at}
 
 -- the addresses from start to below end
@@ -18,11 +20,13 @@ area start end = record { start = start; end = end }
 abbrev pub first_area : Area
 first_area = area 0xe0000 0x100000
 
--- the first KiB of the extended BIOS data area, which begins at 16 times the word; where it can't be
--- there, all of the memory that it may lie in
+-- the first KiB of the extended BIOS data area, which begins at 16 times the word; where it can't
+-- be there, all of the memory that it may lie in
 abbrev pub second_area : ℕ → Area
 second_area word =
-    if nat_le 0x80000 (16 * word) && nat_lt (16 * word) 0x9ffff then area (16 * word) (16 * word + 1024) else area 0x80000 0xa0000
+    let start = 16 * word in
+    if nat_le 0x80000 start && nat_lt start 0x9ffff then area start (start + 1024)
+    else area 0x80000 0xa0000
 
 -- ---- what a search finds
 
@@ -65,7 +69,8 @@ IsSecond m s = (b : List ℕ) × (at m 0x40e 2 ≡ Some b) × (s ≡ second_area
 -- the least valid candidate of the first area, or where that has none, of the second
 abbrev pub IsFound : Memory → ℕ × List ℕ → Type 0
 IsFound m found =
-    (s : Area) × IsSecond m s × (IsLeast m first_area found ⊎ (HasNone m first_area × IsLeast m s found))
+    (s : Area) × IsSecond m s
+    × (IsLeast m first_area found ⊎ (HasNone m first_area × IsLeast m s found))
 
 -- no area has a valid candidate
 abbrev pub IsMissing : Memory → Type 0
@@ -89,15 +94,10 @@ IsSearched m view (Err e) = ((e ≡ MapFailed) × IsUnlent m) ⊎ ((e ≡ NoVali
 abbrev pub count_of : Area → ℕ
 count_of s = (s.end - s.start - 4) / 16
 
--- the candidate at an address, or what comes later where that is refused
-abbrev pub or_later : ℕ → Result (List ℕ) AcpiError → Option (ℕ × List ℕ) → Option (ℕ × List ℕ)
-or_later a (Ok b) later = Some (a, b)
-or_later a (Err e) later = later
-
 -- the first valid of n candidates from an address on
 abbrev pub walk : Memory → ℕ → ℕ → Option (ℕ × List ℕ)
 walk m zero a = None
-walk m (suc n) a = or_later a (rsdp_at m a) (walk m n (a + 16))
+walk m (suc n) a = or_later (λ b. Some (a, b)) (rsdp_at m a) (walk m n (a + 16))
 
 -- the first valid candidate of an area, if it has one
 unfoldable pub found_in : Memory → Area → Result (Option (ℕ × List ℕ)) AcpiError
@@ -112,7 +112,7 @@ word_in m = do
   Ok (field_of b 0 2)
 
 -- what was found, or what comes later where nothing was
-abbrev pub or_else : Option (ℕ × List ℕ) → Result (ℕ × List ℕ) AcpiError → Result (ℕ × List ℕ) AcpiError
+abbrev pub or_else : {A E : Type 0} → Option A → Result A E → Result A E
 or_else (Some found) later = Ok found
 or_else None later = later
 

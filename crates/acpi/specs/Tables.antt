@@ -1,9 +1,10 @@
 -- What a value of `AcpiTables` shows.
-use Rattle.std.specs.Prelude.{ℕ, List, drop}
+use Rattle.std.specs.Prelude.{◌≡◌, ◌↔◌, ℕ, List, drop}
 use Rattle.acpi_base.specs.Mapping as mapping
 use Rattle.acpi_base.specs.Memory.{Memory}
+use Rattle.acpi.specs.Root.{IsPointers, pointers, width_of}
+use Rattle.acpi.specs.declared.root.RootKind.{RootKind}
 use Rattle.acpi.specs.declared.tables.AcpiTables.{AcpiTables}
-use Rattle.acpi.specs.Root.{pointers, width_of}
 
 -- the handler that lends the tables
 abbrev pub lender_of : {H h : _} → AcpiTables H h → H
@@ -16,6 +17,9 @@ memory_of {h = h} t = h.memory (lender_of t)
 abbrev pub revision_of : {H h : _} → AcpiTables H h → ℕ
 revision_of t = t.revision
 
+abbrev pub kind_of : {H h : _} → AcpiTables H h → RootKind
+kind_of t = t.kind
+
 -- where the root table starts
 abbrev pub root_address_of : {H h : _} → AcpiTables H h → ℕ
 root_address_of t = mapping.start_of t.root
@@ -26,4 +30,10 @@ root_of t = mapping.bytes_of t.root
 
 -- the pointers that the root table lists
 abbrev pub pointers_of : {H h : _} → AcpiTables H h → List ℕ
-pointers_of t = pointers (width_of (revision_of t)) (drop 36 (root_of t))
+pointers_of t = pointers (width_of (kind_of t)) (drop 36 (root_of t))
+
+-- in the reader's words: the bytes behind the root table's header spell these pointers and no
+-- others
+abbrev pub SpellsPointers : {H h : _} → AcpiTables H h → Type 0
+SpellsPointers t = (ps : List ℕ)
+    → IsPointers (width_of (kind_of t)) (drop 36 (root_of t)) ps ↔ (ps ≡ pointers_of t)

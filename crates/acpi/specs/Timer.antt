@@ -1,6 +1,7 @@
 -- The power management timer (ACPI 6.4, section 4.8.3.3).
 use Rattle.std.specs.Prelude.{ℕ, ◌/◌, ◌%◌, ◌^◌, ◌==◌, Bool, Option, Result, Ok}
 use Rattle.std.specs.Option.{option_map}
+use Rattle.acpi_base.specs.declared.address.GenericAddress.{GenericAddress}
 use Rattle.acpi_base.specs.declared.error.AcpiError.{AcpiError}
 use Rattle.acpi_base.specs.Steps.{◌>>=◌}
 use Rattle.acpi_fixed.specs.Fadt.{pm_timer_of}
@@ -13,8 +14,12 @@ use Rattle.acpi.specs.declared.platform.PmTimer.{PmTimer}
 abbrev pub bit_of : ℕ → ℕ → Bool
 bit_of n k = n / 2 ^ k % 2 == 1
 
--- the timer's block, if the table has one, and bit 8 of its flags
+-- the timer of a block, with bit 8 of the flags
+abbrev pub timer_at : Fadt → GenericAddress → PmTimer
+timer_at f base = record { base = base; supports_32bit = bit_of (feature_bits f.flags) 8 }
+
+-- the timer, if the table has its block
 abbrev pub timer_of : Fadt → Result (Option PmTimer) AcpiError
 timer_of f = do
   block ← timer_block_of (pm_timer_of f)
-  Ok (option_map (λ base. record { base = base; supports_32bit = bit_of (feature_bits f.flags) 8 }) block)
+  Ok (option_map (timer_at f) block)

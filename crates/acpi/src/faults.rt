@@ -24,7 +24,8 @@ impl<'t, 'h, H: AcpiHandler, T: AcpiTable> TableFaults<'t, 'h, H, T> {
 
     pub(crate) fn new(handler: &'h H, pointers: Pointers<'t>) -> Self
         ensures { let k = kind T.SIGNATURE T.MIN_LENGTH T.verdict in
-            faults_left H.memory k result ≡ faults_of (H.memory handler.now) k (pointers_left pointers.entry) }
+            faults_left H.memory k result
+            ≡ faults_of (H.memory handler.now) k (pointers_left pointers.entry) }
     {
         TableFaults {
             handler,
@@ -41,9 +42,11 @@ impl<H: AcpiHandler, T: AcpiTable> Iterator for TableFaults<'_, '_, H, T> {
 
     type Item = TableFault;
 
-    ghost next_gives = { YieldsFirst (faults_left H.memory (kind T.SIGNATURE T.MIN_LENGTH T.verdict)) };
+    ghost next_gives = { let k = kind T.SIGNATURE T.MIN_LENGTH T.verdict in
+        YieldsFirst (faults_left H.memory k) };
 
-    ghost remaining = { item_count (faults_left H.memory (kind T.SIGNATURE T.MIN_LENGTH T.verdict)) };
+    ghost remaining = { let k = kind T.SIGNATURE T.MIN_LENGTH T.verdict in
+        item_count (faults_left H.memory k) };
 
     fn next(&mut self) -> Option<TableFault> {
         while let Some(address) = self.pointers.next() {

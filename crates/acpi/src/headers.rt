@@ -18,7 +18,8 @@ impl<'t, 'h, H: AcpiHandler> SdtHeaderIterator<'t, 'h, H> {
     ghost use Rattle.acpi.specs.Walks.{headers_left};
 
     pub(crate) fn new(handler: &'h H, pointers: Pointers<'t>) -> Self
-        ensures { headers_left H.memory result ≡ valid_headers (H.memory handler.now) (pointers_left pointers.entry) }
+        ensures { headers_left H.memory result
+            ≡ valid_headers (H.memory handler.now) (pointers_left pointers.entry) }
     {
         SdtHeaderIterator { handler, pointers }
     }

@@ -11,6 +11,7 @@ pub mod laws;
 pub mod platform;
 mod pointers;
 mod records;
+mod root;
 pub mod rsdp;
 mod ssdts;
 mod tables;

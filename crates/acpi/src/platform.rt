@@ -5,11 +5,12 @@ use acpi_base::AcpiResult;
 use acpi_base::address::GenericAddress;
 use acpi_fixed::fadt::Fadt;
 
-/// The power management timer (section 4.8.3.3): where its register lies, and whether it counts in
-/// 32 bits or in 24.
+/// The power management timer (section 4.8.3.3).
 #[derive(Clone, Copy, Debug, PartialEq, Eq)]
 pub struct PmTimer {
+    /// Where its register lies.
     pub base: GenericAddress,
+    /// Whether it counts in 32 bits, or else in 24.
     pub supports_32bit: bool,
 }
 

@@ -6,26 +6,32 @@ ghost use Rattle.acpi.specs.Lists.{stream_of};
 use acpi_base::sdt::SdtHeader;
 use acpi_base::{AcpiError, AcpiHandler, PhysicalMapping, PhysicalRecord};
 
-/// A stream of AML, as it stands behind a table's header: its physical address, and its length in
-/// bytes.
+/// A stream of AML, as it stands behind a table's header.
 #[derive(Clone, Copy, Debug, PartialEq, Eq)]
 pub struct AmlTable {
+    /// The physical address of its first byte.
     pub address: u64,
+    /// How many bytes it has.
     pub length: u32,
 }
 
-/// A listed table that is refused: its physical address, and why.
+/// A listed table that is refused.
 #[derive(Clone, Copy, Debug, PartialEq, Eq)]
 pub struct TableFault {
+    /// The physical address that is listed.
     pub address: u64,
+    /// Why the table there is refused.
     pub error: AcpiError,
 }
 
-/// Where a table lies, how many bytes it has, and whether it was found valid. No call makes one.
+/// What is known of a table. No call makes one.
 #[derive(Clone, Copy, Debug, PartialEq, Eq)]
 pub struct Sdt {
+    /// The physical address of its first byte.
     pub physical_address: u64,
+    /// How many bytes it has with its header.
     pub length: u32,
+    /// Whether it was found valid.
     pub validated: bool,
 }
 

@@ -1,18 +1,21 @@
 //! The Root System Description Pointer (RSDP), which leads to the root table.
-ghost use Rattle.std.specs.Prelude.{◌≡◌, ◌≤◌, IfOk};
+ghost use Rattle.std.specs.Prelude.{◌≡◌, ◌<◌, IfOk};
 ghost use Rattle.acpi_base.specs.Mapping.{start_of, bytes_of, handler_of};
 ghost use Rattle.acpi_base.specs.Steps.{Gives};
 ghost use Rattle.acpi.specs.Rsdp.{check_sum, check_whole_at, rsdp_at};
 
 mod area;
 mod search;
+mod span;
 
+use self::span::Span;
+use crate::root::{RootKind, RootPlace};
 use acpi_base::bytes::{byte_sum, field, text_of};
 use acpi_base::{AcpiError, AcpiHandler, AcpiResult, PhysicalMapping, PhysicalRecord};
 
 /// The RSDP's 36 bytes (section 5.2.5.3). Revision 0 has only the first 20 of them: the fields
 /// behind mean nothing there.
-#[derive(Clone, Copy)]
+#[derive(Clone, Copy, Debug)]
 pub struct Rsdp {
     signature: [u8; 8],
     checksum: u8,
@@ -55,7 +58,10 @@ impl PhysicalRecord for Rsdp {
 impl Rsdp {
     ghost use Rattle.std.specs.Prelude.{◌≡◌, ◌≤◌, length, IfOk, IfSome, IsUtf8, MatchOption};
     ghost use Rattle.acpi_base.specs.Steps.{Gives};
-    ghost use Rattle.acpi.specs.Rsdp.{rsdp_of, signature_of, checksum_of, oem_id_of, revision_of, rsdt_address_of, extended_length_of, xsdt_address_of, ext_checksum_of, root_of, unless_first, check_first, length_of, check_rsdp};
+    ghost use Rattle.acpi.specs.Rsdp.{signature_of, checksum_of, oem_id_of, revision_of};
+    ghost use Rattle.acpi.specs.Rsdp.{rsdt_address_of, xsdt_address_of, extended_length_of};
+    ghost use Rattle.acpi.specs.Rsdp.{ext_checksum_of, unless_first, rsdp_of, root_of};
+    ghost use Rattle.acpi.specs.Rsdp.{check_first, length_of, check_rsdp};
 
     /// `RSD PTR ` where the RSDP is valid.
     pub fn signature(&self) -> [u8; 8]
@@ -73,7 +79,8 @@ impl Rsdp {
 
     /// The OEM's name, or `None` where it is no UTF-8.
     pub fn oem_id(&self) -> Option<&str>
-        ensures { MatchOption result (¬ (IsUtf8 (oem_id_of self.now))) (λ text. (text.now ≡ oem_id_of self.now) × IsUtf8 (oem_id_of self.now)) }
+        ensures { MatchOption result (¬ (IsUtf8 (oem_id_of self.now)))
+            (λ text. (text.now ≡ oem_id_of self.now) × IsUtf8 (oem_id_of self.now)) }
     {
         text_of(&self.oem_id)
     }
@@ -124,14 +131,18 @@ impl Rsdp {
         }
     }
 
-    /// Where a valid RSDP leads: the revision of the root table and its physical address. For
-    /// revision 0 that is the RSDT, else the XSDT.
-    pub(crate) fn root(&self) -> (u8, u64)
+    /// The root table that this leads to where it is valid: the RSDT for revision 0, else the XSDT.
+    pub(crate) fn root(&self) -> RootPlace
         ensures { result ≡ root_of self.now }
     {
-        match self.xsdt_address() {
-            None => (0, self.rsdt_address as u64),
-            Some(address) => (self.revision, address),
+        let (kind, address) = match self.xsdt_address() {
+            None => (RootKind::Rsdt, self.rsdt_address as u64),
+            Some(address) => (RootKind::Xsdt, address),
+        };
+        RootPlace {
+            revision: self.revision,
+            kind,
+            address,
         }
     }
 
@@ -207,10 +218,10 @@ fn check_sum(bytes: &[u8]) -> AcpiResult<()>
 
 /// The sum over the whole of an RSDP, whose length says that it has so many bytes.
 fn check_whole<H: AcpiHandler>(handler: &H, address: u64, length: usize) -> AcpiResult<()>
-    requires { 36 ≤ length }
+    requires { 0 < length }
     ensures { result ≡ check_whole_at (H.memory handler.now) address (Some length) }
 {
-    let whole = PhysicalMapping::<'_, H, Rsdp>::map(handler, address, length)?;
+    let whole = PhysicalMapping::<'_, H, Span>::map(handler, address, length)?;
     check_sum(whole.bytes())
 }
 

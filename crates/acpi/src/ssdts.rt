@@ -19,7 +19,8 @@ impl<'t, 'h, H: AcpiHandler> SsdtIterator<'t, 'h, H> {
     ghost use Rattle.acpi.specs.Walks.{ssdts_left};
 
     pub(crate) fn new(handler: &'h H, pointers: Pointers<'t>) -> Self
-        ensures { ssdts_left H.memory result ≡ ssdt_streams (H.memory handler.now) (pointers_left pointers.entry) }
+        ensures { ssdts_left H.memory result
+            ≡ ssdt_streams (H.memory handler.now) (pointers_left pointers.entry) }
     {
         SsdtIterator { handler, pointers }
     }

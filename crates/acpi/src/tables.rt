@@ -3,12 +3,14 @@ ghost use Rattle.std.specs.Prelude.{◌≡◌, ◌^◌, ◌<◌, length, Some, I
 ghost use Rattle.std.proofs.Props.{props};
 ghost use Rattle.acpi_base.specs.Mapping.{start_of, bytes_of, handler_of};
 ghost use Rattle.acpi_base.specs.Steps.{Gives};
-ghost use Rattle.acpi.specs.Root.{ok_of, root_at};
+ghost use Rattle.std.specs.Result.{result_ok};
+ghost use Rattle.acpi.specs.Root.{root_at};
 
 use crate::faults::TableFaults;
 use crate::headers::SdtHeaderIterator;
 use crate::pointers::{Pointers, skip};
 use crate::records::{AmlTable, aml_behind};
+use crate::root::{RootKind, RootPlace};
 use crate::rsdp::{Rsdp, map_rsdp};
 use crate::ssdts::SsdtIterator;
 use acpi_base::sdt::{SdtHeader, map_sdt, map_table};
@@ -21,44 +23,43 @@ use acpi_fixed::fadt::Fadt;
 #[derive(Drop)]
 pub struct AcpiTables<'h, H: AcpiHandler> {
     revision: u8,
+    kind: RootKind,
     root: PhysicalMapping<'h, H, SdtHeader>,
-    ghost valid: { ok_of (root_at (H.memory (handler_of root)) revision (start_of root)) ≡ Some (bytes_of root) } by { Prim.hlevel props },
+    ghost valid: { result_ok (root_at (H.memory (handler_of root)) kind (start_of root))
+        ≡ Some (bytes_of root) } by { Prim.hlevel props },
     ghost short: { length (bytes_of root) < 2 ^ 32 },
 }
 
-/// The root table that a revision asks for, where it is valid.
+/// The root table of a kind at an address, where it is valid.
 fn map_root<'h, H: AcpiHandler>(
     handler: &'h H,
-    revision: u8,
+    kind: RootKind,
     address: u64,
 ) -> AcpiResult<PhysicalMapping<'h, H, SdtHeader>>
     ensures place { IfOk result (λ m. start_of m ≡ address) }
     ensures handler { IfOk result (λ m. handler_of m ≡ handler.now) }
     ensures short { IfOk result (λ m. length (bytes_of m) < 2 ^ 32) }
-    ensures root { Gives (λ m. bytes_of m) result
-        (root_at (H.memory handler.now) revision address) }
+    ensures root { Gives (λ m. bytes_of m) result (root_at (H.memory handler.now) kind address) }
 {
-    let signature = if revision == 0 {
-        Signature::RSDT
-    } else {
-        Signature::XSDT
-    };
-    map_sdt(handler, address, signature)
+    map_sdt(handler, address, kind.signature())
 }
 
 impl<'h, H: AcpiHandler> AcpiTables<'h, H> {
-    ghost use Rattle.std.specs.Prelude.{◌≡◌, ◌^◌, ◌<◌, ◌↔◌, ◌≤◌, ◌∷◌, ◌++◌, ℕ, List, drop, length, IfOk, IfErr, IsErr, IsOk};
+    ghost use Rattle.std.specs.Prelude.{◌≡◌, ◌^◌, ◌<◌, ◌≤◌, ◌∷◌, ◌++◌, ℕ, List, length};
+    ghost use Rattle.std.specs.Prelude.{IfOk, IfErr, IsErr, IsOk};
     ghost use Rattle.acpi_base.specs.Steps.{Gives};
     ghost use Rattle.acpi_base.specs.Table.{kind, table_at};
     ghost use Rattle.acpi_base.specs.declared.error.AcpiError.TheVariants.{TableMissing};
     ghost use Rattle.acpi_base.specs.declared.signature.TheConstants.Signature.{DSDT};
-    ghost use Rattle.acpi.specs.Lists.{dsdt_stream, faults_of, ssdt_streams, stream_at, valid_headers};
+    ghost use Rattle.acpi.specs.Lists.{dsdt_stream, stream_at};
+    ghost use Rattle.acpi.specs.Lists.{faults_of, ssdt_streams, valid_headers};
     ghost use Rattle.acpi.specs.Lookup.{IsFirstValid, NoneValid, lookup};
-    ghost use Rattle.acpi.specs.Opened.{opened_at, opened_by_rsdp, opened_by_search, opened_of};
+    ghost use Rattle.acpi.specs.Opened.{opened_at, opened_from, opened_of};
+    ghost use Rattle.acpi.specs.Opened.{opened_by_rsdp, opened_by_search};
     ghost use Rattle.acpi.specs.Pointers.{pointers_left};
-    ghost use Rattle.acpi.specs.Root.{IsPointers, root_at, width_of};
     ghost use Rattle.acpi.specs.Rsdp.{root_of_rsdp, rsdp_at};
-    ghost use Rattle.acpi.specs.Tables.{lender_of, memory_of, pointers_of, revision_of, root_address_of, root_of};
+    ghost use Rattle.acpi.specs.Tables.{SpellsPointers, pointers_of};
+    ghost use Rattle.acpi.specs.Tables.{lender_of, memory_of, revision_of};
     ghost use Rattle.acpi.specs.Walks.{faults_left, headers_left, ssdts_left};
 
     /// The tables below the root table that the RSDP at an address leads to: the RSDT for its
@@ -72,6 +73,7 @@ impl<'h, H: AcpiHandler> AcpiTables<'h, H> {
         ensures handler { IfOk result (λ t. lender_of t ≡ handler.now) }
         ensures exact { Gives (λ t. opened_of t) result
             (opened_by_rsdp (H.memory handler.now) address) }
+        ensures pointers { IfOk result (λ t. SpellsPointers t) }
     {
         let rsdp = map_rsdp(handler, address)?;
         AcpiTables::from_root(handler, rsdp)
@@ -85,6 +87,7 @@ impl<'h, H: AcpiHandler> AcpiTables<'h, H> {
     pub fn search_for_rsdp_bios(handler: &'h H) -> AcpiResult<Self>
         ensures handler { IfOk result (λ t. lender_of t ≡ handler.now) }
         ensures exact { Gives (λ t. opened_of t) result (opened_by_search (H.memory handler.now)) }
+        ensures pointers { IfOk result (λ t. SpellsPointers t) }
     {
         let rsdp = Rsdp::search_for_on_bios(handler)?;
         AcpiTables::from_root(handler, rsdp)
@@ -104,6 +107,7 @@ impl<'h, H: AcpiHandler> AcpiTables<'h, H> {
         ensures handler { IfOk result (λ t. lender_of t ≡ handler.now) }
         ensures exact { Gives (λ t. opened_of t) result
             (opened_by_rsdp (H.memory handler.now) (start_of mapping.entry)) }
+        ensures pointers { IfOk result (λ t. SpellsPointers t) }
     {
         let address = mapping.physical_start();
         drop(mapping);
@@ -115,11 +119,12 @@ impl<'h, H: AcpiHandler> AcpiTables<'h, H> {
     fn from_root(handler: &'h H, rsdp: PhysicalMapping<'h, H, Rsdp>) -> AcpiResult<Self>
         ensures handler { IfOk result (λ t. lender_of t ≡ handler.now) }
         ensures exact { Gives (λ t. opened_of t) result
-            (opened_at (H.memory handler.now) (root_of_rsdp (bytes_of rsdp.entry))) }
+            (opened_from (H.memory handler.now) (root_of_rsdp (bytes_of rsdp.entry))) }
+        ensures pointers { IfOk result (λ t. SpellsPointers t) }
     {
-        let (revision, address) = rsdp.get().root();
+        let place = rsdp.get().root();
         drop(rsdp);
-        AcpiTables::from_rsdt(handler, revision, address)
+        AcpiTables::open(handler, place)
     }
 
     /// The tables below the root table at an address: the RSDT, with pointers of four bytes, for
@@ -132,12 +137,23 @@ impl<'h, H: AcpiHandler> AcpiTables<'h, H> {
         ensures handler { IfOk result (λ t. lender_of t ≡ handler.now) }
         ensures exact { Gives (λ t. opened_of t) result
             (opened_at (H.memory handler.now) (revision, address)) }
-        // In the reader's words: the bytes behind the root's header spell these pointers and no others.
-        ensures pointers { IfOk result (λ t. (ps : List ℕ)
-            → IsPointers (width_of revision) (drop 36 (root_of t)) ps ↔ (ps ≡ pointers_of t)) }
+        ensures pointers { IfOk result (λ t. SpellsPointers t) }
     {
-        let root = map_root(handler, revision, address)?;
-        Ok(AcpiTables { revision, root })
+        AcpiTables::open(handler, RootPlace::of_revision(revision, address))
+    }
+
+    /// The tables below a root table.
+    fn open(handler: &'h H, place: RootPlace) -> AcpiResult<Self>
+        ensures handler { IfOk result (λ t. lender_of t ≡ handler.now) }
+        ensures exact { Gives (λ t. opened_of t) result (opened_from (H.memory handler.now) place) }
+        ensures pointers { IfOk result (λ t. SpellsPointers t) }
+    {
+        let root = map_root(handler, place.kind, place.address)?;
+        Ok(AcpiTables {
+            revision: place.revision,
+            kind: place.kind,
+            root,
+        })
     }
 
     /// The revision that the tables were opened with.
@@ -151,13 +167,13 @@ impl<'h, H: AcpiHandler> AcpiTables<'h, H> {
     fn pointers(&self) -> Pointers<'_>
         ensures { pointers_left result ≡ pointers_of self.now }
     {
-        let width = if self.revision == 0 { 4 } else { 8 };
-        Pointers::new(width, skip(self.root.bytes(), 36))
+        Pointers::new(self.kind.width(), skip(self.root.bytes(), 36))
     }
 
     /// The table at an address, where it is valid for `T`.
     fn member<T: AcpiTable>(&self, address: u64) -> AcpiResult<PhysicalMapping<'h, H, T>>
         ensures place { IfOk result (λ m. start_of m ≡ address) }
+        ensures handler { IfOk result (λ m. handler_of m ≡ lender_of self.now) }
         ensures table { Gives (λ m. bytes_of m) result
             (table_at (memory_of self.now) (kind T.SIGNATURE T.MIN_LENGTH T.verdict) address) }
     {
@@ -166,8 +182,10 @@ impl<'h, H: AcpiHandler> AcpiTables<'h, H> {
 
     /// The first member of the root list that is valid for `T`.
     fn first_member<T: AcpiTable>(&self) -> AcpiResult<PhysicalMapping<'h, H, T>>
-        ensures { Gives (λ m. (start_of m, bytes_of m)) result
-            (lookup (memory_of self.now) (kind T.SIGNATURE T.MIN_LENGTH T.verdict) (pointers_of self.now)) }
+        ensures handler { IfOk result (λ m. handler_of m ≡ lender_of self.now) }
+        ensures found { let k = kind T.SIGNATURE T.MIN_LENGTH T.verdict in
+            Gives (λ m. (start_of m, bytes_of m)) result
+            (lookup (memory_of self.now) k (pointers_of self.now)) }
     {
         for address in self.pointers() {
             if let Ok(table) = self.member::<T>(address) {
@@ -183,18 +201,23 @@ impl<'h, H: AcpiHandler> AcpiTables<'h, H> {
     /// Refuses with `TableMissing`, carrying `T::SIGNATURE`, where no member is valid for `T`. A
     /// member that isn't lent, or fails another check, is passed over.
     pub fn find_table<T: AcpiTable>(&self) -> AcpiResult<PhysicalMapping<'h, H, T>>
-        ensures exact { Gives (λ m. (start_of m, bytes_of m)) result
-            (lookup (memory_of self.now) (kind T.SIGNATURE T.MIN_LENGTH T.verdict) (pointers_of self.now)) }
+        ensures handler { IfOk result (λ m. handler_of m ≡ lender_of self.now) }
+        ensures exact { let k = kind T.SIGNATURE T.MIN_LENGTH T.verdict in
+            Gives (λ m. (start_of m, bytes_of m)) result
+            (lookup (memory_of self.now) k (pointers_of self.now)) }
         // In the reader's words: the table found is valid, and none listed before it is.
         ensures first { let k = kind T.SIGNATURE T.MIN_LENGTH T.verdict in
-            IfOk result (λ m. IsFirstValid (memory_of self.now) k (pointers_of self.now) (start_of m) (bytes_of m)) }
+            IfOk result (λ m.
+            IsFirstValid (memory_of self.now) k (pointers_of self.now) (start_of m) (bytes_of m)) }
         // A member that isn't valid, put anywhere into the list, changes nothing.
         ensures skips { let k = kind T.SIGNATURE T.MIN_LENGTH T.verdict in
             (before after : List ℕ) (p : ℕ) → pointers_of self.now ≡ before ++ after
             → IsErr (table_at (memory_of self.now) k p)
-            → Gives (λ m. (start_of m, bytes_of m)) result (lookup (memory_of self.now) k (before ++ p ∷ after)) }
+            → Gives (λ m. (start_of m, bytes_of m)) result
+            (lookup (memory_of self.now) k (before ++ p ∷ after)) }
         ensures missing { let k = kind T.SIGNATURE T.MIN_LENGTH T.verdict in
-            IfErr result (λ e. (e ≡ TableMissing T.SIGNATURE) × NoneValid (memory_of self.now) k (pointers_of self.now)) }
+            IfErr result (λ e. (e ≡ TableMissing T.SIGNATURE)
+            × NoneValid (memory_of self.now) k (pointers_of self.now)) }
     {
         self.first_member::<T>()
     }
@@ -221,8 +244,8 @@ impl<'h, H: AcpiHandler> AcpiTables<'h, H> {
         SsdtIterator::new(self.root.handler(), self.pointers())
     }
 
-    /// The AML of the DSDT (section 5.2.11.1): that of the table at the address that the first valid
-    /// FADT gives (section 5.2.9).
+    /// The AML of the DSDT (section 5.2.11.1): that of the table at the address that the first
+    /// valid FADT gives (section 5.2.9).
     ///
     /// Refuses, in this order, with `TableMissing` where no valid FADT is listed,
     /// `InvalidDsdtAddress` where that gives no address, and with what the table there is refused
@@ -249,7 +272,8 @@ impl<'h, H: AcpiHandler> AcpiTables<'h, H> {
     /// `SdtInvalidSignature`, in order. It gives at most one for each pointer.
     pub fn faults<T: AcpiTable>(&self) -> TableFaults<'_, 'h, H, T>
         ensures items { let k = kind T.SIGNATURE T.MIN_LENGTH T.verdict in
-            faults_left H.memory k result ≡ faults_of (memory_of self.now) k (pointers_of self.now) }
+            faults_left H.memory k result
+            ≡ faults_of (memory_of self.now) k (pointers_of self.now) }
         ensures few { let k = kind T.SIGNATURE T.MIN_LENGTH T.verdict in
             length (faults_left H.memory k result) ≤ length (pointers_of self.now) }
         ensures fits { let k = kind T.SIGNATURE T.MIN_LENGTH T.verdict in

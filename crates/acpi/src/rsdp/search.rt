@@ -9,25 +9,10 @@ ghost use Rattle.acpi.specs.Rsdp.{rsd_ptr};
 ghost use Rattle.acpi.specs.Search.{count_of, found_in, found_rsdp, placed, room_of, walk, word_in};
 
 use super::area::{Area, FIRST_AREA, second_area};
+use super::span::Span;
 use super::{Rsdp, map_rsdp};
 use acpi_base::bytes::field;
-use acpi_base::{AcpiError, AcpiHandler, AcpiResult, PhysicalMapping, PhysicalRecord};
-
-/// Bytes that are mapped as they are.
-#[derive(Clone, Copy)]
-struct Span;
-
-impl PhysicalRecord for Span {
-    const MIN_LENGTH: usize = 1;
-
-    ghost MIN_LENGTH = { 1 };
-
-    ghost reading = { λ b. record {} };
-
-    fn read(_bytes: &[u8]) -> Self {
-        Span
-    }
-}
+use acpi_base::{AcpiError, AcpiHandler, AcpiResult, PhysicalMapping};
 
 /// Whether the signature of an RSDP stands at an offset.
 fn has_signature(bytes: &[u8], offset: usize) -> bool
@@ -50,7 +35,8 @@ fn first_candidate<'h, H: AcpiHandler>(
     requires low { area.end < 2 ^ 32 }
     requires lent { lent (H.memory handler.now) area.start (room_of area) ≡ Ok bytes.now }
     ensures handler { IfSome result (λ m. handler_of m ≡ handler.now) }
-    ensures found { option_map placed result ≡ walk (H.memory handler.now) (count_of area) area.start }
+    ensures found { option_map placed result
+        ≡ walk (H.memory handler.now) (count_of area) area.start }
 {
     let candidates = (area.end - area.start - 4) / 16;
     for k in 0..candidates {

@@ -1,6 +1,6 @@
 use Rattle.acpi.proofs.Passed.{filter_map_few, fits_root}
 use Rattle.acpi.specs.Root.{width_of}
-use Rattle.acpi.specs.Tables.{revision_of, root_of}
+use Rattle.acpi.specs.Tables.{kind_of, root_of}
 use Rattle.acpi.proofs.tables.AcpiTables.ssdts.Goals as goal
 
 pub returns-clause-few : goal.returns-clause-few
@@ -8,4 +8,4 @@ returns-clause-few g c = rw (c.new.ensures, c.pointers.ensures) (filter_map_few 
 
 pub returns-clause-fits : goal.returns-clause-fits
 returns-clause-fits g c =
-    rw (c.new.ensures, c.pointers.ensures) (fits_root _ (width_of (revision_of c.args.self.now)) (root_of c.args.self.now) c.args.self.now.short (filter_map_few _ _))
+    rw (c.new.ensures, c.pointers.ensures) (fits_root _ (width_of (kind_of c.args.self.now)) (root_of c.args.self.now) c.args.self.now.short (filter_map_few _ _))

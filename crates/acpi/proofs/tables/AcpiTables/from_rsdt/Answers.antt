@@ -1,6 +1,0 @@
-use Rattle.acpi.proofs.Rooted.{root_pointers}
-use Rattle.acpi.proofs.tables.AcpiTables.from_rsdt.Goals as goal
-
-pub returns-clause-pointers : goal.returns-clause-pointers
-returns-clause-pointers g c =
-    root_pointers _ c.args.revision c.args.address _ (g.met.H.AcpiHandler.regions c.args.handler.now) c.in_ok-root.ensures.root

@@ -1,0 +1,70 @@
+//! The kinds of root table, and what leads to one.
+ghost use Rattle.std.specs.Prelude.{◌≡◌, ◌≤◌};
+ghost use Rattle.acpi.specs.Root as root;
+
+use acpi_base::Signature;
+
+/// The kind of a root table. Both list the tables that the firmware has, by their addresses.
+#[derive(Clone, Copy)]
+pub(crate) enum RootKind {
+    /// The RSDT, whose pointers have four bytes (section 5.2.7).
+    Rsdt,
+    /// The XSDT, whose pointers have eight (section 5.2.8).
+    Xsdt,
+}
+
+impl RootKind {
+    /// The kind that a revision stands for: the RSDT for 0, else the XSDT.
+    pub(crate) fn of_revision(revision: u8) -> RootKind
+        ensures { result ≡ root.kind_of_revision revision }
+    {
+        if revision == 0 {
+            RootKind::Rsdt
+        } else {
+            RootKind::Xsdt
+        }
+    }
+
+    /// The signature of such a table.
+    pub(crate) fn signature(self) -> Signature
+        ensures { result ≡ root.signature_of self }
+    {
+        match self {
+            RootKind::Rsdt => Signature::RSDT,
+            RootKind::Xsdt => Signature::XSDT,
+        }
+    }
+
+    /// How many bytes each of its pointers has.
+    pub(crate) fn width(self) -> usize
+        ensures value { result ≡ root.width_of self }
+        ensures some { 1 ≤ result }
+        ensures few { result ≤ 8 }
+    {
+        match self {
+            RootKind::Rsdt => 4,
+            RootKind::Xsdt => 8,
+        }
+    }
+}
+
+/// What leads to a root table: the revision of what names it, its kind and its physical address.
+#[derive(Clone, Copy)]
+pub(crate) struct RootPlace {
+    pub(crate) revision: u8,
+    pub(crate) kind: RootKind,
+    pub(crate) address: u64,
+}
+
+impl RootPlace {
+    /// The root table at an address that goes by a revision.
+    pub(crate) fn of_revision(revision: u8, address: u64) -> RootPlace
+        ensures { result ≡ root.root_of_revision revision address }
+    {
+        RootPlace {
+            revision,
+            kind: RootKind::of_revision(revision),
+            address,
+        }
+    }
+}
