@@ -7,5 +7,6 @@ pub mod Pieces
 pub mod Rooted
 pub mod Spelled
 pub mod Texts
+pub mod Timers
 pub mod Walk
 pub mod Within

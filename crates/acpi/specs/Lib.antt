@@ -1,3 +1,4 @@
+pub mod Equality
 pub mod Later
 pub mod Laws
 pub mod Lists

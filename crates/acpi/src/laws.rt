@@ -1,5 +1,10 @@
-//! Laws of the definitions: each is the contract of a call that does nothing.
+//! Laws of the definitions, each the contract of a call that does nothing, and of the tests for
+//! equality.
+ghost use Rattle.acpi.specs.Equality.{IsEquality};
 ghost use Rattle.acpi.specs.Laws.{LookupIsFirst, OnePointers, SecondAreas, SkipsInvalid};
+
+use crate::platform::PmTimer;
+use crate::records::{AmlTable, Sdt, TableFault};
 
 /// The bytes behind a root table's header spell exactly one list of pointers.
 pub fn one_pointers()
@@ -21,3 +26,31 @@ pub fn skips_invalid()
 pub fn second_areas()
     ensures { SecondAreas }
 {}
+
+/// Streams of AML are equal exactly where their fields are.
+pub fn aml_table_equality(a: &AmlTable, b: &AmlTable) -> bool
+    ensures { IsEquality result a.now b.now }
+{
+    a == b
+}
+
+/// Faults are equal exactly where their fields are.
+pub fn table_fault_equality(a: &TableFault, b: &TableFault) -> bool
+    ensures { IsEquality result a.now b.now }
+{
+    a == b
+}
+
+/// What is known of tables is equal exactly where its fields are.
+pub fn sdt_equality(a: &Sdt, b: &Sdt) -> bool
+    ensures { IsEquality result a.now b.now }
+{
+    a == b
+}
+
+/// Timers are equal exactly where their fields are.
+pub fn pm_timer_equality(a: &PmTimer, b: &PmTimer) -> bool
+    ensures { IsEquality result a.now b.now }
+{
+    a == b
+}
