@@ -48,11 +48,14 @@ impl RootKind {
     }
 }
 
-/// What leads to a root table: the revision of what names it, its kind and its physical address.
+/// Where a root table is looked for, and as what.
 #[derive(Clone, Copy)]
 pub(crate) struct RootPlace {
+    /// The revision of what names the table.
     pub(crate) revision: u8,
+    /// The table's kind.
     pub(crate) kind: RootKind,
+    /// Its physical address.
     pub(crate) address: u64,
 }
 

@@ -1,9 +1,9 @@
 //! The root table, and the tables that it leads to.
 ghost use Rattle.std.specs.Prelude.{◌≡◌, ◌^◌, ◌<◌, length, Some, IfOk};
+ghost use Rattle.std.specs.Result.{result_ok};
 ghost use Rattle.std.proofs.Props.{props};
 ghost use Rattle.acpi_base.specs.Mapping.{start_of, bytes_of, handler_of};
 ghost use Rattle.acpi_base.specs.Steps.{Gives};
-ghost use Rattle.std.specs.Result.{result_ok};
 ghost use Rattle.acpi.specs.Root.{root_at};
 
 use crate::faults::TableFaults;
@@ -73,6 +73,7 @@ impl<'h, H: AcpiHandler> AcpiTables<'h, H> {
         ensures handler { IfOk result (λ t. lender_of t ≡ handler.now) }
         ensures exact { Gives (λ t. opened_of t) result
             (opened_by_rsdp (H.memory handler.now) address) }
+        // In the reader's words: the root table's bytes spell these pointers and no others.
         ensures pointers { IfOk result (λ t. SpellsPointers t) }
     {
         let rsdp = map_rsdp(handler, address)?;
@@ -87,6 +88,7 @@ impl<'h, H: AcpiHandler> AcpiTables<'h, H> {
     pub fn search_for_rsdp_bios(handler: &'h H) -> AcpiResult<Self>
         ensures handler { IfOk result (λ t. lender_of t ≡ handler.now) }
         ensures exact { Gives (λ t. opened_of t) result (opened_by_search (H.memory handler.now)) }
+        // In the reader's words: the root table's bytes spell these pointers and no others.
         ensures pointers { IfOk result (λ t. SpellsPointers t) }
     {
         let rsdp = Rsdp::search_for_on_bios(handler)?;
@@ -107,6 +109,7 @@ impl<'h, H: AcpiHandler> AcpiTables<'h, H> {
         ensures handler { IfOk result (λ t. lender_of t ≡ handler.now) }
         ensures exact { Gives (λ t. opened_of t) result
             (opened_by_rsdp (H.memory handler.now) (start_of mapping.entry)) }
+        // In the reader's words: the root table's bytes spell these pointers and no others.
         ensures pointers { IfOk result (λ t. SpellsPointers t) }
     {
         let address = mapping.physical_start();
@@ -137,6 +140,7 @@ impl<'h, H: AcpiHandler> AcpiTables<'h, H> {
         ensures handler { IfOk result (λ t. lender_of t ≡ handler.now) }
         ensures exact { Gives (λ t. opened_of t) result
             (opened_at (H.memory handler.now) (revision, address)) }
+        // In the reader's words: the root table's bytes spell these pointers and no others.
         ensures pointers { IfOk result (λ t. SpellsPointers t) }
     {
         AcpiTables::open(handler, RootPlace::of_revision(revision, address))
