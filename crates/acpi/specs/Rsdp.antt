@@ -4,7 +4,8 @@ use Rattle.std.specs.Prelude.{Option, Some, None, Result, Ok}
 use Rattle.std.specs.Str.{bytes_eq, is_utf8}
 use Rattle.acpi_base.specs.declared.error.AcpiError.{AcpiError}
 use Rattle.acpi_base.specs.declared.error.AcpiError.TheVariants.{RsdpIncorrectSignature}
-use Rattle.acpi_base.specs.declared.error.AcpiError.TheVariants.{RsdpInvalidOemId, RsdpInvalidChecksum}
+use Rattle.acpi_base.specs.declared.error.AcpiError.TheVariants.{RsdpInvalidChecksum}
+use Rattle.acpi_base.specs.declared.error.AcpiError.TheVariants.{RsdpInvalidOemId}
 use Rattle.acpi_base.specs.Bytes.{field_of, part, sum_of}
 use Rattle.acpi_base.specs.Memory.{Memory}
 use Rattle.acpi_base.specs.Steps.{◌>>=◌, holds, lent}
