@@ -4,7 +4,8 @@ use Rattle.acpi_base.specs.declared.error.AcpiError.{AcpiError}
 use Rattle.acpi_base.specs.declared.error.AcpiError.TheVariants.{MapFailed, NoValidRsdp}
 use Rattle.acpi_base.specs.Bytes.{field_of}
 use Rattle.acpi_base.specs.Memory.{Memory, at}
-use Rattle.acpi_base.specs.Steps.{◌>>=◌, Gives, value_or}
+use Rattle.acpi_base.specs.Steps.{◌>>=◌, Gives}
+use Rattle.std.specs.Option.{ok_or}
 use Rattle.acpi.specs.declared.rsdp.area.Area.{Area}
 use Rattle.acpi.proofs.Walk.{there}
 use Rattle.acpi.specs.Later.{or_later}
@@ -64,7 +65,7 @@ walked m s None there h = record {
   refused = λ a c. moved m (s.start + 16 * c.0) a (sym c.1) (h c.0 (fits_count s c.0 (omega (arith, c.1, c.2))));
 }
 
-area_lent : (m : Memory) (s : Area) (o : Option (List ℕ)) → at m s.start (room_of s) ≡ o → InArea m s (value_or o MapFailed >>= λ b. Ok (walk m (count_of s) s.start))
+area_lent : (m : Memory) (s : Area) (o : Option (List ℕ)) → at m s.start (room_of s) ≡ o → InArea m s (ok_or o MapFailed >>= λ b. Ok (walk m (count_of s) s.start))
 area_lent m s (Some b) e = walked m s _ (b, e) (walk_says m (count_of s) s.start)
 area_lent m s None e = (refl, e)
 
@@ -77,7 +78,7 @@ abbrev IsWord : Memory → Result ℕ AcpiError → Type 0
 IsWord m (Ok word) = (b : List ℕ) × (at m 0x40e 2 ≡ Some b) × (word ≡ field_of b 0 2)
 IsWord m (Err e) = (e ≡ MapFailed) × (at m 0x40e 2 ≡ None)
 
-word_lent : (m : Memory) (o : Option (List ℕ)) → at m 0x40e 2 ≡ o → IsWord m (value_or o MapFailed >>= λ b. Ok (field_of b 0 2))
+word_lent : (m : Memory) (o : Option (List ℕ)) → at m 0x40e 2 ≡ o → IsWord m (ok_or o MapFailed >>= λ b. Ok (field_of b 0 2))
 word_lent m (Some b) e = (b, e, refl)
 word_lent m None e = (refl, e)
 

@@ -1,4 +1,3 @@
-pub mod Bits
 pub mod First
 pub mod Led
 pub mod Least

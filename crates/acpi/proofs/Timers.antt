@@ -8,7 +8,7 @@ use Rattle.acpi_base.specs.declared.address.GenericAddress.{GenericAddress}
 use Rattle.acpi_base.specs.contracts.address.AccessSizePartialEq.TheImpl as sizes
 use Rattle.acpi_base.specs.contracts.address.AddressSpacePartialEq.TheImpl as spaces
 use Rattle.acpi_base.specs.contracts.address.GenericAddressPartialEq.TheImpl as addresses
-use Rattle.acpi.specs.Equality.{IsEquality}
+use Rattle.acpi_base.specs.Equality.{IsEquality}
 use Rattle.acpi.specs.declared.platform.PmTimer.{PmTimer}
 use Rattle.acpi.specs.contracts.platform.PmTimerPartialEq.TheImpl as timers
 

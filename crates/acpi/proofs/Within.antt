@@ -6,12 +6,13 @@ use Rattle.std.proofs.lemmas.Option.{cond_some}
 use Rattle.std.specs.Str.{bytes_eq}
 use Rattle.acpi_base.specs.Bytes.{part}
 use Rattle.acpi_base.specs.Memory.{Memory, Region, HoldsRange, IsMemory, at, rest_from}
-use Rattle.acpi_base.specs.Steps.{lent, value_or}
+use Rattle.acpi_base.specs.Steps.{lent}
+use Rattle.std.specs.Option.{ok_or}
 use Rattle.acpi_base.specs.declared.error.AcpiError.TheVariants.{RsdpIncorrectSignature}
 use Rattle.acpi_base.proofs.Inside.{lent_is_inside}
 use Rattle.acpi.specs.Rsdp.{check_first, length_of, rsd_ptr, rsdp_at, rsdp_of}
 
-there_is : {A E : Type 0} (o : Option A) (e : E) (x : A) → value_or o e ≡ Ok x → o ≡ Some x
+there_is : {A E : Type 0} (o : Option A) (e : E) (x : A) → ok_or o e ≡ Ok x → o ≡ Some x
 there_is None e x given = absurd cc
 there_is (Some y) e x given = cc
 

@@ -1,4 +1,3 @@
-pub mod Equality
 pub mod Later
 pub mod Laws
 pub mod Lists

@@ -1,6 +1,6 @@
 //! Laws of the definitions, each the contract of a call that does nothing, and of the tests for
 //! equality.
-ghost use Rattle.acpi.specs.Equality.{IsEquality};
+ghost use Rattle.acpi_base.specs.Equality.{IsEquality};
 ghost use Rattle.acpi.specs.Laws.{LookupIsFirst, OnePointers, SecondAreas, SkipsInvalid};
 
 use crate::platform::PmTimer;

@@ -21,7 +21,6 @@ impl PmTimer {
     /// `Fadt::pm_timer_block`, and bit 8 of the flags.
     ///
     /// Refuses with `InvalidGenericAddress` where that block is refused.
-    #[tactic(auto, using(crate::proofs::Bits::is_test))]
     pub fn new(fadt: &Fadt) -> AcpiResult<Option<PmTimer>>
         ensures { result ≡ timer_of fadt.now }
     {
