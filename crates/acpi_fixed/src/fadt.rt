@@ -26,7 +26,7 @@ pub enum PowerProfile {
     EnterpriseServer,
     /// Code 5: a server for a small office or a home.
     SohoServer,
-    /// Code 6: a device for one purpose, as a set-top box.
+    /// Code 6: a quiet device for the home, as a set-top box or a gateway.
     AppliancePc,
     /// Code 7: a server that may spend power for speed.
     PerformanceServer,
