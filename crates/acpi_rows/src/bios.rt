@@ -1,50 +1,15 @@
-//! RSDPs at an address and in the BIOS areas, over each handler.
-ghost use Rattle.std.specs.Prelude.{◌+◌, ◌≤◌, length};
+//! The search in the BIOS areas, over each handler.
 
 use crate::handlers::{Exact, Recording};
-use crate::samples::{one_graphic, put, put_head, put_table};
+use crate::samples::graphics::one_graphic;
+use crate::samples::rsdps::{AREA, AREA_END, put_areas, put_rsdp, put_rsdp_2};
+use crate::samples::{put, put_head, put_table};
 use acpi::bgrt::Bgrt;
 use acpi::rsdp::Rsdp;
-use acpi::{AcpiError, AcpiHandler, AcpiResult, AcpiTables, PhysicalRecord};
+use acpi::{AcpiError, AcpiHandler, AcpiResult, AcpiTables};
 use acpi_image::MemoryImage;
 use std::process::Abort;
 use std::test::Fail;
-
-/// Where the bytes of the first area begin in a file, and where they end.
-const AREA: usize = 34;
-
-const AREA_END: usize = 131122;
-
-/// Writes a word at 0x40e, and the head of the first area with the 16 bytes behind it, which are
-/// zero. More records follow at `AREA_END`.
-fn put_areas(file: &mut [u8], word: u16)
-    requires { 131122 ≤ length file.old }
-{
-    put_head(file, 0, 0x40e, 2);
-    put(file, 16, &word.to_le_bytes());
-    put_head(file, 18, 0xe0000, 0x20010);
-}
-
-/// Writes an RSDP of version 1 that leads to the RSDT at 0x1000.
-fn put_rsdp(file: &mut [u8], offset: usize, checksum: u8)
-    requires { offset + 20 ≤ length file.old }
-{
-    put(file, offset, b"RSD PTR ");
-    put(file, offset + 8, &[checksum]);
-    put(file, offset + 9, b"      \0\0\x10\0\0");
-}
-
-/// Writes an RSDP of version 2 that leads to the XSDT at 0x2000.
-fn put_rsdp_2(file: &mut [u8], offset: usize)
-    requires { offset + 36 ≤ length file.old }
-{
-    put(
-        file,
-        offset,
-        b"RSD PTR \x1f      \x02\0\0\0\0\x24\0\0\0\0\x20",
-    );
-    put(file, offset + 32, &[0xBC]);
-}
 
 /// The address that a search finds.
 fn searched<H: AcpiHandler>(handler: &H) -> AcpiResult<u64> {
@@ -57,8 +22,7 @@ fn check_search(rt: &impl Abort, image: &MemoryImage<'_>, found: AcpiResult<u64>
     assert_eq!(rt; searched(&Exact::new(image)), found);
     let recording = Recording::new(image);
     assert_eq!(rt; searched(&recording), found);
-    let (granted, ended) = recording.counts();
-    assert_eq!(rt; granted, ended);
+    assert_eq!(rt; recording.flaw(), None);
 }
 
 #[test]
@@ -147,64 +111,10 @@ fn each_way_in_opens_the_tables(rt: HostRuntime) -> Result<(), Fail> {
     put_rsdp(&mut file, AREA + 0x100, 0x11);
     put(&mut file, AREA_END, &one_graphic());
     let image = MemoryImage::from_bytes(rt.alloc(), &file)?;
-    let recording = Recording::new(&image);
-    check_tables(&rt, AcpiTables::search_for_rsdp_bios(&recording))?;
-    check_tables(&rt, AcpiTables::from_rsdp(&recording, 0xe0100))?;
-    let found = Rsdp::search_for_on_bios(&recording)?;
+    check_tables(&rt, AcpiTables::search_for_rsdp_bios(&image))?;
+    check_tables(&rt, AcpiTables::from_rsdp(&image, 0xe0100))?;
+    let found = Rsdp::search_for_on_bios(&image)?;
     assert_eq!(rt; found.region_length(), 36);
-    check_tables(&rt, AcpiTables::from_validated_rsdp(&recording, found))?;
-    let (granted, ended) = recording.counts();
-    assert_eq!(rt; granted, ended);
+    check_tables(&rt, AcpiTables::from_validated_rsdp(&image, found))?;
     Ok(())
-}
-
-/// Writes one byte where there is one.
-fn change(bytes: &mut [u8], offset: usize, byte: u8) {
-    if offset < bytes.len() {
-        bytes[offset] = byte;
-    }
-}
-
-#[test]
-fn an_rsdp_is_checked_in_order(rt: HostRuntime) {
-    let sum = Err(AcpiError::RsdpInvalidChecksum);
-    for (offset, byte, other, second, outcome) in [
-        (0, b'R', 0, b'R', Ok(())),
-        (7, b'!', 7, b'!', Err(AcpiError::RsdpIncorrectSignature)),
-        (14, 0xff, 14, 0xff, Err(AcpiError::RsdpInvalidOemId)),
-        (8, 0x20, 32, 0xbb, sum),
-        (32, 0xbb, 32, 0xbb, sum),
-        (20, 35, 32, 0xbd, sum),
-        (20, 37, 32, 0xbb, sum),
-    ] {
-        let mut bytes = [0; 36];
-        put_rsdp_2(&mut bytes, 0);
-        change(&mut bytes, offset, byte);
-        change(&mut bytes, other, second);
-        let rsdp = Rsdp::read(&bytes);
-        assert_eq!(rt; rsdp.validate(&bytes), outcome, "at {offset}");
-    }
-}
-
-#[test]
-fn an_rsdp_shows_its_fields(rt: HostRuntime) {
-    let mut bytes = [0xff; 36];
-    put_rsdp(&mut bytes, 0, 0x11);
-    let old = Rsdp::read(&bytes);
-    assert_eq!(rt; old.validate(&bytes), Ok(()));
-    assert_eq!(rt; (old.revision(), old.rsdt_address()), (0, 0x1000));
-    assert_eq!(rt; (old.length(), old.xsdt_address()), (None, None));
-    assert_eq!(rt; old.ext_checksum(), None);
-    let mut bytes = [0; 36];
-    put_rsdp_2(&mut bytes, 0);
-    let new = Rsdp::read(&bytes);
-    assert_eq!(rt; new.signature(), *b"RSD PTR ");
-    assert_eq!(rt; (new.checksum(), new.revision()), (0x1f, 2));
-    assert_eq!(rt; new.oem_id(), Some("      "));
-    assert_eq!(rt; new.rsdt_address(), 0);
-    assert_eq!(rt;
-        (new.length(), new.xsdt_address()),
-        (Some(36), Some(0x2000))
-    );
-    assert_eq!(rt; new.ext_checksum(), Some(0xbc));
 }

@@ -1,5 +1,6 @@
 //! Handlers over another handler, for tests.
 
+use crate::history::{Event, Flaw, History, Places, Shown};
 use acpi::{AcpiHandler, AcpiResult};
 use std::cell::Cell;
 
@@ -32,66 +33,46 @@ impl<'a, H: AcpiHandler> AcpiHandler for Exact<'a, H> {
     ghost regions = { λ e. H.regions e.inner.now };
 }
 
-/// What a handler has lent and no notice has come for: how many times, and the sums of the
-/// addresses and of the lengths.
-#[derive(Clone, Copy, Debug, PartialEq, Eq)]
-pub(crate) struct Open {
-    pub(crate) count: u64,
-    pub(crate) addresses: u64,
-    pub(crate) bytes: u64,
-}
-
-impl Open {
-    pub(crate) const NOTHING: Open = Open {
-        count: 0,
-        addresses: 0,
-        bytes: 0,
-    };
-
-    fn with(self, address: u64, length: usize) -> Open {
-        Open {
-            count: self.count.wrapping_add(1),
-            addresses: self.addresses.wrapping_add(address),
-            bytes: self.bytes.wrapping_add(length as u64),
-        }
-    }
-
-    fn without(self, address: u64, length: usize) -> Open {
-        Open {
-            count: self.count.wrapping_sub(1),
-            addresses: self.addresses.wrapping_sub(address),
-            bytes: self.bytes.wrapping_sub(length as u64),
-        }
-    }
-}
-
-/// A handler that counts the requests that another grants, and the notices that they ended.
+/// A handler that records what another is asked for, what it grants, and what it is told.
 #[derive(Drop)]
 pub(crate) struct Recording<'a, H: AcpiHandler> {
     inner: &'a H,
-    granted: Cell<u64>,
-    ended: Cell<u64>,
-    open: Cell<Open>,
+    shown: Shown<'a>,
+    history: Cell<History>,
 }
 
 impl<'a, H: AcpiHandler> Recording<'a, H> {
+    /// For a scenario in which each mapping shows what was asked for.
     pub(crate) fn new(inner: &'a H) -> Self {
+        Recording::showing(inner, Shown::AsAsked)
+    }
+
+    /// For a scenario in which mappings show so many bytes.
+    pub(crate) fn showing(inner: &'a H, shown: Shown<'a>) -> Self {
         Recording {
             inner,
-            granted: Cell::new(0),
-            ended: Cell::new(0),
-            open: Cell::new(Open::NOTHING),
+            shown,
+            history: Cell::new(History::NOTHING),
         }
     }
 
-    /// How many requests were granted, and how many notices came.
-    pub(crate) fn counts(&self) -> (u64, u64) {
-        (self.granted.get(), self.ended.get())
+    /// What happened so far.
+    pub(crate) fn history(&self) -> History {
+        self.history.get()
     }
 
-    /// What is lent now.
-    pub(crate) fn open(&self) -> Open {
-        self.open.get()
+    /// What is lent now, where each notice so far ended one loan.
+    pub(crate) fn open(&self) -> Result<Places, Flaw> {
+        self.history.get().open(self.shown)
+    }
+
+    /// What is wrong, if anything is, now that all loans should have ended.
+    pub(crate) fn flaw(&self) -> Option<Flaw> {
+        self.history.get().flaw(self.shown)
+    }
+
+    fn record(&self, event: Event) {
+        self.history.set(self.history.get().with(event));
     }
 }
 
@@ -99,16 +80,24 @@ impl<'a, H: AcpiHandler> AcpiHandler for Recording<'a, H> {
     ghost memory = { λ r. H.memory r.inner.now };
 
     fn map_physical_region(&self, address: u64, size: usize) -> AcpiResult<&[u8]> {
-        let lent = self.inner.map_physical_region(address, size)?;
-        self.granted.set(self.granted.get().wrapping_add(1));
-        self.open.set(self.open.get().with(address, lent.len()));
-        Ok(lent)
+        let granted = self.inner.map_physical_region(address, size);
+        self.record(match &granted {
+            Ok(bytes) => Event::Lent {
+                address,
+                size,
+                lent: bytes.len(),
+            },
+            Err(_) => Event::Refused { address, size },
+        });
+        granted
     }
 
     fn unmap_physical_region(&self, address: u64, region_length: usize, mapped_length: usize) {
-        self.ended.set(self.ended.get().wrapping_add(1));
-        self.open
-            .set(self.open.get().without(address, mapped_length));
+        self.record(Event::Ended {
+            address,
+            shown: region_length,
+            lent: mapped_length,
+        });
         self.inner
             .unmap_physical_region(address, region_length, mapped_length);
     }

@@ -6,14 +6,24 @@ mod bios;
 #[cfg(test)]
 mod example;
 #[cfg(test)]
+mod examples;
+#[cfg(test)]
+mod fixed;
+#[cfg(test)]
 mod handlers;
+#[cfg(test)]
+mod history;
 #[cfg(test)]
 mod lists;
 #[cfg(test)]
+mod lookups;
+#[cfg(test)]
 mod notices;
 #[cfg(test)]
-mod rows;
+mod rsdps;
 #[cfg(test)]
 mod samples;
 #[cfg(test)]
 mod texts;
+#[cfg(test)]
+mod watched;

@@ -1,20 +1,20 @@
 //! What is opened and found, over each handler.
 
-use crate::example::{Window, Wsmt, find_both};
+use crate::example::Wsmt;
 use crate::handlers::{Exact, Recording};
-use crate::samples::{
-    empty_root, front, long_graphic, one_graphic, short_graphic, short_last_pointer, split_graphic,
-    two_tables,
+use crate::samples::graphics::{
+    empty_root, long_graphic, one_graphic, short_graphic, short_last_pointer, split_graphic,
 };
+use crate::samples::{put, put_table};
 use acpi::bgrt::{Bgrt, ImageType};
 use acpi::sdt::{SdtHeader, Signature, map_table};
-use acpi::{AcpiError, AcpiHandler, AcpiTables, PhysicalMapping};
+use acpi::{AcpiError, AcpiHandler, AcpiTables, PhysicalMapping, PhysicalRecord};
 use acpi_image::MemoryImage;
 use std::process::Abort;
 use std::test::Fail;
 
 /// Checks a row over each handler of an image: the image itself, which lends all to a record's end,
-/// one that lends just what is asked for, and both of them recorded.
+/// one that lends just what is asked for, and both of them recorded, where each loan has its notice.
 macro_rules! over_each_handler {
     ($rt:expr, $file:expr, $row:ident) => {{
         let file = $file;
@@ -22,8 +22,12 @@ macro_rules! over_each_handler {
         let exact = Exact::new(&image);
         $row(&$rt, &image)?;
         $row(&$rt, &exact)?;
-        $row(&$rt, &Recording::new(&image))?;
-        $row(&$rt, &Recording::new(&exact))?;
+        let recording = Recording::new(&image);
+        $row(&$rt, &recording)?;
+        assert_eq!(&$rt; recording.flaw(), None);
+        let recording = Recording::new(&exact);
+        $row(&$rt, &recording)?;
+        assert_eq!(&$rt; recording.flaw(), None);
     }};
 }
 
@@ -130,38 +134,19 @@ fn more_is_lent_than_is_mapped(rt: HostRuntime) -> Result<(), Fail> {
 }
 
 #[test]
-fn a_window_lends_what_lies_inside_it(rt: HostRuntime) -> Result<(), Fail> {
-    let memory = [1, 2, 3, 4];
-    let window = Window::new(0x1000, &memory);
-    assert_eq!(rt; window.map_physical_region(0x1000, 1)?.len(), 4);
-    assert_eq!(rt; window.map_physical_region(0x1003, 1)?.len(), 1);
-    for (address, size) in [
-        (0xFFF, 1),
-        (0x1000, 5),
-        (0x1003, 2),
-        (0x1004, 1),
-        (u64::MAX, 1),
-    ] {
-        assert!(rt;
-            window.map_physical_region(address, size).is_err(),
-            "at {address}"
-        );
-    }
-    Ok(())
-}
-
-#[test]
-fn a_kernel_finds_a_table_of_its_own(rt: HostRuntime) {
-    let memory = two_tables();
-    let window = Window::new(0x1000, &memory);
-    assert_eq!(rt; find_both(&window, 0x1000), Ok((0xC0_0000, 7)));
+fn a_header_is_validated_over_its_bytes(rt: HostRuntime) {
+    let mut bytes = [0; 40];
+    put_table(&mut bytes, 0, b"SSDT", 36, 0x9E);
+    let header = SdtHeader::read(&bytes);
+    // Bytes behind the length count for nothing.
+    assert_eq!(rt; header.validate(Signature::SSDT, &bytes), Ok(()));
     assert_eq!(rt;
-        find_both(&window, 0x1004),
-        Err(AcpiError::SdtInvalidSignature(Signature::RSDT))
+        header.validate(Signature::DSDT, &bytes),
+        Err(AcpiError::SdtInvalidSignature(Signature::DSDT))
     );
-    let short = Window::new(0x1000, front(&memory, 128));
+    put(&mut bytes, 20, &[1]);
     assert_eq!(rt;
-        find_both(&short, 0x1000),
-        Err(AcpiError::TableMissing(Signature::WSMT))
+        SdtHeader::read(&bytes).validate(Signature::SSDT, &bytes),
+        Err(AcpiError::SdtInvalidChecksum(Signature::SSDT))
     );
 }

@@ -1,0 +1,45 @@
+//! The caller in `example.rt`.
+
+use crate::example::{Window, find_both};
+use crate::samples::front;
+use crate::samples::graphics::two_tables;
+use acpi::sdt::Signature;
+use acpi::{AcpiError, AcpiHandler};
+use std::test::Fail;
+
+#[test]
+fn a_window_lends_what_lies_inside_it(rt: HostRuntime) -> Result<(), Fail> {
+    let memory = [1, 2, 3, 4];
+    let window = Window::new(0x1000, &memory);
+    assert_eq!(rt; window.map_physical_region(0x1000, 1)?.len(), 4);
+    assert_eq!(rt; window.map_physical_region(0x1003, 1)?.len(), 1);
+    for (address, size) in [
+        (0xFFF, 1),
+        (0x1000, 5),
+        (0x1003, 2),
+        (0x1004, 1),
+        (u64::MAX, 1),
+    ] {
+        assert!(rt;
+            window.map_physical_region(address, size).is_err(),
+            "at {address}"
+        );
+    }
+    Ok(())
+}
+
+#[test]
+fn a_kernel_finds_a_table_of_its_own(rt: HostRuntime) {
+    let memory = two_tables();
+    let window = Window::new(0x1000, &memory);
+    assert_eq!(rt; find_both(&window, 0x1000), Ok((0xC0_0000, 7)));
+    assert_eq!(rt;
+        find_both(&window, 0x1004),
+        Err(AcpiError::SdtInvalidSignature(Signature::RSDT))
+    );
+    let short = Window::new(0x1000, front(&memory, 128));
+    assert_eq!(rt;
+        find_both(&short, 0x1000),
+        Err(AcpiError::TableMissing(Signature::WSMT))
+    );
+}

@@ -1,0 +1,80 @@
+//! What the FADT leads to: the DSDT and the timer.
+
+use crate::handlers::Exact;
+use crate::samples::members::with_dsdt;
+use crate::samples::{change, put};
+use acpi::address::{AccessSize, AddressSpace, GenericAddress};
+use acpi::fadt::Fadt;
+use acpi::platform::PmTimer;
+use acpi::sdt::Signature;
+use acpi::{AcpiError, AcpiHandler, AcpiResult, AcpiTables, AmlTable, PhysicalRecord};
+use acpi_image::MemoryImage;
+use std::test::Fail;
+
+/// The AML of the DSDT below the RSDT at 0x1000.
+fn stream<H: AcpiHandler>(handler: &H) -> AcpiResult<AmlTable> {
+    AcpiTables::from_rsdt(handler, 0, 0x1000)?.dsdt()
+}
+
+#[test]
+fn the_fadt_leads_to_the_dsdt(rt: HostRuntime) -> Result<(), Fail> {
+    let file = with_dsdt(0x32, 0x40);
+    let image = MemoryImage::from_bytes(rt.alloc(), &file)?;
+    let found = AmlTable {
+        address: 0x4024,
+        length: 4,
+    };
+    assert_eq!(rt; stream(&image), Ok(found));
+    assert_eq!(rt; stream(&Exact::new(&image)), Ok(found));
+    let file = with_dsdt(0x72, 0);
+    let image = MemoryImage::from_bytes(rt.alloc(), &file)?;
+    assert_eq!(rt; stream(&image), Err(AcpiError::InvalidDsdtAddress));
+    Ok(())
+}
+
+#[test]
+fn a_bad_dsdt_is_refused_in_order(rt: HostRuntime) -> Result<(), Fail> {
+    let dsdt = Signature::DSDT;
+    // One byte of the file is changed.
+    for (offset, byte, refusal) in [
+        // the FADT's name
+        (72, b'X', AcpiError::TableMissing(Signature::FADT)),
+        // where the DSDT's record starts, its name, ids, length and sum
+        (188, 1, AcpiError::MapFailed),
+        (204, b'X', AcpiError::SdtInvalidSignature(dsdt)),
+        (214, 0xFF, AcpiError::SdtInvalidOemId(dsdt)),
+        (220, 0xFF, AcpiError::SdtInvalidTableId(dsdt)),
+        (208, 35, AcpiError::SdtInvalidLength(dsdt)),
+        (208, 41, AcpiError::MapFailed),
+        (213, 0, AcpiError::SdtInvalidChecksum(dsdt)),
+    ] {
+        let mut file = with_dsdt(0x32, 0x40);
+        change(&mut file, offset, byte);
+        let image = MemoryImage::from_bytes(rt.alloc(), &file)?;
+        assert_eq!(rt; stream(&image), Err(refusal), "at {offset}");
+        assert_eq!(rt; stream(&Exact::new(&image)), Err(refusal), "at {offset}");
+    }
+    Ok(())
+}
+
+#[test]
+fn a_fadt_has_a_timer(rt: HostRuntime) {
+    let mut bytes = [0; 116];
+    put(&mut bytes, 76, &[0x08, 0x06]);
+    put(&mut bytes, 91, &[4]);
+    put(&mut bytes, 113, &[1]);
+    let base = GenericAddress {
+        address_space: AddressSpace::SystemIo,
+        bit_width: 32,
+        bit_offset: 0,
+        access_size: AccessSize::Undefined,
+        address: 0x608,
+    };
+    let timer = PmTimer {
+        base,
+        supports_32bit: true,
+    };
+    assert_eq!(rt; PmTimer::new(&Fadt::read(&bytes)), Ok(Some(timer)));
+    put(&mut bytes, 91, &[5]);
+    assert_eq!(rt; PmTimer::new(&Fadt::read(&bytes)), Ok(None));
+}

@@ -1,0 +1,125 @@
+//! What is lent after a lookup, and while the table that it found is mapped.
+
+use crate::example::Wsmt;
+use crate::handlers::{Exact, Recording};
+use crate::history::places;
+use crate::samples::change;
+use crate::samples::members::{faulty_members, with_dsdt};
+use acpi::bgrt::Bgrt;
+use acpi::sdt::{Signature, map_own_sdt, map_sdt, map_table};
+use acpi::{AcpiError, AcpiHandler, AcpiResult, AcpiTables, AmlTable};
+use acpi_image::MemoryImage;
+use std::process::Abort;
+use std::test::Fail;
+
+/// A boot graphic behind faulty members, twice, and a table that isn't there.
+fn check_lookups<H: AcpiHandler>(rt: &impl Abort, handler: &H) -> Result<(), AcpiError> {
+    let (root, graphic) = ((0x1000, 56), (0x6000, 56));
+    let recording = Recording::new(handler);
+    let tables = AcpiTables::from_rsdt(&recording, 0, 0x1000)?;
+    let missing = tables.find_table::<Wsmt>().err();
+    assert_eq!(rt; missing, Some(AcpiError::TableMissing(Signature::WSMT)));
+    assert_eq!(rt; recording.open(), places(&[root]));
+    let found = tables.find_table::<Bgrt>()?;
+    assert_eq!(rt; found.physical_start(), 0x6000);
+    assert_eq!(rt; recording.open(), places(&[root, graphic]));
+    let again = tables.find_table::<Bgrt>()?;
+    assert_eq!(rt; recording.open(), places(&[root, graphic, graphic]));
+    drop(found);
+    assert_eq!(rt; recording.open(), places(&[root, graphic]));
+    assert!(rt; again.was_displayed());
+    drop(again);
+    assert_eq!(rt; recording.open(), places(&[root]));
+    drop(tables);
+    assert_eq!(rt; recording.flaw(), None);
+    Ok(())
+}
+
+#[test]
+fn a_lookup_leaves_what_it_found_lent(rt: HostRuntime) -> Result<(), Fail> {
+    let file = faulty_members();
+    let image = MemoryImage::from_bytes(rt.alloc(), &file)?;
+    check_lookups(&rt, &image)?;
+    check_lookups(&rt, &Exact::new(&image))?;
+    Ok(())
+}
+
+/// The table at an address, opened with no root table.
+fn check_alone<H: AcpiHandler>(rt: &impl Abort, handler: &H) -> Result<(), AcpiError> {
+    let recording = Recording::new(handler);
+    let of_type = map_table::<Recording<'_, H>, Bgrt>(&recording, 0x6000)?;
+    let of_name = map_sdt(&recording, 0x3000, Signature::SSDT)?;
+    let of_any = map_own_sdt(&recording, 0x3000)?;
+    let ssdt = (0x3000, 44);
+    assert_eq!(rt; recording.open(), places(&[(0x6000, 56), ssdt, ssdt]));
+    assert_eq!(rt; of_type.mapped_length(), 56);
+    assert_eq!(rt; (of_name.bytes().len(), of_any.bytes().len()), (44, 44));
+    drop(of_name);
+    drop(of_type);
+    assert_eq!(rt; recording.open(), places(&[ssdt]));
+    drop(of_any);
+    for address in [0x2000, 0x4000, 0x5000] {
+        assert!(rt; map_table::<Recording<'_, H>, Bgrt>(&recording, address).is_err());
+        assert!(rt; map_sdt(&recording, address, Signature::BGRT).is_err());
+        assert!(rt; map_own_sdt(&recording, address).is_err());
+        assert_eq!(rt; recording.flaw(), None, "at {address}");
+    }
+    Ok(())
+}
+
+#[test]
+fn a_table_alone_is_lent_while_it_is_mapped(rt: HostRuntime) -> Result<(), Fail> {
+    let file = faulty_members();
+    let image = MemoryImage::from_bytes(rt.alloc(), &file)?;
+    check_alone(&rt, &image)?;
+    check_alone(&rt, &Exact::new(&image))?;
+    Ok(())
+}
+
+/// The DSDT, or why there is none: it leaves nothing lent but the root.
+fn check_dsdt<H: AcpiHandler>(
+    rt: &impl Abort,
+    handler: &H,
+    stream: AcpiResult<AmlTable>,
+) -> Result<(), AcpiError> {
+    let recording = Recording::new(handler);
+    let tables = AcpiTables::from_rsdt(&recording, 0, 0x1000)?;
+    assert_eq!(rt; tables.dsdt(), stream);
+    assert_eq!(rt; recording.open(), places(&[(0x1000, 40)]));
+    drop(tables);
+    assert_eq!(rt; recording.flaw(), None);
+    Ok(())
+}
+
+#[test]
+fn a_dsdt_is_lent_no_more(rt: HostRuntime) -> Result<(), Fail> {
+    let dsdt = Signature::DSDT;
+    let found = AmlTable {
+        address: 0x4024,
+        length: 4,
+    };
+    // One byte of the file is changed.
+    for (offset, byte, stream) in [
+        // Nothing is changed.
+        (72, b'F', Ok(found)),
+        // the FADT's name, and its address of the DSDT with the sum that it wants
+        (72, b'X', Err(AcpiError::TableMissing(Signature::FADT))),
+        (113, 0, Err(AcpiError::InvalidDsdtAddress)),
+        // where the DSDT's record starts, its name, ids, length and sum
+        (188, 1, Err(AcpiError::MapFailed)),
+        (204, b'X', Err(AcpiError::SdtInvalidSignature(dsdt))),
+        (214, 0xFF, Err(AcpiError::SdtInvalidOemId(dsdt))),
+        (220, 0xFF, Err(AcpiError::SdtInvalidTableId(dsdt))),
+        (208, 35, Err(AcpiError::SdtInvalidLength(dsdt))),
+        (208, 41, Err(AcpiError::MapFailed)),
+        (213, 0, Err(AcpiError::SdtInvalidChecksum(dsdt))),
+    ] {
+        let checksum = if offset == 113 { 0x72 } else { 0x32 };
+        let mut file = with_dsdt(checksum, 0x40);
+        change(&mut file, offset, byte);
+        let image = MemoryImage::from_bytes(rt.alloc(), &file)?;
+        check_dsdt(&rt, &image, stream)?;
+        check_dsdt(&rt, &Exact::new(&image), stream)?;
+    }
+    Ok(())
+}

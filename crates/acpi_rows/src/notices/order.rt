@@ -1,0 +1,147 @@
+//! The order of requests and notices: a table's header is lent no more when the whole is asked for,
+//! an RSDP's 36 bytes still are, and a table is checked while it is lent.
+
+use crate::handlers::{Exact, Recording};
+use crate::history::{Event, places};
+use crate::samples::graphics::{long_graphic, one_graphic};
+use crate::samples::rsdps::{AREA, put_areas, put_long_rsdp, two_roots};
+use crate::watched::Watched;
+use acpi::bgrt::Bgrt;
+use acpi::rsdp::Rsdp;
+use acpi::{AcpiError, AcpiHandler, AcpiTables};
+use acpi_image::MemoryImage;
+use std::process::Abort;
+use std::test::Fail;
+
+/// What was asked for is lent.
+fn lent(address: u64, size: usize) -> Event {
+    Event::Lent {
+        address,
+        size,
+        lent: size,
+    }
+}
+
+/// The notice of what was lent so.
+fn ended(address: u64, size: usize) -> Event {
+    Event::Ended {
+        address,
+        shown: size,
+        lent: size,
+    }
+}
+
+#[test]
+fn a_header_is_lent_no_more_when_the_whole_is_asked_for(rt: HostRuntime) -> Result<(), Fail> {
+    let file = one_graphic();
+    let image = MemoryImage::from_bytes(rt.alloc(), &file)?;
+    let exact = Exact::new(&image);
+    let recording = Recording::new(&exact);
+    let graphic = AcpiTables::from_rsdt(&recording, 0, 0x1000)?.find_table::<Bgrt>()?;
+    drop(graphic);
+    let history = recording.history();
+    let expected = [
+        lent(0x1000, 36),
+        ended(0x1000, 36),
+        lent(0x1000, 40),
+        lent(0x2000, 36),
+        ended(0x2000, 36),
+        lent(0x2000, 56),
+        // The tables are dropped at the end of their statement.
+        ended(0x1000, 40),
+        ended(0x2000, 56),
+    ];
+    assert_eq!(rt; history.events(), expected.as_slice());
+    Ok(())
+}
+
+#[test]
+fn more_is_lent_than_is_shown(rt: HostRuntime) -> Result<(), Fail> {
+    let file = long_graphic();
+    let image = MemoryImage::from_bytes(rt.alloc(), &file)?;
+    let recording = Recording::new(&image);
+    let tables = AcpiTables::from_rsdt(&recording, 0, 0x1000)?;
+    drop(tables.find_table::<Bgrt>()?);
+    let history = recording.history();
+    let lent = |size| Event::Lent {
+        address: 0x2000,
+        size,
+        lent: 64,
+    };
+    let ended = |shown| Event::Ended {
+        address: 0x2000,
+        shown,
+        lent: 64,
+    };
+    let expected = [lent(36), ended(36), lent(56), ended(56)];
+    let seen = history.events();
+    assert_eq!(rt; seen.len(), 7);
+    assert_eq!(rt; seen.get(3..), Some(expected.as_slice()));
+    Ok(())
+}
+
+#[test]
+fn an_rsdp_is_lent_while_its_whole_is(rt: HostRuntime) -> Result<(), Fail> {
+    let file = two_roots();
+    let image = MemoryImage::from_bytes(rt.alloc(), &file)?;
+    let exact = Exact::new(&image);
+    let recording = Recording::new(&exact);
+    drop(AcpiTables::from_rsdp(&recording, 0x700)?);
+    let history = recording.history();
+    let expected = [
+        lent(0x700, 36),
+        lent(0x700, 40),
+        ended(0x700, 40),
+        ended(0x700, 36),
+        lent(0x3000, 36),
+        ended(0x3000, 36),
+        lent(0x3000, 44),
+        ended(0x3000, 44),
+    ];
+    assert_eq!(rt; history.events(), expected.as_slice());
+    Ok(())
+}
+
+#[test]
+fn an_area_is_lent_while_its_candidates_are(rt: HostRuntime) -> Result<(), Fail> {
+    let mut file = vec![in rt.alloc(); 0u8; 131122]?;
+    put_areas(&mut file, 0);
+    put_long_rsdp(&mut file, AREA + 0x20);
+    let image = MemoryImage::from_bytes(rt.alloc(), &file)?;
+    let exact = Exact::new(&image);
+    let recording = Recording::new(&exact);
+    drop(Rsdp::search_for_on_bios(&recording)?);
+    let history = recording.history();
+    let expected = [
+        lent(0x40e, 2),
+        ended(0x40e, 2),
+        lent(0xe0000, 0x20010),
+        lent(0xe0020, 36),
+        lent(0xe0020, 40),
+        ended(0xe0020, 40),
+        ended(0xe0000, 0x20010),
+        ended(0xe0020, 36),
+    ];
+    assert_eq!(rt; history.events(), expected.as_slice());
+    Ok(())
+}
+
+/// The value that a mapping shows is the one that was checked, once, and its bytes are still lent.
+fn check_watched<H: AcpiHandler>(rt: &impl Abort, handler: &H) -> Result<(), AcpiError> {
+    let recording = Recording::new(handler);
+    let tables = AcpiTables::from_rsdt(&recording, 0, 0x1000)?;
+    let table = tables.find_table::<Watched>()?;
+    assert_eq!(rt; table.checks(), 1);
+    let open = places(&[(0x1000, 40), (0x2000, 56)]);
+    assert_eq!(rt; recording.open(), open);
+    Ok(())
+}
+
+#[test]
+fn a_table_is_checked_while_it_is_lent(rt: HostRuntime) -> Result<(), Fail> {
+    let file = long_graphic();
+    let image = MemoryImage::from_bytes(rt.alloc(), &file)?;
+    check_watched(&rt, &image)?;
+    check_watched(&rt, &Exact::new(&image))?;
+    Ok(())
+}

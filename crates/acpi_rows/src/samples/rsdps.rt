@@ -1,0 +1,79 @@
+//! RSDPs, the BIOS areas that a search looks at, and the root tables that RSDPs lead to.
+ghost use Rattle.std.specs.Prelude.{◌+◌, ◌≤◌, length};
+
+use super::{put, put_graphic, put_head, put_table};
+
+/// Where the bytes of the first area begin in a file, and where they end.
+pub(crate) const AREA: usize = 34;
+
+pub(crate) const AREA_END: usize = 131122;
+
+/// Writes a word at 0x40e, and the head of the first area with the 16 bytes behind it, which are
+/// zero. More records follow at `AREA_END`.
+pub(crate) fn put_areas(file: &mut [u8], word: u16)
+    requires { 131122 ≤ length file.old }
+{
+    put_head(file, 0, 0x40e, 2);
+    put(file, 16, &word.to_le_bytes());
+    put_head(file, 18, 0xe0000, 0x20010);
+}
+
+/// Writes an RSDP of version 1 that leads to the RSDT at 0x1000.
+pub(crate) fn put_rsdp(file: &mut [u8], offset: usize, checksum: u8)
+    requires { offset + 20 ≤ length file.old }
+{
+    put(file, offset, b"RSD PTR ");
+    put(file, offset + 8, &[checksum]);
+    put(file, offset + 9, b"      \0\0\x10\0\0");
+}
+
+/// Writes an RSDP of version 2 that leads to the XSDT at 0x2000.
+pub(crate) fn put_rsdp_2(file: &mut [u8], offset: usize)
+    requires { offset + 36 ≤ length file.old }
+{
+    put(
+        file,
+        offset,
+        b"RSD PTR \x1f      \x02\0\0\0\0\x24\0\0\0\0\x20",
+    );
+    put(file, offset + 32, &[0xBC]);
+}
+
+/// Writes an RSDP of version 2 and of 40 bytes, the last four being 1, 2, 3 and 4. It leads to the
+/// XSDT at 0x3000. Only all 40 bytes sum to 0, not the first 36.
+pub(crate) fn put_long_rsdp(file: &mut [u8], offset: usize)
+    requires { offset + 40 ≤ length file.old }
+{
+    put(
+        file,
+        offset,
+        b"RSD PTR \x1f      \x02\0\0\0\0\x28\0\0\0\0\x30",
+    );
+    put(file, offset + 32, &[0x9E, 0, 0, 0, 1, 2, 3, 4]);
+}
+
+/// Writes three records of 188 bytes together: an RSDT at 0x1000 and an XSDT at 0x3000, which list
+/// 0x2000 each, and a boot graphic there.
+pub(crate) fn put_roots(file: &mut [u8], offset: usize)
+    requires { offset + 188 ≤ length file.old }
+{
+    put_head(file, offset, 0x1000, 40);
+    put_table(file, offset + 16, b"RSDT", 40, 0x7B);
+    put(file, offset + 52, &[0x00, 0x20]);
+    put_head(file, offset + 56, 0x3000, 44);
+    put_table(file, offset + 72, b"XSDT", 44, 0x71);
+    put(file, offset + 108, &[0x00, 0x20]);
+    put_head(file, offset + 116, 0x2000, 56);
+    put_graphic(file, offset + 132);
+}
+
+/// An RSDP of version 1 at 0x600, one of version 2 at 0x700, and what they lead to.
+pub(crate) fn two_roots() -> [u8; 296] {
+    let mut file = [0; 296];
+    put_head(&mut file, 0, 0x600, 36);
+    put_rsdp(&mut file, 16, 0x11);
+    put_head(&mut file, 52, 0x700, 40);
+    put_long_rsdp(&mut file, 68);
+    put_roots(&mut file, 108);
+    file
+}
