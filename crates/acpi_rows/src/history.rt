@@ -52,7 +52,7 @@ impl Shown<'_> {
 pub(crate) enum Flaw {
     /// More happened than there is room for, or more was lent than the scenario has.
     Full,
-    /// This notice names no loan that is open: another address, or other lengths, or it came before.
+    /// This notice names no loan that is open: another address or length, or it came before.
     Unmatched(Event),
     /// No notice came for the loan of so many bytes at this address.
     StillLent(u64, usize),

@@ -1,6 +1,6 @@
 //! Headers, SSDTs and faults, over images that are spelled out byte by byte.
 
-use crate::handlers::Exact;
+use crate::handlers::{Scenario, over_each_handler};
 use crate::samples::graphics::{empty_root, short_graphic};
 use crate::samples::members::{damaged_first, faulty_members, repeated};
 use acpi::bgrt::Bgrt;
@@ -10,32 +10,33 @@ use acpi_image::MemoryImage;
 use std::process::Abort;
 use std::test::Fail;
 
-fn check_repeated<H: AcpiHandler>(rt: &impl Abort, handler: &H) -> Result<(), AcpiError> {
-    let tables = AcpiTables::from_rsdt(handler, 0, 0x1000)?;
-    assert_eq!(rt; tables.headers().count(), 2);
-    for header in tables.headers() {
-        assert_eq!(rt; (header.signature, header.length), (Signature::SSDT, 36));
+/// The SSDT at 0x2000, twice.
+struct Repeated;
+
+impl Scenario for Repeated {
+    fn check<R: Abort, H: AcpiHandler>(rt: &R, handler: &H) -> Result<(), AcpiError> {
+        let tables = AcpiTables::from_rsdt(handler, 0, 0x1000)?;
+        assert_eq!(rt; tables.headers().count(), 2);
+        for header in tables.headers() {
+            assert_eq!(rt; (header.signature, header.length), (Signature::SSDT, 36));
+        }
+        let mut ssdts = tables.ssdts();
+        let stream = AmlTable {
+            address: 0x2024,
+            length: 0,
+        };
+        assert_eq!(rt; ssdts.next(), Some(stream));
+        assert_eq!(rt; ssdts.next(), Some(stream));
+        assert_eq!(rt; ssdts.next(), None);
+        assert_eq!(rt; ssdts.next(), None);
+        assert_eq!(rt; tables.faults::<Bgrt>().count(), 0);
+        Ok(())
     }
-    let mut ssdts = tables.ssdts();
-    let stream = AmlTable {
-        address: 0x2024,
-        length: 0,
-    };
-    assert_eq!(rt; ssdts.next(), Some(stream));
-    assert_eq!(rt; ssdts.next(), Some(stream));
-    assert_eq!(rt; ssdts.next(), None);
-    assert_eq!(rt; ssdts.next(), None);
-    assert_eq!(rt; tables.faults::<Bgrt>().count(), 0);
-    Ok(())
 }
 
 #[test]
 fn a_repeated_pointer_repeats_its_table(rt: HostRuntime) -> Result<(), Fail> {
-    let file = repeated();
-    let image = MemoryImage::from_bytes(rt.alloc(), &file)?;
-    check_repeated(&rt, &image)?;
-    check_repeated(&rt, &Exact::new(&image))?;
-    Ok(())
+    over_each_handler::<Repeated>(&rt, &repeated())
 }
 
 #[test]
@@ -83,40 +84,41 @@ fn a_table_that_is_not_lent_is_a_fault(rt: HostRuntime) -> Result<(), Fail> {
     Ok(())
 }
 
-fn check_faulty<H: AcpiHandler>(rt: &impl Abort, handler: &H) -> Result<(), AcpiError> {
-    let tables = AcpiTables::from_rsdt(handler, 0, 0x1000)?;
-    assert_eq!(rt; tables.find_table::<Bgrt>()?.physical_start(), 0x6000);
-    let mut headers = tables.headers();
-    for name in [Signature::SSDT, Signature::BGRT] {
-        let header = headers.next();
-        assert_eq!(rt; header.map(|it| it.signature), Some(name));
+/// What is valid among faulty members, and why the others were passed over.
+struct Faulty;
+
+impl Scenario for Faulty {
+    fn check<R: Abort, H: AcpiHandler>(rt: &R, handler: &H) -> Result<(), AcpiError> {
+        let tables = AcpiTables::from_rsdt(handler, 0, 0x1000)?;
+        assert_eq!(rt; tables.find_table::<Bgrt>()?.physical_start(), 0x6000);
+        let mut headers = tables.headers();
+        for name in [Signature::SSDT, Signature::BGRT] {
+            let header = headers.next();
+            assert_eq!(rt; header.map(|it| it.signature), Some(name));
+        }
+        assert!(rt; headers.next().is_none());
+        let mut ssdts = tables.ssdts();
+        let stream = AmlTable {
+            address: 0x3024,
+            length: 8,
+        };
+        assert_eq!(rt; ssdts.next(), Some(stream));
+        assert_eq!(rt; ssdts.next(), None);
+        let mut faults = tables.faults::<Bgrt>();
+        let bad_sum = AcpiError::SdtInvalidChecksum(Signature::BGRT);
+        for (address, error) in [
+            (0x2000, bad_sum),
+            (0x4000, AcpiError::MapFailed),
+            (0x5000, AcpiError::MapFailed),
+        ] {
+            assert_eq!(rt; faults.next(), Some(TableFault { address, error }));
+        }
+        assert_eq!(rt; faults.next(), None);
+        Ok(())
     }
-    assert!(rt; headers.next().is_none());
-    let mut ssdts = tables.ssdts();
-    let stream = AmlTable {
-        address: 0x3024,
-        length: 8,
-    };
-    assert_eq!(rt; ssdts.next(), Some(stream));
-    assert_eq!(rt; ssdts.next(), None);
-    let mut faults = tables.faults::<Bgrt>();
-    let bad_sum = AcpiError::SdtInvalidChecksum(Signature::BGRT);
-    for (address, error) in [
-        (0x2000, bad_sum),
-        (0x4000, AcpiError::MapFailed),
-        (0x5000, AcpiError::MapFailed),
-    ] {
-        assert_eq!(rt; faults.next(), Some(TableFault { address, error }));
-    }
-    assert_eq!(rt; faults.next(), None);
-    Ok(())
 }
 
 #[test]
 fn faulty_members_are_passed_over(rt: HostRuntime) -> Result<(), Fail> {
-    let file = faulty_members();
-    let image = MemoryImage::from_bytes(rt.alloc(), &file)?;
-    check_faulty(&rt, &image)?;
-    check_faulty(&rt, &Exact::new(&image))?;
-    Ok(())
+    over_each_handler::<Faulty>(&rt, &faulty_members())
 }

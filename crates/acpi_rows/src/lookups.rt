@@ -1,7 +1,7 @@
 //! What is opened and found, over each handler.
 
 use crate::example::Wsmt;
-use crate::handlers::{Exact, Recording};
+use crate::handlers::{Exact, Scenario, over_each_handler};
 use crate::samples::graphics::{
     empty_root, long_graphic, one_graphic, short_graphic, short_last_pointer, split_graphic,
 };
@@ -13,78 +13,74 @@ use acpi_image::MemoryImage;
 use std::process::Abort;
 use std::test::Fail;
 
-/// Checks a row over each handler of an image: the image itself, which lends all to a record's end,
-/// one that lends just what is asked for, and both of them recorded, where each loan has its notice.
-macro_rules! over_each_handler {
-    ($rt:expr, $file:expr, $row:ident) => {{
-        let file = $file;
-        let image = MemoryImage::from_bytes($rt.alloc(), &file)?;
-        let exact = Exact::new(&image);
-        $row(&$rt, &image)?;
-        $row(&$rt, &exact)?;
-        let recording = Recording::new(&image);
-        $row(&$rt, &recording)?;
-        assert_eq!(&$rt; recording.flaw(), None);
-        let recording = Recording::new(&exact);
-        $row(&$rt, &recording)?;
-        assert_eq!(&$rt; recording.flaw(), None);
-    }};
-}
+/// No table is found.
+struct EmptyRoot;
 
-fn check_empty<H: AcpiHandler>(rt: &impl Abort, handler: &H) -> Result<(), AcpiError> {
-    let tables = AcpiTables::from_rsdt(handler, 0, 0x1000)?;
-    assert_eq!(rt; tables.revision(), 0);
-    let graphic = tables.find_table::<Bgrt>().err();
-    assert_eq!(rt; graphic, Some(AcpiError::TableMissing(Signature::BGRT)));
-    let protections = tables.find_table::<Wsmt>().err();
-    assert_eq!(rt; protections, Some(AcpiError::TableMissing(Signature::WSMT)));
-    Ok(())
+impl Scenario for EmptyRoot {
+    fn check<R: Abort, H: AcpiHandler>(rt: &R, handler: &H) -> Result<(), AcpiError> {
+        let tables = AcpiTables::from_rsdt(handler, 0, 0x1000)?;
+        assert_eq!(rt; tables.revision(), 0);
+        let graphic = tables.find_table::<Bgrt>().err();
+        assert_eq!(rt; graphic, Some(AcpiError::TableMissing(Signature::BGRT)));
+        let protections = tables.find_table::<Wsmt>().err();
+        assert_eq!(rt; protections, Some(AcpiError::TableMissing(Signature::WSMT)));
+        Ok(())
+    }
 }
 
 #[test]
 fn an_empty_root_lists_no_table(rt: HostRuntime) -> Result<(), Fail> {
-    over_each_handler!(rt, empty_root(), check_empty);
+    over_each_handler::<EmptyRoot>(&rt, &empty_root())?;
     Ok(())
 }
 
-fn check_graphic<H: AcpiHandler>(rt: &impl Abort, handler: &H) -> Result<(), AcpiError> {
-    let tables = AcpiTables::from_rsdt(handler, 0, 0x1000)?;
-    let graphic = tables.find_table::<Bgrt>()?;
-    assert_eq!(rt; graphic.physical_start(), 0x2000);
-    assert_eq!(rt; graphic.region_length(), 56);
-    assert_eq!(rt; graphic.bytes(), &one_graphic()[72..]);
-    assert_eq!(rt; graphic.version, 1);
-    assert!(rt; graphic.was_displayed());
-    assert_eq!(rt; graphic.orientation_offset(), 180);
-    assert_eq!(rt; graphic.image_type(), ImageType::Bitmap);
-    assert_eq!(rt; graphic.image_address, 0);
-    assert_eq!(rt; graphic.image_offset(), (0, 0));
-    Ok(())
+/// The boot graphic at 0x2000, field by field.
+struct Graphic;
+
+impl Scenario for Graphic {
+    fn check<R: Abort, H: AcpiHandler>(rt: &R, handler: &H) -> Result<(), AcpiError> {
+        let tables = AcpiTables::from_rsdt(handler, 0, 0x1000)?;
+        let graphic = tables.find_table::<Bgrt>()?;
+        assert_eq!(rt; graphic.physical_start(), 0x2000);
+        assert_eq!(rt; graphic.region_length(), 56);
+        assert_eq!(rt; graphic.bytes(), &one_graphic()[72..]);
+        assert_eq!(rt; graphic.version, 1);
+        assert!(rt; graphic.was_displayed());
+        assert_eq!(rt; graphic.orientation_offset(), 180);
+        assert_eq!(rt; graphic.image_type(), ImageType::Bitmap);
+        assert_eq!(rt; graphic.image_address, 0);
+        assert_eq!(rt; graphic.image_offset(), (0, 0));
+        Ok(())
+    }
 }
 
 #[test]
 fn a_boot_graphic_is_found(rt: HostRuntime) -> Result<(), Fail> {
-    over_each_handler!(rt, one_graphic(), check_graphic);
-    over_each_handler!(rt, long_graphic(), check_graphic);
+    over_each_handler::<Graphic>(&rt, &one_graphic())?;
+    over_each_handler::<Graphic>(&rt, &long_graphic())?;
     Ok(())
 }
 
 /// A boot graphic that its header says is longer than what is lent.
-fn check_cut_graphic<H: AcpiHandler>(rt: &impl Abort, handler: &H) -> Result<(), AcpiError> {
-    let header = PhysicalMapping::<H, SdtHeader>::map(handler, 0x2000, 36)?;
-    assert_eq!(rt; header.length, 56);
-    let alone = map_table::<H, Bgrt>(handler, 0x2000).err();
-    assert_eq!(rt; alone, Some(AcpiError::MapFailed));
-    let tables = AcpiTables::from_rsdt(handler, 0, 0x1000)?;
-    let graphic = tables.find_table::<Bgrt>().err();
-    assert_eq!(rt; graphic, Some(AcpiError::TableMissing(Signature::BGRT)));
-    Ok(())
+struct CutGraphic;
+
+impl Scenario for CutGraphic {
+    fn check<R: Abort, H: AcpiHandler>(rt: &R, handler: &H) -> Result<(), AcpiError> {
+        let header = PhysicalMapping::<H, SdtHeader>::map(handler, 0x2000, 36)?;
+        assert_eq!(rt; header.length, 56);
+        let alone = map_table::<H, Bgrt>(handler, 0x2000).err();
+        assert_eq!(rt; alone, Some(AcpiError::MapFailed));
+        let tables = AcpiTables::from_rsdt(handler, 0, 0x1000)?;
+        let graphic = tables.find_table::<Bgrt>().err();
+        assert_eq!(rt; graphic, Some(AcpiError::TableMissing(Signature::BGRT)));
+        Ok(())
+    }
 }
 
 #[test]
 fn a_table_that_is_not_lent_whole_is_missing(rt: HostRuntime) -> Result<(), Fail> {
-    over_each_handler!(rt, short_graphic(), check_cut_graphic);
-    over_each_handler!(rt, split_graphic(), check_cut_graphic);
+    over_each_handler::<CutGraphic>(&rt, &short_graphic())?;
+    over_each_handler::<CutGraphic>(&rt, &split_graphic())?;
     Ok(())
 }
 
@@ -94,22 +90,32 @@ fn graphic_place<H: AcpiHandler>(handler: &H) -> Result<u64, AcpiError> {
     Ok(tables.find_table::<Bgrt>()?.physical_start())
 }
 
-fn check_last_pointer<H: AcpiHandler>(rt: &impl Abort, handler: &H) -> Result<(), AcpiError> {
-    assert_eq!(rt; AcpiTables::from_rsdt(handler, 2, 0x3000)?.revision(), 2);
-    assert_eq!(rt; graphic_place(handler)?, 0x1234);
-    Ok(())
+/// The boot graphic that the last pointer leads to.
+struct LastPointer;
+
+impl Scenario for LastPointer {
+    fn check<R: Abort, H: AcpiHandler>(rt: &R, handler: &H) -> Result<(), AcpiError> {
+        assert_eq!(rt; AcpiTables::from_rsdt(handler, 2, 0x3000)?.revision(), 2);
+        assert_eq!(rt; graphic_place(handler)?, 0x1234);
+        Ok(())
+    }
 }
 
-fn check_both_pointers<H: AcpiHandler>(rt: &impl Abort, handler: &H) -> Result<(), AcpiError> {
-    assert_eq!(rt; graphic_place(handler)?, 0x10_0000);
-    Ok(())
+/// The boot graphic that the pointer before it leads to.
+struct FirstPointer;
+
+impl Scenario for FirstPointer {
+    fn check<R: Abort, H: AcpiHandler>(rt: &R, handler: &H) -> Result<(), AcpiError> {
+        assert_eq!(rt; graphic_place(handler)?, 0x10_0000);
+        Ok(())
+    }
 }
 
 #[test]
 fn a_short_last_pointer_is_filled_up(rt: HostRuntime) -> Result<(), Fail> {
     // Nothing is lent at 0x100000, the pointer before it.
-    over_each_handler!(rt, short_last_pointer(0x20_0000), check_last_pointer);
-    over_each_handler!(rt, short_last_pointer(0x10_0000), check_both_pointers);
+    over_each_handler::<LastPointer>(&rt, &short_last_pointer(0x20_0000))?;
+    over_each_handler::<FirstPointer>(&rt, &short_last_pointer(0x10_0000))?;
     Ok(())
 }
 

@@ -1,7 +1,7 @@
 //! What is lent after a lookup, and while the table that it found is mapped.
 
 use crate::example::Wsmt;
-use crate::handlers::{Exact, Recording};
+use crate::handlers::{Exact, Recording, Scenario, over_each_handler};
 use crate::history::places;
 use crate::samples::change;
 use crate::samples::members::{faulty_members, with_dsdt};
@@ -13,67 +13,67 @@ use std::process::Abort;
 use std::test::Fail;
 
 /// A boot graphic behind faulty members, twice, and a table that isn't there.
-fn check_lookups<H: AcpiHandler>(rt: &impl Abort, handler: &H) -> Result<(), AcpiError> {
-    let (root, graphic) = ((0x1000, 56), (0x6000, 56));
-    let recording = Recording::new(handler);
-    let tables = AcpiTables::from_rsdt(&recording, 0, 0x1000)?;
-    let missing = tables.find_table::<Wsmt>().err();
-    assert_eq!(rt; missing, Some(AcpiError::TableMissing(Signature::WSMT)));
-    assert_eq!(rt; recording.open(), places(&[root]));
-    let found = tables.find_table::<Bgrt>()?;
-    assert_eq!(rt; found.physical_start(), 0x6000);
-    assert_eq!(rt; recording.open(), places(&[root, graphic]));
-    let again = tables.find_table::<Bgrt>()?;
-    assert_eq!(rt; recording.open(), places(&[root, graphic, graphic]));
-    drop(found);
-    assert_eq!(rt; recording.open(), places(&[root, graphic]));
-    assert!(rt; again.was_displayed());
-    drop(again);
-    assert_eq!(rt; recording.open(), places(&[root]));
-    drop(tables);
-    assert_eq!(rt; recording.flaw(), None);
-    Ok(())
+struct Lookups;
+
+impl Scenario for Lookups {
+    fn check<R: Abort, H: AcpiHandler>(rt: &R, handler: &H) -> Result<(), AcpiError> {
+        let (root, graphic) = ((0x1000, 56), (0x6000, 56));
+        let recording = Recording::new(handler);
+        let tables = AcpiTables::from_rsdt(&recording, 0, 0x1000)?;
+        let missing = tables.find_table::<Wsmt>().err();
+        assert_eq!(rt; missing, Some(AcpiError::TableMissing(Signature::WSMT)));
+        assert_eq!(rt; recording.open(), places(&[root]));
+        let found = tables.find_table::<Bgrt>()?;
+        assert_eq!(rt; found.physical_start(), 0x6000);
+        assert_eq!(rt; recording.open(), places(&[root, graphic]));
+        let again = tables.find_table::<Bgrt>()?;
+        assert_eq!(rt; recording.open(), places(&[root, graphic, graphic]));
+        drop(found);
+        assert_eq!(rt; recording.open(), places(&[root, graphic]));
+        assert!(rt; again.was_displayed());
+        drop(again);
+        assert_eq!(rt; recording.open(), places(&[root]));
+        drop(tables);
+        assert_eq!(rt; recording.flaw(), None);
+        Ok(())
+    }
 }
 
 #[test]
 fn a_lookup_leaves_what_it_found_lent(rt: HostRuntime) -> Result<(), Fail> {
-    let file = faulty_members();
-    let image = MemoryImage::from_bytes(rt.alloc(), &file)?;
-    check_lookups(&rt, &image)?;
-    check_lookups(&rt, &Exact::new(&image))?;
-    Ok(())
+    over_each_handler::<Lookups>(&rt, &faulty_members())
 }
 
 /// The table at an address, opened with no root table.
-fn check_alone<H: AcpiHandler>(rt: &impl Abort, handler: &H) -> Result<(), AcpiError> {
-    let recording = Recording::new(handler);
-    let of_type = map_table::<Recording<'_, H>, Bgrt>(&recording, 0x6000)?;
-    let of_name = map_sdt(&recording, 0x3000, Signature::SSDT)?;
-    let of_any = map_own_sdt(&recording, 0x3000)?;
-    let ssdt = (0x3000, 44);
-    assert_eq!(rt; recording.open(), places(&[(0x6000, 56), ssdt, ssdt]));
-    assert_eq!(rt; of_type.mapped_length(), 56);
-    assert_eq!(rt; (of_name.bytes().len(), of_any.bytes().len()), (44, 44));
-    drop(of_name);
-    drop(of_type);
-    assert_eq!(rt; recording.open(), places(&[ssdt]));
-    drop(of_any);
-    for address in [0x2000, 0x4000, 0x5000] {
-        assert!(rt; map_table::<Recording<'_, H>, Bgrt>(&recording, address).is_err());
-        assert!(rt; map_sdt(&recording, address, Signature::BGRT).is_err());
-        assert!(rt; map_own_sdt(&recording, address).is_err());
-        assert_eq!(rt; recording.flaw(), None, "at {address}");
+struct Alone;
+
+impl Scenario for Alone {
+    fn check<R: Abort, H: AcpiHandler>(rt: &R, handler: &H) -> Result<(), AcpiError> {
+        let recording = Recording::new(handler);
+        let of_type = map_table::<Recording<'_, H>, Bgrt>(&recording, 0x6000)?;
+        let of_name = map_sdt(&recording, 0x3000, Signature::SSDT)?;
+        let of_any = map_own_sdt(&recording, 0x3000)?;
+        let ssdt = (0x3000, 44);
+        assert_eq!(rt; recording.open(), places(&[(0x6000, 56), ssdt, ssdt]));
+        assert_eq!(rt; of_type.mapped_length(), 56);
+        assert_eq!(rt; (of_name.bytes().len(), of_any.bytes().len()), (44, 44));
+        drop(of_name);
+        drop(of_type);
+        assert_eq!(rt; recording.open(), places(&[ssdt]));
+        drop(of_any);
+        for address in [0x2000, 0x4000, 0x5000] {
+            assert!(rt; map_table::<Recording<'_, H>, Bgrt>(&recording, address).is_err());
+            assert!(rt; map_sdt(&recording, address, Signature::BGRT).is_err());
+            assert!(rt; map_own_sdt(&recording, address).is_err());
+            assert_eq!(rt; recording.flaw(), None, "at {address}");
+        }
+        Ok(())
     }
-    Ok(())
 }
 
 #[test]
 fn a_table_alone_is_lent_while_it_is_mapped(rt: HostRuntime) -> Result<(), Fail> {
-    let file = faulty_members();
-    let image = MemoryImage::from_bytes(rt.alloc(), &file)?;
-    check_alone(&rt, &image)?;
-    check_alone(&rt, &Exact::new(&image))?;
-    Ok(())
+    over_each_handler::<Alone>(&rt, &faulty_members())
 }
 
 /// The DSDT, or why there is none: it leaves nothing lent but the root.

@@ -1,8 +1,8 @@
 //! The order of requests and notices: a table's header is lent no more when the whole is asked for,
 //! an RSDP's 36 bytes still are, and a table is checked while it is lent.
 
-use crate::handlers::{Exact, Recording};
-use crate::history::{Event, places};
+use crate::handlers::{Exact, Recording, Scenario, over_each_handler};
+use crate::history::{Event, Shown, places};
 use crate::samples::graphics::{long_graphic, one_graphic};
 use crate::samples::rsdps::{AREA, put_areas, put_long_rsdp, two_roots};
 use crate::watched::Watched;
@@ -59,9 +59,12 @@ fn a_header_is_lent_no_more_when_the_whole_is_asked_for(rt: HostRuntime) -> Resu
 fn more_is_lent_than_is_shown(rt: HostRuntime) -> Result<(), Fail> {
     let file = long_graphic();
     let image = MemoryImage::from_bytes(rt.alloc(), &file)?;
-    let recording = Recording::new(&image);
+    let shown = [36, 40, 36, 56];
+    let recording = Recording::showing(&image, Shown::These(&shown));
     let tables = AcpiTables::from_rsdt(&recording, 0, 0x1000)?;
     drop(tables.find_table::<Bgrt>()?);
+    drop(tables);
+    assert_eq!(rt; recording.flaw(), None);
     let history = recording.history();
     let lent = |size| Event::Lent {
         address: 0x2000,
@@ -75,8 +78,8 @@ fn more_is_lent_than_is_shown(rt: HostRuntime) -> Result<(), Fail> {
     };
     let expected = [lent(36), ended(36), lent(56), ended(56)];
     let seen = history.events();
-    assert_eq!(rt; seen.len(), 7);
-    assert_eq!(rt; seen.get(3..), Some(expected.as_slice()));
+    assert_eq!(rt; seen.len(), 8);
+    assert_eq!(rt; seen.get(3..7), Some(expected.as_slice()));
     Ok(())
 }
 
@@ -127,21 +130,21 @@ fn an_area_is_lent_while_its_candidates_are(rt: HostRuntime) -> Result<(), Fail>
 }
 
 /// The value that a mapping shows is the one that was checked, once, and its bytes are still lent.
-fn check_watched<H: AcpiHandler>(rt: &impl Abort, handler: &H) -> Result<(), AcpiError> {
-    let recording = Recording::new(handler);
-    let tables = AcpiTables::from_rsdt(&recording, 0, 0x1000)?;
-    let table = tables.find_table::<Watched>()?;
-    assert_eq!(rt; table.checks(), 1);
-    let open = places(&[(0x1000, 40), (0x2000, 56)]);
-    assert_eq!(rt; recording.open(), open);
-    Ok(())
+struct CheckedOnce;
+
+impl Scenario for CheckedOnce {
+    fn check<R: Abort, H: AcpiHandler>(rt: &R, handler: &H) -> Result<(), AcpiError> {
+        let recording = Recording::new(handler);
+        let tables = AcpiTables::from_rsdt(&recording, 0, 0x1000)?;
+        let table = tables.find_table::<Watched>()?;
+        assert_eq!(rt; table.checks(), 1);
+        let open = places(&[(0x1000, 40), (0x2000, 56)]);
+        assert_eq!(rt; recording.open(), open);
+        Ok(())
+    }
 }
 
 #[test]
 fn a_table_is_checked_while_it_is_lent(rt: HostRuntime) -> Result<(), Fail> {
-    let file = long_graphic();
-    let image = MemoryImage::from_bytes(rt.alloc(), &file)?;
-    check_watched(&rt, &image)?;
-    check_watched(&rt, &Exact::new(&image))?;
-    Ok(())
+    over_each_handler::<CheckedOnce>(&rt, &long_graphic())
 }

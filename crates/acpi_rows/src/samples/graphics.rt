@@ -75,7 +75,7 @@ pub(crate) fn short_last_pointer(elsewhere: u64) -> [u8; 207] {
     file
 }
 
-/// Memory from 0x1000 on: an RSDT that lists a boot graphic at 0x1040, whose image lies at 0xC00000,
+/// Memory from 0x1000 on: an RSDT that lists a boot graphic at 0x1040, of an image at 0xC00000,
 /// and a WSMT at 0x1080, whose protections are 7.
 pub(crate) fn two_tables() -> [u8; 168] {
     let mut memory = [0; 168];

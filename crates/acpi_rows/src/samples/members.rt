@@ -55,7 +55,7 @@ pub(crate) fn faulty_members() -> [u8; 348] {
     file
 }
 
-/// An RSDT at 0x1000 that lists a FADT of 116 bytes at 0x2000, with this checksum and this byte 1 of
+/// An RSDT at 0x1000 that lists a FADT of 116 bytes at 0x2000, with this checksum and byte 1 of
 /// the DSDT's address, and a DSDT of 40 bytes at 0x4000.
 pub(crate) fn with_dsdt(checksum: u8, page: u8) -> [u8; 244] {
     let mut file = [0; 244];
