@@ -69,7 +69,6 @@ impl PhysicalRecord for Wsmt {
 }
 
 impl AcpiTable for Wsmt {
-    ghost use Rattle.std.specs.Prelude.{refl};
     ghost use Rattle.std.proofs.Common.{lit≤};
     ghost use Rattle.acpi_base.specs.Header.{check_table};
     ghost use Rattle.acpi_base.specs.declared.signature.TheConstants.Signature.{WSMT};
@@ -78,8 +77,6 @@ impl AcpiTable for Wsmt {
 
     ghost SIGNATURE = { WSMT };
 
-    ghost header_in = { λ t. t.header };
-
     ghost verdict = { check_table WSMT };
 
     fn header(&self) -> &SdtHeader {
@@ -87,12 +84,10 @@ impl AcpiTable for Wsmt {
     }
 
     fn validate(&self, bytes: &[u8]) -> AcpiResult<()> {
-        self.header.validate(Signature::WSMT, bytes)
+        self.header().validate(Self::SIGNATURE, bytes)
     }
 
     ghost least = { lit≤ tt };
-
-    ghost header_cut = { λ b h. refl };
 }
 
 /// Where the boot graphic lies, and what the firmware protects.

@@ -14,6 +14,8 @@ mod handlers;
 #[cfg(test)]
 mod history;
 #[cfg(test)]
+mod layouts;
+#[cfg(test)]
 mod lists;
 #[cfg(test)]
 mod lookups;

@@ -37,7 +37,6 @@ impl PhysicalRecord for Watched {
 }
 
 impl AcpiTable for Watched {
-    ghost use Rattle.std.specs.Prelude.{refl};
     ghost use Rattle.std.proofs.Common.{lit≤};
     ghost use Rattle.acpi_base.specs.Header.{check_table};
     ghost use Rattle.acpi_base.specs.declared.signature.TheConstants.Signature.{BGRT};
@@ -45,8 +44,6 @@ impl AcpiTable for Watched {
     const SIGNATURE: Signature = Signature::BGRT;
 
     ghost SIGNATURE = { BGRT };
-
-    ghost header_in = { λ t. t.header };
 
     ghost verdict = { check_table BGRT };
 
@@ -56,10 +53,8 @@ impl AcpiTable for Watched {
 
     fn validate(&self, bytes: &[u8]) -> AcpiResult<()> {
         self.checks.set(self.checks.get().wrapping_add(1));
-        self.header.validate(Signature::BGRT, bytes)
+        self.header().validate(Self::SIGNATURE, bytes)
     }
 
     ghost least = { lit≤ tt };
-
-    ghost header_cut = { λ b h. refl };
 }
