@@ -41,3 +41,12 @@ form_command form rest =
 abbrev pub command_of : List (List ℕ) → Option Command
 command_of (image ∷ form ∷ rest) = form_command form rest
 command_of _ = None
+
+-- the file that words name: the first of them, where they are a command
+abbrev pub file_for : Option Command → List (List ℕ) → Option (List ℕ)
+file_for None words = None
+file_for (Some command) [] = None
+file_for (Some command) (image ∷ rest) = Some image
+
+abbrev pub file_of : List (List ℕ) → Option (List ℕ)
+file_of words = file_for (command_of words) words

@@ -1,6 +1,8 @@
 //! Prints what the ACPI tables in a file of memory say.
 //!
-//! `acpi_view IMAGE rsdt REVISION ADDRESS` opens the root table at an address.
+//! `acpi_view IMAGE rsdt REVISION ADDRESS` opens the root table at an address,
+//! `acpi_view IMAGE rsdp ADDRESS` the one that the RSDP at an address leads to, and
+//! `acpi_view IMAGE bios` the one that the RSDP leads to which the BIOS areas hold.
 #![tactic(auto)]
 
 mod lines;
@@ -14,16 +16,26 @@ mod words;
 use run::run;
 use std::process::ExitCode;
 use std::{env, fs, io};
+use words::{file_named, texts_or_none};
 
 fn main(rt: HostRuntime) -> ExitCode {
-    // Words that are no text, or can't be had, are no command.
-    let texts = texts_of(&rt).unwrap_or(Vec::new(rt.alloc()));
-    let words = words_of(&rt, &texts).unwrap_or(Vec::new(rt.alloc()));
-    let image = words.first().and_then(|path| fs::read(&rt, *path).ok());
+    ExitCode::from(view(&rt).unwrap_or(1))
+}
+
+/// Runs the program on the process's words, and answers the status. The words are judged before the
+/// file that they name is opened.
+///
+/// Refuses where memory for the words is refused.
+fn view(rt: &HostRuntime) -> io::Result<u8> {
+    let texts = texts_or_none(rt.alloc(), texts_of(rt))?;
+    let mut words = Vec::new(rt.alloc());
+    for text in &texts {
+        words.push(text.as_str())?;
+    }
+    let image = file_named(&words).and_then(|name| fs::read(rt, name).ok());
     let bytes = image.as_ref().map(|image| image.as_slice());
-    let mut out = io::writer(&rt);
-    let mut err = rt.stderr();
-    ExitCode::from(run(rt.alloc(), &words, bytes, &mut out, &mut err))
+    let (mut out, mut err) = (io::writer(rt), rt.stderr());
+    Ok(run(rt.alloc(), &words, bytes, &mut out, &mut err))
 }
 
 /// The words behind the program's name.
@@ -33,13 +45,4 @@ fn texts_of(rt: &HostRuntime) -> io::Result<Vec<String>> {
         texts.push(text)?;
     }
     Ok(texts)
-}
-
-/// The same words, lent.
-fn words_of<'t>(rt: &HostRuntime, texts: &'t [String]) -> io::Result<Vec<&'t str>> {
-    let mut words = Vec::new(rt.alloc());
-    for text in texts {
-        words.push(text.as_str())?;
-    }
-    Ok(words)
 }

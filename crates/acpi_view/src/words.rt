@@ -1,17 +1,31 @@
 //! What the words of a command line ask for.
-ghost use Rattle.std.specs.Prelude.{◌≡◌, ◌^◌, ◌≤◌, map};
+ghost use Rattle.std.specs.Prelude.{◌≡◌, ◌≢◌, ◌^◌, ◌≤◌, [], IfErr, IfOk, IsOkAnd, map};
 ghost use Rattle.std.specs.Char.{is_digit};
 ghost use Rattle.std.specs.List.{list_all};
 ghost use Rattle.acpi_view.specs.Words.{numeral, revision_of, address_of};
-ghost use Rattle.acpi_view.specs.Command.{bios_command, command_of, form_command, rsdp_command, rsdt_command};
+ghost use Rattle.std.specs.Option.{option_copied};
+ghost use Rattle.std.specs.IoError.{error_kind};
+ghost use Rattle.acpi_view.specs.Command.{bios_command, command_of, file_of, form_command, rsdp_command, rsdt_command};
+
+use std::alloc::Global;
+use std::io;
+use std::io::ErrorKind;
 
 /// What the words of a command line ask for.
 #[derive(Clone, Copy, Debug, PartialEq, Eq)]
 pub enum Command {
     /// The tables below the root table at an address: the RSDT for revision 0, else the XSDT.
-    Rsdt { revision: u8, address: u64 },
+    Rsdt {
+        /// The revision that the tables are opened with.
+        revision: u8,
+        /// Where the root table starts.
+        address: u64,
+    },
     /// The tables that the RSDP at an address leads to.
-    Rsdp { address: u64 },
+    Rsdp {
+        /// Where the RSDP starts.
+        address: u64,
+    },
     /// The tables that the RSDP leads to which is found in the BIOS areas.
     Bios,
 }
@@ -108,4 +122,29 @@ pub fn parse_command(words: &[&str]) -> Option<Command>
         return None;
     };
     parse_form(form, rest)
+}
+
+/// The file that the words behind the program's name ask for: the first of them, or `None` where
+/// they are no command, so that no file is opened for such words.
+pub fn file_named<'w>(words: &[&'w str]) -> Option<&'w str>
+    ensures { option_copied result ≡ file_of (map (λ w. w.now) words.now) }
+{
+    parse_command(words)?;
+    words.first().copied()
+}
+
+/// The words as they were had, or none where they can't be had, as words that are no text.
+///
+/// Refuses where memory for them is refused.
+pub fn texts_or_none(alloc: Global, texts: io::Result<Vec<String>>) -> io::Result<Vec<String>>
+    ensures had { IfOk texts (λ t. result ≡ Ok t) }
+    // Memory that is refused doesn't make the words wrong.
+    ensures memory { IfErr texts (λ e. error_kind e ≡ ErrorKind.OutOfMemory → result ≡ Err e) }
+    ensures other { IfErr texts (λ e. error_kind e ≢ ErrorKind.OutOfMemory →
+        IsOkAnd result (λ t. t.items ≡ [])) }
+{
+    match texts {
+        Err(refusal) if refusal.kind() != ErrorKind::OutOfMemory => Ok(Vec::new(alloc)),
+        texts => texts,
+    }
 }
