@@ -1,9 +1,9 @@
 -- The status that a run ends with.
-use Rattle.std.specs.Prelude.{◌≡◌, ◌≢◌, ◌↔◌, ℕ, List, Option, Some, None, Result, Ok, Err}
+use Rattle.std.specs.Prelude.{◌≡◌, ◌⊎◌, ℕ, List, Option, Some, None, Result, Ok, Err}
 use Rattle.acpi_base.specs.Memory.{Memory}
 use Rattle.acpi_base.specs.declared.error.AcpiError.{AcpiError}
 use Rattle.acpi.specs.Opened.{Opened, opened_at, opened_by_rsdp, opened_by_search}
-use Rattle.acpi_image.specs.Image.{records_in}
+use Rattle.acpi_image.specs.Image.{RunsOut, records_in}
 use Rattle.acpi_image.specs.declared.error.ImageError.{ImageError}
 use Rattle.acpi_view.specs.Command.{command_of}
 use Rattle.acpi_view.specs.declared.words.Command.{Command}
@@ -34,8 +34,14 @@ status_with (Some command) (Some file) = status_over command (records_in file)
 abbrev pub status_for : List (List ℕ) → Option (List ℕ) → ℕ
 status_for words file = status_with (command_of words) file
 
--- a status that a run may end with: the one that is defined, or 1 where memory is refused; it is 2
--- exactly where the words are no command
-pub record IsStatus (words : List (List ℕ)) (file : Option (List ℕ)) (status : ℕ) : Type 0 where
-  pub defined : status ≢ 1 → status ≡ status_for words file
-  pub usage : (status ≡ 2) ↔ (command_of words ≡ None)
+-- memory can run out over the file of a command
+abbrev pub RunsOutWith : Option Command → Option (List ℕ) → Type 0
+RunsOutWith None file = ⊥
+RunsOutWith (Some command) None = ⊥
+RunsOutWith (Some command) (Some file) = RunsOut file
+
+-- a status that a run may end with where each write is taken: the one that is defined, or 1 where
+-- memory can run out
+abbrev pub IsStatus : List (List ℕ) → Option (List ℕ) → ℕ → Type 0
+IsStatus words file status =
+    (status ≡ status_for words file) ⊎ ((status ≡ 1) × RunsOutWith (command_of words) file)

@@ -1,5 +1,5 @@
 //! The program over any writers.
-ghost use Rattle.std.specs.Prelude.{◌≡◌, ◌≢◌, ◌≤◌, IfOk, None, map};
+ghost use Rattle.std.specs.Prelude.{◌≡◌, ◌≢◌, ◌⊎◌, IfOk, None, map};
 ghost use Rattle.std.specs.Option.{option_copied};
 ghost use Rattle.acpi_base.specs.Mapping.{handler_of};
 ghost use Rattle.acpi_base.specs.Steps.{Gives};
@@ -14,7 +14,10 @@ use acpi_image::MemoryImage;
 use std::alloc::Global;
 use std::fmt::Display;
 use std::io;
-use std::io::Write;
+use std::io::{BufWriter, Write};
+
+/// How many bytes of an output are gathered before they are written.
+const BUFFERED: usize = 32768;
 
 /// Runs the program on the words behind its name, and on the bytes of the file that the first word
 /// names, which are `None` where it can't be read. It answers the status: 0 where all is printed, 1
@@ -22,7 +25,8 @@ use std::io::Write;
 ///
 /// Faults are found in this order: words that are no command, a file that can't be read, what
 /// `MemoryImage::from_bytes` refuses, and what opening the root table refuses. A write that is
-/// refused ends it with status 1.
+/// refused ends it with status 1, and so does memory that is refused for gathering what is written;
+/// each output then has a front of what it would have got.
 pub fn run<W: Write, E: Write>(
     alloc: Global,
     words: &[&str],
@@ -31,30 +35,25 @@ pub fn run<W: Write, E: Write>(
     err: &mut E,
 ) -> u8
     // The status is the one that is defined, or 1 where a write or memory is refused.
-    ensures status { result ≢ 1 → result ≡ status_for (map (λ w. w.now) words.now) (option_copied image.entry) }
+    ensures status { result ≢ 1 →
+        result ≡ status_for (map (λ w. w.now) words.now) (option_copied image.entry) }
     // So words that are no command give 2, unless the line on the usage can't be written.
-    ensures no_command { command_of (map (λ w. w.now) words.now) ≡ None → 1 ≤ result }
+    ensures no_command { command_of (map (λ w. w.now) words.now) ≡ None →
+        (result ≡ 2) ⊎ (result ≡ 1) }
+    // And nothing else gives 2.
+    ensures usage { result ≡ 2 → command_of (map (λ w. w.now) words.now) ≡ None }
 {
-    match printed(alloc, words, image, out, err) {
-        Ok(status) => status,
-        Err(_) => 1,
+    let Ok(mut out) = BufWriter::with_capacity(alloc, BUFFERED, out) else {
+        return 1;
+    };
+    let Ok(mut err) = BufWriter::with_capacity(alloc, BUFFERED, err) else {
+        return 1;
+    };
+    let printed = print_all(alloc, words, image, &mut out, &mut err);
+    match (printed, out.flush(), err.flush()) {
+        (Ok(status), Ok(()), Ok(())) => status,
+        _ => 1,
     }
-}
-
-/// The same, or the refusal of a write.
-fn printed<W: Write, E: Write>(
-    alloc: Global,
-    words: &[&str],
-    image: Option<&[u8]>,
-    out: &mut W,
-    err: &mut E,
-) -> io::Result<u8>
-    ensures { IfOk result (λ s. IsStatus (map (λ w. w.now) words.now) (option_copied image.entry) s) }
-{
-    let status = print_all(alloc, words, image, out, err)?;
-    out.flush()?;
-    err.flush()?;
-    Ok(status)
 }
 
 /// Prints the lines, or the first fault, and answers the status.
@@ -65,7 +64,8 @@ fn print_all<W: Write, E: Write>(
     out: &mut W,
     err: &mut E,
 ) -> io::Result<u8>
-    ensures { IfOk result (λ s. IsStatus (map (λ w. w.now) words.now) (option_copied image.entry) s) }
+    ensures { IfOk result
+        (λ s. IsStatus (map (λ w. w.now) words.now) (option_copied image.entry) s) }
 {
     let Some(command) = parse_command(words) else {
         writeln!(

@@ -1,9 +1,37 @@
 //! The lines of each part, over images that are spelled out byte by byte.
 
-use super::{check_run, put, put_head};
+use super::{
+    WORDS, check_parts, check_run, empty_root, one_graphic, put, put_head, rsdt_words, without_last,
+};
 use std::test::Fail;
 
-const WORDS: [&str; 4] = ["some.image", "rsdt", "0", "0x1000"];
+#[test]
+fn prints_the_boot_graphic(rt: HostRuntime) -> Result<(), Fail> {
+    let parts = [
+        ("revision", "revision 0\n"),
+        ("table", "table BGRT length 56 revision 0\n"),
+        ("bgrt", "bgrt displayed yes angle 180 offset 0 0\n"),
+        ("skipped", ""),
+    ];
+    for (revision, address) in [("0", "0x1000"), ("000", "0x0000000000001000")] {
+        let words = rsdt_words(revision, address);
+        check_parts(&rt, rt.alloc(), &words, &one_graphic(), &parts)?;
+    }
+    Ok(())
+}
+
+#[test]
+fn prints_what_a_part_is_refused_for(rt: HostRuntime) -> Result<(), Fail> {
+    let parts = [
+        ("revision", "revision 0\n"),
+        ("table", ""),
+        ("dsdt", "dsdt: TableMissing FACP\n"),
+        ("ssdt", ""),
+        ("bgrt", "bgrt: TableMissing BGRT\n"),
+        ("skipped", ""),
+    ];
+    check_parts(&rt, rt.alloc(), &WORDS, &empty_root(36, 0x9F), &parts)
+}
 
 /// An RSDT at 0x1000 that lists a BGRT at 0x2000, and an RSDP of version 1 at 0x500 that leads to
 /// it, in a region of 36 bytes.
@@ -11,39 +39,21 @@ fn with_rsdp() -> [u8; 180] {
     let mut file = [0; 180];
     put_head(&mut file, 0, 0x500, 36);
     put(&mut file, 16, b"RSD PTR \x11      \0\0\x10\0\0");
-    put_head(&mut file, 52, 0x1000, 40);
-    put(&mut file, 68, b"RSDT\x28\0\0\0\0\x7b");
-    put(&mut file, 104, &[0, 0x20]);
-    put_head(&mut file, 108, 0x2000, 56);
-    put(&mut file, 124, b"BGRT\x38\0\0\0\0\x93");
-    put(&mut file, 160, &[1, 0, 5]);
+    put(&mut file, 52, &one_graphic());
     file
 }
 
 #[test]
-fn starts_from_an_rsdp(rt: HostRuntime) {
-    let file = with_rsdp();
-    let lines =
-        "revision 0\ntable BGRT length 56 revision 0\ndsdt: TableMissing FACP\nbgrt displayed yes angle 180 offset 0 0\n";
+fn starts_from_an_rsdp(rt: HostRuntime) -> Result<(), Fail> {
+    let parts = [
+        ("revision", "revision 0\n"),
+        ("bgrt", "bgrt displayed yes angle 180 offset 0 0\n"),
+    ];
     let words = ["some.image", "rsdp", "0x500"];
-    check_run(&rt, rt.alloc(), &words, Some(&file), (0, lines, ""));
+    check_parts(&rt, rt.alloc(), &words, &with_rsdp(), &parts)
 }
 
-#[test]
-fn refuses_an_rsdp_that_is_cut_short(rt: HostRuntime) {
-    let mut file = [0; 51];
-    put_head(&mut file, 0, 0x500, 35);
-    put(&mut file, 16, b"RSD PTR \x11      \0\0\x10\0\0");
-    let words = ["some.image", "rsdp", "0x500"];
-    check_run(
-        &rt,
-        rt.alloc(),
-        &words,
-        Some(&file),
-        (1, "", "refused: MapFailed\n"),
-    );
-}
-
+/// The bytes of the sample `bios.image`, and the whole output.
 #[test]
 fn searches_the_bios_areas(rt: HostRuntime) -> Result<(), Fail> {
     // The word at 0x40e, the first area with 16 bytes behind it, and the tables.
@@ -51,9 +61,13 @@ fn searches_the_bios_areas(rt: HostRuntime) -> Result<(), Fail> {
     put_head(&mut file, 0, 0x40e, 2);
     put_head(&mut file, 18, 0xe0000, 0x20010);
     put(&mut file, 34 + 0x1ffe0, b"RSD PTR \x11      \0\0\x10\0\0");
-    put(&mut file, 34 + 0x20010, &with_rsdp()[52..]);
-    let lines =
-        "revision 0\ntable BGRT length 56 revision 0\ndsdt: TableMissing FACP\nbgrt displayed yes angle 180 offset 0 0\n";
+    put(&mut file, 34 + 0x20010, &one_graphic());
+    let lines = concat!(
+        "revision 0\n",
+        "table BGRT length 56 revision 0\n",
+        "dsdt: TableMissing FACP\n",
+        "bgrt displayed yes angle 180 offset 0 0\n",
+    );
     let words = ["some.image", "bios"];
     check_run(&rt, rt.alloc(), &words, Some(&file), (0, lines, ""));
     // One place further on it is no candidate, and no second area is there.
@@ -65,7 +79,7 @@ fn searches_the_bios_areas(rt: HostRuntime) -> Result<(), Fail> {
 }
 
 #[test]
-fn prints_repeated_tables_again(rt: HostRuntime) {
+fn prints_repeated_tables_again(rt: HostRuntime) -> Result<(), Fail> {
     let mut file = [0; 168];
     put_head(&mut file, 0, 0x1000, 48);
     put(&mut file, 16, b"RSDT\x30\0\0\0\0\x23");
@@ -74,13 +88,16 @@ fn prints_repeated_tables_again(rt: HostRuntime) {
     put(&mut file, 80, b"SSDT\x24\0\0\0\0\x9e");
     put_head(&mut file, 116, 0x3000, 36);
     put(&mut file, 132, b"SSDT\x24\0\0\0\0\x9f");
-    let lines =
-        "revision 0\ntable SSDT length 36 revision 0\ntable SSDT length 36 revision 0\ndsdt: TableMissing FACP\nssdt 0x2024 length 0\nssdt 0x2024 length 0\nbgrt: TableMissing BGRT\n";
-    check_run(&rt, rt.alloc(), &WORDS, Some(&file), (0, lines, ""));
+    let table = "table SSDT length 36 revision 0\ntable SSDT length 36 revision 0\n";
+    let parts = [
+        ("table", table),
+        ("ssdt", "ssdt 0x2024 length 0\nssdt 0x2024 length 0\n"),
+    ];
+    check_parts(&rt, rt.alloc(), &WORDS, &file, &parts)
 }
 
 #[test]
-fn says_why_a_table_was_skipped(rt: HostRuntime) {
+fn says_why_a_table_was_skipped(rt: HostRuntime) -> Result<(), Fail> {
     let mut file = [0; 204];
     put_head(&mut file, 0, 0x1000, 44);
     put(&mut file, 16, b"RSDT\x2c\0\0\0\0\x47");
@@ -91,21 +108,24 @@ fn says_why_a_table_was_skipped(rt: HostRuntime) {
     put_head(&mut file, 132, 0x3000, 56);
     put(&mut file, 148, b"BGRT\x38\0\0\0\0\x94");
     put(&mut file, 184, &[1, 0, 4]);
-    let lines =
-        "revision 0\ntable BGRT length 56 revision 0\ndsdt: TableMissing FACP\nbgrt displayed no angle 180 offset 0 0\n";
-    let skipped = "skipped BGRT 0x2000: SdtInvalidChecksum BGRT\n";
-    check_run(&rt, rt.alloc(), &WORDS, Some(&file), (0, lines, skipped));
-    // The first one is cut instead: its last byte is not lent.
-    let mut cut = [0; 127];
-    put_head(&mut cut, 0, 0x1000, 40);
-    put(&mut cut, 16, b"RSDT\x28\0\0\0\0\x7b");
-    put(&mut cut, 52, &[0, 0x20]);
-    put_head(&mut cut, 56, 0x2000, 55);
-    put(&mut cut, 72, b"BGRT\x38\0\0\0\0\x93");
-    put(&mut cut, 108, &[1, 0, 5]);
-    let lines = "revision 0\ndsdt: TableMissing FACP\nbgrt: TableMissing BGRT\n";
-    let skipped = "skipped BGRT 0x2000: MapFailed\n";
-    check_run(&rt, rt.alloc(), &WORDS, Some(&cut), (0, lines, skipped));
+    let parts = [
+        ("bgrt", "bgrt displayed no angle 180 offset 0 0\n"),
+        ("skipped", "skipped BGRT 0x2000: SdtInvalidChecksum BGRT\n"),
+    ];
+    check_parts(&rt, rt.alloc(), &WORDS, &file, &parts)
+}
+
+#[test]
+fn says_that_a_table_is_cut(rt: HostRuntime) -> Result<(), Fail> {
+    // The BGRT's last byte is not lent.
+    let mut file = one_graphic();
+    put_head(&mut file, 56, 0x2000, 55);
+    let parts = [
+        ("table", ""),
+        ("bgrt", "bgrt: TableMissing BGRT\n"),
+        ("skipped BGRT", "skipped BGRT 0x2000: MapFailed\n"),
+    ];
+    check_parts(&rt, rt.alloc(), &WORDS, without_last(&file), &parts)
 }
 
 /// An RSDT at 0x1000 that lists a FADT of 116 bytes at 0x2000, with this checksum and the DSDT at
@@ -126,29 +146,28 @@ fn with_fadt(checksum: u8, page: u8) -> [u8; 244] {
 }
 
 #[test]
-fn prints_where_the_dsdt_is(rt: HostRuntime) {
-    for (checksum, page, dsdt) in [
+fn prints_where_the_dsdt_is(rt: HostRuntime) -> Result<(), Fail> {
+    for (checksum, page, line) in [
         (0x32, 0x40, "dsdt 0x4024 length 4\n"),
         (0x72, 0, "dsdt: InvalidDsdtAddress\n"),
         (0x31, 0x41, "dsdt: MapFailed\n"),
         (0x52, 0x20, "dsdt: SdtInvalidSignature DSDT\n"),
     ] {
+        let parts = [
+            ("table", "table FACP length 116 revision 0\n"),
+            ("dsdt", line),
+            ("skipped", ""),
+        ];
         let file = with_fadt(checksum, page);
-        let mut out = Vec::new(rt.alloc());
-        let mut err = Vec::new(rt.alloc());
-        let status = super::run(rt.alloc(), &WORDS, Some(&file), &mut out, &mut err);
-        assert_eq!(rt; status, 0);
-        assert_eq!(rt; err.as_slice(), b"".as_slice());
-        let front = "revision 0\ntable FACP length 116 revision 0\n".as_bytes();
-        let rest = out.as_slice().strip_prefix(front);
-        let rest = rest.and_then(|lines| lines.strip_suffix(
-            b"bgrt: TableMissing BGRT\n".as_slice(),
-        ));
-        assert_eq!(rt; rest, Some(dsdt.as_bytes()), "{dsdt}");
+        check_parts(&rt, rt.alloc(), &WORDS, &file, &parts)?;
     }
     // A FADT whose sum isn't 0 is passed over.
-    let file = with_fadt(0x33, 0x40);
-    let lines = "revision 0\ndsdt: TableMissing FACP\nbgrt: TableMissing BGRT\n";
     let skipped = "skipped FACP 0x2000: SdtInvalidChecksum FACP\n";
-    check_run(&rt, rt.alloc(), &WORDS, Some(&file), (0, lines, skipped));
+    let parts = [
+        ("table", ""),
+        ("dsdt", "dsdt: TableMissing FACP\n"),
+        ("skipped FACP", skipped),
+    ];
+    let file = with_fadt(0x33, 0x40);
+    check_parts(&rt, rt.alloc(), &WORDS, &file, &parts)
 }
