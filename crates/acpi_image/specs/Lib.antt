@@ -1,4 +1,5 @@
 pub mod ErrorText
 pub mod Held
 pub mod Image
+pub mod Laws
 pub mod Regions

@@ -3,6 +3,7 @@
 
 mod error;
 pub mod image;
+pub mod laws;
 mod reader;
 mod record;
 #[cfg(test)]
