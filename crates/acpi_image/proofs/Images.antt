@@ -1,7 +1,9 @@
 -- A file is read as the regions whose records it is, and as no others.
 use Rattle.std.proofs.Common.{◌≡◌, ℕ, zero, suc, ◌+◌, ◌^◌, ◌<◌, ◌≤◌, Bool, true, false, not, List, [], ◌∷◌, ◌++◌, length, take, drop, Result, Ok, Err, refl, sym, ap, subst, drop-drop, ◌∙◌, append_assoc, arith}
 use Rattle.std.specs.List.{flat_map}
-use Rattle.std.specs.Prelude.{IfOk}
+use Rattle.std.specs.Prelude.{IfOk, ◌↔◌}
+use Rattle.acpi_image.specs.Held.{memory_of}
+use Rattle.acpi_image.specs.declared.image.MemoryImage.{MemoryImage}
 use Rattle.std.proofs.lemmas.Bool.{leb-true, le-leb, ltb-true, lt-ltb}
 use Rattle.std.proofs.lemmas.List.{length-append, length-take, length-take-le, length-drop, take-append-drop, append-nil}
 use Rattle.std.proofs.Math.Seq.{take-append_seam, drop-append_seam}
@@ -187,11 +189,28 @@ pub image_again : (file : List ℕ) (rs : Memory) → IsMemory rs → IsImage fi
 unfolding records_with
 image_again file rs h e = rw e (records_again (length (flat_map record_spelling rs)) [] rs (omega arith) h)
 
+-- the regions that a file is read as are a memory
+pub image_memory : (file : List ℕ) (rs : Memory) → IsBytes file → records_in file ≡ Ok rs → IsMemory rs
+image_memory file rs h e = (image_is file rs h e).1
+
 -- ---- what a call answered
 
-pub gives_only : {X : Type 0} (file : List ℕ) (view : X → Memory) (r : Result X ImageError) (said : Result Memory ImageError) (m : Memory) → GivesOrFull file view r said → said ≡ Ok m → GivesOrFull file view r (Ok m)
-gives_only file view r said m h e = rw e at h
+abbrev Answer : Type 0
+Answer = Result MemoryImage ImageError
 
-pub gives_found : {X : Type 0} (file : List ℕ) (view : X → Memory) (r : Result X ImageError) (said : Result Memory ImageError) (P : Memory → Type 0) → GivesOrFull file view r said → ((m : Memory) → said ≡ Ok m → P m) → IfOk r (λ x. P (view x))
-gives_found file view (Ok x) said P h law = law (view x) h
-gives_found file view (Err e) said P h law = tt
+-- it is what the definition says, unless memory ran out
+abbrev Answers : List ℕ → Answer → Result Memory ImageError → Type 0
+Answers file answer said = GivesOrFull file (λ i. memory_of i) answer said
+
+-- an image that was found is the file's
+pub image_found : (file : List ℕ) (answer : Answer) → IsBytes file → Answers file answer (records_in file) → IfOk answer (λ i. IsImage file (memory_of i))
+image_found file (Ok i) h e = (image_is file (memory_of i) h e).0
+image_found file (Err x) h e = tt
+
+-- a file that is the records of a memory is read as that memory
+pub image_only : (file : List ℕ) (answer : Answer) (m : Memory) → IsMemory m → IsImage file m → Answers file answer (records_in file) → Answers file answer (Ok m)
+image_only file answer m h same e = rw (image_again file m h same) at e
+
+-- the definition reads a file as the one memory whose records it is
+pub image_law : (file : List ℕ) (m : Memory) → IsBytes file → (records_in file ≡ Ok m) ↔ (IsImage file m × IsMemory m)
+image_law file m h = (image_is file m h, λ both. image_again file m both.1 both.0)

@@ -14,6 +14,7 @@ within : (r : Region) (a : ℕ) → r.start ≤ a → a < end_of r → lies_in r
 within r a low high = and_from _ _ (le-leb _ _ low) (lt-ltb _ _ high)
 
 share_at : (r s : Region) (a : ℕ) → lies_in r a ≡ true → lies_in s a ≡ true → share r s ≡ true
+unfolding share
 share_at r s a hr hs =
     let p = inside r a hr in
     let q = inside s a hs in
@@ -32,6 +33,7 @@ apart_is r s h a hr hs =
     absurd cc
 
 not_shared : (r s : Region) → AreApart r s → share r s ≡ true → ⊥
+unfolding share
 not_shared r s h t =
     let p = and_parts _ _ t in
     let q = and_parts _ _ p.1 in

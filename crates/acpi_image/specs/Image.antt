@@ -1,5 +1,7 @@
 -- A file of memory is its records, one behind the other, and nothing else.
-use Rattle.std.specs.Prelude.{◌≡◌, ℕ, ◌+◌, ◌^◌, ◌&&◌, ◌||◌, zero, suc, Bool, true, false, not, List, [], ◌∷◌, ◌++◌, length, take, drop, flat_map, nat_le, nat_lt, Result, Ok, Err}
+use Rattle.std.specs.Prelude.{◌≡◌, ℕ, ◌+◌, ◌^◌, zero, suc, nat_le, nat_lt, Result, Ok, Err}
+use Rattle.std.specs.Prelude.{Bool, true, false, not, ◌&&◌, ◌||◌}
+use Rattle.std.specs.Prelude.{List, [], ◌∷◌, ◌++◌, length, take, drop, flat_map}
 use Rattle.acpi_base.specs.Bytes.{spelling, field_of}
 use Rattle.acpi_base.specs.Memory.{Memory, Region, lies_in}
 use Rattle.acpi_base.specs.Steps.{◌>>=◌, holds}
@@ -20,11 +22,16 @@ record_at bytes = do
   _ ← holds (nat_le 16 (length bytes)) refusal.Truncated
   _ ← holds (nat_le (field_of bytes 8 8) (length (drop 16 bytes))) refusal.Truncated
   _ ← holds (nat_lt (field_of bytes 0 8 + field_of bytes 8 8) (2 ^ 64)) refusal.EndTooLarge
-  Ok (record { start = field_of bytes 0 8; bytes = take (field_of bytes 8 8) (drop 16 bytes) }, drop (field_of bytes 8 8) (drop 16 bytes))
+  Ok (
+    record { start = field_of bytes 0 8; bytes = take (field_of bytes 8 8) (drop 16 bytes) },
+    drop (field_of bytes 8 8) (drop 16 bytes),
+  )
 
 -- two regions share a byte: both have some, and one holds the other's start
-abbrev pub share : Region → Region → Bool
-share r s = nat_lt 0 (length r.bytes) && (nat_lt 0 (length s.bytes) && (lies_in r s.start || lies_in s r.start))
+unfoldable pub share : Region → Region → Bool
+share r s =
+    nat_lt 0 (length r.bytes)
+    && (nat_lt 0 (length s.bytes) && (lies_in r s.start || lies_in s r.start))
 
 abbrev pub shares_any : Memory → Region → Bool
 shares_any [] r = false
@@ -72,6 +79,7 @@ Refuses file refusal.EndTooLarge said = said ≡ Err refusal.EndTooLarge
 Refuses file refusal.Overlap said = said ≡ Err refusal.Overlap
 
 -- what a call answered to a file, seen by view, is what the definition says, unless memory ran out
-abbrev pub GivesOrFull : {X Y : Type 0} → List ℕ → (X → Y) → Result X ImageError → Result Y ImageError → Type 0
+abbrev pub GivesOrFull : {X Y : Type 0}
+    → List ℕ → (X → Y) → Result X ImageError → Result Y ImageError → Type 0
 GivesOrFull file view (Ok x) said = said ≡ Ok (view x)
 GivesOrFull file view (Err e) said = Refuses file e said

@@ -17,7 +17,7 @@ use std::alloc::Global;
 #[derive(Drop)]
 pub struct MemoryImage<'a> {
     records: Vec<Record<'a>>,
-    ghost regions: { IsMemory (regions_of records.items) } by { IsMemory-prop (regions_of records.items) },
+    ghost regions: { IsMemory (regions_of records.items) } by { IsMemory-prop _ },
 }
 
 impl<'a> MemoryImage<'a> {
@@ -26,6 +26,8 @@ impl<'a> MemoryImage<'a> {
     ghost use Rattle.acpi_image.specs.Image.{GivesOrFull, IsImage, records_in};
     ghost use Rattle.acpi_image.specs.Held.{memory_of};
 
+    /// The memory of `from_bytes`, by the exact clause from which its others follow.
+    #[tactic(auto, using(crate::proofs::Images::image_memory))]
     fn image_of(alloc: Global, bytes: &'a [u8]) -> Result<MemoryImage<'a>, ImageError>
         ensures { GivesOrFull bytes.now (λ i. memory_of i) result (records_in bytes.now) }
     {
@@ -40,16 +42,19 @@ impl<'a> MemoryImage<'a> {
     /// above 2^64 - 1, `Overlap` where it shares a byte with an earlier record, and `OutOfMemory`
     /// where a growth is refused. Records that only touch share no byte, and one without bytes
     /// shares none.
+    #[tactic(auto, using(crate::proofs::Images::image_found, crate::proofs::Images::image_only, crate::proofs::Images::image_law))]
     pub fn from_bytes(alloc: Global, bytes: &'a [u8]) -> Result<MemoryImage<'a>, ImageError>
         // The file is the records of the memory, and nothing else.
         ensures found { IfOk result (λ i. IsImage bytes.now (memory_of i)) }
         // A file that is the records of some memory is read as that memory, unless memory runs out.
-        ensures only { (m : Memory) → IsMemory m → IsImage bytes.now m → GivesOrFull bytes.now (λ i. memory_of i) result (Ok m) }
+        ensures only { (m : Memory) → IsMemory m → IsImage bytes.now m
+            → GivesOrFull bytes.now (λ i. memory_of i) result (Ok m) }
         // The memory, or the first refusal, is the one that is defined; memory runs out only behind
         // a record that passed its checks.
         ensures exact { GivesOrFull bytes.now (λ i. memory_of i) result (records_in bytes.now) }
         // What is defined is the one memory that the file spells.
-        ensures law { (m : Memory) → (records_in bytes.now ≡ Ok m) ↔ (IsImage bytes.now m × IsMemory m) }
+        ensures law { (m : Memory)
+            → (records_in bytes.now ≡ Ok m) ↔ (IsImage bytes.now m × IsMemory m) }
     {
         MemoryImage::image_of(alloc, bytes)
     }
@@ -71,7 +76,8 @@ impl AcpiHandler for MemoryImage<'_> {
     fn map_physical_region(&self, address: u64, size: usize) -> AcpiResult<&[u8]>
         requires { 0 < size }
         ensures enough { IfOk result (λ s. size ≤ length s.now) }
-        ensures lent { IfOk result (λ s. at (memory_of self.now) address (length s.now) ≡ Some s.now) }
+        ensures lent { IfOk result
+            (λ s. at (memory_of self.now) address (length s.now) ≡ Some s.now) }
         // The whole rest of the record is lent, however little is asked for.
         ensures whole { IfOk result (λ s. s.now ≡ rest_from (memory_of self.now) address) }
         ensures refused { IfErr result (λ e. at (memory_of self.now) address size ≡ None) }

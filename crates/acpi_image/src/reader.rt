@@ -1,9 +1,10 @@
 //! The records of a file, in order.
-ghost use Rattle.std.specs.Prelude.{◌≡◌, ◌<◌, length, IfOk};
+ghost use Rattle.std.specs.Prelude.{◌≡◌, ◌<◌, [], ◌∷◌, ◌++◌, length, IfOk, IfErr, IsOk, OnOk, vec_capacity, vec_len};
 ghost use Rattle.acpi_base.specs.Memory.{rest_from};
 ghost use Rattle.acpi_base.specs.Steps.{Gives};
 ghost use Rattle.acpi_image.specs.Image.{GivesOrFull, next_at, records_in, shares_any};
 ghost use Rattle.acpi_image.specs.Regions.{region_of, regions_of};
+ghost use Rattle.acpi_image.specs.declared.error.ImageError.TheVariants.{OutOfMemory};
 
 use crate::error::ImageError;
 use crate::record::{Record, first_record};
@@ -31,13 +32,31 @@ fn next_record<'a>(
     bytes: &'a [u8],
 ) -> Result<(Record<'a>, &'a [u8]), ImageError>
     ensures shorter { IfOk result (λ x. length x.1.now < length bytes.now) }
-    ensures exact { Gives (λ x. (region_of x.0, x.1.now)) result (next_at (regions_of earlier.now) bytes.now) }
+    ensures exact { Gives (λ x. (region_of x.0, x.1.now)) result
+        (next_at (regions_of earlier.now) bytes.now) }
 {
     let (record, rest) = first_record(bytes)?;
     if shares_with_any(earlier, &record) {
         return Err(ImageError::Overlap);
     }
     Ok((record, rest))
+}
+
+/// Keeps one more record, behind the others.
+///
+/// Refuses with `OutOfMemory` where there is none for it.
+fn keep<'a, A: Allocator>(
+    records: &mut Vec<Record<'a>, A>,
+    added: Record<'a>,
+) -> Result<(), ImageError>
+    ensures kept { OnOk result (records.new.items ≡ records.old.items ++ (added.entry ∷ [])) }
+    ensures refused { IfErr result (λ e. e ≡ OutOfMemory) }
+    ensures room { vec_len records.old < vec_capacity records.old → IsOk result }
+{
+    match records.push(added) {
+        Ok(()) => Ok(()),
+        Err(_) => Err(ImageError::OutOfMemory),
+    }
 }
 
 /// The records of a file, kept in memory of this allocator.
@@ -54,9 +73,7 @@ pub(crate) fn records_of<'a, A: Allocator>(
     let mut rest = bytes;
     while !rest.is_empty() {
         let (next, behind) = next_record(&records, rest)?;
-        if records.push(next).is_err() {
-            return Err(ImageError::OutOfMemory);
-        }
+        keep(&mut records, next)?;
         rest = behind;
     }
     Ok(records)

@@ -24,7 +24,8 @@ impl<'a> Record<'a> {
     #[tactic(auto, using(crate::proofs::Rest::is_inside, crate::proofs::Rest::is_above, crate::proofs::Rest::is_below))]
     pub(crate) fn rest(&self, address: u64) -> Option<&'a [u8]>
         ensures inside { IfSome result (λ s. lies_in (region_of self.now) address ≡ true) }
-        ensures bytes { IfSome result (λ s. s.now ≡ drop (address - self.now.start) self.now.bytes.now) }
+        ensures bytes { IfSome result
+            (λ s. s.now ≡ drop (address - self.now.start) self.now.bytes.now) }
         ensures outside { IfNone result (lies_in (region_of self.now) address ≡ false) }
     {
         if address < self.start {
@@ -46,7 +47,7 @@ impl<'a> Record<'a> {
     }
 
     /// Whether some byte lies in this record and in another. One without bytes shares none.
-    #[tactic(auto, using(crate::proofs::Sharing::share_is, crate::proofs::Sharing::apart_is))]
+    #[tactic(auto, unfolding(crate::specs::Image::share), using(crate::proofs::Sharing::share_is, crate::proofs::Sharing::apart_is))]
     pub(crate) fn shares_byte(&self, other: &Record<'_>) -> bool
         ensures exact { result ≡ share (region_of self.now) (region_of other.now) }
         // That is, no address lies in both exactly where the answer is no.

@@ -61,10 +61,14 @@ fn a_border_is_no_overlap_and_is_not_lent_across(rt: HostRuntime) -> Result<(), 
     let mut file = [7; 35];
     put_head(&mut file, 0, 0x1000, 2);
     put_head(&mut file, 18, 0x1002, 1);
+    (file[17], file[34]) = (0xA1, 0xA2);
     let image = MemoryImage::from_bytes(rt.alloc(), &file)?;
-    assert!(rt; image.map_physical_region(0x1001, 2).is_err());
-    assert_eq!(rt; image.map_physical_region(0x1001, 1)?.len(), 1);
-    assert_eq!(rt; image.map_physical_region(0x1002, 1)?.len(), 1);
+    assert_eq!(rt;
+        image.map_physical_region(0x1001, 2),
+        Err(AcpiError::MapFailed)
+    );
+    assert_eq!(rt; image.map_physical_region(0x1001, 1)?, &file[17..18]);
+    assert_eq!(rt; image.map_physical_region(0x1002, 1)?, &file[34..]);
     Ok(())
 }
 
@@ -76,8 +80,9 @@ fn an_empty_record_lends_nothing_and_shares_nothing(rt: HostRuntime) -> Result<(
     put_head(&mut file, 0, 0x1001, 0);
     put_head(&mut file, 16, 0x1000, 2);
     put_head(&mut file, 34, 0x1001, 0);
+    file[33] = 0xA1;
     let image = MemoryImage::from_bytes(rt.alloc(), &file)?;
-    assert_eq!(rt; image.map_physical_region(0x1001, 1)?.len(), 1);
+    assert_eq!(rt; image.map_physical_region(0x1001, 1)?, &file[33..34]);
     Ok(())
 }
 

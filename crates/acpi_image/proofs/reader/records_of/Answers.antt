@@ -16,14 +16,14 @@ returns-in_err-next g c =
     let next = rw c.deref.ensures.value at c.in_err-next.ensures.exact in
     handed_on _ _ _ _ _ c.from_residual.ensures.1 (reading_refuses _ _ _ c.loop-rest.invariant left _ next)
 
-pub returns-then-is_err : goal.returns-then-is_err
-returns-then-is_err g c =
+pub returns-in_err-keep : goal.returns-in_err-keep
+returns-in_err-keep g c =
     let left : 0 < length c.loop-rest.rest.now = grind (arith, common_steps) in
     let next = rw c.deref.ensures.value at c.in_ok-next.ensures.exact in
-    reading_runs_out _ _ _ c.loop-rest.invariant left _ next
+    handed_on _ _ _ _ _ c.from_residual-in_err-keep.ensures.1 (rw c.in_err-keep.ensures.refused (reading_runs_out _ _ _ c.loop-rest.invariant left _ next))
 
 pub loop-rest-preserved : goal.loop-rest-preserved
 loop-rest-preserved g c =
     let left : 0 < length c.loop-rest.rest.now = grind (arith, common_steps) in
     let next = rw c.deref.ensures.value at c.in_ok-next.ensures.exact in
-    rw (c.push.ensures.items, c.is_err.ensures.negation, c.if-is_err.false, map-append) (reading_goes_on _ _ _ c.loop-rest.invariant left _ c.in_ok-next.ensures.shorter next)
+    rw (c.in_ok-keep.ensures.kept, map-append) (reading_goes_on _ _ _ c.loop-rest.invariant left _ c.in_ok-next.ensures.shorter next)
