@@ -1,5 +1,4 @@
 pub mod ErrorText
 pub mod Held
 pub mod Image
-pub mod Laws
 pub mod Regions

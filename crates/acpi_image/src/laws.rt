@@ -1,5 +1,5 @@
 //! Laws of this crate's types: each is the contract of a call that does nothing else.
-ghost use Rattle.acpi_image.specs.Laws.{IsEquality};
+ghost use Rattle.acpi_base.specs.Equality.{IsEquality};
 
 use crate::error::ImageError;
 
