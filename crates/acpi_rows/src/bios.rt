@@ -1,9 +1,9 @@
 //! The search in the BIOS areas, over each handler.
 
-use crate::handlers::{Exact, Recording};
-use crate::samples::graphics::one_graphic;
-use crate::samples::rsdps::{AREA, AREA_END, put_areas, put_rsdp, put_rsdp_2};
-use crate::samples::{put, put_head, put_table};
+use acpi_lenders::handlers::{Exact, Recording};
+use acpi_lenders::samples::graphics::one_graphic;
+use acpi_lenders::samples::rsdps::{AREA, AREA_END, put_areas, put_rsdp, put_rsdp_2};
+use acpi_lenders::samples::{put, put_head, put_table};
 use acpi::bgrt::Bgrt;
 use acpi::rsdp::Rsdp;
 use acpi::{AcpiError, AcpiHandler, AcpiResult, AcpiTables};

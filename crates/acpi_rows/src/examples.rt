@@ -1,8 +1,8 @@
 //! The caller in `example.rt`.
 
-use crate::example::{Window, find_both};
-use crate::samples::front;
-use crate::samples::graphics::two_tables;
+use acpi_lenders::example::{Window, find_both};
+use acpi_lenders::samples::front;
+use acpi_lenders::samples::graphics::two_tables;
 use acpi::sdt::Signature;
 use acpi::{AcpiError, AcpiHandler};
 use std::test::Fail;

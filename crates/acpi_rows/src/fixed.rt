@@ -1,8 +1,8 @@
 //! What the FADT leads to: the DSDT and the timer.
 
-use crate::handlers::Exact;
-use crate::samples::members::with_dsdt;
-use crate::samples::put;
+use acpi_lenders::handlers::Exact;
+use acpi_lenders::samples::members::with_dsdt;
+use acpi_lenders::samples::put;
 use acpi::address::{AccessSize, AddressSpace, GenericAddress};
 use acpi::fadt::Fadt;
 use acpi::platform::PmTimer;

@@ -1,6 +1,6 @@
 //! The fixed hardware and the boot graphic, over tables that are spelled out byte by byte.
 
-use crate::samples::put;
+use acpi_lenders::samples::put;
 use acpi::address::{AccessSize, AddressSpace, GenericAddress};
 use acpi::bgrt::{Bgrt, ImageType};
 use acpi::fadt::{Fadt, PowerProfile};

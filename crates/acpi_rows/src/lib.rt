@@ -4,28 +4,12 @@
 #[cfg(test)]
 mod bios;
 #[cfg(test)]
-mod example;
-#[cfg(test)]
 mod examples;
 #[cfg(test)]
 mod fixed;
 #[cfg(test)]
-mod handlers;
-#[cfg(test)]
-mod history;
-#[cfg(test)]
 mod layouts;
-#[cfg(test)]
-mod lists;
-#[cfg(test)]
-mod lookups;
-#[cfg(test)]
-mod notices;
 #[cfg(test)]
 mod rsdps;
 #[cfg(test)]
-mod samples;
-#[cfg(test)]
 mod texts;
-#[cfg(test)]
-mod watched;

@@ -1,7 +1,7 @@
 //! The checks of an RSDP over bytes at hand, and its fields.
 
-use crate::samples::change;
-use crate::samples::rsdps::{put_rsdp, put_rsdp_2};
+use acpi_lenders::samples::change;
+use acpi_lenders::samples::rsdps::{put_rsdp, put_rsdp_2};
 use acpi::rsdp::Rsdp;
 use acpi::{AcpiError, PhysicalRecord};
 

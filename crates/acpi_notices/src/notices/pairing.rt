@@ -1,8 +1,8 @@
 //! What a history with a wrong notice is refused for, and mappings by themselves.
 
-use crate::handlers::{Exact, Recording};
-use crate::history::{Event, Flaw, History, Shown, places};
-use crate::samples::graphics::long_graphic;
+use acpi_lenders::handlers::{Exact, Recording};
+use acpi_lenders::history::{Event, Flaw, History, Shown, places};
+use acpi_lenders::samples::graphics::long_graphic;
 use acpi::sdt::SdtHeader;
 use acpi::{AcpiHandler, AcpiResult, PhysicalMapping};
 use acpi_image::MemoryImage;

@@ -1,11 +1,12 @@
 //! What is opened and found, over each handler.
 
-use crate::example::Wsmt;
-use crate::handlers::{Exact, Scenario, over_each_handler};
-use crate::samples::graphics::{
+use acpi_lenders::example::Wsmt;
+use acpi_lenders::handlers::Exact;
+use crate::scenarios::{Scenario, over_each_handler};
+use acpi_lenders::samples::graphics::{
     empty_root, long_graphic, one_graphic, short_graphic, short_last_pointer, split_graphic,
 };
-use crate::samples::{put, put_table};
+use acpi_lenders::samples::{put, put_table};
 use acpi::bgrt::{Bgrt, ImageType};
 use acpi::sdt::{SdtHeader, Signature, map_table};
 use acpi::{AcpiError, AcpiHandler, AcpiTables, PhysicalMapping, PhysicalRecord};

@@ -4,7 +4,7 @@ ghost use Rattle.std.specs.Prelude.{◌≤◌, length};
 use super::{put, put_graphic, put_head, put_table};
 
 /// An RSDT at 0x1000 that lists nothing.
-pub(crate) fn empty_root() -> [u8; 52] {
+pub fn empty_root() -> [u8; 52] {
     let mut file = [0; 52];
     put_head(&mut file, 0, 0x1000, 36);
     put_table(&mut file, 16, b"RSDT", 36, 0x9F);
@@ -22,7 +22,7 @@ fn put_one_pointer(file: &mut [u8], count: u64)
 }
 
 /// An RSDT that lists a boot graphic at 0x2000.
-pub(crate) fn one_graphic() -> [u8; 128] {
+pub fn one_graphic() -> [u8; 128] {
     let mut file = [0; 128];
     put_one_pointer(&mut file, 56);
     put_graphic(&mut file, 72);
@@ -30,7 +30,7 @@ pub(crate) fn one_graphic() -> [u8; 128] {
 }
 
 /// The same, with the last byte of the boot graphic in no record.
-pub(crate) fn short_graphic() -> [u8; 127] {
+pub fn short_graphic() -> [u8; 127] {
     let mut file = [0; 127];
     put_one_pointer(&mut file, 55);
     put_table(&mut file, 72, b"BGRT", 56, 0x93);
@@ -39,7 +39,7 @@ pub(crate) fn short_graphic() -> [u8; 127] {
 }
 
 /// The same boot graphic, with eight bytes of 0xFF behind it in its record.
-pub(crate) fn long_graphic() -> [u8; 136] {
+pub fn long_graphic() -> [u8; 136] {
     let mut file = [0; 136];
     put_one_pointer(&mut file, 64);
     put_graphic(&mut file, 72);
@@ -48,7 +48,7 @@ pub(crate) fn long_graphic() -> [u8; 136] {
 }
 
 /// The same boot graphic, in two records that adjoin at 0x2024, behind its header.
-pub(crate) fn split_graphic() -> [u8; 144] {
+pub fn split_graphic() -> [u8; 144] {
     let mut file = [0; 144];
     put_one_pointer(&mut file, 36);
     put_table(&mut file, 72, b"BGRT", 56, 0x93);
@@ -59,7 +59,7 @@ pub(crate) fn split_graphic() -> [u8; 144] {
 
 /// An XSDT at 0x3000 of which the last pointer has three bytes: it lists 0x100000 and 0x1234. A
 /// boot graphic lies at 0x1234, and another one at `elsewhere`.
-pub(crate) fn short_last_pointer(elsewhere: u64) -> [u8; 207] {
+pub fn short_last_pointer(elsewhere: u64) -> [u8; 207] {
     let mut file = [0; 207];
     put_head(&mut file, 0, 0x3000, 47);
     put_table(&mut file, 16, b"XSDT", 47, 0x38);
@@ -77,7 +77,7 @@ pub(crate) fn short_last_pointer(elsewhere: u64) -> [u8; 207] {
 
 /// Memory from 0x1000 on: an RSDT that lists a boot graphic at 0x1040, of an image at 0xC00000,
 /// and a WSMT at 0x1080, whose protections are 7.
-pub(crate) fn two_tables() -> [u8; 168] {
+pub fn two_tables() -> [u8; 168] {
     let mut memory = [0; 168];
     put_table(&mut memory, 0, b"RSDT", 44, 0xB7);
     put(&mut memory, 36, &[0x40, 0x10, 0, 0, 0x80, 0x10]);

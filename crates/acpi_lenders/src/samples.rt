@@ -1,12 +1,12 @@
 //! Images and tables, spelled out byte by byte from the layouts. Bytes that are not named are zero.
 ghost use Rattle.std.specs.Prelude.{◌+◌, ◌≤◌, length};
 
-pub(crate) mod graphics;
-pub(crate) mod members;
-pub(crate) mod rsdps;
+pub mod graphics;
+pub mod members;
+pub mod rsdps;
 
 /// Writes bytes at an offset.
-pub(crate) fn put(file: &mut [u8], offset: usize, bytes: &[u8])
+pub fn put(file: &mut [u8], offset: usize, bytes: &[u8])
     requires { offset + length bytes.now ≤ length file.old }
 {
     for (i, byte) in bytes.iter().enumerate() {
@@ -15,21 +15,21 @@ pub(crate) fn put(file: &mut [u8], offset: usize, bytes: &[u8])
 }
 
 /// Writes one byte where there is one.
-pub(crate) fn change(bytes: &mut [u8], offset: usize, byte: u8) {
+pub fn change(bytes: &mut [u8], offset: usize, byte: u8) {
     if offset < bytes.len() {
         bytes[offset] = byte;
     }
 }
 
 /// The first bytes, at most so many.
-pub(crate) fn front(memory: &[u8], count: usize) -> &[u8]
+pub fn front(memory: &[u8], count: usize) -> &[u8]
     ensures { length result.now ≤ count }
 {
     &memory[..count.min(memory.len())]
 }
 
 /// Writes what a record begins with: where it starts, and how many bytes it has.
-pub(crate) fn put_head(file: &mut [u8], offset: usize, start: u64, count: u64)
+pub fn put_head(file: &mut [u8], offset: usize, start: u64, count: u64)
     requires { offset + 16 ≤ length file.old }
 {
     put(file, offset, &start.to_le_bytes());
@@ -37,7 +37,7 @@ pub(crate) fn put_head(file: &mut [u8], offset: usize, start: u64, count: u64)
 }
 
 /// Writes what a table begins with: its signature, its length, and byte 9, the checksum.
-pub(crate) fn put_table(file: &mut [u8], offset: usize, name: &[u8; 4], count: u8, checksum: u8)
+pub fn put_table(file: &mut [u8], offset: usize, name: &[u8; 4], count: u8, checksum: u8)
     requires { offset + 36 ≤ length file.old }
 {
     put(file, offset, name);
@@ -45,7 +45,7 @@ pub(crate) fn put_table(file: &mut [u8], offset: usize, name: &[u8; 4], count: u
 }
 
 /// Writes a boot graphic: version 1, displayed, turned by 180 degrees.
-pub(crate) fn put_graphic(file: &mut [u8], offset: usize)
+pub fn put_graphic(file: &mut [u8], offset: usize)
     requires { offset + 56 ≤ length file.old }
 {
     put_table(file, offset, b"BGRT", 56, 0x93);

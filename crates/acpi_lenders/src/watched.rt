@@ -7,14 +7,14 @@ use std::cell::Cell;
 /// A boot graphic that counts how often it was checked. A cell's value counts for nothing in a
 /// contract, so that this is a table type as any other.
 #[derive(Drop)]
-pub(crate) struct Watched {
+pub struct Watched {
     header: SdtHeader,
     checks: Cell<u32>,
 }
 
 impl Watched {
     /// How often `validate` was called on this very value.
-    pub(crate) fn checks(&self) -> u32 {
+    pub fn checks(&self) -> u32 {
         self.checks.get()
     }
 }

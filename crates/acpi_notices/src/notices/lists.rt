@@ -1,10 +1,11 @@
 //! What is lent while an iterator is walked along, to its end or not.
 ghost use Rattle.std.specs.Iterator.{IsFinite};
 
-use crate::example::Wsmt;
-use crate::handlers::{Recording, Scenario, over_each_handler};
-use crate::history::places;
-use crate::samples::members::faulty_members;
+use acpi_lenders::example::Wsmt;
+use acpi_lenders::handlers::Recording;
+use crate::scenarios::{Scenario, over_each_handler};
+use acpi_lenders::history::places;
+use acpi_lenders::samples::members::faulty_members;
 use acpi::bgrt::Bgrt;
 use acpi::{AcpiError, AcpiHandler, AcpiTables};
 use std::process::Abort;

@@ -4,13 +4,13 @@ ghost use Rattle.std.specs.Prelude.{◌+◌, ◌≤◌, length};
 use super::{put, put_graphic, put_head, put_table};
 
 /// Where the bytes of the first area begin in a file, and where they end.
-pub(crate) const AREA: usize = 34;
+pub const AREA: usize = 34;
 
-pub(crate) const AREA_END: usize = 131122;
+pub const AREA_END: usize = 131122;
 
 /// Writes a word at 0x40e, and the head of the first area with the 16 bytes behind it, which are
 /// zero. More records follow at `AREA_END`.
-pub(crate) fn put_areas(file: &mut [u8], word: u16)
+pub fn put_areas(file: &mut [u8], word: u16)
     requires { 131122 ≤ length file.old }
 {
     put_head(file, 0, 0x40e, 2);
@@ -19,7 +19,7 @@ pub(crate) fn put_areas(file: &mut [u8], word: u16)
 }
 
 /// Writes an RSDP of version 1 that leads to the RSDT at 0x1000.
-pub(crate) fn put_rsdp(file: &mut [u8], offset: usize, checksum: u8)
+pub fn put_rsdp(file: &mut [u8], offset: usize, checksum: u8)
     requires { offset + 20 ≤ length file.old }
 {
     put(file, offset, b"RSD PTR ");
@@ -28,7 +28,7 @@ pub(crate) fn put_rsdp(file: &mut [u8], offset: usize, checksum: u8)
 }
 
 /// Writes an RSDP of version 2 that leads to the XSDT at 0x2000.
-pub(crate) fn put_rsdp_2(file: &mut [u8], offset: usize)
+pub fn put_rsdp_2(file: &mut [u8], offset: usize)
     requires { offset + 36 ≤ length file.old }
 {
     put(
@@ -41,7 +41,7 @@ pub(crate) fn put_rsdp_2(file: &mut [u8], offset: usize)
 
 /// Writes an RSDP of version 2 and of 40 bytes, the last four being 1, 2, 3 and 4. It leads to the
 /// XSDT at 0x3000. Only all 40 bytes sum to 0, not the first 36.
-pub(crate) fn put_long_rsdp(file: &mut [u8], offset: usize)
+pub fn put_long_rsdp(file: &mut [u8], offset: usize)
     requires { offset + 40 ≤ length file.old }
 {
     put(
@@ -54,7 +54,7 @@ pub(crate) fn put_long_rsdp(file: &mut [u8], offset: usize)
 
 /// Writes three records of 188 bytes together: an RSDT at 0x1000 and an XSDT at 0x3000, which list
 /// 0x2000 each, and a boot graphic there.
-pub(crate) fn put_roots(file: &mut [u8], offset: usize)
+pub fn put_roots(file: &mut [u8], offset: usize)
     requires { offset + 188 ≤ length file.old }
 {
     put_head(file, offset, 0x1000, 40);
@@ -68,7 +68,7 @@ pub(crate) fn put_roots(file: &mut [u8], offset: usize)
 }
 
 /// An RSDP of version 1 at 0x600, one of version 2 at 0x700, and what they lead to.
-pub(crate) fn two_roots() -> [u8; 296] {
+pub fn two_roots() -> [u8; 296] {
     let mut file = [0; 296];
     put_head(&mut file, 0, 0x600, 36);
     put_rsdp(&mut file, 16, 0x11);

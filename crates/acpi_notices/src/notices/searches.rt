@@ -1,10 +1,10 @@
 //! What is lent while the BIOS areas are searched, and after.
 
 use super::openings::{Way, check_refusal, check_way};
-use crate::handlers::{Exact, Recording};
-use crate::history::places;
-use crate::samples::rsdps::{AREA, AREA_END, put_areas, put_long_rsdp, put_roots, put_rsdp};
-use crate::samples::{change, put_head};
+use acpi_lenders::handlers::{Exact, Recording};
+use acpi_lenders::history::places;
+use acpi_lenders::samples::rsdps::{AREA, AREA_END, put_areas, put_long_rsdp, put_roots, put_rsdp};
+use acpi_lenders::samples::{change, put_head};
 use acpi::rsdp::Rsdp;
 use acpi::sdt::Signature;
 use acpi::{AcpiError, AcpiHandler};

@@ -8,7 +8,7 @@ const LOANS: usize = 8;
 
 /// One thing that happened at a handler.
 #[derive(Clone, Copy, Debug, PartialEq, Eq)]
-pub(crate) enum Event {
+pub enum Event {
     /// A request was granted: for `size` bytes, of which `lent` were lent.
     Lent {
         address: u64,
@@ -30,7 +30,7 @@ pub(crate) enum Event {
 
 /// How many bytes of each loan a mapping should have shown.
 #[derive(Clone, Copy)]
-pub(crate) enum Shown<'s> {
+pub enum Shown<'s> {
     /// As many as were asked for.
     AsAsked,
     /// These, for the granted requests in order.
@@ -49,7 +49,7 @@ impl Shown<'_> {
 
 /// What is wrong with a history.
 #[derive(Clone, Copy, Debug, PartialEq, Eq)]
-pub(crate) enum Flaw {
+pub enum Flaw {
     /// More happened than there is room for, or more was lent than the scenario has.
     Full,
     /// This notice names no loan that is open: another address or length, or it came before.
@@ -67,10 +67,10 @@ struct Loan {
 }
 
 /// Address and shown length of each loan that is open, in the order of the grants. Zeros follow.
-pub(crate) type Places = [(u64, usize); LOANS];
+pub type Places = [(u64, usize); LOANS];
 
 /// These loans, as `Recording::open` answers them.
-pub(crate) fn places(loans: &[(u64, usize)]) -> Result<Places, Flaw> {
+pub fn places(loans: &[(u64, usize)]) -> Result<Places, Flaw> {
     let mut places = [(0, 0); LOANS];
     for (place, loan) in places.iter_mut().zip(loans) {
         *place = *loan;
@@ -126,14 +126,14 @@ impl Loans {
 
 /// What happened at a handler, in order.
 #[derive(Clone, Copy)]
-pub(crate) struct History {
+pub struct History {
     events: [Event; ROOM],
     count: usize,
 }
 
 impl History {
     /// The history in which nothing happened.
-    pub(crate) const NOTHING: History = History {
+    pub const NOTHING: History = History {
         events: [Event::Refused {
             address: 0,
             size: 0,
@@ -142,7 +142,7 @@ impl History {
     };
 
     /// The same, and then this.
-    pub(crate) fn with(mut self, event: Event) -> History {
+    pub fn with(mut self, event: Event) -> History {
         if self.count < ROOM {
             self.events[self.count] = event;
         }
@@ -151,7 +151,7 @@ impl History {
     }
 
     /// All that happened, as far as there is room.
-    pub(crate) fn events(&self) -> &[Event] {
+    pub fn events(&self) -> &[Event] {
         &self.events[..self.count.min(ROOM)]
     }
 
@@ -200,12 +200,12 @@ impl History {
 
     /// Address and shown length of the loans that are open at the end, where each notice so far
     /// ended one.
-    pub(crate) fn open(&self, shown: Shown<'_>) -> Result<Places, Flaw> {
+    pub fn open(&self, shown: Shown<'_>) -> Result<Places, Flaw> {
         Ok(self.loans(shown)?.places())
     }
 
     /// What is wrong, if anything is, once all should have ended.
-    pub(crate) fn flaw(&self, shown: Shown<'_>) -> Option<Flaw> {
+    pub fn flaw(&self, shown: Shown<'_>) -> Option<Flaw> {
         match self.loans(shown) {
             Err(flaw) => Some(flaw),
             Ok(loans) => {

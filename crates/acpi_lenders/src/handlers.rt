@@ -1,20 +1,17 @@
 //! Handlers over another handler, for tests.
 
 use crate::history::{Event, Flaw, History, Places, Shown};
-use acpi::{AcpiError, AcpiHandler, AcpiResult};
-use acpi_image::MemoryImage;
+use acpi::{AcpiHandler, AcpiResult};
 use std::cell::Cell;
-use std::process::Abort;
-use std::test::Fail;
 
 /// A handler that lends just what is asked for.
 #[derive(Drop)]
-pub(crate) struct Exact<'a, H: AcpiHandler> {
+pub struct Exact<'a, H: AcpiHandler> {
     inner: &'a H,
 }
 
 impl<'a, H: AcpiHandler> Exact<'a, H> {
-    pub(crate) fn new(inner: &'a H) -> Self {
+    pub fn new(inner: &'a H) -> Self {
         Exact { inner }
     }
 }
@@ -38,7 +35,7 @@ impl<'a, H: AcpiHandler> AcpiHandler for Exact<'a, H> {
 
 /// A handler that records what another is asked for, what it grants, and what it is told.
 #[derive(Drop)]
-pub(crate) struct Recording<'a, H: AcpiHandler> {
+pub struct Recording<'a, H: AcpiHandler> {
     inner: &'a H,
     shown: Shown<'a>,
     history: Cell<History>,
@@ -46,12 +43,12 @@ pub(crate) struct Recording<'a, H: AcpiHandler> {
 
 impl<'a, H: AcpiHandler> Recording<'a, H> {
     /// For a scenario in which each mapping shows what was asked for.
-    pub(crate) fn new(inner: &'a H) -> Self {
+    pub fn new(inner: &'a H) -> Self {
         Recording::showing(inner, Shown::AsAsked)
     }
 
     /// For a scenario in which mappings show so many bytes.
-    pub(crate) fn showing(inner: &'a H, shown: Shown<'a>) -> Self {
+    pub fn showing(inner: &'a H, shown: Shown<'a>) -> Self {
         Recording {
             inner,
             shown,
@@ -60,17 +57,17 @@ impl<'a, H: AcpiHandler> Recording<'a, H> {
     }
 
     /// What happened so far.
-    pub(crate) fn history(&self) -> History {
+    pub fn history(&self) -> History {
         self.history.get()
     }
 
     /// What is lent now, where each notice so far ended one loan.
-    pub(crate) fn open(&self) -> Result<Places, Flaw> {
+    pub fn open(&self) -> Result<Places, Flaw> {
         self.history.get().open(self.shown)
     }
 
     /// What is wrong, if anything is, now that all loans should have ended.
-    pub(crate) fn flaw(&self) -> Option<Flaw> {
+    pub fn flaw(&self) -> Option<Flaw> {
         self.history.get().flaw(self.shown)
     }
 
@@ -106,29 +103,4 @@ impl<'a, H: AcpiHandler> AcpiHandler for Recording<'a, H> {
     }
 
     ghost regions = { λ r. H.regions r.inner.now };
-}
-
-/// What is checked over any handler of a memory.
-pub(crate) trait Scenario {
-    fn check<R: Abort, H: AcpiHandler>(rt: &R, handler: &H) -> Result<(), AcpiError>;
-}
-
-/// Checks a scenario over each handler of an image: the image itself, which lends all to a record's
-/// end, one that lends just what is asked for, and both of them recorded, where each loan has to
-/// have its notice at the end.
-pub(crate) fn over_each_handler<S: Scenario>(
-    rt: &(impl Abort + AllocGlobal),
-    file: &[u8],
-) -> Result<(), Fail> {
-    let image = MemoryImage::from_bytes(rt.alloc(), file)?;
-    let exact = Exact::new(&image);
-    S::check(rt, &image)?;
-    S::check(rt, &exact)?;
-    let recording = Recording::new(&image);
-    S::check(rt, &recording)?;
-    assert_eq!(rt; recording.flaw(), None);
-    let recording = Recording::new(&exact);
-    S::check(rt, &recording)?;
-    assert_eq!(rt; recording.flaw(), None);
-    Ok(())
 }

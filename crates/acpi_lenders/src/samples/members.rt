@@ -4,7 +4,7 @@ use super::{put, put_graphic, put_head, put_table};
 
 /// An RSDT at 0x1000 that lists 0x2000 twice and then 0x3000: a valid SSDT without AML, and one
 /// whose sum is 1.
-pub(crate) fn repeated() -> [u8; 168] {
+pub fn repeated() -> [u8; 168] {
     let mut file = [0; 168];
     put_head(&mut file, 0, 0x1000, 48);
     put_table(&mut file, 16, b"RSDT", 48, 0x23);
@@ -18,7 +18,7 @@ pub(crate) fn repeated() -> [u8; 168] {
 
 /// An RSDT at 0x1000 that lists two boot graphics: one at 0x2000 whose sum is 1, and a valid one at
 /// 0x3000 that was not displayed.
-pub(crate) fn damaged_first() -> [u8; 204] {
+pub fn damaged_first() -> [u8; 204] {
     let mut file = [0; 204];
     put_head(&mut file, 0, 0x1000, 44);
     put_table(&mut file, 16, b"RSDT", 44, 0x47);
@@ -35,7 +35,7 @@ pub(crate) fn damaged_first() -> [u8; 204] {
 /// An RSDT at 0x1000 that lists five tables: at 0x2000 a boot graphic whose sum is 1, at 0x3000 a
 /// valid SSDT with eight bytes of AML, at 0x4000 a boot graphic of 57 bytes of which 56 are lent,
 /// at 0x5000 nothing that is lent, and at 0x6000 a valid boot graphic.
-pub(crate) fn faulty_members() -> [u8; 348] {
+pub fn faulty_members() -> [u8; 348] {
     let mut file = [0; 348];
     put_head(&mut file, 0, 0x1000, 56);
     put_table(&mut file, 16, b"RSDT", 56, 0x4B);
@@ -57,7 +57,7 @@ pub(crate) fn faulty_members() -> [u8; 348] {
 
 /// An RSDT at 0x1000 that lists a FADT of 116 bytes at 0x2000, with this checksum and byte 1 of
 /// the DSDT's address, and a DSDT of 40 bytes at 0x4000.
-pub(crate) fn with_dsdt(checksum: u8, page: u8) -> [u8; 244] {
+pub fn with_dsdt(checksum: u8, page: u8) -> [u8; 244] {
     let mut file = [0; 244];
     put_head(&mut file, 0, 0x1000, 40);
     put_table(&mut file, 16, b"RSDT", 40, 0x7B);

@@ -1,9 +1,9 @@
 //! What is lent once the tables are opened by an address, and that nothing is where they aren't.
 
-use crate::handlers::{Exact, Recording};
-use crate::history::places;
-use crate::samples::change;
-use crate::samples::rsdps::two_roots;
+use acpi_lenders::handlers::{Exact, Recording};
+use acpi_lenders::history::places;
+use acpi_lenders::samples::change;
+use acpi_lenders::samples::rsdps::two_roots;
 use acpi::bgrt::Bgrt;
 use acpi::rsdp::Rsdp;
 use acpi::sdt::Signature;

@@ -1,8 +1,8 @@
 //! Headers, SSDTs and faults, over images that are spelled out byte by byte.
 
-use crate::handlers::{Scenario, over_each_handler};
-use crate::samples::graphics::{empty_root, short_graphic};
-use crate::samples::members::{damaged_first, faulty_members, repeated};
+use crate::scenarios::{Scenario, over_each_handler};
+use acpi_lenders::samples::graphics::{empty_root, short_graphic};
+use acpi_lenders::samples::members::{damaged_first, faulty_members, repeated};
 use acpi::bgrt::Bgrt;
 use acpi::sdt::Signature;
 use acpi::{AcpiError, AcpiHandler, AcpiTables, AmlTable, TableFault};
