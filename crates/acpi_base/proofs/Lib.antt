@@ -1,8 +1,10 @@
 pub mod Codes
+pub mod Cuts
 pub mod Damage
 pub mod Held
 pub mod Inside
 pub mod Lent
+pub mod MadtCounts
 pub mod Numbers
 pub mod OneRegion
 pub mod Orders

@@ -3,11 +3,16 @@ pub mod AddressLaws
 pub mod Bits
 pub mod Bytes
 pub mod Claim
+pub mod Entries
+pub mod EntryLaws
 pub mod Equality
 pub mod ErrorText
 pub mod Extended
 pub mod Header
 pub mod Laws
+pub mod Madt
+pub mod MadtEntries
+pub mod MadtWalk
 pub mod Mapping
 pub mod Memory
 pub mod Names
@@ -15,3 +20,4 @@ pub mod OneRegion
 pub mod Steps
 pub mod Table
 pub mod Text
+pub mod Wakeup

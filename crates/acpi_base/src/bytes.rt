@@ -1,5 +1,5 @@
 //! Numbers, sums and texts of bytes.
-ghost use Rattle.std.specs.Prelude.{◌≡◌, ◌+◌, ◌*◌, ◌^◌, ◌<◌, ◌≤◌, nat_le, length, true};
+ghost use Rattle.std.specs.Prelude.{◌≡◌, ◌+◌, ◌*◌, ◌^◌, ◌<◌, ◌≤◌, nat_le, drop, length, true};
 ghost use Rattle.std.specs.Str.{IsAscii, is_utf8};
 ghost use Rattle.acpi_base.specs.Bits.{bits_of, has_bit};
 ghost use Rattle.acpi_base.specs.Bytes.{field_of, filled_part, number, sum_of};
@@ -78,6 +78,13 @@ pub fn text_of(bytes: &[u8]) -> Option<&str>
         Ok(text) => Some(text),
         Err(_) => None,
     }
+}
+
+/// The bytes behind the first `n`, or none where there are no more.
+pub fn skip(bytes: &[u8], n: usize) -> &[u8]
+    ensures { result.now ≡ drop n bytes.now }
+{
+    if n < bytes.len() { &bytes[n..] } else { &[] }
 }
 
 /// Whether the `n` bytes at an offset lie in the table.

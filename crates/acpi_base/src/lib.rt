@@ -7,10 +7,12 @@
 pub mod address;
 pub mod bytes;
 mod claim;
+pub mod entries;
 pub mod error;
 pub mod extended;
 pub mod handler;
 pub mod laws;
+pub mod madt;
 pub mod mapping;
 pub mod sdt;
 pub mod signature;

@@ -1,0 +1,80 @@
+-- The entries of the MADT (ACPI 6.4, section 5.2.12).
+use Rattle.std.specs.Prelude.{ℕ, List, [], ◌∷◌, map, drop, slice_get, slice_index, Option, Some, None, Result}
+use Rattle.std.specs.List.{filter_map}
+use Rattle.std.specs.Option.{ok_or, option_map}
+use Rattle.acpi_base.specs.Bytes.{field_of}
+use Rattle.acpi_base.specs.Header.{header_at}
+use Rattle.acpi_base.specs.declared.error.AcpiError.{AcpiError}
+use Rattle.acpi_base.specs.declared.error.AcpiError.TheVariants.{InvalidMadt}
+use Rattle.acpi_base.specs.declared.error.MadtError.{MadtError}
+use Rattle.acpi_base.specs.declared.error.MadtError.TheVariants.{InvalidEntryLength, UnexpectedEntry}
+use Rattle.acpi_base.specs.declared.madt.Madt.{Madt}
+use Rattle.acpi_base.specs.Entries.{cut}
+use Rattle.acpi_base.specs.MadtEntries as entries
+use Rattle.acpi_base.specs.declared.madt.entry.MadtEntry.{MadtEntry}
+use Rattle.acpi_base.specs.declared.madt.entry.MadtEntry.TheVariants as kinds
+
+-- the kinds in order, from kind 0 on: the least length of an entry, and what its bytes mean
+abbrev pub madt_kinds : List (ℕ × (List ℕ → MadtEntry))
+madt_kinds =
+    (8, λ e. kinds.LocalApic (entries.local_apic_at e)) ∷
+    (12, λ e. kinds.IoApic (entries.io_apic_at e)) ∷
+    (10, λ e. kinds.InterruptSourceOverride (entries.interrupt_source_override_at e)) ∷
+    (8, λ e. kinds.NmiSource (entries.nmi_source_at e)) ∷
+    (6, λ e. kinds.LocalApicNmi (entries.local_apic_nmi_at e)) ∷
+    (12, λ e. kinds.LocalApicAddressOverride (entries.local_apic_address_override_at e)) ∷
+    (16, λ e. kinds.IoSapic (entries.io_sapic_at e)) ∷
+    (16, λ e. kinds.LocalSapic (entries.local_sapic_at e)) ∷
+    (16, λ e. kinds.PlatformInterruptSource (entries.platform_interrupt_source_at e)) ∷
+    (16, λ e. kinds.LocalX2Apic (entries.local_x2apic_at e)) ∷
+    (12, λ e. kinds.X2ApicNmi (entries.x2apic_nmi_at e)) ∷
+    (76, λ e. kinds.Gicc (entries.gicc_at e)) ∷
+    (24, λ e. kinds.Gicd (entries.gicd_at e)) ∷
+    (24, λ e. kinds.GicMsiFrame (entries.gic_msi_frame_at e)) ∷
+    (16, λ e. kinds.GicRedistributor (entries.gic_redistributor_at e)) ∷
+    (20, λ e. kinds.GicInterruptTranslationService (entries.gic_interrupt_translation_service_at e)) ∷
+    (16, λ e. kinds.MultiprocessorWakeup (entries.multiprocessor_wakeup_at e)) ∷ []
+
+-- the least lengths alone
+abbrev pub madt_lengths : List ℕ
+madt_lengths = map (λ k. k.0) madt_kinds
+
+-- what an entry says; nothing where its kind is behind the last one
+abbrev pub entry_of : List ℕ → Option MadtEntry
+entry_of e = option_map (λ k. k.1 e) (slice_get madt_kinds (slice_index e 0))
+
+-- the entries of the bytes behind a table's 44 fixed ones, and the rest in which no entry begins
+abbrev pub cut_of : List ℕ → List (List ℕ) × List ℕ
+cut_of table = cut madt_lengths (drop 44 table)
+
+-- the entries of known kinds, in order
+abbrev pub entries_of : List ℕ → List MadtEntry
+entries_of table = filter_map entry_of (cut_of table).0
+
+-- ---- the table
+
+-- what a table's first bytes mean
+unfoldable pub madt_at : List ℕ → Madt
+madt_at b = record {
+  header = header_at b;
+  local_apic_address = field_of b 36 4;
+  flags = field_of b 40 4;
+}
+
+-- ---- the mailbox
+
+-- the address of a mailbox, where an entry gives one
+abbrev pub mailbox_in : MadtEntry → Option ℕ
+mailbox_in (kinds.MultiprocessorWakeup wakeup) = Some wakeup.mailbox_address
+mailbox_in _ = None
+
+-- why the entries gave no mailbox: they ended before the table did, or there is none
+abbrev pub no_mailbox : List ℕ → MadtError
+no_mailbox [] = UnexpectedEntry
+no_mailbox (b ∷ rest) = InvalidEntryLength
+
+-- the address of the first mailbox
+abbrev pub mailbox_of : List ℕ → Result ℕ AcpiError
+mailbox_of table =
+    let mailboxes = filter_map mailbox_in (entries_of table) in
+    ok_or (slice_get mailboxes 0) (InvalidMadt (no_mailbox (cut_of table).1))

@@ -1,0 +1,195 @@
+-- The fields of the MADT's entries, each at its place in the entry (ACPI 6.4, section 5.2.12).
+use Rattle.std.specs.Prelude.{ℕ, List}
+use Rattle.acpi_base.specs.Bytes.{field_of}
+use Rattle.acpi_base.specs.Extended.{extended_at}
+use Rattle.acpi_base.specs.declared.madt.entry.EntryHeader.{EntryHeader}
+use Rattle.acpi_base.specs.declared.madt.apic.LocalApicEntry.{LocalApicEntry}
+use Rattle.acpi_base.specs.declared.madt.apic.IoApicEntry.{IoApicEntry}
+use Rattle.acpi_base.specs.declared.madt.apic.InterruptSourceOverrideEntry.{InterruptSourceOverrideEntry}
+use Rattle.acpi_base.specs.declared.madt.apic.NmiSourceEntry.{NmiSourceEntry}
+use Rattle.acpi_base.specs.declared.madt.apic.LocalApicNmiEntry.{LocalApicNmiEntry}
+use Rattle.acpi_base.specs.declared.madt.apic.LocalApicAddressOverrideEntry.{LocalApicAddressOverrideEntry}
+use Rattle.acpi_base.specs.declared.madt.apic.LocalX2ApicEntry.{LocalX2ApicEntry}
+use Rattle.acpi_base.specs.declared.madt.apic.X2ApicNmiEntry.{X2ApicNmiEntry}
+use Rattle.acpi_base.specs.declared.madt.sapic.IoSapicEntry.{IoSapicEntry}
+use Rattle.acpi_base.specs.declared.madt.sapic.LocalSapicEntry.{LocalSapicEntry}
+use Rattle.acpi_base.specs.declared.madt.sapic.PlatformInterruptSourceEntry.{PlatformInterruptSourceEntry}
+use Rattle.acpi_base.specs.declared.madt.gic.GiccEntry.{GiccEntry}
+use Rattle.acpi_base.specs.declared.madt.gic.GicdEntry.{GicdEntry}
+use Rattle.acpi_base.specs.declared.madt.gic.GicMsiFrameEntry.{GicMsiFrameEntry}
+use Rattle.acpi_base.specs.declared.madt.gic.GicRedistributorEntry.{GicRedistributorEntry}
+use Rattle.acpi_base.specs.declared.madt.gic.GicInterruptTranslationServiceEntry.{GicInterruptTranslationServiceEntry}
+use Rattle.acpi_base.specs.declared.madt.wakeup.MultiprocessorWakeupEntry.{MultiprocessorWakeupEntry}
+
+-- what each entry begins with: its kind and its length
+abbrev pub entry_header_at : List ℕ → EntryHeader
+entry_header_at b = record { entry_type = field_of b 0 1; length = field_of b 1 1 }
+
+-- section 5.2.12.2
+abbrev pub local_apic_at : List ℕ → LocalApicEntry
+local_apic_at b = record {
+  header = entry_header_at b;
+  processor_id = field_of b 2 1;
+  apic_id = field_of b 3 1;
+  flags = field_of b 4 4;
+}
+
+-- section 5.2.12.3
+abbrev pub io_apic_at : List ℕ → IoApicEntry
+io_apic_at b = record {
+  header = entry_header_at b;
+  io_apic_id = field_of b 2 1;
+  io_apic_address = field_of b 4 4;
+  global_system_interrupt_base = field_of b 8 4;
+}
+
+-- section 5.2.12.5
+abbrev pub interrupt_source_override_at : List ℕ → InterruptSourceOverrideEntry
+interrupt_source_override_at b = record {
+  header = entry_header_at b;
+  bus = field_of b 2 1;
+  irq = field_of b 3 1;
+  global_system_interrupt = field_of b 4 4;
+  flags = field_of b 8 2;
+}
+
+-- section 5.2.12.6
+abbrev pub nmi_source_at : List ℕ → NmiSourceEntry
+nmi_source_at b = record {
+  header = entry_header_at b;
+  flags = field_of b 2 2;
+  global_system_interrupt = field_of b 4 4;
+}
+
+-- section 5.2.12.7
+abbrev pub local_apic_nmi_at : List ℕ → LocalApicNmiEntry
+local_apic_nmi_at b = record {
+  header = entry_header_at b;
+  processor_id = field_of b 2 1;
+  flags = field_of b 3 2;
+  nmi_line = field_of b 5 1;
+}
+
+-- section 5.2.12.8
+abbrev pub local_apic_address_override_at : List ℕ → LocalApicAddressOverrideEntry
+local_apic_address_override_at b = record {
+  header = entry_header_at b;
+  local_apic_address = field_of b 4 8;
+}
+
+-- section 5.2.12.9
+abbrev pub io_sapic_at : List ℕ → IoSapicEntry
+io_sapic_at b = record {
+  header = entry_header_at b;
+  io_apic_id = field_of b 2 1;
+  global_system_interrupt_base = field_of b 4 4;
+  io_sapic_address = field_of b 8 8;
+}
+
+-- section 5.2.12.10
+abbrev pub local_sapic_at : List ℕ → LocalSapicEntry
+local_sapic_at b = record {
+  header = entry_header_at b;
+  processor_id = field_of b 2 1;
+  local_sapic_id = field_of b 3 1;
+  local_sapic_eid = field_of b 4 1;
+  flags = field_of b 8 4;
+  processor_uid = field_of b 12 4;
+}
+
+-- section 5.2.12.11
+abbrev pub platform_interrupt_source_at : List ℕ → PlatformInterruptSourceEntry
+platform_interrupt_source_at b = record {
+  header = entry_header_at b;
+  flags = field_of b 2 2;
+  interrupt_type = field_of b 4 1;
+  processor_id = field_of b 5 1;
+  processor_eid = field_of b 6 1;
+  io_sapic_vector = field_of b 7 1;
+  global_system_interrupt = field_of b 8 4;
+  platform_interrupt_source_flags = field_of b 12 4;
+}
+
+-- section 5.2.12.12
+abbrev pub local_x2apic_at : List ℕ → LocalX2ApicEntry
+local_x2apic_at b = record {
+  header = entry_header_at b;
+  x2apic_id = field_of b 4 4;
+  flags = field_of b 8 4;
+  processor_uid = field_of b 12 4;
+}
+
+-- section 5.2.12.13
+abbrev pub x2apic_nmi_at : List ℕ → X2ApicNmiEntry
+x2apic_nmi_at b = record {
+  header = entry_header_at b;
+  flags = field_of b 2 2;
+  processor_uid = field_of b 4 4;
+  nmi_line = field_of b 8 1;
+}
+
+-- section 5.2.12.14
+abbrev pub gicc_at : List ℕ → GiccEntry
+gicc_at b = record {
+  header = entry_header_at b;
+  cpu_interface_number = field_of b 4 4;
+  processor_uid = field_of b 8 4;
+  flags = field_of b 12 4;
+  parking_protocol_version = field_of b 16 4;
+  performance_interrupt_gsiv = field_of b 20 4;
+  parked_address = field_of b 24 8;
+  gic_registers_address = field_of b 32 8;
+  gic_virtual_registers_address = field_of b 40 8;
+  gic_hypervisor_registers_address = field_of b 48 8;
+  vgic_maintenance_interrupt = field_of b 56 4;
+  gicr_base_address = field_of b 60 8;
+  mpidr = field_of b 68 8;
+  processor_power_efficiency_class = field_of b 76 1;
+  spe_overflow_interrupt = field_of b 78 2;
+  trbe_interrupt = extended_at (λ x. field_of x 0 2) b 80 2;
+}
+
+-- section 5.2.12.15
+abbrev pub gicd_at : List ℕ → GicdEntry
+gicd_at b = record {
+  header = entry_header_at b;
+  gic_id = field_of b 4 4;
+  physical_base_address = field_of b 8 8;
+  system_vector_base = field_of b 16 4;
+  gic_version = field_of b 20 1;
+}
+
+-- section 5.2.12.16
+abbrev pub gic_msi_frame_at : List ℕ → GicMsiFrameEntry
+gic_msi_frame_at b = record {
+  header = entry_header_at b;
+  frame_id = field_of b 4 4;
+  physical_base_address = field_of b 8 8;
+  flags = field_of b 16 4;
+  spi_count = field_of b 20 2;
+  spi_base = field_of b 22 2;
+}
+
+-- section 5.2.12.17
+abbrev pub gic_redistributor_at : List ℕ → GicRedistributorEntry
+gic_redistributor_at b = record {
+  header = entry_header_at b;
+  discovery_range_base_address = field_of b 4 8;
+  discovery_range_length = field_of b 12 4;
+}
+
+-- section 5.2.12.18
+abbrev pub gic_interrupt_translation_service_at : List ℕ → GicInterruptTranslationServiceEntry
+gic_interrupt_translation_service_at b = record {
+  header = entry_header_at b;
+  id = field_of b 4 4;
+  physical_base_address = field_of b 8 8;
+}
+
+-- section 5.2.12.19
+abbrev pub multiprocessor_wakeup_at : List ℕ → MultiprocessorWakeupEntry
+multiprocessor_wakeup_at b = record {
+  header = entry_header_at b;
+  mailbox_version = field_of b 2 2;
+  mailbox_address = field_of b 8 8;
+}

@@ -1,0 +1,34 @@
+-- What a walk along the MADT's entries shows.
+use Rattle.std.specs.Prelude.{◌≡◌, ◌&&◌, Bool, true, false, ℕ, List, [], ◌∷◌, Option, Some, None}
+use Rattle.std.specs.List.{filter_map}
+use Rattle.acpi_base.specs.Entries.{cut}
+use Rattle.acpi_base.specs.Madt.{entry_of, madt_lengths}
+use Rattle.acpi_base.specs.declared.madt.entry.MadtEntry.{MadtEntry}
+use Rattle.acpi_base.specs.declared.madt.walk.MadtEntryIter.{MadtEntryIter}
+
+-- the entries that are still to come
+abbrev pub entries_left : MadtEntryIter → List MadtEntry
+entries_left s = filter_map entry_of (cut madt_lengths s.rest.now).0
+
+-- the rest behind them, in which no entry begins
+abbrev pub rest_left : MadtEntryIter → List ℕ
+rest_left s = (cut madt_lengths s.rest.now).1
+
+-- whether it has answered that no entry is left
+abbrev pub has_ended : MadtEntryIter → Bool
+has_ended s = s.ended
+
+-- whether bytes are left
+abbrev pub is_left : List ℕ → Bool
+is_left [] = false
+is_left (b ∷ rest) = true
+
+-- whether it ended before the table did
+abbrev pub is_malformed : MadtEntryIter → Bool
+is_malformed s = s.ended && is_left s.rest.now
+
+-- a step leaves the rest as it is, and has ended exactly where it gives no entry
+abbrev pub EndsAtRest : MadtEntryIter → Option MadtEntry → MadtEntryIter → Type 0
+EndsAtRest s (Some entry) t = (rest_left t ≡ rest_left s) × (has_ended t ≡ has_ended s)
+EndsAtRest s None t =
+    (rest_left t ≡ rest_left s) × (is_malformed t ≡ is_left (rest_left s))

@@ -1,0 +1,147 @@
+//! The Multiple APIC Description Table (MADT): which interrupt controllers and processors there are.
+ghost use Rattle.std.specs.Prelude.{◌≡◌, ◌+◌, ◌*◌, ◌≤◌, length};
+ghost use Rattle.acpi_base.specs.Madt.{entries_of, mailbox_of};
+ghost use Rattle.acpi_base.specs.MadtWalk.{entries_left};
+
+mod apic;
+mod entry;
+mod gic;
+mod sapic;
+mod wakeup;
+mod walk;
+
+use crate::bytes::{field, has_bit};
+use crate::error::{AcpiError, AcpiResult, MadtError};
+use crate::handler::{AcpiHandler, PhysicalRecord};
+use crate::mapping::PhysicalMapping;
+use crate::sdt::SdtHeader;
+use crate::signature::Signature;
+use crate::table::AcpiTable;
+pub use apic::{
+    InterruptSourceOverrideEntry, IoApicEntry, LocalApicAddressOverrideEntry, LocalApicEntry,
+    LocalApicNmiEntry, LocalX2ApicEntry, NmiSourceEntry, X2ApicNmiEntry,
+};
+pub use entry::{EntryHeader, MadtEntry};
+pub use gic::{
+    GicInterruptTranslationServiceEntry, GicMsiFrameEntry, GicRedistributorEntry, GiccEntry,
+    GicdEntry,
+};
+pub use sapic::{IoSapicEntry, LocalSapicEntry, PlatformInterruptSourceEntry};
+pub use wakeup::{
+    MpProtectedModeWakeupCommand, MultiprocessorWakeupEntry, MultiprocessorWakeupMailbox,
+};
+pub use walk::MadtEntryIter;
+
+/// The MADT (section 5.2.12). Its entries stand behind these fields; a mapping of it gives them.
+#[derive(Debug, Drop)]
+pub struct Madt {
+    /// The header that every table begins with.
+    pub header: SdtHeader,
+    /// The physical address of each processor's local APIC, unless an entry gives another.
+    pub local_apic_address: u32,
+    /// Bit 0: the machine has a pair of 8259 controllers too. `supports_8259()` says so.
+    pub flags: u32,
+}
+
+impl PhysicalRecord for Madt {
+    ghost use Rattle.acpi_base.specs.Madt.{madt_at};
+
+    const MIN_LENGTH: usize = 44;
+
+    ghost MIN_LENGTH = { 44 };
+
+    ghost reading = { madt_at };
+
+    #[tactic(auto, unfolding(crate::specs::Madt::madt_at))]
+    fn read(bytes: &[u8]) -> Self {
+        Madt {
+            header: SdtHeader::read(bytes),
+            local_apic_address: field(bytes, 36, 4) as u32,
+            flags: field(bytes, 40, 4) as u32,
+        }
+    }
+}
+
+impl AcpiTable for Madt {
+    ghost use Rattle.std.proofs.Common.{lit≤};
+    ghost use Rattle.acpi_base.specs.Header.{check_table};
+    ghost use Rattle.acpi_base.specs.declared.signature.TheConstants.Signature.{MADT};
+
+    const SIGNATURE: Signature = Signature::MADT;
+
+    ghost SIGNATURE = { MADT };
+
+    ghost verdict = { check_table MADT };
+
+    #[tactic(auto, unfolding(crate::specs::Madt::madt_at))]
+    fn header(&self) -> &SdtHeader {
+        &self.header
+    }
+
+    fn validate(&self, bytes: &[u8]) -> AcpiResult<()> {
+        self.header().validate(Self::SIGNATURE, bytes)
+    }
+
+    ghost least = { lit≤ tt };
+}
+
+impl Madt {
+    ghost use Rattle.std.specs.Prelude.{◌≡◌};
+    ghost use Rattle.acpi_base.specs.Bits.{has_bit};
+
+    /// Whether the machine has a pair of 8259 controllers too, which are to be masked where the
+    /// APICs are used.
+    pub fn supports_8259(&self) -> bool
+        ensures { result ≡ has_bit self.now.flags 0 }
+    {
+        has_bit(self.flags as u64, 0)
+    }
+}
+
+/// The physical address of the mailbox by which processors are woken (section 5.2.12.19), out of a
+/// MADT's bytes: that of the first wakeup entry.
+///
+/// Refuses with `InvalidMadt`: `InvalidEntryLength` where a malformed entry comes before one, and
+/// `UnexpectedEntry` where there is none.
+fn mailbox_address(table: &[u8]) -> AcpiResult<u64>
+    ensures { result ≡ mailbox_of table.now }
+{
+    let mut entries = MadtEntryIter::over(table);
+    while let Some(entry) = entries.next() {
+        if let MadtEntry::MultiprocessorWakeup(wakeup) = entry {
+            return Ok(wakeup.mailbox_address);
+        }
+    }
+    let fault = if entries.ended_malformed() {
+        MadtError::InvalidEntryLength
+    } else {
+        MadtError::UnexpectedEntry
+    };
+    Err(AcpiError::InvalidMadt(fault))
+}
+
+impl<'h, H: AcpiHandler> PhysicalMapping<'h, H, Madt> {
+    ghost use Rattle.std.specs.Prelude.{◌≡◌, ◌+◌, ◌*◌, ◌≤◌, length};
+    ghost use Rattle.acpi_base.specs.Madt.{entries_of, mailbox_of};
+    ghost use Rattle.acpi_base.specs.MadtWalk.{entries_left, is_malformed};
+    ghost use Rattle.acpi_base.specs.Mapping.{bytes_of};
+
+    /// The table's entries, in order.
+    pub fn entries(&self) -> MadtEntryIter<'_>
+        ensures items { entries_left result ≡ entries_of (bytes_of self.now) }
+        ensures few { 2 * length (entries_left result) + 44 ≤ length (bytes_of self.now) }
+    {
+        MadtEntryIter::over(self.bytes())
+    }
+
+    /// The physical address of the mailbox by which processors are woken (section 5.2.12.19): that
+    /// of the first wakeup entry.
+    ///
+    /// Refuses with `InvalidMadt`: `InvalidEntryLength` where a malformed entry comes before one,
+    /// and `UnexpectedEntry` where there is none.
+    pub fn get_mpwk_mailbox_addr(&self) -> AcpiResult<u64>
+        ensures { result ≡ mailbox_of (bytes_of self.now) }
+    {
+        mailbox_address(self.bytes())
+    }
+}

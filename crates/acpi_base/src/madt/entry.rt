@@ -1,0 +1,144 @@
+//! One entry of the MADT.
+ghost use Rattle.std.specs.Prelude.{◌≡◌};
+ghost use Rattle.acpi_base.specs.Entries.{IsEntry};
+ghost use Rattle.acpi_base.specs.Madt.{entry_of, madt_lengths};
+
+use super::apic::{
+    InterruptSourceOverrideEntry, IoApicEntry, LocalApicAddressOverrideEntry, LocalApicEntry,
+    LocalApicNmiEntry, LocalX2ApicEntry, NmiSourceEntry, X2ApicNmiEntry,
+};
+use super::gic::{
+    GicInterruptTranslationServiceEntry, GicMsiFrameEntry, GicRedistributorEntry, GiccEntry,
+    GicdEntry,
+};
+use super::sapic::{IoSapicEntry, LocalSapicEntry, PlatformInterruptSourceEntry};
+use super::wakeup::MultiprocessorWakeupEntry;
+use crate::bytes::field;
+use crate::handler::PhysicalRecord;
+
+/// What each entry begins with (section 5.2.12).
+#[derive(Clone, Copy, Debug)]
+pub struct EntryHeader {
+    /// Its kind.
+    pub entry_type: u8,
+    /// How many bytes it has, with these two.
+    pub length: u8,
+}
+
+impl PhysicalRecord for EntryHeader {
+    ghost use Rattle.acpi_base.specs.MadtEntries.{entry_header_at};
+
+    const MIN_LENGTH: usize = 2;
+
+    ghost MIN_LENGTH = { 2 };
+
+    ghost reading = { entry_header_at };
+
+    fn read(bytes: &[u8]) -> Self {
+        EntryHeader {
+            entry_type: field(bytes, 0, 1) as u8,
+            length: field(bytes, 1, 1) as u8,
+        }
+    }
+}
+
+/// An entry of a kind that is defined, with its fields (section 5.2.12, table 5.21).
+#[derive(Clone, Copy, Debug)]
+pub enum MadtEntry {
+    /// Kind 0x00.
+    LocalApic(LocalApicEntry),
+    /// Kind 0x01.
+    IoApic(IoApicEntry),
+    /// Kind 0x02.
+    InterruptSourceOverride(InterruptSourceOverrideEntry),
+    /// Kind 0x03.
+    NmiSource(NmiSourceEntry),
+    /// Kind 0x04.
+    LocalApicNmi(LocalApicNmiEntry),
+    /// Kind 0x05.
+    LocalApicAddressOverride(LocalApicAddressOverrideEntry),
+    /// Kind 0x06.
+    IoSapic(IoSapicEntry),
+    /// Kind 0x07.
+    LocalSapic(LocalSapicEntry),
+    /// Kind 0x08.
+    PlatformInterruptSource(PlatformInterruptSourceEntry),
+    /// Kind 0x09.
+    LocalX2Apic(LocalX2ApicEntry),
+    /// Kind 0x0a.
+    X2ApicNmi(X2ApicNmiEntry),
+    /// Kind 0x0b.
+    Gicc(GiccEntry),
+    /// Kind 0x0c.
+    Gicd(GicdEntry),
+    /// Kind 0x0d.
+    GicMsiFrame(GicMsiFrameEntry),
+    /// Kind 0x0e.
+    GicRedistributor(GicRedistributorEntry),
+    /// Kind 0x0f.
+    GicInterruptTranslationService(GicInterruptTranslationServiceEntry),
+    /// Kind 0x10.
+    MultiprocessorWakeup(MultiprocessorWakeupEntry),
+}
+
+/// The least length of an entry of each of these kinds, from kind 0 on.
+pub(crate) const LEAST_LENGTHS: [usize; 17] = [
+    LocalApicEntry::MIN_LENGTH,
+    IoApicEntry::MIN_LENGTH,
+    InterruptSourceOverrideEntry::MIN_LENGTH,
+    NmiSourceEntry::MIN_LENGTH,
+    LocalApicNmiEntry::MIN_LENGTH,
+    LocalApicAddressOverrideEntry::MIN_LENGTH,
+    IoSapicEntry::MIN_LENGTH,
+    LocalSapicEntry::MIN_LENGTH,
+    PlatformInterruptSourceEntry::MIN_LENGTH,
+    LocalX2ApicEntry::MIN_LENGTH,
+    X2ApicNmiEntry::MIN_LENGTH,
+    GiccEntry::MIN_LENGTH,
+    GicdEntry::MIN_LENGTH,
+    GicMsiFrameEntry::MIN_LENGTH,
+    GicRedistributorEntry::MIN_LENGTH,
+    GicInterruptTranslationServiceEntry::MIN_LENGTH,
+    MultiprocessorWakeupEntry::MIN_LENGTH,
+];
+
+impl MadtEntry {
+    ghost use Rattle.std.specs.Prelude.{◌≡◌};
+    ghost use Rattle.acpi_base.specs.Entries.{IsEntry};
+    ghost use Rattle.acpi_base.specs.Madt.{entry_of, madt_lengths};
+
+    /// What an entry says, or `None` where its kind is reserved or the maker's.
+    pub(crate) fn read(entry: &[u8]) -> Option<MadtEntry>
+        requires { IsEntry madt_lengths entry.now }
+        ensures { result ≡ entry_of entry.now }
+    {
+        match entry[0] {
+            0x00 => Some(MadtEntry::LocalApic(LocalApicEntry::read(entry))),
+            0x01 => Some(MadtEntry::IoApic(IoApicEntry::read(entry))),
+            0x02 => Some(MadtEntry::InterruptSourceOverride(InterruptSourceOverrideEntry::read(
+                entry,
+            ))),
+            0x03 => Some(MadtEntry::NmiSource(NmiSourceEntry::read(entry))),
+            0x04 => Some(MadtEntry::LocalApicNmi(LocalApicNmiEntry::read(entry))),
+            0x05 => Some(MadtEntry::LocalApicAddressOverride(LocalApicAddressOverrideEntry::read(
+                entry,
+            ))),
+            0x06 => Some(MadtEntry::IoSapic(IoSapicEntry::read(entry))),
+            0x07 => Some(MadtEntry::LocalSapic(LocalSapicEntry::read(entry))),
+            0x08 => Some(MadtEntry::PlatformInterruptSource(PlatformInterruptSourceEntry::read(
+                entry,
+            ))),
+            0x09 => Some(MadtEntry::LocalX2Apic(LocalX2ApicEntry::read(entry))),
+            0x0a => Some(MadtEntry::X2ApicNmi(X2ApicNmiEntry::read(entry))),
+            0x0b => Some(MadtEntry::Gicc(GiccEntry::read(entry))),
+            0x0c => Some(MadtEntry::Gicd(GicdEntry::read(entry))),
+            0x0d => Some(MadtEntry::GicMsiFrame(GicMsiFrameEntry::read(entry))),
+            0x0e => Some(MadtEntry::GicRedistributor(GicRedistributorEntry::read(entry))),
+            0x0f => Some(MadtEntry::GicInterruptTranslationService(
+                GicInterruptTranslationServiceEntry::read(entry),
+            )),
+            0x10 => Some(MadtEntry::MultiprocessorWakeup(MultiprocessorWakeupEntry::read(entry))),
+            _ => None,
+        }
+    }
+}
