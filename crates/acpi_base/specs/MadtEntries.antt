@@ -146,7 +146,7 @@ gicc_at b = record {
   mpidr = field_of b 68 8;
   processor_power_efficiency_class = field_of b 76 1;
   spe_overflow_interrupt = field_of b 78 2;
-  trbe_interrupt = extended_at (λ x. field_of x 0 2) b 80 2;
+  trbe_interrupt = extended_at {least = 6} (λ x. field_of x 0 2) b 80 2;
 }
 
 -- section 5.2.12.15

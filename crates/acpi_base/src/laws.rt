@@ -10,6 +10,7 @@ ghost use Rattle.acpi_base.specs.Text.{letters_of};
 
 use crate::address::{AccessSize, AddressSpace, GenericAddress};
 use crate::error::{AcpiError, MadtError};
+use crate::madt::MpProtectedModeWakeupCommand;
 use crate::signature::Signature;
 use std::cmp::Ordering;
 
@@ -72,6 +73,25 @@ pub fn madt_error_equality(a: &MadtError, b: &MadtError) -> bool
     ensures { IsEquality result a.now b.now }
 {
     a == b
+}
+
+/// Commands of the wakeup mailbox compare as equal exactly where they are one.
+pub fn command_equality(
+    a: &MpProtectedModeWakeupCommand,
+    b: &MpProtectedModeWakeupCommand,
+) -> bool
+    ensures { IsEquality result a.now b.now }
+{
+    a == b
+}
+
+/// The command of a command's number is that command.
+pub fn command_of_its_number(
+    command: MpProtectedModeWakeupCommand,
+) -> Result<MpProtectedModeWakeupCommand, u16>
+    ensures { result ≡ Ok command }
+{
+    MpProtectedModeWakeupCommand::try_from(command as u16)
 }
 
 /// Address spaces compare as equal exactly where they are one.

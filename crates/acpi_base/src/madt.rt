@@ -1,7 +1,6 @@
 //! The Multiple APIC Description Table (MADT): which interrupt controllers and processors there are.
-ghost use Rattle.std.specs.Prelude.{◌≡◌, ◌+◌, ◌*◌, ◌≤◌, length};
-ghost use Rattle.acpi_base.specs.Madt.{entries_of, mailbox_of};
-ghost use Rattle.acpi_base.specs.MadtWalk.{entries_left};
+ghost use Rattle.std.specs.Prelude.{◌≡◌};
+ghost use Rattle.acpi_base.specs.Madt.{mailbox_of};
 
 mod apic;
 mod entry;
@@ -98,11 +97,7 @@ impl Madt {
     }
 }
 
-/// The physical address of the mailbox by which processors are woken (section 5.2.12.19), out of a
-/// MADT's bytes: that of the first wakeup entry.
-///
-/// Refuses with `InvalidMadt`: `InvalidEntryLength` where a malformed entry comes before one, and
-/// `UnexpectedEntry` where there is none.
+/// What `get_mpwk_mailbox_addr` answers, out of the table's bytes.
 fn mailbox_address(table: &[u8]) -> AcpiResult<u64>
     ensures { result ≡ mailbox_of table.now }
 {
@@ -121,14 +116,16 @@ fn mailbox_address(table: &[u8]) -> AcpiResult<u64>
 }
 
 impl<'h, H: AcpiHandler> PhysicalMapping<'h, H, Madt> {
-    ghost use Rattle.std.specs.Prelude.{◌≡◌, ◌+◌, ◌*◌, ◌≤◌, length};
-    ghost use Rattle.acpi_base.specs.Madt.{entries_of, mailbox_of};
-    ghost use Rattle.acpi_base.specs.MadtWalk.{entries_left, is_malformed};
+    ghost use Rattle.std.specs.Prelude.{◌≡◌, ◌+◌, ◌*◌, ◌≤◌, length, false};
+    ghost use Rattle.acpi_base.specs.Madt.{cut_of, entries_of, mailbox_of};
+    ghost use Rattle.acpi_base.specs.MadtWalk.{entries_left, has_ended, rest_left};
     ghost use Rattle.acpi_base.specs.Mapping.{bytes_of};
 
-    /// The table's entries, in order.
+    /// The table's entries, in order: at most half as many as it has bytes behind its 44 fixed ones.
     pub fn entries(&self) -> MadtEntryIter<'_>
         ensures items { entries_left result ≡ entries_of (bytes_of self.now) }
+        ensures rest { rest_left result ≡ (cut_of (bytes_of self.now)).1 }
+        ensures begun { has_ended result ≡ false }
         ensures few { 2 * length (entries_left result) + 44 ≤ length (bytes_of self.now) }
     {
         MadtEntryIter::over(self.bytes())

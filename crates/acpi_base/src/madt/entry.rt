@@ -42,7 +42,7 @@ impl PhysicalRecord for EntryHeader {
     }
 }
 
-/// An entry of a kind that is defined, with its fields (section 5.2.12, table 5.21).
+/// An entry of a kind that is defined, with its fields (section 5.2.12).
 #[derive(Clone, Copy, Debug)]
 pub enum MadtEntry {
     /// Kind 0x00.

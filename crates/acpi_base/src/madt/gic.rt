@@ -5,8 +5,8 @@ use crate::bytes::field;
 use crate::extended::ExtendedField;
 use crate::handler::PhysicalRecord;
 
-/// A processor and its interface to the generic interrupt controller (GIC). A field
-/// that reaches past the end of a short entry is read as if zeros followed (section 5.2.12.14).
+/// A processor and its interface to the generic interrupt controller (GIC). A field that reaches
+/// past the end of a short entry is read as if zeros followed (section 5.2.12.14).
 #[derive(Clone, Copy, Debug)]
 pub struct GiccEntry {
     /// Its kind and its length.
@@ -15,7 +15,8 @@ pub struct GiccEntry {
     pub cpu_interface_number: u32,
     /// The processor's ACPI id: the `_UID` of its object in the namespace.
     pub processor_uid: u32,
-    /// Bit 0: it can be used.
+    /// Bit 0: it can be used. Bits 1 and 2: the interrupt of the performance counters, and the
+    /// maintenance interrupt, is edge-triggered.
     pub flags: u32,
     /// The version of the parking protocol. 0: there is none.
     pub parking_protocol_version: u32,
@@ -27,11 +28,12 @@ pub struct GiccEntry {
     pub gic_registers_address: u64,
     /// The physical address of the virtual interface's registers.
     pub gic_virtual_registers_address: u64,
-    /// The physical address of the registers that control it.
+    /// The physical address of the registers that control the virtual interface.
     pub gic_hypervisor_registers_address: u64,
     /// The maintenance interrupt of the virtual interface.
     pub vgic_maintenance_interrupt: u32,
-    /// The physical address of the processor's redistributor. 0: see the ranges.
+    /// The physical address of the processor's redistributor. 0: it lies in one of the ranges that
+    /// `GicRedistributorEntry` gives.
     pub gicr_base_address: u64,
     /// The processor's affinity, as in its register MPIDR.
     pub mpidr: u64,
@@ -83,7 +85,7 @@ pub struct GicdEntry {
     pub gic_id: u32,
     /// The physical address of its registers.
     pub physical_base_address: u64,
-    /// 0. The first interrupt of the distributor.
+    /// The first interrupt of the distributor: reserved, and 0.
     pub system_vector_base: u32,
     /// The version of the controller, 1 to 4. 0: the hardware tells.
     pub gic_version: u8,

@@ -33,17 +33,17 @@ impl PhysicalRecord for MultiprocessorWakeupEntry {
     }
 }
 
-/// A command in the mailbox.
+/// A command in the mailbox (section 5.2.12.19).
 #[derive(Clone, Copy, Debug, PartialEq, Eq)]
 pub enum MpProtectedModeWakeupCommand {
     /// Nothing is asked for: the firmware is ready for a command.
-    Noop,
+    Noop = 0,
     /// Wake the processor, at the vector.
-    Wakeup,
+    Wakeup = 1,
     /// Put it to sleep.
-    Sleep,
+    Sleep = 2,
     /// Accept pages of memory.
-    AcceptPages,
+    AcceptPages = 3,
 }
 
 impl TryFrom<u16> for MpProtectedModeWakeupCommand {
