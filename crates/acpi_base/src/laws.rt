@@ -76,10 +76,7 @@ pub fn madt_error_equality(a: &MadtError, b: &MadtError) -> bool
 }
 
 /// Commands of the wakeup mailbox compare as equal exactly where they are one.
-pub fn command_equality(
-    a: &MpProtectedModeWakeupCommand,
-    b: &MpProtectedModeWakeupCommand,
-) -> bool
+pub fn command_equality(a: &MpProtectedModeWakeupCommand, b: &MpProtectedModeWakeupCommand) -> bool
     ensures { IsEquality result a.now b.now }
 {
     a == b

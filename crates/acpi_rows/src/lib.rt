@@ -10,6 +10,8 @@ mod fixed;
 #[cfg(test)]
 mod layouts;
 #[cfg(test)]
+mod madt;
+#[cfg(test)]
 mod rsdps;
 #[cfg(test)]
 mod texts;

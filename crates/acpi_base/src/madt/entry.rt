@@ -1,7 +1,4 @@
 //! One entry of the MADT.
-ghost use Rattle.std.specs.Prelude.{◌≡◌};
-ghost use Rattle.acpi_base.specs.Entries.{IsEntry};
-ghost use Rattle.acpi_base.specs.Madt.{entry_of, madt_lengths};
 
 use super::apic::{
     InterruptSourceOverrideEntry, IoApicEntry, LocalApicAddressOverrideEntry, LocalApicEntry,
