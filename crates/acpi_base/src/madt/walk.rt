@@ -35,8 +35,8 @@ impl<'a> MadtEntryIter<'a> {
         }
     }
 
-    /// Whether `next` has answered `None` where no entry began, and not at the table's end. Before that
-    /// answer it is false.
+    /// Whether `next` has answered `None` where no entry began, and not at the table's end. Before
+    /// that answer it is false.
     pub fn ended_malformed(&self) -> bool
         ensures { result ≡ is_malformed self.now }
     {
