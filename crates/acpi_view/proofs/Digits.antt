@@ -12,7 +12,8 @@ use Rattle.std.proofs.Math.Nat.{pow-le-pow_right}
 use Rattle.acpi_view.specs.Words.{numeral}
 
 -- a list that passes the test is all digits
-all_digits : (base : ℕ) (ds : List ℕ) → list_all (λ c. is_digit c base) ds ≡ true → AllDigits base ds
+all_digits : (base : ℕ) (ds : List ℕ)
+    → list_all (λ c. is_digit c base) ds ≡ true → AllDigits base ds
 all_digits base [] h = tt
 all_digits base (c ∷ cs) h =
     let parts = and_parts (is_digit c base) (list_all (λ d. is_digit d base) cs) h in
@@ -22,17 +23,22 @@ all_digits base (c ∷ cs) h =
 no_plus : (base : ℕ) (ds : List ℕ) → base ≤ 36 → AllDigits base ds → without_leading_plus ds ≡ ds
 no_plus base [] high h = refl
 no_plus base (c ∷ cs) high h =
-    without_leading_plus_none (c ∷ cs) (λ e. let value : digit_value c ≡ 36 = ap digit_value e in absurd (omega (arith, h.0)))
+    without_leading_plus_none (c ∷ cs)
+    (λ e. let value : digit_value c ≡ 36 = ap digit_value e in absurd (omega (arith, h.0)))
 
 -- so many digits fit
-small : (base most : ℕ) (ds : List ℕ) → 1 ≤ base → base ^ most ≤ 2 ^ 64 → length ds ≤ most → AllDigits base ds → digits_value base ds < 2 ^ 64
+small : (base most : ℕ) (ds : List ℕ) → 1 ≤ base → base ^ most ≤ 2 ^ 64 → length ds ≤ most
+    → AllDigits base ds → digits_value base ds < 2 ^ 64
 small base most ds low fits short h =
     let value = digits_value-lt base ds h in
     let room : base ^ length ds ≤ base ^ most = pow-le-pow_right low short in
     omega (arith, value, room)
 
 -- what std parses of digits that are few enough is the number that is defined
-pub parsed : {E : Type 0} (base most : ℕ) (ds : List ℕ) (r : Result ℕ E) → 1 ≤ base → base ≤ 36 → base ^ most ≤ 2 ^ 64 → length ds ≤ most → list_all (λ c. is_digit c base) ds ≡ true → ParsesUnsigned 64 base ds r → result_ok r ≡ numeral base most ds
+pub parsed : {E : Type 0} (base most : ℕ) (ds : List ℕ) (r : Result ℕ E)
+    → 1 ≤ base → base ≤ 36 → base ^ most ≤ 2 ^ 64 → length ds ≤ most
+    → list_all (λ c. is_digit c base) ds ≡ true → ParsesUnsigned 64 base ds r
+    → result_ok r ≡ numeral base most ds
 parsed base most [] (Ok x) low high fits short all said = absurd (omega (arith, said.0.0.0))
 parsed base most [] (Err e) low high fits short all said = refl
 parsed base most (c ∷ cs) (Ok x) low high fits short all said =

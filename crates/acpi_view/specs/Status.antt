@@ -25,7 +25,8 @@ abbrev pub status_over : Command → Result Memory ImageError → ℕ
 status_over command (Ok m) = status_of (opened_for m command)
 status_over command (Err refusal) = 1
 
--- 2 where the words are no command, 1 where the file, its memory or the root table is refused, else 0
+-- 2 where the words are no command, 1 where the file, its memory or the root table is refused,
+-- else 0
 abbrev pub status_with : Option Command → Option (List ℕ) → ℕ
 status_with None file = 2
 status_with (Some command) None = 1

@@ -7,7 +7,10 @@ use Rattle.std.specs.Str.Parse.{digits_value}
 -- the number that one to so many digits of a base spell, the highest first
 abbrev pub numeral : ℕ → ℕ → List ℕ → Option ℕ
 numeral base most digits =
-    if nat_le 1 (length digits) && (nat_le (length digits) most && list_all (λ c. is_digit c base) digits) then Some (digits_value base digits) else None
+    if nat_le 1 (length digits)
+    && (nat_le (length digits) most && list_all (λ c. is_digit c base) digits)
+    then Some (digits_value base digits)
+    else None
 
 -- a revision: one to three decimal digits, at most 255
 abbrev pub revision_of : List ℕ → Option ℕ

@@ -1,7 +1,6 @@
 //! The program over any writers.
 ghost use Rattle.std.specs.Prelude.{◌≡◌, ◌≢◌, ◌⊎◌, IfOk, None, map};
 ghost use Rattle.std.specs.Option.{option_copied};
-ghost use Rattle.acpi_base.specs.Mapping.{handler_of};
 ghost use Rattle.acpi_base.specs.Steps.{Gives};
 ghost use Rattle.acpi.specs.Opened.{opened_of};
 ghost use Rattle.acpi_view.specs.Command.{command_of};

@@ -28,8 +28,8 @@ fn takes_numbers_as_they_are_spelled(rt: HostRuntime) {
     }
 }
 
-/// Checks that words are answered with the line on the usage, before any fault of the file, and that
-/// they name no file.
+/// Checks that words are answered with the line on the usage, before any fault of the file, and
+/// that they name no file.
 fn check_usage(rt: &impl Abort, alloc: Global, words: &[&str]) {
     check_run(rt, alloc, words, None, (2, "", USAGE));
     check_run(rt, alloc, words, Some(&[0]), (2, "", USAGE));

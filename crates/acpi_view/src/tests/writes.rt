@@ -38,9 +38,10 @@ fn run_over(
     (status, out, err)
 }
 
-/// Checks that a run ends with this status where nothing is refused, after so many writes of standard
-/// output and of standard error, and that it ends with status 1 where any one write is refused, or
-/// the flush of either output alone. Each output then has a front of what it has otherwise.
+/// Checks that a run ends with this status where nothing is refused, after so many writes of
+/// standard output and of standard error, and that it ends with status 1 where any one write is
+/// refused, or the flush of either output alone. Each output then has a front of what it has
+/// otherwise.
 fn check_refused_writes(
     rt: &impl Abort,
     alloc: Global,

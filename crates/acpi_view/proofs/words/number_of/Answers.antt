@@ -5,4 +5,7 @@ use Rattle.acpi_view.proofs.words.number_of.Goals as goal
 pub returns : goal.returns
 returns c =
     c.ok.ensures.value
-    ∙ parsed c.args.base c.args.most c.args.digits.now c.from_str_radix.result (omega arith) c.requires.high c.requires.fits (omega arith) (sym c.are_digits.ensures ∙ c.if-not-are_digits.false) c.from_str_radix.ensures.value
+    ∙ parsed c.args.base c.args.most c.args.digits.now c.from_str_radix.result
+    (omega arith) c.requires.high c.requires.fits (omega arith)
+    (sym c.are_digits.ensures ∙ c.if-not-are_digits.false)
+    c.from_str_radix.ensures.value
