@@ -18,7 +18,7 @@ mod tables;
 
 pub use acpi_base::{
     AcpiError, AcpiHandler, AcpiResult, AcpiTable, MadtError, PhysicalMapping, PhysicalRecord,
-    address, sdt,
+    address, madt, sdt,
 };
 pub use acpi_fixed::fadt::PowerProfile;
 pub use acpi_fixed::{bgrt, fadt};

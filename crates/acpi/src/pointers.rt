@@ -1,14 +1,7 @@
 //! The pointers that a root table lists.
-ghost use Rattle.std.specs.Prelude.{◌≡◌, ◌≤◌, drop};
+ghost use Rattle.std.specs.Prelude.{◌≡◌, ◌≤◌};
 
-use acpi_base::sdt::field;
-
-/// The bytes behind the first `n`.
-pub(crate) fn skip(bytes: &[u8], n: usize) -> &[u8]
-    ensures { result.now ≡ drop n bytes.now }
-{
-    if n < bytes.len() { &bytes[n..] } else { &[] }
-}
+use acpi_base::bytes::{field, skip};
 
 /// The pointers that bytes spell, in order; a short rest is one more pointer, filled up with zeros.
 #[derive(Drop)]

@@ -8,11 +8,12 @@ ghost use Rattle.acpi.specs.Root.{root_at};
 
 use crate::faults::TableFaults;
 use crate::headers::SdtHeaderIterator;
-use crate::pointers::{Pointers, skip};
+use crate::pointers::Pointers;
 use crate::records::{AmlTable, aml_behind};
 use crate::root::{RootKind, RootPlace};
 use crate::rsdp::{Rsdp, map_rsdp};
 use crate::ssdts::SsdtIterator;
+use acpi_base::bytes::skip;
 use acpi_base::sdt::{SdtHeader, map_sdt, map_table};
 use acpi_base::{
     AcpiError, AcpiHandler, AcpiResult, AcpiTable, PhysicalMapping, PhysicalRecord, Signature,

@@ -1,4 +1,4 @@
-//! The Multiple APIC Description Table (MADT): which interrupt controllers and processors there are.
+//! The Multiple APIC Description Table (MADT): interrupt controllers and processors.
 ghost use Rattle.std.specs.Prelude.{◌≡◌};
 ghost use Rattle.acpi_base.specs.Madt.{mailbox_of};
 
@@ -10,7 +10,8 @@ mod wakeup;
 mod walk;
 
 use crate::bytes::{field, has_bit};
-use crate::error::{AcpiError, AcpiResult, MadtError};
+pub use crate::error::MadtError;
+use crate::error::{AcpiError, AcpiResult};
 use crate::handler::{AcpiHandler, PhysicalRecord};
 use crate::mapping::PhysicalMapping;
 use crate::sdt::SdtHeader;
@@ -121,7 +122,7 @@ impl<'h, H: AcpiHandler> PhysicalMapping<'h, H, Madt> {
     ghost use Rattle.acpi_base.specs.MadtWalk.{entries_left, has_ended, rest_left};
     ghost use Rattle.acpi_base.specs.Mapping.{bytes_of};
 
-    /// The table's entries, in order: at most half as many as it has bytes behind its 44 fixed ones.
+    /// The table's entries, in order: at most half as many as it has bytes behind the 44 fixed ones.
     pub fn entries(&self) -> MadtEntryIter<'_>
         ensures items { entries_left result ≡ entries_of (bytes_of self.now) }
         ensures rest { rest_left result ≡ (cut_of (bytes_of self.now)).1 }

@@ -1,12 +1,12 @@
 //! Headers, SSDTs and faults, over images that are spelled out byte by byte.
 
 use crate::scenarios::{Scenario, over_each_handler};
-use acpi_lenders::samples::graphics::{empty_root, short_graphic};
-use acpi_lenders::samples::members::{damaged_first, faulty_members, repeated};
 use acpi::bgrt::Bgrt;
 use acpi::sdt::Signature;
 use acpi::{AcpiError, AcpiHandler, AcpiTables, AmlTable, TableFault};
 use acpi_image::MemoryImage;
+use acpi_lenders::samples::graphics::{empty_root, short_graphic};
+use acpi_lenders::samples::members::{damaged_first, faulty_members, repeated};
 use std::process::Abort;
 use std::test::Fail;
 

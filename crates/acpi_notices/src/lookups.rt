@@ -1,16 +1,16 @@
 //! What is opened and found, over each handler.
 
-use acpi_lenders::example::Wsmt;
-use acpi_lenders::handlers::Exact;
 use crate::scenarios::{Scenario, over_each_handler};
-use acpi_lenders::samples::graphics::{
-    empty_root, long_graphic, one_graphic, short_graphic, short_last_pointer, split_graphic,
-};
-use acpi_lenders::samples::{put, put_table};
 use acpi::bgrt::{Bgrt, ImageType};
 use acpi::sdt::{SdtHeader, Signature, map_table};
 use acpi::{AcpiError, AcpiHandler, AcpiTables, PhysicalMapping, PhysicalRecord};
 use acpi_image::MemoryImage;
+use acpi_lenders::example::Wsmt;
+use acpi_lenders::handlers::Exact;
+use acpi_lenders::samples::graphics::{
+    empty_root, long_graphic, one_graphic, short_graphic, short_last_pointer, split_graphic,
+};
+use acpi_lenders::samples::{put, put_table};
 use std::process::Abort;
 use std::test::Fail;
 

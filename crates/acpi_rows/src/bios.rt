@@ -1,13 +1,13 @@
 //! The search in the BIOS areas, over each handler.
 
-use acpi_lenders::handlers::{Exact, Recording};
-use acpi_lenders::samples::graphics::one_graphic;
-use acpi_lenders::samples::rsdps::{AREA, AREA_END, put_areas, put_rsdp, put_rsdp_2};
-use acpi_lenders::samples::{put, put_head, put_table};
 use acpi::bgrt::Bgrt;
 use acpi::rsdp::Rsdp;
 use acpi::{AcpiError, AcpiHandler, AcpiResult, AcpiTables};
 use acpi_image::MemoryImage;
+use acpi_lenders::handlers::{Exact, Recording};
+use acpi_lenders::samples::graphics::one_graphic;
+use acpi_lenders::samples::rsdps::{AREA, AREA_END, put_areas, put_rsdp, put_rsdp_2};
+use acpi_lenders::samples::{put, put_head, put_table};
 use std::process::Abort;
 use std::test::Fail;
 

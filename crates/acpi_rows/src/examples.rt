@@ -1,10 +1,13 @@
-//! The caller in `example.rt`.
+//! The README's callers.
 
+use acpi::sdt::Signature;
+use acpi::{AcpiError, AcpiHandler};
+use acpi_image::MemoryImage;
+use acpi_lenders::caller::graphic_address;
 use acpi_lenders::example::{Window, find_both};
 use acpi_lenders::samples::front;
 use acpi_lenders::samples::graphics::two_tables;
-use acpi::sdt::Signature;
-use acpi::{AcpiError, AcpiHandler};
+use acpi_lenders::samples::rsdps::two_roots;
 use std::test::Fail;
 
 #[test]
@@ -42,4 +45,17 @@ fn a_kernel_finds_a_table_of_its_own(rt: HostRuntime) {
         find_both(&short, 0x1000),
         Err(AcpiError::TableMissing(Signature::WSMT))
     );
+}
+
+#[test]
+fn the_boot_graphic_is_found_from_an_rsdp(rt: HostRuntime) -> Result<(), Fail> {
+    // The image's address is the eight bytes at 40 of the table, the last of the file's records.
+    let mut file = two_roots();
+    file[240 + 40 + 2] = 0xC0;
+    file[240 + 9] = 0xD3;
+    let image = MemoryImage::from_bytes(rt.alloc(), &file)?;
+    assert_eq!(rt; graphic_address(&image, 0x600), Ok(0xC0_0000));
+    assert_eq!(rt; graphic_address(&image, 0x700), Ok(0xC0_0000));
+    assert_eq!(rt; graphic_address(&image, 0x601), Err(AcpiError::MapFailed));
+    Ok(())
 }

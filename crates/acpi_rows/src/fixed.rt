@@ -1,13 +1,13 @@
 //! What the FADT leads to: the DSDT and the timer.
 
-use acpi_lenders::handlers::Exact;
-use acpi_lenders::samples::members::with_dsdt;
-use acpi_lenders::samples::put;
 use acpi::address::{AccessSize, AddressSpace, GenericAddress};
 use acpi::fadt::Fadt;
 use acpi::platform::PmTimer;
 use acpi::{AcpiError, AcpiHandler, AcpiResult, AcpiTables, AmlTable, PhysicalRecord};
 use acpi_image::MemoryImage;
+use acpi_lenders::handlers::Exact;
+use acpi_lenders::samples::members::with_dsdt;
+use acpi_lenders::samples::put;
 use std::test::Fail;
 
 /// The AML of the DSDT below the RSDT at 0x1000.

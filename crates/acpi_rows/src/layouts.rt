@@ -1,10 +1,10 @@
 //! The fixed hardware and the boot graphic, over tables that are spelled out byte by byte.
 
-use acpi_lenders::samples::put;
 use acpi::address::{AccessSize, AddressSpace, GenericAddress};
 use acpi::bgrt::{Bgrt, ImageType};
 use acpi::fadt::{Fadt, PowerProfile};
 use acpi::{AcpiError, AcpiTable, PhysicalRecord};
+use acpi_lenders::samples::put;
 
 /// Ports from an address on.
 fn ports(bit_width: u8, address: u64) -> GenericAddress {

@@ -1,9 +1,9 @@
 //! The checks of an RSDP over bytes at hand, and its fields.
 
-use acpi_lenders::samples::change;
-use acpi_lenders::samples::rsdps::{put_rsdp, put_rsdp_2};
 use acpi::rsdp::Rsdp;
 use acpi::{AcpiError, PhysicalRecord};
+use acpi_lenders::samples::change;
+use acpi_lenders::samples::rsdps::{put_rsdp, put_rsdp_2};
 
 #[test]
 fn an_rsdp_is_checked_in_order(rt: HostRuntime) {

@@ -2,6 +2,7 @@
 
 use acpi::bgrt::Bgrt;
 use acpi::fadt::Fadt;
+use acpi::madt::Madt;
 use acpi::{AcpiError, AcpiHandler, AcpiTable, AcpiTables, AmlTable};
 use std::io;
 use std::io::Write;
@@ -24,6 +25,7 @@ pub(crate) fn print_skipped_tables<H: AcpiHandler, E: Write>(
     err: &mut E,
 ) -> io::Result<()> {
     print_skipped::<H, Fadt, E>(tables, err)?;
+    print_skipped::<H, Madt, E>(tables, err)?;
     print_skipped::<H, Bgrt, E>(tables, err)
 }
 

@@ -164,7 +164,8 @@ impl PhysicalRecord for LocalApicNmiEntry {
     }
 }
 
-/// A 64-bit address of the local APICs, in place of the one that the table gives (section 5.2.12.8).
+/// A 64-bit address of the local APICs, in place of the one that the table gives (section
+/// 5.2.12.8).
 #[derive(Clone, Copy, Debug)]
 pub struct LocalApicAddressOverrideEntry {
     /// Its kind and its length.

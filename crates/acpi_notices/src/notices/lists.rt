@@ -1,13 +1,13 @@
 //! What is lent while an iterator is walked along, to its end or not.
 ghost use Rattle.std.specs.Iterator.{IsFinite};
 
-use acpi_lenders::example::Wsmt;
-use acpi_lenders::handlers::Recording;
 use crate::scenarios::{Scenario, over_each_handler};
-use acpi_lenders::history::places;
-use acpi_lenders::samples::members::faulty_members;
 use acpi::bgrt::Bgrt;
 use acpi::{AcpiError, AcpiHandler, AcpiTables};
+use acpi_lenders::example::Wsmt;
+use acpi_lenders::handlers::Recording;
+use acpi_lenders::history::places;
+use acpi_lenders::samples::members::faulty_members;
 use std::process::Abort;
 use std::test::Fail;
 

@@ -1,15 +1,15 @@
 //! What is lent after a lookup, and while the table that it found is mapped.
 
-use acpi_lenders::example::Wsmt;
-use acpi_lenders::handlers::{Exact, Recording};
 use crate::scenarios::{Scenario, over_each_handler};
-use acpi_lenders::history::places;
-use acpi_lenders::samples::change;
-use acpi_lenders::samples::members::{faulty_members, with_dsdt};
 use acpi::bgrt::Bgrt;
 use acpi::sdt::{Signature, map_own_sdt, map_sdt, map_table};
 use acpi::{AcpiError, AcpiHandler, AcpiResult, AcpiTables, AmlTable};
 use acpi_image::MemoryImage;
+use acpi_lenders::example::Wsmt;
+use acpi_lenders::handlers::{Exact, Recording};
+use acpi_lenders::history::places;
+use acpi_lenders::samples::change;
+use acpi_lenders::samples::members::{faulty_members, with_dsdt};
 use std::process::Abort;
 use std::test::Fail;
 

@@ -1,14 +1,14 @@
 //! What is lent once the tables are opened by an address, and that nothing is where they aren't.
 
-use acpi_lenders::handlers::{Exact, Recording};
-use acpi_lenders::history::places;
-use acpi_lenders::samples::change;
-use acpi_lenders::samples::rsdps::two_roots;
 use acpi::bgrt::Bgrt;
 use acpi::rsdp::Rsdp;
 use acpi::sdt::Signature;
 use acpi::{AcpiError, AcpiHandler, AcpiResult, AcpiTables};
 use acpi_image::MemoryImage;
+use acpi_lenders::handlers::{Exact, Recording};
+use acpi_lenders::history::places;
+use acpi_lenders::samples::change;
+use acpi_lenders::samples::rsdps::two_roots;
 use std::process::Abort;
 use std::test::Fail;
 

@@ -1,16 +1,16 @@
 //! The order of requests and notices: a table's header is lent no more when the whole is asked for,
 //! an RSDP's 36 bytes still are, and a table is checked while it is lent.
 
-use acpi_lenders::handlers::{Exact, Recording};
 use crate::scenarios::{Scenario, over_each_handler};
-use acpi_lenders::history::{Event, Shown, places};
-use acpi_lenders::samples::graphics::{long_graphic, one_graphic};
-use acpi_lenders::samples::rsdps::{AREA, put_areas, put_long_rsdp, two_roots};
-use acpi_lenders::watched::Watched;
 use acpi::bgrt::Bgrt;
 use acpi::rsdp::Rsdp;
 use acpi::{AcpiError, AcpiHandler, AcpiTables};
 use acpi_image::MemoryImage;
+use acpi_lenders::handlers::{Exact, Recording};
+use acpi_lenders::history::{Event, Shown, places};
+use acpi_lenders::samples::graphics::{long_graphic, one_graphic};
+use acpi_lenders::samples::rsdps::{AREA, put_areas, put_long_rsdp, two_roots};
+use acpi_lenders::watched::Watched;
 use std::process::Abort;
 use std::test::Fail;
 

@@ -1,11 +1,11 @@
 //! What a history with a wrong notice is refused for, and mappings by themselves.
 
-use acpi_lenders::handlers::{Exact, Recording};
-use acpi_lenders::history::{Event, Flaw, History, Shown, places};
-use acpi_lenders::samples::graphics::long_graphic;
 use acpi::sdt::SdtHeader;
 use acpi::{AcpiHandler, AcpiResult, PhysicalMapping};
 use acpi_image::MemoryImage;
+use acpi_lenders::handlers::{Exact, Recording};
+use acpi_lenders::history::{Event, Flaw, History, Shown, places};
+use acpi_lenders::samples::graphics::long_graphic;
 use std::process::Abort;
 use std::test::Fail;
 

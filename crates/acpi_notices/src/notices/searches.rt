@@ -1,14 +1,14 @@
 //! What is lent while the BIOS areas are searched, and after.
 
 use super::openings::{Way, check_refusal, check_way};
-use acpi_lenders::handlers::{Exact, Recording};
-use acpi_lenders::history::places;
-use acpi_lenders::samples::rsdps::{AREA, AREA_END, put_areas, put_long_rsdp, put_roots, put_rsdp};
-use acpi_lenders::samples::{change, put_head};
 use acpi::rsdp::Rsdp;
 use acpi::sdt::Signature;
 use acpi::{AcpiError, AcpiHandler};
 use acpi_image::MemoryImage;
+use acpi_lenders::handlers::{Exact, Recording};
+use acpi_lenders::history::places;
+use acpi_lenders::samples::rsdps::{AREA, AREA_END, put_areas, put_long_rsdp, put_roots, put_rsdp};
+use acpi_lenders::samples::{change, put_head};
 use std::process::Abort;
 use std::test::Fail;
 

@@ -2,9 +2,9 @@
 //! here byte `i` of an entry is `i + 1`.
 
 use super::{table_of, walk};
-use acpi_lenders::samples::{front, put};
 use acpi_base::madt::{EntryHeader, MadtEntry, MadtEntryIter};
 use acpi_base::{AcpiError, MadtError};
+use acpi_lenders::samples::{front, put};
 use std::process::Abort;
 use std::test::Fail;
 

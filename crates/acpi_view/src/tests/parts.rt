@@ -116,6 +116,22 @@ fn says_why_a_table_was_skipped(rt: HostRuntime) -> Result<(), Fail> {
 }
 
 #[test]
+fn says_why_a_madt_was_skipped(rt: HostRuntime) -> Result<(), Fail> {
+    // Without entries and flags, the sum is 0 under 0xB7.
+    let mut file = [0; 116];
+    put_head(&mut file, 0, 0x1000, 40);
+    put(&mut file, 16, b"RSDT\x28\0\0\0\0\x7b");
+    put(&mut file, 52, &[0, 0x20]);
+    put_head(&mut file, 56, 0x2000, 44);
+    put(&mut file, 72, b"APIC\x2c\0\0\0\0\xb8");
+    let parts = [
+        ("table", ""),
+        ("skipped", "skipped APIC 0x2000: SdtInvalidChecksum APIC\n"),
+    ];
+    check_parts(&rt, rt.alloc(), &WORDS, &file, &parts)
+}
+
+#[test]
 fn says_that_a_table_is_cut(rt: HostRuntime) -> Result<(), Fail> {
     // The BGRT's last byte is not lent.
     let mut file = one_graphic();
