@@ -16,6 +16,7 @@ pub struct Window<'k> {
 }
 
 impl<'k> Window<'k> {
+    /// These bytes, from this address on.
     pub fn new(start: u64, bytes: &'k [u8]) -> Self
         requires { start + length bytes.now < 2 ^ 64 }
     {
@@ -47,6 +48,8 @@ impl AcpiHandler for Window<'_> {
 #[derive(Clone, Copy)]
 pub struct Wsmt {
     header: SdtHeader,
+    /// Bit 0: only fixed buffers are taken. Bit 1: pointers in them are checked. Bit 2: system
+    /// resources are protected.
     pub protections: u32,
 }
 

@@ -11,6 +11,7 @@ pub struct Exact<'a, H: AcpiHandler> {
 }
 
 impl<'a, H: AcpiHandler> Exact<'a, H> {
+    /// Over this handler.
     pub fn new(inner: &'a H) -> Self {
         Exact { inner }
     }

@@ -2,6 +2,7 @@
 ghost use Rattle.std.specs.Prelude.{◌≡◌, ◌≢◌, ◌^◌, ◌≤◌, [], IfErr, IfOk, IsOkAnd, map};
 ghost use Rattle.std.specs.Char.{is_digit};
 ghost use Rattle.std.specs.List.{list_all};
+ghost use Rattle.acpi_base.specs.Equality.{IsEquality};
 ghost use Rattle.acpi_view.specs.Words.{numeral, revision_of, address_of};
 ghost use Rattle.std.specs.Option.{option_copied};
 ghost use Rattle.std.specs.IoError.{error_kind};
@@ -147,4 +148,11 @@ pub fn texts_or_none(alloc: Global, texts: io::Result<Vec<String>>) -> io::Resul
         Err(refusal) if refusal.kind() != ErrorKind::OutOfMemory => Ok(Vec::new(alloc)),
         texts => texts,
     }
+}
+
+/// Commands compare as equal exactly where they are one.
+pub fn command_equality(a: &Command, b: &Command) -> bool
+    ensures { IsEquality result a.now b.now }
+{
+    a == b
 }
