@@ -56,8 +56,9 @@ impl PhysicalRecord for Rsdp {
 }
 
 impl Rsdp {
-    ghost use Rattle.std.specs.Prelude.{◌≡◌, ◌≤◌, length, IfOk, IfSome, IsUtf8, MatchOption};
+    ghost use Rattle.std.specs.Prelude.{◌≡◌, ◌≤◌, length, IfOk, IfSome};
     ghost use Rattle.acpi_base.specs.Steps.{Gives};
+    ghost use Rattle.acpi_base.specs.Text.{IsTextOf};
     ghost use Rattle.acpi.specs.Rsdp.{signature_of, checksum_of, oem_id_of, revision_of};
     ghost use Rattle.acpi.specs.Rsdp.{rsdt_address_of, xsdt_address_of, extended_length_of};
     ghost use Rattle.acpi.specs.Rsdp.{ext_checksum_of, unless_first, rsdp_of, root_of};
@@ -79,8 +80,7 @@ impl Rsdp {
 
     /// The OEM's name, or `None` where it is no UTF-8.
     pub fn oem_id(&self) -> Option<&str>
-        ensures { MatchOption result (¬ (IsUtf8 (oem_id_of self.now)))
-            (λ text. (text.now ≡ oem_id_of self.now) × IsUtf8 (oem_id_of self.now)) }
+        ensures { IsTextOf result (oem_id_of self.now) }
     {
         text_of(&self.oem_id)
     }

@@ -31,11 +31,8 @@ madt_kinds =
     (76, λ e. kinds.Gicc (entries.gicc_at e)) ∷
     (24, λ e. kinds.Gicd (entries.gicd_at e)) ∷
     (24, λ e. kinds.GicMsiFrame (entries.gic_msi_frame_at e)) ∷
-    (16, λ e. kinds.GicRedistributor (entries.gic_redistributor_at e)) ∷ (
-      20,
-      λ e.
-          kinds.GicInterruptTranslationService (entries.gic_interrupt_translation_service_at e),
-    ) ∷
+    (16, λ e. kinds.GicRedistributor (entries.gic_redistributor_at e)) ∷
+    (20, λ e. kinds.GicInterruptTranslationService (entries.gic_translation_service_at e)) ∷
     (16, λ e. kinds.MultiprocessorWakeup (entries.multiprocessor_wakeup_at e)) ∷ []
 
 -- the least lengths alone

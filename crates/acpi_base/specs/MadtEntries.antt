@@ -179,8 +179,8 @@ gic_redistributor_at b = record {
 }
 
 -- section 5.2.12.18
-abbrev pub gic_interrupt_translation_service_at : List ℕ → GicInterruptTranslationServiceEntry
-gic_interrupt_translation_service_at b = record {
+abbrev pub gic_translation_service_at : List ℕ → GicInterruptTranslationServiceEntry
+gic_translation_service_at b = record {
   header = entry_header_at b;
   id = field_of b 4 4;
   physical_base_address = field_of b 8 8;

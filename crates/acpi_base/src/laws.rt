@@ -1,4 +1,5 @@
-//! Laws of the definitions: each is the contract of a call that does nothing.
+//! Laws of the definitions, each the contract of a call that does nothing, and of comparisons and
+//! conversions.
 ghost use Rattle.std.specs.Prelude.{◌≡◌, ◌↔◌};
 ghost use Rattle.std.specs.Cmp.Lexicographic.{slice_cmp};
 ghost use Rattle.std.specs.Ordering.{nat_cmp};

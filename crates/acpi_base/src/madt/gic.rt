@@ -190,13 +190,13 @@ pub struct GicInterruptTranslationServiceEntry {
 }
 
 impl PhysicalRecord for GicInterruptTranslationServiceEntry {
-    ghost use Rattle.acpi_base.specs.MadtEntries.{gic_interrupt_translation_service_at};
+    ghost use Rattle.acpi_base.specs.MadtEntries.{gic_translation_service_at};
 
     const MIN_LENGTH: usize = 20;
 
     ghost MIN_LENGTH = { 20 };
 
-    ghost reading = { gic_interrupt_translation_service_at };
+    ghost reading = { gic_translation_service_at };
 
     fn read(bytes: &[u8]) -> Self {
         GicInterruptTranslationServiceEntry {
