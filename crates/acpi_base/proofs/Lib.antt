@@ -1,3 +1,4 @@
+pub mod Clones
 pub mod Codes
 pub mod Cuts
 pub mod Damage

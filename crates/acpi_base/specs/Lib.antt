@@ -3,6 +3,7 @@ pub mod AddressLaws
 pub mod Bits
 pub mod Bytes
 pub mod Claim
+pub mod Draft
 pub mod Entries
 pub mod EntryLaws
 pub mod Equality
@@ -10,13 +11,17 @@ pub mod ErrorText
 pub mod Extended
 pub mod Header
 pub mod Laws
+pub mod Interrupts
+pub mod Lends
 pub mod Madt
 pub mod MadtEntries
 pub mod MadtWalk
 pub mod Mapping
 pub mod Memory
+pub mod Model
 pub mod Names
 pub mod OneRegion
+pub mod Parts
 pub mod Steps
 pub mod Table
 pub mod Text

@@ -1,6 +1,7 @@
 //! The refusals of this library.
 
 use crate::signature::Signature;
+use std::alloc::AllocError;
 use std::fmt;
 
 /// What a call that can refuse answers.
@@ -43,6 +44,18 @@ pub enum AcpiError {
     SdtInvalidLength(Signature),
     /// The namespace string of an SPCR lies outside the table, or is no UTF-8.
     InvalidNamespaceString,
+}
+
+impl From<AllocError> for AcpiError {
+    ghost use Rattle.std.specs.Prelude.{◌≡◌};
+    ghost use Rattle.acpi_base.specs.declared.error.AcpiError.TheVariants.{AllocError as NoMemory};
+
+    ghost from_gives = { λ _ e. e ≡ NoMemory };
+
+    /// `AllocError`, for a growth that was refused.
+    fn from(_refused: AllocError) -> AcpiError {
+        AcpiError::AllocError
+    }
 }
 
 /// The variant's name; behind a space, the signature or the error that it carries.

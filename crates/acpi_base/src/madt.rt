@@ -14,6 +14,7 @@ pub use crate::error::MadtError;
 use crate::error::{AcpiError, AcpiResult};
 use crate::handler::{AcpiHandler, PhysicalRecord};
 use crate::mapping::PhysicalMapping;
+use crate::model::{InterruptModel, ProcessorInfo, model_in};
 use crate::sdt::SdtHeader;
 use crate::signature::Signature;
 use crate::table::AcpiTable;
@@ -27,6 +28,7 @@ pub use gic::{
     GicdEntry,
 };
 pub use sapic::{IoSapicEntry, LocalSapicEntry, PlatformInterruptSourceEntry};
+use std::alloc::Allocator;
 pub use wakeup::{
     MpProtectedModeWakeupCommand, MultiprocessorWakeupEntry, MultiprocessorWakeupMailbox,
 };
@@ -121,6 +123,7 @@ impl<'h, H: AcpiHandler> PhysicalMapping<'h, H, Madt> {
     ghost use Rattle.acpi_base.specs.Madt.{cut_of, entries_of, mailbox_of};
     ghost use Rattle.acpi_base.specs.MadtWalk.{entries_left, has_ended, rest_left};
     ghost use Rattle.acpi_base.specs.Mapping.{bytes_of};
+    ghost use Rattle.acpi_base.specs.Model.{AsksMemory, GivesOrFull, model_of};
 
     /// The table's entries, in order: at most half as many as it has bytes behind the 44 fixed ones.
     pub fn entries(&self) -> MadtEntryIter<'_>
@@ -141,5 +144,23 @@ impl<'h, H: AcpiHandler> PhysicalMapping<'h, H, Madt> {
         ensures { result ≡ mailbox_of (bytes_of self.now) }
     {
         mailbox_address(self.bytes())
+    }
+    /// The interrupt model that the entries describe, and the processors, where there are any. It is
+    /// `Unknown`, without processors, where no entry is of APICs; no memory is then asked for.
+    ///
+    /// Refuses with `InvalidMadt` for the first entry that is at fault: `InvalidEntryLength` where it
+    /// is malformed, `UnexpectedEntry` for the kinds of SAPICs and of the GIC (6 to 8, and 0xb to
+    /// 0xf), for an override `InterruptOverrideEntryHasInvalidBus` where its bus isn't 0, for one and
+    /// for an NMI source `MpsIntiInvalidPolarity` and then `MpsIntiInvalidTriggerMode` where its flags
+    /// hold 2 there, and `InvalidLocalNmiLine` for a local NMI whose line is neither 0 nor 1. Then
+    /// with `AllocError` where a growth is refused, or a clone of the allocator.
+    pub fn parse_interrupt_model_in<A: Allocator + Clone>(
+        &self,
+        allocator: A,
+    ) -> AcpiResult<(InterruptModel<A>, Option<ProcessorInfo<A>>)>
+        ensures { GivesOrFull (AsksMemory (bytes_of self.now)) result
+            (model_of (bytes_of self.now)) }
+    {
+        model_in(self.get(), self.bytes(), allocator)
     }
 }

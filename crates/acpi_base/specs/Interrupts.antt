@@ -1,0 +1,126 @@
+-- What one entry of the MADT says of interrupts and processors (ACPI 6.4, section 5.2.12).
+use Rattle.std.specs.Prelude.{ℕ, ◌==◌, List, [], ◌∷◌, find, Result, Ok, Err, if◌then◌else◌}
+use Rattle.std.specs.Option.{ok_or}
+use Rattle.acpi_base.specs.Bits.{bits_of, has_bit}
+use Rattle.acpi_base.specs.Steps.{◌>>=◌, holds}
+use Rattle.acpi_base.specs.declared.error.MadtError.{MadtError}
+use Rattle.acpi_base.specs.declared.error.MadtError.TheVariants.{InterruptOverrideEntryHasInvalidBus, InvalidLocalNmiLine, MpsIntiInvalidPolarity, MpsIntiInvalidTriggerMode, UnexpectedEntry}
+use Rattle.acpi_base.specs.declared.madt.apic.InterruptSourceOverrideEntry.{InterruptSourceOverrideEntry}
+use Rattle.acpi_base.specs.declared.madt.apic.IoApicEntry.{IoApicEntry}
+use Rattle.acpi_base.specs.declared.madt.apic.NmiSourceEntry.{NmiSourceEntry}
+use Rattle.acpi_base.specs.declared.madt.entry.MadtEntry.{MadtEntry}
+use Rattle.acpi_base.specs.declared.madt.entry.MadtEntry.TheVariants as kinds
+use Rattle.acpi_base.specs.declared.model.interrupt.InterruptSourceOverride.{InterruptSourceOverride}
+use Rattle.acpi_base.specs.declared.model.interrupt.IoApic.{IoApic}
+use Rattle.acpi_base.specs.declared.model.interrupt.LocalInterruptLine.{LocalInterruptLine}
+use Rattle.acpi_base.specs.declared.model.interrupt.LocalInterruptLine.TheVariants.{Lint0, Lint1}
+use Rattle.acpi_base.specs.declared.model.interrupt.NmiLine.{NmiLine}
+use Rattle.acpi_base.specs.declared.model.interrupt.NmiProcessor.{NmiProcessor}
+use Rattle.acpi_base.specs.declared.model.interrupt.NmiProcessor.TheVariants.{All, ProcessorUid}
+use Rattle.acpi_base.specs.declared.model.interrupt.NmiSource.{NmiSource}
+use Rattle.acpi_base.specs.declared.model.interrupt.Polarity.{Polarity}
+use Rattle.acpi_base.specs.declared.model.interrupt.Polarity.TheVariants as polarity
+use Rattle.acpi_base.specs.declared.model.interrupt.TriggerMode.{TriggerMode}
+use Rattle.acpi_base.specs.declared.model.interrupt.TriggerMode.TheVariants as trigger
+use Rattle.acpi_base.specs.declared.model.part.Part.{Part}
+use Rattle.acpi_base.specs.declared.model.part.Part.TheVariants as part
+
+-- the code of each polarity; 2 is reserved
+abbrev pub polarity_code : Polarity → ℕ
+polarity_code polarity.SameAsBus = 0
+polarity_code polarity.ActiveHigh = 1
+polarity_code polarity.ActiveLow = 3
+
+abbrev pub polarities : List Polarity
+polarities = polarity.SameAsBus ∷ polarity.ActiveHigh ∷ polarity.ActiveLow ∷ []
+
+-- the polarity in bits 0 and 1 of an interrupt's flags
+abbrev pub polarity_of : ℕ → Result Polarity MadtError
+polarity_of flags =
+    ok_or (find (λ p. polarity_code p == bits_of flags 0 2) polarities) MpsIntiInvalidPolarity
+
+-- the code of each trigger mode; 2 is reserved
+abbrev pub trigger_code : TriggerMode → ℕ
+trigger_code trigger.SameAsBus = 0
+trigger_code trigger.Edge = 1
+trigger_code trigger.Level = 3
+
+abbrev pub trigger_modes : List TriggerMode
+trigger_modes = trigger.SameAsBus ∷ trigger.Edge ∷ trigger.Level ∷ []
+
+-- the trigger mode in bits 2 and 3
+abbrev pub trigger_mode_of : ℕ → Result TriggerMode MadtError
+trigger_mode_of flags =
+    ok_or (find (λ t. trigger_code t == bits_of flags 2 2) trigger_modes) MpsIntiInvalidTriggerMode
+
+-- another wiring of an interrupt: the bus is tested before the flags
+abbrev pub override_of : InterruptSourceOverrideEntry → Result InterruptSourceOverride MadtError
+override_of e = do
+  _ ← holds (e.bus == 0) InterruptOverrideEntryHasInvalidBus
+  polarity ← polarity_of e.flags
+  trigger_mode ← trigger_mode_of e.flags
+  Ok (record {
+    isa_source = e.irq;
+    global_system_interrupt = e.global_system_interrupt;
+    polarity = polarity;
+    trigger_mode = trigger_mode;
+  })
+
+-- a non-maskable interrupt
+abbrev pub nmi_source_of : NmiSourceEntry → Result NmiSource MadtError
+nmi_source_of e = do
+  polarity ← polarity_of e.flags
+  trigger_mode ← trigger_mode_of e.flags
+  Ok (record {
+    global_system_interrupt = e.global_system_interrupt;
+    polarity = polarity;
+    trigger_mode = trigger_mode;
+  })
+
+-- the number of each input of a local APIC
+abbrev pub line_code : LocalInterruptLine → ℕ
+line_code Lint0 = 0
+line_code Lint1 = 1
+
+-- the input of a number
+abbrev pub line_of : ℕ → Result LocalInterruptLine MadtError
+line_of number = ok_or (find (λ l. line_code l == number) (Lint0 ∷ Lint1 ∷ [])) InvalidLocalNmiLine
+
+-- an id of a processor, or the one that stands for all
+abbrev pub processor_for : ℕ → ℕ → NmiProcessor
+processor_for all uid = if uid == all then All else ProcessorUid uid
+
+-- an input that NMIs come to: their flags are not looked at
+abbrev pub nmi_line_of : NmiProcessor → ℕ → Result NmiLine MadtError
+nmi_line_of processor number = do
+  line ← line_of number
+  Ok (record { processor = processor; line = line })
+
+-- an I/O APIC
+abbrev pub io_apic_of : IoApicEntry → IoApic
+io_apic_of e = record {
+  id = e.io_apic_id;
+  address = e.io_apic_address;
+  global_system_interrupt_base = e.global_system_interrupt_base;
+}
+
+-- what an entry says, or why it is refused: the kinds of SAPICs and of the GIC always are
+unfoldable pub part_of : MadtEntry → Result Part MadtError
+part_of (kinds.LocalApic e) = Ok (part.Processor e.processor_id e.apic_id (has_bit e.flags 0))
+part_of (kinds.LocalX2Apic e) = Ok (part.Processor e.processor_uid e.x2apic_id (has_bit e.flags 0))
+part_of (kinds.IoApic e) = Ok (part.IoApic (io_apic_of e))
+part_of (kinds.InterruptSourceOverride e) = do
+  override ← override_of e
+  Ok (part.Override override)
+part_of (kinds.NmiSource e) = do
+  source ← nmi_source_of e
+  Ok (part.NmiSource source)
+part_of (kinds.LocalApicNmi e) = do
+  line ← nmi_line_of (processor_for 0xff e.processor_id) e.nmi_line
+  Ok (part.NmiLine line)
+part_of (kinds.X2ApicNmi e) = do
+  line ← nmi_line_of (processor_for 0xffffffff e.processor_uid) e.nmi_line
+  Ok (part.NmiLine line)
+part_of (kinds.LocalApicAddressOverride e) = Ok (part.LocalApicAddress e.local_apic_address)
+part_of (kinds.MultiprocessorWakeup e) = Ok part.Wakeup
+part_of _ = Err UnexpectedEntry

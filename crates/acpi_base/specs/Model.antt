@@ -1,0 +1,150 @@
+-- The interrupt model: what the entries of the MADT say together (ACPI 6.4, section 5.2.12).
+use Rattle.std.specs.Prelude.{◌≡◌, ◌⊎◌, ℕ, Bool, true, false, List, [], ◌∷◌, drop, slice_get, Option, Some, None, Result, Ok, Err, IsTrue, if◌then◌else◌}
+use Rattle.std.specs.List.{filter_map, list_any}
+use Rattle.std.specs.Option.{option_map}
+use Rattle.std.specs.Result.{result_err, result_ok}
+use Rattle.acpi_base.specs.Bits.{has_bit}
+use Rattle.acpi_base.specs.Interrupts.{part_of}
+use Rattle.acpi_base.specs.Madt.{cut_of, entries_of, madt_at}
+use Rattle.acpi_base.specs.declared.error.AcpiError.{AcpiError}
+use Rattle.acpi_base.specs.declared.error.AcpiError.TheVariants.{AllocError, InvalidMadt}
+use Rattle.acpi_base.specs.declared.error.MadtError.{MadtError}
+use Rattle.acpi_base.specs.declared.error.MadtError.TheVariants.{InvalidEntryLength}
+use Rattle.acpi_base.specs.declared.madt.Madt.{Madt}
+use Rattle.acpi_base.specs.declared.madt.entry.MadtEntry.{MadtEntry}
+use Rattle.acpi_base.specs.declared.model.interrupt.Apic.{Apic}
+use Rattle.acpi_base.specs.declared.model.interrupt.InterruptModel.{InterruptModel}
+use Rattle.acpi_base.specs.declared.model.interrupt.InterruptModel.TheVariants as model
+use Rattle.acpi_base.specs.declared.model.interrupt.InterruptSourceOverride.{InterruptSourceOverride}
+use Rattle.acpi_base.specs.declared.model.interrupt.IoApic.{IoApic}
+use Rattle.acpi_base.specs.declared.model.interrupt.NmiLine.{NmiLine}
+use Rattle.acpi_base.specs.declared.model.interrupt.NmiSource.{NmiSource}
+use Rattle.acpi_base.specs.declared.model.part.Part.{Part}
+use Rattle.acpi_base.specs.declared.model.part.Part.TheVariants as part
+use Rattle.acpi_base.specs.declared.model.processor.Processor.{Processor}
+use Rattle.acpi_base.specs.declared.model.processor.ProcessorInfo.{ProcessorInfo}
+use Rattle.acpi_base.specs.declared.model.processor.ProcessorState.{ProcessorState}
+use Rattle.acpi_base.specs.declared.model.processor.ProcessorState.TheVariants.{Disabled, Running, WaitingForSipi}
+
+-- ---- refusals
+
+-- why an entry is refused, where it is
+abbrev pub fault_in : MadtEntry → Option MadtError
+fault_in e = result_err (part_of e)
+
+-- the first refusal: of an entry, or of the rest in which none begins
+abbrev pub first_fault : List MadtError → List ℕ → Option MadtError
+first_fault (fault ∷ more) rest = Some fault
+first_fault [] (b ∷ rest) = Some InvalidEntryLength
+first_fault [] [] = None
+
+abbrev pub fault_of : List ℕ → Option MadtError
+fault_of table = first_fault (filter_map fault_in (entries_of table)) (cut_of table).1
+
+-- ---- what the entries say
+
+-- what an entry says, where it isn't refused
+abbrev pub part_in : MadtEntry → Option Part
+part_in e = result_ok (part_of e)
+
+abbrev pub parts_of : List ℕ → List Part
+parts_of table = filter_map part_in (entries_of table)
+
+abbrev pub io_apic_in : Part → Option IoApic
+io_apic_in (part.IoApic x) = Some x
+io_apic_in _ = None
+
+abbrev pub override_in : Part → Option InterruptSourceOverride
+override_in (part.Override x) = Some x
+override_in _ = None
+
+abbrev pub nmi_source_in : Part → Option NmiSource
+nmi_source_in (part.NmiSource x) = Some x
+nmi_source_in _ = None
+
+abbrev pub nmi_line_in : Part → Option NmiLine
+nmi_line_in (part.NmiLine x) = Some x
+nmi_line_in _ = None
+
+abbrev pub address_in : Part → Option ℕ
+address_in (part.LocalApicAddress x) = Some x
+address_in _ = None
+
+-- what a processor does: an application processor waits, the boot processor runs
+abbrev pub state_of : Bool → Bool → ProcessorState
+state_of is_ap is_enabled =
+    if is_enabled then (if is_ap then WaitingForSipi else Running) else Disabled
+
+-- a processor, as an application processor or as the boot processor
+abbrev pub processor_in : Bool → Part → Option Processor
+processor_in is_ap (part.Processor uid id is_enabled) = Some (record {
+  processor_uid = uid;
+  local_apic_id = id;
+  state = state_of is_ap is_enabled;
+  is_ap = is_ap;
+})
+processor_in is_ap _ = None
+
+-- whether it belongs to a model of APICs
+abbrev pub is_of_apic : Part → Bool
+is_of_apic part.Wakeup = false
+is_of_apic _ = true
+
+-- ---- the model
+
+-- the last address, or else this one
+abbrev pub last_address : ℕ → List ℕ → ℕ
+last_address address [] = address
+last_address address (x ∷ more) = last_address x more
+
+-- what the table and its entries say of APICs
+abbrev pub apic_of : {A : Type 0} → Madt → List Part → Apic A
+apic_of madt parts = record {
+  local_apic_address = last_address madt.local_apic_address (filter_map address_in parts);
+  io_apics = filter_map io_apic_in parts;
+  local_apic_nmi_lines = filter_map nmi_line_in parts;
+  interrupt_source_overrides = filter_map override_in parts;
+  nmi_sources = filter_map nmi_source_in parts;
+  also_has_legacy_pics = has_bit madt.flags 0;
+}
+
+-- the first processor is the boot processor, and all behind it are application processors
+abbrev pub processors_of : {A : Type 0} → List Part → Option (ProcessorInfo A)
+processors_of parts =
+    option_map (λ boot. record {
+      boot_processor = boot;
+      application_processors = drop 1 (filter_map (processor_in true) parts);
+    }) (slice_get (filter_map (processor_in false) parts) 0)
+
+-- the model, and the processors; A is the allocator, of which neither says anything
+abbrev pub Model : Type 0 → Type 0
+Model A = InterruptModel A × Option (ProcessorInfo A)
+
+-- what a table of a model of APICs says
+abbrev pub gathered : {A : Type 0} → Madt → List Part → Model A
+gathered madt parts = (model.Apic (apic_of madt parts), processors_of parts)
+
+-- APICs where an entry is of them, else nothing is known
+abbrev pub model_from : {A : Type 0} → Madt → List Part → Model A
+model_from madt parts = if list_any is_of_apic parts then gathered madt parts else (model.Unknown, None)
+
+-- the model of a table whose first fields mean this, or the first refusal
+abbrev pub model_with : {A : Type 0} → Madt → List ℕ → Result (Model A) AcpiError
+model_with madt table = elim (fault_of table) [
+  | Some fault ↦ Err (InvalidMadt fault)
+  | None ↦ Ok (model_from madt (parts_of table))
+]
+
+-- the model of a table, or the first refusal
+abbrev pub model_of : {A : Type 0} → List ℕ → Result (Model A) AcpiError
+model_of table = model_with (madt_at table) table
+
+-- ---- want of memory
+
+-- memory is asked for only where no entry is refused, and one is of a model of APICs
+abbrev pub AsksMemory : List ℕ → Type 0
+AsksMemory table = (fault_of table ≡ None) × IsTrue (list_any is_of_apic (parts_of table))
+
+-- what a call answered is what is defined, or AllocError where memory may be asked for
+abbrev pub GivesOrFull : {X : Type 0} → Type 0 → Result X AcpiError → Result X AcpiError → Type 0
+GivesOrFull Asks said defined = (said ≡ defined) ⊎ (Asks × (said ≡ Err AllocError))

@@ -1,0 +1,36 @@
+-- What a walk along the MADT's entries shows of what they say.
+use Rattle.std.specs.Prelude.{◌+◌, ◌||◌, List, length, false, true}
+use Rattle.std.specs.List.{filter_map, list_any}
+use Rattle.acpi_base.specs.MadtWalk.{entries_left}
+use Rattle.acpi_base.specs.Model.{io_apic_in, is_of_apic, nmi_line_in, nmi_source_in, override_in, part_in, processor_in}
+use Rattle.acpi_base.specs.declared.model.counts.Counts.{Counts}
+use Rattle.acpi_base.specs.declared.model.part.Part.{Part}
+use Rattle.acpi_base.specs.declared.model.walk.Parts.{Parts}
+
+-- what the entries still to come say
+abbrev pub parts_left : Parts → List Part
+parts_left s = filter_map part_in (entries_left s.entries)
+
+-- how many there are of each, where so many are counted and these are behind them
+abbrev pub counted_behind : Counts → List Part → Counts
+counted_behind c parts = record {
+  processors = c.processors + length (filter_map (processor_in true) parts);
+  io_apics = c.io_apics + length (filter_map io_apic_in parts);
+  overrides = c.overrides + length (filter_map override_in parts);
+  nmi_sources = c.nmi_sources + length (filter_map nmi_source_in parts);
+  nmi_lines = c.nmi_lines + length (filter_map nmi_line_in parts);
+  is_of_apic = c.is_of_apic || list_any is_of_apic parts;
+}
+
+abbrev pub no_counts : Counts
+no_counts = record {
+  processors = 0;
+  io_apics = 0;
+  overrides = 0;
+  nmi_sources = 0;
+  nmi_lines = 0;
+  is_of_apic = false;
+}
+
+abbrev pub counts_of : List Part → Counts
+counts_of parts = counted_behind no_counts parts

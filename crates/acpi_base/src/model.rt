@@ -1,0 +1,20 @@
+//! The interrupt model: what the entries of a MADT say of controllers and processors together.
+//!
+//! The first entry that is refused decides. Without one the entries are gathered, each kind into a
+//! list of its own.
+
+mod counts;
+mod draft;
+mod gather;
+mod interrupt;
+pub mod laws;
+mod part;
+mod processor;
+mod walk;
+
+pub(crate) use gather::model_in;
+pub use interrupt::{
+    Apic, InterruptModel, InterruptSourceOverride, IoApic, LocalInterruptLine, NmiLine,
+    NmiProcessor, NmiSource, Polarity, TriggerMode,
+};
+pub use processor::{Processor, ProcessorInfo, ProcessorState};

@@ -1,0 +1,48 @@
+//! How much there is to gather.
+ghost use Rattle.std.specs.Prelude.{◌≡◌};
+ghost use Rattle.acpi_base.specs.Model.{parts_of};
+ghost use Rattle.acpi_base.specs.Parts.{counts_of};
+
+use super::part::Part;
+use super::walk::Parts;
+
+/// How many there are of each, and whether any entry is of a model of APICs.
+#[derive(Clone, Copy)]
+pub(super) struct Counts {
+    pub(super) processors: usize,
+    pub(super) io_apics: usize,
+    pub(super) overrides: usize,
+    pub(super) nmi_sources: usize,
+    pub(super) nmi_lines: usize,
+    pub(super) is_of_apic: bool,
+}
+
+impl Counts {
+    /// The counts of what a MADT's bytes say.
+    #[tactic(auto, using(crate::proofs::MadtCounts::parts_few))]
+    pub(super) fn of(table: &[u8]) -> Counts
+        ensures { result ≡ counts_of (parts_of table.now) }
+    {
+        let mut counts = Counts {
+            processors: 0,
+            io_apics: 0,
+            overrides: 0,
+            nmi_sources: 0,
+            nmi_lines: 0,
+            is_of_apic: false,
+        };
+        for part in Parts::over(table) {
+            match part {
+                Part::Processor { .. } => counts.processors += 1,
+                Part::IoApic(_) => counts.io_apics += 1,
+                Part::Override(_) => counts.overrides += 1,
+                Part::NmiSource(_) => counts.nmi_sources += 1,
+                Part::NmiLine(_) => counts.nmi_lines += 1,
+                Part::LocalApicAddress(_) => {}
+                Part::Wakeup => continue,
+            }
+            counts.is_of_apic = true;
+        }
+        counts
+    }
+}

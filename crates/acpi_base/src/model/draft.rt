@@ -1,0 +1,159 @@
+//! A model that is being gathered.
+ghost use Rattle.std.specs.Prelude.{◌≡◌, ◌∷◌, ◌++◌, [], IfOk, IfErr, List, OnOk};
+ghost use Rattle.acpi_base.specs.Model.{state_of};
+ghost use Rattle.acpi_base.specs.declared.error.AcpiError.TheVariants.{AllocError as NoMemory};
+
+use super::counts::Counts;
+use super::interrupt::{Apic, InterruptModel, InterruptSourceOverride, IoApic, NmiLine, NmiSource};
+use super::part::Part;
+use super::processor::{Processor, ProcessorInfo, ProcessorState};
+use crate::error::{AcpiError, AcpiResult};
+use crate::madt::Madt;
+use crate::managed_slice::ManagedSlice;
+use std::alloc::Allocator;
+
+/// What the entries so far say.
+#[derive(Drop)]
+pub(super) struct Draft<A: Allocator> {
+    local_apic_address: u64,
+    has_legacy_pics: bool,
+    io_apics: Vec<IoApic, A>,
+    nmi_lines: Vec<NmiLine, A>,
+    overrides: Vec<InterruptSourceOverride, A>,
+    nmi_sources: Vec<NmiSource, A>,
+    boot_processor: Option<Processor>,
+    application_processors: Vec<Processor, A>,
+}
+
+/// One more item, behind the others.
+///
+/// Refuses with `AllocError` where there is no room and a growth is refused.
+fn keep<T: Drop, A: Allocator>(items: &mut Vec<T, A>, added: T) -> AcpiResult<()>
+    ensures kept { OnOk result (items.new.items ≡ items.old.items ++ (added ∷ [])) }
+    ensures refused { IfErr result (λ e. e ≡ NoMemory) }
+{
+    match items.push(added) {
+        Ok(()) => Ok(()),
+        Err(_) => Err(AcpiError::AllocError),
+    }
+}
+
+impl<A: Allocator + Clone> Draft<A> {
+    ghost use Rattle.std.specs.Prelude.{◌≡◌, [], IfOk, IfErr, List};
+    ghost use Rattle.acpi_base.specs.Draft.{model_behind};
+    ghost use Rattle.acpi_base.specs.Model.{gathered};
+    ghost use Rattle.acpi_base.specs.declared.model.part.Part.{Part};
+
+    /// Nothing yet, with room for as many as are counted.
+    ///
+    /// Refuses with `AllocError` where a growth is refused, or a clone of the allocator.
+    pub(super) fn with_room(madt: &Madt, counts: Counts, allocator: A) -> AcpiResult<Self>
+        ensures begun { IfOk result (λ d. (parts : List Part)
+            → model_behind d parts ≡ gathered madt.now parts) }
+        ensures refused { IfErr result (λ e. e ≡ NoMemory) }
+    {
+        Ok(Draft {
+            local_apic_address: madt.local_apic_address as u64,
+            has_legacy_pics: madt.supports_8259(),
+            io_apics: Vec::with_capacity(allocator.clone()?, counts.io_apics)?,
+            nmi_lines: Vec::with_capacity(allocator.clone()?, counts.nmi_lines)?,
+            overrides: Vec::with_capacity(allocator.clone()?, counts.overrides)?,
+            nmi_sources: Vec::with_capacity(allocator.clone()?, counts.nmi_sources)?,
+            boot_processor: None,
+            application_processors: Vec::with_capacity(
+                allocator,
+                counts.processors.saturating_sub(1),
+            )?,
+        })
+    }
+}
+
+impl<A: Allocator> Draft<A> {
+    ghost use Rattle.std.specs.Prelude.{◌≡◌, ◌∷◌, [], List, OnOk, IfErr};
+    ghost use Rattle.acpi_base.specs.Draft.{model_behind};
+    ghost use Rattle.acpi_base.specs.declared.model.part.Part.{Part};
+
+    /// What one more entry says, behind the others.
+    ///
+    /// Refuses with `AllocError` where a growth is refused.
+    pub(super) fn add(&mut self, part: Part) -> AcpiResult<()>
+        ensures added { OnOk result ((parts : List Part)
+            → model_behind self.new parts ≡ model_behind self.old (part ∷ parts)) }
+        ensures refused { IfErr result (λ e. e ≡ NoMemory) }
+    {
+        match part {
+            Part::Processor {
+                processor_uid,
+                local_apic_id,
+                is_enabled,
+            } => {
+                let is_ap = self.boot_processor.is_some();
+                let processor = Processor {
+                    processor_uid,
+                    local_apic_id,
+                    state: state_of(is_ap, is_enabled),
+                    is_ap,
+                };
+                if is_ap {
+                    keep(&mut self.application_processors, processor)
+                } else {
+                    self.boot_processor = Some(processor);
+                    Ok(())
+                }
+            }
+            Part::IoApic(io_apic) => keep(&mut self.io_apics, io_apic),
+            Part::Override(wiring) => keep(&mut self.overrides, wiring),
+            Part::NmiSource(source) => keep(&mut self.nmi_sources, source),
+            Part::NmiLine(line) => keep(&mut self.nmi_lines, line),
+            Part::LocalApicAddress(address) => {
+                self.local_apic_address = address;
+                Ok(())
+            }
+            Part::Wakeup => Ok(()),
+        }
+    }
+
+    /// The model, and the processors.
+    pub(super) fn finish(self) -> (InterruptModel<A>, Option<ProcessorInfo<A>>)
+        ensures { result ≡ model_behind self [] }
+    {
+        let Draft {
+            local_apic_address,
+            has_legacy_pics,
+            io_apics,
+            nmi_lines,
+            overrides,
+            nmi_sources,
+            boot_processor,
+            application_processors,
+        } = self;
+        let application_processors = ManagedSlice::of(application_processors);
+        let processors = match boot_processor {
+            Some(boot_processor) => Some(ProcessorInfo {
+                boot_processor,
+                application_processors,
+            }),
+            None => None,
+        };
+        let apic = Apic {
+            local_apic_address,
+            io_apics: ManagedSlice::of(io_apics),
+            local_apic_nmi_lines: ManagedSlice::of(nmi_lines),
+            interrupt_source_overrides: ManagedSlice::of(overrides),
+            nmi_sources: ManagedSlice::of(nmi_sources),
+            also_has_legacy_pics: has_legacy_pics,
+        };
+        (InterruptModel::Apic(apic), processors)
+    }
+}
+
+/// What a processor does, by what it is and by whether it can be used.
+fn state_of(is_ap: bool, is_enabled: bool) -> ProcessorState
+    ensures { result ≡ state_of is_ap is_enabled }
+{
+    match (is_ap, is_enabled) {
+        (_, false) => ProcessorState::Disabled,
+        (true, true) => ProcessorState::WaitingForSipi,
+        (false, true) => ProcessorState::Running,
+    }
+}
