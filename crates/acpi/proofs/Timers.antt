@@ -9,8 +9,8 @@ use Rattle.acpi_base.specs.contracts.address.AccessSizePartialEq.TheImpl as size
 use Rattle.acpi_base.specs.contracts.address.AddressSpacePartialEq.TheImpl as spaces
 use Rattle.acpi_base.specs.contracts.address.GenericAddressPartialEq.TheImpl as addresses
 use Rattle.acpi_base.specs.Equality.{IsEquality}
-use Rattle.acpi.specs.declared.platform.PmTimer.{PmTimer}
-use Rattle.acpi.specs.contracts.platform.PmTimerPartialEq.TheImpl as timers
+use Rattle.acpi.specs.declared.platform.timer.PmTimer.{PmTimer}
+use Rattle.acpi.specs.contracts.platform.timer.PmTimerPartialEq.TheImpl as timers
 
 sizes_are : (x y : AccessSize) → IsEquality (sizes.ghosts.eq x y) x y
 sizes_are x y = search rules

@@ -3,6 +3,7 @@ pub mod Laws
 pub mod Lists
 pub mod Lookup
 pub mod Opened
+pub mod Platform
 pub mod Pointers
 pub mod Root
 pub mod Rsdp

@@ -8,7 +8,7 @@ use Rattle.acpi_base.specs.Steps.{◌>>=◌}
 use Rattle.acpi_fixed.specs.Fadt.{pm_timer_of}
 use Rattle.acpi_fixed.specs.Flags.{feature_bits}
 use Rattle.acpi_fixed.specs.declared.fadt.Fadt.{Fadt}
-use Rattle.acpi.specs.declared.platform.PmTimer.{PmTimer}
+use Rattle.acpi.specs.declared.platform.timer.PmTimer.{PmTimer}
 
 -- the timer of a block, with bit 8 of the flags
 abbrev pub timer_at : Fadt → GenericAddress → PmTimer

@@ -1,10 +1,12 @@
 //! Laws of the definitions, each the contract of a call that does nothing, and of the tests for
-//! equality.
+//! equality and the clones.
+ghost use Rattle.std.specs.Prelude.{◌≡◌, IfOk};
 ghost use Rattle.acpi_base.specs.Equality.{IsEquality};
 ghost use Rattle.acpi.specs.Laws.{LookupIsFirst, OnePointers, SecondAreas, SkipsInvalid};
 
-use crate::platform::PmTimer;
+use crate::platform::{PlatformInfo, PmTimer};
 use crate::records::{AmlTable, Sdt, TableFault};
+use std::alloc::{AllocError, Allocator};
 
 /// The bytes behind a root table's header spell exactly one list of pointers.
 pub fn one_pointers()
@@ -53,4 +55,20 @@ pub fn pm_timer_equality(a: &PmTimer, b: &PmTimer) -> bool
     ensures { IsEquality result a.now b.now }
 {
     a == b
+}
+
+/// A clone of a timer has its fields.
+pub fn pm_timer_clone(timer: &PmTimer) -> Result<PmTimer, AllocError>
+    ensures { IfOk result (λ c. c ≡ timer.now) }
+{
+    timer.clone()
+}
+
+/// A clone of what is known of a platform has its fields, slices item by item.
+pub fn platform_clone<A: Allocator + Clone>(
+    platform: &PlatformInfo<A>,
+) -> Result<PlatformInfo<A>, AllocError>
+    ensures { IfOk result (λ c. c ≡ platform.now) }
+{
+    platform.clone()
 }

@@ -16,6 +16,7 @@ pub mod rsdp;
 mod ssdts;
 mod tables;
 
+pub use acpi_base::managed_slice::ManagedSlice;
 pub use acpi_base::{
     AcpiError, AcpiHandler, AcpiResult, AcpiTable, MadtError, PhysicalMapping, PhysicalRecord,
     address, madt, sdt,
@@ -24,6 +25,8 @@ pub use acpi_fixed::fadt::PowerProfile;
 pub use acpi_fixed::{bgrt, fadt};
 pub use faults::TableFaults;
 pub use headers::SdtHeaderIterator;
+pub use platform::PlatformInfo;
+pub use platform::interrupt::InterruptModel;
 pub use records::{AmlTable, Sdt, TableFault};
 pub use ssdts::SsdtIterator;
 pub use tables::AcpiTables;

@@ -1,36 +1,76 @@
 //! What the platform has, as the tables say together.
-ghost use Rattle.std.specs.Prelude.{◌≡◌};
+ghost use Rattle.acpi_base.specs.Model.{GivesOrFull};
+ghost use Rattle.acpi.specs.Platform.{AsksMemory, ModelAsks, model_in, platform_of};
+ghost use Rattle.acpi.specs.Tables.{memory_of, pointers_of};
 
-use acpi_base::AcpiResult;
-use acpi_base::address::GenericAddress;
-use acpi_fixed::fadt::Fadt;
+pub mod interrupt;
+mod timer;
 
-/// The power management timer (section 4.8.3.3).
-#[derive(Clone, Copy, Debug, PartialEq, Eq)]
-pub struct PmTimer {
-    /// Where its register lies.
-    pub base: GenericAddress,
-    /// Whether it counts in 32 bits, or else in 24.
-    pub supports_32bit: bool,
+use crate::tables::AcpiTables;
+use acpi_base::madt::Madt;
+pub use acpi_base::model::{Processor, ProcessorInfo, ProcessorState};
+use acpi_base::{AcpiHandler, AcpiResult};
+use acpi_fixed::fadt::{Fadt, PowerProfile};
+use interrupt::InterruptModel;
+use std::alloc::{Allocator, Global};
+pub use timer::PmTimer;
+
+/// What a machine is for, its interrupt controllers and processors, and its timer.
+#[derive(Clone, Drop)]
+pub struct PlatformInfo<A: Allocator> {
+    /// What the FADT says the machine is for.
+    pub power_profile: PowerProfile,
+    /// Which controllers interrupts come to, as the MADT says.
+    pub interrupt_model: InterruptModel<A>,
+    /// The processors that the MADT lists, or `None` where it lists none.
+    pub processor_info: Option<ProcessorInfo<A>>,
+    /// The timer that the FADT describes, or `None` where it has none.
+    pub pm_timer: Option<PmTimer>,
 }
 
-impl PmTimer {
-    ghost use Rattle.acpi.specs.Timer.{timer_of};
-
-    /// The timer that a FADT describes, or `None` where it has none: the block of
-    /// `Fadt::pm_timer_block`, and bit 8 of the flags.
-    ///
-    /// Refuses with `InvalidGenericAddress` where that block is refused.
-    pub fn new(fadt: &Fadt) -> AcpiResult<Option<PmTimer>>
-        ensures { result ≡ timer_of fadt.now }
+impl PlatformInfo<Global> {
+    /// `new_in` over the global allocator.
+    pub fn new<H: AcpiHandler>(alloc: Global, tables: &AcpiTables<'_, H>) -> AcpiResult<Self>
+        ensures { GivesOrFull (AsksMemory (memory_of tables.now) (pointers_of tables.now)) result
+            (platform_of (memory_of tables.now) (pointers_of tables.now)) }
     {
-        let Some(base) = fadt.pm_timer_block()? else {
-            return Ok(None);
-        };
-        let supports_32bit = fadt.flags.pm_timer_is_32_bit();
-        Ok(Some(PmTimer {
-            base,
-            supports_32bit,
-        }))
+        PlatformInfo::new_in(tables, alloc)
+    }
+}
+
+impl<A: Allocator + Clone> PlatformInfo<A> {
+    /// What the first valid FADT and the first valid MADT say. Where no MADT is valid, the interrupt
+    /// model is `Unknown`, and there are no processors.
+    ///
+    /// Refuses, in this order, with `TableMissing` where no valid FADT is listed, with what
+    /// `parse_interrupt_model_in` refuses of the MADT, and with what `PmTimer::new` refuses. Memory is
+    /// asked for only where the MADT describes APICs.
+    pub fn new_in<H: AcpiHandler>(tables: &AcpiTables<'_, H>, allocator: A) -> AcpiResult<Self>
+        ensures { GivesOrFull (AsksMemory (memory_of tables.now) (pointers_of tables.now)) result
+            (platform_of (memory_of tables.now) (pointers_of tables.now)) }
+    {
+        let fadt = tables.find_table::<Fadt>()?;
+        let (interrupt_model, processor_info) = interrupt_model(tables, allocator)?;
+        let pm_timer = PmTimer::new(&fadt)?;
+        Ok(PlatformInfo {
+            power_profile: fadt.power_profile(),
+            interrupt_model,
+            processor_info,
+            pm_timer,
+        })
+    }
+}
+
+/// What the first valid MADT says, or nothing where none is valid.
+fn interrupt_model<H: AcpiHandler, A: Allocator + Clone>(
+    tables: &AcpiTables<'_, H>,
+    allocator: A,
+) -> AcpiResult<(InterruptModel<A>, Option<ProcessorInfo<A>>)>
+    ensures { GivesOrFull (ModelAsks (memory_of tables.now) (pointers_of tables.now)) result
+        (model_in (memory_of tables.now) (pointers_of tables.now)) }
+{
+    match tables.find_table::<Madt>() {
+        Ok(madt) => madt.parse_interrupt_model_in(allocator),
+        Err(_) => Ok((InterruptModel::Unknown, None)),
     }
 }

@@ -8,6 +8,7 @@ ghost use Rattle.acpi.specs.Root.{root_at};
 
 use crate::faults::TableFaults;
 use crate::headers::SdtHeaderIterator;
+use crate::platform::PlatformInfo;
 use crate::pointers::Pointers;
 use crate::records::{AmlTable, aml_behind};
 use crate::root::{RootKind, RootPlace};
@@ -19,6 +20,7 @@ use acpi_base::{
     AcpiError, AcpiHandler, AcpiResult, AcpiTable, PhysicalMapping, PhysicalRecord, Signature,
 };
 use acpi_fixed::fadt::Fadt;
+use std::alloc::{Allocator, Global};
 
 /// The tables that a root table leads to. The root table stays mapped until this is dropped.
 #[derive(Drop)]
@@ -48,6 +50,7 @@ fn map_root<'h, H: AcpiHandler>(
 impl<'h, H: AcpiHandler> AcpiTables<'h, H> {
     ghost use Rattle.std.specs.Prelude.{◌≡◌, ◌^◌, ◌<◌, ◌≤◌, ◌∷◌, ◌++◌, ℕ, List, length};
     ghost use Rattle.std.specs.Prelude.{IfOk, IfErr, IsErr, IsOk};
+    ghost use Rattle.acpi_base.specs.Model.{GivesOrFull};
     ghost use Rattle.acpi_base.specs.Steps.{Gives};
     ghost use Rattle.acpi_base.specs.Table.{kind, table_at};
     ghost use Rattle.acpi_base.specs.declared.error.AcpiError.TheVariants.{TableMissing};
@@ -57,6 +60,7 @@ impl<'h, H: AcpiHandler> AcpiTables<'h, H> {
     ghost use Rattle.acpi.specs.Lookup.{IsFirstValid, NoneValid, lookup};
     ghost use Rattle.acpi.specs.Opened.{opened_at, opened_from, opened_of};
     ghost use Rattle.acpi.specs.Opened.{opened_by_rsdp, opened_by_search};
+    ghost use Rattle.acpi.specs.Platform.{AsksMemory, platform_of};
     ghost use Rattle.acpi.specs.Pointers.{pointers_left};
     ghost use Rattle.acpi.specs.Rsdp.{root_of_rsdp, rsdp_at};
     ghost use Rattle.acpi.specs.Tables.{SpellsPointers, pointers_of};
@@ -285,5 +289,23 @@ impl<'h, H: AcpiHandler> AcpiTables<'h, H> {
             length (faults_left H.memory k result) < 2 ^ 32 }
     {
         TableFaults::new(self.root.handler(), self.pointers())
+    }
+    /// `PlatformInfo::new` over these tables.
+    pub fn platform_info(&self, alloc: Global) -> AcpiResult<PlatformInfo<Global>>
+        ensures { GivesOrFull (AsksMemory (memory_of self.now) (pointers_of self.now)) result
+            (platform_of (memory_of self.now) (pointers_of self.now)) }
+    {
+        PlatformInfo::new(alloc, self)
+    }
+
+    /// `PlatformInfo::new_in` over these tables.
+    pub fn platform_info_in<A: Allocator + Clone>(
+        &self,
+        allocator: A,
+    ) -> AcpiResult<PlatformInfo<A>>
+        ensures { GivesOrFull (AsksMemory (memory_of self.now) (pointers_of self.now)) result
+            (platform_of (memory_of self.now) (pointers_of self.now)) }
+    {
+        PlatformInfo::new_in(self, allocator)
     }
 }
