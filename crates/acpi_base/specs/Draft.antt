@@ -1,5 +1,5 @@
 -- How far a model is gathered.
-use Rattle.std.specs.Prelude.{true, false, List, ◌++◌, drop, slice_get, Option, Some, None}
+use Rattle.std.specs.Prelude.{ℕ, ◌+◌, ◌-◌, ◌≤◌, length, vec_capacity, vec_len, true, false, List, ◌++◌, drop, slice_get, Option, Some, None}
 use Rattle.std.specs.List.{filter_map}
 use Rattle.std.specs.Option.{option_map}
 use Rattle.acpi_base.specs.Model.{Model, address_in, io_apic_in, last_address, nmi_line_in, nmi_source_in, override_in, processor_in}
@@ -34,3 +34,18 @@ model_behind d parts = (
   }),
   processors_behind d.boot_processor d.application_processors.items parts,
 )
+
+-- ---- room
+
+-- how many of the processors still to come are application processors
+abbrev pub others_in : Option Processor → List Part → ℕ
+others_in None parts = length (filter_map (processor_in true) parts) - 1
+others_in (Some boot) parts = length (filter_map (processor_in true) parts)
+
+-- there is room for what these say
+pub record HasRoom {A : Type 0} (d : Draft A) (parts : List Part) : Type 0 where
+  pub io_apics : vec_len d.io_apics + length (filter_map io_apic_in parts) ≤ vec_capacity d.io_apics
+  pub nmi_lines : vec_len d.nmi_lines + length (filter_map nmi_line_in parts) ≤ vec_capacity d.nmi_lines
+  pub overrides : vec_len d.overrides + length (filter_map override_in parts) ≤ vec_capacity d.overrides
+  pub nmi_sources : vec_len d.nmi_sources + length (filter_map nmi_source_in parts) ≤ vec_capacity d.nmi_sources
+  pub processors : vec_len d.application_processors + others_in d.boot_processor parts ≤ vec_capacity d.application_processors

@@ -7,7 +7,7 @@ use super::counts::Counts;
 use super::interrupt::{Apic, InterruptModel, InterruptSourceOverride, IoApic, NmiLine, NmiSource};
 use super::part::Part;
 use super::processor::{Processor, ProcessorInfo, ProcessorState};
-use crate::error::{AcpiError, AcpiResult};
+use crate::error::AcpiResult;
 use crate::madt::Madt;
 use crate::managed_slice::ManagedSlice;
 use std::alloc::Allocator;
@@ -25,29 +25,19 @@ pub(super) struct Draft<A: Allocator> {
     application_processors: Vec<Processor, A>,
 }
 
-/// One more item, behind the others.
-///
-/// Refuses with `AllocError` where there is no room and a growth is refused.
-fn keep<T: Drop, A: Allocator>(items: &mut Vec<T, A>, added: T) -> AcpiResult<()>
-    ensures kept { OnOk result (items.new.items ≡ items.old.items ++ (added ∷ [])) }
-    ensures refused { IfErr result (λ e. e ≡ NoMemory) }
-{
-    match items.push(added) {
-        Ok(()) => Ok(()),
-        Err(_) => Err(AcpiError::AllocError),
-    }
-}
-
 impl<A: Allocator + Clone> Draft<A> {
     ghost use Rattle.std.specs.Prelude.{◌≡◌, [], IfOk, IfErr, List};
-    ghost use Rattle.acpi_base.specs.Draft.{model_behind};
+    ghost use Rattle.acpi_base.specs.Draft.{HasRoom, model_behind};
     ghost use Rattle.acpi_base.specs.Model.{gathered};
+    ghost use Rattle.acpi_base.specs.Parts.{counts_of};
     ghost use Rattle.acpi_base.specs.declared.model.part.Part.{Part};
 
     /// Nothing yet, with room for as many as are counted.
     ///
     /// Refuses with `AllocError` where a growth is refused, or a clone of the allocator.
     pub(super) fn with_room(madt: &Madt, counts: Counts, allocator: A) -> AcpiResult<Self>
+        ensures room { IfOk result (λ d. (parts : List Part) → counts_of parts ≡ counts
+            → HasRoom d parts) }
         ensures begun { IfOk result (λ d. (parts : List Part)
             → model_behind d parts ≡ gathered madt.now parts) }
         ensures refused { IfErr result (λ e. e ≡ NoMemory) }
@@ -69,17 +59,17 @@ impl<A: Allocator + Clone> Draft<A> {
 }
 
 impl<A: Allocator> Draft<A> {
-    ghost use Rattle.std.specs.Prelude.{◌≡◌, ◌∷◌, [], List, OnOk, IfErr};
-    ghost use Rattle.acpi_base.specs.Draft.{model_behind};
+    ghost use Rattle.std.specs.Prelude.{◌≡◌, ◌∷◌, [], List};
+    ghost use Rattle.acpi_base.specs.Draft.{HasRoom, model_behind};
     ghost use Rattle.acpi_base.specs.declared.model.part.Part.{Part};
 
-    /// What one more entry says, behind the others.
-    ///
-    /// Refuses with `AllocError` where a growth is refused.
-    pub(super) fn add(&mut self, part: Part) -> AcpiResult<()>
-        ensures added { OnOk result ((parts : List Part)
-            → model_behind self.new parts ≡ model_behind self.old (part ∷ parts)) }
-        ensures refused { IfErr result (λ e. e ≡ NoMemory) }
+    /// What one more entry says, behind the others. There is room for it.
+    pub(super) fn add(&mut self, part: Part)
+        requires { HasRoom self.old (part ∷ []) }
+        ensures added { (parts : List Part)
+            → model_behind self.new parts ≡ model_behind self.old (part ∷ parts) }
+        ensures room { (parts : List Part)
+            → HasRoom self.old (part ∷ parts) → HasRoom self.new parts }
     {
         match part {
             Part::Processor {
@@ -95,21 +85,19 @@ impl<A: Allocator> Draft<A> {
                     is_ap,
                 };
                 if is_ap {
-                    keep(&mut self.application_processors, processor)
+                    self.application_processors.push_reserved(processor);
                 } else {
                     self.boot_processor = Some(processor);
-                    Ok(())
                 }
             }
-            Part::IoApic(io_apic) => keep(&mut self.io_apics, io_apic),
-            Part::Override(wiring) => keep(&mut self.overrides, wiring),
-            Part::NmiSource(source) => keep(&mut self.nmi_sources, source),
-            Part::NmiLine(line) => keep(&mut self.nmi_lines, line),
+            Part::IoApic(io_apic) => self.io_apics.push_reserved(io_apic),
+            Part::Override(wiring) => self.overrides.push_reserved(wiring),
+            Part::NmiSource(source) => self.nmi_sources.push_reserved(source),
+            Part::NmiLine(line) => self.nmi_lines.push_reserved(line),
             Part::LocalApicAddress(address) => {
                 self.local_apic_address = address;
-                Ok(())
             }
-            Part::Wakeup => Ok(()),
+            Part::Wakeup => {}
         }
     }
 

@@ -1,6 +1,7 @@
 //! The walks along the entries: one for the first fault, one to count, one to gather.
 ghost use Rattle.std.specs.Prelude.{◌≡◌, IfOk, IfErr};
 ghost use Rattle.acpi_base.specs.Model.{fault_of, gathered, model_with, parts_of, AsksMemory, GivesOrFull};
+ghost use Rattle.acpi_base.specs.Parts.{counts_of};
 ghost use Rattle.acpi_base.specs.declared.error.AcpiError.TheVariants.{AllocError as NoMemory};
 
 use super::counts::Counts;
@@ -30,7 +31,7 @@ fn fault_of(table: &[u8]) -> Option<MadtError>
     None
 }
 
-/// The model of APICs, with room for what is counted.
+/// The model of APICs, with room for just what is counted.
 ///
 /// Refuses with `AllocError` where a growth is refused, or a clone of the allocator.
 fn gather<A: Allocator + Clone>(
@@ -39,12 +40,13 @@ fn gather<A: Allocator + Clone>(
     counts: Counts,
     allocator: A,
 ) -> AcpiResult<(InterruptModel<A>, Option<ProcessorInfo<A>>)>
+    requires { counts ≡ counts_of (parts_of table.now) }
     ensures gathered { IfOk result (λ m. m ≡ gathered madt.now (parts_of table.now)) }
     ensures refused { IfErr result (λ e. e ≡ NoMemory) }
 {
     let mut draft = Draft::with_room(madt, counts, allocator)?;
     for part in Parts::over(table) {
-        draft.add(part)?;
+        draft.add(part);
     }
     Ok(draft.finish())
 }

@@ -1,10 +1,10 @@
 use Rattle.std.proofs.Common.{◌≡◌}
-use Rattle.acpi_base.specs.Draft.{model_behind}
+use Rattle.acpi_base.specs.Draft.{HasRoom, model_behind}
 use Rattle.acpi_base.specs.Model.{gathered, parts_of}
 use Rattle.acpi_base.specs.Parts.{parts_left}
 use Rattle.acpi_base.proofs.model.gather.gather.Given as goal
 
--- what is gathered and what is left are the whole
+-- what is gathered and what is left are the whole, and there is room for what is left
 abbrev pub invariant-loop-part : goal.invariant-loop-part
 invariant-loop-part g l =
-    model_behind l.draft (parts_left l.part-iterator) ≡ gathered l.madt (parts_of l.table)
+    (model_behind l.draft (parts_left l.part-iterator) ≡ gathered l.madt (parts_of l.table)) × HasRoom l.draft (parts_left l.part-iterator)
