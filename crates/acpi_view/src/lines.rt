@@ -1,14 +1,19 @@
 //! The lines that the program prints.
 
+mod platform;
+
 use acpi::bgrt::Bgrt;
 use acpi::fadt::Fadt;
 use acpi::madt::Madt;
 use acpi::{AcpiError, AcpiHandler, AcpiTable, AcpiTables, AmlTable};
+use platform::print_platform;
+use std::alloc::Global;
 use std::io;
 use std::io::Write;
 
 /// Prints each part of the tables.
 pub(crate) fn print_parts<H: AcpiHandler, W: Write>(
+    alloc: Global,
     tables: &AcpiTables<'_, H>,
     out: &mut W,
 ) -> io::Result<()> {
@@ -16,6 +21,7 @@ pub(crate) fn print_parts<H: AcpiHandler, W: Write>(
     print_headers(tables, out)?;
     print_dsdt(tables, out)?;
     print_ssdts(tables, out)?;
+    print_platform(alloc, tables, out)?;
     print_bgrt(tables, out)
 }
 

@@ -25,7 +25,8 @@ const BUFFERED: usize = 32768;
 /// Faults are found in this order: words that are no command, a file that can't be read, what
 /// `MemoryImage::from_bytes` refuses, and what opening the root table refuses. A write that is
 /// refused ends it with status 1, and so does memory that is refused for gathering what is written;
-/// each output then has a front of what it would have got.
+/// each output then has a front of what it would have got. Memory that is refused for the platform
+/// ends nothing: that part is refused, as `platform: AllocError`.
 pub fn run<W: Write, E: Write>(
     alloc: Global,
     words: &[&str],
@@ -77,7 +78,7 @@ fn print_all<W: Write, E: Write>(
         return refuse("Unreadable", err);
     };
     match MemoryImage::from_bytes(alloc, bytes) {
-        Ok(image) => print_image(&image, command, out, err),
+        Ok(image) => print_image(alloc, &image, command, out, err),
         Err(refusal) => refuse(refusal, err),
     }
 }
@@ -92,6 +93,7 @@ fn refuse<D: Display + Drop, E: Write>(refusal: D, err: &mut E) -> io::Result<u8
 
 /// Prints what the tables in a memory say, and answers the status.
 fn print_image<H: AcpiHandler, W: Write, E: Write>(
+    alloc: Global,
     handler: &H,
     command: Command,
     out: &mut W,
@@ -101,7 +103,7 @@ fn print_image<H: AcpiHandler, W: Write, E: Write>(
 {
     match open(handler, command) {
         Ok(tables) => {
-            print_parts(&tables, out)?;
+            print_parts(alloc, &tables, out)?;
             print_skipped_tables(&tables, err)?;
             Ok(0)
         }

@@ -66,6 +66,7 @@ fn searches_the_bios_areas(rt: HostRuntime) -> Result<(), Fail> {
         "revision 0\n",
         "table BGRT length 56 revision 0\n",
         "dsdt: TableMissing FACP\n",
+        "platform: TableMissing FACP\n",
         "bgrt displayed yes angle 180 offset 0 0\n",
     );
     let words = ["some.image", "bios"];
