@@ -5,6 +5,7 @@
 ghost use Rattle.std.specs.Prelude.{◌+◌, ◌≤◌, length};
 
 mod parts;
+mod platform;
 mod refusals;
 mod words;
 mod writes;
