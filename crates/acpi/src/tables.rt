@@ -290,6 +290,7 @@ impl<'h, H: AcpiHandler> AcpiTables<'h, H> {
     {
         TableFaults::new(self.root.handler(), self.pointers())
     }
+
     /// `PlatformInfo::new` over these tables.
     pub fn platform_info(&self, alloc: Global) -> AcpiResult<PlatformInfo<Global>>
         ensures { GivesOrFull (AsksMemory (memory_of self.now) (pointers_of self.now)) result

@@ -145,6 +145,7 @@ impl<'h, H: AcpiHandler> PhysicalMapping<'h, H, Madt> {
     {
         mailbox_address(self.bytes())
     }
+
     /// The interrupt model that the entries describe, and the processors, where there are any. It is
     /// `Unknown`, without processors, where no entry is of APICs; no memory is then asked for.
     ///

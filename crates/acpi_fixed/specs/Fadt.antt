@@ -46,8 +46,9 @@ fadt_at b = record {
 
 -- ---- what calls answer
 
-abbrev pub profile_of : Fadt → PowerProfile
-profile_of f = let code = f.preferred_pm_profile in
+-- the profile of a code
+abbrev pub profile_for : ℕ → PowerProfile
+profile_for code =
     if code == 0 then profiles.Unspecified
     else if code == 1 then profiles.Desktop
     else if code == 2 then profiles.Mobile
@@ -58,6 +59,10 @@ profile_of f = let code = f.preferred_pm_profile in
     else if code == 7 then profiles.PerformanceServer
     else if code == 8 then profiles.Tablet
     else profiles.Reserved code
+
+-- what the machine is for
+abbrev pub profile_of : Fadt → PowerProfile
+profile_of f = profile_for f.preferred_pm_profile
 
 abbrev pub facs_address_of : Fadt → Result ℕ AcpiError
 facs_address_of f = address_or refusal.InvalidFacsAddress f.x_firmware_ctrl f.firmware_ctrl

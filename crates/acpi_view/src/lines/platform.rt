@@ -1,7 +1,6 @@
 //! The lines of the platform.
-ghost use Rattle.std.specs.Prelude.{◌≡◌};
-ghost use Rattle.acpi_fixed.specs.Fadt.{profile_of};
-ghost use Rattle.acpi_fixed.specs.declared.fadt.Fadt.{Fadt};
+ghost use Rattle.std.specs.Prelude.{◌≡◌, ℕ};
+ghost use Rattle.acpi_fixed.specs.Fadt.{profile_for};
 
 use super::print_refused;
 use acpi::platform::interrupt::{
@@ -39,8 +38,8 @@ fn print_info<W: Write>(platform: &PlatformInfo<Global>, out: &mut W) -> io::Res
 
 /// The number that a FADT has for a profile.
 fn profile_number(profile: PowerProfile) -> u8
-    // So the number of what was read from a byte is that byte.
-    ensures { (f : Fadt) → profile_of f ≡ profile → result ≡ f.preferred_pm_profile }
+    // A profile is read from no other number.
+    ensures { (code : ℕ) → profile_for code ≡ profile → result ≡ code }
 {
     match profile {
         PowerProfile::Unspecified => 0,
