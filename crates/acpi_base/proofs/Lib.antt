@@ -9,6 +9,7 @@ pub mod MadtCounts
 pub mod Numbers
 pub mod OneRegion
 pub mod Orders
+pub mod Regions
 pub mod Spelling
 pub mod Steps
 pub mod Zeros

@@ -17,6 +17,7 @@ pub mod Madt
 pub mod MadtEntries
 pub mod MadtWalk
 pub mod Mapping
+pub mod Mcfg
 pub mod Memory
 pub mod Model
 pub mod Names

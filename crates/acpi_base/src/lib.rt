@@ -15,6 +15,7 @@ pub mod laws;
 pub mod madt;
 pub mod managed_slice;
 pub mod mapping;
+pub mod mcfg;
 pub mod model;
 pub mod sdt;
 pub mod signature;

@@ -47,7 +47,7 @@ impl<T: Clone + Drop> ManagedSlice<T, Global> {
 
 impl<T, A: Allocator> ManagedSlice<T, A> {
     /// The items of a vector, with the memory that they lie in.
-    pub(crate) fn of(items: Vec<T, A>) -> ManagedSlice<T, A>
+    pub fn from_vec(items: Vec<T, A>) -> ManagedSlice<T, A>
         ensures { result ≡ items.items }
     {
         ManagedSlice { items }

@@ -115,7 +115,7 @@ impl<A: Allocator> Draft<A> {
             boot_processor,
             application_processors,
         } = self;
-        let application_processors = ManagedSlice::of(application_processors);
+        let application_processors = ManagedSlice::from_vec(application_processors);
         let processors = match boot_processor {
             Some(boot_processor) => Some(ProcessorInfo {
                 boot_processor,
@@ -125,10 +125,10 @@ impl<A: Allocator> Draft<A> {
         };
         let apic = Apic {
             local_apic_address,
-            io_apics: ManagedSlice::of(io_apics),
-            local_apic_nmi_lines: ManagedSlice::of(nmi_lines),
-            interrupt_source_overrides: ManagedSlice::of(overrides),
-            nmi_sources: ManagedSlice::of(nmi_sources),
+            io_apics: ManagedSlice::from_vec(io_apics),
+            local_apic_nmi_lines: ManagedSlice::from_vec(nmi_lines),
+            interrupt_source_overrides: ManagedSlice::from_vec(overrides),
+            nmi_sources: ManagedSlice::from_vec(nmi_sources),
             also_has_legacy_pics: has_legacy_pics,
         };
         (InterruptModel::Apic(apic), processors)

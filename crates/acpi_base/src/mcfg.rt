@@ -1,0 +1,154 @@
+//! Where the configuration space of PCI devices lies in memory.
+
+use crate::bytes::{field, skip};
+use crate::error::AcpiResult;
+use crate::handler::{AcpiHandler, PhysicalRecord};
+use crate::mapping::PhysicalMapping;
+use crate::sdt::SdtHeader;
+use crate::signature::Signature;
+use crate::table::AcpiTable;
+
+/// The MCFG, whose signature section 5.2.6 reserves and whose layout is the PCI Firmware
+/// Specification's: regions of memory, each with the configuration space of some buses. Its entries
+/// stand behind 44 fixed bytes; a mapping of it gives them.
+#[derive(Drop)]
+pub struct Mcfg {
+    header: SdtHeader,
+}
+
+impl PhysicalRecord for Mcfg {
+    ghost use Rattle.acpi_base.specs.Mcfg.{mcfg_at};
+
+    const MIN_LENGTH: usize = 44;
+
+    ghost MIN_LENGTH = { 44 };
+
+    ghost reading = { mcfg_at };
+
+    #[tactic(auto, unfolding(crate::specs::Mcfg::mcfg_at))]
+    fn read(bytes: &[u8]) -> Self {
+        Mcfg {
+            header: SdtHeader::read(bytes),
+        }
+    }
+}
+
+impl AcpiTable for Mcfg {
+    ghost use Rattle.std.proofs.Common.{lit≤};
+    ghost use Rattle.acpi_base.specs.Header.{check_table};
+    ghost use Rattle.acpi_base.specs.declared.signature.TheConstants.Signature.{MCFG};
+
+    const SIGNATURE: Signature = Signature::MCFG;
+
+    ghost SIGNATURE = { MCFG };
+
+    ghost verdict = { check_table MCFG };
+
+    #[tactic(auto, unfolding(crate::specs::Mcfg::mcfg_at))]
+    fn header(&self) -> &SdtHeader {
+        &self.header
+    }
+
+    fn validate(&self, bytes: &[u8]) -> AcpiResult<()> {
+        self.header().validate(Self::SIGNATURE, bytes)
+    }
+
+    ghost least = { lit≤ tt };
+}
+
+/// A region with the configuration space of the buses of one segment group, from the first to the
+/// last. It holds no bus where the last is under the first.
+#[derive(Clone, Copy, Debug)]
+pub struct McfgEntry {
+    /// The physical address of the first bus's configuration space.
+    pub base_address: u64,
+    /// The segment group.
+    pub pci_segment_group: u16,
+    /// The first bus.
+    pub bus_number_start: u8,
+    /// The last bus.
+    pub bus_number_end: u8,
+}
+
+impl PhysicalRecord for McfgEntry {
+    ghost use Rattle.acpi_base.specs.Mcfg.{mcfg_entry_at};
+
+    const MIN_LENGTH: usize = 16;
+
+    ghost MIN_LENGTH = { 16 };
+
+    ghost reading = { mcfg_entry_at };
+
+    fn read(bytes: &[u8]) -> Self {
+        McfgEntry {
+            base_address: field(bytes, 0, 8),
+            pci_segment_group: field(bytes, 8, 2) as u16,
+            bus_number_start: field(bytes, 10, 1) as u8,
+            bus_number_end: field(bytes, 11, 1) as u8,
+        }
+    }
+}
+
+/// The entries of an MCFG, in order. A rest that is shorter than an entry is none.
+#[derive(Debug, Drop)]
+pub struct McfgEntryIter<'a> {
+    rest: &'a [u8],
+}
+
+impl<'a> McfgEntryIter<'a> {
+    ghost use Rattle.std.specs.Prelude.{◌≡◌, length};
+    ghost use Rattle.acpi_base.specs.Mcfg.{regions_left, regions_of};
+
+    /// The entries of an MCFG's bytes: those behind its 44 fixed ones. It knows no memory and no
+    /// handler.
+    pub fn over(table: &'a [u8]) -> Self
+        ensures { regions_left result ≡ regions_of table.now }
+    {
+        McfgEntryIter {
+            rest: skip(table, Mcfg::MIN_LENGTH),
+        }
+    }
+}
+
+impl Iterator for McfgEntryIter<'_> {
+    ghost use Rattle.std.specs.Iterator.{YieldsFirst, item_count};
+    ghost use Rattle.acpi_base.specs.Mcfg.{regions_left};
+
+    type Item = McfgEntry;
+
+    ghost next_gives = { YieldsFirst (λ s. regions_left s) };
+
+    ghost remaining = { item_count (λ s. regions_left s) };
+
+    fn next(&mut self) -> Option<McfgEntry> {
+        if self.rest.len() < McfgEntry::MIN_LENGTH {
+            return None;
+        }
+        let entry = McfgEntry::read(self.rest);
+        self.rest = &self.rest[McfgEntry::MIN_LENGTH..];
+        Some(entry)
+    }
+}
+
+impl ExactSizeIterator for McfgEntryIter<'_> {
+    /// How many are left.
+    #[tactic(auto, using(crate::proofs::Regions::length_whole_regions))]
+    fn len(&self) -> usize {
+        self.rest.len() / McfgEntry::MIN_LENGTH
+    }
+}
+
+impl<'h, H: AcpiHandler> PhysicalMapping<'h, H, Mcfg> {
+    ghost use Rattle.std.specs.Prelude.{◌≡◌, ◌-◌, ◌/◌, length};
+    ghost use Rattle.acpi_base.specs.Mapping.{bytes_of};
+    ghost use Rattle.acpi_base.specs.Mcfg.{regions_left, regions_of};
+
+    /// The table's entries, in order: as many as there are whole ones behind the 44 fixed bytes.
+    #[tactic(auto, using(crate::proofs::Regions::length_regions_of))]
+    pub fn entries(&self) -> McfgEntryIter<'_>
+        ensures items { regions_left result ≡ regions_of (bytes_of self.now) }
+        ensures count { length (regions_left result) ≡ (length (bytes_of self.now) - 44) / 16 }
+    {
+        McfgEntryIter::over(self.bytes())
+    }
+}
