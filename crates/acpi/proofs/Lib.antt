@@ -4,6 +4,7 @@ pub mod Least
 pub mod Passed
 pub mod Pieces
 pub mod Rooted
+pub mod Places
 pub mod Spelled
 pub mod Texts
 pub mod Timers

@@ -1,8 +1,10 @@
+pub mod Hpet
 pub mod Later
 pub mod Laws
 pub mod Lists
 pub mod Lookup
 pub mod Opened
+pub mod Pci
 pub mod Platform
 pub mod Pointers
 pub mod Root

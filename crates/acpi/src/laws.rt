@@ -4,6 +4,7 @@ ghost use Rattle.std.specs.Prelude.{◌≡◌, IfOk};
 ghost use Rattle.acpi_base.specs.Equality.{IsEquality};
 ghost use Rattle.acpi.specs.Laws.{LookupIsFirst, OnePointers, SecondAreas, SkipsInvalid};
 
+use crate::hpet::PageProtection;
 use crate::platform::{PlatformInfo, PmTimer};
 use crate::records::{AmlTable, Sdt, TableFault};
 use std::alloc::{AllocError, Allocator};
@@ -52,6 +53,13 @@ pub fn sdt_equality(a: &Sdt, b: &Sdt) -> bool
 
 /// Timers are equal exactly where their fields are.
 pub fn pm_timer_equality(a: &PmTimer, b: &PmTimer) -> bool
+    ensures { IsEquality result a.now b.now }
+{
+    a == b
+}
+
+/// Page protections compare as equal exactly where they are one.
+pub fn protection_equality(a: &PageProtection, b: &PageProtection) -> bool
     ensures { IsEquality result a.now b.now }
 {
     a == b

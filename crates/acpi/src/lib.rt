@@ -7,7 +7,9 @@
 mod faults;
 pub mod handler;
 mod headers;
+pub mod hpet;
 pub mod laws;
+pub mod mcfg;
 pub mod platform;
 mod pointers;
 mod records;
@@ -25,6 +27,8 @@ pub use acpi_fixed::fadt::PowerProfile;
 pub use acpi_fixed::{bgrt, fadt};
 pub use faults::TableFaults;
 pub use headers::SdtHeaderIterator;
+pub use hpet::HpetInfo;
+pub use mcfg::PciConfigRegions;
 pub use platform::PlatformInfo;
 pub use platform::interrupt::InterruptModel;
 pub use records::{AmlTable, Sdt, TableFault};

@@ -1,0 +1,61 @@
+-- Functions of one region lie apart.
+use Rattle.std.proofs.Common.{◌≡◌, ℕ, ◌+◌, ◌-◌, ◌*◌, ◌^◌, ◌≤◌, ◌<◌, List, [], ◌∷◌, Bool, true, false, sym, refl, arith}
+use Rattle.std.specs.Prelude.{find, Option, Some, None, IfSome, if◌then◌else◌, nat_lt, ◌&&◌, option_and_then}
+use Rattle.std.proofs.lemmas.Bool.Decides.{nat_tests}
+use Rattle.acpi_base.specs.declared.mcfg.McfgEntry.{McfgEntry}
+use Rattle.acpi.specs.Pci.{IsApart, address_in, is_of, pci_address, place_in, region_of}
+
+-- what was found passes the test
+found : {X : Type 0} (p : X → Bool) (xs : List X) (e : X) → find p xs ≡ Some e → p e ≡ true
+found p [] e here = cc
+found p (x ∷ xs) e here =
+    (elim (p x) as (λ b. b ≡ p x → (if b then Some x else find p xs) ≡ Some e → p e ≡ true) [ true ↦ λ is same. let at : x ≡ e = cc in cc | false ↦ λ is later. found p xs e later ]) refl here
+
+-- two near places in a region
+one_place : (base s b d f bus dev fn : ℕ) → s ≤ b → s ≤ bus → d < 32 → f < 8 → dev < 32 → fn < 8 → base + (bus - s) * 1048576 + dev * 32768 + fn * 4096 < base + (b - s) * 1048576 + d * 32768 + f * 4096 + 4096 → base + (b - s) * 1048576 + d * 32768 + f * 4096 < base + (bus - s) * 1048576 + dev * 32768 + fn * 4096 + 4096 → (b ≡ bus) × (d ≡ dev) × (f ≡ fn)
+one_place base s b d f bus dev fn h1 h2 h3 h4 h5 h6 h7 h8 = (omega arith, omega arith, omega arith)
+
+-- what an address tells of its function, in a region
+pub record Told (e : McfgEntry) (bus device function a : ℕ) : Type 0 where
+  pub small_device : device < 32
+  pub small_function : function < 8
+  pub at : place_in e bus device function ≡ a
+
+device_told : (p d f a : ℕ) → (if nat_lt d 32 && nat_lt f 8 then (if nat_lt p (2 ^ 64) then Some p else None) else None) ≡ Some a → d < 32
+device_told p d f a h = grind (arith, nat_tests)
+
+function_told : (p d f a : ℕ) → (if nat_lt d 32 && nat_lt f 8 then (if nat_lt p (2 ^ 64) then Some p else None) else None) ≡ Some a → f < 8
+function_told p d f a h = grind (arith, nat_tests)
+
+place_told : (p d f a : ℕ) → (if nat_lt d 32 && nat_lt f 8 then (if nat_lt p (2 ^ 64) then Some p else None) else None) ≡ Some a → p ≡ a
+place_told p d f a h = grind (arith, nat_tests)
+
+none_told : (b : Bool) (o : Option McfgEntry) (bus d f a : ℕ) → o ≡ None → (if b then option_and_then (address_in bus d f) o else None) ≡ Some a → Unit {0} → ⊥
+none_told true o bus d f a e h u = let gone : option_and_then (address_in bus d f) None ≡ Some a = rw e at h in cc
+none_told false o bus d f a e h u = cc
+
+low : (e : McfgEntry) (segment bus : ℕ) → is_of segment bus e ≡ true → e.bus_number_start ≤ bus
+low e segment bus h = grind (arith, nat_tests)
+
+near : (o : Option McfgEntry) (regions : List McfgEntry) (segment bus d f a b d' f' a' : ℕ) → find (is_of segment bus) regions ≡ o → find (is_of segment b) regions ≡ o
+    → (if nat_lt d 32 && nat_lt f 8 then option_and_then (address_in bus d f) o else None) ≡ Some a
+    → (if nat_lt d' 32 && nat_lt f' 8 then option_and_then (address_in b d' f') o else None) ≡ Some a'
+    → a < a' + 4096 → a' < a + 4096 → (b ≡ bus) × (d' ≡ d) × (f' ≡ f)
+near None regions segment bus d f a b d' f' a' here there one two above below = absurd (none_told (nat_lt d 32 && nat_lt f 8) None bus d f a refl one tt)
+near (Some e) regions segment bus d f a b d' f' a' here there one two above below =
+    let s = e.bus_number_start in
+    let p = place_in e bus d f in
+    let q = place_in e b d' f' in
+    let pa : p ≡ a = place_told p d f a one in
+    let qa : q ≡ a' = place_told q d' f' a' two in
+    one_place e.base_address s b d' f' bus d f
+    (low e segment b (found (is_of segment b) regions e there)) (low e segment bus (found (is_of segment bus) regions e here))
+    (device_told q d' f' a' two) (function_told q d' f' a' two) (device_told p d f a one) (function_told p d f a one) (omega arith) (omega arith)
+
+pub apart : (regions : List McfgEntry) (segment bus d f a : ℕ) → pci_address regions segment bus d f ≡ Some a → IsApart regions segment bus d f a
+unfolding pci_address region_of
+apart regions segment bus d f a one = λ b d' f' a' same two above below. near (find (is_of segment bus) regions) regions segment bus d f a b d' f' a' refl same one (rw same at two) above below
+
+pub if_apart : (o : Option ℕ) (regions : List McfgEntry) (segment bus d f : ℕ) → o ≡ pci_address regions segment bus d f → IfSome o (IsApart regions segment bus d f)
+if_apart None regions segment bus d f is = tt
+if_apart (Some a) regions segment bus d f is = apart regions segment bus d f a (sym is)

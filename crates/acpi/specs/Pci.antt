@@ -1,0 +1,77 @@
+-- Where the configuration space of a PCI function lies.
+use Rattle.std.specs.Prelude.{◌≡◌, ℕ, ◌+◌, ◌-◌, ◌*◌, ◌^◌, ◌<◌, ◌==◌, ◌&&◌, Bool, false, List, map, find, nat_le, nat_lt, Option, Some, None, option_and_then, Result, Ok, IsOk, if◌then◌else◌}
+use Rattle.acpi_base.specs.Header.{check_table}
+use Rattle.acpi_base.specs.Mcfg.{regions_of}
+use Rattle.acpi_base.specs.Memory.{Memory}
+use Rattle.acpi_base.specs.Steps.{◌>>=◌}
+use Rattle.acpi_base.specs.Table.{Kind, kind}
+use Rattle.acpi_base.specs.declared.error.AcpiError.{AcpiError}
+use Rattle.acpi_base.specs.declared.mcfg.McfgEntry.{McfgEntry}
+use Rattle.acpi_base.specs.declared.signature.TheConstants.Signature.{MCFG}
+use Rattle.acpi.specs.Lookup.{lookup}
+use Rattle.acpi.specs.declared.mcfg.PciConfigEntry.{PciConfigEntry}
+use Rattle.acpi.specs.declared.mcfg.PciConfigEntryIterator.{PciConfigEntryIterator}
+
+abbrev pub mcfg_kind : Kind
+mcfg_kind = kind MCFG 44 (check_table MCFG)
+
+-- the regions of the first valid MCFG
+abbrev pub found_regions : Memory → List ℕ → Result (List McfgEntry) AcpiError
+found_regions m ps = do
+  found ← lookup m mcfg_kind ps
+  Ok (regions_of found.1)
+
+-- memory is asked for only where an MCFG is found
+abbrev pub HasMcfg : Memory → List ℕ → Type 0
+HasMcfg m ps = IsOk (lookup m mcfg_kind ps)
+
+-- the region is of this segment group and holds this bus
+abbrev pub is_of : ℕ → ℕ → McfgEntry → Bool
+is_of segment bus e =
+    e.pci_segment_group == segment
+    && (nat_le e.bus_number_start bus && nat_le bus e.bus_number_end)
+
+-- the first region of this segment group that holds this bus
+unfoldable pub region_of : List McfgEntry → ℕ → ℕ → Option McfgEntry
+region_of regions segment bus = find (is_of segment bus) regions
+
+-- a function's place in a region
+abbrev pub place_in : McfgEntry → ℕ → ℕ → ℕ → ℕ
+place_in e bus device function =
+    e.base_address + (bus - e.bus_number_start) * 2 ^ 20 + device * 2 ^ 15 + function * 2 ^ 12
+
+-- that place, where it is an address
+abbrev pub address_in : ℕ → ℕ → ℕ → McfgEntry → Option ℕ
+address_in bus device function e =
+    if nat_lt (place_in e bus device function) (2 ^ 64) then Some (place_in e bus device function)
+    else None
+
+-- the address of a function, of which a bus has 32 devices of 8
+unfoldable pub pci_address : List McfgEntry → ℕ → ℕ → ℕ → ℕ → Option ℕ
+pci_address regions segment bus device function =
+    if nat_lt device 32 && nat_lt function 8
+    then option_and_then (address_in bus device function) (region_of regions segment bus)
+    else None
+
+-- a function of the same region whose address is less than 4096 from this one is this one
+abbrev pub IsApart : List McfgEntry → ℕ → ℕ → ℕ → ℕ → ℕ → Type 0
+IsApart regions segment bus device function address =
+    (b d f a : ℕ) → region_of regions segment b ≡ region_of regions segment bus
+    → pci_address regions segment b d f ≡ Some a
+    → address < a + 4096 → a < address + 4096
+    → (b ≡ bus) × (d ≡ device) × (f ≡ function)
+
+-- a region, as a caller sees it
+abbrev pub shown_of : McfgEntry → PciConfigEntry
+shown_of e = record {
+  segment_group = e.pci_segment_group;
+  bus_range = record { start = e.bus_number_start; end = e.bus_number_end; exhausted = false };
+  physical_address = e.base_address;
+}
+
+-- the regions still to come
+abbrev pub entries_left : PciConfigEntryIterator → List McfgEntry
+entries_left s = s.regions.now
+
+abbrev pub shown_left : PciConfigEntryIterator → List PciConfigEntry
+shown_left s = map shown_of (entries_left s)

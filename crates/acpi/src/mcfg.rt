@@ -1,0 +1,183 @@
+//! Where the configuration space of a PCI function lies.
+ghost use Rattle.std.specs.Prelude.{◌≡◌, ◌≤◌, List, IfOk, IfSome};
+ghost use Rattle.acpi_base.specs.Mcfg.{regions_left};
+ghost use Rattle.acpi.specs.Pci.{IsApart, is_of, pci_address, region_of};
+ghost use Rattle.acpi_base.specs.declared.mcfg.McfgEntry.{McfgEntry};
+
+use crate::tables::AcpiTables;
+use acpi_base::managed_slice::ManagedSlice;
+pub use acpi_base::mcfg::{Mcfg, McfgEntry, McfgEntryIter};
+use acpi_base::{AcpiHandler, AcpiResult};
+use std::alloc::{AllocError, Allocator, Global};
+use std::marker::Model;
+use std::ops::RangeInclusive;
+
+/// The regions of memory that hold the configuration space of PCI functions, each of them that of
+/// some buses of a segment group.
+#[derive(Drop)]
+pub struct PciConfigRegions<A: Allocator> {
+    regions: ManagedSlice<McfgEntry, A>,
+}
+
+/// In contracts it is the list of its regions.
+impl<A: Allocator> Model for PciConfigRegions<A> {
+    ghost Value = { List McfgEntry };
+
+    ghost view = { λ r. r.regions };
+}
+
+impl PciConfigRegions<Global> {
+    ghost use Rattle.acpi_base.specs.Model.{GivesOrFull};
+    ghost use Rattle.acpi.specs.Pci.{HasMcfg, found_regions};
+    ghost use Rattle.acpi.specs.Tables.{memory_of, pointers_of};
+
+    /// `new_in` over the global allocator.
+    pub fn new<H: AcpiHandler>(alloc: Global, tables: &AcpiTables<'_, H>) -> AcpiResult<Self>
+        ensures { GivesOrFull (HasMcfg (memory_of tables.now) (pointers_of tables.now)) result
+            (found_regions (memory_of tables.now) (pointers_of tables.now)) }
+    {
+        PciConfigRegions::new_in(tables, alloc)
+    }
+}
+
+impl<A: Allocator> PciConfigRegions<A> {
+    ghost use Rattle.std.specs.Prelude.{◌≡◌, IfSome};
+    ghost use Rattle.acpi_base.specs.Model.{GivesOrFull};
+    ghost use Rattle.acpi.specs.Pci.{HasMcfg, IsApart, entries_left, found_regions, pci_address};
+    ghost use Rattle.acpi.specs.Tables.{memory_of, pointers_of};
+
+    /// The regions of the first valid MCFG, in the order of the table.
+    ///
+    /// Refuses with `TableMissing` where no valid MCFG is listed, and with `AllocError` where a growth
+    /// is refused.
+    pub fn new_in<H: AcpiHandler>(tables: &AcpiTables<'_, H>, allocator: A) -> AcpiResult<Self>
+        ensures { GivesOrFull (HasMcfg (memory_of tables.now) (pointers_of tables.now)) result
+            (found_regions (memory_of tables.now) (pointers_of tables.now)) }
+    {
+        let mcfg = tables.find_table::<Mcfg>()?;
+        let regions = collected(mcfg.entries(), allocator)?;
+        Ok(PciConfigRegions {
+            regions: ManagedSlice::from_vec(regions),
+        })
+    }
+
+    /// The physical address of a function's configuration space: in the first region of the segment
+    /// group that holds the bus, its base, 2^20 for each bus behind the region's first, 2^15 for
+    /// each device and 2^12 for each function.
+    ///
+    /// It is `None` where no region holds the bus, where the device is above 31 or the function
+    /// above 7, and where the sum is 2^64 or more; no later region is then tried. Of the 4096 bytes
+    /// of configuration space only the first is promised to lie below 2^64. A base is taken as it is,
+    /// aligned or not.
+    pub fn physical_address(
+        &self,
+        segment_group_no: u16,
+        bus: u8,
+        device: u8,
+        function: u8,
+    ) -> Option<u64>
+        ensures value { result ≡ pci_address self.now segment_group_no bus device function }
+        // Functions of one region lie at least 4096 bytes apart.
+        ensures apart { IfSome result (IsApart self.now segment_group_no bus device function) }
+    {
+        self.address_of(segment_group_no, bus, device, function)
+    }
+
+    #[tactic(auto, unfolding(crate::specs::Pci::pci_address))]
+    fn address_of(&self, segment: u16, bus: u8, device: u8, function: u8) -> Option<u64>
+        ensures { result ≡ pci_address self.now segment bus device function }
+    {
+        if device > 31 || function > 7 {
+            return None;
+        }
+        let region = region_for(self.regions.as_slice(), segment, bus)?;
+        let offset = (u64::from(bus - region.bus_number_start) << 20)
+            + (u64::from(device) << 15)
+            + (u64::from(function) << 12);
+        region.base_address.checked_add(offset)
+    }
+
+    /// Each region once, in the order of the table, those that hold no bus among them.
+    pub fn iter(&self) -> PciConfigEntryIterator<'_>
+        ensures { entries_left result ≡ self.now }
+    {
+        PciConfigEntryIterator {
+            regions: self.regions.as_slice(),
+        }
+    }
+}
+
+/// The entries, in memory of an allocator, which is asked for once.
+fn collected<A: Allocator>(
+    entries: McfgEntryIter<'_>,
+    allocator: A,
+) -> Result<Vec<McfgEntry, A>, AllocError>
+    ensures { IfOk result (λ v. v.items ≡ regions_left entries.entry) }
+{
+    let mut regions = Vec::with_capacity(allocator, entries.len())?;
+    for entry in entries {
+        regions.push(entry)?;
+    }
+    Ok(regions)
+}
+
+/// The first region of a segment group that holds a bus.
+#[tactic(auto, unfolding(crate::specs::Pci::region_of))]
+fn region_for(regions: &[McfgEntry], segment: u16, bus: u8) -> Option<McfgEntry>
+    ensures found { result ≡ region_of regions.now segment bus }
+    ensures holds { IfSome result (λ e. (e.bus_number_start ≤ bus) × (bus ≤ e.bus_number_end)) }
+{
+    for region in regions {
+        if is_of(region, segment, bus) {
+            return Some(*region);
+        }
+    }
+    None
+}
+
+/// Whether a region is of a segment group and holds a bus.
+fn is_of(region: &McfgEntry, segment: u16, bus: u8) -> bool
+    ensures { result ≡ is_of segment bus region.now }
+{
+    region.pci_segment_group == segment
+        && region.bus_number_start <= bus
+        && bus <= region.bus_number_end
+}
+
+/// A region of configuration space.
+#[derive(Clone, Debug, Drop)]
+pub struct PciConfigEntry {
+    /// The segment group.
+    pub segment_group: u16,
+    /// Its buses.
+    pub bus_range: RangeInclusive<u8>,
+    /// Where the first bus's configuration space lies.
+    pub physical_address: u64,
+}
+
+/// The regions of configuration space, in the order of the table.
+#[derive(Clone, Debug, Drop)]
+pub struct PciConfigEntryIterator<'a> {
+    regions: &'a [McfgEntry],
+}
+
+impl Iterator for PciConfigEntryIterator<'_> {
+    ghost use Rattle.std.specs.Iterator.{YieldsFirst, item_count};
+    ghost use Rattle.acpi.specs.Pci.{shown_left};
+
+    type Item = PciConfigEntry;
+
+    ghost next_gives = { YieldsFirst (λ s. shown_left s) };
+
+    ghost remaining = { item_count (λ s. shown_left s) };
+
+    fn next(&mut self) -> Option<PciConfigEntry> {
+        let (first, others) = self.regions.split_first()?;
+        self.regions = others;
+        Some(PciConfigEntry {
+            segment_group: first.pci_segment_group,
+            bus_range: first.bus_number_start..=first.bus_number_end,
+            physical_address: first.base_address,
+        })
+    }
+}
