@@ -1,7 +1,7 @@
 //! Where the configuration space of a PCI function lies.
-ghost use Rattle.std.specs.Prelude.{◌≡◌, ◌≤◌, List, IfOk, IfSome};
+ghost use Rattle.std.specs.Prelude.{◌≡◌, ◌<◌, ◌≤◌, List, IfOk, IfSome};
 ghost use Rattle.acpi_base.specs.Mcfg.{regions_left};
-ghost use Rattle.acpi.specs.Pci.{IsApart, is_of, pci_address, region_of};
+ghost use Rattle.acpi.specs.Pci.{IsApart, address_in, is_of, pci_address, region_of};
 ghost use Rattle.acpi_base.specs.declared.mcfg.McfgEntry.{McfgEntry};
 
 use crate::tables::AcpiTables;
@@ -91,10 +91,7 @@ impl<A: Allocator> PciConfigRegions<A> {
             return None;
         }
         let region = region_for(self.regions.as_slice(), segment, bus)?;
-        let offset = (u64::from(bus - region.bus_number_start) << 20)
-            + (u64::from(device) << 15)
-            + (u64::from(function) << 12);
-        region.base_address.checked_add(offset)
+        address_in(&region, bus, device, function)
     }
 
     /// Each region once, in the order of the table, those that hold no bus among them.
@@ -142,6 +139,19 @@ fn is_of(region: &McfgEntry, segment: u16, bus: u8) -> bool
     region.pci_segment_group == segment
         && region.bus_number_start <= bus
         && bus <= region.bus_number_end
+}
+
+/// A function's place in a region that holds its bus, where that is an address.
+fn address_in(region: &McfgEntry, bus: u8, device: u8, function: u8) -> Option<u64>
+    requires bus { region.now.bus_number_start ≤ bus }
+    requires device { device < 32 }
+    requires function { function < 8 }
+    ensures { result ≡ address_in bus device function region.now }
+{
+    let offset = (u64::from(bus - region.bus_number_start) << 20)
+        + (u64::from(device) << 15)
+        + (u64::from(function) << 12);
+    region.base_address.checked_add(offset)
 }
 
 /// A region of configuration space.
