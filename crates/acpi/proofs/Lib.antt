@@ -1,10 +1,10 @@
 pub mod First
-pub mod Led
 pub mod Least
+pub mod Led
 pub mod Passed
 pub mod Pieces
-pub mod Rooted
 pub mod Places
+pub mod Rooted
 pub mod Spelled
 pub mod Texts
 pub mod Timers

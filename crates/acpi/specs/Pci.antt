@@ -1,5 +1,5 @@
 -- Where the configuration space of a PCI function lies.
-use Rattle.std.specs.Prelude.{◌≡◌, ℕ, ◌+◌, ◌-◌, ◌*◌, ◌^◌, ◌<◌, ◌==◌, ◌&&◌, Bool, false, List, map, find, nat_le, nat_lt, Option, Some, None, option_and_then, Result, Ok, IsOk, if◌then◌else◌}
+use Rattle.std.specs.Prelude.{◌≡◌, ℕ, ◌+◌, ◌-◌, ◌*◌, ◌^◌, ◌<◌, ◌==◌, ◌&&◌, Bool, false, List, map, find, nat_le, nat_lt, Option, Some, None, option_and_then, Result, Ok, ◌∷◌, if◌then◌else◌}
 use Rattle.acpi_base.specs.Header.{check_table}
 use Rattle.acpi_base.specs.Mcfg.{regions_of}
 use Rattle.acpi_base.specs.Memory.{Memory}
@@ -21,9 +21,14 @@ found_regions m ps = do
   found ← lookup m mcfg_kind ps
   Ok (regions_of found.1)
 
--- memory is asked for only where an MCFG is found
-abbrev pub HasMcfg : Memory → List ℕ → Type 0
-HasMcfg m ps = IsOk (lookup m mcfg_kind ps)
+-- some region is found
+abbrev pub SomeRegion : Result (List McfgEntry) AcpiError → Type 0
+SomeRegion (Ok (r ∷ regions)) = Unit {0}
+SomeRegion _ = ⊥
+
+-- memory is asked for only where an MCFG is found that has regions
+abbrev pub RegionsAsk : Memory → List ℕ → Type 0
+RegionsAsk m ps = SomeRegion (found_regions m ps)
 
 -- the region is of this segment group and holds this bus
 abbrev pub is_of : ℕ → ℕ → McfgEntry → Bool

@@ -50,5 +50,5 @@ abbrev pub ModelAsks : Memory → List ℕ → Type 0
 ModelAsks m ps = FoundAsks (lookup m madt_kind ps)
 
 -- memory is asked for only where a FADT is found, and a MADT that describes APICs
-abbrev pub AsksMemory : Memory → List ℕ → Type 0
-AsksMemory m ps = IsOk (lookup m fadt_kind ps) × ModelAsks m ps
+abbrev pub PlatformAsks : Memory → List ℕ → Type 0
+PlatformAsks m ps = IsOk (lookup m fadt_kind ps) × ModelAsks m ps

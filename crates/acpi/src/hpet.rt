@@ -67,16 +67,16 @@ impl AcpiTable for HpetTable {
     ghost least = { lit≤ tt };
 }
 
-/// What the timer's registers share a page of memory with.
+/// Whether the rest of the page may be accessed from the registers' base address on.
 #[derive(Clone, Copy, Debug, PartialEq, Eq)]
 pub enum PageProtection {
     /// Nothing is promised.
     None,
-    /// An access to the rest of the 4 KiB from the base on does no harm.
+    /// The rest of the 4 KiB may be: an access does no harm.
     Protected4K,
-    /// An access to the rest of the 64 KiB from the base on does no harm.
+    /// The rest of the 64 KiB may be.
     Protected64K,
-    /// A code that is reserved.
+    /// Codes 3 to 15, which are reserved.
     Other,
 }
 
@@ -92,7 +92,7 @@ pub struct HpetInfo {
     /// How many ticks of the main counter a periodic timer takes at least, so that no interrupt is
     /// lost.
     pub clock_tick_unit: u16,
-    /// What its registers share a page with.
+    /// Whether the rest of the page may be accessed.
     pub page_protection: PageProtection,
 }
 

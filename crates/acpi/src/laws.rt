@@ -1,6 +1,6 @@
 //! Laws of the definitions, each the contract of a call that does nothing, and of the tests for
 //! equality and the clones.
-ghost use Rattle.std.specs.Prelude.{◌≡◌, IfOk};
+ghost use Rattle.std.specs.Prelude.{◌≡◌, IfOk, Ok};
 ghost use Rattle.acpi_base.specs.Equality.{IsEquality};
 ghost use Rattle.acpi.specs.Laws.{LookupIsFirst, OnePointers, SecondAreas, SkipsInvalid};
 
@@ -65,9 +65,9 @@ pub fn protection_equality(a: &PageProtection, b: &PageProtection) -> bool
     a == b
 }
 
-/// A clone of a timer has its fields.
+/// A timer is cloned without memory, with its fields.
 pub fn pm_timer_clone(timer: &PmTimer) -> Result<PmTimer, AllocError>
-    ensures { IfOk result (λ c. c ≡ timer.now) }
+    ensures { result ≡ Ok timer.now }
 {
     timer.clone()
 }

@@ -1,5 +1,5 @@
 //! Where the configuration space of a PCI function lies.
-ghost use Rattle.std.specs.Prelude.{◌≡◌, ◌<◌, ◌≤◌, List, IfOk, IfSome};
+ghost use Rattle.std.specs.Prelude.{◌≡◌, ◌<◌, ◌≤◌, List, [], IfOk, IfSome, IsOk};
 ghost use Rattle.acpi_base.specs.Mcfg.{regions_left};
 ghost use Rattle.acpi.specs.Pci.{IsApart, address_in, is_of, pci_address, region_of};
 ghost use Rattle.acpi_base.specs.declared.mcfg.McfgEntry.{McfgEntry};
@@ -27,13 +27,13 @@ impl<A: Allocator> Model for PciConfigRegions<A> {
 }
 
 impl PciConfigRegions<Global> {
-    ghost use Rattle.acpi_base.specs.Model.{GivesOrFull};
-    ghost use Rattle.acpi.specs.Pci.{HasMcfg, found_regions};
+    ghost use Rattle.acpi_base.specs.Steps.{GivesOrFull};
+    ghost use Rattle.acpi.specs.Pci.{RegionsAsk, found_regions};
     ghost use Rattle.acpi.specs.Tables.{memory_of, pointers_of};
 
     /// `new_in` over the global allocator.
     pub fn new<H: AcpiHandler>(alloc: Global, tables: &AcpiTables<'_, H>) -> AcpiResult<Self>
-        ensures { GivesOrFull (HasMcfg (memory_of tables.now) (pointers_of tables.now)) result
+        ensures { GivesOrFull (RegionsAsk (memory_of tables.now) (pointers_of tables.now)) result
             (found_regions (memory_of tables.now) (pointers_of tables.now)) }
     {
         PciConfigRegions::new_in(tables, alloc)
@@ -42,8 +42,8 @@ impl PciConfigRegions<Global> {
 
 impl<A: Allocator> PciConfigRegions<A> {
     ghost use Rattle.std.specs.Prelude.{◌≡◌, IfSome};
-    ghost use Rattle.acpi_base.specs.Model.{GivesOrFull};
-    ghost use Rattle.acpi.specs.Pci.{HasMcfg, IsApart, entries_left, found_regions, pci_address};
+    ghost use Rattle.acpi_base.specs.Steps.{GivesOrFull};
+    ghost use Rattle.acpi.specs.Pci.{RegionsAsk, IsApart, entries_left, found_regions, pci_address};
     ghost use Rattle.acpi.specs.Tables.{memory_of, pointers_of};
 
     /// The regions of the first valid MCFG, in the order of the table.
@@ -51,7 +51,7 @@ impl<A: Allocator> PciConfigRegions<A> {
     /// Refuses with `TableMissing` where no valid MCFG is listed, and with `AllocError` where a growth
     /// is refused.
     pub fn new_in<H: AcpiHandler>(tables: &AcpiTables<'_, H>, allocator: A) -> AcpiResult<Self>
-        ensures { GivesOrFull (HasMcfg (memory_of tables.now) (pointers_of tables.now)) result
+        ensures { GivesOrFull (RegionsAsk (memory_of tables.now) (pointers_of tables.now)) result
             (found_regions (memory_of tables.now) (pointers_of tables.now)) }
     {
         let mcfg = tables.find_table::<Mcfg>()?;
@@ -61,9 +61,9 @@ impl<A: Allocator> PciConfigRegions<A> {
         })
     }
 
-    /// The physical address of a function's configuration space: in the first region of the segment
-    /// group that holds the bus, its base, 2^20 for each bus behind the region's first, 2^15 for
-    /// each device and 2^12 for each function.
+    /// The physical address of a function's configuration space: the base of the first region of the
+    /// segment group that holds the bus, and 2^20 bytes for each bus behind that region's first, 2^15
+    /// for each device and 2^12 for each function.
     ///
     /// It is `None` where no region holds the bus, where the device is above 31 or the function
     /// above 7, and where the sum is 2^64 or more; no later region is then tried. Of the 4096 bytes
@@ -83,6 +83,7 @@ impl<A: Allocator> PciConfigRegions<A> {
         self.address_of(segment_group_no, bus, device, function)
     }
 
+    /// `physical_address`, by the exact clause from which its law follows.
     #[tactic(auto, unfolding(crate::specs::Pci::pci_address))]
     fn address_of(&self, segment: u16, bus: u8, device: u8, function: u8) -> Option<u64>
         ensures { result ≡ pci_address self.now segment bus device function }
@@ -109,11 +110,12 @@ fn collected<A: Allocator>(
     entries: McfgEntryIter<'_>,
     allocator: A,
 ) -> Result<Vec<McfgEntry, A>, AllocError>
-    ensures { IfOk result (λ v. v.items ≡ regions_left entries.entry) }
+    ensures items { IfOk result (λ v. v.items ≡ regions_left entries.entry) }
+    ensures none { regions_left entries.entry ≡ [] → IsOk result }
 {
     let mut regions = Vec::with_capacity(allocator, entries.len())?;
     for entry in entries {
-        regions.push(entry)?;
+        regions.push_reserved(entry);
     }
     Ok(regions)
 }
@@ -159,7 +161,7 @@ fn address_in(region: &McfgEntry, bus: u8, device: u8, function: u8) -> Option<u
 pub struct PciConfigEntry {
     /// The segment group.
     pub segment_group: u16,
-    /// Its buses.
+    /// Its buses: none where the last is under the first.
     pub bus_range: RangeInclusive<u8>,
     /// Where the first bus's configuration space lies.
     pub physical_address: u64,

@@ -1,6 +1,6 @@
 //! What the platform has, as the tables say together.
-ghost use Rattle.acpi_base.specs.Model.{GivesOrFull};
-ghost use Rattle.acpi.specs.Platform.{AsksMemory, ModelAsks, model_in, platform_of};
+ghost use Rattle.acpi_base.specs.Steps.{GivesOrFull};
+ghost use Rattle.acpi.specs.Platform.{PlatformAsks, ModelAsks, model_in, platform_of};
 ghost use Rattle.acpi.specs.Tables.{memory_of, pointers_of};
 
 pub mod interrupt;
@@ -31,7 +31,7 @@ pub struct PlatformInfo<A: Allocator> {
 impl PlatformInfo<Global> {
     /// `new_in` over the global allocator.
     pub fn new<H: AcpiHandler>(alloc: Global, tables: &AcpiTables<'_, H>) -> AcpiResult<Self>
-        ensures { GivesOrFull (AsksMemory (memory_of tables.now) (pointers_of tables.now)) result
+        ensures { GivesOrFull (PlatformAsks (memory_of tables.now) (pointers_of tables.now)) result
             (platform_of (memory_of tables.now) (pointers_of tables.now)) }
     {
         PlatformInfo::new_in(tables, alloc)
@@ -44,13 +44,14 @@ impl<A: Allocator + Clone> PlatformInfo<A> {
     ///
     /// Refuses, in this order, with `TableMissing` where no valid FADT is listed, with what
     /// `parse_interrupt_model_in` refuses of the MADT, and with what `PmTimer::new` refuses. Memory is
-    /// asked for only where the MADT describes APICs.
+    /// asked for only where the MADT describes APICs; `AllocError` then comes before the timer is looked
+    /// at.
     pub fn new_in<H: AcpiHandler>(tables: &AcpiTables<'_, H>, allocator: A) -> AcpiResult<Self>
-        ensures { GivesOrFull (AsksMemory (memory_of tables.now) (pointers_of tables.now)) result
+        ensures { GivesOrFull (PlatformAsks (memory_of tables.now) (pointers_of tables.now)) result
             (platform_of (memory_of tables.now) (pointers_of tables.now)) }
     {
         let fadt = tables.find_table::<Fadt>()?;
-        let (interrupt_model, processor_info) = interrupt_model(tables, allocator)?;
+        let (interrupt_model, processor_info) = found_model(tables, allocator)?;
         let pm_timer = PmTimer::new(&fadt)?;
         Ok(PlatformInfo {
             power_profile: fadt.power_profile(),
@@ -62,7 +63,7 @@ impl<A: Allocator + Clone> PlatformInfo<A> {
 }
 
 /// What the first valid MADT says, or nothing where none is valid.
-fn interrupt_model<H: AcpiHandler, A: Allocator + Clone>(
+fn found_model<H: AcpiHandler, A: Allocator + Clone>(
     tables: &AcpiTables<'_, H>,
     allocator: A,
 ) -> AcpiResult<(InterruptModel<A>, Option<ProcessorInfo<A>>)>

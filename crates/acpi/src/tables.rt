@@ -50,8 +50,7 @@ fn map_root<'h, H: AcpiHandler>(
 impl<'h, H: AcpiHandler> AcpiTables<'h, H> {
     ghost use Rattle.std.specs.Prelude.{◌≡◌, ◌^◌, ◌<◌, ◌≤◌, ◌∷◌, ◌++◌, ℕ, List, length};
     ghost use Rattle.std.specs.Prelude.{IfOk, IfErr, IsErr, IsOk};
-    ghost use Rattle.acpi_base.specs.Model.{GivesOrFull};
-    ghost use Rattle.acpi_base.specs.Steps.{Gives};
+    ghost use Rattle.acpi_base.specs.Steps.{Gives, GivesOrFull};
     ghost use Rattle.acpi_base.specs.Table.{kind, table_at};
     ghost use Rattle.acpi_base.specs.declared.error.AcpiError.TheVariants.{TableMissing};
     ghost use Rattle.acpi_base.specs.declared.signature.TheConstants.Signature.{DSDT};
@@ -60,7 +59,7 @@ impl<'h, H: AcpiHandler> AcpiTables<'h, H> {
     ghost use Rattle.acpi.specs.Lookup.{IsFirstValid, NoneValid, lookup};
     ghost use Rattle.acpi.specs.Opened.{opened_at, opened_from, opened_of};
     ghost use Rattle.acpi.specs.Opened.{opened_by_rsdp, opened_by_search};
-    ghost use Rattle.acpi.specs.Platform.{AsksMemory, platform_of};
+    ghost use Rattle.acpi.specs.Platform.{PlatformAsks, platform_of};
     ghost use Rattle.acpi.specs.Pointers.{pointers_left};
     ghost use Rattle.acpi.specs.Rsdp.{root_of_rsdp, rsdp_at};
     ghost use Rattle.acpi.specs.Tables.{SpellsPointers, pointers_of};
@@ -293,7 +292,7 @@ impl<'h, H: AcpiHandler> AcpiTables<'h, H> {
 
     /// `PlatformInfo::new` over these tables.
     pub fn platform_info(&self, alloc: Global) -> AcpiResult<PlatformInfo<Global>>
-        ensures { GivesOrFull (AsksMemory (memory_of self.now) (pointers_of self.now)) result
+        ensures { GivesOrFull (PlatformAsks (memory_of self.now) (pointers_of self.now)) result
             (platform_of (memory_of self.now) (pointers_of self.now)) }
     {
         PlatformInfo::new(alloc, self)
@@ -304,7 +303,7 @@ impl<'h, H: AcpiHandler> AcpiTables<'h, H> {
         &self,
         allocator: A,
     ) -> AcpiResult<PlatformInfo<A>>
-        ensures { GivesOrFull (AsksMemory (memory_of self.now) (pointers_of self.now)) result
+        ensures { GivesOrFull (PlatformAsks (memory_of self.now) (pointers_of self.now)) result
             (platform_of (memory_of self.now) (pointers_of self.now)) }
     {
         PlatformInfo::new_in(self, allocator)

@@ -10,8 +10,8 @@ pub mod Equality
 pub mod ErrorText
 pub mod Extended
 pub mod Header
-pub mod Laws
 pub mod Interrupts
+pub mod Laws
 pub mod Lends
 pub mod Madt
 pub mod MadtEntries

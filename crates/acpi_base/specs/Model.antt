@@ -1,5 +1,5 @@
 -- The interrupt model: what the entries of the MADT say together (ACPI 6.4, section 5.2.12).
-use Rattle.std.specs.Prelude.{◌≡◌, ◌⊎◌, ℕ, Bool, true, false, List, [], ◌∷◌, drop, slice_get, Option, Some, None, Result, Ok, Err, IsTrue, if◌then◌else◌}
+use Rattle.std.specs.Prelude.{◌≡◌, ℕ, Bool, true, false, List, [], ◌∷◌, drop, slice_get, Option, Some, None, Result, Ok, Err, IsTrue, if◌then◌else◌}
 use Rattle.std.specs.List.{filter_map, list_any}
 use Rattle.std.specs.Option.{option_map}
 use Rattle.std.specs.Result.{result_err, result_ok}
@@ -7,7 +7,7 @@ use Rattle.acpi_base.specs.Bits.{has_bit}
 use Rattle.acpi_base.specs.Interrupts.{part_of}
 use Rattle.acpi_base.specs.Madt.{cut_of, entries_of, madt_at}
 use Rattle.acpi_base.specs.declared.error.AcpiError.{AcpiError}
-use Rattle.acpi_base.specs.declared.error.AcpiError.TheVariants.{AllocError, InvalidMadt}
+use Rattle.acpi_base.specs.declared.error.AcpiError.TheVariants.{InvalidMadt}
 use Rattle.acpi_base.specs.declared.error.MadtError.{MadtError}
 use Rattle.acpi_base.specs.declared.error.MadtError.TheVariants.{InvalidEntryLength}
 use Rattle.acpi_base.specs.declared.madt.Madt.{Madt}
@@ -144,7 +144,3 @@ model_of table = model_with (madt_at table) table
 -- memory is asked for only where no entry is refused, and one is of a model of APICs
 abbrev pub AsksMemory : List ℕ → Type 0
 AsksMemory table = (fault_of table ≡ None) × IsTrue (list_any is_of_apic (parts_of table))
-
--- what a call answered is what is defined, or AllocError where memory may be asked for
-abbrev pub GivesOrFull : {X : Type 0} → Type 0 → Result X AcpiError → Result X AcpiError → Type 0
-GivesOrFull Asks said defined = (said ≡ defined) ⊎ (Asks × (said ≡ Err AllocError))

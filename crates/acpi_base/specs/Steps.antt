@@ -1,8 +1,8 @@
 -- Checks in a row, of which the first refusal counts, and calls that answer what is defined.
-use Rattle.std.specs.Prelude.{◌≡◌, ℕ, Bool, List, Result, Ok, Err, if◌then◌else◌}
+use Rattle.std.specs.Prelude.{◌≡◌, ◌⊎◌, ℕ, Bool, List, Result, Ok, Err, if◌then◌else◌}
 use Rattle.std.specs.Option.{ok_or}
 use Rattle.acpi_base.specs.declared.error.AcpiError.{AcpiError}
-use Rattle.acpi_base.specs.declared.error.AcpiError.TheVariants.{MapFailed}
+use Rattle.acpi_base.specs.declared.error.AcpiError.TheVariants.{AllocError, MapFailed}
 use Rattle.acpi_base.specs.Memory.{Memory, at}
 
 infixl 10 ◌>>=◌
@@ -22,3 +22,7 @@ lent m a n = ok_or (at m a n) MapFailed
 abbrev pub Gives : {X Y E : Type 0} → (X → Y) → Result X E → Result Y E → Type 0
 Gives view (Ok x) said = said ≡ Ok (view x)
 Gives view (Err e) said = said ≡ Err e
+
+-- what a call answered is what is defined, or AllocError where memory may be asked for
+abbrev pub GivesOrFull : {X : Type 0} → Type 0 → Result X AcpiError → Result X AcpiError → Type 0
+GivesOrFull Asks said defined = (said ≡ defined) ⊎ (Asks × (said ≡ Err AllocError))

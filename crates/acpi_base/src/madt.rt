@@ -123,7 +123,8 @@ impl<'h, H: AcpiHandler> PhysicalMapping<'h, H, Madt> {
     ghost use Rattle.acpi_base.specs.Madt.{cut_of, entries_of, mailbox_of};
     ghost use Rattle.acpi_base.specs.MadtWalk.{entries_left, has_ended, rest_left};
     ghost use Rattle.acpi_base.specs.Mapping.{bytes_of};
-    ghost use Rattle.acpi_base.specs.Model.{AsksMemory, GivesOrFull, model_of};
+    ghost use Rattle.acpi_base.specs.Model.{AsksMemory, model_of};
+    ghost use Rattle.acpi_base.specs.Steps.{GivesOrFull};
 
     /// The table's entries, in order: at most half as many as it has bytes behind the 44 fixed ones.
     pub fn entries(&self) -> MadtEntryIter<'_>
@@ -146,15 +147,17 @@ impl<'h, H: AcpiHandler> PhysicalMapping<'h, H, Madt> {
         mailbox_address(self.bytes())
     }
 
-    /// The interrupt model that the entries describe, and the processors, where there are any. It is
-    /// `Unknown`, without processors, where no entry is of APICs; no memory is then asked for.
+    /// The interrupt model that the entries describe (section 5.2.12), and the processors, where there
+    /// are any. It is `Unknown`, without processors, where no entry is of APICs; no memory is then asked
+    /// for.
     ///
     /// Refuses with `InvalidMadt` for the first entry that is at fault: `InvalidEntryLength` where it
     /// is malformed, `UnexpectedEntry` for the kinds of SAPICs and of the GIC (6 to 8, and 0xb to
     /// 0xf), for an override `InterruptOverrideEntryHasInvalidBus` where its bus isn't 0, for one and
-    /// for an NMI source `MpsIntiInvalidPolarity` and then `MpsIntiInvalidTriggerMode` where its flags
-    /// hold 2 there, and `InvalidLocalNmiLine` for a local NMI whose line is neither 0 nor 1. Then
-    /// with `AllocError` where a growth is refused, or a clone of the allocator.
+    /// for an NMI source `MpsIntiInvalidPolarity` where bits 0 and 1 of its flags are 2 and then
+    /// `MpsIntiInvalidTriggerMode` where bits 2 and 3 are, and `InvalidLocalNmiLine` for a local NMI
+    /// whose line is neither 0 nor 1. Then with `AllocError` where a growth is refused, or a clone of the
+    /// allocator.
     pub fn parse_interrupt_model_in<A: Allocator + Clone>(
         &self,
         allocator: A,

@@ -1,5 +1,5 @@
 //! Slices that are owned, in memory of any allocator.
-ghost use Rattle.std.specs.Prelude.{◌≡◌, List, Contains, IfOk, IfErr, length, replicate};
+ghost use Rattle.std.specs.Prelude.{◌≡◌, List, Contains, IfOk, IfErr, IsOk, replicate};
 ghost use Rattle.acpi_base.specs.declared.error.AcpiError.TheVariants.{AllocError as NoMemory};
 
 use crate::error::AcpiResult;
@@ -21,14 +21,21 @@ impl<T, A: Allocator> Model for ManagedSlice<T, A> {
 }
 
 impl<T: Clone + Drop, A: Allocator> ManagedSlice<T, A> {
-    /// `len` items, each of them equal to `value`. No memory is asked for where `len` is 0.
+    /// `len` items, each of them equal to `value`, whose clones have to equal it. No memory is asked for
+    /// where `len` is 0.
     ///
     /// Refuses with `AllocError` where a growth is refused, or a clone of `value`.
     pub fn new_in(len: usize, value: T, allocator: A) -> AcpiResult<ManagedSlice<T, A>>
         requires { (y : T) → T.is_clone value y → y ≡ value }
         ensures items { IfOk result (λ s. s ≡ replicate len value) }
         ensures refused { IfErr result (λ e. e ≡ NoMemory) }
+        ensures empty { len ≡ 0 → IsOk result }
     {
+        if len == 0 {
+            return Ok(ManagedSlice {
+                items: Vec::new(allocator),
+            });
+        }
         let items = Vec::from_elem(allocator, value, len)?;
         Ok(ManagedSlice { items })
     }
@@ -40,13 +47,18 @@ impl<T: Clone + Drop> ManagedSlice<T, Global> {
         requires { (y : T) → T.is_clone value y → y ≡ value }
         ensures items { IfOk result (λ s. s ≡ replicate len value) }
         ensures refused { IfErr result (λ e. e ≡ NoMemory) }
+        ensures empty { len ≡ 0 → IsOk result }
     {
         ManagedSlice::new_in(len, value, alloc)
     }
 }
 
 impl<T, A: Allocator> ManagedSlice<T, A> {
-    /// The items of a vector, with the memory that they lie in.
+    ghost use Rattle.std.specs.Prelude.{◌≡◌};
+    ghost use Rattle.std.specs.Borrow.{sem};
+    ghost use Rattle.acpi_base.specs.Lends.{lends_slice};
+
+    /// The items of a vector, with the memory that they lie in. For what gathers items one by one.
     pub fn from_vec(items: Vec<T, A>) -> ManagedSlice<T, A>
         ensures { result ≡ items.items }
     {
@@ -59,11 +71,6 @@ impl<T, A: Allocator> ManagedSlice<T, A> {
     {
         self.items.as_slice()
     }
-}
-
-impl<T, A: Allocator> ManagedSlice<T, A> {
-    ghost use Rattle.std.specs.Borrow.{sem};
-    ghost use Rattle.acpi_base.specs.Lends.{lends_slice};
 
     /// The items, to be written. Their number stays.
     pub fn as_mut_slice(&mut self) -> &mut [T]
@@ -75,7 +82,7 @@ impl<T, A: Allocator> ManagedSlice<T, A> {
 }
 
 impl<T: Clone + Drop, A: Allocator + Clone> ManagedSlice<T, A> {
-    /// Clones of the items, in order, in memory of a clone of the allocator.
+    /// Clones of the items, which have to equal them, in order, in memory of a clone of the allocator.
     ///
     /// Refuses with `AllocError` where a growth is refused, or the clone of the allocator or of an
     /// item.

@@ -1,7 +1,7 @@
 //! The interrupt model: what the entries of a MADT say of controllers and processors together.
 //!
-//! The first entry that is refused decides. Without one the entries are gathered, each kind into a
-//! list of its own.
+//! The first entry that is refused decides. Without one, what the entries say is gathered, each sort
+//! into a list of its own.
 
 mod counts;
 mod draft;

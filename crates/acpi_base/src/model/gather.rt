@@ -1,6 +1,7 @@
 //! The walks along the entries: one for the first fault, one to count, one to gather.
 ghost use Rattle.std.specs.Prelude.{◌≡◌, IfOk, IfErr};
-ghost use Rattle.acpi_base.specs.Model.{fault_of, gathered, model_with, parts_of, AsksMemory, GivesOrFull};
+ghost use Rattle.acpi_base.specs.Model.{AsksMemory, fault_of, gathered, model_with, parts_of};
+ghost use Rattle.acpi_base.specs.Steps.{GivesOrFull};
 ghost use Rattle.acpi_base.specs.Parts.{counts_of};
 ghost use Rattle.acpi_base.specs.declared.error.AcpiError.TheVariants.{AllocError as NoMemory};
 

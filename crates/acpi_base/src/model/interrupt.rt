@@ -35,7 +35,8 @@ pub enum LocalInterruptLine {
 /// Whose local APIC an NMI comes to.
 #[derive(Clone, Copy, Debug, PartialEq, Eq)]
 pub enum NmiProcessor {
-    /// That of every processor.
+    /// That of every processor: the id is 0xff in an entry of a local APIC, and 0xffffffff in one of a
+    /// local x2APIC.
     All,
     /// That of the processor with this ACPI id.
     ProcessorUid(u32),
@@ -90,7 +91,8 @@ pub struct NmiSource {
 /// The model of APICs: one local APIC for each processor, and I/O APICs.
 #[derive(Drop)]
 pub struct Apic<A: Allocator> {
-    /// The physical address of each processor's local APIC.
+    /// The physical address of each processor's local APIC: that of the last entry that overrides it,
+    /// else the table's own.
     pub local_apic_address: u64,
     /// The I/O APICs, in the order of their entries.
     pub io_apics: ManagedSlice<IoApic, A>,
@@ -104,7 +106,8 @@ pub struct Apic<A: Allocator> {
     pub also_has_legacy_pics: bool,
 }
 
-/// Clones with the fields of the original, or `AllocError` where a growth is refused.
+/// Clones with the fields of the original, or `AllocError` where a growth is refused, or a clone of the
+/// allocator.
 impl<A: Allocator + Clone> Clone for Apic<A> {
     ghost use Rattle.std.specs.Prelude.{◌≡◌};
 

@@ -1,7 +1,8 @@
 //! Laws of the model's types, each the contract of a call that does nothing else: of comparisons and
 //! of clones.
-ghost use Rattle.std.specs.Prelude.{◌≡◌, IfOk};
+ghost use Rattle.std.specs.Prelude.{◌≡◌, IfOk, IsOk};
 ghost use Rattle.acpi_base.specs.Equality.{IsEquality};
+ghost use Rattle.acpi_base.specs.declared.model.interrupt.InterruptModel.TheVariants.{Unknown};
 
 use super::interrupt::{
     Apic, InterruptModel, LocalInterruptLine, NmiProcessor, Polarity, TriggerMode,
@@ -62,7 +63,9 @@ pub fn apic_clone<A: Allocator + Clone>(apic: &Apic<A>) -> Result<Apic<A>, Alloc
 pub fn model_clone<A: Allocator + Clone>(
     model: &InterruptModel<A>,
 ) -> Result<InterruptModel<A>, AllocError>
-    ensures { IfOk result (λ c. c ≡ model.now) }
+    ensures same { IfOk result (λ c. c ≡ model.now) }
+    // An unknown model holds no slice, so nothing is asked for.
+    ensures unknown { model.now ≡ Unknown → IsOk result }
 {
     model.clone()
 }

@@ -1,5 +1,5 @@
 //! What one entry says of the interrupt model.
-ghost use Rattle.std.specs.Prelude.{◌≡◌, ◌<◌};
+ghost use Rattle.std.specs.Prelude.{◌≡◌};
 ghost use Rattle.acpi_base.specs.Interrupts.{io_apic_of, nmi_line_of, nmi_source_of, override_of, part_of, polarity_of, processor_for, trigger_mode_of};
 
 use super::interrupt::{

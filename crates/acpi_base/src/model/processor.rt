@@ -3,7 +3,8 @@
 use crate::managed_slice::ManagedSlice;
 use std::alloc::{AllocError, Allocator};
 
-/// What a processor does when the tables are read first.
+/// What a processor does when the firmware hands over: bit 0 of its entry's flags says whether it can be
+/// used.
 #[derive(Clone, Copy, Debug, PartialEq, Eq)]
 pub enum ProcessorState {
     /// It can't be used, and is not to be started.
@@ -30,13 +31,14 @@ pub struct Processor {
 /// The processors of a machine.
 #[derive(Drop)]
 pub struct ProcessorInfo<A: Allocator> {
-    /// The one that runs first: that of the first entry of a processor, though it be disabled.
+    /// That of the first entry of a processor, even where the entry says that it can't be used.
     pub boot_processor: Processor,
     /// All others, in the order of their entries.
     pub application_processors: ManagedSlice<Processor, A>,
 }
 
-/// Clones with the fields of the original, or `AllocError` where a growth is refused.
+/// Clones with the fields of the original, or `AllocError` where a growth is refused, or a clone of the
+/// allocator.
 impl<A: Allocator + Clone> Clone for ProcessorInfo<A> {
     ghost use Rattle.std.specs.Prelude.{◌≡◌};
 
