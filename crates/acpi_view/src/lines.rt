@@ -4,8 +4,10 @@ mod platform;
 
 use acpi::bgrt::Bgrt;
 use acpi::fadt::Fadt;
+use acpi::hpet::HpetTable;
 use acpi::madt::Madt;
-use acpi::{AcpiError, AcpiHandler, AcpiTable, AcpiTables, AmlTable};
+use acpi::mcfg::Mcfg;
+use acpi::{AcpiError, AcpiHandler, AcpiTable, AcpiTables, AmlTable, HpetInfo, PciConfigRegions};
 use platform::print_platform;
 use std::alloc::Global;
 use std::io;
@@ -22,6 +24,8 @@ pub(crate) fn print_parts<H: AcpiHandler, W: Write>(
     print_dsdt(tables, out)?;
     print_ssdts(tables, out)?;
     print_platform(alloc, tables, out)?;
+    print_hpet(tables, out)?;
+    print_pci(alloc, tables, out)?;
     print_bgrt(tables, out)
 }
 
@@ -32,6 +36,8 @@ pub(crate) fn print_skipped_tables<H: AcpiHandler, E: Write>(
 ) -> io::Result<()> {
     print_skipped::<H, Fadt, E>(tables, err)?;
     print_skipped::<H, Madt, E>(tables, err)?;
+    print_skipped::<H, Mcfg, E>(tables, err)?;
+    print_skipped::<H, HpetTable, E>(tables, err)?;
     print_skipped::<H, Bgrt, E>(tables, err)
 }
 
@@ -84,6 +90,34 @@ fn print_ssdts<H: AcpiHandler, W: Write>(
 ) -> io::Result<()> {
     for stream in tables.ssdts() {
         print_stream("ssdt", stream, out)?;
+    }
+    Ok(())
+}
+
+/// `hpet ADDRESS number N tick T` for the block of event timers.
+fn print_hpet<H: AcpiHandler, W: Write>(tables: &AcpiTables<'_, H>, out: &mut W) -> io::Result<()> {
+    let info = match HpetInfo::new(tables) {
+        Ok(info) => info,
+        Err(refusal) => return print_refused("hpet", refusal, out),
+    };
+    let (address, number, tick) = (info.base_address, info.hpet_number, info.clock_tick_unit);
+    writeln!(out, "hpet {address:#x} number {number} tick {tick}")
+}
+
+/// `pci SEGMENT FIRST LAST ADDRESS` for each region of configuration space.
+fn print_pci<H: AcpiHandler, W: Write>(
+    alloc: Global,
+    tables: &AcpiTables<'_, H>,
+    out: &mut W,
+) -> io::Result<()> {
+    let regions = match PciConfigRegions::new(alloc, tables) {
+        Ok(regions) => regions,
+        Err(refusal) => return print_refused("pci", refusal, out),
+    };
+    for region in regions.iter() {
+        let (segment, address) = (region.segment_group, region.physical_address);
+        let (first, last) = region.bus_range.into_inner();
+        writeln!(out, "pci {segment} {first} {last} {address:#x}")?;
     }
     Ok(())
 }

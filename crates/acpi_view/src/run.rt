@@ -26,7 +26,8 @@ const BUFFERED: usize = 32768;
 /// `MemoryImage::from_bytes` refuses, and what opening the root table refuses. A write that is
 /// refused ends it with status 1, and so does memory that is refused for gathering what is written;
 /// each output then has a front of what it would have got. Memory that is refused for the platform
-/// ends nothing: that part is refused, as `platform: AllocError`.
+/// or for the regions of configuration space ends nothing: that part is refused, as
+/// `platform: AllocError` or `pci: AllocError`.
 pub fn run<W: Write, E: Write>(
     alloc: Global,
     words: &[&str],

@@ -67,6 +67,8 @@ fn searches_the_bios_areas(rt: HostRuntime) -> Result<(), Fail> {
         "table BGRT length 56 revision 0\n",
         "dsdt: TableMissing FACP\n",
         "platform: TableMissing FACP\n",
+        "hpet: TableMissing HPET\n",
+        "pci: TableMissing MCFG\n",
         "bgrt displayed yes angle 180 offset 0 0\n",
     );
     let words = ["some.image", "bios"];

@@ -46,6 +46,8 @@ fn prints_the_platform_behind_the_dsdt(rt: HostRuntime) {
         "processor 1 2 running\n",
         "processor 3 4 disabled\n",
         "timer none\n",
+        "hpet: TableMissing HPET\n",
+        "pci: TableMissing MCFG\n",
         "bgrt: TableMissing BGRT\n",
     );
     let file = two_processors(0x8C, 1);
@@ -152,6 +154,8 @@ fn prints_every_kind_of_line_by_its_group(rt: HostRuntime) {
         "processor 257 256 waiting\n",
         "processor 8 6 waiting\n",
         "timer 0x608 bits 24\n",
+        "hpet: TableMissing HPET\n",
+        "pci: TableMissing MCFG\n",
         "bgrt: TableMissing BGRT\n",
     );
     check_run(&rt, rt.alloc(), &WORDS, Some(&every_kind()), (0, lines, ""));
