@@ -14,4 +14,6 @@ mod madt;
 #[cfg(test)]
 mod rsdps;
 #[cfg(test)]
+mod slices;
+#[cfg(test)]
 mod texts;
