@@ -12,7 +12,11 @@ mod layouts;
 #[cfg(test)]
 mod madt;
 #[cfg(test)]
+mod model;
+#[cfg(test)]
 mod rsdps;
+#[cfg(test)]
+mod seen;
 #[cfg(test)]
 mod slices;
 #[cfg(test)]

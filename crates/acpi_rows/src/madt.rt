@@ -19,7 +19,7 @@ const NO_MAILBOX: AcpiError = AcpiError::InvalidMadt(MadtError::UnexpectedEntry)
 const MALFORMED: AcpiError = AcpiError::InvalidMadt(MadtError::InvalidEntryLength);
 
 /// A table of 128 bytes with these entries.
-fn table_of(entries: &[u8]) -> [u8; 128]
+pub(crate) fn table_of(entries: &[u8]) -> [u8; 128]
     requires { length entries.now ≤ 84 }
 {
     let mut table = [0; 128];
@@ -185,7 +185,7 @@ fn the_length_says_where_the_next_entry_begins(rt: HostRuntime) -> Result<(), Fa
 
 /// An RSDT at 0x1000 that lists a MADT at 0x2000 with this checksum and these entries. The file
 /// ends behind the last of them.
-fn with_madt(checksum: u8, entries: &[u8]) -> [u8; 136]
+pub(crate) fn with_madt(checksum: u8, entries: &[u8]) -> [u8; 136]
     requires { length entries.now ≤ 20 }
 {
     let count = 44 + entries.len() as u8;
