@@ -3,6 +3,7 @@ ghost use Rattle.std.specs.Prelude.{◌+◌, ◌≤◌, length};
 
 pub mod graphics;
 pub mod members;
+pub mod platforms;
 pub mod rsdps;
 
 /// Writes bytes at an offset.

@@ -14,6 +14,8 @@ mod madt;
 #[cfg(test)]
 mod model;
 #[cfg(test)]
+mod platform;
+#[cfg(test)]
 mod rsdps;
 #[cfg(test)]
 mod seen;

@@ -3,7 +3,7 @@
 ghost use Rattle.std.specs.Prelude.{◌+◌, ◌≤◌, length};
 
 use crate::madt::{table_of, with_madt};
-use crate::seen::{Seen, check_same, io_apic, nmi_line, nmi_source, processor, wiring};
+use crate::seen::{Seen, check_answer, io_apic, nmi_line, nmi_source, processor, wiring};
 use acpi::madt::Madt;
 use acpi::platform::ProcessorState;
 use acpi::platform::interrupt::{LocalInterruptLine, NmiProcessor, Polarity, TriggerMode};
@@ -21,11 +21,7 @@ fn check_mapping<H: AcpiHandler>(
     wanted: Result<Seen<'_>, MadtError>,
 ) {
     let answer = madt.parse_interrupt_model_in(rt.alloc());
-    let seen = match &answer {
-        Ok((model, processors)) => Ok(Seen::of_model(model).with(processors)),
-        Err(refusal) => Err(*refusal),
-    };
-    check_same(rt, seen, wanted.map_err(AcpiError::InvalidMadt));
+    check_answer(rt, &answer, wanted.map_err(AcpiError::InvalidMadt));
 }
 
 /// Checks the model of a table, or the fault that it is refused for.

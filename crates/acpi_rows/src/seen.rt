@@ -5,7 +5,7 @@ use acpi::platform::interrupt::{
     NmiProcessor, NmiSource, Polarity, TriggerMode,
 };
 use acpi::platform::{PlatformInfo, PmTimer, Processor, ProcessorInfo, ProcessorState};
-use acpi::{AcpiResult, PowerProfile};
+use acpi::{AcpiResult, ManagedSlice, PowerProfile};
 use std::alloc::Allocator;
 use std::process::Abort;
 
@@ -65,42 +65,12 @@ impl Seen<'static> {
 }
 
 impl<'p> Seen<'p> {
-    pub(crate) fn of_apic<A: Allocator>(apic: &'p Apic<A>) -> Self {
+    /// The same, with the processors of another.
+    fn with_processors(self, other: Seen<'p>) -> Self {
         Seen {
-            local_apic_address: apic.local_apic_address,
-            has_legacy_pics: apic.also_has_legacy_pics,
-            io_apics: apic.io_apics.as_slice(),
-            nmi_lines: apic.local_apic_nmi_lines.as_slice(),
-            overrides: apic.interrupt_source_overrides.as_slice(),
-            nmi_sources: apic.nmi_sources.as_slice(),
-            ..Seen::APIC
-        }
-    }
-
-    pub(crate) fn of_model<A: Allocator>(model: &'p InterruptModel<A>) -> Self {
-        match model {
-            InterruptModel::Unknown => Seen::NOTHING,
-            InterruptModel::Apic(apic) => Seen::of_apic(apic),
-        }
-    }
-
-    /// The same, with these processors.
-    pub(crate) fn with<A: Allocator>(self, processors: &'p Option<ProcessorInfo<A>>) -> Self {
-        match processors {
-            Some(info) => Seen {
-                boot_processor: Some(info.boot_processor),
-                application_processors: info.application_processors.as_slice(),
-                ..self
-            },
-            None => self,
-        }
-    }
-
-    pub(crate) fn of_platform<A: Allocator>(platform: &'p PlatformInfo<A>) -> Self {
-        Seen {
-            power_profile: platform.power_profile,
-            pm_timer: platform.pm_timer,
-            ..Seen::of_model(&platform.interrupt_model).with(&platform.processor_info)
+            boot_processor: other.boot_processor,
+            application_processors: other.application_processors,
+            ..self
         }
     }
 
@@ -133,18 +103,96 @@ impl<'p> Seen<'p> {
     }
 }
 
+/// A platform, or a part of one.
+pub(crate) trait See {
+    /// What it says.
+    fn seen(&self) -> Seen<'_>;
+}
+
+impl<A: Allocator> See for ManagedSlice<IoApic, A> {
+    fn seen(&self) -> Seen<'_> {
+        Seen {
+            io_apics: self.as_slice(),
+            ..Seen::NOTHING
+        }
+    }
+}
+
+impl<A: Allocator> See for Apic<A> {
+    fn seen(&self) -> Seen<'_> {
+        Seen {
+            local_apic_address: self.local_apic_address,
+            has_legacy_pics: self.also_has_legacy_pics,
+            io_apics: self.io_apics.as_slice(),
+            nmi_lines: self.local_apic_nmi_lines.as_slice(),
+            overrides: self.interrupt_source_overrides.as_slice(),
+            nmi_sources: self.nmi_sources.as_slice(),
+            ..Seen::APIC
+        }
+    }
+}
+
+impl<A: Allocator> See for InterruptModel<A> {
+    fn seen(&self) -> Seen<'_> {
+        match self {
+            InterruptModel::Unknown => Seen::NOTHING,
+            InterruptModel::Apic(apic) => apic.seen(),
+        }
+    }
+}
+
+impl<A: Allocator> See for ProcessorInfo<A> {
+    fn seen(&self) -> Seen<'_> {
+        Seen {
+            boot_processor: Some(self.boot_processor),
+            application_processors: self.application_processors.as_slice(),
+            ..Seen::NOTHING
+        }
+    }
+}
+
+impl<T: See> See for Option<T> {
+    fn seen(&self) -> Seen<'_> {
+        match self {
+            Some(part) => part.seen(),
+            None => Seen::NOTHING,
+        }
+    }
+}
+
+impl<A: Allocator> See for (InterruptModel<A>, Option<ProcessorInfo<A>>) {
+    fn seen(&self) -> Seen<'_> {
+        self.0.seen().with_processors(self.1.seen())
+    }
+}
+
+impl<A: Allocator> See for PlatformInfo<A> {
+    fn seen(&self) -> Seen<'_> {
+        Seen {
+            power_profile: self.power_profile,
+            pm_timer: self.pm_timer,
+            ..self
+                .interrupt_model
+                .seen()
+                .with_processors(self.processor_info.seen())
+        }
+    }
+}
+
 /// Checks that an answer is this one: the same refusal, or the same in each field.
-pub(crate) fn check_same(
+pub(crate) fn check_answer<T: See>(
     rt: &impl Abort,
-    seen: AcpiResult<Seen<'_>>,
+    answer: &AcpiResult<T>,
     wanted: AcpiResult<Seen<'_>>,
 ) {
-    let is_same = match (&seen, &wanted) {
-        (Ok(one), Ok(other)) => one.is(other),
-        (Err(one), Err(other)) => one == other,
-        _ => false,
-    };
-    assert!(rt; is_same, "{seen:?}, and not {wanted:?}");
+    match answer {
+        Ok(found) => {
+            let seen = found.seen();
+            let is_same = wanted.is_ok_and(|it| it.is(&seen));
+            assert!(rt; is_same, "{seen:?}, and not {wanted:?}");
+        }
+        Err(refusal) => assert_eq!(rt; Some(*refusal), wanted.err()),
+    }
 }
 
 pub(crate) fn io_apic(id: u8, address: u32, base: u32) -> IoApic {
