@@ -16,6 +16,8 @@ mod model;
 #[cfg(test)]
 mod platform;
 #[cfg(test)]
+mod refusing;
+#[cfg(test)]
 mod rsdps;
 #[cfg(test)]
 mod seen;

@@ -1,0 +1,208 @@
+//! What is answered where the allocator refuses. Memory is a heap of a fixed size.
+
+use crate::model::EVERY_LIST;
+use crate::platform::{put_timer, two_processors};
+use crate::seen::{See, Seen, check_answer, processor};
+use acpi::fadt::Fadt;
+use acpi::madt::Madt;
+use acpi::platform::interrupt::InterruptModel;
+use acpi::platform::{PlatformInfo, Processor, ProcessorState};
+use acpi::{AcpiError, AcpiHandler, AcpiResult, AcpiTables, MadtError, ManagedSlice};
+use acpi_image::MemoryImage;
+use acpi_lenders::samples::platforms::{MADT, with_fadt_and_madt};
+use acpi_lenders::samples::{front, put};
+use linked_list_allocator::LocalHeap;
+use std::alloc::Allocator;
+use std::process::Abort;
+use std::test::Fail;
+
+/// 65 processors with the ids from 0 on, each with a local APIC of twice its id, and an I/O SAPIC.
+fn many_processors() -> [u8; 536] {
+    let mut entries = [0; 536];
+    for i in 0..65u8 {
+        put(&mut entries, 8 * i as usize, &[0, 8, i, 2 * i, 1]);
+    }
+    put(&mut entries, 520, &[6, 16]);
+    entries
+}
+
+/// All of them but the first.
+fn others() -> [Processor; 64] {
+    let mut others = [processor(0, 0, ProcessorState::WaitingForSipi, true); 64];
+    for i in 0..64usize {
+        let uid = i as u32 + 1;
+        others[i] = processor(uid, 2 * uid, ProcessorState::WaitingForSipi, true);
+    }
+    others
+}
+
+#[test]
+fn tables_are_found_after_a_refusal(rt: HostRuntime) -> Result<(), Fail> {
+    let file = with_fadt_and_madt(0x04, front(&many_processors(), 520));
+    let image = MemoryImage::from_bytes(rt.alloc(), &file)?;
+    let tables = AcpiTables::from_rsdt(&image, 0, 0x1000)?;
+    let small = LocalHeap::new(rt.alloc(), 64)?;
+    let refused = tables.platform_info_in(&small);
+    check_answer(&rt, &refused, Err(AcpiError::AllocError));
+    assert_eq!(rt; small.used(), 0);
+    assert_eq!(rt; tables.find_table::<Fadt>()?.physical_start(), 0x2000);
+    let madt = tables.find_table::<Madt>()?;
+    assert_eq!(rt;
+        (madt.physical_start(), madt.region_length()),
+        (0x3000, 564)
+    );
+    assert_eq!(rt; tables.headers().count(), 2);
+    // Asked again with memory.
+    let large = LocalHeap::new(rt.alloc(), 65536)?;
+    let wanted = Seen {
+        boot_processor: Some(processor(0, 0, ProcessorState::Running, false)),
+        application_processors: &others(),
+        ..Seen::APIC
+    };
+    check_answer(&rt, &tables.platform_info_in(&large), Ok(wanted));
+    assert_eq!(rt; large.used(), 0);
+    Ok(())
+}
+
+/// A wakeup entry, of which the model says nothing.
+const WAKEUP: [u8; 16] = [16, 16, 0, 0, 0, 0, 0, 0, 0, 0x50, 0, 0, 0, 0, 0, 0];
+
+#[test]
+fn memory_is_asked_for_behind_the_last_entry(rt: HostRuntime) -> Result<(), Fail> {
+    let malformed = Err(AcpiError::InvalidMadt(MadtError::InvalidEntryLength));
+    let unexpected = Err(AcpiError::InvalidMadt(MadtError::UnexpectedEntry));
+    let many = many_processors();
+    // How many bytes of the heap are taken stands behind the entries.
+    let rows: [(u8, &[u8], usize, AcpiResult<Seen<'_>>); 6] = [
+        (0xDE, &many, 0, unexpected),
+        (0xDE, &many, 64, unexpected),
+        (0x8B, &[0x2A, 0], 64, malformed),
+        // Models that are unknown: no entries, a wakeup entry, and a sum that is wrong.
+        (0xB7, &[], 64, Ok(Seen::NOTHING)),
+        (0x37, &WAKEUP, 64, Ok(Seen::NOTHING)),
+        (0xDF, &many, 64, Ok(Seen::NOTHING)),
+    ];
+    for (checksum, entries, taken, wanted) in rows {
+        let file = with_fadt_and_madt(checksum, front(entries, 536));
+        let image = MemoryImage::from_bytes(rt.alloc(), &file)?;
+        let tables = AcpiTables::from_rsdt(&image, 0, 0x1000)?;
+        let heap = LocalHeap::new(rt.alloc(), 64)?;
+        let filled = ManagedSlice::new_in(taken, 0u8, &heap)?;
+        assert_eq!(rt; heap.free(), 64 - taken);
+        check_answer(&rt, &tables.platform_info_in(&heap), wanted);
+        assert_eq!(rt; heap.used(), filled.as_slice().len());
+    }
+    Ok(())
+}
+
+/// Whether an answer is refused for want of memory. Else it has to be this one.
+fn is_refused<T: See + Drop>(rt: &impl Abort, answer: AcpiResult<T>, wanted: Seen<'_>) -> bool {
+    let is_refused = matches!(answer, Err(AcpiError::AllocError));
+    if !is_refused {
+        check_answer(rt, &answer, Ok(wanted));
+    }
+    is_refused
+}
+
+/// Counts which of several calls are refused.
+fn count(counts: &mut [u32], refused: &[bool]) {
+    for (count, is_refused) in counts.iter_mut().zip(refused) {
+        *count = count.wrapping_add(u32::from(*is_refused));
+    }
+}
+
+/// Asks for a platform over heaps of growing size. Each call has to be refused at this many sizes
+/// or more, and at the last one no more.
+fn check_requests<H: AcpiHandler>(
+    rt: &(impl Abort + AllocGlobal),
+    tables: &AcpiTables<'_, H>,
+    least: u32,
+) -> Result<(), Fail> {
+    let madt = tables.find_table::<Madt>()?;
+    let platform = tables.platform_info(rt.alloc())?;
+    let model = madt.parse_interrupt_model_in(rt.alloc())?;
+    let (mut counts, mut last) = ([0; 2], [true; 2]);
+    for free in 0..16usize {
+        // The least heap has 16 bytes, so these are taken first.
+        let heap = LocalHeap::new(rt.alloc(), 16 + 16 * free)?;
+        let taken = ManagedSlice::new_in(16, 0u8, &heap)?;
+        let of_platform = is_refused(rt, tables.platform_info_in(&heap), platform.seen());
+        assert_eq!(rt; heap.used(), 16, "{free} blocks");
+        let of_model = is_refused(rt, madt.parse_interrupt_model_in(&heap), model.seen());
+        assert_eq!(rt; heap.used(), 16, "{free} blocks");
+        drop(taken);
+        assert_eq!(rt; heap.used(), 0, "{free} blocks");
+        last = [of_platform, of_model];
+        count(&mut counts, &last);
+    }
+    assert_eq!(rt; last, [false; 2]);
+    assert!(rt; counts.iter().all(|it| *it >= least), "{counts:?}");
+    Ok(())
+}
+
+/// Tables that say something of each part of a platform.
+fn whole_platform() -> [u8; 916] {
+    let mut file = with_fadt_and_madt(0x60, &EVERY_LIST);
+    put_timer(&mut file);
+    put(&mut file, MADT + 40, &[1]);
+    file
+}
+
+#[test]
+fn each_request_is_refused_in_turn(rt: HostRuntime) -> Result<(), Fail> {
+    // With no list but that of one application processor, memory is asked for once.
+    let small = with_fadt_and_madt(0x8C, &two_processors(1));
+    for (file, least) in [(small, 1), (whole_platform(), 2)] {
+        let image = MemoryImage::from_bytes(rt.alloc(), &file)?;
+        let tables = AcpiTables::from_rsdt(&image, 0, 0x1000)?;
+        check_requests(&rt, &tables, least)?;
+    }
+    Ok(())
+}
+
+/// Whether the clone of a platform is refused, and whether those of its parts are.
+fn refused_clones<A: Allocator + Clone>(
+    rt: &impl Abort,
+    platform: &PlatformInfo<A>,
+) -> AcpiResult<[bool; 5]> {
+    let InterruptModel::Apic(apic) = &platform.interrupt_model else {
+        return Err(AcpiError::InvalidMadt(MadtError::UnexpectedEntry));
+    };
+    let Some(processors) = &platform.processor_info else {
+        return Err(AcpiError::InvalidMadt(MadtError::UnexpectedEntry));
+    };
+    let model = &platform.interrupt_model;
+    let refused = AcpiError::from;
+    Ok([
+        is_refused(rt, platform.clone().map_err(refused), platform.seen()),
+        is_refused(rt, model.clone().map_err(refused), model.seen()),
+        is_refused(rt, apic.clone().map_err(refused), apic.seen()),
+        is_refused(
+            rt,
+            apic.io_apics.clone().map_err(refused),
+            apic.io_apics.seen(),
+        ),
+        is_refused(rt, processors.clone().map_err(refused), processors.seen()),
+    ])
+}
+
+#[test]
+fn each_request_of_a_clone_is_refused_in_turn(rt: HostRuntime) -> Result<(), Fail> {
+    let file = whole_platform();
+    let image = MemoryImage::from_bytes(rt.alloc(), &file)?;
+    let tables = AcpiTables::from_rsdt(&image, 0, 0x1000)?;
+    let (mut counts, mut last) = ([0; 5], [true; 5]);
+    for blocks in 0..32usize {
+        let heap = LocalHeap::new(rt.alloc(), 16 * blocks)?;
+        let Ok(platform) = tables.platform_info_in(&heap) else {
+            continue;
+        };
+        let used = heap.used();
+        last = refused_clones(&rt, &platform)?;
+        assert_eq!(rt; heap.used(), used, "{blocks} blocks");
+        count(&mut counts, &last);
+    }
+    assert_eq!(rt; last, [false; 5]);
+    assert!(rt; counts.iter().all(|it| *it >= 2), "{counts:?}");
+    Ok(())
+}
