@@ -6,4 +6,5 @@ mod lookups;
 mod openings;
 mod order;
 mod pairing;
+mod platforms;
 mod searches;
