@@ -8,6 +8,8 @@ mod examples;
 #[cfg(test)]
 mod fixed;
 #[cfg(test)]
+mod hpet;
+#[cfg(test)]
 mod layouts;
 #[cfg(test)]
 mod madt;
