@@ -96,13 +96,15 @@ pub struct McfgEntryIter<'a> {
 }
 
 impl<'a> McfgEntryIter<'a> {
-    ghost use Rattle.std.specs.Prelude.{◌≡◌, length};
+    ghost use Rattle.std.specs.Prelude.{◌≡◌, ◌-◌, ◌/◌, length};
     ghost use Rattle.acpi_base.specs.Mcfg.{regions_left, regions_of};
 
     /// The entries of an MCFG's bytes: those behind its 44 fixed ones. It knows no memory and no
     /// handler.
+    #[tactic(auto, using(crate::proofs::Regions::length_regions_of))]
     pub fn over(table: &'a [u8]) -> Self
-        ensures { regions_left result ≡ regions_of table.now }
+        ensures items { regions_left result ≡ regions_of table.now }
+        ensures count { length (regions_left result) ≡ (length table.now - 44) / 16 }
     {
         McfgEntryIter {
             rest: skip(table, Mcfg::MIN_LENGTH),
@@ -144,7 +146,6 @@ impl<'h, H: AcpiHandler> PhysicalMapping<'h, H, Mcfg> {
     ghost use Rattle.acpi_base.specs.Mcfg.{regions_left, regions_of};
 
     /// The table's entries, in order: as many as there are whole ones behind the 44 fixed bytes.
-    #[tactic(auto, using(crate::proofs::Regions::length_regions_of))]
     pub fn entries(&self) -> McfgEntryIter<'_>
         ensures items { regions_left result ≡ regions_of (bytes_of self.now) }
         ensures count { length (regions_left result) ≡ (length (bytes_of self.now) - 44) / 16 }

@@ -16,6 +16,8 @@ mod madt;
 #[cfg(test)]
 mod model;
 #[cfg(test)]
+mod pci;
+#[cfg(test)]
 mod platform;
 #[cfg(test)]
 mod refusing;
