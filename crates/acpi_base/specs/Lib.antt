@@ -23,6 +23,8 @@ pub mod Model
 pub mod Names
 pub mod OneRegion
 pub mod Parts
+pub mod Spcr
+pub mod SpcrFlags
 pub mod Steps
 pub mod Table
 pub mod Text

@@ -1,5 +1,5 @@
 -- Texts, and how a signature is printed.
-use Rattle.std.specs.Prelude.{◌≡◌, IsUtf8, MatchOption, Option, ℕ, List, [], ◌∷◌, ◌+◌, ◌/◌, ◌%◌, if◌then◌else◌, nat_lt}
+use Rattle.std.specs.Prelude.{◌≡◌, Result, Ok, Err, IsUtf8, MatchOption, Option, ℕ, List, [], ◌∷◌, ◌+◌, ◌/◌, ◌%◌, if◌then◌else◌, nat_lt}
 use Rattle.std.specs.Borrow.{Bor}
 use Rattle.std.specs.Str.{is_utf8}
 use Rattle.acpi_base.specs.declared.signature.Signature.{Signature}
@@ -8,6 +8,11 @@ use Rattle.acpi_base.specs.declared.signature.Signature.{Signature}
 abbrev pub IsTextOf : Option (Bor (List ℕ)) → List ℕ → Type 0
 IsTextOf answer bytes =
     MatchOption answer (¬ (IsUtf8 bytes)) (λ text. (text.now ≡ bytes) × IsUtf8 bytes)
+
+-- the answer is the text, or the refusal, that is defined
+abbrev pub Shows : {E : Type 0} → Result (Bor (List ℕ)) E → Result (List ℕ) E → Type 0
+Shows (Ok text) defined = defined ≡ Ok text.now
+Shows (Err e) defined = defined ≡ Err e
 
 -- the four bytes of a signature
 abbrev pub letters_of : Signature → List ℕ

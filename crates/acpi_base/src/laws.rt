@@ -13,6 +13,7 @@ use crate::address::{AccessSize, AddressSpace, GenericAddress};
 use crate::error::{AcpiError, MadtError};
 use crate::madt::MpProtectedModeWakeupCommand;
 use crate::signature::Signature;
+use crate::spcr::SpcrInterfaceType;
 use std::cmp::Ordering;
 
 /// In a memory of disjoint regions, what is lent is exactly a range that lies whole inside one
@@ -108,6 +109,13 @@ pub fn access_size_equality(a: &AccessSize, b: &AccessSize) -> bool
 
 /// Generic addresses compare as equal exactly where they are one.
 pub fn address_equality(a: &GenericAddress, b: &GenericAddress) -> bool
+    ensures { IsEquality result a.now b.now }
+{
+    a == b
+}
+
+/// Interfaces of serial ports compare as equal exactly where they are one.
+pub fn interface_equality(a: &SpcrInterfaceType, b: &SpcrInterfaceType) -> bool
     ensures { IsEquality result a.now b.now }
 {
     a == b

@@ -19,6 +19,7 @@ pub mod mcfg;
 pub mod model;
 pub mod sdt;
 pub mod signature;
+pub mod spcr;
 pub mod table;
 
 pub use error::{AcpiError, AcpiResult, MadtError};

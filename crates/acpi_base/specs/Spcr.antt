@@ -1,0 +1,138 @@
+-- The Serial Port Console Redirection table (signature SPCR; ACPI 6.4, section 5.2.6).
+use Rattle.std.specs.Prelude.{ℕ, ◌+◌, ◌==◌, nat_le, nat_lt, List, [], ◌∷◌, length, replicate, slice_index_or, Option, Some, None, Result, Ok, Err, if◌then◌else◌}
+use Rattle.std.specs.Option.{option_or}
+use Rattle.std.specs.Str.{bytes_eq, is_utf8}
+use Rattle.acpi_base.specs.Address.{generic_address_of}
+use Rattle.acpi_base.specs.Bits.{bits_of, has_bit}
+use Rattle.acpi_base.specs.Bytes.{field_of, filled_part, part}
+use Rattle.acpi_base.specs.Header.{header_at}
+use Rattle.acpi_base.specs.Steps.{◌>>=◌, holds}
+use Rattle.acpi_base.specs.declared.address.GenericAddress.{GenericAddress}
+use Rattle.acpi_base.specs.declared.error.AcpiError.{AcpiError}
+use Rattle.acpi_base.specs.declared.error.AcpiError.TheVariants.{InvalidNamespaceString}
+use Rattle.acpi_base.specs.declared.spcr.Spcr.{Spcr}
+use Rattle.acpi_base.specs.declared.spcr.interface.SpcrInterfaceType.{SpcrInterfaceType}
+use Rattle.acpi_base.specs.declared.spcr.interface.SpcrInterfaceType.TheVariants as interface
+
+-- what a table's bytes mean
+unfoldable pub spcr_at : List ℕ → Spcr
+spcr_at b = record {
+  header = header_at b;
+  interface_type = field_of b 36 1;
+  base_address = filled_part b 40 12;
+  interrupt_type = field_of b 52 1;
+  irq = field_of b 53 1;
+  global_system_interrupt = field_of b 54 4;
+  configured_baud_rate = field_of b 58 1;
+  parity = field_of b 59 1;
+  stop_bits = field_of b 60 1;
+  flow_control = field_of b 61 1;
+  terminal_type = field_of b 62 1;
+  language = field_of b 63 1;
+  pci_device_id = field_of b 64 2;
+  pci_vendor_id = field_of b 66 2;
+  pci_bus_number = field_of b 68 1;
+  pci_device_number = field_of b 69 1;
+  pci_function_number = field_of b 70 1;
+  pci_flags = field_of b 71 4;
+  pci_segment = field_of b 75 1;
+  uart_clock_frequency = field_of b 76 4;
+  precise_baud_rate = field_of b 80 4;
+  namespace_length = field_of b 84 2;
+  namespace_offset = field_of b 86 2;
+}
+
+-- ---- what calls answer
+
+-- the interfaces in the order of their codes, from 0 on; 7 is none of them
+abbrev pub interfaces : List SpcrInterfaceType
+interfaces =
+    interface.Full16550 ∷ interface.Full16450 ∷ interface.MAX311xE ∷ interface.ArmPL011
+    ∷ interface.MSM8x60 ∷ interface.Nvidia16550 ∷ interface.TiOmap ∷ interface.Unknown 7
+    ∷ interface.APM88xxxx ∷ interface.Msm8974 ∷ interface.Sam5250 ∷ interface.IntelUSIF
+    ∷ interface.Imx6 ∷ interface.ArmSBSAGeneric32bit ∷ interface.ArmSBSAGeneric
+    ∷ interface.ArmDCC ∷ interface.Bcm2835 ∷ interface.Sdm845_18432 ∷ interface.Generic16550
+    ∷ interface.Sdm845_7372 ∷ interface.IntelLPSS ∷ interface.RiscVSbi ∷ []
+
+-- the interface of a code
+abbrev pub interface_of : ℕ → SpcrInterfaceType
+interface_of code = slice_index_or interfaces code (interface.Unknown code)
+
+abbrev pub interface_in : Spcr → SpcrInterfaceType
+interface_in t = interface_of t.interface_type
+
+-- where the registers lie, where not all of the bytes are zero
+abbrev pub base_of : Spcr → Option (Result GenericAddress AcpiError)
+base_of t =
+    if bytes_eq t.base_address (replicate 12 0) then None
+    else Some (generic_address_of t.base_address)
+
+-- a number, unless it is the one that stands for none
+abbrev pub unless : ℕ → ℕ → Option ℕ
+unless none number = if number == none then None else Some number
+
+-- the baud rate of a code
+abbrev pub configured_baud : ℕ → Option ℕ
+configured_baud code =
+    if code == 3 then Some 9600
+    else if code == 4 then Some 19200
+    else if code == 6 then Some 57600
+    else if code == 7 then Some 115200
+    else None
+
+-- the precise rate, or else that of the code
+abbrev pub baud_of : Spcr → Option ℕ
+baud_of t = option_or (unless 0 t.precise_baud_rate) (configured_baud t.configured_baud_rate)
+
+-- the interrupt on the 8259 controllers, where bit 0 says that there is one
+abbrev pub irq_of : Spcr → Option ℕ
+irq_of t = if has_bit t.interrupt_type 0 then Some t.irq else None
+
+-- the global system interrupt, where one of bits 1 to 4 says that there is one
+abbrev pub interrupt_of : Spcr → Option ℕ
+interrupt_of t = if bits_of t.interrupt_type 1 4 == 0 then None else Some t.global_system_interrupt
+
+abbrev pub device_id_of : Spcr → Option ℕ
+device_id_of t = unless 0xffff t.pci_device_id
+
+abbrev pub vendor_id_of : Spcr → Option ℕ
+vendor_id_of t = unless 0xffff t.pci_vendor_id
+
+abbrev pub bus_of : Spcr → Option ℕ
+bus_of t = unless 0 t.pci_bus_number
+
+abbrev pub device_of : Spcr → Option ℕ
+device_of t = unless 0 t.pci_device_number
+
+abbrev pub function_of : Spcr → Option ℕ
+function_of t = unless 0 t.pci_function_number
+
+-- the clock, in a table of a revision above 2
+abbrev pub clock_of : Spcr → Option ℕ
+clock_of t = if nat_lt 2 t.header.revision then unless 0 t.uart_clock_frequency else None
+
+-- the bytes that hold sets of flags
+
+abbrev pub interrupt_byte : Spcr → ℕ
+interrupt_byte t = t.interrupt_type
+
+abbrev pub terminal_byte : Spcr → ℕ
+terminal_byte t = t.terminal_type
+
+abbrev pub flow_byte : Spcr → ℕ
+flow_byte t = t.flow_control
+
+-- ---- the name in the namespace
+
+-- the bytes, where they are a text
+abbrev pub name_of : List ℕ → Result (List ℕ) AcpiError
+name_of bytes = if is_utf8 bytes then Ok bytes else Err InvalidNamespaceString
+
+-- the name of the length and at the offset that the fields say, where the table has it
+abbrev pub namespace_in : Spcr → List ℕ → Result (List ℕ) AcpiError
+namespace_in t table = do
+  _ ← holds (nat_le (t.namespace_offset + t.namespace_length) (length table)) InvalidNamespaceString
+  name_of (part table t.namespace_offset t.namespace_length)
+
+abbrev pub namespace_of : List ℕ → Result (List ℕ) AcpiError
+namespace_of table = namespace_in (spcr_at table) table

@@ -1,0 +1,181 @@
+//! Sets of flags in the SPCR. Their calls are those of the crate `bitflags`.
+ghost use Rattle.std.specs.Prelude.{⊤, [], ◌∷◌, codes};
+
+use bitflags::{Flag, Flags};
+
+/// Which controllers a serial port's interrupt comes to.
+#[derive(Clone, Copy, Debug)]
+pub struct SpcrInterruptType(u8);
+
+impl SpcrInterruptType {
+    /// The pair of 8259 controllers.
+    pub const DUAL_8259: SpcrInterruptType = SpcrInterruptType(1);
+
+    /// An I/O APIC, by a global system interrupt.
+    pub const IO_APIC: SpcrInterruptType = SpcrInterruptType(1 << 1);
+
+    /// An I/O SAPIC, by a global system interrupt.
+    pub const IO_SAPIC: SpcrInterruptType = SpcrInterruptType(1 << 2);
+
+    /// Arm's GIC, by a global system interrupt.
+    pub const ARMH_GIC: SpcrInterruptType = SpcrInterruptType(1 << 3);
+
+    /// RISC-V's PLIC or APLIC, by a global system interrupt.
+    pub const RISCV_PLIC: SpcrInterruptType = SpcrInterruptType(1 << 4);
+
+    const FLAGS: &'static [Flag<SpcrInterruptType>] = &[
+        Flag {
+            name: "DUAL_8259",
+            value: SpcrInterruptType::DUAL_8259,
+        },
+        Flag {
+            name: "IO_APIC",
+            value: SpcrInterruptType::IO_APIC,
+        },
+        Flag {
+            name: "IO_SAPIC",
+            value: SpcrInterruptType::IO_SAPIC,
+        },
+        Flag {
+            name: "ARMH_GIC",
+            value: SpcrInterruptType::ARMH_GIC,
+        },
+        Flag {
+            name: "RISCV_PLIC",
+            value: SpcrInterruptType::RISCV_PLIC,
+        },
+    ];
+}
+
+impl Flags for SpcrInterruptType {
+    type Bits = u8;
+
+    ghost exact = { ⊤ };
+
+    ghost table = { (codes "DUAL_8259", 1) ∷ (codes "IO_APIC", 2) ∷ (codes "IO_SAPIC", 4) ∷ (codes "ARMH_GIC", 8) ∷ (codes "RISCV_PLIC", 16) ∷ [] };
+
+    ghost set_of = { λ s. s.0 };
+
+    fn flags<'a>() -> &'a [Flag<SpcrInterruptType>] {
+        SpcrInterruptType::FLAGS
+    }
+
+    fn bits(&self) -> u8 {
+        self.0
+    }
+
+    fn from_bits_retain(bits: u8) -> SpcrInterruptType {
+        SpcrInterruptType(bits)
+    }
+}
+
+/// Which terminals the firmware spoke to.
+#[derive(Clone, Copy, Debug)]
+pub struct SpcrTerminalType(u8);
+
+impl SpcrTerminalType {
+    /// VT100.
+    pub const VT1000: SpcrTerminalType = SpcrTerminalType(1);
+
+    /// Extended VT100, or VT100+.
+    pub const EXTENDED_VT1000: SpcrTerminalType = SpcrTerminalType(1 << 1);
+
+    /// VT-UTF8.
+    pub const VT_UTF8: SpcrTerminalType = SpcrTerminalType(1 << 2);
+
+    /// ANSI.
+    pub const ANSI: SpcrTerminalType = SpcrTerminalType(1 << 3);
+
+    const FLAGS: &'static [Flag<SpcrTerminalType>] = &[
+        Flag {
+            name: "VT1000",
+            value: SpcrTerminalType::VT1000,
+        },
+        Flag {
+            name: "EXTENDED_VT1000",
+            value: SpcrTerminalType::EXTENDED_VT1000,
+        },
+        Flag {
+            name: "VT_UTF8",
+            value: SpcrTerminalType::VT_UTF8,
+        },
+        Flag {
+            name: "ANSI",
+            value: SpcrTerminalType::ANSI,
+        },
+    ];
+}
+
+impl Flags for SpcrTerminalType {
+    type Bits = u8;
+
+    ghost exact = { ⊤ };
+
+    ghost table = { (codes "VT1000", 1) ∷ (codes "EXTENDED_VT1000", 2) ∷ (codes "VT_UTF8", 4) ∷ (codes "ANSI", 8) ∷ [] };
+
+    ghost set_of = { λ s. s.0 };
+
+    fn flags<'a>() -> &'a [Flag<SpcrTerminalType>] {
+        SpcrTerminalType::FLAGS
+    }
+
+    fn bits(&self) -> u8 {
+        self.0
+    }
+
+    fn from_bits_retain(bits: u8) -> SpcrTerminalType {
+        SpcrTerminalType(bits)
+    }
+}
+
+/// How the flow of bytes is controlled.
+#[derive(Clone, Copy, Debug)]
+pub struct SpcrFlowControl(u8);
+
+impl SpcrFlowControl {
+    /// Nothing is sent without the carrier detect signal.
+    pub const DCD: SpcrFlowControl = SpcrFlowControl(1);
+
+    /// By the request to send and clear to send signals.
+    pub const RTS_CTS: SpcrFlowControl = SpcrFlowControl(1 << 1);
+
+    /// By the bytes XON and XOFF.
+    pub const XON_XOFF: SpcrFlowControl = SpcrFlowControl(1 << 2);
+
+    const FLAGS: &'static [Flag<SpcrFlowControl>] = &[
+        Flag {
+            name: "DCD",
+            value: SpcrFlowControl::DCD,
+        },
+        Flag {
+            name: "RTS_CTS",
+            value: SpcrFlowControl::RTS_CTS,
+        },
+        Flag {
+            name: "XON_XOFF",
+            value: SpcrFlowControl::XON_XOFF,
+        },
+    ];
+}
+
+impl Flags for SpcrFlowControl {
+    type Bits = u8;
+
+    ghost exact = { ⊤ };
+
+    ghost table = { (codes "DCD", 1) ∷ (codes "RTS_CTS", 2) ∷ (codes "XON_XOFF", 4) ∷ [] };
+
+    ghost set_of = { λ s. s.0 };
+
+    fn flags<'a>() -> &'a [Flag<SpcrFlowControl>] {
+        SpcrFlowControl::FLAGS
+    }
+
+    fn bits(&self) -> u8 {
+        self.0
+    }
+
+    fn from_bits_retain(bits: u8) -> SpcrFlowControl {
+        SpcrFlowControl(bits)
+    }
+}

@@ -1,0 +1,85 @@
+//! The interfaces that a serial port's registers have.
+
+/// The interface of a serial port's registers.
+#[derive(Clone, Copy, Debug, PartialEq, Eq)]
+pub enum SpcrInterfaceType {
+    /// A full 16550.
+    Full16550,
+    /// A full 16450, which must also take writes to the FIFO control register of the 16550.
+    Full16450,
+    /// MAX311xE, over SPI.
+    MAX311xE,
+    /// Arm PL011.
+    ArmPL011,
+    /// MSM8x60, such as 8960.
+    MSM8x60,
+    /// Nvidia's 16550.
+    Nvidia16550,
+    /// TI OMAP.
+    TiOmap,
+    /// APM88xxxx.
+    APM88xxxx,
+    /// MSM8974.
+    Msm8974,
+    /// SAM5250.
+    Sam5250,
+    /// Intel USIF.
+    IntelUSIF,
+    /// i.MX 6.
+    Imx6,
+    /// Arm SBSA 2.x, with accesses of 32 bits alone. Deprecated.
+    ArmSBSAGeneric32bit,
+    /// Arm SBSA.
+    ArmSBSAGeneric,
+    /// Arm's debug communications channel.
+    ArmDCC,
+    /// BCM2835.
+    Bcm2835,
+    /// SDM845 with a clock of 1.8432 MHz.
+    Sdm845_18432,
+    /// Like a 16550, with the width and the distance of the registers from the generic address.
+    Generic16550,
+    /// SDM845 with a clock of 7.372 MHz.
+    Sdm845_7372,
+    /// Intel LPSS.
+    IntelLPSS,
+    /// The console of a RISC-V SBI.
+    RiscVSbi,
+    /// Another code.
+    Unknown(u8),
+}
+
+impl From<u8> for SpcrInterfaceType {
+    ghost use Rattle.std.specs.Prelude.{◌≡◌};
+    ghost use Rattle.acpi_base.specs.Spcr.{interface_of};
+
+    ghost from_gives = { λ code r. r ≡ interface_of code };
+
+    /// The interface of a code.
+    fn from(code: u8) -> SpcrInterfaceType {
+        match code {
+            0x00 => SpcrInterfaceType::Full16550,
+            0x01 => SpcrInterfaceType::Full16450,
+            0x02 => SpcrInterfaceType::MAX311xE,
+            0x03 => SpcrInterfaceType::ArmPL011,
+            0x04 => SpcrInterfaceType::MSM8x60,
+            0x05 => SpcrInterfaceType::Nvidia16550,
+            0x06 => SpcrInterfaceType::TiOmap,
+            0x08 => SpcrInterfaceType::APM88xxxx,
+            0x09 => SpcrInterfaceType::Msm8974,
+            0x0A => SpcrInterfaceType::Sam5250,
+            0x0B => SpcrInterfaceType::IntelUSIF,
+            0x0C => SpcrInterfaceType::Imx6,
+            0x0D => SpcrInterfaceType::ArmSBSAGeneric32bit,
+            0x0E => SpcrInterfaceType::ArmSBSAGeneric,
+            0x0F => SpcrInterfaceType::ArmDCC,
+            0x10 => SpcrInterfaceType::Bcm2835,
+            0x11 => SpcrInterfaceType::Sdm845_18432,
+            0x12 => SpcrInterfaceType::Generic16550,
+            0x13 => SpcrInterfaceType::Sdm845_7372,
+            0x14 => SpcrInterfaceType::IntelLPSS,
+            0x15 => SpcrInterfaceType::RiscVSbi,
+            other => SpcrInterfaceType::Unknown(other),
+        }
+    }
+}
