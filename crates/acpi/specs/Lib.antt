@@ -9,7 +9,9 @@ pub mod Platform
 pub mod Pointers
 pub mod Root
 pub mod Rsdp
+pub mod Scripted
 pub mod Search
 pub mod Tables
 pub mod Timer
+pub mod Wake
 pub mod Walks

@@ -4,7 +4,10 @@ ghost use Rattle.acpi.specs.Platform.{PlatformAsks, ModelAsks, model_in, platfor
 ghost use Rattle.acpi.specs.Tables.{memory_of, pointers_of};
 
 pub mod interrupt;
+mod mailbox;
+mod scripted;
 mod timer;
+mod wakeup;
 
 use crate::tables::AcpiTables;
 use acpi_base::madt::Madt;
@@ -12,8 +15,11 @@ pub use acpi_base::model::{Processor, ProcessorInfo, ProcessorState};
 use acpi_base::{AcpiHandler, AcpiResult};
 use acpi_fixed::fadt::{Fadt, PowerProfile};
 use interrupt::InterruptModel;
+pub use mailbox::{Mailbox, MailboxWrite};
+pub use scripted::ScriptedMailbox;
 use std::alloc::{Allocator, Global};
 pub use timer::PmTimer;
+pub use wakeup::wakeup_aps;
 
 /// What a machine is for, its interrupt controllers and processors, and its timer.
 #[derive(Clone, Drop)]

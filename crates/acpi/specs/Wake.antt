@@ -1,0 +1,37 @@
+-- Waking a processor by the mailbox (ACPI 6.4, section 5.2.12.19).
+use Rattle.std.specs.Prelude.{◌≡◌, ◌≢◌, ◌<◌, ◌+◌, ℕ, List, Result}
+use Rattle.acpi_base.specs.Madt.{mailbox_of}
+use Rattle.acpi_base.specs.Memory.{Memory}
+use Rattle.acpi_base.specs.Steps.{◌>>=◌}
+use Rattle.acpi_base.specs.declared.error.AcpiError.{AcpiError}
+use Rattle.acpi.specs.Lookup.{lookup}
+use Rattle.acpi.specs.Platform.{madt_kind}
+
+-- where the mailbox of the first valid MADT lies
+abbrev pub mailbox_found : Memory → List ℕ → Result ℕ AcpiError
+mailbox_found m ps = do
+  found ← lookup m madt_kind ps
+  mailbox_of found.1
+
+-- what opening it answers, where each address has this answer
+abbrev pub opening : (ℕ → Result (Unit {0}) AcpiError) → Result ℕ AcpiError → Result (Unit {0}) AcpiError
+opening answers found = found >>= answers
+
+-- ---- reading the command
+
+-- the answers to come after are those from the n-th on before: n reads were made
+abbrev pub AfterReads : (ℕ → ℕ) → ℕ → (ℕ → ℕ) → Type 0
+AfterReads before n after = (j : ℕ) → after j ≡ before (j + n)
+
+-- none of the first n answers is 0
+abbrev pub NoneBelow : (ℕ → ℕ) → ℕ → Type 0
+NoneBelow answer n = (k : ℕ) → k < n → answer k ≢ 0
+
+-- the first answer 0 comes under n, and it is the last that was read
+abbrev pub Wakes : (ℕ → ℕ) → ℕ → (ℕ → ℕ) → Type 0
+Wakes before n after =
+    (i : ℕ) × (i < n) × (before i ≡ 0) × NoneBelow before i × AfterReads before (i + 1) after
+
+-- no answer under n is 0, and n were read
+abbrev pub Waits : (ℕ → ℕ) → ℕ → (ℕ → ℕ) → Type 0
+Waits before n after = NoneBelow before n × AfterReads before n after

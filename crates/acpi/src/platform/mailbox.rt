@@ -1,0 +1,81 @@
+//! The mailbox by which the firmware wakes processors.
+ghost use Rattle.std.specs.Prelude.{◌≡◌, ◌+◌, ◌++◌, ◌<◌, ◌∷◌, ℕ, List, [], length};
+ghost use Rattle.std.specs.Prelude.{OnErr, OnOk, Option, Result, Some};
+ghost use Rattle.acpi_base.specs.declared.error.AcpiError.{AcpiError};
+ghost use Rattle.acpi.specs.declared.platform.mailbox.MailboxWrite.{MailboxWrite};
+
+use acpi_base::AcpiResult;
+
+/// One write to a mailbox (section 5.2.12.19).
+#[derive(Clone, Copy, Debug, PartialEq, Eq)]
+pub enum MailboxWrite {
+    /// To the command.
+    Command(u16),
+    /// To the id of the local APIC that the command is for.
+    ApicId(u32),
+    /// To the address that the processor begins to run at.
+    WakeupVector(u64),
+}
+
+/// A mailbox (section 5.2.12.19), as a kernel or a test reaches it.
+///
+/// It means four things: for each address the answer that `open` gives there, the address that was
+/// opened, the writes since then, and for each number i the answer of the i-th read from now. Only
+/// `open` can fail.
+pub trait Mailbox {
+    // What `open` answers at each address.
+    ghost open_answer: { Self → ℕ → Result (Unit {0}) AcpiError };
+
+    // The address that was opened.
+    ghost opened: { Self → Option ℕ };
+
+    // The writes since then, in order.
+    ghost writes: { Self → List MailboxWrite };
+
+    // The answer of the i-th read from now, counted from 0.
+    ghost answer: { Self → ℕ → ℕ };
+
+    /// Opens the mailbox at a physical address, with no writes yet.
+    ///
+    /// Refuses as it likes, and then changes nothing.
+    fn open(&mut self, address: u64) -> AcpiResult<()>
+        ensures answered { result ≡ open_answer self.old address }
+        ensures ok { OnOk result ((opened self.new ≡ Some address) × (writes self.new ≡ [])) }
+        ensures refused { OnErr result
+            ((opened self.new ≡ opened self.old) × (writes self.new ≡ writes self.old)) }
+        ensures reads_kept { (i : ℕ) → answer self.new i ≡ answer self.old i }
+        ensures answers_kept { (a : ℕ) → open_answer self.new a ≡ open_answer self.old a };
+
+    /// Writes the command.
+    fn write_command(&mut self, command: u16)
+        requires { length (writes self.old) < 4 }
+        ensures written { writes self.new ≡ writes self.old ++ MailboxWrite.Command command ∷ [] }
+        ensures opened_kept { opened self.new ≡ opened self.old }
+        ensures reads_kept { (i : ℕ) → answer self.new i ≡ answer self.old i }
+        ensures answers_kept { (a : ℕ) → open_answer self.new a ≡ open_answer self.old a };
+
+    /// Writes the id of the local APIC that the command is for.
+    fn write_apic_id(&mut self, id: u32)
+        requires { length (writes self.old) < 4 }
+        ensures written { writes self.new ≡ writes self.old ++ MailboxWrite.ApicId id ∷ [] }
+        ensures opened_kept { opened self.new ≡ opened self.old }
+        ensures reads_kept { (i : ℕ) → answer self.new i ≡ answer self.old i }
+        ensures answers_kept { (a : ℕ) → open_answer self.new a ≡ open_answer self.old a };
+
+    /// Writes the physical address that the processor begins to run at.
+    fn write_wakeup_vector(&mut self, vector: u64)
+        requires { length (writes self.old) < 4 }
+        ensures written { writes self.new
+            ≡ writes self.old ++ MailboxWrite.WakeupVector vector ∷ [] }
+        ensures opened_kept { opened self.new ≡ opened self.old }
+        ensures reads_kept { (i : ℕ) → answer self.new i ≡ answer self.old i }
+        ensures answers_kept { (a : ℕ) → open_answer self.new a ≡ open_answer self.old a };
+
+    /// Reads the command. The firmware sets it to 0 once it has taken it.
+    fn read_command(&mut self) -> u16
+        ensures answered { result ≡ answer self.old 0 }
+        ensures moved { (i : ℕ) → answer self.new i ≡ answer self.old (i + 1) }
+        ensures opened_kept { opened self.new ≡ opened self.old }
+        ensures written_kept { writes self.new ≡ writes self.old }
+        ensures answers_kept { (a : ℕ) → open_answer self.new a ≡ open_answer self.old a };
+}

@@ -1,0 +1,114 @@
+//! A mailbox that answers from a script, for tests and dry runs.
+ghost use Rattle.std.specs.Prelude.{◌≡◌, ◌≤◌, ◌<◌, ◌+◌, ◌++◌, ◌∷◌, ℕ, [], None, length, slice_index_or, take, min};
+
+use super::mailbox::{Mailbox, MailboxWrite};
+use acpi_base::AcpiResult;
+
+/// A mailbox that can be opened anywhere, gives these answers to the reads, and then 1 for ever. It
+/// shows what was done to it.
+#[derive(Drop)]
+pub struct ScriptedMailbox<'a> {
+    answers: &'a [u16],
+    opened: Option<u64>,
+    writes: [MailboxWrite; 4],
+    written: usize,
+    reads: u64,
+    ghost room: { written ≤ 4 },
+}
+
+impl<'a> ScriptedMailbox<'a> {
+    ghost use Rattle.std.specs.Prelude.{◌≡◌, ◌<◌, ◌++◌, ◌∷◌, ℕ, [], None, slice_index_or, take};
+    ghost use Rattle.acpi.specs.Scripted.{reads_of};
+
+    /// A mailbox that gives these answers, from the first on. It isn't opened yet.
+    pub fn new(answers: &'a [u16]) -> ScriptedMailbox<'a>
+        ensures answers { (i : ℕ) → ⟦<ScriptedMailbox<'a> as Mailbox>⟧.answer result i
+            ≡ slice_index_or answers.now i 1 }
+        ensures opened { ⟦<ScriptedMailbox<'a> as Mailbox>⟧.opened result ≡ None }
+        ensures writes { ⟦<ScriptedMailbox<'a> as Mailbox>⟧.writes result ≡ [] }
+        ensures reads { reads_of result ≡ 0 }
+    {
+        ScriptedMailbox {
+            answers,
+            opened: None,
+            writes: [MailboxWrite::Command(0); 4],
+            written: 0,
+            reads: 0,
+        }
+    }
+
+    /// The address that was opened last, if any.
+    pub fn opened(&self) -> Option<u64>
+        ensures { result ≡ ⟦<ScriptedMailbox<'a> as Mailbox>⟧.opened self.now }
+    {
+        self.opened
+    }
+
+    /// The writes since then, in order.
+    pub fn writes(&self) -> &[MailboxWrite]
+        ensures { result.now ≡ ⟦<ScriptedMailbox<'a> as Mailbox>⟧.writes self.now }
+    {
+        &self.writes[..self.written]
+    }
+
+    /// How many reads there were, since it was made; it stays at the greatest `u64`.
+    pub fn reads(&self) -> u64
+        ensures { result ≡ reads_of self.now }
+    {
+        self.reads
+    }
+
+    /// Keeps one more write.
+    fn put(&mut self, write: MailboxWrite)
+        requires { self.old.written < 4 }
+        ensures written { take self.new.written self.new.writes
+            ≡ take self.old.written self.old.writes ++ write ∷ [] }
+        ensures opened { self.new.opened ≡ self.old.opened }
+        ensures answers { self.new.answers.now ≡ self.old.answers.now }
+        ensures reads { self.new.reads ≡ self.old.reads }
+    {
+        self.writes[self.written] = write;
+        self.written += 1;
+    }
+}
+
+impl<'a> Mailbox for ScriptedMailbox<'a> {
+    ghost use Rattle.std.specs.Prelude.{Ok, take, slice_index_or};
+
+    ghost open_answer = { λ _ _. Ok tt };
+
+    ghost opened = { λ s. s.opened };
+
+    ghost writes = { λ s. take s.written s.writes };
+
+    ghost answer = { λ s i. slice_index_or s.answers.now i 1 };
+
+    fn open(&mut self, address: u64) -> AcpiResult<()> {
+        self.opened = Some(address);
+        self.written = 0;
+        Ok(())
+    }
+
+    fn write_command(&mut self, command: u16) {
+        self.put(MailboxWrite::Command(command));
+    }
+
+    fn write_apic_id(&mut self, id: u32) {
+        self.put(MailboxWrite::ApicId(id));
+    }
+
+    fn write_wakeup_vector(&mut self, vector: u64) {
+        self.put(MailboxWrite::WakeupVector(vector));
+    }
+
+    fn read_command(&mut self) -> u16 {
+        self.reads = self.reads.saturating_add(1);
+        match self.answers {
+            [] => 1,
+            [first, rest @ ..] => {
+                self.answers = rest;
+                *first
+            }
+        }
+    }
+}

@@ -1,0 +1,87 @@
+//! Waking a processor by the mailbox.
+ghost use Rattle.std.specs.Prelude.{◌≡◌, ℕ, [], ◌∷◌, OnOk, MatchResult, Some, Ok, Err};
+ghost use Rattle.acpi_base.specs.declared.error.AcpiError.{AcpiError};
+ghost use Rattle.acpi_base.specs.declared.error.AcpiError.TheVariants.{InvalidMadt};
+ghost use Rattle.acpi_base.specs.declared.error.MadtError.TheVariants.{WakeupApsTimeout};
+ghost use Rattle.acpi.specs.Tables.{memory_of, pointers_of};
+ghost use Rattle.acpi.specs.Wake.{Waits, Wakes, mailbox_found, opening};
+ghost use Rattle.acpi.specs.declared.platform.mailbox.MailboxWrite.{MailboxWrite};
+
+use super::mailbox::Mailbox;
+use crate::tables::AcpiTables;
+use acpi_base::madt::{Madt, MadtError, MpProtectedModeWakeupCommand};
+use acpi_base::{AcpiError, AcpiHandler, AcpiResult};
+
+/// Wakes the processor with a local APIC id: it then begins to run at the vector, a physical address
+/// (section 5.2.12.19). The mailbox is that of the first wakeup entry of the first valid MADT. It gets
+/// the command 0, the id, the vector, the command 1; then the command is read until it is 0, at most
+/// `timeout_loops` times. A command that has no meaning counts as not yet 0.
+///
+/// Refuses, in this order, with `TableMissing` where no valid MADT is listed, with what
+/// `get_mpwk_mailbox_addr` refuses, with what the mailbox's `open` refuses, each without a write or a
+/// read, and with `InvalidMadt(WakeupApsTimeout)` where no read is 0.
+pub fn wakeup_aps<H: AcpiHandler, M: Mailbox>(
+    tables: &AcpiTables<'_, H>,
+    mailbox: &mut M,
+    apic_id: u32,
+    wakeup_vector: u64,
+    timeout_loops: u64,
+) -> AcpiResult<()>
+    ensures refused { (e : AcpiError)
+        → opening (M.open_answer mailbox.old) (mailbox_found (memory_of tables.now)
+        (pointers_of tables.now)) ≡ Err e
+        → (result ≡ Err e) × (M.writes mailbox.new ≡ M.writes mailbox.old)
+        × (M.opened mailbox.new ≡ M.opened mailbox.old)
+        × ((i : ℕ) → M.answer mailbox.new i ≡ M.answer mailbox.old i) }
+    ensures opened { (a : ℕ) → mailbox_found (memory_of tables.now) (pointers_of tables.now) ≡ Ok a
+        → OnOk (M.open_answer mailbox.old a) (M.opened mailbox.new ≡ Some a) }
+    ensures written { OnOk (opening (M.open_answer mailbox.old)
+        (mailbox_found (memory_of tables.now) (pointers_of tables.now)))
+        (M.writes mailbox.new ≡ MailboxWrite.Command 0 ∷ MailboxWrite.ApicId apic_id
+        ∷ MailboxWrite.WakeupVector wakeup_vector ∷ MailboxWrite.Command 1 ∷ []) }
+    ensures answered { OnOk (opening (M.open_answer mailbox.old)
+        (mailbox_found (memory_of tables.now) (pointers_of tables.now)))
+        (MatchResult result
+        (λ _. Wakes (M.answer mailbox.old) timeout_loops (M.answer mailbox.new))
+        (λ e. (e ≡ InvalidMadt WakeupApsTimeout)
+        × Waits (M.answer mailbox.old) timeout_loops (M.answer mailbox.new))) }
+{
+    let madt = tables.find_table::<Madt>()?;
+    let address = madt.get_mpwk_mailbox_addr()?;
+    wake(mailbox, address, apic_id, wakeup_vector, timeout_loops)
+}
+
+/// Wakes a processor by the mailbox at an address.
+fn wake<M: Mailbox>(
+    mailbox: &mut M,
+    address: u64,
+    apic_id: u32,
+    wakeup_vector: u64,
+    timeout_loops: u64,
+) -> AcpiResult<()>
+    ensures refused { (e : AcpiError) → M.open_answer mailbox.old address ≡ Err e
+        → (result ≡ Err e) × (M.writes mailbox.new ≡ M.writes mailbox.old)
+        × (M.opened mailbox.new ≡ M.opened mailbox.old)
+        × ((i : ℕ) → M.answer mailbox.new i ≡ M.answer mailbox.old i) }
+    ensures opened { OnOk (M.open_answer mailbox.old address)
+        (M.opened mailbox.new ≡ Some address) }
+    ensures written { OnOk (M.open_answer mailbox.old address) (M.writes mailbox.new
+        ≡ MailboxWrite.Command 0 ∷ MailboxWrite.ApicId apic_id
+        ∷ MailboxWrite.WakeupVector wakeup_vector ∷ MailboxWrite.Command 1 ∷ []) }
+    ensures answered { OnOk (M.open_answer mailbox.old address) (MatchResult result
+        (λ _. Wakes (M.answer mailbox.old) timeout_loops (M.answer mailbox.new))
+        (λ e. (e ≡ InvalidMadt WakeupApsTimeout)
+        × Waits (M.answer mailbox.old) timeout_loops (M.answer mailbox.new))) }
+{
+    mailbox.open(address)?;
+    mailbox.write_command(MpProtectedModeWakeupCommand::Noop as u16);
+    mailbox.write_apic_id(apic_id);
+    mailbox.write_wakeup_vector(wakeup_vector);
+    mailbox.write_command(MpProtectedModeWakeupCommand::Wakeup as u16);
+    for _read in 0..timeout_loops {
+        if mailbox.read_command() == MpProtectedModeWakeupCommand::Noop as u16 {
+            return Ok(());
+        }
+    }
+    Err(AcpiError::InvalidMadt(MadtError::WakeupApsTimeout))
+}
