@@ -7,6 +7,7 @@ use acpi::fadt::Fadt;
 use acpi::hpet::HpetTable;
 use acpi::madt::Madt;
 use acpi::mcfg::Mcfg;
+use acpi::spcr::Spcr;
 use acpi::{AcpiError, AcpiHandler, AcpiTable, AcpiTables, AmlTable, HpetInfo, PciConfigRegions};
 use platform::print_platform;
 use std::alloc::Global;
@@ -26,7 +27,8 @@ pub(crate) fn print_parts<H: AcpiHandler, W: Write>(
     print_platform(alloc, tables, out)?;
     print_hpet(tables, out)?;
     print_pci(alloc, tables, out)?;
-    print_bgrt(tables, out)
+    print_bgrt(tables, out)?;
+    print_spcr(tables, out)
 }
 
 /// Prints why tables were passed over, for each type of table that the program looks for.
@@ -38,7 +40,8 @@ pub(crate) fn print_skipped_tables<H: AcpiHandler, E: Write>(
     print_skipped::<H, Madt, E>(tables, err)?;
     print_skipped::<H, Mcfg, E>(tables, err)?;
     print_skipped::<H, HpetTable, E>(tables, err)?;
-    print_skipped::<H, Bgrt, E>(tables, err)
+    print_skipped::<H, Bgrt, E>(tables, err)?;
+    print_skipped::<H, Spcr, E>(tables, err)
 }
 
 /// `skipped SIG ADDRESS: REFUSAL` for each table that the lookup of a type passes over, but for
@@ -135,6 +138,27 @@ fn print_bgrt<H: AcpiHandler, W: Write>(tables: &AcpiTables<'_, H>, out: &mut W)
         out,
         "bgrt displayed {displayed} angle {angle} offset {x} {y}"
     )
+}
+
+/// `spcr baud B irq I gsi G` for the serial console.
+fn print_spcr<H: AcpiHandler, W: Write>(tables: &AcpiTables<'_, H>, out: &mut W) -> io::Result<()> {
+    let console = match tables.find_table::<Spcr>() {
+        Ok(console) => console,
+        Err(refusal) => return print_refused("spcr", refusal, out),
+    };
+    write!(out, "spcr")?;
+    print_number("baud", console.baud_rate(), out)?;
+    print_number("irq", console.irq().map(u32::from), out)?;
+    print_number("gsi", console.global_system_interrupt(), out)?;
+    writeln!(out)
+}
+
+/// ` NAME N`, or ` NAME none`.
+fn print_number<W: Write>(name: &str, number: Option<u32>, out: &mut W) -> io::Result<()> {
+    match number {
+        Some(number) => write!(out, " {name} {number}"),
+        None => write!(out, " {name} none"),
+    }
 }
 
 /// `PART ADDRESS length L` for a stream of AML.

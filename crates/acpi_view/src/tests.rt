@@ -4,6 +4,7 @@
 //! output of the sample `one_graphic.image` is what the crate's file `stdout` has.
 ghost use Rattle.std.specs.Prelude.{◌+◌, ◌≤◌, length};
 
+mod console;
 mod devices;
 mod parts;
 mod platform;

@@ -6,7 +6,7 @@ use std::process::Abort;
 use std::test::Fail;
 
 /// Where the first table behind a root of 40 bytes begins in a file.
-const TABLE: usize = 72;
+pub(super) const TABLE: usize = 72;
 
 /// Writes a record: where a table starts, and what it begins with, so many bytes long, with this
 /// checksum.
@@ -19,7 +19,7 @@ fn put_table(file: &mut [u8], offset: usize, start: u64, name: &[u8; 4], count: 
 }
 
 /// Writes an RSDT that lists one table, and that table.
-fn put_only_table(file: &mut [u8], name: &[u8; 4], count: u8, checksum: u8)
+pub(super) fn put_only_table(file: &mut [u8], name: &[u8; 4], count: u8, checksum: u8)
     requires { 82 ≤ length file.old }
 {
     put_table(file, 0, 0x1000, b"RSDT", 40, 0x7B);
@@ -104,15 +104,16 @@ fn prints_a_region_that_holds_no_bus(rt: HostRuntime) -> Result<(), Fail> {
 /// The root lists the types that the program looks for, the last first. The sum of each is 1.
 #[test]
 fn says_in_its_own_order_which_tables_were_skipped(rt: HostRuntime) {
-    let mut file = [0; 468];
-    put_table(&mut file, 0, 0x1000, b"RSDT", 56, 0x4B);
+    let mut file = [0; 568];
+    put_table(&mut file, 0, 0x1000, b"RSDT", 60, 0xD7);
     put(&mut file, 52, &[0, 0x20, 0, 0, 0, 0x30, 0, 0, 0, 0x40]);
-    put(&mut file, 64, &[0, 0x50, 0, 0, 0, 0x60]);
-    put_table(&mut file, 72, 0x2000, b"BGRT", 56, 0x9A);
-    put_table(&mut file, 144, 0x3000, b"HPET", 56, 0x98);
-    put_table(&mut file, 216, 0x4000, b"MCFG", 44, 0xB8);
-    put_table(&mut file, 276, 0x5000, b"APIC", 44, 0xB8);
-    put_table(&mut file, 336, 0x6000, b"FACP", 116, 0x73);
+    put(&mut file, 64, &[0, 0x50, 0, 0, 0, 0x60, 0, 0, 0, 0x70]);
+    put_table(&mut file, 76, 0x2000, b"SPCR", 80, 0x79);
+    put_table(&mut file, 172, 0x3000, b"BGRT", 56, 0x9A);
+    put_table(&mut file, 244, 0x4000, b"HPET", 56, 0x98);
+    put_table(&mut file, 316, 0x5000, b"MCFG", 44, 0xB8);
+    put_table(&mut file, 376, 0x6000, b"APIC", 44, 0xB8);
+    put_table(&mut file, 436, 0x7000, b"FACP", 116, 0x73);
     let lines = concat!(
         "revision 0\n",
         "dsdt: TableMissing FACP\n",
@@ -120,13 +121,15 @@ fn says_in_its_own_order_which_tables_were_skipped(rt: HostRuntime) {
         "hpet: TableMissing HPET\n",
         "pci: TableMissing MCFG\n",
         "bgrt: TableMissing BGRT\n",
+        "spcr: TableMissing SPCR\n",
     );
     let skipped = concat!(
-        "skipped FACP 0x6000: SdtInvalidChecksum FACP\n",
-        "skipped APIC 0x5000: SdtInvalidChecksum APIC\n",
-        "skipped MCFG 0x4000: SdtInvalidChecksum MCFG\n",
-        "skipped HPET 0x3000: SdtInvalidChecksum HPET\n",
-        "skipped BGRT 0x2000: SdtInvalidChecksum BGRT\n",
+        "skipped FACP 0x7000: SdtInvalidChecksum FACP\n",
+        "skipped APIC 0x6000: SdtInvalidChecksum APIC\n",
+        "skipped MCFG 0x5000: SdtInvalidChecksum MCFG\n",
+        "skipped HPET 0x4000: SdtInvalidChecksum HPET\n",
+        "skipped BGRT 0x3000: SdtInvalidChecksum BGRT\n",
+        "skipped SPCR 0x2000: SdtInvalidChecksum SPCR\n",
     );
     check_run(&rt, rt.alloc(), &WORDS, Some(&file), (0, lines, skipped));
 }

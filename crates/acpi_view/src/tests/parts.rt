@@ -70,6 +70,7 @@ fn searches_the_bios_areas(rt: HostRuntime) -> Result<(), Fail> {
         "hpet: TableMissing HPET\n",
         "pci: TableMissing MCFG\n",
         "bgrt displayed yes angle 180 offset 0 0\n",
+        "spcr: TableMissing SPCR\n",
     );
     let words = ["some.image", "bios"];
     check_run(&rt, rt.alloc(), &words, Some(&file), (0, lines, ""));

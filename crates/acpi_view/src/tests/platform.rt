@@ -49,6 +49,7 @@ fn prints_the_platform_behind_the_dsdt(rt: HostRuntime) {
         "hpet: TableMissing HPET\n",
         "pci: TableMissing MCFG\n",
         "bgrt: TableMissing BGRT\n",
+        "spcr: TableMissing SPCR\n",
     );
     let file = two_processors(0x8C, 1);
     check_run(&rt, rt.alloc(), &WORDS, Some(&file), (0, lines, ""));
@@ -157,6 +158,7 @@ fn prints_every_kind_of_line_by_its_group(rt: HostRuntime) {
         "hpet: TableMissing HPET\n",
         "pci: TableMissing MCFG\n",
         "bgrt: TableMissing BGRT\n",
+        "spcr: TableMissing SPCR\n",
     );
     check_run(&rt, rt.alloc(), &WORDS, Some(&every_kind()), (0, lines, ""));
 }
