@@ -1,5 +1,6 @@
 -- Where the configuration space of a PCI function lies.
 use Rattle.std.specs.Prelude.{◌≡◌, ℕ, ◌+◌, ◌-◌, ◌*◌, ◌^◌, ◌<◌, ◌==◌, ◌&&◌, Bool, false, List, map, find, nat_le, nat_lt, Option, Some, None, option_and_then, Result, Ok, ◌∷◌, if◌then◌else◌}
+use Rattle.std.specs.Range.{range_inclusive_end, range_inclusive_exhausted, range_inclusive_start}
 use Rattle.acpi_base.specs.Header.{check_table}
 use Rattle.acpi_base.specs.Mcfg.{regions_of}
 use Rattle.acpi_base.specs.Memory.{Memory}
@@ -66,17 +67,22 @@ IsApart regions segment bus device function address =
     → address < a + 4096 → a < address + 4096
     → (b ≡ bus) × (d ≡ device) × (f ≡ function)
 
--- a region, as a caller sees it
-abbrev pub shown_of : McfgEntry → PciConfigEntry
-shown_of e = record {
-  segment_group = e.pci_segment_group;
-  bus_range = record { start = e.bus_number_start; end = e.bus_number_end; exhausted = false };
-  physical_address = e.base_address;
-}
-
 -- the regions still to come
 abbrev pub entries_left : PciConfigEntryIterator → List McfgEntry
 entries_left s = s.regions.now
 
-abbrev pub shown_left : PciConfigEntryIterator → List PciConfigEntry
-shown_left s = map shown_of (entries_left s)
+-- the region that an item shows, and whether its range of buses is used up
+abbrev pub shown_in : PciConfigEntry → McfgEntry × Bool
+shown_in item = (
+  record {
+    base_address = item.physical_address;
+    pci_segment_group = item.segment_group;
+    bus_number_start = range_inclusive_start item.bus_range;
+    bus_number_end = range_inclusive_end item.bus_range;
+  },
+  range_inclusive_exhausted item.bus_range,
+)
+
+-- the items still to come show these, none of them used up
+abbrev pub shown_left : PciConfigEntryIterator → List (McfgEntry × Bool)
+shown_left s = map (λ e. (e, false)) (entries_left s)

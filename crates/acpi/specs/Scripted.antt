@@ -1,6 +1,19 @@
 -- What a scripted mailbox shows besides what each mailbox means.
-use Rattle.std.specs.Prelude.{ℕ}
+use Rattle.std.specs.Prelude.{ℕ, List, Option, slice_index_or, take}
+use Rattle.acpi.specs.declared.platform.mailbox.MailboxWrite.{MailboxWrite}
 use Rattle.acpi.specs.declared.platform.scripted.ScriptedMailbox.{ScriptedMailbox}
+
+-- the address that was opened
+abbrev pub opened_of : ScriptedMailbox → Option ℕ
+opened_of s = s.opened
+
+-- the writes since then
+abbrev pub writes_of : ScriptedMailbox → List MailboxWrite
+writes_of s = take s.written s.writes
+
+-- the answer of the i-th read from now: 1 where the script has ended
+abbrev pub answer_of : ScriptedMailbox → ℕ → ℕ
+answer_of s i = slice_index_or s.answers.now i 1
 
 -- how many reads there were
 abbrev pub reads_of : ScriptedMailbox → ℕ

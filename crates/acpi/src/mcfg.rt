@@ -174,12 +174,12 @@ pub struct PciConfigEntryIterator<'a> {
 }
 
 impl Iterator for PciConfigEntryIterator<'_> {
-    ghost use Rattle.std.specs.Iterator.{YieldsFirst, item_count};
-    ghost use Rattle.acpi.specs.Pci.{shown_left};
+    ghost use Rattle.std.specs.Iterator.{YieldsFirstBy, item_count};
+    ghost use Rattle.acpi.specs.Pci.{shown_in, shown_left};
 
     type Item = PciConfigEntry;
 
-    ghost next_gives = { YieldsFirst (λ s. shown_left s) };
+    ghost next_gives = { YieldsFirstBy shown_in (λ s. shown_left s) };
 
     ghost remaining = { item_count (λ s. shown_left s) };
 

@@ -73,15 +73,16 @@ impl<'a> ScriptedMailbox<'a> {
 }
 
 impl<'a> Mailbox for ScriptedMailbox<'a> {
-    ghost use Rattle.std.specs.Prelude.{Ok, take, slice_index_or};
+    ghost use Rattle.std.specs.Prelude.{Ok};
+    ghost use Rattle.acpi.specs.Scripted.{answer_of, opened_of, writes_of};
 
     ghost open_answer = { λ _ _. Ok tt };
 
-    ghost opened = { λ s. s.opened };
+    ghost opened = { λ s. opened_of s };
 
-    ghost writes = { λ s. take s.written s.writes };
+    ghost writes = { λ s. writes_of s };
 
-    ghost answer = { λ s i. slice_index_or s.answers.now i 1 };
+    ghost answer = { λ s i. answer_of s i };
 
     fn open(&mut self, address: u64) -> AcpiResult<()> {
         self.opened = Some(address);
