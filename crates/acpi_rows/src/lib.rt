@@ -28,4 +28,6 @@ mod seen;
 #[cfg(test)]
 mod slices;
 #[cfg(test)]
+mod spcr;
+#[cfg(test)]
 mod texts;

@@ -3,6 +3,7 @@
 ghost use Rattle.std.specs.Prelude.{◌+◌, ◌≤◌, length};
 
 mod fields;
+mod wakeup;
 
 use acpi::{AcpiHandler, AcpiTables};
 use acpi_base::madt::{Madt, MadtEntry, MadtEntryIter, MpProtectedModeWakeupCommand};

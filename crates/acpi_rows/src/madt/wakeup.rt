@@ -1,0 +1,134 @@
+//! Waking a processor by the mailbox, over tables that are found from an RSDT.
+
+use super::{NO_MAILBOX, with_madt};
+use acpi::platform::{Mailbox, MailboxWrite, ScriptedMailbox, wakeup_aps};
+use acpi::sdt::Signature;
+use acpi::{AcpiError, AcpiResult, AcpiTables, MadtError};
+use acpi_image::MemoryImage;
+use acpi_lenders::samples::front;
+use acpi_lenders::samples::graphics::empty_root;
+use std::alloc::Global;
+use std::process::Abort;
+use std::test::Fail;
+
+const TIMEOUT: AcpiError = AcpiError::InvalidMadt(MadtError::WakeupApsTimeout);
+
+/// An RSDT that lists a MADT of 60 bytes with a wakeup entry. The mailbox lies at 0x5000.
+fn with_mailbox() -> [u8; 136] {
+    with_madt(
+        0x37,
+        &[0x10, 0x10, 0, 0, 0, 0, 0, 0, 0, 0x50, 0, 0, 0, 0, 0, 0],
+    )
+}
+
+/// Wakes the processor with the id 7, to run at 0x8000, over the RSDT at 0x1000 of a file.
+fn wake<M: Mailbox>(
+    alloc: Global,
+    file: &[u8],
+    mailbox: &mut M,
+    timeout: u64,
+) -> Result<AcpiResult<()>, Fail> {
+    let image = MemoryImage::from_bytes(alloc, file)?;
+    let tables = AcpiTables::from_rsdt(&image, 0, 0x1000)?;
+    Ok(wakeup_aps(&tables, mailbox, 7, 0x8000, timeout))
+}
+
+#[test]
+fn the_mailbox_is_read_until_it_is_taken(rt: HostRuntime) -> Result<(), Fail> {
+    let rows: [(&[u16], u64, AcpiResult<()>, u64); 7] = [
+        (&[1, 2, 0], 3, Ok(()), 3),
+        (&[1, 1, 1], 3, Err(TIMEOUT), 3),
+        (&[9, 0], 9, Ok(()), 2),
+        (&[0], 0, Err(TIMEOUT), 0),
+        (&[4, 0xFFFF, 0], 3, Ok(()), 3),
+        (&[4, 0xFFFF, 0], 2, Err(TIMEOUT), 2),
+        (&[], 5, Err(TIMEOUT), 5),
+    ];
+    let file = with_mailbox();
+    for (answers, timeout, outcome, reads) in rows {
+        let mut mailbox = ScriptedMailbox::new(answers);
+        let answer = wake(rt.alloc(), front(&file, 132), &mut mailbox, timeout)?;
+        assert_eq!(rt; answer, outcome, "{answers:?}, {timeout}");
+        assert_eq!(rt; mailbox.reads(), reads, "{answers:?}, {timeout}");
+        assert_eq!(rt; mailbox.opened(), Some(0x5000));
+        let writes = [
+            MailboxWrite::Command(0),
+            MailboxWrite::ApicId(7),
+            MailboxWrite::WakeupVector(0x8000),
+            MailboxWrite::Command(1),
+        ];
+        assert_eq!(rt; mailbox.writes(), writes.as_slice());
+    }
+    Ok(())
+}
+
+/// Checks that nothing was done to a mailbox.
+fn check_untouched(rt: &impl Abort, mailbox: &ScriptedMailbox<'_>) {
+    assert_eq!(rt; mailbox.opened(), None);
+    assert_eq!(rt; mailbox.writes().len(), 0);
+    assert_eq!(rt; mailbox.reads(), 0);
+}
+
+#[test]
+fn nothing_is_done_without_a_mailbox(rt: HostRuntime) -> Result<(), Fail> {
+    let mut mailbox = ScriptedMailbox::new(&[0]);
+    let missing = wake(rt.alloc(), &empty_root(), &mut mailbox, 9)?;
+    assert_eq!(rt; missing, Err(AcpiError::TableMissing(Signature::MADT)));
+    check_untouched(&rt, &mailbox);
+    let file = with_madt(0x34, &[0x7F, 2]);
+    let other = wake(rt.alloc(), front(&file, 118), &mut mailbox, 9)?;
+    assert_eq!(rt; other, Err(NO_MAILBOX));
+    check_untouched(&rt, &mailbox);
+    Ok(())
+}
+
+/// A mailbox that can't be opened.
+#[derive(Drop)]
+struct Closed<'a> {
+    inner: ScriptedMailbox<'a>,
+}
+
+impl<'a> Mailbox for Closed<'a> {
+    ghost use Rattle.std.specs.Prelude.{Err};
+    ghost use Rattle.acpi_base.specs.declared.error.AcpiError.TheVariants.{MapFailed};
+
+    ghost open_answer = { λ _ _. Err MapFailed };
+
+    ghost opened = { λ s. ⟦<ScriptedMailbox<'a> as Mailbox>⟧.opened s.inner };
+
+    ghost writes = { λ s. ⟦<ScriptedMailbox<'a> as Mailbox>⟧.writes s.inner };
+
+    ghost answer = { λ s. ⟦<ScriptedMailbox<'a> as Mailbox>⟧.answer s.inner };
+
+    fn open(&mut self, _address: u64) -> AcpiResult<()> {
+        Err(AcpiError::MapFailed)
+    }
+
+    fn write_command(&mut self, command: u16) {
+        self.inner.write_command(command);
+    }
+
+    fn write_apic_id(&mut self, id: u32) {
+        self.inner.write_apic_id(id);
+    }
+
+    fn write_wakeup_vector(&mut self, vector: u64) {
+        self.inner.write_wakeup_vector(vector);
+    }
+
+    fn read_command(&mut self) -> u16 {
+        self.inner.read_command()
+    }
+}
+
+#[test]
+fn nothing_is_done_to_a_mailbox_that_stays_closed(rt: HostRuntime) -> Result<(), Fail> {
+    let file = with_mailbox();
+    let mut closed = Closed {
+        inner: ScriptedMailbox::new(&[0]),
+    };
+    let refused = wake(rt.alloc(), front(&file, 132), &mut closed, 9)?;
+    assert_eq!(rt; refused, Err(AcpiError::MapFailed));
+    check_untouched(&rt, &closed.inner);
+    Ok(())
+}
