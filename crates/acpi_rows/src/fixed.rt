@@ -1,6 +1,6 @@
 //! What the FADT leads to: the DSDT and the timer.
 
-use acpi::address::{AccessSize, AddressSpace, GenericAddress};
+use crate::platform::timer;
 use acpi::fadt::Fadt;
 use acpi::platform::PmTimer;
 use acpi::{AcpiError, AcpiHandler, AcpiResult, AcpiTables, AmlTable, PhysicalRecord};
@@ -37,18 +37,7 @@ fn a_fadt_has_a_timer(rt: HostRuntime) {
     put(&mut bytes, 76, &[0x08, 0x06]);
     put(&mut bytes, 91, &[4]);
     put(&mut bytes, 113, &[1]);
-    let base = GenericAddress {
-        address_space: AddressSpace::SystemIo,
-        bit_width: 32,
-        bit_offset: 0,
-        access_size: AccessSize::Undefined,
-        address: 0x608,
-    };
-    let timer = PmTimer {
-        base,
-        supports_32bit: true,
-    };
-    assert_eq!(rt; PmTimer::new(&Fadt::read(&bytes)), Ok(Some(timer)));
+    assert_eq!(rt; PmTimer::new(&Fadt::read(&bytes)), Ok(Some(timer())));
     put(&mut bytes, 91, &[5]);
     assert_eq!(rt; PmTimer::new(&Fadt::read(&bytes)), Ok(None));
 }

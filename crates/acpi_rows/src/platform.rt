@@ -63,7 +63,22 @@ fn the_tables_say_together_what_the_platform_has(rt: HostRuntime) -> Result<(), 
     Ok(())
 }
 
-/// Makes the FADT that of a mobile machine with a timer.
+/// A timer of 32 bits at the ports from 0x608 on.
+pub(crate) fn timer() -> PmTimer {
+    let base = GenericAddress {
+        address_space: AddressSpace::SystemIo,
+        bit_width: 32,
+        bit_offset: 0,
+        access_size: AccessSize::Undefined,
+        address: 0x608,
+    };
+    PmTimer {
+        base,
+        supports_32bit: true,
+    }
+}
+
+/// Makes the FADT that of a mobile machine with this timer.
 pub(crate) fn put_timer(file: &mut [u8])
     requires { 336 ≤ length file.old }
 {
@@ -78,19 +93,9 @@ pub(crate) fn put_timer(file: &mut [u8])
 fn the_fadt_says_what_the_machine_is_for_and_its_timer(rt: HostRuntime) -> Result<(), Fail> {
     let mut file = with_fadt_and_madt(0xB7, &[]);
     put_timer(&mut file);
-    let base = GenericAddress {
-        address_space: AddressSpace::SystemIo,
-        bit_width: 32,
-        bit_offset: 0,
-        access_size: AccessSize::Undefined,
-        address: 0x608,
-    };
     let wanted = Seen {
         power_profile: PowerProfile::Mobile,
-        pm_timer: Some(PmTimer {
-            base,
-            supports_32bit: true,
-        }),
+        pm_timer: Some(timer()),
         ..Seen::NOTHING
     };
     check(&rt, &file, Ok(wanted))

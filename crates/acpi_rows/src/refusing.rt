@@ -36,15 +36,8 @@ fn others() -> [Processor; 64] {
     others
 }
 
-#[test]
-fn tables_are_found_after_a_refusal(rt: HostRuntime) -> Result<(), Fail> {
-    let file = with_fadt_and_madt(0x04, front(&many_processors(), 520));
-    let image = MemoryImage::from_bytes(rt.alloc(), &file)?;
-    let tables = AcpiTables::from_rsdt(&image, 0, 0x1000)?;
-    let small = LocalHeap::new(rt.alloc(), 64)?;
-    let refused = tables.platform_info_in(&small);
-    check_answer(&rt, &refused, Err(AcpiError::AllocError));
-    assert_eq!(rt; small.used(), 0);
+/// Checks that lookups answer: of a FADT, and of a MADT of 564 bytes.
+fn check_lookups<H: AcpiHandler>(rt: &impl Abort, tables: &AcpiTables<'_, H>) -> AcpiResult<()> {
     assert_eq!(rt; tables.find_table::<Fadt>()?.physical_start(), 0x2000);
     let madt = tables.find_table::<Madt>()?;
     assert_eq!(rt;
@@ -52,15 +45,37 @@ fn tables_are_found_after_a_refusal(rt: HostRuntime) -> Result<(), Fail> {
         (0x3000, 564)
     );
     assert_eq!(rt; tables.headers().count(), 2);
+    Ok(())
+}
+
+/// Checks the platform over a heap of this size, of which so many bytes are taken.
+fn check_over<H: AcpiHandler>(
+    rt: &(impl Abort + AllocGlobal),
+    tables: &AcpiTables<'_, H>,
+    (size, taken): (usize, usize),
+    wanted: AcpiResult<Seen<'_>>,
+) -> AcpiResult<()> {
+    let heap = LocalHeap::new(rt.alloc(), size)?;
+    let filled = ManagedSlice::new_in(taken, 0u8, &heap)?;
+    check_answer(rt, &tables.platform_info_in(&heap), wanted);
+    assert_eq!(rt; heap.used(), filled.as_slice().len());
+    Ok(())
+}
+
+#[test]
+fn tables_are_found_after_a_refusal(rt: HostRuntime) -> Result<(), Fail> {
+    let file = with_fadt_and_madt(0x04, front(&many_processors(), 520));
+    let image = MemoryImage::from_bytes(rt.alloc(), &file)?;
+    let tables = AcpiTables::from_rsdt(&image, 0, 0x1000)?;
+    check_over(&rt, &tables, (64, 0), Err(AcpiError::AllocError))?;
+    check_lookups(&rt, &tables)?;
     // Asked again with memory.
-    let large = LocalHeap::new(rt.alloc(), 65536)?;
     let wanted = Seen {
         boot_processor: Some(processor(0, 0, ProcessorState::Running, false)),
         application_processors: &others(),
         ..Seen::APIC
     };
-    check_answer(&rt, &tables.platform_info_in(&large), Ok(wanted));
-    assert_eq!(rt; large.used(), 0);
+    check_over(&rt, &tables, (65536, 0), Ok(wanted))?;
     Ok(())
 }
 
@@ -86,11 +101,7 @@ fn memory_is_asked_for_behind_the_last_entry(rt: HostRuntime) -> Result<(), Fail
         let file = with_fadt_and_madt(checksum, front(entries, 536));
         let image = MemoryImage::from_bytes(rt.alloc(), &file)?;
         let tables = AcpiTables::from_rsdt(&image, 0, 0x1000)?;
-        let heap = LocalHeap::new(rt.alloc(), 64)?;
-        let filled = ManagedSlice::new_in(taken, 0u8, &heap)?;
-        assert_eq!(rt; heap.free(), 64 - taken);
-        check_answer(&rt, &tables.platform_info_in(&heap), wanted);
-        assert_eq!(rt; heap.used(), filled.as_slice().len());
+        check_over(&rt, &tables, (64, taken), wanted)?;
     }
     Ok(())
 }
@@ -104,40 +115,46 @@ fn is_refused<T: See + Drop>(rt: &impl Abort, answer: AcpiResult<T>, wanted: See
     is_refused
 }
 
-/// Counts which of several calls are refused.
-fn count(counts: &mut [u32], refused: &[bool]) {
-    for (count, is_refused) in counts.iter_mut().zip(refused) {
-        *count = count.wrapping_add(u32::from(*is_refused));
+/// Asks over heaps whose free bytes grow from none on. This has to be refused at so many sizes or
+/// more, and at the last one no more.
+fn check_sweep<F: Fn(&LocalHeap) -> bool>(
+    rt: &(impl Abort + AllocGlobal),
+    least: u32,
+    is_refused: F,
+) -> AcpiResult<()>
+    requires { F.IsAlwaysCallable is_refused }
+{
+    let (mut count, mut last) = (0u32, true);
+    for blocks in 1..16usize {
+        // The least heap has 16 bytes, so these are taken first.
+        let heap = LocalHeap::new(rt.alloc(), 16 * blocks)?;
+        let taken = ManagedSlice::new_in(16, 0u8, &heap)?;
+        last = is_refused(&heap);
+        assert_eq!(rt; heap.used(), 16, "{blocks} blocks");
+        drop(taken);
+        assert_eq!(rt; heap.used(), 0, "{blocks} blocks");
+        count = count.wrapping_add(u32::from(last));
     }
+    assert!(rt; !last);
+    assert!(rt; count >= least, "{count} sizes");
+    Ok(())
 }
 
-/// Asks for a platform over heaps of growing size. Each call has to be refused at this many sizes
-/// or more, and at the last one no more.
+/// Checks the requests of a platform, and those of its interrupt model alone.
 fn check_requests<H: AcpiHandler>(
     rt: &(impl Abort + AllocGlobal),
     tables: &AcpiTables<'_, H>,
     least: u32,
-) -> Result<(), Fail> {
-    let madt = tables.find_table::<Madt>()?;
+) -> AcpiResult<()> {
     let platform = tables.platform_info(rt.alloc())?;
+    check_sweep(rt, least, |heap| {
+        is_refused(rt, tables.platform_info_in(heap), platform.seen())
+    })?;
+    let madt = tables.find_table::<Madt>()?;
     let model = madt.parse_interrupt_model_in(rt.alloc())?;
-    let (mut counts, mut last) = ([0; 2], [true; 2]);
-    for free in 0..16usize {
-        // The least heap has 16 bytes, so these are taken first.
-        let heap = LocalHeap::new(rt.alloc(), 16 + 16 * free)?;
-        let taken = ManagedSlice::new_in(16, 0u8, &heap)?;
-        let of_platform = is_refused(rt, tables.platform_info_in(&heap), platform.seen());
-        assert_eq!(rt; heap.used(), 16, "{free} blocks");
-        let of_model = is_refused(rt, madt.parse_interrupt_model_in(&heap), model.seen());
-        assert_eq!(rt; heap.used(), 16, "{free} blocks");
-        drop(taken);
-        assert_eq!(rt; heap.used(), 0, "{free} blocks");
-        last = [of_platform, of_model];
-        count(&mut counts, &last);
-    }
-    assert_eq!(rt; last, [false; 2]);
-    assert!(rt; counts.iter().all(|it| *it >= least), "{counts:?}");
-    Ok(())
+    check_sweep(rt, least, |heap| {
+        is_refused(rt, madt.parse_interrupt_model_in(heap), model.seen())
+    })
 }
 
 /// Tables that say something of each part of a platform.
@@ -186,21 +203,36 @@ fn refused_clones<A: Allocator + Clone>(
     ])
 }
 
+/// The same over a heap of this size, where the platform itself has room there.
+fn refused_clones_over<H: AcpiHandler>(
+    rt: &(impl Abort + AllocGlobal),
+    tables: &AcpiTables<'_, H>,
+    size: usize,
+) -> AcpiResult<Option<[bool; 5]>> {
+    let heap = LocalHeap::new(rt.alloc(), size)?;
+    let Ok(platform) = tables.platform_info_in(&heap) else {
+        return Ok(None);
+    };
+    let used = heap.used();
+    let refused = refused_clones(rt, &platform)?;
+    assert_eq!(rt; heap.used(), used, "{size} bytes");
+    Ok(Some(refused))
+}
+
 #[test]
 fn each_request_of_a_clone_is_refused_in_turn(rt: HostRuntime) -> Result<(), Fail> {
     let file = whole_platform();
     let image = MemoryImage::from_bytes(rt.alloc(), &file)?;
     let tables = AcpiTables::from_rsdt(&image, 0, 0x1000)?;
-    let (mut counts, mut last) = ([0; 5], [true; 5]);
+    let (mut counts, mut last) = ([0u32; 5], [true; 5]);
     for blocks in 0..32usize {
-        let heap = LocalHeap::new(rt.alloc(), 16 * blocks)?;
-        let Ok(platform) = tables.platform_info_in(&heap) else {
+        let Some(refused) = refused_clones_over(&rt, &tables, 16 * blocks)? else {
             continue;
         };
-        let used = heap.used();
-        last = refused_clones(&rt, &platform)?;
-        assert_eq!(rt; heap.used(), used, "{blocks} blocks");
-        count(&mut counts, &last);
+        for (count, is_refused) in counts.iter_mut().zip(refused) {
+            *count = count.wrapping_add(u32::from(is_refused));
+        }
+        last = refused;
     }
     assert_eq!(rt; last, [false; 5]);
     assert!(rt; counts.iter().all(|it| *it >= 2), "{counts:?}");
