@@ -1,6 +1,9 @@
+pub mod Agreed
+pub mod AgreedOpened
 pub mod First
 pub mod Least
 pub mod Led
+pub mod Moved
 pub mod Passed
 pub mod Pieces
 pub mod Places

@@ -1,12 +1,16 @@
+pub mod Footprint
+pub mod FootprintLaws
 pub mod Hpet
 pub mod Later
 pub mod Laws
 pub mod Lists
 pub mod Lookup
 pub mod Opened
+pub mod OpenedRanges
 pub mod Pci
 pub mod Platform
 pub mod Pointers
+pub mod Relocation
 pub mod Root
 pub mod Rsdp
 pub mod Scripted

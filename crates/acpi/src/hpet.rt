@@ -99,7 +99,9 @@ pub struct HpetInfo {
 impl HpetInfo {
     ghost use Rattle.std.specs.Prelude.{◌≡◌, ◌+◌};
     ghost use Rattle.acpi_base.specs.Bits.{bits_of, has_bit};
-    ghost use Rattle.acpi.specs.Hpet.{hpet_of, info_of};
+    ghost use Rattle.acpi.specs.Footprint.{FootprintBelow, lookup_ranges};
+    ghost use Rattle.acpi.specs.Hpet.{hpet_kind, hpet_of, info_of};
+    ghost use Rattle.acpi.specs.Relocation.{Relocation};
     ghost use Rattle.acpi.specs.Tables.{memory_of, pointers_of};
 
     /// What the first valid HPET says. Of the generic address in it only the space and the address
@@ -108,6 +110,18 @@ impl HpetInfo {
     /// Refuses with `TableMissing` where no valid HPET is listed, and with `InvalidGenericAddress`
     /// where its registers don't lie in memory.
     pub fn new<H: AcpiHandler>(tables: &AcpiTables<'_, H>) -> AcpiResult<HpetInfo>
+        ensures exact { result ≡ hpet_of (memory_of tables.now) (pointers_of tables.now) }
+        // It depends on what the lookup of the HPET depends on.
+        ensures footprint { FootprintBelow tables.now (λ m. lookup_ranges m hpet_kind) hpet_of
+            (λ said. result ≡ said) }
+        // It is the same wherever the valid tables lie.
+        ensures relocation { Relocation tables.now hpet_of (λ said. result ≡ said) }
+    {
+        HpetInfo::found(tables)
+    }
+
+    /// `new`, by the exact clause from which its laws follow.
+    fn found<H: AcpiHandler>(tables: &AcpiTables<'_, H>) -> AcpiResult<HpetInfo>
         ensures { result ≡ hpet_of (memory_of tables.now) (pointers_of tables.now) }
     {
         let table = tables.find_table::<HpetTable>()?;

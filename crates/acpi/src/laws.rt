@@ -4,6 +4,8 @@ ghost use Rattle.std.specs.Prelude.{◌≡◌, IfOk, Ok};
 ghost use Rattle.acpi_base.specs.Equality.{IsEquality};
 ghost use Rattle.acpi.specs.Laws.{LookupIsFirst, OnePointers, SecondAreas, SkipsInvalid};
 
+pub mod footprints;
+
 use crate::hpet::PageProtection;
 use crate::platform::{PlatformInfo, PmTimer};
 use crate::records::{AmlTable, Sdt, TableFault};

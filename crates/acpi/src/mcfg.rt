@@ -28,13 +28,21 @@ impl<A: Allocator> Model for PciConfigRegions<A> {
 
 impl PciConfigRegions<Global> {
     ghost use Rattle.acpi_base.specs.Steps.{GivesOrFull};
-    ghost use Rattle.acpi.specs.Pci.{RegionsAsk, found_regions};
+    ghost use Rattle.acpi.specs.Footprint.{FootprintBelow, lookup_ranges};
+    ghost use Rattle.acpi.specs.Pci.{RegionsAsk, found_regions, mcfg_kind};
+    ghost use Rattle.acpi.specs.Relocation.{Relocation};
     ghost use Rattle.acpi.specs.Tables.{memory_of, pointers_of};
 
     /// `new_in` over the global allocator.
     pub fn new<H: AcpiHandler>(alloc: Global, tables: &AcpiTables<'_, H>) -> AcpiResult<Self>
-        ensures { GivesOrFull (RegionsAsk (memory_of tables.now) (pointers_of tables.now)) result
-            (found_regions (memory_of tables.now) (pointers_of tables.now)) }
+        ensures exact { GivesOrFull (RegionsAsk (memory_of tables.now) (pointers_of tables.now))
+            result (found_regions (memory_of tables.now) (pointers_of tables.now)) }
+        // It depends on what the lookup of the MCFG depends on.
+        ensures footprint { FootprintBelow tables.now (λ m. lookup_ranges m mcfg_kind) found_regions
+            (GivesOrFull (RegionsAsk (memory_of tables.now) (pointers_of tables.now)) result) }
+        // It is the same wherever the valid tables lie.
+        ensures relocation { Relocation tables.now found_regions
+            (GivesOrFull (RegionsAsk (memory_of tables.now) (pointers_of tables.now)) result) }
     {
         PciConfigRegions::new_in(tables, alloc)
     }
@@ -43,7 +51,10 @@ impl PciConfigRegions<Global> {
 impl<A: Allocator> PciConfigRegions<A> {
     ghost use Rattle.std.specs.Prelude.{◌≡◌, IfSome};
     ghost use Rattle.acpi_base.specs.Steps.{GivesOrFull};
-    ghost use Rattle.acpi.specs.Pci.{RegionsAsk, IsApart, entries_left, found_regions, pci_address};
+    ghost use Rattle.acpi.specs.Footprint.{FootprintBelow, lookup_ranges};
+    ghost use Rattle.acpi.specs.Pci.{RegionsAsk, IsApart, entries_left, found_regions, mcfg_kind};
+    ghost use Rattle.acpi.specs.Pci.{pci_address};
+    ghost use Rattle.acpi.specs.Relocation.{Relocation};
     ghost use Rattle.acpi.specs.Tables.{memory_of, pointers_of};
 
     /// The regions of the first valid MCFG, in the order of the table.
@@ -51,6 +62,20 @@ impl<A: Allocator> PciConfigRegions<A> {
     /// Refuses with `TableMissing` where no valid MCFG is listed, and with `AllocError` where a growth
     /// is refused.
     pub fn new_in<H: AcpiHandler>(tables: &AcpiTables<'_, H>, allocator: A) -> AcpiResult<Self>
+        ensures exact { GivesOrFull (RegionsAsk (memory_of tables.now) (pointers_of tables.now))
+            result (found_regions (memory_of tables.now) (pointers_of tables.now)) }
+        // It depends on what the lookup of the MCFG depends on.
+        ensures footprint { FootprintBelow tables.now (λ m. lookup_ranges m mcfg_kind) found_regions
+            (GivesOrFull (RegionsAsk (memory_of tables.now) (pointers_of tables.now)) result) }
+        // It is the same wherever the valid tables lie.
+        ensures relocation { Relocation tables.now found_regions
+            (GivesOrFull (RegionsAsk (memory_of tables.now) (pointers_of tables.now)) result) }
+    {
+        PciConfigRegions::found(tables, allocator)
+    }
+
+    /// `new_in`, by the exact clause from which its laws follow.
+    fn found<H: AcpiHandler>(tables: &AcpiTables<'_, H>, allocator: A) -> AcpiResult<Self>
         ensures { GivesOrFull (RegionsAsk (memory_of tables.now) (pointers_of tables.now)) result
             (found_regions (memory_of tables.now) (pointers_of tables.now)) }
     {

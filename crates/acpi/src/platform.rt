@@ -1,6 +1,8 @@
 //! What the platform has, as the tables say together.
 ghost use Rattle.acpi_base.specs.Steps.{GivesOrFull};
+ghost use Rattle.acpi.specs.Footprint.{FootprintBelow, platform_ranges};
 ghost use Rattle.acpi.specs.Platform.{PlatformAsks, ModelAsks, model_in, platform_of};
+ghost use Rattle.acpi.specs.Relocation.{Relocation};
 ghost use Rattle.acpi.specs.Tables.{memory_of, pointers_of};
 
 pub mod interrupt;
@@ -37,8 +39,15 @@ pub struct PlatformInfo<A: Allocator> {
 impl PlatformInfo<Global> {
     /// `new_in` over the global allocator.
     pub fn new<H: AcpiHandler>(alloc: Global, tables: &AcpiTables<'_, H>) -> AcpiResult<Self>
-        ensures { GivesOrFull (PlatformAsks (memory_of tables.now) (pointers_of tables.now)) result
-            (platform_of (memory_of tables.now) (pointers_of tables.now)) }
+        ensures exact { GivesOrFull (PlatformAsks (memory_of tables.now) (pointers_of tables.now))
+            result (platform_of (memory_of tables.now) (pointers_of tables.now)) }
+        // It depends on what the lookup of the FADT depends on, and where one is found, on what that
+        // of the MADT depends on.
+        ensures footprint { FootprintBelow tables.now platform_ranges platform_of
+            (GivesOrFull (PlatformAsks (memory_of tables.now) (pointers_of tables.now)) result) }
+        // It is the same wherever the valid tables lie.
+        ensures relocation { Relocation tables.now platform_of
+            (GivesOrFull (PlatformAsks (memory_of tables.now) (pointers_of tables.now)) result) }
     {
         PlatformInfo::new_in(tables, alloc)
     }
@@ -53,6 +62,21 @@ impl<A: Allocator + Clone> PlatformInfo<A> {
     /// asked for only where the MADT describes APICs; `AllocError` then comes before the timer is looked
     /// at.
     pub fn new_in<H: AcpiHandler>(tables: &AcpiTables<'_, H>, allocator: A) -> AcpiResult<Self>
+        ensures exact { GivesOrFull (PlatformAsks (memory_of tables.now) (pointers_of tables.now))
+            result (platform_of (memory_of tables.now) (pointers_of tables.now)) }
+        // It depends on what the lookup of the FADT depends on, and where one is found, on what that
+        // of the MADT depends on.
+        ensures footprint { FootprintBelow tables.now platform_ranges platform_of
+            (GivesOrFull (PlatformAsks (memory_of tables.now) (pointers_of tables.now)) result) }
+        // It is the same wherever the valid tables lie.
+        ensures relocation { Relocation tables.now platform_of
+            (GivesOrFull (PlatformAsks (memory_of tables.now) (pointers_of tables.now)) result) }
+    {
+        PlatformInfo::found(tables, allocator)
+    }
+
+    /// `new_in`, by the exact clause from which its laws follow.
+    fn found<H: AcpiHandler>(tables: &AcpiTables<'_, H>, allocator: A) -> AcpiResult<Self>
         ensures { GivesOrFull (PlatformAsks (memory_of tables.now) (pointers_of tables.now)) result
             (platform_of (memory_of tables.now) (pointers_of tables.now)) }
     {

@@ -1,3 +1,4 @@
+pub mod Agreement
 pub mod Clones
 pub mod Codes
 pub mod Cuts
@@ -9,6 +10,7 @@ pub mod MadtCounts
 pub mod Numbers
 pub mod OneRegion
 pub mod Orders
+pub mod Own
 pub mod Regions
 pub mod Spelling
 pub mod Steps

@@ -23,6 +23,7 @@ pub mod Model
 pub mod Names
 pub mod OneRegion
 pub mod Parts
+pub mod Ranges
 pub mod Spcr
 pub mod SpcrFlags
 pub mod Steps

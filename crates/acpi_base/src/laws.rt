@@ -7,6 +7,7 @@ ghost use Rattle.std.specs.declared.cmp.Ordering.TheVariants.{Equal};
 ghost use Rattle.acpi_base.specs.Equality.{IsEquality};
 ghost use Rattle.acpi_base.specs.Laws.{FieldPastEnd, LentIsInside};
 ghost use Rattle.acpi_base.specs.Names.{NamesAreSpelled};
+ghost use Rattle.acpi_base.specs.Ranges.{OwnTableDependsOn, TableDependsOn};
 ghost use Rattle.acpi_base.specs.Text.{letters_of};
 
 use crate::address::{AccessSize, AddressSpace, GenericAddress};
@@ -25,6 +26,19 @@ pub fn lent_is_inside()
 /// A number whose bytes reach past the end is read as if zeros followed.
 pub fn field_past_end()
     ensures { FieldPastEnd }
+{}
+
+/// The table at an address, or what refuses it, is the same over every memory that agrees on its
+/// ranges.
+#[tactic(auto, using(crate::proofs::Agreement::same_table))]
+pub fn table_depends_on()
+    ensures { TableDependsOn }
+{}
+
+/// So is the table at an address under the signature that it bears.
+#[tactic(auto, using(crate::proofs::Agreement::same_own_table))]
+pub fn own_table_depends_on()
+    ensures { OwnTableDependsOn }
 {}
 
 /// Each constant of `Signature` has the four letters of its table.

@@ -96,6 +96,8 @@ impl Rsdp {
     ghost use Rattle.std.specs.Prelude.{◌≡◌, IfOk, IsOk};
     ghost use Rattle.acpi_base.specs.Mapping.{handler_of, start_of};
     ghost use Rattle.acpi_base.specs.Steps.{Gives};
+    ghost use Rattle.acpi_base.specs.Ranges.{Footprint};
+    ghost use Rattle.acpi.specs.OpenedRanges.{search_ranges};
     ghost use Rattle.acpi.specs.Rsdp.{rsdp_at};
     ghost use Rattle.acpi.specs.Search.{IsSearched, found_rsdp, placed};
 
@@ -120,6 +122,10 @@ impl Rsdp {
         ensures valid { IfOk result (λ m. IsOk (rsdp_at (H.memory handler.now) (start_of m))) }
         // In the reader's words: the least valid candidate, or the cause of the refusal.
         ensures least { IsSearched (H.memory handler.now) placed result }
+        // It depends on the word, the areas that are asked for, and the candidates up to the one
+        // found.
+        ensures footprint { let m = H.memory handler.now in
+            Footprint m (search_ranges m) found_rsdp (Gives placed result) }
     {
         search_areas(handler)
     }

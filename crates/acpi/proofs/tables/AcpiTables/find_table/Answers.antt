@@ -1,3 +1,5 @@
+use Rattle.acpi_base.specs.Table.{kind}
+use Rattle.acpi.proofs.Agreed.{from_tables, same_lookup}
 use Rattle.acpi_base.specs.Mapping.{bytes_of, start_of}
 use Rattle.acpi.proofs.First.{gives_first, gives_missing}
 use Rattle.acpi.proofs.Passed.{gives_skipping}
@@ -11,3 +13,6 @@ returns-clause-missing g c = gives_missing _ _ _ (λ m. (start_of m, bytes_of m)
 
 pub returns-clause-skips : goal.returns-clause-skips
 returns-clause-skips g c = gives_skipping _ _ _ (λ m. (start_of m, bytes_of m)) _ c.first_member.ensures.found
+
+pub returns-clause-footprint : goal.returns-clause-footprint
+returns-clause-footprint g c = λ n h. rw (from_tables c.args.self.now _ _ (same_lookup (kind g.T.AcpiTable.SIGNATURE g.T.PhysicalRecord.MIN_LENGTH g.T.AcpiTable.verdict)) c.args.self.now.valid n h) c.first_member.ensures.found

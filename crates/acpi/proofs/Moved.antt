@@ -1,0 +1,143 @@
+-- What is found in valid tables doesn't depend on where they lie.
+use Rattle.std.proofs.Common.{◌≡◌, ℕ, ◌≤◌, Bool, true, false, List, [], ◌∷◌, drop, map, Option, Some, None, Result, Ok, Err, refl, ap, sym, ◌∙◌, if◌then◌else◌, lit≤}
+use Rattle.std.specs.List.{cons_option}
+use Rattle.std.specs.Result.{result_ok}
+use Rattle.acpi_base.proofs.Own.{own_table_is, served, serves}
+use Rattle.acpi_base.specs.Header.{check_table, header_at}
+use Rattle.acpi_base.specs.Mcfg.{regions_of}
+use Rattle.acpi_base.specs.Memory.{Memory}
+use Rattle.acpi_base.specs.Model as model
+use Rattle.acpi_base.specs.Steps.{◌>>=◌, GivesOrFull}
+use Rattle.acpi_base.specs.Table.{kind, own_table_at, table_at}
+use Rattle.acpi_base.specs.declared.error.AcpiError.{AcpiError}
+use Rattle.acpi_base.specs.declared.error.AcpiError.TheVariants.{TableMissing}
+use Rattle.acpi_base.specs.declared.model.interrupt.InterruptModel.TheVariants.{Unknown}
+use Rattle.acpi_base.specs.declared.sdt.SdtHeader.{SdtHeader}
+use Rattle.acpi_base.specs.declared.signature.Signature.{Signature}
+use Rattle.acpi_base.specs.declared.signature.TheConstants.Signature.{FADT, HPET, MADT, MCFG}
+use Rattle.acpi.proofs.First.{here}
+use Rattle.acpi.specs.Footprint.{below}
+use Rattle.acpi.specs.Hpet.{hpet_at, info_of}
+use Rattle.acpi.specs.Later.{or_later}
+use Rattle.acpi.specs.Lists.{fadt_kind, own_header_at, valid_headers, valid_tables}
+use Rattle.acpi.specs.Lookup.{lookup}
+use Rattle.acpi.specs.Platform.{madt_kind, model_found, platform_of}
+use Rattle.acpi.specs.Relocation.{FollowsTables, HeadersFollow, HpetFollows, LookupFollows, PlatformFollows, RegionsFollow, Relocation, bytes_found}
+use Rattle.acpi.specs.Root.{pointers, root_at, width_of}
+use Rattle.acpi.specs.Tables.{memory_of, pointers_of}
+use Rattle.acpi.specs.declared.platform.PlatformInfo.{PlatformInfo}
+use Rattle.acpi.specs.declared.root.RootKind.{RootKind}
+use Rattle.acpi.specs.declared.tables.AcpiTables.{AcpiTables}
+
+abbrev done : {A : Type 0} → A → Result A AcpiError
+done x = Ok x
+
+same_ok : {A : Type 0} (x y : A) → done x ≡ done y → x ≡ y
+same_ok x y e = cc
+
+-- ---- headers
+
+one_header : (r : Result (List ℕ) AcpiError) (hs : List SdtHeader) (ts : List (List ℕ)) → hs ≡ map header_at ts
+    → cons_option (result_ok (r >>= λ t. done (header_at t))) hs ≡ map header_at (cons_option (result_ok r) ts)
+one_header (Ok t) hs ts e = rw e refl
+one_header (Err d) hs ts e = e
+
+headers_are : (m : Memory) (ps : List ℕ) → valid_headers m ps ≡ map header_at (valid_tables m ps)
+unfolding own_header_at
+headers_are m [] = refl
+headers_are m (p ∷ ps) = one_header (own_table_at m p) _ _ (headers_are m ps)
+
+pub headers_follow : HeadersFollow
+headers_follow m n ps qs same = headers_are n qs ∙ ap (map header_at) same ∙ sym (headers_are m ps)
+
+-- ---- lookups
+
+first_of : Signature → ℕ → List (List ℕ) → Result (List ℕ) AcpiError
+first_of s least [] = Err (TableMissing s)
+first_of s least (t ∷ ts) = if serves s least t then Ok t else first_of s least ts
+
+found_by : (b : Bool) (p : ℕ) (t : List ℕ) (r : Result (List ℕ) AcpiError) (later : Result (ℕ × List ℕ) AcpiError) (others : Result (List ℕ) AcpiError)
+    → result_ok r ≡ (if b then Some t else None) → bytes_found later ≡ others
+    → bytes_found (or_later (here p) r later) ≡ (if b then Ok t else others)
+found_by true p t (Ok found) later others e f = cc
+found_by true p t (Err d) later others e f = absurd cc
+found_by false p t (Ok found) later others e f = absurd cc
+found_by false p t (Err d) later others e f = f
+
+found_step : (s : Signature) (least p : ℕ) (o : Option (List ℕ)) (r : Result (List ℕ) AcpiError) (later : Result (ℕ × List ℕ) AcpiError) (ts : List (List ℕ))
+    → result_ok r ≡ served s least o → bytes_found later ≡ first_of s least ts
+    → bytes_found (or_later (here p) r later) ≡ first_of s least (cons_option o ts)
+unfolding first_of
+found_step s least p None (Ok t) later ts e f = absurd cc
+found_step s least p None (Err d) later ts e f = f
+found_step s least p (Some t) r later ts e f = found_by (serves s least t) p t r later (first_of s least ts) e f
+
+lookup_is : (m : Memory) (s : Signature) (least : ℕ) (ps : List ℕ) → 36 ≤ least
+    → bytes_found (lookup m (kind s least (check_table s)) ps) ≡ first_of s least (valid_tables m ps)
+unfolding first_of
+lookup_is m s least [] enough = refl
+lookup_is m s least (p ∷ ps) enough =
+    found_step s least p (result_ok (own_table_at m p)) (table_at m (kind s least (check_table s)) p) (lookup m (kind s least (check_table s)) ps) (valid_tables m ps)
+    (own_table_is m s least p enough) (lookup_is m s least ps enough)
+
+pub lookup_follows : LookupFollows
+lookup_follows s least enough m n ps qs same =
+    lookup_is n s least qs enough ∙ ap (first_of s least) same ∙ sym (lookup_is m s least ps enough)
+
+-- ---- summaries
+
+by_bytes : {A : Type 0} (r : Result (ℕ × List ℕ) AcpiError) (said : List ℕ → Result A AcpiError) → (r >>= λ f. said f.1) ≡ (bytes_found r >>= said)
+by_bytes (Ok found) said = refl
+by_bytes (Err e) said = refl
+
+said_follows : {A : Type 0} (s : Signature) (least : ℕ) (said : List ℕ → Result A AcpiError) → 36 ≤ least
+    → FollowsTables (λ m ps. lookup m (kind s least (check_table s)) ps >>= λ f. said f.1)
+said_follows s least said enough m n ps qs same =
+    by_bytes _ said ∙ ap (λ r. r >>= said) (lookup_follows s least enough m n ps qs same) ∙ sym (by_bytes _ said)
+
+pub hpet_follows : HpetFollows
+hpet_follows = said_follows HPET 56 (λ b. info_of (hpet_at b)) (lit≤ tt)
+
+pub regions_follow : RegionsFollow
+regions_follow = said_follows MCFG 44 (λ b. Ok (regions_of b)) (lit≤ tt)
+
+model_of_bytes : {A : Type 0} → Result (List ℕ) AcpiError → Result (model.Model A) AcpiError
+model_of_bytes (Ok b) = model.model_of b
+model_of_bytes (Err e) = Ok (Unknown, None)
+
+model_is : {A : Type 0} (r : Result (ℕ × List ℕ) AcpiError) → model_found {A = A} r ≡ model_of_bytes {A = A} (bytes_found r)
+unfolding model_of_bytes
+model_is (Ok found) = refl
+model_is (Err e) = refl
+
+pub platform_follows : {A : Type 0} → PlatformFollows A
+platform_follows {A = A} m n ps qs same =
+    let fadts = lookup_follows FADT 116 (lit≤ tt) m n ps qs same in
+    let madts = lookup_follows MADT 44 (lit≤ tt) m n ps qs same in
+    let models : model_found {A = A} (lookup n madt_kind qs) ≡ model_found {A = A} (lookup m madt_kind ps) =
+    model_is (lookup n madt_kind qs) ∙ ap model_of_bytes madts ∙ sym (model_is (lookup m madt_kind ps)) in
+    by_bytes (lookup n fadt_kind qs) _ ∙ rw (fadts, models) refl ∙ sym (by_bytes (lookup m fadt_kind ps) _)
+
+-- ---- from a root table
+
+moved_by : {A : Type 0} (n : Memory) (r : Result (List ℕ) AcpiError) (pointers_in : List ℕ → List ℕ) (ts : List (List ℕ))
+    (defined : Memory → List ℕ → Result A AcpiError) (said : Result A AcpiError) → ((qs : List ℕ) → valid_tables n qs ≡ ts → defined n qs ≡ said)
+    → (r >>= λ root. done (valid_tables n (pointers_in root))) ≡ Ok ts → (r >>= λ root. defined n (pointers_in root)) ≡ said
+moved_by n (Ok root) pointers_in ts defined said each e = each (pointers_in root) (same_ok _ _ e)
+moved_by n (Err d) pointers_in ts defined said each e = absurd cc
+
+-- a definition over the pointers of tables, over a memory that has the same valid tables
+pub moved_tables : {H A : Type 0} {h : _} (t : AcpiTables H h) (defined : Memory → List ℕ → Result A AcpiError)
+    → FollowsTables defined → (n : Memory) (kind : RootKind) (address : ℕ)
+    → below n kind address (λ ps. done (valid_tables n ps)) ≡ Ok (valid_tables (memory_of t) (pointers_of t))
+    → below n kind address (defined n) ≡ defined (memory_of t) (pointers_of t)
+moved_tables t defined follows n kind address same =
+    moved_by n (root_at n kind address) (λ root. pointers (width_of kind) (drop 36 root)) (valid_tables (memory_of t) (pointers_of t)) defined _
+    (λ qs e. follows (memory_of t) n (pointers_of t) qs e) same
+
+pub in_ok_follows : {A : Type 0} (defined : Memory → List ℕ → A) → FollowsTables defined → FollowsTables (λ m ps. done (defined m ps))
+in_ok_follows defined follows m n ps qs e = ap done (follows m n ps qs e)
+
+pub platform_moved : {H A : Type 0} {h : _} (t : AcpiTables H h) (Asks : Type 0) (r : Result (PlatformInfo A) AcpiError)
+    → GivesOrFull Asks r (platform_of (memory_of t) (pointers_of t)) → Relocation t platform_of (GivesOrFull Asks r)
+platform_moved t Asks r said n kind address same = rw (moved_tables t platform_of platform_follows n kind address same) said

@@ -1,0 +1,67 @@
+-- The ranges of a memory that answers below a root table depend on: for each definition the ranges
+-- that it comes to, in its own shape.
+use Rattle.std.specs.Prelude.{ℕ, List, [], ◌∷◌, ◌++◌, drop, flat_map, Result}
+use Rattle.acpi_base.specs.declared.error.AcpiError.{AcpiError}
+use Rattle.acpi_base.specs.declared.signature.TheConstants.Signature.{DSDT, SSDT}
+use Rattle.acpi_base.specs.Memory.{Memory}
+use Rattle.acpi_base.specs.Ranges.{◌>>=◌, Footprint, Ranges}
+use Rattle.acpi_base.specs.Ranges.{own_table_ranges, table_ranges, unless_found}
+use Rattle.acpi_base.specs.Steps as steps
+use Rattle.acpi_base.specs.Table.{Kind, plain_kind, table_at}
+use Rattle.acpi_fixed.specs.Fadt.{dsdt_address_of, fadt_at}
+use Rattle.acpi.specs.Lists.{fadt_kind}
+use Rattle.acpi.specs.Lookup.{lookup}
+use Rattle.acpi.specs.Platform.{madt_kind}
+use Rattle.acpi.specs.Root.{pointers, root_at, root_kind, width_of}
+use Rattle.acpi.specs.Tables.{kind_of, memory_of, pointers_of, root_address_of}
+use Rattle.acpi.specs.declared.root.RootKind.{RootKind}
+use Rattle.acpi.specs.declared.tables.AcpiTables.{AcpiTables}
+
+-- those of `root_at`
+abbrev pub root_ranges : Memory → RootKind → ℕ → Ranges
+root_ranges m kind address = table_ranges m (root_kind kind) address
+
+-- those of `lookup` and of `faults_of`: each member's, up to and with the first valid one
+abbrev pub lookup_ranges : Memory → Kind → List ℕ → Ranges
+lookup_ranges m k [] = []
+lookup_ranges m k (p ∷ ps) =
+    table_ranges m k p ++ unless_found (table_at m k p) (lookup_ranges m k ps)
+
+-- those of `valid_headers` and of `valid_tables`: each member's, under its own signature
+abbrev pub header_ranges : Memory → List ℕ → Ranges
+header_ranges m ps = flat_map (own_table_ranges m) ps
+
+-- those of `ssdt_streams`: each member's, as an SSDT
+abbrev pub ssdt_ranges : Memory → List ℕ → Ranges
+ssdt_ranges m ps = flat_map (table_ranges m (plain_kind SSDT)) ps
+
+-- those of `dsdt_stream`: the FADT's, and those of the table that it leads to
+abbrev pub dsdt_ranges : Memory → List ℕ → Ranges
+dsdt_ranges m ps = lookup_ranges m fadt_kind ps ++ do
+  found ← lookup m fadt_kind ps
+  address ← dsdt_address_of (fadt_at found.1)
+  table_ranges m (plain_kind DSDT) address
+
+-- those of `platform_of`: the FADT's, and where one is found, the MADT's
+abbrev pub platform_ranges : Memory → List ℕ → Ranges
+platform_ranges m ps = lookup_ranges m fadt_kind ps ++ do
+  _ ← lookup m fadt_kind ps
+  lookup_ranges m madt_kind ps
+
+-- ---- from a root table
+
+-- what a definition over pointers says of those below the root table at an address
+abbrev pub below : {A : Type 0} → Memory → RootKind → ℕ → (List ℕ → Result A AcpiError)
+    → Result A AcpiError
+below m kind address defined =
+    steps.◌>>=◌ (root_at m kind address) (λ root. defined (pointers (width_of kind) (drop 36 root)))
+
+-- what a call says of tables by a definition over their pointers, it says by that definition over
+-- every memory that agrees with theirs at the root table's ranges and at these
+abbrev pub FootprintBelow : {H A : Type 0} {h : _} → AcpiTables H h
+    → (Memory → List ℕ → Ranges) → (Memory → List ℕ → Result A AcpiError)
+    → (Result A AcpiError → Type 0) → Type 0
+FootprintBelow t ranges defined Says = Footprint (memory_of t)
+    (root_ranges (memory_of t) (kind_of t) (root_address_of t)
+    ++ ranges (memory_of t) (pointers_of t))
+    (λ n. below n (kind_of t) (root_address_of t) (defined n)) Says

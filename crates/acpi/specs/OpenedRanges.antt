@@ -1,0 +1,69 @@
+-- The ranges of a memory that the RSDP, the search for it and what they lead to depend on.
+use Rattle.std.specs.Prelude.{ℕ, zero, suc, ◌+◌, [], ◌∷◌, ◌++◌, Option, Some, None}
+use Rattle.acpi_base.specs.Memory.{Memory}
+use Rattle.acpi_base.specs.Ranges.{◌>>=◌, Ranges, unless_found}
+use Rattle.acpi_base.specs.Steps.{lent}
+use Rattle.acpi.specs.Footprint.{root_ranges}
+use Rattle.acpi.specs.Rsdp.{length_of, root_of_rsdp, rsdp_at}
+use Rattle.acpi.specs.Search.{count_of, first_area, found_in, found_rsdp, room_of, second_area}
+use Rattle.acpi.specs.Search.{word_in}
+use Rattle.acpi.specs.declared.root.RootPlace.{RootPlace}
+use Rattle.acpi.specs.declared.rsdp.area.Area.{Area}
+
+-- those of the whole of an RSDP, where it has a length
+abbrev pub length_ranges : ℕ → Option ℕ → Ranges
+length_ranges a None = []
+length_ranges a (Some n) = (a, n) ∷ []
+
+-- those of `rsdp_at`: the 36 bytes, and as many as the length says, where the checks come to that
+abbrev pub rsdp_ranges : Memory → ℕ → Ranges
+rsdp_ranges m a = (a, 36) ∷ do
+  b ← lent m a 36
+  n ← length_of b
+  length_ranges a n
+
+-- ---- the search
+
+-- those of `walk`: each candidate's, up to and with the first valid one
+abbrev pub walk_ranges : Memory → ℕ → ℕ → Ranges
+walk_ranges m zero a = []
+walk_ranges m (suc n) a =
+    rsdp_ranges m a ++ unless_found (rsdp_at m a) (walk_ranges m n (a + 16))
+
+-- those of `found_in`: the area with the 16 bytes behind it, and its candidates' where that is lent
+abbrev pub area_ranges : Memory → Area → Ranges
+area_ranges m s = (s.start, room_of s) ∷ do
+  _ ← lent m s.start (room_of s)
+  walk_ranges m (count_of s) s.start
+
+-- those that are come to only where nothing is found before
+abbrev pub or_else_ranges : {A : Type 0} → Option A → Ranges → Ranges
+or_else_ranges (Some found) ranges = []
+or_else_ranges None ranges = ranges
+
+-- those of `found_rsdp`: the word; where that is lent the first area's; where that is lent and has
+-- no valid candidate the second's
+abbrev pub search_ranges : Memory → Ranges
+search_ranges m = (0x40e, 2) ∷ do
+  word ← word_in m
+  area_ranges m first_area ++ do
+    first ← found_in m first_area
+    or_else_ranges first (area_ranges m (second_area word))
+
+-- ---- what is opened
+
+-- those of `opened_from`
+abbrev pub opened_ranges : Memory → RootPlace → Ranges
+opened_ranges m place = root_ranges m place.kind place.address
+
+-- those of `opened_by_rsdp`: the RSDP's, and where it is valid, those of the root it leads to
+abbrev pub opened_by_rsdp_ranges : Memory → ℕ → Ranges
+opened_by_rsdp_ranges m a = rsdp_ranges m a ++ do
+  rsdp ← rsdp_at m a
+  opened_ranges m (root_of_rsdp rsdp)
+
+-- those of `opened_by_search`
+abbrev pub opened_by_search_ranges : Memory → Ranges
+opened_by_search_ranges m = search_ranges m ++ do
+  found ← found_rsdp m
+  opened_ranges m (root_of_rsdp found.1)

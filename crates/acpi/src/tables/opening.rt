@@ -1,0 +1,193 @@
+//! How the root table is opened: by its address, by an RSDP, by the search for one.
+ghost use Rattle.std.specs.Prelude.{◌≡◌, ◌^◌, ◌<◌, length, IfOk};
+ghost use Rattle.acpi_base.specs.Mapping.{start_of, bytes_of, handler_of};
+ghost use Rattle.acpi_base.specs.Steps.{Gives};
+ghost use Rattle.acpi.specs.Root.{root_at};
+
+use super::AcpiTables;
+use crate::root::{RootKind, RootPlace};
+use crate::rsdp::{Rsdp, map_rsdp};
+use acpi_base::sdt::{SdtHeader, map_sdt};
+use acpi_base::{AcpiHandler, AcpiResult, PhysicalMapping, PhysicalRecord};
+
+/// The root table of a kind at an address, where it is valid.
+fn map_root<'h, H: AcpiHandler>(
+    handler: &'h H,
+    kind: RootKind,
+    address: u64,
+) -> AcpiResult<PhysicalMapping<'h, H, SdtHeader>>
+    ensures place { IfOk result (λ m. start_of m ≡ address) }
+    ensures handler { IfOk result (λ m. handler_of m ≡ handler.now) }
+    ensures short { IfOk result (λ m. length (bytes_of m) < 2 ^ 32) }
+    ensures root { Gives (λ m. bytes_of m) result (root_at (H.memory handler.now) kind address) }
+{
+    map_sdt(handler, address, kind.signature())
+}
+
+impl<'h, H: AcpiHandler> AcpiTables<'h, H> {
+    ghost use Rattle.std.specs.Prelude.{◌≡◌, IfOk, IsOk};
+    ghost use Rattle.acpi_base.specs.Mapping.{start_of, bytes_of};
+    ghost use Rattle.acpi_base.specs.Ranges.{Footprint};
+    ghost use Rattle.acpi_base.specs.Steps.{Gives};
+    ghost use Rattle.acpi.specs.Opened.{opened_at, opened_from, opened_of};
+    ghost use Rattle.acpi.specs.Opened.{opened_by_rsdp, opened_by_search};
+    ghost use Rattle.acpi.specs.OpenedRanges.{opened_by_rsdp_ranges, opened_by_search_ranges};
+    ghost use Rattle.acpi.specs.OpenedRanges.{opened_ranges};
+    ghost use Rattle.acpi.specs.Root.{root_of_revision};
+    ghost use Rattle.acpi.specs.Rsdp.{root_of_rsdp, rsdp_at};
+    ghost use Rattle.acpi.specs.Tables.{SpellsPointers, lender_of};
+
+    /// The tables below the root table that the RSDP at an address leads to: the RSDT for its
+    /// revision 0, else the XSDT (sections 5.2.5.3, 5.2.7 and 5.2.8).
+    ///
+    /// Refuses first with what the RSDP is refused with: `MapFailed` where 36 bytes aren't lent,
+    /// `RsdpIncorrectSignature`, `RsdpInvalidOemId`, `RsdpInvalidChecksum` where the first 20 bytes
+    /// don't sum to 0 or, above revision 0, the length is under 36, `MapFailed` where that many
+    /// bytes aren't lent, and `RsdpInvalidChecksum` where they don't sum to 0. Then as `from_rsdt`.
+    pub fn from_rsdp(handler: &'h H, address: u64) -> AcpiResult<Self>
+        ensures handler { IfOk result (λ t. lender_of t ≡ handler.now) }
+        ensures exact { Gives (λ t. opened_of t) result
+            (opened_by_rsdp (H.memory handler.now) address) }
+        // In the reader's words: the root table's bytes spell these pointers and no others.
+        ensures pointers { IfOk result (λ t. SpellsPointers t) }
+        // It depends on the RSDP and the root table that this leads to, and on no other byte.
+        ensures footprint { let m = H.memory handler.now in
+            Footprint m (opened_by_rsdp_ranges m address) (λ n. opened_by_rsdp n address)
+            (Gives (λ t. opened_of t) result) }
+    {
+        AcpiTables::open_by_rsdp(handler, address)
+    }
+
+    /// `from_rsdp`, by the exact clauses from which its footprint follows.
+    fn open_by_rsdp(handler: &'h H, address: u64) -> AcpiResult<Self>
+        ensures handler { IfOk result (λ t. lender_of t ≡ handler.now) }
+        ensures exact { Gives (λ t. opened_of t) result
+            (opened_by_rsdp (H.memory handler.now) address) }
+        ensures pointers { IfOk result (λ t. SpellsPointers t) }
+    {
+        let rsdp = map_rsdp(handler, address)?;
+        AcpiTables::from_root(handler, rsdp)
+    }
+
+    /// The tables below the root table that the RSDP leads to which `Rsdp::search_for_on_bios`
+    /// finds (section 5.2.5.1). No later candidate is tried where the root table is bad.
+    ///
+    /// Refuses first as that search does, with `MapFailed` or `NoValidRsdp`, and then as
+    /// `from_rsdt`.
+    pub fn search_for_rsdp_bios(handler: &'h H) -> AcpiResult<Self>
+        ensures handler { IfOk result (λ t. lender_of t ≡ handler.now) }
+        ensures exact { Gives (λ t. opened_of t) result (opened_by_search (H.memory handler.now)) }
+        // In the reader's words: the root table's bytes spell these pointers and no others.
+        ensures pointers { IfOk result (λ t. SpellsPointers t) }
+        // It depends on what the search asks for and the root table that the RSDP leads to.
+        ensures footprint { let m = H.memory handler.now in
+            Footprint m (opened_by_search_ranges m) opened_by_search
+            (Gives (λ t. opened_of t) result) }
+    {
+        AcpiTables::open_by_search(handler)
+    }
+
+    /// `search_for_rsdp_bios`, by the exact clauses from which its footprint follows.
+    fn open_by_search(handler: &'h H) -> AcpiResult<Self>
+        ensures handler { IfOk result (λ t. lender_of t ≡ handler.now) }
+        ensures exact { Gives (λ t. opened_of t) result (opened_by_search (H.memory handler.now)) }
+        ensures pointers { IfOk result (λ t. SpellsPointers t) }
+    {
+        let rsdp = Rsdp::search_for_on_bios(handler)?;
+        AcpiTables::from_root(handler, rsdp)
+    }
+
+    /// The tables below the root table that a valid RSDP leads to. Of the mapping only the address
+    /// counts: the fields are read from the handler's memory there, where all checks of the RSDP
+    /// hold.
+    ///
+    /// Refuses as `from_rsdt`.
+    pub fn from_validated_rsdp(
+        handler: &'h H,
+        mapping: PhysicalMapping<'h, H, Rsdp>,
+    ) -> AcpiResult<Self>
+        requires { IsOk (rsdp_at (H.memory handler.now) (start_of mapping)) }
+        ensures handler { IfOk result (λ t. lender_of t ≡ handler.now) }
+        ensures exact { Gives (λ t. opened_of t) result
+            (opened_by_rsdp (H.memory handler.now) (start_of mapping.entry)) }
+        // In the reader's words: the root table's bytes spell these pointers and no others.
+        ensures pointers { IfOk result (λ t. SpellsPointers t) }
+        // It depends on the RSDP and the root table that this leads to, and on no other byte.
+        ensures footprint { let m = H.memory handler.now in
+            Footprint m (opened_by_rsdp_ranges m (start_of mapping.entry))
+            (λ n. opened_by_rsdp n (start_of mapping.entry)) (Gives (λ t. opened_of t) result) }
+    {
+        AcpiTables::open_validated(handler, mapping)
+    }
+
+    /// `from_validated_rsdp`, by the exact clauses from which its footprint follows.
+    #[tactic(auto, using(crate::proofs::Led::valid_lent))]
+    fn open_validated(handler: &'h H, mapping: PhysicalMapping<'h, H, Rsdp>) -> AcpiResult<Self>
+        requires { IsOk (rsdp_at (H.memory handler.now) (start_of mapping)) }
+        ensures handler { IfOk result (λ t. lender_of t ≡ handler.now) }
+        ensures exact { Gives (λ t. opened_of t) result
+            (opened_by_rsdp (H.memory handler.now) (start_of mapping.entry)) }
+        ensures pointers { IfOk result (λ t. SpellsPointers t) }
+    {
+        let address = mapping.physical_start();
+        drop(mapping);
+        let rsdp = PhysicalMapping::map(handler, address, Rsdp::MIN_LENGTH)?;
+        AcpiTables::from_root(handler, rsdp)
+    }
+
+    /// The tables below the root table that an RSDP leads to, which is unmapped first.
+    fn from_root(handler: &'h H, rsdp: PhysicalMapping<'h, H, Rsdp>) -> AcpiResult<Self>
+        ensures handler { IfOk result (λ t. lender_of t ≡ handler.now) }
+        ensures exact { Gives (λ t. opened_of t) result
+            (opened_from (H.memory handler.now) (root_of_rsdp (bytes_of rsdp.entry))) }
+        ensures pointers { IfOk result (λ t. SpellsPointers t) }
+    {
+        let place = rsdp.get().root();
+        drop(rsdp);
+        AcpiTables::open(handler, place)
+    }
+
+    /// The tables below the root table at an address: the RSDT, with pointers of four bytes, for
+    /// revision 0, else the XSDT, with pointers of eight (sections 5.2.7 and 5.2.8).
+    ///
+    /// Refuses, in this order, with `MapFailed` where 36 bytes aren't lent there,
+    /// `SdtInvalidSignature`, `SdtInvalidOemId`, `SdtInvalidTableId`, `SdtInvalidLength` where the
+    /// length is under 36, `MapFailed` where `length` bytes aren't lent, and `SdtInvalidChecksum`.
+    pub fn from_rsdt(handler: &'h H, revision: u8, address: u64) -> AcpiResult<Self>
+        ensures handler { IfOk result (λ t. lender_of t ≡ handler.now) }
+        ensures exact { Gives (λ t. opened_of t) result
+            (opened_at (H.memory handler.now) (revision, address)) }
+        // In the reader's words: the root table's bytes spell these pointers and no others.
+        ensures pointers { IfOk result (λ t. SpellsPointers t) }
+        // It depends on the root table and on no other byte.
+        ensures footprint { let m = H.memory handler.now in
+            Footprint m (opened_ranges m (root_of_revision revision address))
+            (λ n. opened_at n (revision, address)) (Gives (λ t. opened_of t) result) }
+    {
+        AcpiTables::open_at(handler, revision, address)
+    }
+
+    /// `from_rsdt`, by the exact clauses from which its footprint follows.
+    fn open_at(handler: &'h H, revision: u8, address: u64) -> AcpiResult<Self>
+        ensures handler { IfOk result (λ t. lender_of t ≡ handler.now) }
+        ensures exact { Gives (λ t. opened_of t) result
+            (opened_at (H.memory handler.now) (revision, address)) }
+        ensures pointers { IfOk result (λ t. SpellsPointers t) }
+    {
+        AcpiTables::open(handler, RootPlace::of_revision(revision, address))
+    }
+
+    /// The tables below a root table.
+    fn open(handler: &'h H, place: RootPlace) -> AcpiResult<Self>
+        ensures handler { IfOk result (λ t. lender_of t ≡ handler.now) }
+        ensures exact { Gives (λ t. opened_of t) result (opened_from (H.memory handler.now) place) }
+        ensures pointers { IfOk result (λ t. SpellsPointers t) }
+    {
+        let root = map_root(handler, place.kind, place.address)?;
+        Ok(AcpiTables {
+            revision: place.revision,
+            kind: place.kind,
+            root,
+        })
+    }
+}

@@ -1,0 +1,64 @@
+-- The ranges of a memory that an answer depends on.
+use Rattle.std.specs.Prelude.{◌≡◌, ℕ, List, [], ◌∷◌, Result, Ok, Err}
+use Rattle.std.specs.List.{AllByRecursion}
+use Rattle.acpi_base.specs.declared.signature.Signature.{Signature}
+use Rattle.acpi_base.specs.Header.{header_at}
+use Rattle.acpi_base.specs.Memory.{Memory, at}
+use Rattle.acpi_base.specs.Steps.{lent}
+use Rattle.acpi_base.specs.Table.{Kind, length_in, own_table_at, table_at}
+
+-- each an address and a number of bytes
+abbrev pub Ranges : Type 0
+Ranges = List (ℕ × ℕ)
+
+-- two memories lend the same at each of these ranges, or both nothing
+abbrev pub AgreesOn : Memory → Memory → Ranges → Type 0
+AgreesOn m n ranges = AllByRecursion (λ r. at m r.0 r.1 ≡ at n r.0 r.1) ranges
+
+-- a definition is the same over every memory that agrees on its ranges
+abbrev pub DependsOn : {X A : Type 0} → (Memory → X → Ranges) → (Memory → X → A) → Type 0
+DependsOn ranges defined = (m n : Memory) (x : _) → AgreesOn m n (ranges m x)
+    → defined n x ≡ defined m x
+
+-- what a call says by a definition, it says by that definition over every memory that agrees with
+-- this one at these ranges
+abbrev pub Footprint : {A : Type 0} → Memory → Ranges → (Memory → A) → (A → Type 0) → Type 0
+Footprint m ranges defined Says = (n : Memory) → AgreesOn m n ranges → Says (defined n)
+
+-- in a `do` of ranges: those behind a step that passes
+infixl 10 ◌>>=◌
+abbrev pub ◌>>=◌ : {A E : Type 0} → Result A E → (A → Ranges) → Ranges
+(Ok x) >>= ranges = ranges x
+(Err e) >>= ranges = []
+
+-- those that are come to only where this is refused
+abbrev pub unless_found : {A E : Type 0} → Result A E → Ranges → Ranges
+unless_found (Ok x) ranges = []
+unless_found (Err e) ranges = ranges
+
+-- ---- of one table
+
+-- those of `whole_of`: as many bytes as the header says, where it has the names and the least length
+abbrev pub whole_ranges : Signature → ℕ → ℕ → List ℕ → Ranges
+whole_ranges s least p head = do
+  length ← length_in s least (header_at head)
+  (p, length) ∷ []
+
+-- those of `table_at`
+abbrev pub table_ranges : Memory → Kind → ℕ → Ranges
+table_ranges m k p = (p, 36) ∷ do
+  head ← lent m p 36
+  whole_ranges k.signature k.least p head
+
+-- those of `own_table_at`
+abbrev pub own_table_ranges : Memory → ℕ → Ranges
+own_table_ranges m p = (p, 36) ∷ do
+  head ← lent m p 36
+  whole_ranges (header_at head).signature 36 p head
+
+-- a table depends on its ranges, whatever is asked of it
+abbrev pub TableDependsOn : Type 0
+TableDependsOn = (k : Kind) → DependsOn (λ m. table_ranges m k) (λ m. table_at m k)
+
+abbrev pub OwnTableDependsOn : Type 0
+OwnTableDependsOn = DependsOn own_table_ranges own_table_at
