@@ -7,7 +7,7 @@ ghost use Rattle.acpi.specs.Laws.{LookupIsFirst, OnePointers, SecondAreas, Skips
 pub mod footprints;
 
 use crate::hpet::PageProtection;
-use crate::platform::{PlatformInfo, PmTimer};
+use crate::platform::{MailboxWrite, PlatformInfo, PmTimer};
 use crate::records::{AmlTable, Sdt, TableFault};
 use std::alloc::{AllocError, Allocator};
 
@@ -62,6 +62,13 @@ pub fn pm_timer_equality(a: &PmTimer, b: &PmTimer) -> bool
 
 /// Page protections compare as equal exactly where they are one.
 pub fn protection_equality(a: &PageProtection, b: &PageProtection) -> bool
+    ensures { IsEquality result a.now b.now }
+{
+    a == b
+}
+
+/// Writes to a mailbox compare as equal exactly where they are one.
+pub fn mailbox_write_equality(a: &MailboxWrite, b: &MailboxWrite) -> bool
     ensures { IsEquality result a.now b.now }
 {
     a == b
