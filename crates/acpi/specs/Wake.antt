@@ -1,11 +1,12 @@
 -- Waking a processor by the mailbox (ACPI 6.4, section 5.2.12.19).
-use Rattle.std.specs.Prelude.{◌≡◌, ◌≢◌, ◌<◌, ◌+◌, ℕ, List, Result}
+use Rattle.std.specs.Prelude.{◌≡◌, ◌≢◌, ◌<◌, ◌+◌, ℕ, List, Option, Result}
 use Rattle.acpi_base.specs.Madt.{mailbox_of}
 use Rattle.acpi_base.specs.Memory.{Memory}
 use Rattle.acpi_base.specs.Steps.{◌>>=◌}
 use Rattle.acpi_base.specs.declared.error.AcpiError.{AcpiError}
 use Rattle.acpi.specs.Lookup.{lookup}
 use Rattle.acpi.specs.Platform.{madt_kind}
+use Rattle.acpi.specs.declared.platform.mailbox.MailboxWrite.{MailboxWrite}
 
 -- where the mailbox of the first valid MADT lies
 abbrev pub mailbox_found : Memory → List ℕ → Result ℕ AcpiError
@@ -16,6 +17,12 @@ mailbox_found m ps = do
 -- what opening it answers, where each address has this answer
 abbrev pub opening : (ℕ → Result (Unit {0}) AcpiError) → Result ℕ AcpiError → Result (Unit {0}) AcpiError
 opening answers found = found >>= answers
+
+-- what was opened, what was written and each read to come are after as they were before
+abbrev pub IsUntouched : {Mailbox : Type 0} → (Mailbox → Option ℕ) → (Mailbox → List MailboxWrite)
+    → (Mailbox → ℕ → ℕ) → Mailbox → Mailbox → Type 0
+IsUntouched opened writes answer before after = (opened after ≡ opened before)
+    × (writes after ≡ writes before) × ((i : ℕ) → answer after i ≡ answer before i)
 
 -- ---- reading the command
 

@@ -4,7 +4,7 @@ ghost use Rattle.acpi_base.specs.declared.error.AcpiError.{AcpiError};
 ghost use Rattle.acpi_base.specs.declared.error.AcpiError.TheVariants.{InvalidMadt};
 ghost use Rattle.acpi_base.specs.declared.error.MadtError.TheVariants.{WakeupApsTimeout};
 ghost use Rattle.acpi.specs.Tables.{memory_of, pointers_of};
-ghost use Rattle.acpi.specs.Wake.{Waits, Wakes, mailbox_found, opening};
+ghost use Rattle.acpi.specs.Wake.{IsUntouched, Waits, Wakes, mailbox_found, opening};
 ghost use Rattle.acpi.specs.declared.platform.mailbox.MailboxWrite.{MailboxWrite};
 
 use super::mailbox::Mailbox;
@@ -30,9 +30,8 @@ pub fn wakeup_aps<H: AcpiHandler, M: Mailbox>(
     ensures refused { (e : AcpiError)
         → opening (M.open_answer mailbox.old) (mailbox_found (memory_of tables.now)
         (pointers_of tables.now)) ≡ Err e
-        → (result ≡ Err e) × (M.writes mailbox.new ≡ M.writes mailbox.old)
-        × (M.opened mailbox.new ≡ M.opened mailbox.old)
-        × ((i : ℕ) → M.answer mailbox.new i ≡ M.answer mailbox.old i) }
+        → (result ≡ Err e) × IsUntouched M.opened M.writes M.answer mailbox.old mailbox.new }
+    ensures answers_kept { (a : ℕ) → M.open_answer mailbox.new a ≡ M.open_answer mailbox.old a }
     ensures opened { (a : ℕ) → mailbox_found (memory_of tables.now) (pointers_of tables.now) ≡ Ok a
         → OnOk (M.open_answer mailbox.old a) (M.opened mailbox.new ≡ Some a) }
     ensures written { OnOk (opening (M.open_answer mailbox.old)
@@ -60,9 +59,8 @@ fn wake<M: Mailbox>(
     timeout_loops: u64,
 ) -> AcpiResult<()>
     ensures refused { (e : AcpiError) → M.open_answer mailbox.old address ≡ Err e
-        → (result ≡ Err e) × (M.writes mailbox.new ≡ M.writes mailbox.old)
-        × (M.opened mailbox.new ≡ M.opened mailbox.old)
-        × ((i : ℕ) → M.answer mailbox.new i ≡ M.answer mailbox.old i) }
+        → (result ≡ Err e) × IsUntouched M.opened M.writes M.answer mailbox.old mailbox.new }
+    ensures answers_kept { (a : ℕ) → M.open_answer mailbox.new a ≡ M.open_answer mailbox.old a }
     ensures opened { OnOk (M.open_answer mailbox.old address)
         (M.opened mailbox.new ≡ Some address) }
     ensures written { OnOk (M.open_answer mailbox.old address) (M.writes mailbox.new
