@@ -12,14 +12,14 @@ use crate::tables::AcpiTables;
 use acpi_base::madt::{Madt, MadtError, MpProtectedModeWakeupCommand};
 use acpi_base::{AcpiError, AcpiHandler, AcpiResult};
 
-/// Wakes the processor with a local APIC id: it then begins to run at the vector, a physical address
-/// (section 5.2.12.19). The mailbox is that of the first wakeup entry of the first valid MADT. It gets
-/// the command 0, the id, the vector, the command 1; then the command is read until it is 0, at most
-/// `timeout_loops` times. A command that has no meaning counts as not yet 0.
+/// Wakes the processor with a local APIC id: it then begins to run at the vector, a physical
+/// address (section 5.2.12.19). The mailbox is that of the first wakeup entry of the first valid
+/// MADT. It gets the command 0, the id, the vector, the command 1; then the command is read until
+/// it is 0, at most `timeout_loops` times. A command that has no meaning counts as not yet 0.
 ///
 /// Refuses, in this order, with `TableMissing` where no valid MADT is listed, with what
-/// `get_mpwk_mailbox_addr` refuses, with what the mailbox's `open` refuses, each without a write or a
-/// read, and with `InvalidMadt(WakeupApsTimeout)` where no read is 0.
+/// `get_mpwk_mailbox_addr` refuses, with what the mailbox's `open` refuses, each without a write or
+/// a read, and with `InvalidMadt(WakeupApsTimeout)` where no read is 0.
 pub fn wakeup_aps<H: AcpiHandler, M: Mailbox>(
     tables: &AcpiTables<'_, H>,
     mailbox: &mut M,
@@ -76,6 +76,20 @@ fn wake<M: Mailbox>(
     mailbox.write_apic_id(apic_id);
     mailbox.write_wakeup_vector(wakeup_vector);
     mailbox.write_command(MpProtectedModeWakeupCommand::Wakeup as u16);
+    wait(mailbox, timeout_loops)
+}
+
+/// Reads the command until it is 0, at most `timeout_loops` times. Refuses with
+/// `InvalidMadt(WakeupApsTimeout)` where no read is 0.
+fn wait<M: Mailbox>(mailbox: &mut M, timeout_loops: u64) -> AcpiResult<()>
+    ensures answered { MatchResult result
+        (λ _. Wakes (M.answer mailbox.old) timeout_loops (M.answer mailbox.new))
+        (λ e. (e ≡ InvalidMadt WakeupApsTimeout)
+        × Waits (M.answer mailbox.old) timeout_loops (M.answer mailbox.new)) }
+    ensures opened_kept { M.opened mailbox.new ≡ M.opened mailbox.old }
+    ensures written_kept { M.writes mailbox.new ≡ M.writes mailbox.old }
+    ensures answers_kept { (a : ℕ) → M.open_answer mailbox.new a ≡ M.open_answer mailbox.old a }
+{
     for _read in 0..timeout_loops {
         if mailbox.read_command() == MpProtectedModeWakeupCommand::Noop as u16 {
             return Ok(());
