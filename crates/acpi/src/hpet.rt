@@ -97,8 +97,8 @@ pub struct HpetInfo {
 }
 
 impl HpetInfo {
-    ghost use Rattle.std.specs.Prelude.{◌≡◌, ◌+◌};
-    ghost use Rattle.acpi_base.specs.Bits.{bits_of, has_bit};
+    ghost use Rattle.std.specs.Prelude.{◌+◌};
+    ghost use Rattle.acpi_base.specs.Bits.{has_bit};
     ghost use Rattle.acpi.specs.Footprint.{FootprintBelow, lookup_ranges};
     ghost use Rattle.acpi.specs.Hpet.{hpet_kind, hpet_of, info_of};
     ghost use Rattle.acpi.specs.Relocation.{Relocation};

@@ -1,7 +1,7 @@
 //! Where the configuration space of a PCI function lies.
 ghost use Rattle.std.specs.Prelude.{◌≡◌, ◌<◌, ◌≤◌, List, [], IfOk, IfSome, IsOk};
 ghost use Rattle.acpi_base.specs.Mcfg.{regions_left};
-ghost use Rattle.acpi.specs.Pci.{IsApart, address_in, is_of, pci_address, region_of};
+ghost use Rattle.acpi.specs.Pci.{address_in, is_of, region_of};
 ghost use Rattle.acpi_base.specs.declared.mcfg.McfgEntry.{McfgEntry};
 
 use crate::tables::AcpiTables;
@@ -49,7 +49,6 @@ impl PciConfigRegions<Global> {
 }
 
 impl<A: Allocator> PciConfigRegions<A> {
-    ghost use Rattle.std.specs.Prelude.{◌≡◌, IfSome};
     ghost use Rattle.acpi_base.specs.Steps.{GivesOrFull};
     ghost use Rattle.acpi.specs.Footprint.{FootprintBelow, lookup_ranges};
     ghost use Rattle.acpi.specs.Pci.{RegionsAsk, IsApart, entries_left, found_regions, mcfg_kind};

@@ -1,5 +1,5 @@
 //! The pointers that a root table lists.
-ghost use Rattle.std.specs.Prelude.{◌≡◌, ◌≤◌};
+ghost use Rattle.std.specs.Prelude.{◌≤◌};
 
 use acpi_base::bytes::{field, skip};
 
@@ -13,7 +13,7 @@ pub(crate) struct Pointers<'t> {
 }
 
 impl<'t> Pointers<'t> {
-    ghost use Rattle.std.specs.Prelude.{◌≡◌, ◌≤◌, []};
+    ghost use Rattle.std.specs.Prelude.{◌≡◌, []};
     ghost use Rattle.acpi.specs.Pointers.{pointers_left};
     ghost use Rattle.acpi.specs.Root.{pointers};
 

@@ -1,5 +1,5 @@
 //! Plain records that lookups answer.
-ghost use Rattle.std.specs.Prelude.{◌≡◌, ◌+◌, ◌^◌, ◌<◌, ◌≤◌, length};
+ghost use Rattle.std.specs.Prelude.{◌≡◌, ◌+◌, ◌^◌, ◌<◌, length};
 ghost use Rattle.acpi_base.specs.Mapping.{bytes_of, start_of};
 ghost use Rattle.acpi.specs.Lists.{stream_of};
 

@@ -56,8 +56,7 @@ impl PhysicalRecord for Rsdp {
 }
 
 impl Rsdp {
-    ghost use Rattle.std.specs.Prelude.{◌≡◌, ◌≤◌, length, IfOk, IfSome};
-    ghost use Rattle.acpi_base.specs.Steps.{Gives};
+    ghost use Rattle.std.specs.Prelude.{◌≤◌, length, IfSome};
     ghost use Rattle.acpi_base.specs.Text.{IsTextOf};
     ghost use Rattle.acpi.specs.Rsdp.{signature_of, checksum_of, oem_id_of, revision_of};
     ghost use Rattle.acpi.specs.Rsdp.{rsdt_address_of, xsdt_address_of, extended_length_of};

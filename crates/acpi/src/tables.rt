@@ -32,8 +32,8 @@ pub struct AcpiTables<'h, H: AcpiHandler> {
 }
 
 impl<'h, H: AcpiHandler> AcpiTables<'h, H> {
-    ghost use Rattle.std.specs.Prelude.{◌≡◌, ◌^◌, ◌<◌, ◌≤◌, ◌∷◌, ◌++◌, ℕ, List, length};
-    ghost use Rattle.std.specs.Prelude.{IfOk, IfErr, IsErr, Ok};
+    ghost use Rattle.std.specs.Prelude.{◌≤◌, ◌∷◌, ◌++◌, ℕ, List};
+    ghost use Rattle.std.specs.Prelude.{IfErr, IsErr, IfOk, Ok};
     ghost use Rattle.acpi_base.specs.Steps.{Gives, GivesOrFull};
     ghost use Rattle.acpi_base.specs.Table.{kind, table_at};
     ghost use Rattle.acpi_base.specs.declared.error.AcpiError.TheVariants.{TableMissing};

@@ -43,7 +43,6 @@ pub enum AddressSpace {
 impl TryFrom<u8> for AddressSpace {
     type Error = AcpiError;
 
-    ghost use Rattle.std.specs.Prelude.{◌≡◌};
     ghost use Rattle.acpi_base.specs.Address.{space_of};
 
     ghost try_from_gives = { λ code r. r ≡ space_of code };
@@ -87,7 +86,6 @@ pub enum AccessSize {
 impl TryFrom<u8> for AccessSize {
     type Error = AcpiError;
 
-    ghost use Rattle.std.specs.Prelude.{◌≡◌};
     ghost use Rattle.acpi_base.specs.Address.{access_size_of};
 
     ghost try_from_gives = { λ code r. r ≡ access_size_of code };

@@ -16,7 +16,7 @@ pub(crate) struct Claim<'h, H: AcpiHandler> {
 }
 
 impl<'h, H: AcpiHandler> Claim<'h, H> {
-    ghost use Rattle.std.specs.Prelude.{◌≡◌, ◌<◌, ◌≤◌, length, take, IfOk, Some};
+    ghost use Rattle.std.specs.Prelude.{◌≡◌, ◌<◌, take, IfOk, Some};
     ghost use Rattle.acpi_base.specs.Claim.{all_of, claimed_at, claimed_from, shown_by};
     ghost use Rattle.acpi_base.specs.Memory.{at};
     ghost use Rattle.acpi_base.specs.Steps.{Gives, lent};

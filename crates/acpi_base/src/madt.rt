@@ -88,7 +88,6 @@ impl AcpiTable for Madt {
 }
 
 impl Madt {
-    ghost use Rattle.std.specs.Prelude.{◌≡◌};
     ghost use Rattle.acpi_base.specs.Bits.{has_bit};
 
     /// Whether the machine has a pair of 8259 controllers too, which are to be masked where the
@@ -119,8 +118,8 @@ fn mailbox_address(table: &[u8]) -> AcpiResult<u64>
 }
 
 impl<'h, H: AcpiHandler> PhysicalMapping<'h, H, Madt> {
-    ghost use Rattle.std.specs.Prelude.{◌≡◌, ◌+◌, ◌*◌, ◌≤◌, length, false};
-    ghost use Rattle.acpi_base.specs.Madt.{cut_of, entries_of, mailbox_of};
+    ghost use Rattle.std.specs.Prelude.{◌+◌, ◌*◌, ◌≤◌, length, false};
+    ghost use Rattle.acpi_base.specs.Madt.{cut_of, entries_of};
     ghost use Rattle.acpi_base.specs.MadtWalk.{entries_left, has_ended, rest_left};
     ghost use Rattle.acpi_base.specs.Mapping.{bytes_of};
     ghost use Rattle.acpi_base.specs.Model.{AsksMemory, model_of};

@@ -54,7 +54,6 @@ impl<T: Clone + Drop> ManagedSlice<T, Global> {
 }
 
 impl<T, A: Allocator> ManagedSlice<T, A> {
-    ghost use Rattle.std.specs.Prelude.{◌≡◌};
     ghost use Rattle.std.specs.Borrow.{sem};
     ghost use Rattle.acpi_base.specs.Lends.{lends_slice};
 

@@ -18,8 +18,8 @@ pub struct PhysicalMapping<'h, H: AcpiHandler, T: PhysicalRecord> {
 }
 
 impl<'h, H: AcpiHandler, T: PhysicalRecord> PhysicalMapping<'h, H, T> {
-    ghost use Rattle.std.specs.Prelude.{◌≡◌, ◌+◌, ◌^◌, ◌<◌, ◌≤◌, length, take, IfOk, Some};
-    ghost use Rattle.acpi_base.specs.Claim.{all_of, claimed_at, claimed_from, shown_by};
+    ghost use Rattle.std.specs.Prelude.{◌+◌, ◌^◌, ◌<◌, take, IfOk, Some};
+    ghost use Rattle.acpi_base.specs.Claim.{all_of, claimed_at, claimed_from};
     ghost use Rattle.acpi_base.specs.Mapping.{start_of, bytes_of, lent_of, mapped_of, handler_of};
     ghost use Rattle.acpi_base.specs.Memory.{at};
     ghost use Rattle.acpi_base.specs.Steps.{Gives, lent};
@@ -115,7 +115,6 @@ impl<'h, H: AcpiHandler, T: PhysicalRecord> PhysicalMapping<'h, H, T> {
 
 /// The record that the mapped bytes mean.
 impl<'h, H: AcpiHandler, T: PhysicalRecord> Deref for PhysicalMapping<'h, H, T> {
-    ghost use Rattle.std.specs.Prelude.{◌≡◌};
     ghost use Rattle.acpi_base.specs.Mapping.{bytes_of};
 
     type Target = T;

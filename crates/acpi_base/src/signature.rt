@@ -252,7 +252,7 @@ fn hex_char(digit: u8) -> char
 struct HexByte(u8);
 
 impl fmt::Display for HexByte {
-    ghost use Rattle.std.specs.Prelude.{Some, [], ◌∷◌};
+    ghost use Rattle.std.specs.Prelude.{[], ◌∷◌};
     ghost use Rattle.acpi_base.specs.Text.{hex_text};
 
     ghost output = { λ b. Some (hex_text (b.0 ∷ [])) };

@@ -116,7 +116,6 @@ impl AcpiTable for Spcr {
 }
 
 impl Spcr {
-    ghost use Rattle.std.specs.Prelude.{◌≡◌};
     ghost use Rattle.std.specs.Int.RustNames.{bit_and};
     ghost use Rattle.acpi_base.specs.Spcr.{base_of, baud_of, bus_of, clock_of, device_id_of};
     ghost use Rattle.acpi_base.specs.Spcr.{device_of, function_of, interface_in, interrupt_of};
@@ -286,7 +285,6 @@ fn name_of(bytes: &[u8]) -> AcpiResult<&str>
 impl<'h, H: AcpiHandler> PhysicalMapping<'h, H, Spcr> {
     ghost use Rattle.acpi_base.specs.Mapping.{bytes_of};
     ghost use Rattle.acpi_base.specs.Spcr.{namespace_of};
-    ghost use Rattle.acpi_base.specs.Text.{Shows};
 
     /// The name of the port's object in the ACPI namespace, or `.` where it has none: the bytes of
     /// the length and at the offset that the table gives, counted from its first byte.

@@ -1,5 +1,5 @@
 //! A mailbox that answers from a script, for tests and dry runs.
-ghost use Rattle.std.specs.Prelude.{◌≡◌, ◌≤◌, ◌<◌, ◌+◌, ◌++◌, ◌∷◌, ℕ, [], None, length, slice_index_or, take, min};
+ghost use Rattle.std.specs.Prelude.{◌≤◌};
 
 use super::mailbox::{Mailbox, MailboxWrite};
 use acpi_base::AcpiResult;

@@ -93,13 +93,12 @@ fn search_areas<'h, H: AcpiHandler>(handler: &'h H) -> AcpiResult<PhysicalMappin
 }
 
 impl Rsdp {
-    ghost use Rattle.std.specs.Prelude.{◌≡◌, IfOk, IsOk};
-    ghost use Rattle.acpi_base.specs.Mapping.{handler_of, start_of};
-    ghost use Rattle.acpi_base.specs.Steps.{Gives};
+    ghost use Rattle.std.specs.Prelude.{IsOk};
+    ghost use Rattle.acpi_base.specs.Mapping.{start_of};
     ghost use Rattle.acpi_base.specs.Ranges.{Footprint};
     ghost use Rattle.acpi.specs.OpenedRanges.{search_ranges};
     ghost use Rattle.acpi.specs.Rsdp.{rsdp_at};
-    ghost use Rattle.acpi.specs.Search.{IsSearched, found_rsdp, placed};
+    ghost use Rattle.acpi.specs.Search.{IsSearched};
 
     /// The RSDP of a system that boots by a BIOS (section 5.2.5.1): a mapping of the 36 bytes of
     /// the least valid candidate.

@@ -26,7 +26,7 @@ pub(super) struct Draft<A: Allocator> {
 }
 
 impl<A: Allocator + Clone> Draft<A> {
-    ghost use Rattle.std.specs.Prelude.{◌≡◌, [], IfOk, IfErr, List};
+    ghost use Rattle.std.specs.Prelude.{IfOk, IfErr, List};
     ghost use Rattle.acpi_base.specs.Draft.{HasRoom, model_behind};
     ghost use Rattle.acpi_base.specs.Model.{gathered};
     ghost use Rattle.acpi_base.specs.Parts.{counts_of};
@@ -59,7 +59,7 @@ impl<A: Allocator + Clone> Draft<A> {
 }
 
 impl<A: Allocator> Draft<A> {
-    ghost use Rattle.std.specs.Prelude.{◌≡◌, ◌∷◌, [], List};
+    ghost use Rattle.std.specs.Prelude.{◌∷◌, [], List};
     ghost use Rattle.acpi_base.specs.Draft.{HasRoom, model_behind};
     ghost use Rattle.acpi_base.specs.declared.model.part.Part.{Part};
 
