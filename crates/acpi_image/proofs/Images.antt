@@ -10,7 +10,7 @@ use Rattle.std.proofs.Math.Seq.{take-append_seam, drop-append_seam}
 use Rattle.acpi_base.specs.Bytes.{IsBytes, number, spelling, field_of}
 use Rattle.acpi_base.specs.Memory.{Memory, Region, IsMemory, IsRegion, end_of}
 use Rattle.acpi_base.proofs.Steps.{bind_ok, holds_ok}
-use Rattle.acpi_image.specs.Image.{GivesOrFull, IsImage, ample, records_with, next_at, record_at, record_spelling, records_from, records_in, shares_any}
+use Rattle.acpi_image.specs.Image.{GivesOrRunsOut, IsImage, ample, records_with, next_at, record_at, record_spelling, records_from, records_in, shares_any}
 use Rattle.acpi_image.specs.declared.error.ImageError.{ImageError}
 use Rattle.acpi_base.proofs.Spelling.{IsBytes-drop, IsBytes-take, length-spelling, number-spelling, spelling-number}
 use Rattle.acpi_image.proofs.Records.{records_nil, records_step}
@@ -200,7 +200,7 @@ Answer = Result MemoryImage ImageError
 
 -- it is what the definition says, unless memory ran out
 abbrev Answers : List ℕ → Answer → Result Memory ImageError → Type 0
-Answers file answer said = GivesOrFull file (λ i. memory_of i) answer said
+Answers file answer said = GivesOrRunsOut file (λ i. memory_of i) answer said
 
 -- an image that was found is the file's
 pub image_found : (file : List ℕ) (answer : Answer) → IsBytes file → Answers file answer (records_in file) → IfOk answer (λ i. IsImage file (memory_of i))

@@ -5,7 +5,7 @@ use Rattle.std.proofs.lemmas.List.{length-append, nil_from_length}
 use Rattle.std.specs.Prelude.{IsErrAnd}
 use Rattle.acpi_base.specs.Memory.{Memory, Region}
 use Rattle.acpi_base.specs.Steps.{◌>>=◌, holds}
-use Rattle.acpi_image.specs.Image.{next_at, records_from, records_in, records_with, ample, GivesOrFull, Refuses, RunsOut}
+use Rattle.acpi_image.specs.Image.{next_at, records_from, records_in, records_with, ample, GivesOrRunsOut, Refuses, RunsOut}
 use Rattle.acpi_image.specs.declared.error.ImageError.{ImageError}
 use Rattle.acpi_image.specs.declared.error.ImageError.TheVariants as refusal
 
@@ -96,6 +96,6 @@ module _ (kept : Memory) (left file : List ℕ) (so_far : IsReading kept left fi
         (granted, sym (rw (next, past) at (step.same granted (λ i less. lt-ltb i (length kept) less))))
 
 -- an answer that hands a refusal on
-pub handed_on : {X : Type 0} (file : List ℕ) (view : X → Memory) (r : Result X ImageError) (x : ImageError) (said : Result Memory ImageError) → IsErrAnd r (λ e. e ≡ x) → Refuses file x said → GivesOrFull file view r said
+pub handed_on : {X : Type 0} (file : List ℕ) (view : X → Memory) (r : Result X ImageError) (x : ImageError) (said : Result Memory ImageError) → IsErrAnd r (λ e. e ≡ x) → Refuses file x said → GivesOrRunsOut file view r said
 handed_on file view (Ok y) x said h k = absurd h
 handed_on file view (Err e) x said h k = rw h k

@@ -78,8 +78,9 @@ Refuses file refusal.Truncated said = said ≡ Err refusal.Truncated
 Refuses file refusal.EndTooLarge said = said ≡ Err refusal.EndTooLarge
 Refuses file refusal.Overlap said = said ≡ Err refusal.Overlap
 
--- what a call answered to a file, seen by view, is what the definition says, unless memory ran out
-abbrev pub GivesOrFull : {X Y : Type 0}
+-- what a call answered to a file, seen by view, is what the definition says, or OutOfMemory where
+-- memory can run out
+abbrev pub GivesOrRunsOut : {X Y : Type 0}
     → List ℕ → (X → Y) → Result X ImageError → Result Y ImageError → Type 0
-GivesOrFull file view (Ok x) said = said ≡ Ok (view x)
-GivesOrFull file view (Err e) said = Refuses file e said
+GivesOrRunsOut file view (Ok x) said = said ≡ Ok (view x)
+GivesOrRunsOut file view (Err e) said = Refuses file e said

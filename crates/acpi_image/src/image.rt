@@ -23,13 +23,13 @@ pub struct MemoryImage<'a> {
 impl<'a> MemoryImage<'a> {
     ghost use Rattle.std.specs.Prelude.{◌≡◌, ◌↔◌, IfOk, Ok};
     ghost use Rattle.acpi_base.specs.Memory.{Memory, IsMemory};
-    ghost use Rattle.acpi_image.specs.Image.{GivesOrFull, IsImage, records_in};
+    ghost use Rattle.acpi_image.specs.Image.{GivesOrRunsOut, IsImage, records_in};
     ghost use Rattle.acpi_image.specs.Held.{memory_of};
 
     /// The memory of `from_bytes`, by the exact clause from which its others follow.
     #[tactic(auto, using(crate::proofs::Images::image_memory))]
     fn image_of(alloc: Global, bytes: &'a [u8]) -> Result<MemoryImage<'a>, ImageError>
-        ensures { GivesOrFull bytes.now (λ i. memory_of i) result (records_in bytes.now) }
+        ensures { GivesOrRunsOut bytes.now (λ i. memory_of i) result (records_in bytes.now) }
     {
         let records = records_of(alloc, bytes)?;
         Ok(MemoryImage { records })
@@ -48,10 +48,10 @@ impl<'a> MemoryImage<'a> {
         ensures found { IfOk result (λ i. IsImage bytes.now (memory_of i)) }
         // A file that is the records of some memory is read as that memory, unless memory runs out.
         ensures only { (m : Memory) → IsMemory m → IsImage bytes.now m
-            → GivesOrFull bytes.now (λ i. memory_of i) result (Ok m) }
+            → GivesOrRunsOut bytes.now (λ i. memory_of i) result (Ok m) }
         // The memory, or the first refusal, is the one that is defined; memory runs out only behind
         // a record that passed its checks.
-        ensures exact { GivesOrFull bytes.now (λ i. memory_of i) result (records_in bytes.now) }
+        ensures exact { GivesOrRunsOut bytes.now (λ i. memory_of i) result (records_in bytes.now) }
         // What is defined is the one memory that the file spells.
         ensures law { (m : Memory)
             → (records_in bytes.now ≡ Ok m) ↔ (IsImage bytes.now m × IsMemory m) }

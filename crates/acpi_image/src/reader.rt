@@ -2,7 +2,7 @@
 ghost use Rattle.std.specs.Prelude.{◌≡◌, ◌<◌, [], ◌∷◌, ◌++◌, length, IfOk, IfErr, IsOk, OnOk, vec_capacity, vec_len};
 ghost use Rattle.acpi_base.specs.Memory.{rest_from};
 ghost use Rattle.acpi_base.specs.Steps.{Gives};
-ghost use Rattle.acpi_image.specs.Image.{GivesOrFull, next_at, records_in, shares_any};
+ghost use Rattle.acpi_image.specs.Image.{GivesOrRunsOut, next_at, records_in, shares_any};
 ghost use Rattle.acpi_image.specs.Regions.{region_of, regions_of};
 ghost use Rattle.acpi_image.specs.declared.error.ImageError.TheVariants.{OutOfMemory};
 
@@ -67,7 +67,7 @@ pub(crate) fn records_of<'a, A: Allocator>(
     alloc: A,
     bytes: &'a [u8],
 ) -> Result<Vec<Record<'a>, A>, ImageError>
-    ensures { GivesOrFull bytes.now (λ v. regions_of v.items) result (records_in bytes.now) }
+    ensures { GivesOrRunsOut bytes.now (λ v. regions_of v.items) result (records_in bytes.now) }
 {
     let mut records = Vec::new(alloc);
     let mut rest = bytes;
