@@ -22,7 +22,7 @@ pub struct MemoryImage<'a> {
 
 impl<'a> MemoryImage<'a> {
     ghost use Rattle.std.specs.Prelude.{◌≡◌, ◌↔◌, IfOk, Ok};
-    ghost use Rattle.acpi_base.specs.Memory.{Memory, IsMemory};
+    ghost use Rattle.acpi_base.specs.Memory.{Memory};
     ghost use Rattle.acpi_image.specs.Image.{GivesOrRunsOut, IsImage, records_in};
     ghost use Rattle.acpi_image.specs.Held.{memory_of};
 

@@ -1,5 +1,5 @@
 //! One record of a file.
-ghost use Rattle.std.specs.Prelude.{◌≡◌, ◌<◌, length, IfOk};
+ghost use Rattle.std.specs.Prelude.{◌<◌, length, IfOk};
 ghost use Rattle.acpi_base.specs.Steps.{Gives};
 ghost use Rattle.acpi_image.specs.Image.{record_at};
 ghost use Rattle.acpi_image.specs.Regions.{region_of};
@@ -18,7 +18,6 @@ impl<'a> Record<'a> {
     ghost use Rattle.std.specs.Prelude.{◌≡◌, ◌-◌, ◌↔◌, IfSome, IfNone, drop, true, false};
     ghost use Rattle.acpi_base.specs.Memory.{AreApart, lies_in};
     ghost use Rattle.acpi_image.specs.Image.{share};
-    ghost use Rattle.acpi_image.specs.Regions.{region_of};
 
     /// The bytes from an address on, where it lies in this record.
     #[tactic(auto, using(crate::proofs::Rest::is_inside, crate::proofs::Rest::is_above, crate::proofs::Rest::is_below))]
