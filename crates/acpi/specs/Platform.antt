@@ -18,7 +18,8 @@ abbrev pub madt_kind : Kind
 madt_kind = kind MADT 44 (check_table MADT)
 
 -- the model of the table found; nothing is known where none was
-abbrev pub model_found : {A : Type 0} → Result (ℕ × List ℕ) AcpiError → Result (model.Model A) AcpiError
+abbrev pub model_found : {A : Type 0} → Result (ℕ × List ℕ) AcpiError
+    → Result (model.Model A) AcpiError
 model_found (Ok found) = model.model_of found.1
 model_found (Err e) = Ok (Unknown, None)
 

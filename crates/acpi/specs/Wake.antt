@@ -15,7 +15,8 @@ mailbox_found m ps = do
   mailbox_of found.1
 
 -- what opening it answers, where each address has this answer
-abbrev pub opening : (ℕ → Result (Unit {0}) AcpiError) → Result ℕ AcpiError → Result (Unit {0}) AcpiError
+abbrev pub opening : (ℕ → Result (Unit {0}) AcpiError) → Result ℕ AcpiError
+    → Result (Unit {0}) AcpiError
 opening answers found = found >>= answers
 
 -- what was opened, what was written and each read to come are after as they were before

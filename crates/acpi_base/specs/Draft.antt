@@ -10,7 +10,8 @@ use Rattle.acpi_base.specs.declared.model.processor.Processor.{Processor}
 use Rattle.acpi_base.specs.declared.model.processor.ProcessorInfo.{ProcessorInfo}
 
 -- the processors, where those so far are these and more follow
-abbrev pub processors_behind : {A : Type 0} → Option Processor → List Processor → List Part → Option (ProcessorInfo A)
+abbrev pub processors_behind : {A : Type 0} → Option Processor → List Processor → List Part
+    → Option (ProcessorInfo A)
 processors_behind (Some boot) others parts = Some (record {
   boot_processor = boot;
   application_processors = others ++ filter_map (processor_in true) parts;
@@ -44,8 +45,14 @@ others_in (Some boot) parts = length (filter_map (processor_in true) parts)
 
 -- there is room for what these say
 pub record HasRoom {A : Type 0} (d : Draft A) (parts : List Part) : Type 0 where
-  pub io_apics : vec_len d.io_apics + length (filter_map io_apic_in parts) ≤ vec_capacity d.io_apics
-  pub nmi_lines : vec_len d.nmi_lines + length (filter_map nmi_line_in parts) ≤ vec_capacity d.nmi_lines
-  pub overrides : vec_len d.overrides + length (filter_map override_in parts) ≤ vec_capacity d.overrides
-  pub nmi_sources : vec_len d.nmi_sources + length (filter_map nmi_source_in parts) ≤ vec_capacity d.nmi_sources
-  pub processors : vec_len d.application_processors + others_in d.boot_processor parts ≤ vec_capacity d.application_processors
+  pub io_apics :
+      vec_len d.io_apics + length (filter_map io_apic_in parts) ≤ vec_capacity d.io_apics
+  pub nmi_lines :
+      vec_len d.nmi_lines + length (filter_map nmi_line_in parts) ≤ vec_capacity d.nmi_lines
+  pub overrides :
+      vec_len d.overrides + length (filter_map override_in parts) ≤ vec_capacity d.overrides
+  pub nmi_sources :
+      vec_len d.nmi_sources + length (filter_map nmi_source_in parts) ≤ vec_capacity d.nmi_sources
+  pub processors :
+      vec_len d.application_processors + others_in d.boot_processor parts
+      ≤ vec_capacity d.application_processors

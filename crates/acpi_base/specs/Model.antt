@@ -126,7 +126,8 @@ gathered madt parts = (model.Apic (apic_of madt parts), processors_of parts)
 
 -- APICs where an entry is of them, else nothing is known
 abbrev pub model_from : {A : Type 0} → Madt → List Part → Model A
-model_from madt parts = if list_any is_of_apic parts then gathered madt parts else (model.Unknown, None)
+model_from madt parts =
+    if list_any is_of_apic parts then gathered madt parts else (model.Unknown, None)
 
 -- the model of a table whose first fields mean this, or the first refusal
 abbrev pub model_with : {A : Type 0} → Madt → List ℕ → Result (Model A) AcpiError
