@@ -13,7 +13,7 @@ mod wakeup;
 
 use crate::tables::AcpiTables;
 use acpi_base::madt::Madt;
-pub use acpi_base::model::{Processor, ProcessorInfo, ProcessorState};
+pub use acpi_base::model::{ModelAndProcessors, Processor, ProcessorInfo, ProcessorState};
 use acpi_base::{AcpiHandler, AcpiResult};
 use acpi_fixed::fadt::{Fadt, PowerProfile};
 use interrupt::InterruptModel;
@@ -96,7 +96,7 @@ impl<A: Allocator + Clone> PlatformInfo<A> {
 fn found_model<H: AcpiHandler, A: Allocator + Clone>(
     tables: &AcpiTables<'_, H>,
     allocator: A,
-) -> AcpiResult<(InterruptModel<A>, Option<ProcessorInfo<A>>)>
+) -> AcpiResult<ModelAndProcessors<A>>
     ensures { GivesOrFull (ModelAsks (memory_of tables.now) (pointers_of tables.now)) result
         (model_in (memory_of tables.now) (pointers_of tables.now)) }
 {

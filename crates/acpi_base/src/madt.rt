@@ -14,7 +14,7 @@ pub use crate::error::MadtError;
 use crate::error::{AcpiError, AcpiResult};
 use crate::handler::{AcpiHandler, PhysicalRecord};
 use crate::mapping::PhysicalMapping;
-use crate::model::{InterruptModel, ProcessorInfo, model_in};
+use crate::model::{ModelAndProcessors, model_in};
 use crate::sdt::SdtHeader;
 use crate::signature::Signature;
 use crate::table::AcpiTable;
@@ -160,7 +160,7 @@ impl<'h, H: AcpiHandler> PhysicalMapping<'h, H, Madt> {
     pub fn parse_interrupt_model_in<A: Allocator + Clone>(
         &self,
         allocator: A,
-    ) -> AcpiResult<(InterruptModel<A>, Option<ProcessorInfo<A>>)>
+    ) -> AcpiResult<ModelAndProcessors<A>>
         ensures { GivesOrFull (AsksMemory (bytes_of self.now)) result
             (model_of (bytes_of self.now)) }
     {

@@ -18,3 +18,6 @@ pub use interrupt::{
     NmiProcessor, NmiSource, Polarity, TriggerMode,
 };
 pub use processor::{Processor, ProcessorInfo, ProcessorState};
+
+/// The interrupt model, and the processors, or `None` where none is listed.
+pub type ModelAndProcessors<A> = (InterruptModel<A>, Option<ProcessorInfo<A>>);

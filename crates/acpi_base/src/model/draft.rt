@@ -3,6 +3,7 @@ ghost use Rattle.std.specs.Prelude.{◌≡◌};
 ghost use Rattle.acpi_base.specs.Model.{state_of};
 ghost use Rattle.acpi_base.specs.declared.error.AcpiError.TheVariants.{AllocError as NoMemory};
 
+use super::ModelAndProcessors;
 use super::counts::Counts;
 use super::interrupt::{Apic, InterruptModel, InterruptSourceOverride, IoApic, NmiLine, NmiSource};
 use super::part::Part;
@@ -102,7 +103,7 @@ impl<A: Allocator> Draft<A> {
     }
 
     /// The model, and the processors.
-    pub(super) fn finish(self) -> (InterruptModel<A>, Option<ProcessorInfo<A>>)
+    pub(super) fn finish(self) -> ModelAndProcessors<A>
         ensures { result ≡ model_behind self [] }
     {
         let Draft {

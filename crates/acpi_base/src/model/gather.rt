@@ -5,11 +5,11 @@ ghost use Rattle.acpi_base.specs.Steps.{GivesOrFull};
 ghost use Rattle.acpi_base.specs.Parts.{counts_of};
 ghost use Rattle.acpi_base.specs.declared.error.AcpiError.TheVariants.{AllocError as NoMemory};
 
+use super::ModelAndProcessors;
 use super::counts::Counts;
 use super::draft::Draft;
 use super::interrupt::InterruptModel;
 use super::part::Part;
-use super::processor::ProcessorInfo;
 use super::walk::Parts;
 use crate::error::{AcpiError, AcpiResult, MadtError};
 use crate::madt::{Madt, MadtEntryIter};
@@ -40,7 +40,7 @@ fn gather<A: Allocator + Clone>(
     table: &[u8],
     counts: Counts,
     allocator: A,
-) -> AcpiResult<(InterruptModel<A>, Option<ProcessorInfo<A>>)>
+) -> AcpiResult<ModelAndProcessors<A>>
     requires { counts ≡ counts_of (parts_of table.now) }
     ensures gathered { IfOk result (λ m. m ≡ gathered madt.now (parts_of table.now)) }
     ensures refused { IfErr result (λ e. e ≡ NoMemory) }
@@ -60,7 +60,7 @@ pub(crate) fn model_in<A: Allocator + Clone>(
     madt: &Madt,
     table: &[u8],
     allocator: A,
-) -> AcpiResult<(InterruptModel<A>, Option<ProcessorInfo<A>>)>
+) -> AcpiResult<ModelAndProcessors<A>>
     ensures { GivesOrFull (AsksMemory table.now) result (model_with madt.now table.now) }
 {
     if let Some(fault) = fault_of(table) {
