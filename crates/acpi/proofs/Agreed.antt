@@ -23,6 +23,7 @@ use Rattle.acpi.specs.Lookup.{lookup}
 use Rattle.acpi.specs.Pci.{mcfg_kind}
 use Rattle.acpi.specs.Platform.{madt_kind, model_in, platform_of}
 use Rattle.acpi.specs.Root.{root_at, root_kind}
+use Rattle.acpi.specs.Wake.{mailbox_found}
 use Rattle.acpi.specs.Tables.{kind_of, memory_of, pointers_of, root_address_of, root_of}
 use Rattle.acpi.specs.declared.platform.PlatformInfo.{PlatformInfo}
 use Rattle.acpi.specs.declared.tables.AcpiTables.{AcpiTables}
@@ -158,3 +159,7 @@ pub platform_from_tables : {H A : Type 0} {h : _} (t : AcpiTables H h) (Asks : T
     → result_ok (root_at (memory_of t) (kind_of t) (root_address_of t)) ≡ Some (root_of t)
     → GivesOrFull Asks r (platform_of (memory_of t) (pointers_of t)) → FootprintBelow t platform_ranges platform_of (GivesOrFull Asks r)
 platform_from_tables t Asks r valid said n h = rw (from_tables t platform_ranges platform_of same_platform valid n h) said
+
+pub mailbox_from_tables : {H : Type 0} {h : _} (t : AcpiTables H h) → result_ok (root_at (memory_of t) (kind_of t) (root_address_of t)) ≡ Some (root_of t)
+    → FootprintBelow t (λ m. lookup_ranges m madt_kind) mailbox_found (λ said. mailbox_found (memory_of t) (pointers_of t) ≡ said)
+mailbox_from_tables t valid n h = rw (from_tables t (λ m. lookup_ranges m madt_kind) mailbox_found same_mailbox valid n h) refl

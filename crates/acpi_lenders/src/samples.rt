@@ -2,6 +2,7 @@
 ghost use Rattle.std.specs.Prelude.{◌+◌, ◌≤◌, length};
 
 pub mod graphics;
+pub mod madts;
 pub mod members;
 pub mod platforms;
 pub mod rsdps;

@@ -11,22 +11,14 @@ use acpi_base::{AcpiError, MadtError, PhysicalMapping};
 use acpi_image::MemoryImage;
 use acpi_lenders::example::Window;
 use acpi_lenders::handlers::{Exact, Recording};
-use acpi_lenders::samples::{front, put, put_head, put_table};
+use acpi_lenders::samples::madts::{table_of, with_madt};
+use acpi_lenders::samples::{front, put};
 use std::process::Abort;
 use std::test::Fail;
 
 const NO_MAILBOX: AcpiError = AcpiError::InvalidMadt(MadtError::UnexpectedEntry);
 
 const MALFORMED: AcpiError = AcpiError::InvalidMadt(MadtError::InvalidEntryLength);
-
-/// A table of 128 bytes with these entries.
-pub(crate) fn table_of(entries: &[u8]) -> [u8; 128]
-    requires { length entries.now ≤ 84 }
-{
-    let mut table = [0; 128];
-    put(&mut table, 44, entries);
-    table
-}
 
 /// How many entries there are, and whether they end at a malformed one.
 fn walk(table: &[u8]) -> (usize, bool) {
@@ -182,22 +174,6 @@ fn the_length_says_where_the_next_entry_begins(rt: HostRuntime) -> Result<(), Fa
     assert!(rt; entries.next().is_none());
     assert!(rt; !entries.ended_malformed());
     Ok(())
-}
-
-/// An RSDT at 0x1000 that lists a MADT at 0x2000 with this checksum and these entries. The file
-/// ends behind the last of them.
-pub(crate) fn with_madt(checksum: u8, entries: &[u8]) -> [u8; 136]
-    requires { length entries.now ≤ 20 }
-{
-    let count = 44 + entries.len() as u8;
-    let mut file = [0; 136];
-    put_head(&mut file, 0, 0x1000, 40);
-    put_table(&mut file, 16, b"RSDT", 40, 0x7B);
-    put(&mut file, 52, &[0x00, 0x20]);
-    put_head(&mut file, 56, 0x2000, count as u64);
-    put_table(&mut file, 72, b"APIC", count, checksum);
-    put(&mut file, 116, entries);
-    file
 }
 
 fn check_found<H: AcpiHandler>(

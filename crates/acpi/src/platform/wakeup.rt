@@ -3,6 +3,8 @@ ghost use Rattle.std.specs.Prelude.{◌≡◌, ℕ, [], ◌∷◌, OnOk, MatchRe
 ghost use Rattle.acpi_base.specs.declared.error.AcpiError.{AcpiError};
 ghost use Rattle.acpi_base.specs.declared.error.AcpiError.TheVariants.{InvalidMadt};
 ghost use Rattle.acpi_base.specs.declared.error.MadtError.TheVariants.{WakeupApsTimeout};
+ghost use Rattle.acpi.specs.Footprint.{FootprintBelow, lookup_ranges};
+ghost use Rattle.acpi.specs.Platform.{madt_kind};
 ghost use Rattle.acpi.specs.Tables.{memory_of, pointers_of};
 ghost use Rattle.acpi.specs.Wake.{IsUntouched, Waits, Wakes, mailbox_found, opening};
 ghost use Rattle.acpi.specs.declared.platform.mailbox.MailboxWrite.{MailboxWrite};
@@ -20,6 +22,7 @@ use acpi_base::{AcpiError, AcpiHandler, AcpiResult};
 /// Refuses, in this order, with `TableMissing` where no valid MADT is listed, with what
 /// `get_mpwk_mailbox_addr` refuses, with what the mailbox's `open` refuses, each without a write or
 /// a read, and with `InvalidMadt(WakeupApsTimeout)` where no read is 0.
+#[tactic(auto, using(crate::proofs::Agreed::mailbox_from_tables))]
 pub fn wakeup_aps<H: AcpiHandler, M: Mailbox>(
     tables: &AcpiTables<'_, H>,
     mailbox: &mut M,
@@ -44,6 +47,9 @@ pub fn wakeup_aps<H: AcpiHandler, M: Mailbox>(
         (λ _. Wakes (M.answer mailbox.old) timeout_loops (M.answer mailbox.new))
         (λ e. (e ≡ InvalidMadt WakeupApsTimeout)
         × Waits (M.answer mailbox.old) timeout_loops (M.answer mailbox.new))) }
+    // Where the mailbox lies, or why none is found, depends on what the lookup of the MADT depends on.
+    ensures footprint { FootprintBelow tables.now (λ m. lookup_ranges m madt_kind) mailbox_found
+        (λ said. mailbox_found (memory_of tables.now) (pointers_of tables.now) ≡ said) }
 {
     let madt = tables.find_table::<Madt>()?;
     let address = madt.get_mpwk_mailbox_addr()?;

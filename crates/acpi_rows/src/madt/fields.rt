@@ -1,9 +1,10 @@
 //! The fields of each kind of entry. Expected values are spelled out from the bytes: in most tables
 //! here byte `i` of an entry is `i + 1`.
 
-use super::{table_of, walk};
+use super::walk;
 use acpi_base::madt::{EntryHeader, MadtEntry, MadtEntryIter};
 use acpi_base::{AcpiError, MadtError};
+use acpi_lenders::samples::madts::table_of;
 use acpi_lenders::samples::{front, put};
 use std::process::Abort;
 use std::test::Fail;

@@ -1,12 +1,13 @@
 //! Waking a processor by the mailbox, over tables that are found from an RSDT.
 
-use super::{NO_MAILBOX, with_madt};
+use super::NO_MAILBOX;
 use acpi::platform::{Mailbox, MailboxWrite, ScriptedMailbox, wakeup_aps};
 use acpi::sdt::Signature;
 use acpi::{AcpiError, AcpiResult, AcpiTables, MadtError};
 use acpi_image::MemoryImage;
 use acpi_lenders::samples::front;
 use acpi_lenders::samples::graphics::empty_root;
+use acpi_lenders::samples::madts::with_madt;
 use std::alloc::Global;
 use std::process::Abort;
 use std::test::Fail;

@@ -2,7 +2,6 @@
 //! not named are zero.
 ghost use Rattle.std.specs.Prelude.{◌+◌, ◌≤◌, length};
 
-use crate::madt::{table_of, with_madt};
 use crate::seen::{Seen, check_answer, io_apic, nmi_line, nmi_source, processor, wiring};
 use acpi::madt::Madt;
 use acpi::platform::ProcessorState;
@@ -10,6 +9,7 @@ use acpi::platform::interrupt::{LocalInterruptLine, NmiProcessor, Polarity, Trig
 use acpi::{AcpiError, AcpiHandler, AcpiTables, MadtError, PhysicalMapping};
 use acpi_image::MemoryImage;
 use acpi_lenders::example::Window;
+use acpi_lenders::samples::madts::{table_of, with_madt};
 use acpi_lenders::samples::{front, put};
 use std::process::Abort;
 use std::test::Fail;
