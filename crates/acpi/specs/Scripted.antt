@@ -1,5 +1,5 @@
 -- What a scripted mailbox shows besides what each mailbox means.
-use Rattle.std.specs.Prelude.{ℕ, List, Option, slice_index_or, take}
+use Rattle.std.specs.Prelude.{◌≡◌, ◌++◌, ◌∷◌, ℕ, List, [], Option, slice_index_or, take}
 use Rattle.acpi.specs.declared.platform.mailbox.MailboxWrite.{MailboxWrite}
 use Rattle.acpi.specs.declared.platform.scripted.ScriptedMailbox.{ScriptedMailbox}
 
@@ -18,3 +18,9 @@ answer_of s i = slice_index_or s.answers.now i 1
 -- how many reads there were
 abbrev pub reads_of : ScriptedMailbox → ℕ
 reads_of s = s.reads
+
+-- a write was put last, and nothing else changed
+abbrev pub Puts : ScriptedMailbox → MailboxWrite → ScriptedMailbox → Type 0
+Puts before write after = (writes_of after ≡ writes_of before ++ write ∷ [])
+    × (opened_of after ≡ opened_of before) × ((i : ℕ) → answer_of after i ≡ answer_of before i)
+    × (reads_of after ≡ reads_of before)

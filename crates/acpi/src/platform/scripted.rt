@@ -73,8 +73,9 @@ impl<'a> ScriptedMailbox<'a> {
 }
 
 impl<'a> Mailbox for ScriptedMailbox<'a> {
-    ghost use Rattle.std.specs.Prelude.{Ok};
-    ghost use Rattle.acpi.specs.Scripted.{answer_of, opened_of, writes_of};
+    ghost use Rattle.std.specs.Prelude.{◌≡◌, ◌+◌, ◌-◌, ◌^◌, ◌<◌, ℕ, [], Ok, Some, length, min};
+    ghost use Rattle.acpi.specs.Scripted.{Puts, answer_of, opened_of, reads_of, writes_of};
+    ghost use Rattle.acpi.specs.declared.platform.mailbox.MailboxWrite.{MailboxWrite};
 
     ghost open_answer = { λ _ _. Ok tt };
 
@@ -84,25 +85,45 @@ impl<'a> Mailbox for ScriptedMailbox<'a> {
 
     ghost answer = { λ s i. answer_of s i };
 
-    fn open(&mut self, address: u64) -> AcpiResult<()> {
+    fn open(&mut self, address: u64) -> AcpiResult<()>
+        ensures answered { result ≡ Ok tt }
+        ensures opened { (opened_of self.new ≡ Some address) × (writes_of self.new ≡ []) }
+        ensures reads_kept { (i : ℕ) → answer_of self.new i ≡ answer_of self.old i }
+        ensures count_kept { reads_of self.new ≡ reads_of self.old }
+    {
         self.opened = Some(address);
         self.written = 0;
         Ok(())
     }
 
-    fn write_command(&mut self, command: u16) {
+    fn write_command(&mut self, command: u16)
+        requires { length (writes_of self.old) < 4 }
+        ensures { Puts self.old (MailboxWrite.Command command) self.new }
+    {
         self.put(MailboxWrite::Command(command));
     }
 
-    fn write_apic_id(&mut self, id: u32) {
+    fn write_apic_id(&mut self, id: u32)
+        requires { length (writes_of self.old) < 4 }
+        ensures { Puts self.old (MailboxWrite.ApicId id) self.new }
+    {
         self.put(MailboxWrite::ApicId(id));
     }
 
-    fn write_wakeup_vector(&mut self, vector: u64) {
+    fn write_wakeup_vector(&mut self, vector: u64)
+        requires { length (writes_of self.old) < 4 }
+        ensures { Puts self.old (MailboxWrite.WakeupVector vector) self.new }
+    {
         self.put(MailboxWrite::WakeupVector(vector));
     }
 
-    fn read_command(&mut self) -> u16 {
+    fn read_command(&mut self) -> u16
+        ensures answered { result ≡ answer_of self.old 0 }
+        ensures moved { (i : ℕ) → answer_of self.new i ≡ answer_of self.old (i + 1) }
+        ensures opened_kept { opened_of self.new ≡ opened_of self.old }
+        ensures written_kept { writes_of self.new ≡ writes_of self.old }
+        ensures counted { reads_of self.new ≡ min (reads_of self.old + 1) (2 ^ 64 - 1) }
+    {
         self.reads = self.reads.saturating_add(1);
         match self.answers {
             [] => 1,

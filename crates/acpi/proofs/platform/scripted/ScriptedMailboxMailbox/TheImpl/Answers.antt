@@ -1,0 +1,6 @@
+use Rattle.std.proofs.Common.{rules}
+use Rattle.acpi.proofs.platform.scripted.ScriptedMailboxMailbox.TheImpl.Goals as goal
+
+-- it never refuses
+pub open-tells : goal.open-tells
+open-tells g c = rw c.ensures.answered (search rules)
