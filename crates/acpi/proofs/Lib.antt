@@ -1,5 +1,6 @@
 pub mod Agreed
 pub mod AgreedOpened
+pub mod Examples
 pub mod First
 pub mod Least
 pub mod Led
@@ -8,6 +9,7 @@ pub mod Passed
 pub mod Pieces
 pub mod Places
 pub mod Rooted
+pub mod Searched
 pub mod Spelled
 pub mod Texts
 pub mod Timers

@@ -1,3 +1,5 @@
+pub mod ExampleLaws
+pub mod Examples
 pub mod Footprint
 pub mod FootprintLaws
 pub mod Hpet

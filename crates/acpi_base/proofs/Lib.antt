@@ -3,12 +3,14 @@ pub mod Clones
 pub mod Codes
 pub mod Cuts
 pub mod Damage
+pub mod Examples
 pub mod Held
 pub mod Inside
 pub mod Lent
 pub mod MadtCounts
 pub mod Numbers
 pub mod OneRegion
+pub mod Ordered
 pub mod Orders
 pub mod Own
 pub mod Regions

@@ -8,6 +8,7 @@ pub mod Entries
 pub mod EntryLaws
 pub mod Equality
 pub mod ErrorText
+pub mod Examples
 pub mod Extended
 pub mod Header
 pub mod Interrupts

@@ -10,6 +10,8 @@ ghost use Rattle.acpi_base.specs.Names.{NamesAreSpelled};
 ghost use Rattle.acpi_base.specs.Ranges.{OwnTableDependsOn, TableDependsOn};
 ghost use Rattle.acpi_base.specs.Text.{letters_of};
 
+pub mod examples;
+
 use crate::address::{AccessSize, AddressSpace, GenericAddress};
 use crate::error::{AcpiError, MadtError};
 use crate::madt::MpProtectedModeWakeupCommand;
