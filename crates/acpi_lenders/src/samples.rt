@@ -2,8 +2,10 @@
 ghost use Rattle.std.specs.Prelude.{◌+◌, ◌≤◌, length};
 
 pub mod graphics;
+pub mod machine;
 pub mod madts;
 pub mod members;
+pub mod placed;
 pub mod platforms;
 pub mod rsdps;
 

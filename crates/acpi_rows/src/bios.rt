@@ -7,7 +7,7 @@ use acpi_image::MemoryImage;
 use acpi_lenders::handlers::{Exact, Recording};
 use acpi_lenders::samples::graphics::one_graphic;
 use acpi_lenders::samples::rsdps::{AREA, AREA_END, put_areas, put_rsdp, put_rsdp_2};
-use acpi_lenders::samples::{put, put_head, put_table};
+use acpi_lenders::samples::{front, put, put_head, put_table};
 use std::process::Abort;
 use std::test::Fail;
 
@@ -90,6 +90,27 @@ fn the_second_area_is_asked_for_last(rt: HostRuntime) -> Result<(), Fail> {
     put_head(&mut file, AREA_END, 0x9fc10, 0x410);
     let image = MemoryImage::from_bytes(rt.alloc(), &file)?;
     check_search(&rt, &image, Err(AcpiError::MapFailed));
+    Ok(())
+}
+
+#[test]
+fn the_second_area_counts_only_where_the_first_has_none(rt: HostRuntime) -> Result<(), Fail> {
+    let mut file = vec![in rt.alloc(); 0u8; 262226]?;
+    put_areas(&mut file, 0);
+    put_rsdp(&mut file, AREA, 0x12);
+    put_rsdp(&mut file, AREA + 0x40, 0x11);
+    put_head(&mut file, AREA_END, 0x80000, 0x20010);
+    put_rsdp_2(&mut file, AREA_END + 16);
+    let alone = MemoryImage::from_bytes(rt.alloc(), front(&file, AREA_END))?;
+    check_search(&rt, &alone, Ok(0xe0040));
+    drop(alone);
+    let both = MemoryImage::from_bytes(rt.alloc(), &file)?;
+    check_search(&rt, &both, Ok(0xe0040));
+    drop(both);
+    // The second one is valid too.
+    put_rsdp(&mut file, AREA + 0x40, 0x12);
+    let second = MemoryImage::from_bytes(rt.alloc(), &file)?;
+    check_search(&rt, &second, Ok(0x80000));
     Ok(())
 }
 

@@ -47,7 +47,7 @@ fn info(memory: &[u8]) -> AcpiResult<HpetInfo>
 }
 
 /// Each field of what an HPET says, in order.
-fn fields(info: HpetInfo) -> (u32, u64, u8, u16, PageProtection) {
+pub(crate) fn fields(info: HpetInfo) -> (u32, u64, u8, u16, PageProtection) {
     (
         info.event_timer_block_id,
         info.base_address,

@@ -4,6 +4,8 @@
 #[cfg(test)]
 mod fixed;
 #[cfg(test)]
+mod footprints;
+#[cfg(test)]
 mod hpet;
 #[cfg(test)]
 mod model;

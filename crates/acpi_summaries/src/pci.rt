@@ -31,7 +31,7 @@ fn with_entries(checksum: u8, entries: &[u8]) -> [u8; 140]
 
 /// A region: its segment group, its first and its last bus, and where their configuration space
 /// begins.
-type Region = (u16, u8, u8, u64);
+pub(crate) type Region = (u16, u8, u8, u64);
 
 /// Memory from 0x1000 on with an MCFG that has this checksum and these regions.
 fn with_regions(checksum: u8, regions: &[Region]) -> [u8; 140]
@@ -55,10 +55,10 @@ fn region_of(shown: PciConfigEntry) -> Region {
 
 /// A function, by its segment group, its bus, its device and its number, and the address of its
 /// configuration space.
-type Place = ((u16, u8, u8, u8), Option<u64>);
+pub(crate) type Place = ((u16, u8, u8, u8), Option<u64>);
 
 /// Checks that these regions are given, each once and in order, and these addresses.
-fn check_found<A: Allocator>(
+pub(crate) fn check_found<A: Allocator>(
     rt: &impl Abort,
     found: &PciConfigRegions<A>,
     regions: &[Region],

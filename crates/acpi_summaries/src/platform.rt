@@ -13,19 +13,17 @@ use acpi_lenders::samples::{change, put, put_table};
 use std::process::Abort;
 use std::test::Fail;
 
-/// Checks what each of the four calls answers over a handler.
-fn check_calls<H: AcpiHandler>(
+/// Checks what each of the four calls answers.
+pub(crate) fn check_platform<H: AcpiHandler>(
     rt: &(impl Abort + AllocGlobal),
-    handler: &H,
+    tables: &AcpiTables<'_, H>,
     wanted: AcpiResult<Seen<'_>>,
-) -> AcpiResult<()> {
-    let tables = AcpiTables::from_rsdt(handler, 0, 0x1000)?;
+) {
     let alloc = rt.alloc();
-    check_answer(rt, &PlatformInfo::new(alloc, &tables), wanted);
-    check_answer(rt, &PlatformInfo::new_in(&tables, alloc), wanted);
+    check_answer(rt, &PlatformInfo::new(alloc, tables), wanted);
+    check_answer(rt, &PlatformInfo::new_in(tables, alloc), wanted);
     check_answer(rt, &tables.platform_info(alloc), wanted);
     check_answer(rt, &tables.platform_info_in(alloc), wanted);
-    Ok(())
 }
 
 /// Checks what the platform of a file is, or what it is refused with.
@@ -35,8 +33,9 @@ fn check(
     wanted: AcpiResult<Seen<'_>>,
 ) -> Result<(), Fail> {
     let image = MemoryImage::from_bytes(rt.alloc(), file)?;
-    check_calls(rt, &image, wanted)?;
-    check_calls(rt, &Exact::new(&image), wanted)?;
+    check_platform(rt, &AcpiTables::from_rsdt(&image, 0, 0x1000)?, wanted);
+    let exact = Exact::new(&image);
+    check_platform(rt, &AcpiTables::from_rsdt(&exact, 0, 0x1000)?, wanted);
     Ok(())
 }
 
