@@ -13,7 +13,9 @@ pub mod OneRegion
 pub mod Ordered
 pub mod Orders
 pub mod Own
+pub mod Plain
 pub mod Regions
 pub mod Spelling
 pub mod Steps
+pub mod Sums
 pub mod Zeros

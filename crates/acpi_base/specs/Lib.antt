@@ -28,6 +28,7 @@ pub mod Ranges
 pub mod Spcr
 pub mod SpcrFlags
 pub mod Steps
+pub mod Sums
 pub mod Table
 pub mod Text
 pub mod Wakeup

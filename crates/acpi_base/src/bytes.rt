@@ -2,20 +2,10 @@
 ghost use Rattle.std.specs.Prelude.{◌≡◌, ◌+◌, ◌*◌, ◌^◌, ◌<◌, ◌≤◌, nat_le, drop, length, true};
 ghost use Rattle.std.specs.Str.{IsAscii, is_utf8};
 ghost use Rattle.acpi_base.specs.Bits.{bits_of, has_bit};
-ghost use Rattle.acpi_base.specs.Bytes.{field_of, filled_part, number, sum_of};
+ghost use Rattle.acpi_base.specs.Bytes.{field_of, filled_part, number};
 ghost use Rattle.acpi_base.specs.Text.{IsTextOf};
 
-/// The sum of the bytes modulo 256, which is 0 over a whole table (section 5.2.6).
-#[tactic(auto, unfolding(crate::specs::Bytes::sum_of))]
-pub fn byte_sum(bytes: &[u8]) -> u8
-    ensures { result ≡ sum_of bytes.now }
-{
-    let mut total: u8 = 0;
-    for byte in bytes {
-        total = total.wrapping_add(*byte);
-    }
-    total
-}
+pub use crate::sum::byte_sum;
 
 /// The `N` bytes at an offset, filled up with zeros where the bytes end before.
 #[inline(always)]
@@ -88,6 +78,7 @@ pub fn skip(bytes: &[u8], n: usize) -> &[u8]
 }
 
 /// Whether the `n` bytes at an offset lie in the table.
+#[inline(always)]
 pub(crate) fn has_part(bytes: &[u8], offset: usize, n: usize) -> bool
     ensures { result ≡ nat_le (offset + n) (length bytes.now) }
 {

@@ -20,6 +20,7 @@ pub mod model;
 pub mod sdt;
 pub mod signature;
 pub mod spcr;
+mod sum;
 pub mod table;
 
 pub use error::{AcpiError, AcpiResult, MadtError};

@@ -14,4 +14,6 @@ mod rsdps;
 #[cfg(test)]
 mod spcr;
 #[cfg(test)]
+mod sums;
+#[cfg(test)]
 mod texts;

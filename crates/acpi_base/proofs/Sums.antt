@@ -1,0 +1,168 @@
+-- Sums modulo 256 in lanes that wrap.
+use Rattle.std.proofs.Common.{◌≡◌, ℕ, suc, zero, ◌+◌, ◌-◌, ◌%◌, ◌≤◌, ◌<◌, List, [], ◌∷◌, ◌++◌, length, length-append, length-drop, take, drop, replicate, refl, ap, sym, ◌∙◌, arith}
+use Rattle.std.specs.Prelude.{bit_and, sum}
+use Rattle.std.specs.Simd.Lanes.{chunk, fold_l, zip2}
+use Rattle.std.proofs.Math.Seq.{take-add, take-append-add}
+use Rattle.std.proofs.lemmas.List.{drop-append-le, drop-drop, drop-replicate, take_all, take-replicate}
+use Rattle.std.proofs.lemmas.List.Sums.{sum_by-append, sum_by-cons, sum_by-take-drop}
+use Rattle.std.proofs.lemmas.Nat.{and_mask}
+use Rattle.std.proofs.lemmas.Simd.{length-chunk, length-replicate, length-zip2}
+use Rattle.acpi_base.specs.Bytes.{sum_of}
+use Rattle.acpi_base.specs.Sums.{AddsUp}
+
+-- lanes that wrap
+abbrev pub wrapped : List ℕ → List ℕ → List ℕ
+wrapped = zip2 (λ a b. (a + b) % 256)
+
+sum-cons : (x : ℕ) (xs : List ℕ) → sum (x ∷ xs) ≡ x + sum xs
+sum-cons = sum_by-cons (λ x. x)
+
+-- they count as the plain sum, modulo 256
+sum-wrapped : (xs ys : List ℕ) → length xs ≡ length ys → sum (wrapped xs ys) % 256 ≡ (sum xs + sum ys) % 256
+sum-wrapped [] [] same = refl
+sum-wrapped [] (y ∷ ys) same = absurd (omega arith)
+sum-wrapped (x ∷ xs) [] same = absurd (omega arith)
+sum-wrapped (x ∷ xs) (y ∷ ys) same =
+    omega (arith, sum-wrapped xs ys (omega arith), sum-cons x xs, sum-cons y ys, sum-cons ((x + y) % 256) (wrapped xs ys))
+
+-- the sum over all lanes
+fold-wrapped : (a : ℕ) (xs : List ℕ) → fold_l (λ s x. (s + x) % 256) a xs % 256 ≡ (a + sum xs) % 256
+fold-wrapped a [] = omega arith
+fold-wrapped a (x ∷ xs) = omega (arith, fold-wrapped ((a + x) % 256) xs, sum-cons x xs)
+
+fold-below : (a : ℕ) (xs : List ℕ) → a < 256 → fold_l (λ s x. (s + x) % 256) a xs < 256
+fold-below a [] small = small
+fold-below a (x ∷ xs) small = fold-below ((a + x) % 256) xs (omega arith)
+
+-- no lanes are filled yet
+pub adds_up-nothing : AddsUp (replicate 16 0) []
+unfolding sum_of
+adds_up-nothing = (refl, refl)
+
+-- one vector of the bytes more
+sum-next : (bytes : List ℕ) (at end : ℕ) → at + 16 ≡ end → sum (take end bytes) ≡ sum (take at bytes) + sum (chunk at 16 bytes)
+sum-next bytes at end there =
+    ap (λ n. sum (take n bytes)) (sym there) ∙ ap sum (take-add at 16 bytes) ∙ sum_by-append (λ x. x) (take at bytes) (chunk at 16 bytes)
+
+pub adds_up-next : (lanes bytes : List ℕ) (at : ℕ) → at + 16 ≤ length bytes → AddsUp lanes (take at bytes) → AddsUp (wrapped lanes (chunk at 16 bytes)) (take (at + 16) bytes)
+unfolding sum_of
+adds_up-next lanes bytes at room so_far =
+    let same : length lanes ≡ length (chunk at 16 bytes) = omega (arith, so_far.0, length-chunk at 16 bytes room) in
+    (length-zip2 _ lanes (chunk at 16 bytes) same ∙ so_far.0, omega (arith, so_far.1, sum-wrapped lanes (chunk at 16 bytes) same, sum-next bytes at (at + 16) refl))
+
+-- sixteen lanes each
+abbrev pub AreLanes : List ℕ → List ℕ → List ℕ → List ℕ → Type 0
+AreLanes first second third fourth =
+    (length first ≡ 16) × (length second ≡ 16) × (length third ≡ 16) × (length fourth ≡ 16)
+
+abbrev pub sum-four : List ℕ → List ℕ → List ℕ → List ℕ → ℕ
+sum-four first second third fourth = sum first + sum second + sum third + sum fourth
+
+-- four vectors more, each to lanes of its own
+pub sum-block : (first second third fourth bytes : List ℕ) (at : ℕ)
+    → AreLanes first second third fourth
+    → at + 64 ≤ length bytes
+    → sum-four first second third fourth % 256 ≡ sum (take at bytes) % 256
+    → sum-four (wrapped first (chunk at 16 bytes)) (wrapped second (chunk (at + 16) 16 bytes))
+    (wrapped third (chunk (at + 32) 16 bytes)) (wrapped fourth (chunk (at + 48) 16 bytes)) % 256
+    ≡ sum (take (at + 64) bytes) % 256
+sum-block first second third fourth bytes at long room so_far =
+    let one = sum-wrapped first (chunk at 16 bytes) (long.0 ∙ sym (length-chunk at 16 bytes (omega (arith, room)))) in
+    let two = sum-wrapped second (chunk (at + 16) 16 bytes) (long.1 ∙ sym (length-chunk (at + 16) 16 bytes (omega (arith, room)))) in
+    let three = sum-wrapped third (chunk (at + 32) 16 bytes) (long.2 ∙ sym (length-chunk (at + 32) 16 bytes (omega (arith, room)))) in
+    let four = sum-wrapped fourth (chunk (at + 48) 16 bytes) (long.3 ∙ sym (length-chunk (at + 48) 16 bytes (omega (arith, room)))) in
+    omega (
+      arith,
+      so_far,
+      one,
+      two,
+      three,
+      four,
+      sum-next bytes at (at + 16) refl,
+      sum-next bytes (at + 16) (at + 32) (omega arith),
+      sum-next bytes (at + 32) (at + 48) (omega arith),
+      sum-next bytes (at + 48) (at + 64) (omega arith),
+    )
+
+-- two vectors of lanes in one
+pub length-wrapped : (xs ys : List ℕ) → length xs ≡ 16 → length ys ≡ 16 → length (wrapped xs ys) ≡ 16
+length-wrapped xs ys x y = length-zip2 _ xs ys (x ∙ sym y) ∙ x
+
+pub adds_up-joined : (first second third fourth bytes : List ℕ)
+    → AreLanes first second third fourth
+    → sum-four first second third fourth % 256 ≡ sum bytes % 256
+    → AddsUp (wrapped (wrapped first second) (wrapped third fourth)) bytes
+unfolding sum_of
+adds_up-joined first second third fourth bytes long summed =
+    let left = length-wrapped first second long.0 long.1 in
+    let right = length-wrapped third fourth long.2 long.3 in (
+      length-wrapped (wrapped first second) (wrapped third fourth) left right,
+      omega (
+        arith,
+        summed,
+        sum-wrapped (wrapped first second) (wrapped third fourth) (left ∙ sym right),
+        sum-wrapped first second (long.0 ∙ sym long.1),
+        sum-wrapped third fourth (long.2 ∙ sym long.3),
+      ),
+    )
+
+-- where all lanes are kept, their sum is; and where the first are cleared, that of the others
+sum-kept_all : (xs : List ℕ) (n : ℕ) → length xs ≡ n → sum (zip2 bit_and xs (replicate n 255)) % 256 ≡ sum xs % 256
+sum-kept_all [] n long = refl
+sum-kept_all (x ∷ xs) zero long = absurd (omega arith)
+sum-kept_all (x ∷ xs) (suc n) long =
+    omega (arith, sum-kept_all xs n (omega arith), and_mask x 8, sum-cons x xs, sum-cons (bit_and x 255) (zip2 bit_and xs (replicate n 255)))
+
+sum-kept : (k n : ℕ) (xs : List ℕ) → length xs ≡ k + n → sum (zip2 bit_and xs (replicate k 0 ++ replicate n 255)) % 256 ≡ sum (drop k xs) % 256
+sum-kept zero n xs long = sum-kept_all xs n (omega (arith, long))
+sum-kept (suc k) n [] long = absurd (omega arith)
+sum-kept (suc k) n (x ∷ xs) long =
+    omega (arith, sum-kept k n xs (omega arith), and_mask x 0, sum-cons (bit_and x 0) (zip2 bit_and xs (replicate k 0 ++ replicate n 255)))
+
+-- sixteen lanes, the first cleared and the last n kept
+abbrev kept : ℕ → List ℕ
+kept n = replicate (16 - n) 0 ++ replicate n 255
+
+abbrev masks : List ℕ
+masks = replicate 16 0 ++ replicate 16 255
+
+-- they stand from place n on
+keeps_last : (n : ℕ) → n ≤ 16 → chunk n 16 masks ≡ kept n
+keeps_last n few =
+    let cleared : List ℕ = replicate (16 - n) 0 in
+    let long : length cleared + n ≡ 16 = omega (arith, length-replicate {A = ℕ} (16 - n) 0) in
+    ap (take 16) (drop-append-le {A = ℕ} n (replicate 16 0) (replicate 16 255) few)
+    ∙ ap (λ l. take 16 (l ++ replicate 16 255)) (drop-replicate n 16 0)
+    ∙ ap (λ m. take m (cleared ++ replicate 16 255)) (sym long)
+    ∙ take-append-add cleared (replicate 16 255) n
+    ∙ ap (λ l. cleared ++ l) (take-replicate n 16 255 few)
+
+pub adds_up-last : (bytes : List ℕ) (n : ℕ) → 16 ≤ length bytes → n ≤ 16
+    → AddsUp (zip2 bit_and (chunk (length bytes - 16) 16 bytes) (chunk n 16 masks)) (drop (length bytes - n) bytes)
+unfolding sum_of
+adds_up-last bytes n long few =
+    let whole = length-chunk (length bytes - 16) 16 bytes (omega arith) in
+    let there : drop (16 - n) (chunk (length bytes - 16) 16 bytes) ≡ drop (length bytes - n) bytes =
+    ap (drop (16 - n)) (take_all 16 (drop (length bytes - 16) bytes) (omega (arith, length-drop (length bytes - 16) bytes)))
+    ∙ drop-drop (16 - n) (length bytes - 16) bytes
+    ∙ ap (λ k. drop k bytes) (omega arith) in
+    let same : length (chunk (length bytes - 16) 16 bytes) ≡ length (kept n) =
+    omega (arith, whole, length-append {A = ℕ} (replicate (16 - n) 0) (replicate n 255), length-replicate {A = ℕ} (16 - n) 0, length-replicate {A = ℕ} n 255) in
+    rw (keeps_last n few) (
+      length-zip2 _ (chunk (length bytes - 16) 16 bytes) (kept n) same ∙ whole,
+      sum-kept (16 - n) n (chunk (length bytes - 16) 16 bytes) (omega (arith, whole)) ∙ ap (λ l. sum l % 256) there,
+    )
+
+-- the lanes of all bytes
+pub adds_up-whole : (lanes last bytes : List ℕ) (at : ℕ) → AddsUp lanes (take at bytes) → AddsUp last (drop at bytes) → fold_l (λ s x. (s + x) % 256) 0 (wrapped lanes last) ≡ sum_of bytes
+unfolding sum_of
+adds_up-whole lanes last bytes at so_far rest =
+    omega (
+      arith,
+      so_far.1,
+      rest.1,
+      fold-below 0 (wrapped lanes last) (omega arith),
+      fold-wrapped 0 (wrapped lanes last),
+      sum-wrapped lanes last (so_far.0 ∙ sym rest.0),
+      sum_by-take-drop (λ x. x) bytes at,
+    )
