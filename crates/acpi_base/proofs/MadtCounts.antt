@@ -3,7 +3,6 @@ use Rattle.std.proofs.Common.{◌≡◌, ℕ, suc, ◌*◌, ◌-◌, ◌≤◌, 
 use Rattle.std.specs.List.{concat, AllByRecursion, filter_map, cons_option}
 use Rattle.acpi_base.specs.Entries.{IsEntry, cut}
 use Rattle.acpi_base.specs.Madt.{entries_of, entry_of, madt_lengths}
-use Rattle.acpi_base.specs.Model.{part_in, parts_of}
 use Rattle.acpi_base.proofs.Cuts.{cut_is_cut}
 
 two_each : (kinds : List ℕ) (es : List (List ℕ)) → AllByRecursion (IsEntry kinds) es → 2 * length es ≤ length (concat es)
@@ -27,7 +26,3 @@ length-filter_map f (x ∷ xs) = omega (arith, length-filter_map f xs, length-co
 
 pub entries_few : (table : List ℕ) → 2 * length (entries_of table) ≤ length table - 44
 entries_few table = omega (arith, length-filter_map entry_of (cut madt_lengths (drop 44 table)).0, cut_few madt_lengths (drop 44 table), length-drop 44 table)
-
--- nor what they say
-pub parts_few : (table : List ℕ) → length (parts_of table) ≤ length table
-parts_few table = omega (arith, length-filter_map part_in (entries_of table), entries_few table)

@@ -1,15 +1,16 @@
 -- What a walk along the MADT's entries shows of what they say.
-use Rattle.std.specs.Prelude.{◌+◌, ◌||◌, List, length, false, true}
+use Rattle.std.specs.Prelude.{ℕ, ◌+◌, ◌||◌, List, length, false, true, None, Some, Result, Ok, Err}
 use Rattle.std.specs.List.{filter_map, list_any}
 use Rattle.acpi_base.specs.MadtWalk.{entries_left}
-use Rattle.acpi_base.specs.Model.{io_apic_in, is_of_apic, nmi_line_in, nmi_source_in, override_in, part_in, processor_in}
+use Rattle.acpi_base.specs.Model.{fault_of, io_apic_in, is_of_apic, nmi_line_in, nmi_source_in, override_in, part_in, parts_of, processor_in}
+use Rattle.acpi_base.specs.declared.error.MadtError.{MadtError}
+use Rattle.acpi_base.specs.declared.madt.walk.MadtEntryIter.{MadtEntryIter}
 use Rattle.acpi_base.specs.declared.model.counts.Counts.{Counts}
 use Rattle.acpi_base.specs.declared.model.part.Part.{Part}
-use Rattle.acpi_base.specs.declared.model.walk.Parts.{Parts}
 
 -- what the entries still to come say
-abbrev pub parts_left : Parts → List Part
-parts_left s = filter_map part_in (entries_left s.entries)
+abbrev pub parts_left : MadtEntryIter → List Part
+parts_left s = filter_map part_in (entries_left s)
 
 -- how many there are of each, where so many are counted and these are behind them
 abbrev pub counted_behind : Counts → List Part → Counts
@@ -34,3 +35,10 @@ no_counts = record {
 
 abbrev pub counts_of : List Part → Counts
 counts_of parts = counted_behind no_counts parts
+
+-- all counts, or the first refusal
+abbrev pub counted : List ℕ → Result Counts MadtError
+counted table = elim (fault_of table) [
+  | Some fault ↦ Err fault
+  | None ↦ Ok (counts_of (parts_of table))
+]

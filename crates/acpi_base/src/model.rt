@@ -10,7 +10,6 @@ mod interrupt;
 pub mod laws;
 mod part;
 mod processor;
-mod walk;
 
 pub(crate) use gather::model_in;
 pub use interrupt::{

@@ -1,4 +1,5 @@
 //! What is answered where the allocator refuses. Memory is a heap of a fixed size.
+ghost use Rattle.std.specs.Prelude.{◌≤◌, length};
 
 use crate::model::EVERY_LIST;
 use crate::platform::{put_timer, two_processors};
@@ -7,8 +8,12 @@ use acpi::fadt::Fadt;
 use acpi::madt::Madt;
 use acpi::platform::interrupt::InterruptModel;
 use acpi::platform::{PlatformInfo, Processor, ProcessorState};
-use acpi::{AcpiError, AcpiHandler, AcpiResult, AcpiTables, MadtError, ManagedSlice};
+use acpi::{
+    AcpiError, AcpiHandler, AcpiResult, AcpiTables, MadtError, ManagedSlice, PhysicalMapping,
+};
 use acpi_image::MemoryImage;
+use acpi_lenders::example::Window;
+use acpi_lenders::samples::madts::table_of;
 use acpi_lenders::samples::platforms::{MADT, with_fadt_and_madt};
 use acpi_lenders::samples::{front, put};
 use linked_list_allocator::LocalHeap;
@@ -103,6 +108,38 @@ fn memory_is_asked_for_behind_the_last_entry(rt: HostRuntime) -> Result<(), Fail
         let tables = AcpiTables::from_rsdt(&image, 0, 0x1000)?;
         check_over(&rt, &tables, (64, taken), wanted)?;
     }
+    Ok(())
+}
+
+/// Checks the model of a table with these entries over a heap of 16 bytes, which is all free again
+/// behind it.
+fn check_over_16_bytes(
+    rt: &(impl Abort + AllocGlobal),
+    entries: &[u8],
+    wanted: AcpiResult<Seen<'_>>,
+) -> AcpiResult<()>
+    requires { length entries.now ≤ 84 }
+{
+    let table = table_of(entries);
+    let table = &table[..44 + entries.len()];
+    let window = Window::new(0, table);
+    let madt = PhysicalMapping::<_, Madt>::new(0, table, table.len(), &window);
+    let heap = LocalHeap::new(rt.alloc(), 16)?;
+    check_answer(rt, &madt.parse_interrupt_model_in(&heap), wanted);
+    assert_eq!(rt; heap.used(), 0);
+    Ok(())
+}
+
+#[test]
+fn memory_is_asked_for_a_faultless_model_of_apics_alone(rt: HostRuntime) -> Result<(), Fail> {
+    // Three processors, and behind them an entry that is malformed.
+    let entries = [
+        0, 8, 1, 2, 1, 0, 0, 0, 0, 8, 1, 2, 1, 0, 0, 0, 0, 8, 1, 2, 1, 0, 0, 0, 0x2A, 0,
+    ];
+    let malformed = AcpiError::InvalidMadt(MadtError::InvalidEntryLength);
+    check_over_16_bytes(&rt, &[], Ok(Seen::NOTHING))?;
+    check_over_16_bytes(&rt, &entries, Err(malformed))?;
+    check_over_16_bytes(&rt, &entries[..24], Err(AcpiError::AllocError))?;
     Ok(())
 }
 

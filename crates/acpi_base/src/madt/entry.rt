@@ -105,6 +105,7 @@ impl MadtEntry {
     ghost use Rattle.acpi_base.specs.Madt.{entry_of, madt_lengths};
 
     /// What an entry says, or `None` where its kind is reserved or the maker's.
+    #[inline(always)]
     pub(crate) fn read(entry: &[u8]) -> Option<MadtEntry>
         requires { IsEntry madt_lengths entry.now }
         ensures { result ≡ entry_of entry.now }

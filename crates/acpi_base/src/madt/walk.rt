@@ -57,6 +57,7 @@ impl Iterator for MadtEntryIter<'_> {
 
     ghost remaining = { item_count (λ s. entries_left s) };
 
+    #[inline(always)]
     fn next(&mut self) -> Option<MadtEntry> {
         while let Some((entry, others)) = split_front(&LEAST_LENGTHS, self.rest) {
             self.rest = others;

@@ -1,10 +1,10 @@
-//! How much there is to gather.
+//! How much there is to gather, or why there is nothing.
 ghost use Rattle.std.specs.Prelude.{◌≡◌};
-ghost use Rattle.acpi_base.specs.Model.{parts_of};
-ghost use Rattle.acpi_base.specs.Parts.{counts_of};
+ghost use Rattle.acpi_base.specs.Parts.{counted};
 
 use super::part::Part;
-use super::walk::Parts;
+use crate::error::MadtError;
+use crate::madt::MadtEntryIter;
 
 /// How many there are of each, and whether any entry is of a model of APICs.
 #[derive(Clone, Copy)]
@@ -18,10 +18,11 @@ pub(super) struct Counts {
 }
 
 impl Counts {
-    /// The counts of what a MADT's bytes say.
-    #[tactic(auto, using(crate::proofs::MadtCounts::parts_few))]
-    pub(super) fn of(table: &[u8]) -> Counts
-        ensures { result ≡ counts_of (parts_of table.now) }
+    /// The counts of what a MADT's bytes say, or their first fault: that of an entry, or
+    /// `InvalidEntryLength` where no entry begins and the bytes aren't at their end.
+    #[tactic(auto, using(crate::proofs::MadtCounts::entries_few))]
+    pub(super) fn of(table: &[u8]) -> Result<Counts, MadtError>
+        ensures { result ≡ counted table.now }
     {
         let mut counts = Counts {
             processors: 0,
@@ -31,8 +32,9 @@ impl Counts {
             nmi_lines: 0,
             is_of_apic: false,
         };
-        for part in Parts::over(table) {
-            match part {
+        let mut entries = MadtEntryIter::over(table);
+        while let Some(entry) = entries.next() {
+            match Part::of(&entry)? {
                 Part::Processor { .. } => counts.processors += 1,
                 Part::IoApic(_) => counts.io_apics += 1,
                 Part::Override(_) => counts.overrides += 1,
@@ -43,6 +45,9 @@ impl Counts {
             }
             counts.is_of_apic = true;
         }
-        counts
+        if entries.ended_malformed() {
+            return Err(MadtError::InvalidEntryLength);
+        }
+        Ok(counts)
     }
 }

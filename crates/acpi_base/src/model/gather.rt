@@ -1,6 +1,6 @@
-//! The walks along the entries: one for the first fault, one to count, one to gather.
+//! The walks along the entries: the first one counts, or finds a fault, and the second one gathers.
 ghost use Rattle.std.specs.Prelude.{◌≡◌, IfOk, IfErr};
-ghost use Rattle.acpi_base.specs.Model.{AsksMemory, fault_of, gathered, model_with, parts_of};
+ghost use Rattle.acpi_base.specs.Model.{AsksMemory, gathered, model_with, parts_of};
 ghost use Rattle.acpi_base.specs.Steps.{GivesOrFull};
 ghost use Rattle.acpi_base.specs.Parts.{counts_of};
 ghost use Rattle.acpi_base.specs.declared.error.AcpiError.TheVariants.{AllocError as NoMemory};
@@ -10,27 +10,9 @@ use super::counts::Counts;
 use super::draft::Draft;
 use super::interrupt::InterruptModel;
 use super::part::Part;
-use super::walk::Parts;
-use crate::error::{AcpiError, AcpiResult, MadtError};
+use crate::error::{AcpiError, AcpiResult};
 use crate::madt::{Madt, MadtEntryIter};
 use std::alloc::Allocator;
-
-/// The first fault of a MADT's entries: that of an entry, or that no entry begins where the bytes
-/// aren't at their end.
-fn fault_of(table: &[u8]) -> Option<MadtError>
-    ensures { result ≡ fault_of table.now }
-{
-    let mut entries = MadtEntryIter::over(table);
-    while let Some(entry) = entries.next() {
-        if let Err(fault) = Part::of(&entry) {
-            return Some(fault);
-        }
-    }
-    if entries.ended_malformed() {
-        return Some(MadtError::InvalidEntryLength);
-    }
-    None
-}
 
 /// The model of APICs, with room for just what is counted.
 ///
@@ -46,8 +28,10 @@ fn gather<A: Allocator + Clone>(
     ensures refused { IfErr result (λ e. e ≡ NoMemory) }
 {
     let mut draft = Draft::with_room(madt, counts, allocator)?;
-    for part in Parts::over(table) {
-        draft.add(part);
+    for entry in MadtEntryIter::over(table) {
+        if let Ok(part) = Part::of(&entry) {
+            draft.add(part);
+        }
     }
     Ok(draft.finish())
 }
@@ -63,10 +47,7 @@ pub(crate) fn model_in<A: Allocator + Clone>(
 ) -> AcpiResult<ModelAndProcessors<A>>
     ensures { GivesOrFull (AsksMemory table.now) result (model_with madt.now table.now) }
 {
-    if let Some(fault) = fault_of(table) {
-        return Err(AcpiError::InvalidMadt(fault));
-    }
-    let counts = Counts::of(table);
+    let counts = Counts::of(table).map_err(AcpiError::InvalidMadt)?;
     if !counts.is_of_apic {
         return Ok((InterruptModel::Unknown, None));
     }

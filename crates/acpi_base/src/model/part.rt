@@ -40,6 +40,7 @@ impl Part {
     /// bus than ISA with `InterruptOverrideEntryHasInvalidBus`, reserved flags with
     /// `MpsIntiInvalidPolarity` or else `MpsIntiInvalidTriggerMode`, and other inputs than LINT0 and
     /// LINT1 with `InvalidLocalNmiLine`.
+    #[inline(always)]
     #[tactic(auto, unfolding(crate::specs::Interrupts::part_of))]
     pub(super) fn of(entry: &MadtEntry) -> Result<Part, MadtError>
         ensures { result ≡ part_of entry.now }

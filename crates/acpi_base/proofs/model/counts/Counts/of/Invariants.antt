@@ -1,5 +1,8 @@
 use Rattle.std.proofs.Common.{◌≡◌, ℕ, ◌+◌, ◌≤◌, length}
-use Rattle.acpi_base.specs.Model.{parts_of}
+use Rattle.std.specs.List.{filter_map}
+use Rattle.acpi_base.specs.Madt.{cut_of, entries_of}
+use Rattle.acpi_base.specs.MadtWalk.{entries_left, rest_left}
+use Rattle.acpi_base.specs.Model.{fault_in, parts_of}
 use Rattle.acpi_base.specs.Parts.{counted_behind, counts_of, parts_left}
 use Rattle.acpi_base.specs.declared.model.counts.Counts.{Counts}
 use Rattle.acpi_base.proofs.model.counts.Counts.of.Given as goal
@@ -9,7 +12,14 @@ abbrev has_room : Counts → ℕ → ℕ → Type 0
 has_room c left most =
     (c.processors + left ≤ most) × (c.io_apics + left ≤ most) × (c.overrides + left ≤ most) × (c.nmi_sources + left ≤ most) × (c.nmi_lines + left ≤ most)
 
--- what is counted and what is left are the whole
-abbrev pub invariant-loop-part : goal.invariant-loop-part
-invariant-loop-part l =
-    (counted_behind l.counts (parts_left l.part-iterator) ≡ counts_of (parts_of l.table)) × has_room l.counts (length (parts_left l.part-iterator)) (length l.table)
+-- no entry so far is refused, what is counted and what is left are the whole, and the rest is the same
+abbrev pub invariant-loop-entry : goal.invariant-loop-entry
+invariant-loop-entry l = record {
+  passed : filter_map fault_in (entries_left l.entries) ≡ filter_map fault_in (entries_of l.table);
+  counted : counted_behind l.counts (parts_left l.entries) ≡ counts_of (parts_of l.table);
+  room : has_room l.counts (length (entries_left l.entries)) (length l.table);
+  rest : rest_left l.entries ≡ (cut_of l.table).1;
+}
+
+abbrev pub decreases-loop-entry : goal.decreases-loop-entry
+decreases-loop-entry l = length (entries_left l.entries)
