@@ -16,6 +16,7 @@ impl<T: Copy, const MIN_REVISION: u8> ExtendedField<T, MIN_REVISION> {
     ghost use Rattle.acpi_base.specs.Extended.{held_of, shown_of};
 
     /// A field whose bytes spell this value, or `None` where they don't all lie in the table.
+    #[inline(always)]
     pub fn new(value: Option<T>) -> Self
         ensures { held_of result ≡ value }
     {
@@ -23,6 +24,7 @@ impl<T: Copy, const MIN_REVISION: u8> ExtendedField<T, MIN_REVISION> {
     }
 
     /// The value, where a table of this revision has the field and all its bytes lie in the table.
+    #[inline(always)]
     pub fn access(&self, revision: u8) -> Option<T>
         ensures { result ≡ shown_of self.now revision }
     {
@@ -38,6 +40,7 @@ impl<T: Copy + PhysicalRecord, const MIN_REVISION: u8> ExtendedField<T, MIN_REVI
     ghost use Rattle.acpi_base.specs.Extended.{extended_at};
 
     /// The field of `T::MIN_LENGTH` bytes at an offset of a table or an entry.
+    #[inline(always)]
     pub fn read(bytes: &[u8], offset: usize) -> Self
         ensures { result ≡ extended_at T.reading bytes.now offset T.MIN_LENGTH }
     {

@@ -2,14 +2,16 @@
 ghost use Rattle.std.specs.Prelude.{◌≡◌};
 
 mod flags;
+mod front;
 mod registers;
 
 use acpi_base::address::GenericAddress;
-use acpi_base::bytes::field;
+use acpi_base::bytes::filled;
 use acpi_base::sdt::SdtHeader;
 use acpi_base::{AcpiError, AcpiResult, AcpiTable, PhysicalRecord, Signature};
 pub use flags::{ArmBootArchFlags, FixedFeatureFlags, IaPcBootArchFlags};
-use registers::{Registers, address_from, extended_number, register_from};
+use front::{Front, extended_number_in, number_in};
+use registers::{Registers, address_from, register_from};
 
 /// What the machine is for (section 5.2.9).
 #[derive(Clone, Copy, Debug, PartialEq, Eq)]
@@ -107,35 +109,36 @@ impl PhysicalRecord for Fadt {
 
     #[tactic(auto, unfolding(crate::specs::Fadt::fadt_at))]
     fn read(bytes: &[u8]) -> Self {
+        let front: &Front = &filled(bytes, 0);
         Fadt {
             header: SdtHeader::read(bytes),
-            firmware_ctrl: field(bytes, 36, 4) as u32,
-            dsdt_address: field(bytes, 40, 4) as u32,
-            preferred_pm_profile: field(bytes, 45, 1) as u8,
-            sci_interrupt: field(bytes, 46, 2) as u16,
-            smi_cmd_port: field(bytes, 48, 4) as u32,
-            acpi_enable: field(bytes, 52, 1) as u8,
-            acpi_disable: field(bytes, 53, 1) as u8,
-            s4bios_req: field(bytes, 54, 1) as u8,
-            pstate_control: field(bytes, 55, 1) as u8,
-            registers: Registers::read(bytes),
-            gpe1_base: field(bytes, 94, 1) as u8,
-            c_state_control: field(bytes, 95, 1) as u8,
-            worst_c2_latency: field(bytes, 96, 2) as u16,
-            worst_c3_latency: field(bytes, 98, 2) as u16,
-            flush_size: field(bytes, 100, 2) as u16,
-            flush_stride: field(bytes, 102, 2) as u16,
-            duty_offset: field(bytes, 104, 1) as u8,
-            duty_width: field(bytes, 105, 1) as u8,
-            day_alarm: field(bytes, 106, 1) as u8,
-            month_alarm: field(bytes, 107, 1) as u8,
-            century: field(bytes, 108, 1) as u8,
-            iapc_boot_arch: IaPcBootArchFlags::new(field(bytes, 109, 2) as u16),
-            flags: FixedFeatureFlags::new(field(bytes, 112, 4) as u32),
-            reset_value: field(bytes, 128, 1) as u8,
-            arm_boot_arch: ArmBootArchFlags::new(field(bytes, 129, 2) as u16),
-            x_firmware_ctrl: extended_number(bytes, 132),
-            x_dsdt_address: extended_number(bytes, 140),
+            firmware_ctrl: number_in(front, bytes, 36, 4) as u32,
+            dsdt_address: number_in(front, bytes, 40, 4) as u32,
+            preferred_pm_profile: number_in(front, bytes, 45, 1) as u8,
+            sci_interrupt: number_in(front, bytes, 46, 2) as u16,
+            smi_cmd_port: number_in(front, bytes, 48, 4) as u32,
+            acpi_enable: number_in(front, bytes, 52, 1) as u8,
+            acpi_disable: number_in(front, bytes, 53, 1) as u8,
+            s4bios_req: number_in(front, bytes, 54, 1) as u8,
+            pstate_control: number_in(front, bytes, 55, 1) as u8,
+            registers: Registers::read(front, bytes),
+            gpe1_base: number_in(front, bytes, 94, 1) as u8,
+            c_state_control: number_in(front, bytes, 95, 1) as u8,
+            worst_c2_latency: number_in(front, bytes, 96, 2) as u16,
+            worst_c3_latency: number_in(front, bytes, 98, 2) as u16,
+            flush_size: number_in(front, bytes, 100, 2) as u16,
+            flush_stride: number_in(front, bytes, 102, 2) as u16,
+            duty_offset: number_in(front, bytes, 104, 1) as u8,
+            duty_width: number_in(front, bytes, 105, 1) as u8,
+            day_alarm: number_in(front, bytes, 106, 1) as u8,
+            month_alarm: number_in(front, bytes, 107, 1) as u8,
+            century: number_in(front, bytes, 108, 1) as u8,
+            iapc_boot_arch: IaPcBootArchFlags::new(number_in(front, bytes, 109, 2) as u16),
+            flags: FixedFeatureFlags::new(number_in(front, bytes, 112, 4) as u32),
+            reset_value: number_in(front, bytes, 128, 1) as u8,
+            arm_boot_arch: ArmBootArchFlags::new(number_in(front, bytes, 129, 2) as u16),
+            x_firmware_ctrl: extended_number_in(front, bytes, 132),
+            x_dsdt_address: extended_number_in(front, bytes, 140),
         }
     }
 }

@@ -1,29 +1,12 @@
 //! What the FADT gives in two ways: by a field of its first versions, and by an extended one.
-ghost use Rattle.std.specs.Prelude.{◌≡◌};
+ghost use Rattle.std.specs.Prelude.{◌≡◌, ◌+◌, ◌≤◌};
+ghost use Rattle.acpi_base.specs.Bytes.{filled_part};
 ghost use Rattle.acpi_fixed.specs.Registers.{address_or, register_of};
-ghost use Rattle.acpi_fixed.specs.Registers.{extended_address, extended_number};
 
+use super::front::{Front, address_in, extended_address_in, number_in};
 use acpi_base::address::{AccessSize, AddressSpace, GenericAddress, RawAddress};
-use acpi_base::bytes::{field, filled};
-use acpi_base::sdt::ExtendedField;
+use acpi_base::bytes::field;
 use acpi_base::{AcpiError, AcpiResult};
-
-/// The number of eight bytes at an offset, which tables of revision 2 and above have, where they
-/// have all of these bytes.
-pub(crate) fn extended_number(bytes: &[u8], offset: usize) -> Option<u64>
-    ensures { result ≡ extended_number bytes.now offset }
-{
-    let number: ExtendedField<u64, 2> = ExtendedField::read(bytes, offset);
-    number.access(field(bytes, 8, 1) as u8)
-}
-
-/// The same of the twelve bytes of a generic address.
-fn extended_address(bytes: &[u8], offset: usize) -> Option<RawAddress>
-    ensures { result ≡ extended_address bytes.now offset }
-{
-    let address: ExtendedField<RawAddress, 2> = ExtendedField::read(bytes, offset);
-    address.access(field(bytes, 8, 1) as u8)
-}
 
 /// The 64-bit address where it is there and not 0, else the 32-bit one.
 ///
@@ -67,13 +50,24 @@ impl RegisterBlock {
     ghost use Rattle.acpi_fixed.specs.Registers.{optional_block_of, ports_at, timer_block_of};
 
     /// The block whose address, length and extended field a table has at these offsets.
-    fn read(bytes: &[u8], address: usize, size: usize, extended: usize) -> RegisterBlock
-        ensures { result ≡ block_at bytes.now address size extended }
+    #[inline(always)]
+    fn read(
+        front: &Front,
+        table: &[u8],
+        address: usize,
+        size: usize,
+        extended: usize,
+    ) -> RegisterBlock
+        requires same { front.now ≡ filled_part table.now 0 276 }
+        requires address { address + 4 ≤ 276 }
+        requires size { size + 1 ≤ 276 }
+        requires extended { extended + 12 ≤ 276 }
+        ensures { result ≡ block_at table.now address size extended }
     {
         RegisterBlock {
-            address: field(bytes, address, 4) as u32,
-            size: field(bytes, size, 1) as u8,
-            extended: extended_address(bytes, extended),
+            address: number_in(front, table, address, 4) as u32,
+            size: number_in(front, table, size, 1) as u8,
+            extended: extended_address_in(front, table, extended),
         }
     }
 
@@ -165,21 +159,23 @@ impl Registers {
 
     /// The registers that a table says: each block by the offsets of its address, of its length and
     /// of its extended field.
-    pub(crate) fn read(bytes: &[u8]) -> Registers
-        ensures { result ≡ registers_at bytes.now }
+    #[inline(always)]
+    pub(crate) fn read(front: &Front, table: &[u8]) -> Registers
+        requires { front.now ≡ filled_part table.now 0 276 }
+        ensures { result ≡ registers_at table.now }
     {
         Registers {
-            pm1a_event: RegisterBlock::read(bytes, 56, 88, 148),
-            pm1b_event: RegisterBlock::read(bytes, 60, 88, 160),
-            pm1a_control: RegisterBlock::read(bytes, 64, 89, 172),
-            pm1b_control: RegisterBlock::read(bytes, 68, 89, 184),
-            pm2_control: RegisterBlock::read(bytes, 72, 90, 196),
-            pm_timer: RegisterBlock::read(bytes, 76, 91, 208),
-            gpe0: RegisterBlock::read(bytes, 80, 92, 220),
-            gpe1: RegisterBlock::read(bytes, 84, 93, 232),
-            reset: filled(bytes, 116),
-            sleep_control: extended_address(bytes, 244),
-            sleep_status: extended_address(bytes, 256),
+            pm1a_event: RegisterBlock::read(front, table, 56, 88, 148),
+            pm1b_event: RegisterBlock::read(front, table, 60, 88, 160),
+            pm1a_control: RegisterBlock::read(front, table, 64, 89, 172),
+            pm1b_control: RegisterBlock::read(front, table, 68, 89, 184),
+            pm2_control: RegisterBlock::read(front, table, 72, 90, 196),
+            pm_timer: RegisterBlock::read(front, table, 76, 91, 208),
+            gpe0: RegisterBlock::read(front, table, 80, 92, 220),
+            gpe1: RegisterBlock::read(front, table, 84, 93, 232),
+            reset: address_in(front, table, 116),
+            sleep_control: extended_address_in(front, table, 244),
+            sleep_status: extended_address_in(front, table, 256),
         }
     }
 }

@@ -1,0 +1,61 @@
+-- A field among the first bytes of a table, filled up with zeros, is that field of the table.
+use Rattle.std.proofs.Common.{◌≡◌, ℕ, ◌+◌, ◌-◌, ◌≤◌, ◌&&◌, Bool, true, false, List, None, Some, length, length-drop, take, drop, ◌++◌, refl, sym, ap, ◌∙◌, arith}
+use Rattle.std.specs.Prelude.{nat_le, replicate}
+use Rattle.std.proofs.lemmas.List.{drop-append-le, length-take, take-append-le, take-take}
+use Rattle.acpi_base.proofs.Own.{part_within}
+use Rattle.acpi_base.proofs.Zeros.{field_past_end}
+use Rattle.acpi_base.specs.Bytes.{field_of, filled_part, number, part}
+use Rattle.acpi_fixed.specs.Registers.{extended_address, extended_in, extended_number}
+
+front_of : (b : List ℕ) (o n : ℕ) → o + n ≤ 276 → part (take 276 b) o n ≡ part b o n
+front_of b o n h =
+    let whole : o + (276 - o) ≡ 276 = omega (arith, h) in
+    ap (λ k. part (take k b) o n) (sym whole) ∙ part_within o n (276 - o) b (omega (arith, h))
+
+pub front_field : (b : List ℕ) (o n : ℕ) → o + n ≤ 276 → field_of (filled_part b 0 276) o n ≡ field_of b o n
+unfolding field_of
+front_field b o n h = field_past_end (take 276 b) (276 - length (take 276 b)) o n ∙ ap number (front_of b o n h)
+
+front_part : (b : List ℕ) (o n : ℕ) → o + n ≤ 276 → o + n ≤ length b → part (filled_part b 0 276) o n ≡ part b o n
+front_part b o n h there =
+    let xs : List ℕ = take 276 b in
+    let zeros : List ℕ = replicate (276 - length xs) 0 in
+    let long : o + n ≤ length xs = rw (length-take 276 b) (omega (arith, h, there)) in
+    let behind : n ≤ length (drop o xs) = rw (length-drop o xs) (omega (arith, long)) in
+    ap (take n) (drop-append-le o xs zeros (omega (arith, long))) ∙ take-append-le n (drop o xs) zeros behind ∙ front_of b o n h
+
+abbrev filled_up : List ℕ → List ℕ
+filled_up p = p ++ replicate (12 - length p) 0
+
+pub front_address : (b : List ℕ) (o : ℕ) → o + 12 ≤ 276 → o + 12 ≤ length b → filled_part (filled_part b 0 276) o 12 ≡ filled_part b o 12
+front_address b o h there = ap filled_up (front_part b o 12 h there)
+
+-- ---- extended fields
+
+abbrev is_there : List ℕ → ℕ → ℕ → Bool
+is_there b o n = nat_le 2 (field_of b 8 1) && nat_le (o + n) (length b)
+
+since : {T : Type 0} (meaning : List ℕ → T) (b : List ℕ) (o n : ℕ) (r l : Bool) → nat_le 2 (field_of b 8 1) ≡ r → nat_le (o + n) (length b) ≡ l
+    → (r && l) ≡ true → extended_in meaning b o n ≡ Some (meaning (part b o n))
+since meaning b o n true true er el e = rw (er, el) refl
+since meaning b o n true false er el e = absurd cc
+since meaning b o n false l er el e = absurd cc
+
+none_since : {T : Type 0} (meaning : List ℕ → T) (b : List ℕ) (o n : ℕ) (r l : Bool) → nat_le 2 (field_of b 8 1) ≡ r → nat_le (o + n) (length b) ≡ l
+    → (r && l) ≡ false → extended_in meaning b o n ≡ None
+none_since meaning b o n true true er el e = absurd cc
+none_since meaning b o n true false er el e = rw (er, el) refl
+none_since meaning b o n false l er el e = rw er refl
+
+pub number_there : (b : List ℕ) (o : ℕ) → is_there b o 8 ≡ true → extended_number b o ≡ Some (field_of b o 8)
+unfolding field_of
+number_there b o e = since (λ p. field_of p 0 8) b o 8 _ _ refl refl e ∙ ap (λ p. Some (number p)) (take-take 8 8 (drop o b) (omega arith))
+
+pub no_number : (b : List ℕ) (o : ℕ) → is_there b o 8 ≡ false → extended_number b o ≡ None
+no_number b o e = none_since (λ p. field_of p 0 8) b o 8 _ _ refl refl e
+
+pub address_there : (b : List ℕ) (o : ℕ) → is_there b o 12 ≡ true → extended_address b o ≡ Some (filled_part b o 12)
+address_there b o e = since (λ p. filled_part p 0 12) b o 12 _ _ refl refl e ∙ ap (λ p. Some (filled_up p)) (take-take 12 12 (drop o b) (omega arith))
+
+pub no_address : (b : List ℕ) (o : ℕ) → is_there b o 12 ≡ false → extended_address b o ≡ None
+no_address b o e = none_since (λ p. filled_part p 0 12) b o 12 _ _ refl refl e
