@@ -14,6 +14,7 @@ pub(crate) struct Pointers<'t> {
 
 impl<'t> Pointers<'t> {
     ghost use Rattle.std.specs.Prelude.{◌≡◌, []};
+    ghost use Rattle.acpi_base.specs.Bytes.{field_of};
     ghost use Rattle.acpi.specs.Pointers.{pointers_left};
     ghost use Rattle.acpi.specs.Root.{pointers};
 
@@ -23,6 +24,19 @@ impl<'t> Pointers<'t> {
         ensures { pointers_left result ≡ pointers width rest.now }
     {
         Pointers { width, rest }
+    }
+
+    /// The pointer that comes next. Both widths that root tables have are named, so that each is
+    /// read at once.
+    #[inline(always)]
+    fn first(&self) -> u64
+        ensures { result ≡ field_of self.now.rest.now 0 self.now.width }
+    {
+        match self.width {
+            8 => field(self.rest, 0, 8),
+            4 => field(self.rest, 0, 4),
+            width => field(self.rest, 0, width),
+        }
     }
 
     /// Leaves no pointer to come.
@@ -44,12 +58,13 @@ impl Iterator for Pointers<'_> {
 
     ghost remaining = { item_count (λ s. pointers_left s) };
 
+    #[inline(always)]
     #[tactic(auto, using(crate::proofs::Pieces::pointers_step, crate::proofs::Pieces::pointers_none))]
     fn next(&mut self) -> Option<u64> {
         if self.rest.is_empty() {
             return None;
         }
-        let first = field(self.rest, 0, self.width);
+        let first = self.first();
         self.rest = skip(self.rest, self.width);
         Some(first)
     }

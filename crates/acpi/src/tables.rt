@@ -64,6 +64,7 @@ impl<'h, H: AcpiHandler> AcpiTables<'h, H> {
     }
 
     /// The table at an address, where it is valid for `T`.
+    #[inline(always)]
     fn member<T: AcpiTable>(&self, address: u64) -> AcpiResult<PhysicalMapping<'h, H, T>>
         ensures place { IfOk result (λ m. start_of m ≡ address) }
         ensures handler { IfOk result (λ m. handler_of m ≡ lender_of self.now) }
@@ -74,6 +75,7 @@ impl<'h, H: AcpiHandler> AcpiTables<'h, H> {
     }
 
     /// The first member of the root list that is valid for `T`.
+    #[inline(always)]
     fn first_member<T: AcpiTable>(&self) -> AcpiResult<PhysicalMapping<'h, H, T>>
         ensures handler { IfOk result (λ m. handler_of m ≡ lender_of self.now) }
         ensures found { let k = kind T.SIGNATURE T.MIN_LENGTH T.verdict in
@@ -81,8 +83,10 @@ impl<'h, H: AcpiHandler> AcpiTables<'h, H> {
             (lookup (memory_of self.now) k (pointers_of self.now)) }
     {
         for address in self.pointers() {
-            if let Ok(table) = self.member::<T>(address) {
-                return Ok(table);
+            // It is handed on as it is, since a table's record may be long.
+            let found = self.member::<T>(address);
+            if found.is_ok() {
+                return found;
             }
         }
         Err(AcpiError::TableMissing(T::SIGNATURE))
@@ -170,9 +174,12 @@ impl<'h, H: AcpiHandler> AcpiTables<'h, H> {
     fn find_dsdt(&self) -> AcpiResult<AmlTable>
         ensures { result ≡ dsdt_stream (memory_of self.now) (pointers_of self.now) }
     {
-        let fadt = self.find_table::<Fadt>()?;
-        let address = fadt.dsdt_address()?;
-        self.dsdt_at(address)
+        // It is looked at where it lies: a FADT's record is long.
+        let found = self.find_table::<Fadt>();
+        match &found {
+            Ok(fadt) => self.dsdt_at(fadt.dsdt_address()?),
+            Err(error) => Err(*error),
+        }
     }
 
     /// The AML of the DSDT at an address.

@@ -1,19 +1,16 @@
 -- What a memory lends are bytes, and they end below 2^64.
-use Rattle.std.proofs.Common.{◌≡◌, ℕ, ◌+◌, ◌-◌, ◌^◌, ◌<◌, ◌≤◌, Bool, true, false, List, [], ◌∷◌, length, drop, Some, Result, Ok, arith, Option, None, zero, suc, get_or, subst}
+use Rattle.std.proofs.Common.{◌≡◌, ℕ, ◌+◌, ◌-◌, ◌^◌, ◌<◌, ◌≤◌, Bool, true, false, List, [], ◌∷◌, length, drop, Some, Ok, arith, zero, suc, get_or, subst}
 use Rattle.std.specs.Prelude.{if◌then◌else◌}
 use Rattle.std.proofs.lemmas.List.{get_or_past, length-take}
 use Rattle.std.proofs.lemmas.Option.{cond_some}
 use Rattle.acpi_base.proofs.Inside.{lent_inside}
 use Rattle.acpi_base.proofs.Spelling.{IsBytes-drop, IsBytes-take}
-use Rattle.acpi_base.proofs.Steps.{bind_ok}
+use Rattle.acpi_base.proofs.Steps.{bind_ok, same_ok, some_lent}
 use Rattle.acpi_base.specs.Bytes.{IsBytes}
 use Rattle.acpi_base.specs.Memory.{Memory, Region, IsMemory, IsRegion, at, lies_in, rest_from}
 use Rattle.acpi_base.specs.Steps.{lent}
-use Rattle.std.specs.Option.{ok_or}
 use Rattle.acpi_base.specs.Header.{header_at}
 use Rattle.acpi_base.specs.Table.{Kind, length_in, table_at, table_of, whole_of}
-use Rattle.acpi_base.specs.declared.error.AcpiError.{AcpiError}
-use Rattle.acpi_base.specs.declared.error.AcpiError.TheVariants.{MapFailed}
 
 no_bytes : IsBytes []
 no_bytes i = let none = get_or_past {X = ℕ} [] i 0 (omega arith) in omega (arith, none)
@@ -32,16 +29,6 @@ unfolding at
 at_bytes m a n bytes h e =
     let parts = cond_some _ _ _ e in
     subst (λ (b : List ℕ). IsBytes b) parts.1 (IsBytes-take n (rest_from m a) (rest_bytes m a h))
-
-some_lent : (o : Option (List ℕ)) (bytes : List ℕ) → ok_or o MapFailed ≡ Ok bytes → o ≡ Some bytes
-some_lent None bytes e = absurd cc
-some_lent (Some s) bytes e = cc
-
-abbrev done : List ℕ → Result (List ℕ) AcpiError
-done x = Ok x
-
-same_ok : (x y : List ℕ) → done x ≡ done y → x ≡ y
-same_ok x y e = cc
 
 pub lent_bytes : (m : Memory) (a n : ℕ) (bytes : List ℕ) → IsMemory m → lent m a n ≡ Ok bytes → IsBytes bytes
 lent_bytes m a n bytes h e = at_bytes m a n bytes h (some_lent _ _ e)

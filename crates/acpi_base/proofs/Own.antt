@@ -3,20 +3,19 @@
 use Rattle.std.proofs.Common.{◌≡◌, ℕ, ◌≤◌, Bool, true, false, ◌&&◌, ◌+◌, List, [], ◌∷◌, length, take, drop, lit≤, Option, Some, None, Result, Ok, Err, refl, sym, ap, ◌∙◌, arith, eq-eqb, if◌then◌else◌}
 use Rattle.std.specs.Prelude.{◌==◌, nat_le}
 use Rattle.std.specs.Result.{result_ok}
-use Rattle.std.specs.Option.{ok_or}
 use Rattle.std.specs.Str.{bytes_eq, is_utf8}
 use Rattle.std.proofs.lemmas.Bool.{and_from, and_parts, leb-true, le-leb}
 use Rattle.std.proofs.lemmas.List.{drop-take, length-take-le, take-take}
 use Rattle.std.proofs.lemmas.Option.{cond_some}
 use Rattle.acpi_base.proofs.Lent.{at-front}
-use Rattle.acpi_base.proofs.Steps.{bind_ok, holds_ok}
+use Rattle.acpi_base.proofs.Steps.{bind_ok, holds_ok, some_lent}
 use Rattle.acpi_base.specs.Bytes.{field_of, part, sum_of}
 use Rattle.acpi_base.specs.Header.{check_names, check_table, header_at}
 use Rattle.acpi_base.specs.Memory.{Memory, at, rest_from}
 use Rattle.acpi_base.specs.Steps.{◌>>=◌, holds, lent}
 use Rattle.acpi_base.specs.Table.{kind, length_in, own_table_at, plain_kind, table_at, table_of, whole_of}
 use Rattle.acpi_base.specs.declared.error.AcpiError.{AcpiError}
-use Rattle.acpi_base.specs.declared.error.AcpiError.TheVariants.{MapFailed, SdtInvalidChecksum, SdtInvalidLength, SdtInvalidOemId, SdtInvalidSignature, SdtInvalidTableId}
+use Rattle.acpi_base.specs.declared.error.AcpiError.TheVariants.{SdtInvalidChecksum, SdtInvalidLength, SdtInvalidOemId, SdtInvalidSignature, SdtInvalidTableId}
 use Rattle.acpi_base.specs.declared.sdt.SdtHeader.{SdtHeader}
 use Rattle.acpi_base.specs.declared.signature.Signature.{Signature}
 
@@ -110,7 +109,7 @@ length_only s least h enough =
 -- ---- the whole table
 
 -- a header's place in the table that it begins
-part_within : (o n m : ℕ) (b : List ℕ) → n ≤ m → part (take (o + m) b) o n ≡ part b o n
+pub part_within : (o n m : ℕ) (b : List ℕ) → n ≤ m → part (take (o + m) b) o n ≡ part b o n
 part_within o n m b h = ap (take n) (drop-take o m b) ∙ take-take n m (drop o b) h
 
 pub header_front : (b : List ℕ) → header_at (take 36 b) ≡ header_at b
@@ -136,17 +135,13 @@ at_length m p n b e =
     let parts = cond_some _ _ _ e in
     ap length (sym parts.1) ∙ length-take-le n (rest_from m p) (leb-true _ _ parts.0)
 
-at_header : (m : Memory) (p n : ℕ) (b head : List ℕ) → at m p n ≡ Some b → at m p 36 ≡ Some head → 36 ≤ n
+pub at_header : (m : Memory) (p n : ℕ) (b head : List ℕ) → at m p n ≡ Some b → at m p 36 ≡ Some head → 36 ≤ n
     → (header_at b ≡ header_at head) × (length b ≡ n)
 at_header m p n b head whole front enough =
     let long = at_length m p n b whole in
     let whole_of_it : at m p (length b) ≡ Some b = rw long whole in
     let same : take 36 b ≡ head = same_some (sym (at-front m p 36 b whole_of_it (omega (arith, long))) ∙ front) in
     (sym (header_front b) ∙ ap header_at same, long)
-
-some_lent : (o : Option (List ℕ)) (b : List ℕ) → ok_or o MapFailed ≡ Ok b → o ≡ Some b
-some_lent None b e = absurd cc
-some_lent (Some c) b e = cc
 
 is_length : (s : Signature) (least : ℕ) (h : SdtHeader) (n : ℕ) → length_in s least h ≡ Ok n → (h.length ≡ n) × (least ≤ n)
 unfolding length_in

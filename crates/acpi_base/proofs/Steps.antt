@@ -1,6 +1,22 @@
 -- What a chain of checks that answers Ok went through.
-use Rattle.std.proofs.Common.{◌≡◌, Bool, true, false, Result, Ok, Err, refl}
+use Rattle.std.proofs.Common.{◌≡◌, ℕ, Bool, true, false, List, Option, None, Some, Result, Ok, Err, refl}
+use Rattle.std.specs.Option.{ok_or}
 use Rattle.acpi_base.specs.Steps.{◌>>=◌, holds}
+use Rattle.acpi_base.specs.declared.error.AcpiError.TheVariants.{MapFailed}
+
+-- ---- a value that was answered
+
+abbrev pub done : {A E : Type 0} → A → Result A E
+done x = Ok x
+
+pub same_ok : {A E : Type 0} (x y : A) → done {A = A} {E = E} x ≡ done y → x ≡ y
+same_ok x y e = cc
+
+pub some_lent : (o : Option (List ℕ)) (bytes : List ℕ) → ok_or o MapFailed ≡ Ok bytes → o ≡ Some bytes
+some_lent None bytes e = absurd cc
+some_lent (Some s) bytes e = cc
+
+-- ---- the steps behind it
 
 pub bind_ok : {A B E : Type 0} (r : Result A E) (f : A → Result B E) (y : B) → (r >>= f) ≡ Ok y → (x : A) × (r ≡ Ok x) × (f x ≡ Ok y)
 bind_ok (Ok x) f y e = (x, refl, e)

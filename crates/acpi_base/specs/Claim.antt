@@ -1,5 +1,6 @@
 -- What a claim shows.
-use Rattle.std.specs.Prelude.{ℕ, List, take}
+use Rattle.std.specs.Prelude.{◌≡◌, ℕ, List, length, take, Some}
+use Rattle.acpi_base.specs.Memory.{Memory, at}
 use Rattle.acpi_base.specs.declared.claim.Claim.{Claim}
 
 -- where the lent bytes start
@@ -17,3 +18,7 @@ shown_by c = take c.region_length c.lent.now
 -- the handler that lent them
 abbrev pub claimed_from : {H h : _} → Claim H h → H
 claimed_from c = c.handler.now
+
+-- however many bytes were lent, all of them are the memory's
+abbrev pub IsLentOf : {H h : _} → Memory → Claim H h → Type 0
+IsLentOf m c = at m (claimed_at c) (length (all_of c)) ≡ Some (all_of c)

@@ -16,9 +16,8 @@ pub(crate) struct Claim<'h, H: AcpiHandler> {
 }
 
 impl<'h, H: AcpiHandler> Claim<'h, H> {
-    ghost use Rattle.std.specs.Prelude.{◌≡◌, ◌<◌, take, IfOk, Some};
-    ghost use Rattle.acpi_base.specs.Claim.{all_of, claimed_at, claimed_from, shown_by};
-    ghost use Rattle.acpi_base.specs.Memory.{at};
+    ghost use Rattle.std.specs.Prelude.{◌≡◌, ◌<◌, take, IfOk};
+    ghost use Rattle.acpi_base.specs.Claim.{IsLentOf, all_of, claimed_at, claimed_from, shown_by};
     ghost use Rattle.acpi_base.specs.Steps.{Gives, lent};
 
     /// What was lent already, of which the first `region_length` bytes are shown.
@@ -45,12 +44,38 @@ impl<'h, H: AcpiHandler> Claim<'h, H> {
         ensures handler { IfOk result (λ c. claimed_from c ≡ handler.now) }
         ensures size { IfOk result (λ c. length (shown_by c) ≡ size) }
         ensures shown { Gives (λ c. shown_by c) result (lent (H.memory handler.now) address size) }
-        // However many bytes were lent, all of them are the memory's.
-        ensures all { IfOk result (λ c. at (H.memory handler.now) address (length (all_of c))
-            ≡ Some (all_of c)) }
+        ensures all { IfOk result (λ c. IsLentOf (H.memory handler.now) c) }
     {
         let granted = handler.map_physical_region(address, size)?;
         Ok(Claim::new(address, granted, size, handler))
+    }
+
+    /// The `size` bytes where a claim starts: of the bytes that are lent already, where these are
+    /// as many, or else asked for anew, behind the notice for what was lent.
+    #[tactic(auto, using(crate::proofs::Lent::lent_front))]
+    pub(crate) fn widen(self, size: usize) -> AcpiResult<Self>
+        requires some { 0 < size }
+        requires lent { IsLentOf (H.memory (claimed_from self)) self }
+        ensures start { IfOk result (λ c. claimed_at c ≡ claimed_at self.entry) }
+        ensures handler { IfOk result (λ c. claimed_from c ≡ claimed_from self.entry) }
+        ensures size { IfOk result (λ c. length (shown_by c) ≡ size) }
+        ensures shown { let m = H.memory (claimed_from self.entry) in
+            Gives (λ c. shown_by c) result (lent m (claimed_at self.entry) size) }
+        ensures all { IfOk result (λ c. IsLentOf (H.memory (claimed_from self.entry)) c) }
+    {
+        if size <= self.lent.len() {
+            let Claim {
+                start,
+                lent,
+                region_length: _,
+                handler,
+            } = self;
+            return Ok(Claim::new(start, lent, size, handler));
+        }
+        let handler = self.handler;
+        let start = self.start;
+        self.end();
+        Claim::request(handler, start, size)
     }
 
     pub(crate) fn start(&self) -> u64

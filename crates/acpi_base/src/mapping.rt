@@ -39,7 +39,7 @@ impl<'h, H: AcpiHandler, T: PhysicalRecord> PhysicalMapping<'h, H, T> {
     }
 
     /// The record that a claim shows.
-    fn of_claim(claim: Claim<'h, H>) -> Self
+    pub(crate) fn of_claim(claim: Claim<'h, H>) -> Self
         requires { T.MIN_LENGTH ≤ length (shown_by claim) }
         ensures start { start_of result ≡ claimed_at claim.entry }
         ensures bytes { bytes_of result ≡ shown_by claim.entry }

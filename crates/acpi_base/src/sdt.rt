@@ -47,7 +47,7 @@ impl PhysicalRecord for SdtHeader {
     #[tactic(auto, unfolding(crate::specs::Header::header_at))]
     fn read(bytes: &[u8]) -> Self {
         SdtHeader {
-            signature: Signature::from_bytes([bytes[0], bytes[1], bytes[2], bytes[3]]),
+            signature: Signature::leading(bytes),
             length: field(bytes, 4, 4) as u32,
             revision: field(bytes, 8, 1) as u8,
             checksum: field(bytes, 9, 1) as u8,

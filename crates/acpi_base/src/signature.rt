@@ -1,6 +1,7 @@
 //! The four bytes that name a table.
-ghost use Rattle.std.specs.Prelude.{◌≡◌, ◌<◌, Some};
+ghost use Rattle.std.specs.Prelude.{◌≡◌, ◌<◌, ◌≤◌, length, Some};
 ghost use Rattle.std.specs.Str.{bytes_eq};
+ghost use Rattle.acpi_base.specs.Bytes.{part};
 ghost use Rattle.acpi_base.specs.Text.{IsTextOf, hex_digit, letters_of, signature_text};
 
 use crate::bytes::text_of;
@@ -214,6 +215,15 @@ impl Signature {
         Signature(bytes)
     }
 
+    /// The four that bytes begin with.
+    #[inline(always)]
+    pub(crate) fn leading(bytes: &[u8]) -> Signature
+        requires { 4 ≤ length bytes.now }
+        ensures { letters_of result ≡ part bytes.now 0 4 }
+    {
+        Signature([bytes[0], bytes[1], bytes[2], bytes[3]])
+    }
+
     /// Its four bytes.
     pub fn to_bytes(self) -> [u8; 4]
         ensures { result ≡ letters_of self }
@@ -228,6 +238,7 @@ impl Signature {
         text_of(&self.0)
     }
 
+    #[inline(always)]
     pub(crate) fn is(&self, other: Signature) -> bool
         ensures { result ≡ bytes_eq self.now.0 other.0 }
     {

@@ -1,13 +1,17 @@
 //! Types of tables, and the table at an address.
-ghost use Rattle.std.specs.Prelude.{◌≡◌, ℕ, ◌+◌, ◌^◌, ◌<◌, ◌≤◌, List, length, Result, IfOk};
+ghost use Rattle.std.specs.Prelude.{◌≡◌, ℕ, ◌+◌, ◌^◌, ◌<◌, ◌≤◌, List, length, Result, IfErr, IfOk, Ok, Err};
+ghost use Rattle.acpi_base.specs.Claim.{IsLentOf, claimed_at, claimed_from, shown_by};
 ghost use Rattle.acpi_base.specs.Header.{header_at};
 ghost use Rattle.acpi_base.specs.Mapping.{start_of, bytes_of, handler_of};
-ghost use Rattle.acpi_base.specs.Steps.{Gives};
-ghost use Rattle.acpi_base.specs.Table.{kind, own_table_at, plain_kind, table_at, table_of, whole_of};
+ghost use Rattle.acpi_base.specs.Steps.{Gives, lent};
+ghost use Rattle.acpi_base.specs.Table.{Kind, kind, own_table_at, plain_kind, table_at, table_of};
+ghost use Rattle.acpi_base.specs.Table.{whole_of};
 ghost use Rattle.acpi_base.specs.declared.error.AcpiError.{AcpiError};
 ghost use Rattle.acpi_base.specs.declared.signature.Signature.{Signature};
 
-use crate::error::AcpiResult;
+use crate::bytes::byte_sum;
+use crate::claim::Claim;
+use crate::error::{AcpiError, AcpiResult};
 use crate::handler::{AcpiHandler, PhysicalRecord};
 use crate::mapping::PhysicalMapping;
 use crate::sdt::SdtHeader;
@@ -40,28 +44,79 @@ pub trait AcpiTable: PhysicalRecord {
     ghost least: { 36 ≤ Self.MIN_LENGTH };
 }
 
-/// What lies where a header is mapped, as long as that header says, where it has these names and
-/// the least length. The sum is still to be checked. The header's mapping ends before the request.
+/// The header's bytes at an address, where they begin with this signature. Most members that a
+/// lookup passes over bear another one: so that is compared before anything else is made of them.
+#[inline(always)]
+#[tactic(auto, using(crate::proofs::Plain::no_header, crate::proofs::Plain::another_signature))]
+fn claim_named<'h, H: AcpiHandler>(
+    handler: &'h H,
+    address: u64,
+    signature: Signature,
+) -> AcpiResult<Claim<'h, H>>
+    ensures start { IfOk result (λ c. claimed_at c ≡ address) }
+    ensures handler { IfOk result (λ c. claimed_from c ≡ handler.now) }
+    ensures size { IfOk result (λ c. length (shown_by c) ≡ 36) }
+    ensures shown { IfOk result (λ c. lent (H.memory handler.now) address 36 ≡ Ok (shown_by c)) }
+    ensures all { IfOk result (λ c. IsLentOf (H.memory handler.now) c) }
+    ensures refused { IfErr result (λ e. (k : Kind) → k.signature ≡ signature
+        → table_at (H.memory handler.now) k address ≡ Err e) }
+{
+    let head = Claim::request(handler, address, SdtHeader::MIN_LENGTH)?;
+    if !Signature::leading(head.shown()).is(signature) {
+        head.end();
+        return Err(AcpiError::SdtInvalidSignature(signature));
+    }
+    Ok(head)
+}
+
+/// What lies where a header is claimed, as long as that header says, where it has these names and
+/// the least length. The sum is still to be checked. Where the bytes lent for the header hold all
+/// of it, they are shown; else the header's claim ends before the request.
+#[inline(always)]
 #[tactic(auto, unfolding(crate::specs::Table::whole_of))]
-fn map_whole<'h, H: AcpiHandler, T: PhysicalRecord>(
-    header: PhysicalMapping<'h, H, SdtHeader>,
+fn claim_whole<'h, H: AcpiHandler>(
+    head: Claim<'h, H>,
     signature: Signature,
     least: usize,
-) -> AcpiResult<PhysicalMapping<'h, H, T>>
-    requires least { T.MIN_LENGTH ≤ least }
+) -> AcpiResult<Claim<'h, H>>
+    requires header { length (shown_by head) ≡ 36 }
+    requires lent { IsLentOf (H.memory (claimed_from head)) head }
     requires some { 0 < least }
-    ensures place { IfOk result (λ m. start_of m ≡ start_of header.entry) }
-    ensures handler { IfOk result (λ m. handler_of m ≡ handler_of header.entry) }
-    ensures short { IfOk result (λ m. length (bytes_of m) < 2 ^ 32) }
-    ensures ends { IfOk result (λ m. start_of m + length (bytes_of m) < 2 ^ 64) }
-    ensures bytes { let m = H.memory (handler_of header.entry) in Gives (λ x. bytes_of x) result
-        (whole_of m signature least (start_of header.entry) (bytes_of header.entry)) }
+    ensures start { IfOk result (λ c. claimed_at c ≡ claimed_at head.entry) }
+    ensures handler { IfOk result (λ c. claimed_from c ≡ claimed_from head.entry) }
+    ensures long { IfOk result (λ c. least ≤ length (shown_by c)) }
+    ensures short { IfOk result (λ c. length (shown_by c) < 2 ^ 32) }
+    ensures ends { IfOk result (λ c. claimed_at c + length (shown_by c) < 2 ^ 64) }
+    ensures shown { let m = H.memory (claimed_from head.entry) in Gives (λ c. shown_by c) result
+        (whole_of m signature least (claimed_at head.entry) (shown_by head.entry)) }
 {
-    let length = header.table_length(signature, least)?;
-    let handler = header.handler();
-    let address = header.physical_start();
-    drop(header);
-    PhysicalMapping::map(handler, address, length)
+    match SdtHeader::read(head.shown()).table_length(signature, least) {
+        Ok(length) => head.widen(length),
+        Err(error) => {
+            head.end();
+            Err(error)
+        }
+    }
+}
+
+/// The table whose header is claimed, where it is valid for `T`.
+#[inline(never)]
+#[tactic(auto, unfolding(crate::specs::Table::table_of))]
+fn map_named<'h, H: AcpiHandler, T: AcpiTable>(
+    head: Claim<'h, H>,
+) -> AcpiResult<PhysicalMapping<'h, H, T>>
+    requires header { length (shown_by head) ≡ 36 }
+    requires lent { IsLentOf (H.memory (claimed_from head)) head }
+    ensures place { IfOk result (λ m. start_of m ≡ claimed_at head.entry) }
+    ensures handler { IfOk result (λ m. handler_of m ≡ claimed_from head.entry) }
+    ensures table { let m = H.memory (claimed_from head.entry) in Gives (λ x. bytes_of x) result
+        (table_of m (kind T.SIGNATURE T.MIN_LENGTH T.verdict)
+        (claimed_at head.entry) (shown_by head.entry)) }
+{
+    let whole = claim_whole(head, T::SIGNATURE, T::MIN_LENGTH)?;
+    let table: PhysicalMapping<'h, H, T> = PhysicalMapping::of_claim(whole);
+    table.get().validate(table.bytes())?;
+    Ok(table)
 }
 
 /// The table at an address, where it is valid for `T` (sections 5.2.5 and 5.2.6).
@@ -70,7 +125,8 @@ fn map_whole<'h, H: AcpiHandler, T: PhysicalRecord>(
 /// `SdtInvalidOemId`, `SdtInvalidTableId`, `SdtInvalidLength` where the length in the header is
 /// under `T::MIN_LENGTH`, `MapFailed` where `length` bytes aren't lent, and with what
 /// `T::validate` refuses these bytes with.
-#[tactic(auto, unfolding(crate::specs::Table::table_at, crate::specs::Table::table_of))]
+#[inline(always)]
+#[tactic(auto, unfolding(crate::specs::Table::table_at))]
 pub fn map_table<'h, H: AcpiHandler, T: AcpiTable>(
     handler: &'h H,
     address: u64,
@@ -80,35 +136,42 @@ pub fn map_table<'h, H: AcpiHandler, T: AcpiTable>(
     ensures table { Gives (λ m. bytes_of m) result
         (table_at (H.memory handler.now) (kind T.SIGNATURE T.MIN_LENGTH T.verdict) address) }
 {
-    let header = PhysicalMapping::map(handler, address, SdtHeader::MIN_LENGTH)?;
-    let table = map_whole::<H, T>(header, T::SIGNATURE, T::MIN_LENGTH)?;
-    table.get().validate(table.bytes())?;
-    Ok(table)
+    let head = claim_named(handler, address, T::SIGNATURE)?;
+    map_named(head)
 }
 
-/// The table that a mapped header begins, where it is valid under this signature as one of which
-/// only the header and the sum matter.
-#[tactic(auto, unfolding(crate::specs::Table::table_of))]
+/// The table whose header is claimed, where it is valid under this signature as one of which only
+/// the header and the sum matter.
+#[inline(never)]
+#[tactic(auto, using(crate::proofs::Plain::bad_sum, crate::proofs::Plain::good_sum), unfolding(crate::specs::Table::table_of))]
 fn map_plain<'h, H: AcpiHandler>(
-    header: PhysicalMapping<'h, H, SdtHeader>,
+    head: Claim<'h, H>,
     signature: Signature,
 ) -> AcpiResult<PhysicalMapping<'h, H, SdtHeader>>
-    ensures place { IfOk result (λ m. start_of m ≡ start_of header.entry) }
-    ensures handler { IfOk result (λ m. handler_of m ≡ handler_of header.entry) }
+    requires header { length (shown_by head) ≡ 36 }
+    requires lent { IsLentOf (H.memory (claimed_from head)) head }
+    requires shown { lent (H.memory (claimed_from head)) (claimed_at head) 36 ≡ Ok (shown_by head) }
+    ensures place { IfOk result (λ m. start_of m ≡ claimed_at head.entry) }
+    ensures handler { IfOk result (λ m. handler_of m ≡ claimed_from head.entry) }
     ensures short { IfOk result (λ m. length (bytes_of m) < 2 ^ 32) }
     ensures ends { IfOk result (λ m. start_of m + length (bytes_of m) < 2 ^ 64) }
-    ensures table { let m = H.memory (handler_of header.entry) in Gives (λ x. bytes_of x) result
-        (table_of m (plain_kind signature) (start_of header.entry) (bytes_of header.entry)) }
+    ensures table { let m = H.memory (claimed_from head.entry) in Gives (λ x. bytes_of x) result
+        (table_of m (plain_kind signature) (claimed_at head.entry) (shown_by head.entry)) }
 {
-    let table = map_whole::<H, SdtHeader>(header, signature, SdtHeader::MIN_LENGTH)?;
-    table.get().validate(signature, table.bytes())?;
-    Ok(table)
+    let whole = claim_whole(head, signature, SdtHeader::MIN_LENGTH)?;
+    // The names and the length are those of the header, which is the table's own.
+    if byte_sum(whole.shown()) != 0 {
+        whole.end();
+        return Err(AcpiError::SdtInvalidChecksum(signature));
+    }
+    Ok(PhysicalMapping::of_claim(whole))
 }
 
 /// The table at an address under a signature that is known only at run time, mapped as its header:
 /// of least length 36, and with nothing but `SdtHeader::validate` to pass.
 ///
 /// Refuses as `map_table` does for such a type.
+#[inline(always)]
 #[tactic(auto, unfolding(crate::specs::Table::table_at))]
 pub fn map_sdt<'h, H: AcpiHandler>(
     handler: &'h H,
@@ -122,15 +185,15 @@ pub fn map_sdt<'h, H: AcpiHandler>(
     ensures table { Gives (λ m. bytes_of m) result
         (table_at (H.memory handler.now) (plain_kind signature) address) }
 {
-    let header = PhysicalMapping::map(handler, address, SdtHeader::MIN_LENGTH)?;
-    map_plain(header, signature)
+    let head = claim_named(handler, address, signature)?;
+    map_plain(head, signature)
 }
 
 /// The table at an address under the signature that it bears itself, whatever that is, mapped as
 /// its header.
 ///
 /// Refuses as `map_sdt` does for that signature.
-#[tactic(auto, unfolding(crate::specs::Table::own_table_at, crate::specs::Table::table_at))]
+#[tactic(auto, using(crate::proofs::Plain::own_table), unfolding(crate::specs::Table::own_table_at))]
 pub fn map_own_sdt<'h, H: AcpiHandler>(
     handler: &'h H,
     address: u64,
@@ -139,11 +202,7 @@ pub fn map_own_sdt<'h, H: AcpiHandler>(
     ensures handler { IfOk result (λ m. handler_of m ≡ handler.now) }
     ensures table { Gives (λ m. bytes_of m) result (own_table_at (H.memory handler.now) address) }
 {
-    let header: PhysicalMapping<'h, H, SdtHeader> = PhysicalMapping::map(
-        handler,
-        address,
-        SdtHeader::MIN_LENGTH,
-    )?;
-    let signature = header.signature;
-    map_plain(header, signature)
+    let head = Claim::request(handler, address, SdtHeader::MIN_LENGTH)?;
+    let signature = Signature::leading(head.shown());
+    map_plain(head, signature)
 }

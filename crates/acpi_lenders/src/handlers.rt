@@ -1,6 +1,7 @@
 //! Handlers over another handler, for tests.
 
 use crate::history::{Event, Flaw, History, Places, Shown};
+use acpi::sdt::field;
 use acpi::{AcpiHandler, AcpiResult};
 use std::cell::Cell;
 
@@ -34,6 +35,17 @@ impl<'a, H: AcpiHandler> AcpiHandler for Exact<'a, H> {
     ghost regions = { λ e. H.regions e.inner.now };
 }
 
+/// How many bytes the table has whose header was asked for, where all of it is lent, or else as
+/// many as were asked for.
+fn whole_of(lent: &[u8], size: usize) -> usize {
+    let length = field(lent, 4, 4) as usize;
+    if size == 36 && 36 <= length && length <= lent.len() {
+        length
+    } else {
+        size
+    }
+}
+
 /// A handler that records what another is asked for, what it grants, and what it is told.
 #[derive(Drop)]
 pub struct Recording<'a, H: AcpiHandler> {
@@ -43,7 +55,7 @@ pub struct Recording<'a, H: AcpiHandler> {
 }
 
 impl<'a, H: AcpiHandler> Recording<'a, H> {
-    /// For a scenario in which each mapping shows what was asked for.
+    /// For a scenario in which each mapping shows what was asked for, or the whole table.
     pub fn new(inner: &'a H) -> Self {
         Recording::showing(inner, Shown::AsAsked)
     }
@@ -86,6 +98,7 @@ impl<'a, H: AcpiHandler> AcpiHandler for Recording<'a, H> {
             Ok(bytes) => Event::Lent {
                 address,
                 size,
+                whole: whole_of(bytes, size),
                 lent: bytes.len(),
             },
             Err(_) => Event::Refused { address, size },

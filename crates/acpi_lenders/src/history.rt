@@ -9,10 +9,12 @@ const LOANS: usize = 8;
 /// One thing that happened at a handler.
 #[derive(Clone, Copy, Debug, PartialEq, Eq)]
 pub enum Event {
-    /// A request was granted: for `size` bytes, of which `lent` were lent.
+    /// A request for `size` bytes was granted, and `lent` were lent. Where a table's header was
+    /// asked for and all of the table was lent, that has `whole` bytes; else these are `size`.
     Lent {
         address: u64,
         size: usize,
+        whole: usize,
         lent: usize,
     },
     /// A request was refused.
@@ -31,18 +33,19 @@ pub enum Event {
 /// How many bytes of each loan a mapping should have shown.
 #[derive(Clone, Copy)]
 pub enum Shown<'s> {
-    /// As many as were asked for.
+    /// As many as were asked for, or the whole table behind the header that was.
     AsAsked,
     /// These, for the granted requests in order.
     These(&'s [usize]),
 }
 
 impl Shown<'_> {
-    /// How many bytes of a loan, before which so many were granted, if the scenario has that many.
-    fn of(self, earlier: usize, size: usize) -> Option<usize> {
+    /// How many bytes of a loan, before which so many were granted, if the scenario has that many:
+    /// the fewest and the most.
+    fn of(self, earlier: usize, size: usize, whole: usize) -> Option<(usize, usize)> {
         match self {
-            Shown::AsAsked => Some(size),
-            Shown::These(lengths) => lengths.get(earlier).copied(),
+            Shown::AsAsked => Some((size, whole)),
+            Shown::These(lengths) => lengths.get(earlier).map(|it| (*it, *it)),
         }
     }
 }
@@ -58,15 +61,24 @@ pub enum Flaw {
     StillLent(u64, usize),
 }
 
-/// A loan, as its notice should name it.
-#[derive(Clone, Copy, Debug, PartialEq, Eq)]
+/// A loan, as its notice should name it: with one of these two lengths.
+#[derive(Clone, Copy)]
 struct Loan {
     address: u64,
-    shown: usize,
+    shown: (usize, usize),
     lent: usize,
 }
 
-/// Address and shown length of each loan that is open, in the order of the grants. Zeros follow.
+impl Loan {
+    /// Whether a notice with this address and these lengths is right for it.
+    fn is_named(&self, (address, shown, lent): (u64, usize, usize)) -> bool {
+        let right = shown == self.shown.0 || shown == self.shown.1;
+        address == self.address && lent == self.lent && right
+    }
+}
+
+/// Address and length of each loan that is open, in the order of the grants: the most that a
+/// mapping of it should show. Zeros follow.
 pub type Places = [(u64, usize); LOANS];
 
 /// These loans, as `Recording::open` answers them.
@@ -99,12 +111,12 @@ impl Loans {
         Err(Flaw::Full)
     }
 
-    /// All but one such loan, where there is one.
-    fn without(self, ended: Loan) -> Result<Option<Loans>, Flaw> {
+    /// All but the first that a notice names, where there is one.
+    fn without(self, ended: (u64, usize, usize)) -> Result<Option<Loans>, Flaw> {
         let mut left = Loans::NONE;
         let mut found = false;
         for loan in self.open.iter().flatten() {
-            if *loan == ended && !found {
+            if !found && loan.is_named(ended) {
                 found = true;
             } else {
                 left = left.with(*loan)?;
@@ -117,7 +129,7 @@ impl Loans {
         let mut places = [(0, 0); LOANS];
         for (place, loan) in places.iter_mut().zip(&self.open) {
             if let Some(loan) = loan {
-                *place = (loan.address, loan.shown);
+                *place = (loan.address, loan.shown.1);
             }
         }
         places
@@ -158,7 +170,7 @@ impl History {
     /// The loans that are open at the end.
     ///
     /// Refuses the first notice that names no open loan: for each loan one notice is right, of the
-    /// same address, with the length that should be shown and the number of bytes that were lent.
+    /// same address, with a length that should be shown and the number of bytes that were lent.
     fn loans(&self, shown: Shown<'_>) -> Result<Loans, Flaw> {
         if self.count > ROOM {
             return Err(Flaw::Full);
@@ -171,9 +183,10 @@ impl History {
                 Event::Lent {
                     address,
                     size,
+                    whole,
                     lent,
                 } => {
-                    let shown = shown.of(granted, size).ok_or(Flaw::Full)?;
+                    let shown = shown.of(granted, size, whole).ok_or(Flaw::Full)?;
                     loans = loans.with(Loan {
                         address,
                         shown,
@@ -186,20 +199,16 @@ impl History {
                     shown,
                     lent,
                 } => {
-                    let ended = Loan {
-                        address,
-                        shown,
-                        lent,
-                    };
-                    loans = loans.without(ended)?.ok_or(Flaw::Unmatched(*event))?;
+                    let left = loans.without((address, shown, lent))?;
+                    loans = left.ok_or(Flaw::Unmatched(*event))?;
                 }
             }
         }
         Ok(loans)
     }
 
-    /// Address and shown length of the loans that are open at the end, where each notice so far
-    /// ended one.
+    /// Address and length of the loans that are open at the end, where each notice so far ended
+    /// one.
     pub fn open(&self, shown: Shown<'_>) -> Result<Places, Flaw> {
         Ok(self.loans(shown)?.places())
     }

@@ -1,5 +1,6 @@
-//! The order of requests and notices: a table's header is lent no more when the whole is asked for,
-//! an RSDP's 36 bytes still are, and a table is checked while it is lent.
+//! The order of requests and notices: a table is asked for only where its header's loan doesn't hold
+//! it, and then the header is lent no more; an RSDP's 36 bytes still are; and a table is checked
+//! while it is lent.
 
 use crate::scenarios::{Scenario, over_each_handler};
 use acpi::bgrt::Bgrt;
@@ -10,6 +11,7 @@ use acpi_lenders::handlers::{Exact, Recording};
 use acpi_lenders::history::{Event, Shown, places};
 use acpi_lenders::samples::graphics::{long_graphic, one_graphic};
 use acpi_lenders::samples::rsdps::{AREA, put_areas, put_long_rsdp, two_roots};
+use acpi_lenders::samples::{put_head, put_table};
 use acpi_lenders::watched::Watched;
 use std::process::Abort;
 use std::test::Fail;
@@ -19,6 +21,7 @@ fn lent(address: u64, size: usize) -> Event {
     Event::Lent {
         address,
         size,
+        whole: size,
         lent: size,
     }
 }
@@ -57,31 +60,61 @@ fn a_header_is_lent_no_more_when_the_whole_is_asked_for(rt: HostRuntime) -> Resu
 }
 
 #[test]
-fn more_is_lent_than_is_shown(rt: HostRuntime) -> Result<(), Fail> {
+fn a_table_that_is_lent_with_its_header_is_asked_for_once(rt: HostRuntime) -> Result<(), Fail> {
     let file = long_graphic();
     let image = MemoryImage::from_bytes(rt.alloc(), &file)?;
-    let shown = [36, 40, 36, 56];
+    let shown = [40, 56];
     let recording = Recording::showing(&image, Shown::These(&shown));
     let tables = AcpiTables::from_rsdt(&recording, 0, 0x1000)?;
-    drop(tables.find_table::<Bgrt>()?);
+    let graphic = tables.find_table::<Bgrt>()?;
+    assert_eq!(rt;
+        (graphic.region_length(), graphic.mapped_length()),
+        (56, 64)
+    );
+    drop(graphic);
     drop(tables);
     assert_eq!(rt; recording.flaw(), None);
     let history = recording.history();
-    let lent = |size| Event::Lent {
-        address: 0x2000,
-        size,
-        lent: 64,
+    let lent = |address, whole, lent| Event::Lent {
+        address,
+        size: 36,
+        whole,
+        lent,
     };
-    let ended = |shown| Event::Ended {
-        address: 0x2000,
+    let ended = |address, shown, lent| Event::Ended {
+        address,
         shown,
-        lent: 64,
+        lent,
     };
-    let expected = [lent(36), ended(36), lent(56), ended(56)];
-    let seen = history.events();
-    assert_eq!(rt; seen.len(), 8);
-    assert_eq!(rt; seen.get(3..7), Some(expected.as_slice()));
+    let expected = [
+        lent(0x1000, 40, 40),
+        lent(0x2000, 56, 64),
+        ended(0x2000, 56, 64),
+        ended(0x1000, 40, 40),
+    ];
+    assert_eq!(rt; history.events(), expected.as_slice());
     Ok(())
+}
+
+/// A root table without pointers is its header.
+struct NoPointers;
+
+impl Scenario for NoPointers {
+    fn check<R: Abort, H: AcpiHandler>(rt: &R, handler: &H) -> Result<(), AcpiError> {
+        let recording = Recording::new(handler);
+        drop(AcpiTables::from_rsdt(&recording, 0, 0x1000)?);
+        let expected = [lent(0x1000, 36), ended(0x1000, 36)];
+        assert_eq!(rt; recording.history().events(), expected.as_slice());
+        Ok(())
+    }
+}
+
+#[test]
+fn a_table_that_is_its_header_is_asked_for_once(rt: HostRuntime) -> Result<(), Fail> {
+    let mut file = [0; 52];
+    put_head(&mut file, 0, 0x1000, 36);
+    put_table(&mut file, 16, b"RSDT", 36, 0x9F);
+    over_each_handler::<NoPointers>(&rt, &file)
 }
 
 #[test]

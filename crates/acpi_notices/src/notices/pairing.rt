@@ -13,6 +13,15 @@ use std::test::Fail;
 const LENT: Event = Event::Lent {
     address: 0x2000,
     size: 56,
+    whole: 56,
+    lent: 64,
+};
+
+/// The same for the header of such a table.
+const HEADER: Event = Event::Lent {
+    address: 0x2000,
+    size: 36,
+    whole: 56,
     lent: 64,
 };
 
@@ -67,6 +76,10 @@ fn a_wrong_notice_is_seen(rt: HostRuntime) {
         ([LENT].as_slice(), still_lent),
         ([right].as_slice(), Some(Flaw::Unmatched(right))),
         ([right, LENT].as_slice(), Some(Flaw::Unmatched(right))),
+        // the header alone, the whole table, and neither
+        ([HEADER, ended(36, 64)].as_slice(), None),
+        ([HEADER, right].as_slice(), None),
+        ([HEADER, long].as_slice(), Some(Flaw::Unmatched(long))),
         // a second request that no mapping holds
         ([LENT, LENT, right].as_slice(), still_lent),
     ] {
@@ -105,7 +118,7 @@ fn a_history_that_is_too_long_is_refused(rt: HostRuntime) {
 
 /// Maps the header of the boot graphic twice, the second time from bytes that were lent already.
 fn check_mapping<H: AcpiHandler>(rt: &impl Abort, handler: &H, lent: usize) -> AcpiResult<()> {
-    let recording = Recording::new(handler);
+    let recording = Recording::showing(handler, Shown::These(&[36, 40]));
     let asked = PhysicalMapping::<Recording<'_, H>, SdtHeader>::map(&recording, 0x2000, 36)?;
     assert_eq!(rt; recording.open(), places(&[(0x2000, 36)]));
     let bytes = recording.map_physical_region(0x2000, 40)?;
