@@ -1,0 +1,135 @@
+//! The calls that are timed over tables. Each answers one number of what it was given, so that the
+//! compiler can't leave it out.
+
+use crate::counted::Counted;
+use crate::stopwatch::Stopwatch;
+use crate::words::Root;
+use acpi::bgrt::Bgrt;
+use acpi::fadt::Fadt;
+use acpi::hpet::HpetTable;
+use acpi::madt::Madt;
+use acpi::mcfg::Mcfg;
+use acpi::spcr::Spcr;
+use acpi::{AcpiHandler, AcpiTable, AcpiTables, HpetInfo, PciConfigRegions};
+use std::alloc::Global;
+use std::io;
+use std::io::Write;
+use std::time::Clock;
+
+/// Times opening, and each call of what is opened. Where nothing is opened, it times no more.
+pub(crate) fn time_calls<C: Clock, W: Write + Drop>(
+    alloc: Global,
+    stopwatch: &mut Stopwatch<'_, C, W>,
+    handler: &Counted<'_, '_>,
+    root: Root,
+) -> io::Result<()> {
+    stopwatch.time("open", handler, &|| opened(root, handler))?;
+    stopwatch.time(
+        "open and six lookups",
+        handler,
+        &|| opened_and_found(root, handler),
+    )?;
+    let Ok(tables) = root.open(handler) else {
+        return Ok(());
+    };
+    stopwatch.time("find FACP", handler, &|| place_of::<_, Fadt>(&tables))?;
+    stopwatch.time("find APIC", handler, &|| place_of::<_, Madt>(&tables))?;
+    stopwatch.time("find MCFG", handler, &|| place_of::<_, Mcfg>(&tables))?;
+    stopwatch.time("find HPET", handler, &|| place_of::<_, HpetTable>(&tables))?;
+    stopwatch.time("find BGRT", handler, &|| place_of::<_, Bgrt>(&tables))?;
+    stopwatch.time("find SPCR", handler, &|| place_of::<_, Spcr>(&tables))?;
+    stopwatch.time("six lookups", handler, &|| six_places(&tables))?;
+    stopwatch.time("headers", handler, &|| header_lengths(&tables))?;
+    stopwatch.time("ssdts", handler, &|| stream_lengths(&tables))?;
+    stopwatch.time("dsdt", handler, &|| dsdt_place(&tables))?;
+    stopwatch.time("platform", handler, &|| processors(alloc, &tables))?;
+    stopwatch.time("hpet", handler, &|| timer_place(&tables))?;
+    stopwatch.time("pci", handler, &|| function_place(alloc, &tables))
+}
+
+/// The revision of what is opened.
+fn opened<H: AcpiHandler>(root: Root, handler: &H) -> u64 {
+    match root.open(handler) {
+        Ok(tables) => u64::from(tables.revision()),
+        Err(_) => 0,
+    }
+}
+
+/// Six lookups in what is opened.
+fn opened_and_found<H: AcpiHandler>(root: Root, handler: &H) -> u64 {
+    match root.open(handler) {
+        Ok(tables) => six_places(&tables),
+        Err(_) => 0,
+    }
+}
+
+/// Where the table of a type is, or 0: what a caller does at least with what a lookup answers.
+fn place_of<H: AcpiHandler, T: AcpiTable>(tables: &AcpiTables<'_, H>) -> u64 {
+    match tables.find_table::<T>() {
+        Ok(table) => table.physical_start(),
+        Err(_) => 0,
+    }
+}
+
+/// The lookups of six tables that most machines have.
+fn six_places<H: AcpiHandler>(tables: &AcpiTables<'_, H>) -> u64 {
+    place_of::<H, Fadt>(tables)
+        ^ place_of::<H, Madt>(tables)
+        ^ place_of::<H, Mcfg>(tables)
+        ^ place_of::<H, HpetTable>(tables)
+        ^ place_of::<H, Bgrt>(tables)
+        ^ place_of::<H, Spcr>(tables)
+}
+
+/// The sum of the lengths in all headers.
+fn header_lengths<H: AcpiHandler>(tables: &AcpiTables<'_, H>) -> u64 {
+    let mut lengths: u64 = 0;
+    for header in tables.headers() {
+        lengths = lengths.wrapping_add(u64::from(header.length));
+    }
+    lengths
+}
+
+/// The sum of the lengths of all SSDTs.
+fn stream_lengths<H: AcpiHandler>(tables: &AcpiTables<'_, H>) -> u64 {
+    let mut lengths: u64 = 0;
+    for stream in tables.ssdts() {
+        lengths = lengths.wrapping_add(u64::from(stream.length));
+    }
+    lengths
+}
+
+/// Where the AML of the DSDT is.
+fn dsdt_place<H: AcpiHandler>(tables: &AcpiTables<'_, H>) -> u64 {
+    match tables.dsdt() {
+        Ok(stream) => stream.address,
+        Err(_) => 0,
+    }
+}
+
+/// How many processors the platform has beside the first.
+fn processors<H: AcpiHandler>(alloc: Global, tables: &AcpiTables<'_, H>) -> u64 {
+    match tables.platform_info(alloc) {
+        Ok(info) => match &info.processor_info {
+            Some(processors) => processors.application_processors.as_slice().len() as u64,
+            None => 1,
+        },
+        Err(_) => 0,
+    }
+}
+
+/// Where the registers of the event timers are.
+fn timer_place<H: AcpiHandler>(tables: &AcpiTables<'_, H>) -> u64 {
+    match HpetInfo::new(tables) {
+        Ok(info) => info.base_address as u64,
+        Err(_) => 0,
+    }
+}
+
+/// Where the configuration space of a PCI function is.
+fn function_place<H: AcpiHandler>(alloc: Global, tables: &AcpiTables<'_, H>) -> u64 {
+    match PciConfigRegions::new(alloc, tables) {
+        Ok(regions) => regions.physical_address(0, 0, 1, 0).unwrap_or(1),
+        Err(_) => 0,
+    }
+}

@@ -1,0 +1,67 @@
+//! What the words of a command line ask for.
+
+use acpi::{AcpiHandler, AcpiResult, AcpiTables};
+
+/// How many batches are timed where the words don't say.
+const BATCHES: u64 = 1000;
+
+/// What leads to the tables.
+#[derive(Clone, Copy)]
+pub(crate) enum Root {
+    /// The root table at an address: the RSDT for revision 0, else the XSDT.
+    Rsdt { revision: u8, address: u64 },
+    /// The RSDP at an address.
+    Rsdp { address: u64 },
+}
+
+impl Root {
+    /// The tables that it leads to.
+    pub(crate) fn open<'h, H: AcpiHandler>(self, handler: &'h H) -> AcpiResult<AcpiTables<'h, H>> {
+        match self {
+            Root::Rsdt { revision, address } => AcpiTables::from_rsdt(handler, revision, address),
+            Root::Rsdp { address } => AcpiTables::from_rsdp(handler, address),
+        }
+    }
+}
+
+/// What is to be timed.
+#[derive(Drop)]
+pub(crate) struct Order<'w> {
+    /// The name of the file of memory.
+    pub(crate) image: &'w str,
+    /// What leads to its tables.
+    pub(crate) root: Root,
+    /// How many batches of each call are timed.
+    pub(crate) batches: u64,
+}
+
+/// The order that the words behind the program's name are, or `None` where they are none.
+pub(crate) fn order_of<'w>(words: &[&'w str]) -> Option<Order<'w>> {
+    let (image, root, rest) = match words {
+        [image, "rsdt", revision, address, rest @ ..] => {
+            let revision = revision.parse().ok()?;
+            let address = address_of(address)?;
+            (image, Root::Rsdt { revision, address }, rest)
+        }
+        [image, "rsdp", address, rest @ ..] => {
+            let address = address_of(address)?;
+            (image, Root::Rsdp { address }, rest)
+        }
+        _ => return None,
+    };
+    let batches = match rest {
+        [] => BATCHES,
+        [batches] => batches.parse().ok()?,
+        _ => return None,
+    };
+    Some(Order {
+        image: *image,
+        root,
+        batches,
+    })
+}
+
+/// The address that a word spells: `0x` and hexadecimal digits.
+fn address_of(word: &str) -> Option<u64> {
+    u64::from_str_radix(word.strip_prefix("0x")?, 16).ok()
+}
