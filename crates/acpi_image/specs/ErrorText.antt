@@ -1,7 +1,9 @@
 -- How a refusal is printed.
-use Rattle.std.specs.Prelude.{ℕ, List, codes}
+use Rattle.std.specs.Prelude.{ℕ, List, ◌++◌, codes, decimal}
 use Rattle.acpi_image.specs.declared.error.ImageError.{ImageError}
 use Rattle.acpi_image.specs.declared.error.ImageError.TheVariants as refusal
+use Rattle.acpi_image.specs.declared.error.WriteError.{WriteError}
+use Rattle.acpi_image.specs.declared.error.WriteError.TheVariants as written
 
 -- the variant's name
 abbrev pub image_error_text : ImageError → List ℕ
@@ -9,3 +11,13 @@ image_error_text refusal.Truncated = codes "Truncated"
 image_error_text refusal.EndTooLarge = codes "EndTooLarge"
 image_error_text refusal.Overlap = codes "Overlap"
 image_error_text refusal.OutOfMemory = codes "OutOfMemory"
+
+-- the variant's name, and behind a space the number that it carries
+abbrev pub write_error_text : WriteError → List ℕ
+write_error_text written.ZeroRoot = codes "ZeroRoot"
+write_error_text (written.BadTable n) = codes "BadTable " ++ decimal n
+write_error_text written.TooMany = codes "TooMany"
+write_error_text written.PointerTooLarge = codes "PointerTooLarge"
+write_error_text written.EndTooLarge = codes "EndTooLarge"
+write_error_text written.Overlap = codes "Overlap"
+write_error_text written.OutOfMemory = codes "OutOfMemory"

@@ -1,4 +1,7 @@
 pub mod ErrorText
 pub mod Held
 pub mod Image
+pub mod Places
 pub mod Regions
+pub mod WriteChecks
+pub mod Written

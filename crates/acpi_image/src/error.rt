@@ -1,4 +1,4 @@
-//! The refusals of a file.
+//! The refusals of a file, and of an image to be written.
 
 use std::fmt;
 
@@ -29,6 +29,46 @@ impl fmt::Display for ImageError {
             ImageError::EndTooLarge => write!(f, "EndTooLarge"),
             ImageError::Overlap => write!(f, "Overlap"),
             ImageError::OutOfMemory => write!(f, "OutOfMemory"),
+        }
+    }
+}
+
+/// Why an image is not written.
+#[derive(Clone, Copy, Debug, PartialEq, Eq)]
+pub enum WriteError {
+    /// The root table's address is 0.
+    ZeroRoot,
+    /// The table of this index, counted from 0, has fewer than 36 bytes, a length field that is not
+    /// the number of its bytes, or a signature or an id that is no UTF-8. None before it has.
+    BadTable(usize),
+    /// The root table's length doesn't fit into four bytes.
+    TooMany,
+    /// For revision 0, the root table's address or a table's is 2^32 or above.
+    PointerTooLarge,
+    /// A record's start and length add up to more than 2^64 - 1.
+    EndTooLarge,
+    /// Two records share a byte.
+    Overlap,
+    /// The allocator refused to grow.
+    OutOfMemory,
+}
+
+/// The variant's name, and behind a space the index that it carries.
+impl fmt::Display for WriteError {
+    ghost use Rattle.std.specs.Prelude.{Some};
+    ghost use Rattle.acpi_image.specs.ErrorText.{write_error_text};
+
+    ghost output = { λ e. Some (write_error_text e) };
+
+    fn fmt<W: fmt::Write>(&self, f: &mut fmt::Formatter<W>) -> fmt::Result {
+        match self {
+            WriteError::ZeroRoot => write!(f, "ZeroRoot"),
+            WriteError::BadTable(index) => write!(f, "BadTable {index}"),
+            WriteError::TooMany => write!(f, "TooMany"),
+            WriteError::PointerTooLarge => write!(f, "PointerTooLarge"),
+            WriteError::EndTooLarge => write!(f, "EndTooLarge"),
+            WriteError::Overlap => write!(f, "Overlap"),
+            WriteError::OutOfMemory => write!(f, "OutOfMemory"),
         }
     }
 }

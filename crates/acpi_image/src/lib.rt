@@ -1,4 +1,5 @@
-//! Physical memory from a file of bytes, as a handler that lends it.
+//! Physical memory from a file of bytes, as a handler that lends it, and files of memory that hold
+//! given tables.
 #![tactic(auto)]
 
 mod error;
@@ -8,5 +9,7 @@ mod reader;
 mod record;
 #[cfg(test)]
 mod tests;
+pub mod write;
 
 pub use image::{ImageError, MemoryImage};
+pub use write::{PlacedTable, WriteError, write_image};

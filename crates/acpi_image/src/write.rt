@@ -1,0 +1,63 @@
+//! Files of memory that hold given tables.
+ghost use Rattle.std.specs.Prelude.{◌≡◌, IfErr, OnOk};
+ghost use Rattle.acpi_image.specs.WriteChecks.{WritesOrRunsOut, written};
+ghost use Rattle.acpi_image.specs.Written.{plan};
+
+mod checks;
+mod records;
+
+pub use crate::error::WriteError;
+use checks::check_plan;
+use records::put_records;
+use std::alloc::{Allocator, Global};
+
+/// A table, and where it is to lie.
+#[derive(Clone, Copy)]
+pub struct PlacedTable<'a> {
+    /// Its physical address.
+    pub address: u64,
+    /// Its bytes. Whatever its byte 9 is, the table that is written has the one that makes its sum 0.
+    pub bytes: &'a [u8],
+}
+
+/// The file of `write_image`, in memory of this allocator.
+#[tactic(auto, unfolding(crate::specs::WriteChecks::written))]
+pub(crate) fn write_in<A: Allocator>(
+    alloc: A,
+    rsdp_address: u64,
+    root_address: u64,
+    revision: u8,
+    tables: &[PlacedTable<'_>],
+) -> Result<Vec<u8, A>, WriteError>
+    ensures { WritesOrRunsOut (λ v. v.items) result
+        (written (plan rsdp_address root_address revision tables.now)) }
+{
+    check_plan(rsdp_address, root_address, revision, tables)?;
+    let mut file = Vec::new(alloc);
+    put_records(&mut file, rsdp_address, root_address, revision, tables)?;
+    Ok(file)
+}
+
+/// A file of memory, as `MemoryImage` reads it, that holds an RSDP of this revision, the root table
+/// that it leads to, an RSDT for revision 0 and otherwise an XSDT, and these tables, which the root
+/// table lists in order. Byte 9 of each table is set so that the table sums to 0.
+///
+/// Refuses, in this order, with `ZeroRoot` where the root table's address is 0, `BadTable` for the
+/// first table that has under 36 bytes, or whose length field is not the number of its bytes, or
+/// whose signature or ids are no UTF-8, `TooMany` where the root table's length is 2^32 or above,
+/// `PointerTooLarge` where for revision 0 the root table's address or a table's is 2^32 or above,
+/// `EndTooLarge` where a record's start and length add up to more than 2^64 - 1, `Overlap` where two
+/// records share a byte, and `OutOfMemory` where a growth is refused (sections 5.2.5.3, 5.2.7 and
+/// 5.2.8).
+pub fn write_image(
+    alloc: Global,
+    rsdp_address: u64,
+    root_address: u64,
+    revision: u8,
+    tables: &[PlacedTable<'_>],
+) -> Result<Vec<u8>, WriteError>
+    ensures exact { WritesOrRunsOut (λ v. v.items) result
+        (written (plan rsdp_address root_address revision tables.now)) }
+{
+    write_in(alloc, rsdp_address, root_address, revision, tables)
+}

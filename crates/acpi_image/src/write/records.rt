@@ -1,0 +1,247 @@
+//! The records of a written image, put into a file one behind the other.
+ghost use Rattle.std.specs.Prelude.{◌≡◌, ◌^◌, ◌<◌, ◌≤◌, ◌++◌, length, flat_map, IfErr, OnOk};
+ghost use Rattle.std.specs.List.{AllByRecursion};
+ghost use Rattle.acpi.specs.Root.{kind_of_revision, width_of};
+ghost use Rattle.acpi_base.specs.Bytes.{spelling};
+ghost use Rattle.acpi_image.specs.Image.{record_spelling};
+ghost use Rattle.acpi_image.specs.Written.{placed, placed_region, plan, records_of, root_header};
+ghost use Rattle.acpi_image.specs.Written.{root_length, root_record, root_to, rsdp_record};
+ghost use Rattle.acpi_image.specs.Written.{rsdp_to, rsdp_unsummed, starts_of, summed, with_sum};
+ghost use Rattle.acpi_image.specs.declared.error.WriteError.TheVariants.{OutOfMemory};
+
+use crate::error::WriteError;
+use crate::write::PlacedTable;
+use crate::write::checks::{root_length, signature, width};
+use acpi_base::Signature;
+use acpi_base::bytes::byte_sum;
+use std::alloc::Allocator;
+
+/// Sets the byte at an offset so that all sum to 0 modulo 256.
+#[tactic(auto, unfolding(crate::specs::Written::with_sum, crate::specs::Written::sum_byte))]
+fn set_sum(bytes: &mut [u8], offset: usize)
+    requires { offset < length bytes.old }
+    ensures { bytes.new ≡ with_sum offset bytes.old }
+{
+    bytes[offset] = 0;
+    bytes[offset] = 0u8.wrapping_sub(byte_sum(bytes));
+}
+
+/// An RSDP whose checksums are 0 (section 5.2.5.3).
+#[tactic(auto, unfolding(crate::specs::Written::rsdp_unsummed))]
+fn rsdp_unsummed(revision: u8, rsdt: u64, count: u64, xsdt: u64) -> [u8; 36]
+    ensures { result ≡ rsdp_unsummed revision rsdt count xsdt }
+{
+    let mut rsdp = [0; 36];
+    rsdp[..8].copy_from_slice(b"RSD PTR ");
+    rsdp[9..15].copy_from_slice(b"      ");
+    rsdp[15] = revision;
+    rsdp[16..20].copy_from_slice(&rsdt.to_le_bytes()[..4]);
+    rsdp[20..24].copy_from_slice(&count.to_le_bytes()[..4]);
+    rsdp[24..32].copy_from_slice(&xsdt.to_le_bytes());
+    rsdp
+}
+
+/// The RSDP of a revision that leads to the root table at an address.
+#[tactic(auto, unfolding(crate::specs::Written::rsdp_to, crate::specs::Written::with_first_sum))]
+fn rsdp_to(revision: u8, root: u64) -> [u8; 36]
+    ensures { result ≡ rsdp_to revision root }
+{
+    if revision == 0 {
+        let mut rsdp = rsdp_unsummed(0, root, 0, 0);
+        set_sum(&mut rsdp[..20], 8);
+        rsdp
+    } else {
+        let mut rsdp = rsdp_unsummed(revision, 0, 36, root);
+        set_sum(&mut rsdp[..20], 8);
+        set_sum(&mut rsdp, 32);
+        rsdp
+    }
+}
+
+/// Puts bytes behind those of a file.
+///
+/// Refuses with `OutOfMemory` where there is none for them.
+fn put<A: Allocator>(file: &mut Vec<u8, A>, bytes: &[u8]) -> Result<(), WriteError>
+    ensures put { OnOk result (file.new.items ≡ file.old.items ++ bytes.now) }
+    ensures refused { IfErr result (λ e. e ≡ OutOfMemory) }
+{
+    match file.extend_from_slice(bytes) {
+        Ok(()) => Ok(()),
+        Err(_) => Err(WriteError::OutOfMemory),
+    }
+}
+
+/// Puts the low bytes of a number, the lowest first.
+///
+/// Refuses with `OutOfMemory`.
+#[tactic(auto, using(crate::proofs::Written::low_bytes))]
+fn put_number<A: Allocator>(
+    file: &mut Vec<u8, A>,
+    number: u64,
+    width: usize,
+) -> Result<(), WriteError>
+    requires { width ≤ 8 }
+    ensures put { OnOk result (file.new.items ≡ file.old.items ++ spelling width number) }
+    ensures refused { IfErr result (λ e. e ≡ OutOfMemory) }
+{
+    put(file, &number.to_le_bytes()[..width])
+}
+
+/// Puts what a record begins with: its start, and how many bytes it has.
+///
+/// Refuses with `OutOfMemory`.
+fn put_head<A: Allocator>(
+    file: &mut Vec<u8, A>,
+    start: u64,
+    count: usize,
+) -> Result<(), WriteError>
+    ensures put { OnOk result
+        (file.new.items ≡ file.old.items ++ spelling 8 start ++ spelling 8 count) }
+    ensures refused { IfErr result (λ e. e ≡ OutOfMemory) }
+{
+    put_number(file, start, 8)?;
+    put_number(file, count as u64, 8)
+}
+
+/// Puts the record of an RSDP.
+///
+/// Refuses with `OutOfMemory`.
+fn put_rsdp<A: Allocator>(
+    file: &mut Vec<u8, A>,
+    address: u64,
+    revision: u8,
+    root: u64,
+) -> Result<(), WriteError>
+    ensures put { OnOk result (file.new.items
+        ≡ file.old.items ++ record_spelling (rsdp_record address revision root)) }
+    ensures refused { IfErr result (λ e. e ≡ OutOfMemory) }
+{
+    put_head(file, address, 36)?;
+    put(file, &rsdp_to(revision, root))
+}
+
+/// Puts a root table's header, whose checksum is 0 (section 5.2.6).
+///
+/// Refuses with `OutOfMemory`.
+#[tactic(auto, unfolding(crate::specs::Written::root_header))]
+fn put_header<A: Allocator>(
+    file: &mut Vec<u8, A>,
+    signature: Signature,
+    length: usize,
+) -> Result<(), WriteError>
+    ensures put { OnOk result
+        (file.new.items ≡ file.old.items ++ root_header signature length) }
+    ensures refused { IfErr result (λ e. e ≡ OutOfMemory) }
+{
+    put(file, &signature.to_bytes())?;
+    put_number(file, length as u64, 4)?;
+    put(file, &[1, 0])?;
+    put(file, b"      ")?;
+    put(file, b"        ")?;
+    put(file, &[0; 12])
+}
+
+/// Puts the addresses of tables, in order, as pointers of this width.
+///
+/// Refuses with `OutOfMemory`.
+fn put_pointers<A: Allocator>(
+    file: &mut Vec<u8, A>,
+    revision: u8,
+    tables: &[PlacedTable<'_>],
+) -> Result<(), WriteError>
+    ensures put { let width = width_of (kind_of_revision revision) in
+        OnOk result (file.new.items
+        ≡ file.old.items ++ flat_map (spelling width) (starts_of (placed tables.now))) }
+    ensures refused { IfErr result (λ e. e ≡ OutOfMemory) }
+{
+    let width = width(revision);
+    for table in tables {
+        put_number(file, table.address, width)?;
+    }
+    Ok(())
+}
+
+/// Puts a root table that lists these tables.
+///
+/// Refuses with `OutOfMemory`.
+#[tactic(auto, using(crate::proofs::Written::root_is_long))]
+fn put_root_table<A: Allocator>(
+    file: &mut Vec<u8, A>,
+    revision: u8,
+    tables: &[PlacedTable<'_>],
+) -> Result<(), WriteError>
+    requires { root_length (kind_of_revision revision) (length tables.now) < 2 ^ 32 }
+    ensures put { let pointers = starts_of (placed tables.now) in
+        OnOk result (file.new.items
+        ≡ file.old.items ++ root_to (kind_of_revision revision) pointers) }
+    ensures refused { IfErr result (λ e. e ≡ OutOfMemory) }
+{
+    let start = file.len();
+    put_header(file, signature(revision), root_length(revision, tables.len()))?;
+    put_pointers(file, revision, tables)?;
+    set_sum(&mut file[start..], 9);
+    Ok(())
+}
+
+/// Puts the record of the root table.
+///
+/// Refuses with `OutOfMemory`.
+#[tactic(auto, using(crate::proofs::Written::root_head))]
+fn put_root<A: Allocator>(
+    file: &mut Vec<u8, A>,
+    address: u64,
+    revision: u8,
+    tables: &[PlacedTable<'_>],
+) -> Result<(), WriteError>
+    requires { root_length (kind_of_revision revision) (length tables.now) < 2 ^ 32 }
+    ensures put { let pointers = starts_of (placed tables.now) in
+        OnOk result (file.new.items ≡ file.old.items
+        ++ record_spelling (root_record (kind_of_revision revision) address pointers)) }
+    ensures refused { IfErr result (λ e. e ≡ OutOfMemory) }
+{
+    put_head(file, address, root_length(revision, tables.len()))?;
+    put_root_table(file, revision, tables)
+}
+
+/// Puts the record of a table, with byte 9 set.
+///
+/// Refuses with `OutOfMemory`.
+fn put_table<A: Allocator>(
+    file: &mut Vec<u8, A>,
+    table: &PlacedTable<'_>,
+) -> Result<(), WriteError>
+    requires { 36 ≤ length table.now.bytes.now }
+    ensures put { OnOk result (file.new.items
+        ≡ file.old.items ++ record_spelling (summed (placed_region table.now))) }
+    ensures refused { IfErr result (λ e. e ≡ OutOfMemory) }
+{
+    put_head(file, table.address, table.bytes.len())?;
+    let start = file.len();
+    put(file, table.bytes)?;
+    set_sum(&mut file[start..], 9);
+    Ok(())
+}
+
+/// Puts the records of an image: of the RSDP, of the root table, and of each table in order.
+///
+/// Refuses with `OutOfMemory`.
+pub(super) fn put_records<A: Allocator>(
+    file: &mut Vec<u8, A>,
+    rsdp_address: u64,
+    root_address: u64,
+    revision: u8,
+    tables: &[PlacedTable<'_>],
+) -> Result<(), WriteError>
+    requires short { root_length (kind_of_revision revision) (length tables.now) < 2 ^ 32 }
+    requires long { AllByRecursion (λ t. 36 ≤ length t.bytes) (placed tables.now) }
+    ensures put { let p = plan rsdp_address root_address revision tables.now in OnOk result
+        (file.new.items ≡ file.old.items ++ flat_map record_spelling (records_of p)) }
+    ensures refused { IfErr result (λ e. e ≡ OutOfMemory) }
+{
+    put_rsdp(file, rsdp_address, revision, root_address)?;
+    put_root(file, root_address, revision, tables)?;
+    for table in tables {
+        put_table(file, table)?;
+    }
+    Ok(())
+}
