@@ -1,3 +1,4 @@
+pub mod Checked
 pub mod Images
 pub mod Places
 pub mod Records

@@ -1,16 +1,18 @@
 -- How many bytes are written, and how numbers are spelled there.
 use Rattle.std.proofs.Common.{◌≡◌, ℕ, zero, suc, ◌+◌, ◌-◌, ◌*◌, ◌/◌, ◌%◌, ◌^◌, ◌<◌, ◌≤◌, Bool, true, false, List, [], ◌∷◌, ◌++◌, length, take, drop, map, set, refl, sym, ap, ◌∙◌, arith, if◌then◌else◌, w64}
-use Rattle.std.specs.Prelude.{flat_map, replicate}
+use Rattle.std.specs.Prelude.{OnOk, Result, Ok, Err, flat_map, replicate}
+use Rattle.acpi_image.specs.Image.{record_spelling}
+use Rattle.acpi_image.specs.declared.error.WriteError.{WriteError}
 use Rattle.std.specs.Int.{from_le_bytes, to_le_bytes}
 use Rattle.std.proofs.lemmas.Nat.{le_bytes_8}
-use Rattle.std.proofs.lemmas.List.{length-append, length-replicate, length-set, append-nil, take-append-drop, take_all}
+use Rattle.std.proofs.lemmas.List.{length-append, length-replicate, length-set, append_assoc, append-nil, take-append-drop, take_all}
 use Rattle.acpi_base.specs.Bytes.{IsBytes, filled_part, spelling}
 use Rattle.acpi_base.proofs.Numbers.{number_filled}
 use Rattle.acpi_base.proofs.Spelling.{length-spelling, number-spelling}
 use Rattle.acpi.specs.Root.{signature_of, width_of}
 use Rattle.acpi.specs.declared.root.RootKind.{RootKind}
 use Rattle.acpi.specs.declared.root.RootKind.TheVariants.{Rsdt, Xsdt}
-use Rattle.acpi_image.specs.Written.{root_header, root_length, root_to, root_unsummed, rsdp_to, rsdp_unsummed, sum_byte, with_first_sum, with_sum}
+use Rattle.acpi_image.specs.Written.{root_header, root_length, root_record, root_to, root_unsummed, rsdp_to, rsdp_unsummed, sum_byte, with_first_sum, with_sum}
 
 pub length-with_sum : (offset : ℕ) (bytes : List ℕ) → length (with_sum offset bytes) ≡ length bytes
 unfolding with_sum
@@ -53,12 +55,13 @@ length-root_unsummed kind ps =
 pub length-root_to : (kind : RootKind) (ps : List ℕ) → length (root_to kind ps) ≡ root_length kind (length ps)
 length-root_to kind ps = length-with_sum 9 (root_unsummed kind ps) ∙ length-root_unsummed kind ps
 
-pub root_is_long : (kind : RootKind) (ps : List ℕ) → 36 ≤ length (root_unsummed kind ps)
-root_is_long kind ps = omega (arith, length-root_unsummed kind ps)
-
--- what the record of a root table begins with
-pub root_head : (kind : RootKind) (ps : List ℕ) → spelling 8 (length (root_to kind ps)) ≡ spelling 8 (root_length kind (length ps))
-root_head kind ps = ap (spelling 8) (length-root_to kind ps)
+-- a root table behind what its record begins with
+pub root_record_put : {R : Type 0} (r : Result R WriteError) (kind : RootKind) (a : ℕ) (ps before head now : List ℕ)
+    → head ≡ before ++ spelling 8 a ++ spelling 8 (root_length kind (length ps)) → OnOk r (now ≡ head ++ root_to kind ps)
+    → OnOk r (now ≡ before ++ record_spelling (root_record kind a ps))
+root_record_put (Ok x) kind a ps before head now e put =
+    put ∙ rw (e, length-root_to, append_assoc, append_assoc) refl
+root_record_put (Err x) kind a ps before head now e put = tt
 
 -- ---- numbers
 

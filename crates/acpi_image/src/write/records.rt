@@ -1,6 +1,6 @@
 //! The records of a written image, put into a file one behind the other.
 ghost use Rattle.std.specs.Prelude.{◌≡◌, ◌^◌, ◌<◌, ◌≤◌, ◌++◌, length, flat_map, IfErr, OnOk};
-ghost use Rattle.std.specs.List.{AllByRecursion};
+ghost use Rattle.std.specs.List.{All};
 ghost use Rattle.acpi.specs.Root.{kind_of_revision, width_of};
 ghost use Rattle.acpi_base.specs.Bytes.{spelling};
 ghost use Rattle.acpi_image.specs.Image.{record_spelling};
@@ -164,7 +164,6 @@ fn put_pointers<A: Allocator>(
 /// Puts a root table that lists these tables.
 ///
 /// Refuses with `OutOfMemory`.
-#[tactic(auto, using(crate::proofs::Written::root_is_long))]
 fn put_root_table<A: Allocator>(
     file: &mut Vec<u8, A>,
     revision: u8,
@@ -186,7 +185,6 @@ fn put_root_table<A: Allocator>(
 /// Puts the record of the root table.
 ///
 /// Refuses with `OutOfMemory`.
-#[tactic(auto, using(crate::proofs::Written::root_head))]
 fn put_root<A: Allocator>(
     file: &mut Vec<u8, A>,
     address: u64,
@@ -233,7 +231,7 @@ pub(super) fn put_records<A: Allocator>(
     tables: &[PlacedTable<'_>],
 ) -> Result<(), WriteError>
     requires short { root_length (kind_of_revision revision) (length tables.now) < 2 ^ 32 }
-    requires long { AllByRecursion (λ t. 36 ≤ length t.bytes) (placed tables.now) }
+    requires long { All (λ t. 36 ≤ length t.bytes.now) tables.now }
     ensures put { let p = plan rsdp_address root_address revision tables.now in OnOk result
         (file.new.items ≡ file.old.items ++ flat_map record_spelling (records_of p)) }
     ensures refused { IfErr result (λ e. e ≡ OutOfMemory) }
