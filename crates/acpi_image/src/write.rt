@@ -5,6 +5,8 @@ ghost use Rattle.acpi_image.specs.Written.{plan};
 
 mod checks;
 mod records;
+#[cfg(test)]
+mod tests;
 
 pub use crate::error::WriteError;
 use checks::check_plan;
