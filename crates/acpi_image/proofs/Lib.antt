@@ -1,7 +1,12 @@
 pub mod Checked
 pub mod Images
+pub mod Placed
 pub mod Places
 pub mod Records
 pub mod Rest
 pub mod Sharing
+pub mod Summed
 pub mod Written
+pub mod WrittenLaws
+pub mod WrittenRoot
+pub mod WrittenRsdp

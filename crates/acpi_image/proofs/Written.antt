@@ -22,7 +22,7 @@ pub length-rsdp_unsummed : (revision rsdt count xsdt : ℕ) → length (rsdp_uns
 unfolding rsdp_unsummed spelling
 length-rsdp_unsummed revision rsdt count xsdt = refl
 
-length-with_first_sum : (bytes : List ℕ) → length (with_first_sum bytes) ≡ length bytes
+pub length-with_first_sum : (bytes : List ℕ) → length (with_first_sum bytes) ≡ length bytes
 unfolding with_first_sum
 length-with_first_sum bytes =
     length-append (with_sum 8 (take 20 bytes)) (drop 20 bytes) ∙ ap (λ n. n + length (drop 20 bytes)) (length-with_sum 8 (take 20 bytes))

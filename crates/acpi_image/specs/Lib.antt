@@ -4,4 +4,5 @@ pub mod Image
 pub mod Places
 pub mod Regions
 pub mod WriteChecks
+pub mod WriteLaws
 pub mod Written

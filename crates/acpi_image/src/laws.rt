@@ -1,6 +1,8 @@
 //! Laws of this crate's types: each is the contract of a call that does nothing else.
 ghost use Rattle.acpi_base.specs.Equality.{IsEquality};
 
+pub mod written;
+
 use crate::error::{ImageError, WriteError};
 
 /// Whether two refusals are the same: `==` says so exactly where their variants are equal.
