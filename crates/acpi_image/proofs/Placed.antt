@@ -34,7 +34,7 @@ module _ (m : Memory) (r : Region) (h : IsMemory m) (c : Contains m r) where
   at_start : (n : ℕ) → 0 < n → n ≤ length r.bytes → at m r.start n ≡ Some (take n r.bytes)
   at_start n some fits =
       let none : r.start - r.start ≡ 0 = omega arith in
-      (lent_is_inside m r.start n (take n r.bytes) h some).1 (r, (c, record { starts = omega arith; ends = omega arith; there = rw none refl }))
+      (lent_is_inside m r.start n (take n r.bytes) h some).1 (r, c, record { starts = omega arith; ends = omega arith; there = rw none refl })
 
   pub lent_start : (n : ℕ) → 0 < n → n ≤ length r.bytes → lent m r.start n ≡ Ok (take n r.bytes)
   lent_start n some fits = rw (at_start n some fits) refl

@@ -1,5 +1,5 @@
 -- The RSDP that is written is valid, and leads to the root table that is written.
-use Rattle.std.proofs.Common.{◌≡◌, ℕ, ◌+◌, ◌^◌, ◌<◌, ◌≤◌, Bool, true, false, List, [], ◌∷◌, ◌++◌, length, take, drop, set, Option, Some, None, Result, Ok, Err, refl, sym, ap, ◌∙◌, arith, lit≤, lit<, if◌then◌else◌}
+use Rattle.std.proofs.Common.{◌≡◌, ℕ, ◌+◌, ◌^◌, ◌<◌, ◌≤◌, Bool, true, false, List, [], ◌∷◌, ◌++◌, length, take, drop, set, Option, Some, None, Result, Ok, Err, refl, sym, ap, subst, ◌∙◌, arith, lit≤, lit<, if◌then◌else◌}
 use Rattle.std.specs.Prelude.{◌==◌, replicate}
 use Rattle.std.specs.List.{Contains}
 use Rattle.std.specs.Str.{bytes_eq, chars, is_utf8}
@@ -10,7 +10,8 @@ use Rattle.acpi_base.specs.Bytes.{field_of, number, part, spelling, sum_of}
 use Rattle.acpi_base.specs.Memory.{Memory, Region, IsMemory}
 use Rattle.acpi_base.specs.Steps.{lent}
 use Rattle.acpi_base.specs.declared.error.AcpiError.{AcpiError}
-use Rattle.acpi.specs.Root.{kind_of_revision, place}
+use Rattle.acpi.specs.Root.{place, root_of_revision}
+use Rattle.acpi.specs.declared.root.RootKind.TheVariants.{Rsdt, Xsdt}
 use Rattle.acpi.specs.Rsdp.{check_first, check_length, check_sum, check_whole_at, length_of, root_of_rsdp, rsd_ptr, rsdp_at, rsdp_of}
 use Rattle.acpi_image.proofs.Placed.{lent_start}
 use Rattle.acpi_image.proofs.Summed.{sum_is_set}
@@ -100,9 +101,83 @@ module _ (revision rsdt count xsdt x y : ℕ) where
   unfolding is_utf8 chars lib.Utf8.encode
   is_text = refl
 
-  pub first_passes : sum_of (take 20 bytes) ≡ 0 → check_first bytes ≡ Ok tt
+  first_passes : sum_of (take 20 bytes) ≡ 0 → check_first bytes ≡ Ok tt
   unfolding check_first check_sum
   first_passes zero_sum =
       let signature : (rsdp_of bytes).signature ≡ rsd_ptr = rsdp_signature bytes ∙ signature_is in
       let id : (rsdp_of bytes).oem_id ≡ spaces 6 = rsdp_id bytes ∙ id_is in
       rw (signature, id, is_text, zero_sum) refl
+
+  revision_of : (rsdp_of bytes).revision ≡ revision
+  revision_of = rsdp_revision bytes ∙ revision_is
+
+  lengths : sum_of (take 20 bytes) ≡ 0 → length_of bytes ≡ check_length (if revision == 0 then None else Some (number (spelling 4 count)))
+  unfolding length_of
+  lengths zero_sum =
+      let many : (rsdp_of bytes).length ≡ number (spelling 4 count) = rsdp_length bytes ∙ count_is in
+      rw (first_passes zero_sum, revision_of, many) refl
+
+  leads : root_of_rsdp bytes ≡ (if revision == 0 then place revision Rsdt (number (spelling 4 rsdt)) else place revision Xsdt (number (spelling 8 xsdt)))
+  leads =
+      let first : (rsdp_of bytes).rsdt_address ≡ number (spelling 4 rsdt) = rsdp_rsdt bytes ∙ rsdt_is in
+      let second : (rsdp_of bytes).xsdt_address ≡ number (spelling 8 xsdt) = rsdp_xsdt bytes ∙ xsdt_is in
+      rw (revision_of, first, second) refl
+
+-- ---- the two forms
+
+never : {b : Bool} → b ≡ true → b ≡ false → ⊥
+never e f = absurd cc
+
+abbrev done : List ℕ → Result (List ℕ) AcpiError
+done x = Ok x
+
+-- what is tested of an RSDP, and what it leads to
+pub record IsRsdp (revision root : ℕ) (b : List ℕ) : Type 0 where
+  pub many : length_of b ≡ check_length (if revision == 0 then None else Some 36)
+  pub whole : (revision == 0) ≡ false → sum_of b ≡ 0
+  pub leads_to : root_of_rsdp b ≡ root_of_revision revision root
+
+first_form : (revision root : ℕ) → (revision == 0) ≡ true → root < 2 ^ 32 → IsRsdp revision root (with_first_sum (rsdp_unsummed revision root 0 0))
+first_form revision root first small =
+    let x = first_byte revision root 0 0 in
+    subst (λ (b : List ℕ). IsRsdp revision root b) (sym (first_is revision root 0 0)) (record {
+      many = lengths revision root 0 0 x 0 (front_sum revision root 0 0 0) ∙ rw first refl;
+      whole = λ other. absurd (never first other);
+      leads_to = leads revision root 0 0 x 0 ∙ rw (first, number-spelling 4 root small) refl;
+    })
+
+second_form : (revision root : ℕ) → (revision == 0) ≡ false → root < 2 ^ 64 → IsRsdp revision root (with_sum 32 (with_first_sum (rsdp_unsummed revision 0 36 root)))
+second_form revision root later small =
+    let x = first_byte revision 0 36 root in
+    let y = sum_byte 32 (shape revision 0 36 root x 0) in
+    let same : with_sum 32 (with_first_sum (rsdp_unsummed revision 0 36 root)) ≡ shape revision 0 36 root x y = ap (with_sum 32) (first_is revision 0 36 root) ∙ second_is revision 0 36 root x in
+    let summed = sum_is_set 32 (with_first_sum (rsdp_unsummed revision 0 36 root)) (omega (arith, length-with_first_sum (rsdp_unsummed revision 0 36 root), length-rsdp_unsummed revision 0 36 root)) in
+    subst (λ (b : List ℕ). IsRsdp revision root b) (sym same) (record {
+      many = lengths revision 0 36 root x y (front_sum revision 0 36 root y) ∙ rw (later, number-spelling 4 36 (lit< tt)) refl;
+      whole = λ other. rw same at summed;
+      leads_to = leads revision 0 36 root x y ∙ rw (later, number-spelling 8 root small) refl;
+    })
+
+by_form : (first : Bool) (revision root : ℕ) → (revision == 0) ≡ first → root < 2 ^ 64 → (first ≡ true → root < 2 ^ 32)
+    → IsRsdp revision root (if first then with_first_sum (rsdp_unsummed revision root 0 0) else with_sum 32 (with_first_sum (rsdp_unsummed revision 0 36 root)))
+by_form true revision root e small less = first_form revision root e (less refl)
+by_form false revision root e small less = second_form revision root e small
+
+pub is_rsdp : (revision root : ℕ) → root < 2 ^ 64 → ((revision == 0) ≡ true → root < 2 ^ 32) → IsRsdp revision root (rsdp_to revision root)
+unfolding rsdp_to
+is_rsdp revision root small less = by_form (revision == 0) revision root refl small less
+
+-- ---- at its address
+
+module _ (m : Memory) (r : Region) (h : IsMemory m) (c : Contains m r) (long : length r.bytes ≡ 36) where
+  lent_whole : lent m r.start 36 ≡ Ok r.bytes
+  lent_whole = lent_start m r h c 36 (lit≤ tt) (omega arith) ∙ ap done (take_all 36 r.bytes (omega arith))
+
+  there_by : (first : Bool) → length_of r.bytes ≡ check_length (if first then None else Some 36) → (first ≡ false → sum_of r.bytes ≡ 0) → rsdp_at m r.start ≡ Ok r.bytes
+  unfolding rsdp_at check_sum
+  there_by true many whole = rw (lent_whole, many) refl
+  there_by false many whole = rw (lent_whole, many, lent_whole, whole refl) refl
+
+  -- the RSDP that fills a region is valid at its address
+  pub rsdp_there : (revision root : ℕ) → IsRsdp revision root r.bytes → rsdp_at m r.start ≡ Ok r.bytes
+  rsdp_there revision root is = there_by (revision == 0) is.many is.whole
