@@ -8,5 +8,7 @@ pub mod Sharing
 pub mod Summed
 pub mod Written
 pub mod WrittenLaws
+pub mod WrittenMemory
 pub mod WrittenRoot
 pub mod WrittenRsdp
+pub mod WrittenTables
