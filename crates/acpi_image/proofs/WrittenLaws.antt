@@ -1,13 +1,20 @@
 -- What is written is read back, opened, and has the tables that were placed.
-use Rattle.std.proofs.Common.{◌≡◌, ℕ, ◌^◌, ◌<◌, List, ◌∷◌, drop, length, map, Result, Ok, refl, sym, ap, subst, ◌∙◌, arith, true, false}
-use Rattle.std.specs.Prelude.{◌==◌, flat_map}
+use Rattle.std.proofs.Common.{◌≡◌, ℕ, ◌^◌, ◌<◌, List, ◌∷◌, drop, length, map, Result, Ok, Err, refl, sym, ap, subst, ◌∙◌, arith, true, false}
+use Rattle.std.specs.Prelude.{◌==◌, IfOk, flat_map}
 use Rattle.std.specs.List.{AllByRecursion, Contains}
 use Rattle.std.proofs.lemmas.Bool.{ltb-true}
 use Rattle.std.proofs.lemmas.List.{length-map}
 use Rattle.acpi_base.proofs.Steps.{bind_ok}
 use Rattle.acpi_base.specs.Bytes.{IsBytes}
 use Rattle.acpi_base.specs.Memory.{Memory, IsMemory}
-use Rattle.acpi.specs.Lists.{valid_tables}
+use Rattle.acpi_base.specs.Steps.{◌>>=◌}
+use Rattle.acpi_base.specs.declared.error.AcpiError.{AcpiError}
+use Rattle.acpi.proofs.Moved.{headers_follow, hpet_follows, in_ok_follows, platform_follows, regions_follow}
+use Rattle.acpi.specs.Hpet.{hpet_of}
+use Rattle.acpi.specs.Lists.{valid_headers, valid_tables}
+use Rattle.acpi.specs.Pci.{found_regions}
+use Rattle.acpi.specs.Platform.{platform_of}
+use Rattle.acpi.specs.Relocation.{FollowsTables}
 use Rattle.acpi.specs.Opened.{opened_by_rsdp}
 use Rattle.acpi.specs.Root.{pointers, root_at, root_of_revision, width_of}
 use Rattle.acpi.specs.Rsdp.{root_of_rsdp, rsdp_at}
@@ -20,8 +27,8 @@ use Rattle.acpi_image.proofs.WrittenRoot.{pointers_are, root_there}
 use Rattle.acpi_image.proofs.WrittenRsdp.{IsRsdp, is_rsdp, rsdp_there}
 use Rattle.acpi_image.proofs.WrittenTables.{sums_are_set, tables_there}
 use Rattle.acpi_image.specs.Image.{record_spelling}
-use Rattle.acpi_image.specs.WriteChecks.{check_plan, written}
-use Rattle.acpi_image.specs.WriteLaws.{IsWritten, WrittenIsRead, opened_of, said_of}
+use Rattle.acpi_image.specs.WriteChecks.{WritesOrRunsOut, check_plan, written}
+use Rattle.acpi_image.specs.WriteLaws.{IsWritten, SaysOfTables, WrittenIsRead, opened_of, said_of}
 use Rattle.acpi_image.specs.declared.error.WriteError.{WriteError}
 use Rattle.acpi_image.specs.Written.{Plan, kind_of, pointers_of, records_of, root_length, root_to, rsdp_record, rsdp_to, tables_of}
 
@@ -32,6 +39,12 @@ record Facts (p : Plan) (file : List ℕ) : Type 0 where
 
 abbrev done : List ℕ → Result (List ℕ) WriteError
 done x = Ok x
+
+abbrev lists : List (List ℕ) → Result (List (List ℕ)) AcpiError
+lists x = Ok x
+
+same_lists : (x y : List (List ℕ)) → lists x ≡ lists y → x ≡ y
+same_lists x y e = cc
 
 same_file : (x y : List ℕ) → done x ≡ done y → x ≡ y
 same_file x y e = cc
@@ -69,8 +82,11 @@ module _ (p : Plan) (ok : Passed p) (memory : IsMemory (records_of p)) where
   opened_is : opened_by_rsdp (records_of p) p.rsdp ≡ Ok (opened_of p)
   opened_is = rw (rsdp_is, rsdp_tested.leads_to, root_is) refl
 
+  valid_are : valid_tables (records_of p) (pointers_of p) ≡ tables_of p
+  valid_are = tables_there (records_of p) p.tables memory (every_in (records_of p)).1.1 (are_tables 0 p.tables tt ok.tables)
+
   tables_are : said_of p (λ m ps. Ok (valid_tables m ps)) ≡ Ok (tables_of p)
-  tables_are = rw (root_is, pointers_there, tables_there (records_of p) p.tables memory (every_in (records_of p)).1.1 (are_tables 0 p.tables tt ok.tables)) refl
+  tables_are = rw (root_is, pointers_there, valid_are) refl
 
 pub written_is_read : WrittenIsRead
 written_is_read p file bytes e =
@@ -85,3 +101,40 @@ written_is_read p file bytes e =
       tables = tables_are p known.ok memory;
       sums = sums_are_set p.tables (are_tables 0 p.tables tt known.ok.tables);
     }
+
+-- ---- wherever the tables lie
+
+moved_by : {A : Type 0} (n : Memory) (r : Result (List ℕ) AcpiError) (pointers_in : List ℕ → List ℕ) (ts : List (List ℕ))
+    (defined : Memory → List ℕ → Result A AcpiError) (said : Result A AcpiError) → ((qs : List ℕ) → valid_tables n qs ≡ ts → defined n qs ≡ said)
+    → (r >>= λ root. lists (valid_tables n (pointers_in root))) ≡ Ok ts → (r >>= λ root. defined n (pointers_in root)) ≡ said
+moved_by n (Ok root) pointers_in ts defined said each e = each (pointers_in root) (same_lists _ _ e)
+moved_by n (Err d) pointers_in ts defined said each e = absurd cc
+
+-- what follows the valid tables says the same of the image
+pub says_of_tables : {A : Type 0} (defined : Memory → List ℕ → Result A AcpiError) → FollowsTables defined → SaysOfTables defined
+says_of_tables defined follows p file bytes e n kind address same =
+    let known = facts p file e in
+    let memory = places_are (records_of p) known.ok.places (subst (λ (b : List ℕ). IsBytes b) (sym known.image) bytes) in
+    let tables = valid_are p known.ok memory in
+    let said : said_of p defined ≡ defined (records_of p) (pointers_of p) = rw (root_is p known.ok memory, pointers_there p known.ok memory) refl in
+    moved_by n (root_at n kind address) (λ root. pointers (width_of kind) (drop 36 root)) (tables_of p) defined (said_of p defined)
+    (λ qs f. follows (records_of p) n (pointers_of p) qs (f ∙ sym tables) ∙ sym said) same
+
+pub headers_say : SaysOfTables (λ m ps. Ok (valid_headers m ps))
+headers_say = says_of_tables (λ m ps. Ok (valid_headers m ps)) (in_ok_follows valid_headers headers_follow)
+
+pub platform_says : {A : Type 0} → SaysOfTables (λ m ps. platform_of {A = A} m ps)
+platform_says {A = A} = says_of_tables (λ m ps. platform_of {A = A} m ps) (platform_follows {A = A})
+
+pub hpet_says : SaysOfTables hpet_of
+hpet_says = says_of_tables hpet_of hpet_follows
+
+pub regions_say : SaysOfTables found_regions
+regions_say = says_of_tables found_regions regions_follow
+
+-- ---- what a call answered
+
+pub answer_is_written : {V : Type 0} (items : V → List ℕ) (r : Result V WriteError) (p : Plan) → IfOk r (λ v. IsBytes (items v)) → WritesOrRunsOut items r (written p)
+    → IfOk r (λ v. IsWritten p (items v))
+answer_is_written items (Ok v) p bytes said = written_is_read p (items v) bytes said
+answer_is_written items (Err e) p bytes said = tt

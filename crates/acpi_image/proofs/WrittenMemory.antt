@@ -1,8 +1,8 @@
 -- Records that can lie where they are placed are a memory, and their pointers fit.
-use Rattle.std.proofs.Common.{◌≡◌, ℕ, zero, suc, ◌+◌, ◌^◌, ◌<◌, ◌≤◌, Bool, true, false, List, [], ◌∷◌, ◌++◌, length, map, Result, Ok, refl, sym, ap, ◌∙◌, arith}
+use Rattle.std.proofs.Common.{◌≡◌, ℕ, zero, suc, ◌+◌, ◌^◌, ◌<◌, ◌≤◌, Bool, true, false, List, [], ◌∷◌, ◌++◌, length, get_or, inl, inr, map, Result, Ok, refl, sym, ap, ◌∙◌, arith}
 use Rattle.std.specs.Prelude.{◌==◌, ◌||◌, flat_map, if◌then◌else◌, nat_lt, not}
 use Rattle.std.specs.List.{AllByRecursion, list_all}
-use Rattle.std.proofs.lemmas.Bool.{and_parts, ltb-true, or_parts}
+use Rattle.std.proofs.lemmas.Bool.{and_parts, cases_lt, ltb-true, or_parts}
 use Rattle.std.proofs.lemmas.List.{get_or_past}
 use Rattle.acpi_base.proofs.Steps.{holds_ok}
 use Rattle.acpi_base.specs.Bytes.{IsBytes, spelling}
@@ -18,6 +18,14 @@ use Rattle.acpi_image.specs.declared.error.WriteError.{WriteError}
 use Rattle.acpi_image.specs.declared.error.WriteError.TheVariants.{Overlap}
 
 -- ---- bytes
+
+-- what fits at each place
+pub each_fits : (xs : List ℕ) → ((i d : ℕ) → i < length xs → get_or xs i d < 256) → IsBytes xs
+each_fits xs h i =
+    elim (cases_lt i (length xs)) [
+      | inl lt ↦ h i 0 lt
+      | inr le ↦ rw (get_or_past xs i 0 le) (omega arith)
+    ]
 
 front_bytes : (xs ys : List ℕ) → IsBytes (xs ++ ys) → IsBytes xs
 front_bytes [] ys h i = let none = get_or_past {X = ℕ} [] i 0 (omega arith) in omega (arith, none)

@@ -1,6 +1,8 @@
 //! Files of memory that hold given tables.
-ghost use Rattle.std.specs.Prelude.{◌≡◌, IfErr, OnOk};
+ghost use Rattle.std.specs.Prelude.{IfOk};
+ghost use Rattle.acpi_base.specs.Bytes.{IsBytes};
 ghost use Rattle.acpi_image.specs.WriteChecks.{WritesOrRunsOut, written};
+ghost use Rattle.acpi_image.specs.WriteLaws.{IsWritten};
 ghost use Rattle.acpi_image.specs.Written.{plan};
 
 mod checks;
@@ -31,8 +33,9 @@ pub(crate) fn write_in<A: Allocator>(
     revision: u8,
     tables: &[PlacedTable<'_>],
 ) -> Result<Vec<u8, A>, WriteError>
-    ensures { WritesOrRunsOut (λ v. v.items) result
+    ensures exact { WritesOrRunsOut (λ v. v.items) result
         (written (plan rsdp_address root_address revision tables.now)) }
+    ensures bytes { IfOk result (λ v. IsBytes v.items) }
 {
     check_plan(rsdp_address, root_address, revision, tables)?;
     let mut file = Vec::new(alloc);
@@ -58,8 +61,14 @@ pub fn write_image(
     revision: u8,
     tables: &[PlacedTable<'_>],
 ) -> Result<Vec<u8>, WriteError>
+    // The file, or the first refusal, is the one that is defined; memory runs out only where nothing
+    // is refused.
     ensures exact { WritesOrRunsOut (λ v. v.items) result
         (written (plan rsdp_address root_address revision tables.now)) }
+    // The file is the records and nothing else; it is read and opened, and its valid tables are
+    // these, each with byte 9 set.
+    ensures law { let p = plan rsdp_address root_address revision tables.now in
+        IfOk result (λ v. IsWritten p v.items) }
 {
     write_in(alloc, rsdp_address, root_address, revision, tables)
 }

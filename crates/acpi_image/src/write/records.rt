@@ -2,7 +2,7 @@
 ghost use Rattle.std.specs.Prelude.{◌≡◌, ◌^◌, ◌<◌, ◌≤◌, ◌++◌, length, flat_map, IfErr, OnOk};
 ghost use Rattle.std.specs.List.{All};
 ghost use Rattle.acpi.specs.Root.{kind_of_revision, width_of};
-ghost use Rattle.acpi_base.specs.Bytes.{spelling};
+ghost use Rattle.acpi_base.specs.Bytes.{IsBytes, spelling};
 ghost use Rattle.acpi_image.specs.Image.{record_spelling};
 ghost use Rattle.acpi_image.specs.Written.{placed, placed_region, plan, records_of, root_header};
 ghost use Rattle.acpi_image.specs.Written.{root_length, root_record, root_to, rsdp_record};
@@ -235,6 +235,7 @@ pub(super) fn put_records<A: Allocator>(
     ensures put { let p = plan rsdp_address root_address revision tables.now in OnOk result
         (file.new.items ≡ file.old.items ++ flat_map record_spelling (records_of p)) }
     ensures refused { IfErr result (λ e. e ≡ OutOfMemory) }
+    ensures bytes { OnOk result (IsBytes file.new.items) }
 {
     put_rsdp(file, rsdp_address, revision, root_address)?;
     put_root(file, root_address, revision, tables)?;

@@ -2,8 +2,8 @@ use Rattle.std.proofs.Common.{◌≡◌, ◌∙◌, sym}
 use Rattle.acpi_image.proofs.Checked.{handed_on, root_short, tables_long}
 use Rattle.acpi_image.proofs.write.write_in.Goals as goal
 
-pub returns-in_err-check_plan : goal.returns-in_err-check_plan
-returns-in_err-check_plan g c =
+pub returns-in_err-check_plan-clause-exact : goal.returns-in_err-check_plan-clause-exact
+returns-in_err-check_plan-clause-exact g c =
     handed_on _ _ _ _ c.from_residual.ensures.1 (sym c.check_plan.ensures ∙ c.in_err-check_plan.was)
 
 pub put_records-requires-clause-short : goal.put_records-requires-clause-short
