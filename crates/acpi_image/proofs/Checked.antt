@@ -1,6 +1,6 @@
 -- What holds of tables and places that passed all checks, and what a refusal is.
-use Rattle.std.proofs.Common.{◌≡◌, ℕ, zero, suc, ◌+◌, ◌^◌, ◌<◌, ◌≤◌, Bool, true, false, List, [], ◌∷◌, length, map, slice_index_or, Result, Ok, Err, refl, sym, ap, subst, ◌∙◌, arith}
-use Rattle.std.specs.Prelude.{IsErrAnd, flat_map, nat_lt, not, ◌==◌}
+use Rattle.std.proofs.Common.{◌≡◌, ℕ, zero, suc, ◌+◌, ◌^◌, ◌<◌, ◌≤◌, Bool, true, false, List, [], ◌∷◌, length, slice_index_or, Result, Ok, Err, refl, sym, ap, subst, ◌∙◌, arith}
+use Rattle.std.specs.Prelude.{IsErrAnd, nat_lt, not, ◌==◌}
 use Rattle.std.specs.List.{AllByRecursion, list_all}
 use Rattle.std.proofs.lemmas.Bool.{and_parts, leb-true, ltb-true}
 use Rattle.std.proofs.lemmas.List.{length-map}
@@ -8,7 +8,6 @@ use Rattle.acpi.specs.Root.{kind_of_revision}
 use Rattle.acpi_base.proofs.Steps.{bind_ok, holds_ok}
 use Rattle.acpi_base.specs.Memory.{Memory, end_of}
 use Rattle.acpi_base.specs.Steps.{◌>>=◌, holds}
-use Rattle.acpi_image.specs.Image.{record_spelling}
 use Rattle.acpi_image.specs.WriteChecks.{WritesOrRunsOut, check_places, check_plan, check_tables, is_table, pointers_fit, some_share, written}
 use Rattle.acpi_image.specs.Written.{Plan, kind_of, placed, placed_region, plan, pointers_of, records_of, root_length}
 use Rattle.acpi_image.specs.declared.error.WriteError.{WriteError}

@@ -1,13 +1,11 @@
 -- What lies at the start of a region of a memory.
-use Rattle.std.proofs.Common.{◌≡◌, ℕ, zero, suc, ◌+◌, ◌-◌, ◌%◌, ◌<◌, ◌≤◌, true, false, List, [], ◌∷◌, ◌++◌, length, take, drop, Some, Ok, refl, sym, ap, ◌∙◌, arith, lit≤, eq-eqb}
-use Rattle.std.specs.Prelude.{◌==◌, nat_le}
+use Rattle.std.proofs.Common.{◌≡◌, ℕ, suc, ◌-◌, ◌<◌, ◌≤◌, List, [], ◌∷◌, length, take, Some, Ok, refl, arith, lit≤}
 use Rattle.std.specs.List.{AllByRecursion, Contains}
-use Rattle.std.specs.Str.{bytes_eq, is_utf8}
-use Rattle.std.proofs.lemmas.Bool.{and_from, le-leb}
-use Rattle.std.proofs.lemmas.List.{length-take-le, take_all}
+use Rattle.std.proofs.lemmas.Bool.{le-leb}
+use Rattle.std.proofs.lemmas.List.{take_all}
 use Rattle.acpi_base.proofs.Inside.{lent_is_inside}
 use Rattle.acpi_base.proofs.Own.{header_front}
-use Rattle.acpi_base.specs.Bytes.{field_of, part, sum_of}
+use Rattle.acpi_base.specs.Bytes.{field_of, sum_of}
 use Rattle.acpi_base.specs.Header.{check_names, check_table, header_at}
 use Rattle.acpi_base.specs.Memory.{Memory, Region, IsMemory, at}
 use Rattle.acpi_base.specs.Steps.{lent}

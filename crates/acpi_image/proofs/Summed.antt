@@ -1,8 +1,8 @@
 -- A byte that is set so that the sum is 0.
-use Rattle.std.proofs.Common.{◌≡◌, ℕ, zero, suc, ◌+◌, ◌-◌, ◌%◌, ◌<◌, ◌≤◌, List, [], ◌∷◌, length, take, drop, set, get_or, sum, refl, sym, ap, subst, ◌∙◌, arith}
+use Rattle.std.proofs.Common.{◌≡◌, ℕ, ◌+◌, ◌-◌, ◌%◌, ◌<◌, ◌≤◌, List, take, drop, set, get_or, sum, ap, subst, ◌∙◌, arith}
 use Rattle.std.proofs.lemmas.List.{drop-set-add, drop-set-lt, take-set-le}
 use Rattle.std.proofs.lemmas.List.Sums.{sum_by-set}
-use Rattle.acpi_base.specs.Bytes.{IsBytes, field_of, number, part, sum_of}
+use Rattle.acpi_base.specs.Bytes.{part, sum_of}
 use Rattle.acpi_image.specs.WriteLaws.{SumIsSet}
 use Rattle.acpi_image.specs.Written.{sum_byte, with_sum}
 

@@ -1,11 +1,11 @@
 -- How many bytes are written, and how numbers are spelled there.
-use Rattle.std.proofs.Common.{◌≡◌, ℕ, zero, suc, ◌+◌, ◌-◌, ◌*◌, ◌/◌, ◌%◌, ◌^◌, ◌<◌, ◌≤◌, Bool, true, false, List, [], ◌∷◌, ◌++◌, length, take, drop, map, set, refl, sym, ap, ◌∙◌, arith, if◌then◌else◌, w64}
-use Rattle.std.specs.Prelude.{OnOk, Result, Ok, Err, flat_map, replicate}
+use Rattle.std.proofs.Common.{◌≡◌, ℕ, zero, suc, ◌+◌, ◌-◌, ◌*◌, ◌/◌, ◌%◌, ◌^◌, ◌<◌, ◌≤◌, Bool, true, false, List, [], ◌∷◌, ◌++◌, length, take, drop, refl, sym, ap, ◌∙◌, arith, if◌then◌else◌, w64}
+use Rattle.std.specs.Prelude.{OnOk, Result, Ok, Err, flat_map}
 use Rattle.acpi_image.specs.Image.{record_spelling}
 use Rattle.acpi_image.specs.declared.error.WriteError.{WriteError}
 use Rattle.std.specs.Int.{from_le_bytes, to_le_bytes}
 use Rattle.std.proofs.lemmas.Nat.{le_bytes_8}
-use Rattle.std.proofs.lemmas.List.{length-append, length-replicate, length-set, append_assoc, append-nil, take-append-drop, take_all}
+use Rattle.std.proofs.lemmas.List.{length-append, length-set, append_assoc, append-nil, take-append-drop, take_all}
 use Rattle.acpi_base.specs.Bytes.{IsBytes, filled_part, spelling}
 use Rattle.acpi_base.proofs.Numbers.{number_filled}
 use Rattle.acpi_base.proofs.Spelling.{length-spelling, number-spelling}

@@ -1,7 +1,7 @@
 -- What is written is read back, opened, and has the tables that were placed.
-use Rattle.std.proofs.Common.{◌≡◌, ℕ, ◌^◌, ◌<◌, List, ◌∷◌, drop, length, map, Result, Ok, Err, refl, sym, ap, subst, ◌∙◌, arith, true, false}
+use Rattle.std.proofs.Common.{◌≡◌, ℕ, ◌^◌, ◌<◌, List, ◌∷◌, drop, length, Result, Ok, Err, refl, sym, subst, ◌∙◌, arith, true}
 use Rattle.std.specs.Prelude.{◌==◌, IfOk, flat_map}
-use Rattle.std.specs.List.{AllByRecursion, Contains}
+use Rattle.std.specs.List.{AllByRecursion}
 use Rattle.std.proofs.lemmas.Bool.{ltb-true}
 use Rattle.std.proofs.lemmas.List.{length-map}
 use Rattle.acpi_base.proofs.Steps.{bind_ok}
@@ -16,8 +16,8 @@ use Rattle.acpi.specs.Pci.{found_regions}
 use Rattle.acpi.specs.Platform.{platform_of}
 use Rattle.acpi.specs.Relocation.{FollowsTables}
 use Rattle.acpi.specs.Opened.{opened_by_rsdp}
-use Rattle.acpi.specs.Root.{pointers, root_at, root_of_revision, width_of}
-use Rattle.acpi.specs.Rsdp.{root_of_rsdp, rsdp_at}
+use Rattle.acpi.specs.Root.{pointers, root_at, width_of}
+use Rattle.acpi.specs.Rsdp.{rsdp_at}
 use Rattle.acpi_image.proofs.Checked.{Passed, are_tables, passed}
 use Rattle.acpi_image.proofs.Images.{image_again}
 use Rattle.acpi_image.proofs.Placed.{every_in}

@@ -1,21 +1,21 @@
 -- The root table that is written is valid, and its pointers are the addresses of the tables.
-use Rattle.std.proofs.Common.{◌≡◌, ℕ, zero, suc, ◌+◌, ◌-◌, ◌^◌, ◌<◌, ◌≤◌, true, false, List, [], ◌∷◌, ◌++◌, length, take, drop, set, Ok, refl, sym, ap, ◌∙◌, arith, lit≤, lit<}
-use Rattle.std.specs.Prelude.{flat_map, replicate}
+use Rattle.std.proofs.Common.{◌≡◌, ℕ, zero, suc, ◌^◌, ◌<◌, List, [], ◌∷◌, ◌++◌, length, drop, set, Ok, refl, sym, ap, ◌∙◌, arith, lit≤, lit<}
+use Rattle.std.specs.Prelude.{flat_map}
 use Rattle.std.specs.List.{AllByRecursion, Contains}
 use Rattle.std.specs.Str.{chars, is_utf8}
 use Rattle.std.proofs.lemmas.List.{append-nil, drop-set-lt, drop_at, get_or_past}
 use Rattle.acpi_base.proofs.Spelling.{number-spelling}
-use Rattle.acpi_base.specs.Bytes.{IsBytes, field_of, number, part, spelling, sum_of}
+use Rattle.acpi_base.specs.Bytes.{IsBytes, field_of, number, spelling, sum_of}
 use Rattle.acpi_base.specs.Header.{check_names, header_at}
-use Rattle.acpi_base.specs.Memory.{Memory, Region, IsMemory}
+use Rattle.acpi_base.specs.Memory.{Memory, IsMemory}
 use Rattle.acpi.proofs.Spelled.{one_pointers}
 use Rattle.acpi.specs.Root.{IsPointers, pointers, root_at, signature_of, width_of}
 use Rattle.acpi.specs.declared.root.RootKind.{RootKind}
 use Rattle.acpi.specs.declared.root.RootKind.TheVariants.{Rsdt, Xsdt}
 use Rattle.acpi_image.proofs.Placed.{table_there}
-use Rattle.acpi_image.proofs.Summed.{part_before, part_behind, part_front, sum_is_set}
+use Rattle.acpi_image.proofs.Summed.{part_before, sum_is_set}
 use Rattle.acpi_image.proofs.Written.{IsBytes-spelling, length-root_header, length-root_to, length-root_unsummed}
-use Rattle.acpi_image.specs.Written.{root_header, root_length, root_record, root_to, root_unsummed, spaces, sum_byte, with_sum}
+use Rattle.acpi_image.specs.Written.{root_header, root_length, root_record, root_to, root_unsummed, sum_byte, with_sum}
 
 length_field : (kind : RootKind) (count : ℕ) (rest : List ℕ) → field_of (root_header (signature_of kind) count ++ rest) 4 4 ≡ number (spelling 4 count)
 unfolding root_header spelling field_of

@@ -1,10 +1,9 @@
 -- The RSDP that is written is valid, and leads to the root table that is written.
-use Rattle.std.proofs.Common.{◌≡◌, ℕ, ◌+◌, ◌^◌, ◌<◌, ◌≤◌, Bool, true, false, List, [], ◌∷◌, ◌++◌, length, take, drop, set, Option, Some, None, Result, Ok, Err, refl, sym, ap, subst, ◌∙◌, arith, lit≤, lit<, if◌then◌else◌}
+use Rattle.std.proofs.Common.{◌≡◌, ℕ, ◌^◌, ◌<◌, Bool, true, false, List, ◌∷◌, ◌++◌, length, take, Some, None, Result, Ok, refl, sym, ap, subst, ◌∙◌, arith, lit≤, lit<, if◌then◌else◌}
 use Rattle.std.specs.Prelude.{◌==◌, replicate}
 use Rattle.std.specs.List.{Contains}
-use Rattle.std.specs.Str.{bytes_eq, chars, is_utf8}
-use Rattle.std.proofs.lemmas.Bool.{eqb-true}
-use Rattle.std.proofs.lemmas.List.{length-take-le, take-set-le, take_all, take_at}
+use Rattle.std.specs.Str.{chars, is_utf8}
+use Rattle.std.proofs.lemmas.List.{length-take-le, take_all}
 use Rattle.acpi_base.proofs.Spelling.{number-spelling}
 use Rattle.acpi_base.specs.Bytes.{field_of, number, part, spelling, sum_of}
 use Rattle.acpi_base.specs.Memory.{Memory, Region, IsMemory}
@@ -12,10 +11,10 @@ use Rattle.acpi_base.specs.Steps.{lent}
 use Rattle.acpi_base.specs.declared.error.AcpiError.{AcpiError}
 use Rattle.acpi.specs.Root.{place, root_of_revision}
 use Rattle.acpi.specs.declared.root.RootKind.TheVariants.{Rsdt, Xsdt}
-use Rattle.acpi.specs.Rsdp.{check_first, check_length, check_sum, check_whole_at, length_of, root_of_rsdp, rsd_ptr, rsdp_at, rsdp_of}
+use Rattle.acpi.specs.Rsdp.{check_first, check_length, check_sum, length_of, root_of_rsdp, rsd_ptr, rsdp_at, rsdp_of}
 use Rattle.acpi_image.proofs.Placed.{lent_start}
 use Rattle.acpi_image.proofs.Summed.{sum_is_set}
-use Rattle.acpi_image.proofs.Written.{length-rsdp_unsummed, length-with_first_sum, length-with_sum}
+use Rattle.acpi_image.proofs.Written.{length-rsdp_unsummed, length-with_first_sum}
 use Rattle.acpi_image.specs.Written.{rsdp_to, rsdp_unsummed, spaces, sum_byte, with_first_sum, with_sum}
 
 -- an RSDP with these fields and checksums

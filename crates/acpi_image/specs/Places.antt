@@ -1,5 +1,5 @@
 -- Where records lie: their starts and lengths, whatever their bytes are.
-use Rattle.std.specs.Prelude.{ℕ, List, length, map, replicate}
+use Rattle.std.specs.Prelude.{List, length, map, replicate}
 use Rattle.acpi_base.specs.Memory.{Memory, Region}
 use Rattle.acpi_image.specs.declared.write.PlacedTable.{PlacedTable}
 use Rattle.acpi_image.specs.declared.write.checks.Place.{Place}

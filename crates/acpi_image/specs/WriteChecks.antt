@@ -1,10 +1,10 @@
 -- Why an image is not written, and what is written otherwise.
-use Rattle.std.specs.Prelude.{◌≡◌, ℕ, ◌+◌, ◌^◌, ◌==◌, nat_le, nat_lt, Bool, true, false, not, ◌&&◌, ◌||◌}
-use Rattle.std.specs.Prelude.{List, [], ◌∷◌, length, map, flat_map, Result, Ok, Err, IsOk}
-use Rattle.std.specs.List.{list_all, list_any}
+use Rattle.std.specs.Prelude.{◌≡◌, ℕ, ◌+◌, ◌^◌, ◌==◌, nat_le, nat_lt, Bool, false, not, ◌&&◌, ◌||◌}
+use Rattle.std.specs.Prelude.{List, [], ◌∷◌, length, flat_map, Result, Ok, Err, IsOk}
+use Rattle.std.specs.List.{list_all}
 use Rattle.std.specs.Str.{is_utf8}
 use Rattle.acpi_base.specs.Bytes.{field_of, part}
-use Rattle.acpi_base.specs.Memory.{Memory, Region, end_of}
+use Rattle.acpi_base.specs.Memory.{Memory, end_of}
 use Rattle.acpi_base.specs.Steps.{◌>>=◌, holds}
 use Rattle.acpi_image.specs.Image.{record_spelling, shares_any}
 use Rattle.acpi_image.specs.Written.{Plan, kind_of, pointers_of, records_of, root_length}

@@ -1,6 +1,6 @@
 -- What holds of an image that is written: it is read back, opened, and has the tables that were
 -- placed.
-use Rattle.std.specs.Prelude.{◌≡◌, ℕ, ◌<◌, List, length, Result, Ok, IfOk}
+use Rattle.std.specs.Prelude.{◌≡◌, ℕ, ◌<◌, List, length, Result, Ok}
 use Rattle.std.specs.List.{AllByRecursion}
 use Rattle.acpi_base.specs.declared.error.AcpiError.{AcpiError}
 use Rattle.acpi_base.specs.Bytes.{IsBytes, sum_of}
@@ -8,7 +8,6 @@ use Rattle.acpi_base.specs.Memory.{Memory, IsMemory}
 use Rattle.acpi.specs.Footprint.{below}
 use Rattle.acpi.specs.Lists.{valid_tables}
 use Rattle.acpi.specs.Opened.{Opened, opened_by_rsdp}
-use Rattle.acpi.specs.Relocation.{FollowsTables}
 use Rattle.acpi.specs.Rsdp.{rsdp_at}
 use Rattle.acpi.specs.declared.root.RootKind.{RootKind}
 use Rattle.acpi_image.specs.Image.{IsImage, records_in}

@@ -11,6 +11,7 @@ mod platform;
 mod refusals;
 mod words;
 mod writes;
+mod written;
 
 use crate::run::run;
 use std::alloc::{AllocError, Global};

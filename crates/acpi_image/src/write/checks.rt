@@ -96,11 +96,7 @@ fn all_fit(tables: &[PlacedTable<'_>]) -> bool
 ///
 /// Refuses, in this order, with `EndTooLarge` and `Overlap`.
 #[tactic(auto, unfolding(crate::specs::WriteChecks::check_places))]
-fn check_places(
-    rsdp: Place,
-    root: Place,
-    tables: &[PlacedTable<'_>],
-) -> Result<(), WriteError>
+fn check_places(rsdp: Place, root: Place, tables: &[PlacedTable<'_>]) -> Result<(), WriteError>
     ensures { result ≡ checks.check_places
         (region_in rsdp ∷ region_in root ∷ places_of tables.now) }
 {

@@ -90,11 +90,7 @@ fn put_number<A: Allocator>(
 /// Puts what a record begins with: its start, and how many bytes it has.
 ///
 /// Refuses with `OutOfMemory`.
-fn put_head<A: Allocator>(
-    file: &mut Vec<u8, A>,
-    start: u64,
-    count: usize,
-) -> Result<(), WriteError>
+fn put_head<A: Allocator>(file: &mut Vec<u8, A>, start: u64, count: usize) -> Result<(), WriteError>
     ensures put { OnOk result
         (file.new.items ≡ file.old.items ++ spelling 8 start ++ spelling 8 count) }
     ensures refused { IfErr result (λ e. e ≡ OutOfMemory) }
@@ -176,7 +172,11 @@ fn put_root_table<A: Allocator>(
     ensures refused { IfErr result (λ e. e ≡ OutOfMemory) }
 {
     let start = file.len();
-    put_header(file, signature(revision), root_length(revision, tables.len()))?;
+    put_header(
+        file,
+        signature(revision),
+        root_length(revision, tables.len()),
+    )?;
     put_pointers(file, revision, tables)?;
     set_sum(&mut file[start..], 9);
     Ok(())
@@ -204,10 +204,7 @@ fn put_root<A: Allocator>(
 /// Puts the record of a table, with byte 9 set.
 ///
 /// Refuses with `OutOfMemory`.
-fn put_table<A: Allocator>(
-    file: &mut Vec<u8, A>,
-    table: &PlacedTable<'_>,
-) -> Result<(), WriteError>
+fn put_table<A: Allocator>(file: &mut Vec<u8, A>, table: &PlacedTable<'_>) -> Result<(), WriteError>
     requires { 36 ≤ length table.now.bytes.now }
     ensures put { OnOk result (file.new.items
         ≡ file.old.items ++ record_spelling (summed (placed_region table.now))) }

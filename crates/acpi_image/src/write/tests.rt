@@ -10,8 +10,8 @@ use std::test::Fail;
 
 /// A boot graphic, displayed and turned by 180 degrees, whose checksum is 0.
 static GRAPHIC: [u8; 56] = [
-    b'B', b'G', b'R', b'T', 56, 0, 0, 0, 0, 0, 0, 0, 0, 0, 0, 0, 0, 0, 0, 0, 0, 0, 0, 0, 0, 0, 0, 0,
-    0, 0, 0, 0, 0, 0, 0, 0, 1, 0, 5, 0, 0, 0, 0, 0, 0, 0, 0, 0, 0, 0, 0, 0, 0, 0, 0, 0,
+    b'B', b'G', b'R', b'T', 56, 0, 0, 0, 0, 0, 0, 0, 0, 0, 0, 0, 0, 0, 0, 0, 0, 0, 0, 0, 0, 0, 0,
+    0, 0, 0, 0, 0, 0, 0, 0, 0, 1, 0, 5, 0, 0, 0, 0, 0, 0, 0, 0, 0, 0, 0, 0, 0, 0, 0, 0, 0,
 ];
 
 /// The boot graphic at an address.
@@ -40,10 +40,28 @@ fn writes_an_rsdt(rt: HostRuntime) -> Result<(), Fail> {
     assert!(rt; has(&file, 0, &[0, 5, 0, 0, 0, 0, 0, 0, 36, 0, 0, 0, 0, 0, 0, 0]));
     assert!(rt; has(&file, 16, b"RSD PTR \x11      \x00\x00\x10\x00\x00"));
     assert!(rt; has(&file, 36, &[0; 16]));
-    assert!(rt; has(&file, 52, &[0, 0x10, 0, 0, 0, 0, 0, 0, 40, 0, 0, 0, 0, 0, 0, 0]));
+    assert!(rt;
+        has(
+            &file,
+            52,
+            &[0, 0x10, 0, 0, 0, 0, 0, 0, 40, 0, 0, 0, 0, 0, 0, 0]
+        )
+    );
     assert!(rt; has(&file, 68, b"RSDT\x28\x00\x00\x00\x01\xBA              "));
-    assert!(rt; has(&file, 92, &[0, 0, 0, 0, 0, 0, 0, 0, 0, 0, 0, 0, 0, 0x20, 0, 0]));
-    assert!(rt; has(&file, 108, &[0, 0x20, 0, 0, 0, 0, 0, 0, 56, 0, 0, 0, 0, 0, 0, 0]));
+    assert!(rt;
+        has(
+            &file,
+            92,
+            &[0, 0, 0, 0, 0, 0, 0, 0, 0, 0, 0, 0, 0, 0x20, 0, 0]
+        )
+    );
+    assert!(rt;
+        has(
+            &file,
+            108,
+            &[0, 0x20, 0, 0, 0, 0, 0, 0, 56, 0, 0, 0, 0, 0, 0, 0]
+        )
+    );
     assert!(rt; has(&file, 124, &GRAPHIC[..9]));
     assert_eq!(rt; file[133], 0x93);
     assert!(rt; has(&file, 134, &GRAPHIC[10..]));
@@ -55,7 +73,13 @@ fn writes_an_xsdt(rt: HostRuntime) -> Result<(), Fail> {
     let file = write_image(rt.alloc(), 0x500, 0x1000, 2, &[graphic_at(0x2000)])?;
     assert_eq!(rt; file.len(), 184);
     assert!(rt; has(&file, 16, b"RSD PTR \x1F      \x02\x00\x00\x00\x00"));
-    assert!(rt; has(&file, 36, &[36, 0, 0, 0, 0, 0x10, 0, 0, 0, 0, 0, 0, 0xCC, 0, 0, 0]));
+    assert!(rt;
+        has(
+            &file,
+            36,
+            &[36, 0, 0, 0, 0, 0x10, 0, 0, 0, 0, 0, 0, 0xCC, 0, 0, 0]
+        )
+    );
     assert!(rt; has(&file, 68, b"XSDT\x2C\x00\x00\x00\x01\xB0              "));
     assert!(rt; has(&file, 104, &[0, 0x20, 0, 0, 0, 0, 0, 0]));
     Ok(())
@@ -97,7 +121,14 @@ fn refuses_in_order(rt: HostRuntime) -> Result<(), Fail> {
         Some(WriteError::ZeroRoot)
     );
     assert_eq!(rt;
-        write_image(alloc, 0x500, 0x1000, 0, &[graphic_at(0x2000), short(0x1_0000_0000)]).err(),
+        write_image(
+            alloc,
+            0x500,
+            0x1000,
+            0,
+            &[graphic_at(0x2000), short(0x1_0000_0000)]
+        )
+        .err(),
         Some(WriteError::BadTable(1))
     );
     assert_eq!(rt;
@@ -110,10 +141,16 @@ fn refuses_in_order(rt: HostRuntime) -> Result<(), Fail> {
 #[test]
 fn refuses_addresses(rt: HostRuntime) -> Result<(), Fail> {
     let alloc = rt.alloc();
-    assert_eq!(rt; refusal_at(alloc, 0x1_0000_0000, 0), Some(WriteError::PointerTooLarge));
+    assert_eq!(rt;
+        refusal_at(alloc, 0x1_0000_0000, 0),
+        Some(WriteError::PointerTooLarge)
+    );
     assert_eq!(rt; refusal_at(alloc, 0xFFFF_FFFF, 0), None);
     assert_eq!(rt; refusal_at(alloc, 0x1_0000_0000, 2), None);
-    assert_eq!(rt; refusal_at(alloc, 0xFFFF_FFFF_FFFF_FFC8, 2), Some(WriteError::EndTooLarge));
+    assert_eq!(rt;
+        refusal_at(alloc, 0xFFFF_FFFF_FFFF_FFC8, 2),
+        Some(WriteError::EndTooLarge)
+    );
     assert_eq!(rt; refusal_at(alloc, 0xFFFF_FFFF_FFFF_FFC7, 2), None);
     assert_eq!(rt;
         write_image(alloc, 0x500, 0x1_0000_0000, 0, &[]).err(),
@@ -124,7 +161,10 @@ fn refuses_addresses(rt: HostRuntime) -> Result<(), Fail> {
         Some(WriteError::EndTooLarge)
     );
     for overlapping in [0x523, 0x4C9, 0x1027, 0xFC9] {
-        assert_eq!(rt; refusal_at(alloc, overlapping, 0), Some(WriteError::Overlap));
+        assert_eq!(rt;
+            refusal_at(alloc, overlapping, 0),
+            Some(WriteError::Overlap)
+        );
     }
     for touching in [0x524, 0x4C8, 0x1028, 0xFC8] {
         assert_eq!(rt; refusal_at(alloc, touching, 0), None);
@@ -151,12 +191,25 @@ fn refuses_bytes_that_are_no_table(rt: HostRuntime) -> Result<(), Fail> {
     let bad = Some(WriteError::BadTable(0));
     assert_eq!(rt; refusal_of(rt.alloc(), &GRAPHIC), None);
     assert_eq!(rt; refusal_of(rt.alloc(), &GRAPHIC[..55]), bad);
-    for (offset, byte) in [(4usize, 55u8), (7, 1), (0, 0xFF), (3, 0xC3), (10, 0xFF), (23, 0xFF)] {
+    for (offset, byte) in [
+        (4usize, 55u8),
+        (7, 1),
+        (0, 0xFF),
+        (3, 0xC3),
+        (10, 0xFF),
+        (23, 0xFF),
+    ] {
         let mut bytes = GRAPHIC;
         bytes[offset] = byte;
         assert_eq!(rt; refusal_of(rt.alloc(), &bytes), bad, "at {offset}");
     }
-    for (offset, byte) in [(8usize, 0xFFu8), (9, 0xFF), (15, 0x7F), (24, 0xFF), (55, 0xFF)] {
+    for (offset, byte) in [
+        (8usize, 0xFFu8),
+        (9, 0xFF),
+        (15, 0x7F),
+        (24, 0xFF),
+        (55, 0xFF),
+    ] {
         let mut bytes = GRAPHIC;
         bytes[offset] = byte;
         assert_eq!(rt; refusal_of(rt.alloc(), &bytes), None, "at {offset}");
@@ -204,8 +257,17 @@ fn memory_is_asked_for_behind_the_checks(rt: HostRuntime) -> Result<(), Fail> {
 #[test]
 fn refusals_print_their_names(rt: HostRuntime) -> Result<(), Fail> {
     let alloc = rt.alloc();
-    assert_eq!(rt; format!(in alloc; "{}", WriteError::ZeroRoot)?.as_str(), "ZeroRoot");
-    assert_eq!(rt; format!(in alloc; "{}", WriteError::BadTable(12))?.as_str(), "BadTable 12");
-    assert_eq!(rt; format!(in alloc; "{}", WriteError::OutOfMemory)?.as_str(), "OutOfMemory");
+    assert_eq!(rt;
+        format!(in alloc; "{}", WriteError::ZeroRoot)?.as_str(),
+        "ZeroRoot"
+    );
+    assert_eq!(rt;
+        format!(in alloc; "{}", WriteError::BadTable(12))?.as_str(),
+        "BadTable 12"
+    );
+    assert_eq!(rt;
+        format!(in alloc; "{}", WriteError::OutOfMemory)?.as_str(),
+        "OutOfMemory"
+    );
     Ok(())
 }

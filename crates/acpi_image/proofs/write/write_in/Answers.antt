@@ -1,4 +1,4 @@
-use Rattle.std.proofs.Common.{◌≡◌, ◌∙◌, sym}
+use Rattle.std.proofs.Common.{◌∙◌, sym}
 use Rattle.acpi_image.proofs.Checked.{handed_on, root_short, tables_long}
 use Rattle.acpi_image.proofs.write.write_in.Goals as goal
 

@@ -1,4 +1,4 @@
-use Rattle.std.proofs.Common.{◌≡◌, ◌∙◌, ◌==◌, true, false, Ok, sym, refl, arith, ne_eqb}
+use Rattle.std.proofs.Common.{◌≡◌, ◌∙◌, ◌==◌, false, Ok, sym, refl, arith, ne_eqb}
 use Rattle.std.proofs.lemmas.Grind.{common_steps}
 use Rattle.acpi_image.proofs.Places.{places_left}
 use Rattle.acpi_image.specs.WriteChecks as checks
@@ -11,4 +11,4 @@ returns c =
     let are : checks.check_tables 0 (placed c.args.tables.now) ≡ Ok tt = grind (arith, common_steps) in
     c.check_places.ensures
     ∙ places_left (record { start = c.args.rsdp_address; length = 36 }) (record { start = c.args.root_address; length = c.root_length.result }) c.args.revision c.args.tables.now
-      refl c.root_length.ensures some are (sym c.is_short.ensures ∙ c.if-not-is_short.false) (sym c.pointers_fit.ensures ∙ c.if-not-pointers_fit.false)
+    refl c.root_length.ensures some are (sym c.is_short.ensures ∙ c.if-not-is_short.false) (sym c.pointers_fit.ensures ∙ c.if-not-pointers_fit.false)

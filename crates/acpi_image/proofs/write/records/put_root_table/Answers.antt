@@ -1,6 +1,6 @@
 use Rattle.std.proofs.Common.{length, ap, arith}
 use Rattle.std.proofs.lemmas.List.{length-append, length-take, length-drop}
-use Rattle.acpi.specs.Root.{kind_of_revision, signature_of, width_of}
+use Rattle.acpi.specs.Root.{kind_of_revision}
 use Rattle.acpi_image.proofs.Written.{length-root_header}
 use Rattle.acpi_image.proofs.write.records.put_root_table.Goals as goal
 
