@@ -85,9 +85,6 @@ module _ (p : Plan) (ok : Passed p) (memory : IsMemory (records_of p)) where
   valid_are : valid_tables (records_of p) (pointers_of p) ≡ tables_of p
   valid_are = tables_there (records_of p) p.tables memory (every_in (records_of p)).1.1 (are_tables 0 p.tables tt ok.tables)
 
-  tables_are : said_of p (λ m ps. Ok (valid_tables m ps)) ≡ Ok (tables_of p)
-  tables_are = rw (root_is, pointers_there, valid_are) refl
-
 pub written_is_read : WrittenIsRead
 written_is_read p file bytes e =
     let known = facts p file e in
@@ -98,7 +95,9 @@ written_is_read p file bytes e =
       read = image_again file (records_of p) memory (sym known.image);
       rsdp = rsdp_is p known.ok memory;
       opened = opened_is p known.ok memory;
-      tables = tables_are p known.ok memory;
+      root = root_is p known.ok memory;
+      listed = pointers_there p known.ok memory;
+      tables = valid_are p known.ok memory;
       sums = sums_are_set p.tables (are_tables 0 p.tables tt known.ok.tables);
     }
 

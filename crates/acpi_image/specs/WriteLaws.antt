@@ -1,6 +1,6 @@
 -- What holds of an image that is written: it is read back, opened, and has the tables that were
 -- placed.
-use Rattle.std.specs.Prelude.{◌≡◌, ℕ, ◌<◌, List, length, Result, Ok}
+use Rattle.std.specs.Prelude.{◌≡◌, ℕ, ◌<◌, List, drop, length, Result, Ok}
 use Rattle.std.specs.List.{AllByRecursion}
 use Rattle.acpi_base.specs.declared.error.AcpiError.{AcpiError}
 use Rattle.acpi_base.specs.Bytes.{IsBytes, sum_of}
@@ -8,11 +8,13 @@ use Rattle.acpi_base.specs.Memory.{Memory, IsMemory}
 use Rattle.acpi.specs.Footprint.{below}
 use Rattle.acpi.specs.Lists.{valid_tables}
 use Rattle.acpi.specs.Opened.{Opened, opened_by_rsdp}
+use Rattle.acpi.specs.Root.{pointers, root_at, width_of}
 use Rattle.acpi.specs.Rsdp.{rsdp_at}
 use Rattle.acpi.specs.declared.root.RootKind.{RootKind}
 use Rattle.acpi_image.specs.Image.{IsImage, records_in}
 use Rattle.acpi_image.specs.WriteChecks.{written}
-use Rattle.acpi_image.specs.Written.{Plan, kind_of, pointers_of, records_of, root_to, rsdp_to, tables_of, with_sum}
+use Rattle.acpi_image.specs.Written.{Plan, kind_of, pointers_of, records_of, root_to}
+use Rattle.acpi_image.specs.Written.{rsdp_to, tables_of, with_sum}
 
 -- the byte that is set makes the sum 0
 abbrev pub SumIsSet : Type 0
@@ -35,15 +37,17 @@ said_of p defined = below (records_of p) (kind_of p) p.root (defined (records_of
 
 -- of a file that is written by a plan: it is the records of the plan, one behind the other, and
 -- nothing else; they are a memory, as which the file is read; the RSDP there is valid, and opens a
--- valid root table with the plan's revision; the valid tables are those of the plan in order, each
--- with a sum of 0
+-- valid root table with the plan's revision; this lists the addresses of the plan's tables, and the
+-- valid tables are those of the plan in order, each with a sum of 0
 pub record IsWritten (p : Plan) (file : List ℕ) : Type 0 where
   pub image : IsImage file (records_of p)
   pub memory : IsMemory (records_of p)
   pub read : records_in file ≡ Ok (records_of p)
   pub rsdp : rsdp_at (records_of p) p.rsdp ≡ Ok (rsdp_to p.revision p.root)
   pub opened : opened_by_rsdp (records_of p) p.rsdp ≡ Ok (opened_of p)
-  pub tables : said_of p (λ m ps. Ok (valid_tables m ps)) ≡ Ok (tables_of p)
+  pub root : root_at (records_of p) (kind_of p) p.root ≡ Ok (opened_of p).root
+  pub listed : pointers (width_of (kind_of p)) (drop 36 (opened_of p).root) ≡ pointers_of p
+  pub tables : valid_tables (records_of p) (pointers_of p) ≡ tables_of p
   pub sums : AllByRecursion (λ table. sum_of table ≡ 0) (tables_of p)
 
 abbrev pub WrittenIsRead : Type 0

@@ -1,5 +1,5 @@
 //! What tests stand on: handlers over another handler, the history of what one was asked for, and
-//! memory that is spelled out byte by byte. `caller` and `example` are the README's callers.
+//! memory that is spelled out byte by byte. `caller`, `example` and `writer` are the README's callers.
 #![tactic(auto)]
 
 pub mod caller;
@@ -8,3 +8,4 @@ pub mod handlers;
 pub mod history;
 pub mod samples;
 pub mod watched;
+pub mod writer;

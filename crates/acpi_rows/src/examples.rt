@@ -2,12 +2,14 @@
 
 use acpi::sdt::Signature;
 use acpi::{AcpiError, AcpiHandler};
-use acpi_image::MemoryImage;
+use acpi_image::{MemoryImage, PlacedTable, WriteError};
 use acpi_lenders::caller::graphic_address;
 use acpi_lenders::example::{Window, find_both};
 use acpi_lenders::samples::front;
 use acpi_lenders::samples::graphics::two_tables;
+use acpi_lenders::samples::put_graphic;
 use acpi_lenders::samples::rsdps::two_roots;
+use acpi_lenders::writer::{GuestError, tables_of_guest};
 use std::test::Fail;
 
 #[test]
@@ -58,4 +60,22 @@ fn the_boot_graphic_is_found_from_an_rsdp(rt: HostRuntime) -> Result<(), Fail> {
     assert_eq!(rt; graphic_address(&image, 0x700), Ok(0xC0_0000));
     assert_eq!(rt; graphic_address(&image, 0x601), Err(AcpiError::MapFailed));
     Ok(())
+}
+
+#[test]
+fn a_guest_finds_the_tables_that_were_placed(rt: HostRuntime) {
+    let mut graphic = [0; 56];
+    put_graphic(&mut graphic, 0);
+    let place = |address| PlacedTable {
+        address,
+        bytes: &graphic,
+    };
+    let tables = [place(0x2000), place(0x3000)];
+    assert_eq!(rt; tables_of_guest(rt.alloc(), &tables), Ok(2));
+    assert_eq!(rt; tables_of_guest(rt.alloc(), &[]), Ok(0));
+    let tables = [place(0x2000), place(0x2037)];
+    assert_eq!(rt;
+        tables_of_guest(rt.alloc(), &tables),
+        Err(GuestError::Unwritten(WriteError::Overlap))
+    );
 }
