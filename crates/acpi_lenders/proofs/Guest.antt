@@ -12,6 +12,7 @@ use Rattle.acpi_base.specs.declared.sdt.SdtHeader.{SdtHeader}
 use Rattle.acpi.specs.Lists.{own_header_at, valid_headers, valid_tables}
 use Rattle.acpi.specs.Opened.{Opened, opened_by_rsdp}
 use Rattle.acpi.specs.Root.{pointers, width_of}
+use Rattle.acpi_image.specs.declared.error.ImageError.{ImageError}
 use Rattle.acpi_image.specs.WriteLaws.{IsWritten, opened_of}
 use Rattle.acpi_image.specs.Written.{Plan, pointers_of, records_of}
 
@@ -42,3 +43,9 @@ guest_count p file m o is same opened =
     let there : opened_by_rsdp (records_of p) p.rsdp ≡ Ok o = subst (λ (n : Memory). opened_by_rsdp n p.rsdp ≡ Ok o) same opened in
     let which : o ≡ opened_of p = same_opened _ _ (sym there ∙ is.opened) in
     rw (which, same, is.listed) (headers_count (records_of p) (pointers_of p) ∙ ap length is.tables ∙ length-map p.tables _)
+
+abbrev read_as : Memory → Result Memory ImageError
+read_as m = Ok m
+
+pub same_memory : (m n : Memory) → read_as m ≡ read_as n → n ≡ m
+same_memory m n e = cc

@@ -16,12 +16,30 @@ pub enum GuestError {
     Unopened(AcpiError),
 }
 
+impl From<WriteError> for GuestError {
+    fn from(error: WriteError) -> Self {
+        GuestError::Unwritten(error)
+    }
+}
+
+impl From<ImageError> for GuestError {
+    fn from(error: ImageError) -> Self {
+        GuestError::Unread(error)
+    }
+}
+
+impl From<AcpiError> for GuestError {
+    fn from(error: AcpiError) -> Self {
+        GuestError::Unopened(error)
+    }
+}
+
 /// How many tables a guest finds that starts from the RSDP at 0x500, where these are placed: all.
 pub fn tables_of_guest(alloc: Global, placed: &[PlacedTable<'_>]) -> Result<usize, GuestError>
     ensures { IfOk result (λ n. n ≡ length placed.now) }
 {
-    let file = write_image(alloc, 0x500, 0x1000, 2, placed).map_err(GuestError::Unwritten)?;
-    let image = MemoryImage::from_bytes(alloc, &file).map_err(GuestError::Unread)?;
-    let tables = AcpiTables::from_rsdp(&image, 0x500).map_err(GuestError::Unopened)?;
+    let file = write_image(alloc, 0x500, 0x1000, 2, placed)?;
+    let image = MemoryImage::from_bytes(alloc, &file)?;
+    let tables = AcpiTables::from_rsdp(&image, 0x500)?;
     Ok(tables.headers().count())
 }
