@@ -5,10 +5,9 @@ use acpi::{AcpiError, AcpiHandler};
 use acpi_image::{MemoryImage, PlacedTable, WriteError};
 use acpi_lenders::caller::graphic_address;
 use acpi_lenders::example::{Window, find_both};
-use acpi_lenders::samples::front;
 use acpi_lenders::samples::graphics::two_tables;
-use acpi_lenders::samples::put_graphic;
 use acpi_lenders::samples::rsdps::two_roots;
+use acpi_lenders::samples::{front, put_graphic};
 use acpi_lenders::writer::{GuestError, tables_of_guest};
 use std::test::Fail;
 

@@ -46,5 +46,11 @@ fn prints_the_revision_that_was_written(rt: HostRuntime) -> Result<(), Fail> {
         ("bgrt", "bgrt displayed yes angle 180 offset 0 0\n"),
         ("skipped", ""),
     ];
-    check_parts(&rt, rt.alloc(), &["some.image", "rsdp", "0x500"], &file, &parts)
+    check_parts(
+        &rt,
+        rt.alloc(),
+        &["some.image", "rsdp", "0x500"],
+        &file,
+        &parts,
+    )
 }
