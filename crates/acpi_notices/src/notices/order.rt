@@ -9,9 +9,8 @@ use acpi::{AcpiError, AcpiHandler, AcpiTables};
 use acpi_image::MemoryImage;
 use acpi_lenders::handlers::{Exact, Recording};
 use acpi_lenders::history::{Event, Shown, places};
-use acpi_lenders::samples::graphics::{long_graphic, one_graphic};
+use acpi_lenders::samples::graphics::{empty_root, long_graphic, one_graphic};
 use acpi_lenders::samples::rsdps::{AREA, put_areas, put_long_rsdp, two_roots};
-use acpi_lenders::samples::{put_head, put_table};
 use acpi_lenders::watched::Watched;
 use std::process::Abort;
 use std::test::Fail;
@@ -111,10 +110,7 @@ impl Scenario for NoPointers {
 
 #[test]
 fn a_table_that_is_its_header_is_asked_for_once(rt: HostRuntime) -> Result<(), Fail> {
-    let mut file = [0; 52];
-    put_head(&mut file, 0, 0x1000, 36);
-    put_table(&mut file, 16, b"RSDT", 36, 0x9F);
-    over_each_handler::<NoPointers>(&rt, &file)
+    over_each_handler::<NoPointers>(&rt, &empty_root())
 }
 
 #[test]
