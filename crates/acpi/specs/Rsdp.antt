@@ -1,5 +1,5 @@
 -- The RSDP: its fields, its checks, and the RSDP at an address (ACPI 6.4, section 5.2.5.3).
-use Rattle.std.specs.Prelude.{ℕ, ◌==◌, List, [], ◌∷◌, take, length, nat_le, if◌then◌else◌}
+use Rattle.std.specs.Prelude.{ℕ, ◌==◌, ◌||◌, List, [], ◌∷◌, take, length, nat_le, if◌then◌else◌}
 use Rattle.std.specs.Prelude.{Option, Some, None, Result, Ok}
 use Rattle.std.specs.Str.{bytes_eq, is_utf8}
 use Rattle.acpi_base.specs.declared.error.AcpiError.{AcpiError}
@@ -56,10 +56,11 @@ xsdt_address_of r = unless_first r r.xsdt_address
 abbrev pub ext_checksum_of : Rsdp → Option ℕ
 ext_checksum_of r = unless_first r r.ext_checksum
 
--- the root table that an RSDP leads to: the RSDT for revision 0, else the XSDT
+-- the root table that an RSDP leads to: the RSDT where its revision or its XSDT address is 0, else
+-- the XSDT
 abbrev pub root_of : Rsdp → RootPlace
 root_of r =
-    if r.revision == 0 then place r.revision Rsdt r.rsdt_address
+    if r.revision == 0 || r.xsdt_address == 0 then place r.revision Rsdt r.rsdt_address
     else place r.revision Xsdt r.xsdt_address
 
 -- the same, for the RSDP's bytes

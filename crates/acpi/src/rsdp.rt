@@ -130,12 +130,13 @@ impl Rsdp {
         }
     }
 
-    /// The root table that this leads to where it is valid: the RSDT for revision 0, else the XSDT.
+    /// The root table that this leads to where it is valid: the RSDT where the revision or the
+    /// XSDT's address is 0, else the XSDT, however bad the table there is.
     pub(crate) fn root(&self) -> RootPlace
         ensures { result ≡ root_of self.now }
     {
         let (kind, address) = match self.xsdt_address() {
-            None => (RootKind::Rsdt, self.rsdt_address as u64),
+            None | Some(0) => (RootKind::Rsdt, self.rsdt_address as u64),
             Some(address) => (RootKind::Xsdt, address),
         };
         RootPlace {

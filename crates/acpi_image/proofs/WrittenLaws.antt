@@ -1,6 +1,6 @@
 -- What is written is read back, opened, and has the tables that were placed.
-use Rattle.std.proofs.Common.{◌≡◌, ℕ, ◌^◌, ◌<◌, List, ◌∷◌, drop, length, Result, Ok, Err, refl, sym, subst, ◌∙◌, arith, true}
-use Rattle.std.specs.Prelude.{◌==◌, IfOk, flat_map}
+use Rattle.std.proofs.Common.{◌≡◌, ℕ, ◌^◌, ◌<◌, Bool, List, ◌∷◌, drop, length, Result, Ok, Err, refl, sym, subst, ◌∙◌, arith, true, false}
+use Rattle.std.specs.Prelude.{◌==◌, IfOk, flat_map, not}
 use Rattle.std.specs.List.{AllByRecursion}
 use Rattle.std.proofs.lemmas.Bool.{ltb-true}
 use Rattle.std.proofs.lemmas.List.{length-map}
@@ -55,6 +55,10 @@ facts p file e =
     let parts = bind_ok (check_plan p) _ file e in
     record { ok = passed p parts.0 parts.1; image = same_file _ _ parts.2 }
 
+not_zero : (b : Bool) → not b ≡ true → b ≡ false
+not_zero false e = refl
+not_zero true e = absurd cc
+
 module _ (p : Plan) (ok : Passed p) (memory : IsMemory (records_of p)) where
   ends : Ends (records_of p)
   ends = places_end (records_of p) ok.places
@@ -74,7 +78,7 @@ module _ (p : Plan) (ok : Passed p) (memory : IsMemory (records_of p)) where
   pointers_there = pointers_are (kind_of p) (pointers_of p) (pointers_narrow (p.revision == 0) p.tables ends.1.1 (λ first. (low first).1))
 
   rsdp_tested : IsRsdp p.revision p.root (rsdp_to p.revision p.root)
-  rsdp_tested = is_rsdp p.revision p.root (omega (arith, ends.1.0)) (λ first. (low first).0)
+  rsdp_tested = is_rsdp p.revision p.root (not_zero (p.root == 0) ok.some) (omega (arith, ends.1.0)) (λ first. (low first).0)
 
   rsdp_is : rsdp_at (records_of p) p.rsdp ≡ Ok (rsdp_to p.revision p.root)
   rsdp_is = rsdp_there (records_of p) (rsdp_record p.rsdp p.revision p.root) memory (every_in (records_of p)).0 (length-rsdp_to p.revision p.root) p.revision p.root rsdp_tested

@@ -1,6 +1,6 @@
 -- The RSDP that is written is valid, and leads to the root table that is written.
 use Rattle.std.proofs.Common.{◌≡◌, ℕ, ◌^◌, ◌<◌, Bool, true, false, List, ◌∷◌, ◌++◌, length, take, Some, None, Result, Ok, refl, sym, ap, subst, ◌∙◌, arith, lit≤, lit<, if◌then◌else◌}
-use Rattle.std.specs.Prelude.{◌==◌, replicate}
+use Rattle.std.specs.Prelude.{◌==◌, ◌||◌, replicate}
 use Rattle.std.specs.List.{Contains}
 use Rattle.std.specs.Str.{chars, is_utf8}
 use Rattle.std.proofs.lemmas.List.{length-take-le, take_all}
@@ -116,7 +116,7 @@ module _ (revision rsdt count xsdt x y : ℕ) where
       let many : (rsdp_of bytes).length ≡ number (spelling 4 count) = rsdp_length bytes ∙ count_is in
       rw (first_passes zero_sum, revision_of, many) refl
 
-  leads : root_of_rsdp bytes ≡ (if revision == 0 then place revision Rsdt (number (spelling 4 rsdt)) else place revision Xsdt (number (spelling 8 xsdt)))
+  leads : root_of_rsdp bytes ≡ (if revision == 0 || number (spelling 8 xsdt) == 0 then place revision Rsdt (number (spelling 4 rsdt)) else place revision Xsdt (number (spelling 8 xsdt)))
   leads =
       let first : (rsdp_of bytes).rsdt_address ≡ number (spelling 4 rsdt) = rsdp_rsdt bytes ∙ rsdt_is in
       let second : (rsdp_of bytes).xsdt_address ≡ number (spelling 8 xsdt) = rsdp_xsdt bytes ∙ xsdt_is in
@@ -145,8 +145,8 @@ first_form revision root first small =
       leads_to = leads revision root 0 0 x 0 ∙ rw (first, number-spelling 4 root small) refl;
     })
 
-second_form : (revision root : ℕ) → (revision == 0) ≡ false → root < 2 ^ 64 → IsRsdp revision root (with_sum 32 (with_first_sum (rsdp_unsummed revision 0 36 root)))
-second_form revision root later small =
+second_form : (revision root : ℕ) → (revision == 0) ≡ false → (root == 0) ≡ false → root < 2 ^ 64 → IsRsdp revision root (with_sum 32 (with_first_sum (rsdp_unsummed revision 0 36 root)))
+second_form revision root later some small =
     let x = first_byte revision 0 36 root in
     let y = sum_byte 32 (shape revision 0 36 root x 0) in
     let same : with_sum 32 (with_first_sum (rsdp_unsummed revision 0 36 root)) ≡ shape revision 0 36 root x y = ap (with_sum 32) (first_is revision 0 36 root) ∙ second_is revision 0 36 root x in
@@ -154,17 +154,17 @@ second_form revision root later small =
     subst (λ (b : List ℕ). IsRsdp revision root b) (sym same) (record {
       many = lengths revision 0 36 root x y (front_sum revision 0 36 root y) ∙ rw (later, number-spelling 4 36 (lit< tt)) refl;
       whole = λ other. rw same at summed;
-      leads_to = leads revision 0 36 root x y ∙ rw (later, number-spelling 8 root small) refl;
+      leads_to = leads revision 0 36 root x y ∙ rw (later, number-spelling 8 root small, some) refl;
     })
 
-by_form : (first : Bool) (revision root : ℕ) → (revision == 0) ≡ first → root < 2 ^ 64 → (first ≡ true → root < 2 ^ 32)
+by_form : (first : Bool) (revision root : ℕ) → (revision == 0) ≡ first → (root == 0) ≡ false → root < 2 ^ 64 → (first ≡ true → root < 2 ^ 32)
     → IsRsdp revision root (if first then with_first_sum (rsdp_unsummed revision root 0 0) else with_sum 32 (with_first_sum (rsdp_unsummed revision 0 36 root)))
-by_form true revision root e small less = first_form revision root e (less refl)
-by_form false revision root e small less = second_form revision root e small
+by_form true revision root e some small less = first_form revision root e (less refl)
+by_form false revision root e some small less = second_form revision root e some small
 
-pub is_rsdp : (revision root : ℕ) → root < 2 ^ 64 → ((revision == 0) ≡ true → root < 2 ^ 32) → IsRsdp revision root (rsdp_to revision root)
+pub is_rsdp : (revision root : ℕ) → (root == 0) ≡ false → root < 2 ^ 64 → ((revision == 0) ≡ true → root < 2 ^ 32) → IsRsdp revision root (rsdp_to revision root)
 unfolding rsdp_to
-is_rsdp revision root small less = by_form (revision == 0) revision root refl small less
+is_rsdp revision root some small less = by_form (revision == 0) revision root refl some small less
 
 -- ---- at its address
 

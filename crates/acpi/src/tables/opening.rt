@@ -37,8 +37,8 @@ impl<'h, H: AcpiHandler> AcpiTables<'h, H> {
     ghost use Rattle.acpi.specs.Rsdp.{root_of_rsdp, rsdp_at};
     ghost use Rattle.acpi.specs.Tables.{SpellsPointers, lender_of};
 
-    /// The tables below the root table that the RSDP at an address leads to: the RSDT for its
-    /// revision 0, else the XSDT (sections 5.2.5.3, 5.2.7 and 5.2.8).
+    /// The tables below the root table that the RSDP at an address leads to: the RSDT where its
+    /// revision or its XSDT address is 0, else the XSDT (sections 5.2.5.3, 5.2.7 and 5.2.8).
     ///
     /// Refuses first with what the RSDP is refused with: `MapFailed` where 36 bytes aren't lent,
     /// `RsdpIncorrectSignature`, `RsdpInvalidOemId`, `RsdpInvalidChecksum` where the first 20 bytes
