@@ -11,7 +11,7 @@ use acpi_base::sdt::SdtHeader;
 use acpi_base::{AcpiError, AcpiResult, AcpiTable, PhysicalRecord, Signature};
 pub use flags::{ArmBootArchFlags, FixedFeatureFlags, IaPcBootArchFlags};
 use front::{Front, extended_number_in, number_in};
-use registers::{Registers, address_from, register_from};
+use registers::{RegisterBytes, Registers, address_from, register_from};
 
 /// What the machine is for (section 5.2.9).
 #[derive(Clone, Copy, Debug, PartialEq, Eq)]
@@ -63,7 +63,7 @@ pub struct Fadt {
     pub s4bios_req: u8,
     /// The command that takes over the processors' performance states. 0: there is none.
     pub pstate_control: u8,
-    registers: Registers,
+    registers: RegisterBytes,
     /// The number of the first event of the second block of general purpose events.
     pub gpe1_base: u8,
     /// The command that says that the system follows changes of C states.
@@ -121,7 +121,7 @@ impl PhysicalRecord for Fadt {
             acpi_disable: number_in(front, bytes, 53, 1) as u8,
             s4bios_req: number_in(front, bytes, 54, 1) as u8,
             pstate_control: number_in(front, bytes, 55, 1) as u8,
-            registers: Registers::read(front, bytes),
+            registers: RegisterBytes::new(front, bytes),
             gpe1_base: number_in(front, bytes, 94, 1) as u8,
             c_state_control: number_in(front, bytes, 95, 1) as u8,
             worst_c2_latency: number_in(front, bytes, 96, 2) as u16,
@@ -172,6 +172,14 @@ impl Fadt {
     ghost use Rattle.acpi_fixed.specs.Fadt.{pm_timer_of, registers_of};
     ghost use Rattle.acpi_fixed.specs.Registers.{block_of, optional_block_of, register_of};
 
+    /// Where the registers lie.
+    #[inline(always)]
+    fn registers(&self) -> Registers
+        ensures { result ≡ registers_of self.now }
+    {
+        self.registers.registers()
+    }
+
     /// What the machine is for.
     pub fn power_profile(&self) -> PowerProfile
         ensures { result ≡ profile_of self.now }
@@ -220,7 +228,7 @@ impl Fadt {
     pub fn pm1a_event_block(&self) -> AcpiResult<GenericAddress>
         ensures { result ≡ block_of (registers_of self.now).pm1a_event }
     {
-        self.registers.pm1a_event.block()
+        self.registers().pm1a_event.block()
     }
 
     /// The second block of event registers, or `None` where neither field gives an address.
@@ -229,7 +237,7 @@ impl Fadt {
     pub fn pm1b_event_block(&self) -> AcpiResult<Option<GenericAddress>>
         ensures { result ≡ optional_block_of (registers_of self.now).pm1b_event }
     {
-        self.registers.pm1b_event.optional_block()
+        self.registers().pm1b_event.optional_block()
     }
 
     /// The control registers of the fixed hardware: the extended block where its address isn't 0,
@@ -239,7 +247,7 @@ impl Fadt {
     pub fn pm1a_control_block(&self) -> AcpiResult<GenericAddress>
         ensures { result ≡ block_of (registers_of self.now).pm1a_control }
     {
-        self.registers.pm1a_control.block()
+        self.registers().pm1a_control.block()
     }
 
     /// The second block of control registers, or `None` where neither field gives an address.
@@ -248,7 +256,7 @@ impl Fadt {
     pub fn pm1b_control_block(&self) -> AcpiResult<Option<GenericAddress>>
         ensures { result ≡ optional_block_of (registers_of self.now).pm1b_control }
     {
-        self.registers.pm1b_control.optional_block()
+        self.registers().pm1b_control.optional_block()
     }
 
     /// The second control register, or `None` where neither field gives an address.
@@ -257,7 +265,7 @@ impl Fadt {
     pub fn pm2_control_block(&self) -> AcpiResult<Option<GenericAddress>>
         ensures { result ≡ optional_block_of (registers_of self.now).pm2_control }
     {
-        self.registers.pm2_control.optional_block()
+        self.registers().pm2_control.optional_block()
     }
 
     /// The power management timer, or `None` where its length isn't 4 or neither field gives an
@@ -267,7 +275,7 @@ impl Fadt {
     pub fn pm_timer_block(&self) -> AcpiResult<Option<GenericAddress>>
         ensures { result ≡ pm_timer_of self.now }
     {
-        self.registers.pm_timer.timer_block()
+        self.registers().pm_timer.timer_block()
     }
 
     /// The registers of the first general purpose events, or `None` where neither field gives an
@@ -277,7 +285,7 @@ impl Fadt {
     pub fn gpe0_block(&self) -> AcpiResult<Option<GenericAddress>>
         ensures { result ≡ optional_block_of (registers_of self.now).gpe0 }
     {
-        self.registers.gpe0.optional_block()
+        self.registers().gpe0.optional_block()
     }
 
     /// The registers of further general purpose events, or `None` where neither field gives an
@@ -287,7 +295,7 @@ impl Fadt {
     pub fn gpe1_block(&self) -> AcpiResult<Option<GenericAddress>>
         ensures { result ≡ optional_block_of (registers_of self.now).gpe1 }
     {
-        self.registers.gpe1.optional_block()
+        self.registers().gpe1.optional_block()
     }
 
     /// The register that resets the machine, where the flags say that there is one.
@@ -296,7 +304,7 @@ impl Fadt {
     pub fn reset_register(&self) -> AcpiResult<GenericAddress>
         ensures { result ≡ generic_address_of (registers_of self.now).reset }
     {
-        GenericAddress::from_raw(self.registers.reset)
+        GenericAddress::from_raw(self.registers().reset)
     }
 
     /// The register that puts a machine of reduced hardware to sleep, or `None` where the table has
@@ -306,7 +314,7 @@ impl Fadt {
     pub fn sleep_control_register(&self) -> AcpiResult<Option<GenericAddress>>
         ensures { result ≡ register_of (registers_of self.now).sleep_control }
     {
-        register_from(self.registers.sleep_control)
+        register_from(self.registers().sleep_control)
     }
 
     /// The register that says how a machine of reduced hardware woke, or `None` where the table has
@@ -316,6 +324,6 @@ impl Fadt {
     pub fn sleep_status_register(&self) -> AcpiResult<Option<GenericAddress>>
         ensures { result ≡ register_of (registers_of self.now).sleep_status }
     {
-        register_from(self.registers.sleep_status)
+        register_from(self.registers().sleep_status)
     }
 }

@@ -1,9 +1,11 @@
-//! Laws of the types' comparisons: each is the contract of a call that compares.
+//! Laws of the types' comparisons, each the contract of a call that compares, and of where registers lie.
 ghost use Rattle.std.specs.Prelude.{◌≡◌, fold, pos};
 ghost use Rattle.std.specs.Hash.{isize};
 ghost use Rattle.std.specs.Ordering.{nat_cmp};
 ghost use Rattle.acpi_base.specs.Equality.{IsEquality};
 ghost use Rattle.acpi_fixed.specs.Bgrt.{rank_of};
+ghost use Rattle.acpi_fixed.specs.Fadt.{fadt_at, registers_of};
+ghost use Rattle.acpi_fixed.specs.Registers.{registers_at};
 
 use crate::bgrt::ImageType;
 use crate::fadt::PowerProfile;
@@ -37,3 +39,8 @@ pub fn image_type_hash<H: Hasher>(form: &ImageType, state: &mut H)
 {
     form.hash(state);
 }
+
+/// The registers that a table's record gives are those that the table says.
+pub fn registers_are_the_tables(table: &[u8])
+    ensures { registers_of (fadt_at table.now) ≡ registers_at table.now }
+{}

@@ -1,11 +1,10 @@
 //! The fields of a FADT, read from a copy of its bytes that is filled up with zeros where the table
 //! ends before: so no field is tested for whether it is there.
-ghost use Rattle.std.specs.Prelude.{◌≡◌, ◌+◌, ◌^◌, ◌*◌, ◌<◌, ◌≤◌, ◌&&◌, length, nat_le};
+ghost use Rattle.std.specs.Prelude.{◌≡◌, ◌+◌, ◌^◌, ◌*◌, ◌<◌, ◌≤◌};
 ghost use Rattle.acpi_base.specs.Bytes.{field_of, filled_part};
-ghost use Rattle.acpi_fixed.specs.Registers.{extended_address, extended_number};
+ghost use Rattle.acpi_fixed.specs.Registers.{extended_number};
 
-use acpi_base::address::RawAddress;
-use acpi_base::bytes::{field, filled};
+use acpi_base::bytes::field;
 
 /// The bytes of a FADT (section 5.2.9), with zeros behind the end of a shorter table.
 pub(super) type Front = [u8; 276];
@@ -23,32 +22,6 @@ pub(super) fn number_in(front: &Front, table: &[u8], offset: usize, n: usize) ->
     field(front, offset, n)
 }
 
-/// Whether the table has revision 2 or above, and the `n` bytes at an offset.
-#[inline(always)]
-fn is_extended(front: &Front, table: &[u8], offset: usize, n: usize) -> bool
-    requires same { front.now ≡ filled_part table.now 0 276 }
-    requires front { offset + n ≤ 276 }
-    ensures { result ≡ (nat_le 2 (field_of table.now 8 1)
-        && nat_le (offset + n) (length table.now)) }
-{
-    number_in(front, table, 8, 1) >= 2 && offset + n <= table.len()
-}
-
-/// The twelve bytes of a generic address at an offset.
-#[inline(always)]
-#[tactic(auto, using(crate::proofs::Front::front_address))]
-pub(super) fn address_in(front: &Front, table: &[u8], offset: usize) -> RawAddress
-    requires same { front.now ≡ filled_part table.now 0 276 }
-    requires front { offset + 12 ≤ 276 }
-    ensures { result ≡ filled_part table.now offset 12 }
-{
-    if offset + 12 <= table.len() {
-        filled(front, offset)
-    } else {
-        filled(table, offset)
-    }
-}
-
 /// The number of eight bytes at an offset, which tables of revision 2 and above have, where they
 /// have all of these bytes.
 #[inline(always)]
@@ -58,23 +31,8 @@ pub(super) fn extended_number_in(front: &Front, table: &[u8], offset: usize) -> 
     requires front { offset + 8 ≤ 276 }
     ensures { result ≡ extended_number table.now offset }
 {
-    if is_extended(front, table, offset, 8) {
+    if number_in(front, table, 8, 1) >= 2 && offset + 8 <= table.len() {
         Some(number_in(front, table, offset, 8))
-    } else {
-        None
-    }
-}
-
-/// The same of the twelve bytes of a generic address.
-#[inline(always)]
-#[tactic(auto, using(crate::proofs::Front::address_there, crate::proofs::Front::no_address))]
-pub(super) fn extended_address_in(front: &Front, table: &[u8], offset: usize) -> Option<RawAddress>
-    requires same { front.now ≡ filled_part table.now 0 276 }
-    requires front { offset + 12 ≤ 276 }
-    ensures { result ≡ extended_address table.now offset }
-{
-    if is_extended(front, table, offset, 12) {
-        Some(address_in(front, table, offset))
     } else {
         None
     }

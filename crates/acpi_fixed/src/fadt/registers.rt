@@ -1,12 +1,14 @@
 //! What the FADT gives in two ways: by a field of its first versions, and by an extended one.
 ghost use Rattle.std.specs.Prelude.{◌≡◌, ◌+◌, ◌≤◌};
 ghost use Rattle.acpi_base.specs.Bytes.{filled_part};
-ghost use Rattle.acpi_fixed.specs.Registers.{address_or, register_of};
+ghost use Rattle.acpi_fixed.specs.Registers.{address_or, extended_address, register_of};
 
-use super::front::{Front, address_in, extended_address_in, number_in};
+use super::front::Front;
 use acpi_base::address::{AccessSize, AddressSpace, GenericAddress, RawAddress};
-use acpi_base::bytes::field;
+use acpi_base::bytes::{field, filled};
 use acpi_base::{AcpiError, AcpiResult};
+use std::fmt;
+use std::fmt::{Debug, Formatter, Write};
 
 /// The 64-bit address where it is there and not 0, else the 32-bit one.
 ///
@@ -36,6 +38,21 @@ pub(crate) fn register_from(raw: Option<RawAddress>) -> AcpiResult<Option<Generi
     }
 }
 
+/// The twelve bytes of a generic address at an offset, which tables of revision 2 and above have,
+/// where they have all of these bytes.
+#[inline(always)]
+#[tactic(auto, using(crate::proofs::Front::address_there, crate::proofs::Front::no_address))]
+fn extended_address_in(table: &[u8], offset: usize) -> Option<RawAddress>
+    requires { offset + 12 ≤ 276 }
+    ensures { result ≡ extended_address table.now offset }
+{
+    if field(table, 8, 1) >= 2 && offset + 12 <= table.len() {
+        Some(filled(table, offset))
+    } else {
+        None
+    }
+}
+
 /// A block of registers: by the first port and the number of bytes that the first versions of the
 /// table have, and by its extended field.
 #[derive(Clone, Copy, Debug)]
@@ -51,23 +68,14 @@ impl RegisterBlock {
 
     /// The block whose address, length and extended field a table has at these offsets.
     #[inline(always)]
-    fn read(
-        front: &Front,
-        table: &[u8],
-        address: usize,
-        size: usize,
-        extended: usize,
-    ) -> RegisterBlock
-        requires same { front.now ≡ filled_part table.now 0 276 }
-        requires address { address + 4 ≤ 276 }
-        requires size { size + 1 ≤ 276 }
-        requires extended { extended + 12 ≤ 276 }
+    fn read(table: &[u8], address: usize, size: usize, extended: usize) -> RegisterBlock
+        requires { extended + 12 ≤ 276 }
         ensures { result ≡ block_at table.now address size extended }
     {
         RegisterBlock {
-            address: number_in(front, table, address, 4) as u32,
-            size: number_in(front, table, size, 1) as u8,
-            extended: extended_address_in(front, table, extended),
+            address: field(table, address, 4) as u32,
+            size: field(table, size, 1) as u8,
+            extended: extended_address_in(table, extended),
         }
     }
 
@@ -160,22 +168,74 @@ impl Registers {
     /// The registers that a table says: each block by the offsets of its address, of its length and
     /// of its extended field.
     #[inline(always)]
-    pub(crate) fn read(front: &Front, table: &[u8]) -> Registers
-        requires { front.now ≡ filled_part table.now 0 276 }
+    fn read(table: &[u8]) -> Registers
         ensures { result ≡ registers_at table.now }
     {
         Registers {
-            pm1a_event: RegisterBlock::read(front, table, 56, 88, 148),
-            pm1b_event: RegisterBlock::read(front, table, 60, 88, 160),
-            pm1a_control: RegisterBlock::read(front, table, 64, 89, 172),
-            pm1b_control: RegisterBlock::read(front, table, 68, 89, 184),
-            pm2_control: RegisterBlock::read(front, table, 72, 90, 196),
-            pm_timer: RegisterBlock::read(front, table, 76, 91, 208),
-            gpe0: RegisterBlock::read(front, table, 80, 92, 220),
-            gpe1: RegisterBlock::read(front, table, 84, 93, 232),
-            reset: address_in(front, table, 116),
-            sleep_control: extended_address_in(front, table, 244),
-            sleep_status: extended_address_in(front, table, 256),
+            pm1a_event: RegisterBlock::read(table, 56, 88, 148),
+            pm1b_event: RegisterBlock::read(table, 60, 88, 160),
+            pm1a_control: RegisterBlock::read(table, 64, 89, 172),
+            pm1b_control: RegisterBlock::read(table, 68, 89, 184),
+            pm2_control: RegisterBlock::read(table, 72, 90, 196),
+            pm_timer: RegisterBlock::read(table, 76, 91, 208),
+            gpe0: RegisterBlock::read(table, 80, 92, 220),
+            gpe1: RegisterBlock::read(table, 84, 93, 232),
+            reset: filled(table, 116),
+            sleep_control: extended_address_in(table, 244),
+            sleep_status: extended_address_in(table, 256),
         }
+    }
+}
+
+/// The first bytes of a table, which say where the registers lie. They are read when a register is
+/// asked for: most who look a FADT up ask for few.
+#[derive(Clone, Copy)]
+pub(crate) struct RegisterBytes {
+    /// The table's bytes, with zeros behind the end of a shorter table.
+    front: Front,
+    /// How many of these the table has.
+    count: usize,
+}
+
+impl RegisterBytes {
+    ghost use Rattle.std.specs.Prelude.{take};
+    ghost use Rattle.acpi_fixed.specs.Registers.{bytes_kept, kept_of, registers_in};
+
+    /// What is kept of a table.
+    #[inline(always)]
+    #[tactic(auto, using(crate::proofs::Front::count_kept))]
+    pub(crate) fn new(front: &Front, table: &[u8]) -> RegisterBytes
+        requires { front.now ≡ filled_part table.now 0 276 }
+        ensures { result ≡ kept_of table.now }
+    {
+        RegisterBytes {
+            front: *front,
+            count: table.len().min(276),
+        }
+    }
+
+    /// Those of these bytes that the table has.
+    #[inline(always)]
+    fn table(&self) -> &[u8]
+        ensures { result.now ≡ bytes_kept self.now }
+    {
+        match self.front.get(..self.count) {
+            Some(table) => table,
+            None => &self.front,
+        }
+    }
+
+    /// The registers that these bytes say.
+    #[inline(always)]
+    pub(crate) fn registers(&self) -> Registers
+        ensures { result ≡ registers_in self.now }
+    {
+        Registers::read(self.table())
+    }
+}
+
+impl Debug for RegisterBytes {
+    fn fmt<W: Write>(&self, f: &mut Formatter<W>) -> fmt::Result {
+        self.registers().fmt(f)
     }
 }
