@@ -9,6 +9,7 @@ use Rattle.acpi_base.specs.declared.error.AcpiError.{AcpiError}
 use Rattle.acpi_base.specs.declared.model.interrupt.InterruptModel.TheVariants.{Unknown}
 use Rattle.acpi_base.specs.declared.signature.TheConstants.Signature.{MADT}
 use Rattle.acpi_fixed.specs.Fadt.{fadt_at, profile_of}
+use Rattle.acpi_fixed.specs.declared.fadt.Fadt.{Fadt}
 use Rattle.acpi.specs.Lists.{fadt_kind}
 use Rattle.acpi.specs.Lookup.{lookup}
 use Rattle.acpi.specs.Timer.{timer_of}
@@ -27,18 +28,23 @@ model_found (Err e) = Ok (Unknown, None)
 abbrev pub model_in : {A : Type 0} → Memory → List ℕ → Result (model.Model A) AcpiError
 model_in m ps = model_found (lookup m madt_kind ps)
 
--- the first valid FADT, the model, then the timer
-abbrev pub platform_of : {A : Type 0} → Memory → List ℕ → Result (PlatformInfo A) AcpiError
-platform_of m ps = do
-  fadt ← lookup m fadt_kind ps
+-- beside a FADT: the model, then the timer
+abbrev pub platform_with : {A : Type 0} → Memory → List ℕ → Fadt → Result (PlatformInfo A) AcpiError
+platform_with m ps fadt = do
   said ← model_in m ps
-  timer ← timer_of (fadt_at fadt.1)
+  timer ← timer_of fadt
   Ok (record {
-    power_profile = profile_of (fadt_at fadt.1);
+    power_profile = profile_of fadt;
     interrupt_model = said.0;
     processor_info = said.1;
     pm_timer = timer;
   })
+
+-- the first valid FADT, and what is said beside it
+abbrev pub platform_of : {A : Type 0} → Memory → List ℕ → Result (PlatformInfo A) AcpiError
+platform_of m ps = do
+  fadt ← lookup m fadt_kind ps
+  platform_with m ps (fadt_at fadt.1)
 
 -- ---- want of memory
 

@@ -1,7 +1,7 @@
 //! What the platform has, as the tables say together.
 ghost use Rattle.acpi_base.specs.Steps.{GivesOrFull};
 ghost use Rattle.acpi.specs.Footprint.{FootprintBelow, platform_ranges};
-ghost use Rattle.acpi.specs.Platform.{PlatformAsks, ModelAsks, model_in, platform_of};
+ghost use Rattle.acpi.specs.Platform.{PlatformAsks, ModelAsks, model_in, platform_of, platform_with};
 ghost use Rattle.acpi.specs.Relocation.{Relocation};
 ghost use Rattle.acpi.specs.Tables.{memory_of, pointers_of};
 
@@ -80,9 +80,25 @@ impl<A: Allocator + Clone> PlatformInfo<A> {
         ensures { GivesOrFull (PlatformAsks (memory_of tables.now) (pointers_of tables.now)) result
             (platform_of (memory_of tables.now) (pointers_of tables.now)) }
     {
-        let fadt = tables.find_table::<Fadt>()?;
+        // It is looked at where it lies: a FADT's record is long.
+        let found = tables.first_member::<Fadt>();
+        match &found {
+            Ok(fadt) => PlatformInfo::with(fadt, tables, allocator),
+            Err(error) => Err(*error),
+        }
+    }
+
+    /// What a FADT and the first valid MADT say.
+    fn with<H: AcpiHandler>(
+        fadt: &Fadt,
+        tables: &AcpiTables<'_, H>,
+        allocator: A,
+    ) -> AcpiResult<Self>
+        ensures { GivesOrFull (ModelAsks (memory_of tables.now) (pointers_of tables.now)) result
+            (platform_with (memory_of tables.now) (pointers_of tables.now) fadt.now) }
+    {
         let (interrupt_model, processor_info) = found_model(tables, allocator)?;
-        let pm_timer = PmTimer::new(&fadt)?;
+        let pm_timer = PmTimer::new(fadt)?;
         Ok(PlatformInfo {
             power_profile: fadt.power_profile(),
             interrupt_model,

@@ -76,7 +76,7 @@ impl<'h, H: AcpiHandler> AcpiTables<'h, H> {
 
     /// The first member of the root list that is valid for `T`.
     #[inline(always)]
-    fn first_member<T: AcpiTable>(&self) -> AcpiResult<PhysicalMapping<'h, H, T>>
+    pub(crate) fn first_member<T: AcpiTable>(&self) -> AcpiResult<PhysicalMapping<'h, H, T>>
         ensures handler { IfOk result (λ m. handler_of m ≡ lender_of self.now) }
         ensures found { let k = kind T.SIGNATURE T.MIN_LENGTH T.verdict in
             Gives (λ m. (start_of m, bytes_of m)) result
@@ -175,7 +175,7 @@ impl<'h, H: AcpiHandler> AcpiTables<'h, H> {
         ensures { result ≡ dsdt_stream (memory_of self.now) (pointers_of self.now) }
     {
         // It is looked at where it lies: a FADT's record is long.
-        let found = self.find_table::<Fadt>();
+        let found = self.first_member::<Fadt>();
         match &found {
             Ok(fadt) => self.dsdt_at(fadt.dsdt_address()?),
             Err(error) => Err(*error),
