@@ -148,6 +148,24 @@ fn says_that_a_table_is_cut(rt: HostRuntime) -> Result<(), Fail> {
     check_parts(&rt, rt.alloc(), &WORDS, without_last(&file), &parts)
 }
 
+#[test]
+fn says_that_no_table_is_in_the_file(rt: HostRuntime) -> Result<(), Fail> {
+    // The file ends behind the root table.
+    let file = one_graphic();
+    let skipped = "skipped FACP 0x2000: MapFailed\n\
+        skipped APIC 0x2000: MapFailed\n\
+        skipped MCFG 0x2000: MapFailed\n\
+        skipped HPET 0x2000: MapFailed\n\
+        skipped BGRT 0x2000: MapFailed\n\
+        skipped SPCR 0x2000: MapFailed\n";
+    let parts = [
+        ("table", ""),
+        ("bgrt", "bgrt: TableMissing BGRT\n"),
+        ("skipped", skipped),
+    ];
+    check_parts(&rt, rt.alloc(), &WORDS, &file[..56], &parts)
+}
+
 /// An RSDT at 0x1000 that lists a FADT of 116 bytes at 0x2000, with this checksum and the DSDT at
 /// this page of 256 bytes, and a DSDT of 40 bytes at 0x4000.
 fn with_fadt(checksum: u8, page: u8) -> [u8; 244] {
