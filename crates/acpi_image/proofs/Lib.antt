@@ -1,5 +1,6 @@
 pub mod Checked
 pub mod Images
+pub mod Listing
 pub mod Placed
 pub mod Places
 pub mod Records

@@ -5,12 +5,12 @@ use Rattle.std.specs.List.{AllByRecursion}
 use Rattle.acpi_base.specs.Memory.{Memory, Region, AreApart, IsMemory, IsRegion, end_of, lies_in}
 use Rattle.acpi_image.specs.Image.{share, shares_any}
 
-inside : (r : Region) (a : ℕ) → lies_in r a ≡ true → (r.start ≤ a) × (a < end_of r)
+pub inside : (r : Region) (a : ℕ) → lies_in r a ≡ true → (r.start ≤ a) × (a < end_of r)
 inside r a h =
     let p = and_parts _ _ h in
     (leb-true _ _ p.0, ltb-true _ _ p.1)
 
-within : (r : Region) (a : ℕ) → r.start ≤ a → a < end_of r → lies_in r a ≡ true
+pub within : (r : Region) (a : ℕ) → r.start ≤ a → a < end_of r → lies_in r a ≡ true
 within r a low high = and_from _ _ (le-leb _ _ low) (lt-ltb _ _ high)
 
 share_at : (r s : Region) (a : ℕ) → lies_in r a ≡ true → lies_in s a ≡ true → share r s ≡ true

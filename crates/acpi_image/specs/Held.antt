@@ -5,4 +5,4 @@ use Rattle.acpi_image.specs.declared.image.MemoryImage.{MemoryImage}
 
 -- the memory that it lends
 abbrev pub memory_of : MemoryImage → Memory
-memory_of image = regions_of image.records.items
+memory_of image = regions_of image.records.list.items

@@ -3,6 +3,7 @@ pub mod Held
 pub mod Image
 pub mod Places
 pub mod Regions
+pub mod Starts
 pub mod WriteChecks
 pub mod WriteLaws
 pub mod Written

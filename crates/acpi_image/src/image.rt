@@ -8,16 +8,16 @@ ghost use Rattle.acpi_base.specs.Memory.{IsMemory, IsMemory-prop};
 ghost use Rattle.acpi_image.specs.Regions.{regions_of};
 
 pub use crate::error::ImageError;
-use crate::reader::{records_of, rest_at};
-use crate::record::Record;
+use crate::kept::Records;
+use crate::reader::records_of;
 use acpi_base::{AcpiError, AcpiHandler, AcpiResult};
 use std::alloc::Global;
 
 /// The memory that a file spells, lent from the file's own bytes. Each record is a region.
 #[derive(Drop)]
 pub struct MemoryImage<'a> {
-    records: Vec<Record<'a>>,
-    ghost regions: { IsMemory (regions_of records.items) } by { IsMemory-prop _ },
+    records: Records<'a, Global>,
+    ghost regions: { IsMemory (regions_of records.list.items) } by { IsMemory-prop _ },
 }
 
 impl<'a> MemoryImage<'a> {
@@ -35,7 +35,8 @@ impl<'a> MemoryImage<'a> {
         Ok(MemoryImage { records })
     }
 
-    /// The memory that a file spells. It allocates only a list of the records.
+    /// The memory that a file spells. It allocates only a list of the records and
+    /// a map of their starts.
     ///
     /// Refuses, records in order, and for each in this order, with `Truncated` where fewer than 16
     /// bytes are left or fewer than `length` behind them, `EndTooLarge` where `start + length` is
@@ -83,7 +84,7 @@ impl AcpiHandler for MemoryImage<'_> {
         ensures refused { IfErr result (λ e. at (memory_of self.now) address size ≡ None) }
         ensures name { IfErr result (λ e. e ≡ MapFailed) }
     {
-        let rest = rest_at(&self.records, address);
+        let rest = self.records.rest_at(address);
         if size <= rest.len() {
             Ok(rest)
         } else {

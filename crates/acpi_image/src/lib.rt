@@ -4,9 +4,11 @@
 
 mod error;
 pub mod image;
+mod kept;
 pub mod laws;
 mod reader;
 mod record;
+mod starts;
 #[cfg(test)]
 mod tests;
 pub mod write;

@@ -1,5 +1,6 @@
 //! One record of a file.
-ghost use Rattle.std.specs.Prelude.{◌<◌, length, IfOk};
+ghost use Rattle.std.specs.Prelude.{◌^◌, ◌<◌, length, IfOk};
+ghost use Rattle.acpi_base.specs.Memory.{end_of};
 ghost use Rattle.acpi_base.specs.Steps.{Gives};
 ghost use Rattle.acpi_image.specs.Image.{record_at};
 ghost use Rattle.acpi_image.specs.Regions.{region_of};
@@ -65,6 +66,7 @@ impl<'a> Record<'a> {
 #[tactic(auto, unfolding(crate::specs::Image::record_at))]
 pub(crate) fn first_record(bytes: &[u8]) -> Result<(Record<'_>, &[u8]), ImageError>
     ensures shorter { IfOk result (λ x. length x.1.now < length bytes.now) }
+    ensures fits { IfOk result (λ x. end_of (region_of x.0) < 2 ^ 64) }
     ensures exact { Gives (λ x. (region_of x.0, x.1.now)) result (record_at bytes.now) }
 {
     if bytes.len() < 16 {

@@ -86,6 +86,64 @@ fn an_empty_record_lends_nothing_and_shares_nothing(rt: HostRuntime) -> Result<(
     Ok(())
 }
 
+/// Forty records of two bytes that touch, from 0x1000 on, in another order than that of their
+/// starts, and one of no bytes. The bytes of the one at 0x1000 + 2 i are i and i + 100.
+fn put_forty(file: &mut [u8])
+    requires { 736 ≤ length file.old }
+{
+    for i in 0..40usize {
+        let (offset, place) = (18 * i, (7 * i % 40) as u8);
+        put_head(file, offset, 0x1000 + 2 * u64::from(place), 2);
+        file[offset + 16] = place;
+        file[offset + 17] = place + 100;
+    }
+    put_head(file, 720, 0x1007, 0);
+}
+
+#[test]
+fn lends_each_of_many_records(rt: HostRuntime) -> Result<(), Fail> {
+    let mut file = [7; 736];
+    put_forty(&mut file);
+    let image = MemoryImage::from_bytes(rt.alloc(), &file)?;
+    for place in 0..40u8 {
+        let start = 0x1000 + 2 * u64::from(place);
+        assert_eq!(rt;
+            image.map_physical_region(start, 2)?,
+            [place, place + 100].as_slice()
+        );
+        assert_eq!(rt;
+            image.map_physical_region(start + 1, 1)?,
+            [place + 100].as_slice()
+        );
+        assert!(rt; image.map_physical_region(start, 3).is_err());
+    }
+    assert!(rt; image.map_physical_region(0xFFF, 1).is_err());
+    assert!(rt; image.map_physical_region(0x1050, 1).is_err());
+    assert!(rt; image.map_physical_region(u64::MAX, 1).is_err());
+    Ok(())
+}
+
+#[test]
+fn compares_a_record_with_all_before_it(rt: HostRuntime) -> Result<(), Fail> {
+    // the last record behind forty others that lie from 0x1000 to 0x1050
+    let refused = Some(ImageError::Overlap);
+    for (start, count, answer) in [
+        (0xFF0, 16, None),
+        (0xFF0, 17, refused),
+        (0x104F, 1, refused),
+        (0x1050, 100, None),
+        (0xF80, 0x100, refused),
+        (0x1021, 0, None),
+    ] {
+        let mut file = [7; 1008];
+        put_forty(&mut file[..736]);
+        put_head(&mut file, 736, start, count);
+        let end = 752 + count as usize;
+        assert_eq!(rt; refusal(rt.alloc(), &file[..end]), answer, "from {start}");
+    }
+    Ok(())
+}
+
 #[test]
 fn refuses_files(rt: HostRuntime) -> Result<(), Fail> {
     let alloc = rt.alloc();
@@ -132,16 +190,16 @@ fn refuses_for_the_first_bad_record(rt: HostRuntime) -> Result<(), Fail> {
 
 #[test]
 fn each_growth_refused_in_turn(rt: HostRuntime) -> Result<(), Fail> {
-    let mut file = [7; 153];
-    for i in 0..9 {
+    let mut file = [7; 238];
+    for i in 0..14 {
         put_head(&mut file, 17 * i, i as u64, 1);
     }
     let (mut refused, mut read) = (0u32, 0u32);
-    for blocks in 0..64usize {
+    for blocks in 0..256usize {
         let heap = LocalHeap::new(rt.alloc(), 16 * blocks)?;
         match records_of(&heap, &file) {
             Ok(records) => {
-                assert_eq!(rt; records.len(), 9);
+                assert_eq!(rt; records.list.len(), 14);
                 read = read.wrapping_add(1);
             }
             Err(error) => {

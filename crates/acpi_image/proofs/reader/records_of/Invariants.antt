@@ -4,7 +4,7 @@ use Rattle.std.proofs.Common.{length}
 use Rattle.acpi_image.proofs.reader.records_of.Given as goal
 
 abbrev pub invariant-loop-rest : goal.invariant-loop-rest
-invariant-loop-rest g l = IsReading (regions_of l.records.items) l.rest l.bytes
+invariant-loop-rest g l = IsReading (regions_of l.records.list.items) l.rest l.bytes
 
 abbrev pub decreases-loop-rest : goal.decreases-loop-rest
 decreases-loop-rest g l = length l.rest
