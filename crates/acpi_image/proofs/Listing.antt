@@ -1,11 +1,12 @@
 -- Regions by their starts: the last one that starts at an address or below it is the only one that
 -- can hold the address.
-use Rattle.std.proofs.Common.{◌≡◌, ℕ, zero, suc, ◌-◌, ◌<◌, ◌≤◌, ◌==◌, ◌&&◌, nat_lt, Bool, true, false, List, [], ◌∷◌, ◌++◌, length, drop, slice_index_or, Some, None, IsSome, refl, sym, ap, subst, ◌∙◌, arith, inl, inr, ◌⊎◌}
+use Rattle.std.proofs.Common.{Option, ◌≡◌, ℕ, zero, suc, ◌-◌, ◌<◌, ◌≤◌, ◌==◌, ◌&&◌, nat_lt, Bool, true, false, List, [], ◌∷◌, ◌++◌, length, drop, slice_index_or, Some, None, IsSome, refl, sym, ap, subst, ◌∙◌, arith, inl, inr, ◌⊎◌}
 use Rattle.std.proofs.lemmas.Bool.{and_parts, and_from, ltb-true, lt-ltb, eqb-true, cases_lt, or_right}
 use Rattle.std.proofs.Common.{eq-eqb, ne_eqb, cond}
 use Rattle.std.proofs.lemmas.Bool.{and_right, cases_eq, le-ltb}
 use Rattle.std.proofs.lemmas.Bool.Decides.{nat_tests}
 use Rattle.std.specs.BTreeMap.{BTreeMap, get}
+use Rattle.std.specs.Option.{option_map}
 use Rattle.std.specs.Ordering.{is_eq, nat_cmp}
 use Rattle.std.proofs.lemmas.List.Elements.{All-from_recursion, All-contains, recursion_from_All, Contains-get_or}
 use Rattle.std.specs.List.{AllByRecursion, Contains}
@@ -18,7 +19,7 @@ pub all_apart_in : (m : Memory) → IsMemory m → AreAllApart m
 all_apart_in [] h = tt
 all_apart_in (r ∷ m) h = (h.1.0, all_apart_in m h.1.1)
 
-flipped : (r s : Region) → AreApart r s → AreApart s r
+pub flipped : (r s : Region) → AreApart r s → AreApart s r
 flipped r s h a hs hr = h a hr hs
 
 true_false : true ≡ false → ⊥
@@ -139,7 +140,7 @@ rest_found m start a bytes h e holds =
 
 -- ---- which regions share a byte with another one
 
-each : (m : Memory) (P : Region → Type 0) → ((s : Region) → Contains m s → P s) → AllByRecursion P m
+pub each : (m : Memory) (P : Region → Type 0) → ((s : Region) → Contains m s → P s) → AllByRecursion P m
 each m P h = recursion_from_All P m (λ k d less. h (slice_index_or m k d) (Contains-get_or m k d less))
 
 shares_listed : (m : Memory) (k : ℕ) (s r : Region) → k < length m → slice_index_or m k s ≡ s → share s r ≡ true → shares_any m r ≡ true
@@ -295,3 +296,19 @@ apart_none m none = rw none tt
 
 pub starts_none : {X : Type 0} (view : X → List ℕ) (starts : BTreeMap ℕ X) (m : Memory) → starts.entries ≡ [] → m ≡ [] → ListsStarts view starts m
 starts_none view starts m empty none a = rw (empty, none) (sym (bytes_nowhere a))
+
+-- ---- what a map lists is what starts there
+
+some_mapped : {X Y : Type 0} (view : X → Y) (o : Option X) → IsSome (option_map view o) → IsSome o
+some_mapped view None h = h
+some_mapped view (Some x) h = refl
+
+module _ {X : Type 0} (view : X → List ℕ) (starts : BTreeMap ℕ X) (m : Memory) (h : ListsStarts view starts m) where
+  pub bytes_listed : (a : ℕ) (x : X) → get nat_cmp starts a ≡ Some x → bytes_at m a ≡ Some (view x)
+  bytes_listed a x e = sym (h a) ∙ ap (option_map view) e
+
+  pub none_listed : (a : ℕ) → get nat_cmp starts a ≡ None → bytes_at m a ≡ None
+  none_listed a e = sym (h a) ∙ ap (option_map view) e
+
+  pub some_listed : (a : ℕ) → IsSome (bytes_at m a) → IsSome (get nat_cmp starts a)
+  some_listed a some = some_mapped view (get nat_cmp starts a) (rw (h a) some)

@@ -9,7 +9,7 @@ use Rattle.acpi_image.specs.WriteChecks.{check_places, check_plan, check_tables,
 use Rattle.acpi_image.specs.Written.{placed, placed_region, plan, records_of, root_length, starts_of, summed}
 use Rattle.acpi_image.proofs.Written.{length-root_to, length-rsdp_to, length-with_sum}
 use Rattle.acpi_image.specs.declared.write.PlacedTable.{PlacedTable}
-use Rattle.acpi_image.specs.declared.write.checks.Place.{Place}
+use Rattle.acpi_image.specs.declared.write.places.Place.{Place}
 use Rattle.acpi.specs.Root.{kind_of_revision}
 
 record SamePlace (r s : Region) : Type 0 where

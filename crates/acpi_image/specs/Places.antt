@@ -1,8 +1,10 @@
 -- Where records lie: their starts and lengths, whatever their bytes are.
-use Rattle.std.specs.Prelude.{List, length, map, replicate}
+use Rattle.std.specs.Prelude.{ℕ, List, length, map, replicate}
+use Rattle.std.specs.BTreeMap.{BTreeMap}
 use Rattle.acpi_base.specs.Memory.{Memory, Region}
+use Rattle.acpi_image.specs.Starts.{AreAllApart, ListsStarts}
 use Rattle.acpi_image.specs.declared.write.PlacedTable.{PlacedTable}
-use Rattle.acpi_image.specs.declared.write.checks.Place.{Place}
+use Rattle.acpi_image.specs.declared.write.places.Place.{Place}
 
 -- a region of this start and length
 abbrev pub region_in : Place → Region
@@ -12,3 +14,7 @@ region_in p = record { start = p.start; bytes = replicate p.length 0 }
 abbrev pub places_of : List PlacedTable → Memory
 places_of tables =
     map (λ t. record { start = t.address; bytes = replicate (length t.bytes.now) 0 }) tables
+
+-- the places are apart, and a map lists them: at each address the length of the one that starts there
+abbrev pub IsPlaced : BTreeMap ℕ ℕ → Memory → Type 0
+IsPlaced starts places = AreAllApart places × ListsStarts (λ n. replicate n 0) starts places

@@ -6,6 +6,7 @@ ghost use Rattle.acpi_image.specs.WriteLaws.{IsWritten};
 ghost use Rattle.acpi_image.specs.Written.{plan};
 
 mod checks;
+mod places;
 mod records;
 #[cfg(test)]
 mod tests;
@@ -26,7 +27,7 @@ pub struct PlacedTable<'a> {
 
 /// The file of `write_image`, in memory of this allocator.
 #[tactic(auto, unfolding(crate::specs::WriteChecks::written))]
-pub(crate) fn write_in<A: Allocator>(
+pub(crate) fn write_in<A: Allocator + Copy>(
     alloc: A,
     rsdp_address: u64,
     root_address: u64,
@@ -37,7 +38,7 @@ pub(crate) fn write_in<A: Allocator>(
         (written (plan rsdp_address root_address revision tables.now)) }
     ensures bytes { IfOk result (λ v. IsBytes v.items) }
 {
-    check_plan(rsdp_address, root_address, revision, tables)?;
+    check_plan(alloc, rsdp_address, root_address, revision, tables)?;
     let mut file = Vec::new(alloc);
     put_records(&mut file, rsdp_address, root_address, revision, tables)?;
     Ok(file)

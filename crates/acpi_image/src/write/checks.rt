@@ -2,116 +2,16 @@
 ghost use Rattle.std.specs.Prelude.{◌≡◌, ◌^◌, ◌<◌, ◌∷◌, nat_lt, length};
 ghost use Rattle.std.specs.List.{list_all};
 ghost use Rattle.std.specs.Str.{is_utf8};
-ghost use Rattle.acpi_base.specs.Memory.{end_of, lies_in};
-ghost use Rattle.acpi_image.specs.Image.{share, shares_any};
-ghost use Rattle.acpi_image.specs.Places.{places_of, region_in};
 ghost use Rattle.acpi_image.specs.WriteChecks as checks;
 ghost use Rattle.acpi_image.specs.Written.{placed, plan, root_length, starts_of};
 ghost use Rattle.acpi.specs.Root.{kind_of_revision, signature_of, width_of};
 
 use crate::error::WriteError;
 use crate::write::PlacedTable;
+use crate::write::places::{Place, check_places};
 use acpi_base::Signature;
 use acpi_base::bytes::{field, text_of};
-
-/// Where a record lies.
-#[derive(Clone, Copy)]
-pub(super) struct Place {
-    pub(super) start: u64,
-    pub(super) length: usize,
-}
-
-impl Place {
-    /// Where a table is to lie.
-    fn of(table: &PlacedTable<'_>) -> Place
-        ensures start { result.start ≡ table.now.address }
-        ensures length { result.length ≡ length table.now.bytes.now }
-    {
-        Place {
-            start: table.address,
-            length: table.bytes.len(),
-        }
-    }
-
-    /// Whether it ends below 2^64.
-    fn fits(self) -> bool
-        ensures { result ≡ nat_lt (end_of (region_in self)) (2 ^ 64) }
-    {
-        self.length as u64 <= u64::MAX - self.start
-    }
-
-    /// Whether an address lies in it.
-    fn holds(self, address: u64) -> bool
-        ensures { result ≡ lies_in (region_in self) address }
-    {
-        address >= self.start && address - self.start < self.length as u64
-    }
-
-    /// Whether some byte lies in it and in another.
-    #[tactic(auto, unfolding(crate::specs::Image::share))]
-    fn shares_byte(self, other: Place) -> bool
-        ensures { result ≡ share (region_in self) (region_in other) }
-    {
-        self.length > 0 && other.length > 0 && (self.holds(other.start) || other.holds(self.start))
-    }
-}
-
-/// Whether some byte lies in a place and in one of the tables.
-fn shares_with_any(place: Place, tables: &[PlacedTable<'_>]) -> bool
-    ensures { result ≡ shares_any (places_of tables.now) (region_in place) }
-{
-    for table in tables {
-        if Place::of(table).shares_byte(place) {
-            return true;
-        }
-    }
-    false
-}
-
-/// Whether some byte lies in two of the tables.
-fn some_share(tables: &[PlacedTable<'_>]) -> bool
-    ensures { result ≡ checks.some_share (places_of tables.now) }
-{
-    for index in 0..tables.len() {
-        if shares_with_any(Place::of(&tables[index]), &tables[index + 1..]) {
-            return true;
-        }
-    }
-    false
-}
-
-/// Whether each of the tables ends below 2^64.
-fn all_fit(tables: &[PlacedTable<'_>]) -> bool
-    ensures { result ≡ list_all (λ r. nat_lt (end_of r) (2 ^ 64)) (places_of tables.now) }
-{
-    for table in tables {
-        if !Place::of(table).fits() {
-            return false;
-        }
-    }
-    true
-}
-
-/// Tests where the records are to lie.
-///
-/// Refuses, in this order, with `EndTooLarge` and `Overlap`.
-#[tactic(auto, unfolding(crate::specs::WriteChecks::check_places))]
-fn check_places(rsdp: Place, root: Place, tables: &[PlacedTable<'_>]) -> Result<(), WriteError>
-    ensures { result ≡ checks.check_places
-        (region_in rsdp ∷ region_in root ∷ places_of tables.now) }
-{
-    if !rsdp.fits() || !root.fits() || !all_fit(tables) {
-        return Err(WriteError::EndTooLarge);
-    }
-    if root.shares_byte(rsdp)
-        || shares_with_any(rsdp, tables)
-        || shares_with_any(root, tables)
-        || some_share(tables)
-    {
-        return Err(WriteError::Overlap);
-    }
-    Ok(())
-}
+use std::alloc::Allocator;
 
 /// Whether bytes encode a text.
 fn is_text(bytes: &[u8]) -> bool
@@ -206,7 +106,8 @@ pub(super) fn root_length(revision: u8, count: usize) -> usize
 ///
 /// Refuses as `write_image` does, want of memory aside.
 #[tactic(auto, unfolding(crate::specs::WriteChecks::check_plan))]
-pub(super) fn check_plan(
+pub(super) fn check_plan<A: Allocator + Clone>(
+    alloc: A,
     rsdp_address: u64,
     root_address: u64,
     revision: u8,
@@ -232,5 +133,5 @@ pub(super) fn check_plan(
         start: root_address,
         length: root_length(revision, tables.len()),
     };
-    check_places(rsdp, root, tables)
+    check_places(alloc, rsdp, root, tables)
 }

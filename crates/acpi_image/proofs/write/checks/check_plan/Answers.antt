@@ -6,7 +6,7 @@ use Rattle.acpi_image.specs.Written.{placed}
 use Rattle.acpi_image.proofs.write.checks.check_plan.Goals as goal
 
 pub returns : goal.returns
-returns c =
+returns g c =
     let some : (c.args.root_address == 0) ≡ false = ne_eqb _ _ c.if-root_address-eq0.false in
     let are : checks.check_tables 0 (placed c.args.tables.now) ≡ Ok tt = grind (arith, common_steps) in
     c.check_places.ensures

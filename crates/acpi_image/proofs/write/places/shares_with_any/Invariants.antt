@@ -1,7 +1,7 @@
 use Rattle.std.proofs.Common.{◌≡◌, drop}
 use Rattle.acpi_image.specs.Image.{shares_any}
 use Rattle.acpi_image.specs.Places.{places_of, region_in}
-use Rattle.acpi_image.proofs.write.checks.shares_with_any.Given as goal
+use Rattle.acpi_image.proofs.write.places.shares_with_any.Given as goal
 
 abbrev pub invariant-loop-table : goal.invariant-loop-table
 invariant-loop-table l = shares_any (places_of (drop l.table-index l.tables)) (region_in l.place) ≡ shares_any (places_of l.tables) (region_in l.place)
