@@ -92,6 +92,7 @@ block_kept b address size extended ha hs he =
 
 -- the registers that what is kept says are those that the table says
 pub registers_kept : (b : List ℕ) → registers_in (kept_of b) ≡ registers_at b
+unfolding registers_in
 registers_kept b =
     ap registers_at (kept_is b) ∙ rw (
       block_kept b 56 88 148 (lit≤ tt) (lit≤ tt) (lit≤ tt),

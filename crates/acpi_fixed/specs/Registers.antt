@@ -59,7 +59,7 @@ kept_of b = record { front = filled_part b 0 276; count = length (take 276 b) }
 abbrev pub bytes_kept : RegisterBytes → List ℕ
 bytes_kept kept = take kept.count kept.front
 
-abbrev pub registers_in : RegisterBytes → Registers
+unfoldable pub registers_in : RegisterBytes → Registers
 registers_in kept = registers_at (bytes_kept kept)
 
 -- the extended field, where its address is not 0

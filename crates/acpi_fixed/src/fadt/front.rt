@@ -1,6 +1,6 @@
 //! The fields of a FADT, read from a copy of its bytes that is filled up with zeros where the table
 //! ends before: so no field is tested for whether it is there.
-ghost use Rattle.std.specs.Prelude.{◌≡◌, ◌+◌, ◌^◌, ◌*◌, ◌<◌, ◌≤◌};
+ghost use Rattle.std.specs.Prelude.{◌≡◌, ◌+◌, ◌^◌, ◌*◌, ◌<◌, ◌≤◌, ◌&&◌, length, nat_le};
 ghost use Rattle.acpi_base.specs.Bytes.{field_of, filled_part};
 ghost use Rattle.acpi_fixed.specs.Registers.{extended_number};
 
@@ -22,6 +22,16 @@ pub(super) fn number_in(front: &Front, table: &[u8], offset: usize, n: usize) ->
     field(front, offset, n)
 }
 
+/// Whether the table has revision 2 or above, and the `n` bytes at an offset.
+#[inline(always)]
+pub(super) fn is_extended(table: &[u8], offset: usize, n: usize) -> bool
+    requires { offset + n ≤ 276 }
+    ensures { result ≡ (nat_le 2 (field_of table.now 8 1)
+        && nat_le (offset + n) (length table.now)) }
+{
+    field(table, 8, 1) >= 2 && offset + n <= table.len()
+}
+
 /// The number of eight bytes at an offset, which tables of revision 2 and above have, where they
 /// have all of these bytes.
 #[inline(always)]
@@ -31,7 +41,7 @@ pub(super) fn extended_number_in(front: &Front, table: &[u8], offset: usize) -> 
     requires front { offset + 8 ≤ 276 }
     ensures { result ≡ extended_number table.now offset }
 {
-    if number_in(front, table, 8, 1) >= 2 && offset + 8 <= table.len() {
+    if is_extended(table, offset, 8) {
         Some(number_in(front, table, offset, 8))
     } else {
         None

@@ -3,7 +3,7 @@ ghost use Rattle.std.specs.Prelude.{◌≡◌, ◌+◌, ◌≤◌};
 ghost use Rattle.acpi_base.specs.Bytes.{filled_part};
 ghost use Rattle.acpi_fixed.specs.Registers.{address_or, extended_address, register_of};
 
-use super::front::Front;
+use super::front::{Front, is_extended};
 use acpi_base::address::{AccessSize, AddressSpace, GenericAddress, RawAddress};
 use acpi_base::bytes::{field, filled};
 use acpi_base::{AcpiError, AcpiResult};
@@ -46,7 +46,7 @@ fn extended_address_in(table: &[u8], offset: usize) -> Option<RawAddress>
     requires { offset + 12 ≤ 276 }
     ensures { result ≡ extended_address table.now offset }
 {
-    if field(table, 8, 1) >= 2 && offset + 12 <= table.len() {
+    if is_extended(table, offset, 12) {
         Some(filled(table, offset))
     } else {
         None
@@ -227,6 +227,7 @@ impl RegisterBytes {
 
     /// The registers that these bytes say.
     #[inline(always)]
+    #[tactic(auto, unfolding(crate::specs::Registers::registers_in))]
     pub(crate) fn registers(&self) -> Registers
         ensures { result ≡ registers_in self.now }
     {
