@@ -1,3 +1,4 @@
+pub mod Brief
 pub mod Agreed
 pub mod AgreedOpened
 pub mod Examples

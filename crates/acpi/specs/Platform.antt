@@ -1,5 +1,5 @@
 -- What the FADT and the MADT say together.
-use Rattle.std.specs.Prelude.{ℕ, List, None, Result, Ok, Err, IsOk}
+use Rattle.std.specs.Prelude.{ℕ, List, Option, None, Result, Ok, Err, IsOk}
 use Rattle.acpi_base.specs.Header.{check_table}
 use Rattle.acpi_base.specs.Memory.{Memory}
 use Rattle.acpi_base.specs.Model as model
@@ -9,11 +9,12 @@ use Rattle.acpi_base.specs.declared.error.AcpiError.{AcpiError}
 use Rattle.acpi_base.specs.declared.model.interrupt.InterruptModel.TheVariants.{Unknown}
 use Rattle.acpi_base.specs.declared.signature.TheConstants.Signature.{MADT}
 use Rattle.acpi_fixed.specs.Fadt.{fadt_at, profile_of}
-use Rattle.acpi_fixed.specs.declared.fadt.Fadt.{Fadt}
+use Rattle.acpi_fixed.specs.declared.fadt.PowerProfile.{PowerProfile}
 use Rattle.acpi.specs.Lists.{fadt_kind}
 use Rattle.acpi.specs.Lookup.{lookup}
 use Rattle.acpi.specs.Timer.{timer_of}
 use Rattle.acpi.specs.declared.platform.PlatformInfo.{PlatformInfo}
+use Rattle.acpi.specs.declared.platform.timer.PmTimer.{PmTimer}
 
 abbrev pub madt_kind : Kind
 madt_kind = kind MADT 44 (check_table MADT)
@@ -28,23 +29,24 @@ model_found (Err e) = Ok (Unknown, None)
 abbrev pub model_in : {A : Type 0} → Memory → List ℕ → Result (model.Model A) AcpiError
 model_in m ps = model_found (lookup m madt_kind ps)
 
--- beside a FADT: the model, then the timer
-abbrev pub platform_with : {A : Type 0} → Memory → List ℕ → Fadt → Result (PlatformInfo A) AcpiError
-platform_with m ps fadt = do
+-- beside what a FADT says: the model, then the timer
+abbrev pub platform_beside : {A : Type 0} → Memory → List ℕ → PowerProfile
+    → Result (Option PmTimer) AcpiError → Result (PlatformInfo A) AcpiError
+platform_beside m ps profile timer = do
   said ← model_in m ps
-  timer ← timer_of fadt
+  found ← timer
   Ok (record {
-    power_profile = profile_of fadt;
+    power_profile = profile;
     interrupt_model = said.0;
     processor_info = said.1;
-    pm_timer = timer;
+    pm_timer = found;
   })
 
 -- the first valid FADT, and what is said beside it
 abbrev pub platform_of : {A : Type 0} → Memory → List ℕ → Result (PlatformInfo A) AcpiError
 platform_of m ps = do
   fadt ← lookup m fadt_kind ps
-  platform_with m ps (fadt_at fadt.1)
+  platform_beside m ps (profile_of (fadt_at fadt.1)) (timer_of (fadt_at fadt.1))
 
 -- ---- want of memory
 

@@ -8,14 +8,20 @@ use Rattle.acpi_base.specs.Steps.{◌>>=◌}
 use Rattle.acpi_fixed.specs.Fadt.{pm_timer_of}
 use Rattle.acpi_fixed.specs.Flags.{feature_bits}
 use Rattle.acpi_fixed.specs.declared.fadt.Fadt.{Fadt}
+use Rattle.acpi_fixed.specs.declared.fadt.flags.FixedFeatureFlags.{FixedFeatureFlags}
 use Rattle.acpi.specs.declared.platform.timer.PmTimer.{PmTimer}
 
 -- the timer of a block, with bit 8 of the flags
-abbrev pub timer_at : Fadt → GenericAddress → PmTimer
-timer_at f base = record { base = base; supports_32bit = has_bit (feature_bits f.flags) 8 }
+abbrev pub timer_at : FixedFeatureFlags → GenericAddress → PmTimer
+timer_at flags base = record { base = base; supports_32bit = has_bit (feature_bits flags) 8 }
+
+-- the timer of the block that there is, if any
+abbrev pub timer_from : Result (Option GenericAddress) AcpiError → FixedFeatureFlags
+    → Result (Option PmTimer) AcpiError
+timer_from block flags = do
+  found ← block
+  Ok (option_map (timer_at flags) found)
 
 -- the timer, if the table has its block
 abbrev pub timer_of : Fadt → Result (Option PmTimer) AcpiError
-timer_of f = do
-  block ← pm_timer_of f
-  Ok (option_map (timer_at f) block)
+timer_of f = timer_from (pm_timer_of f) f.flags

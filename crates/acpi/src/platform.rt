@@ -1,7 +1,7 @@
 //! What the platform has, as the tables say together.
 ghost use Rattle.acpi_base.specs.Steps.{GivesOrFull};
 ghost use Rattle.acpi.specs.Footprint.{FootprintBelow, platform_ranges};
-ghost use Rattle.acpi.specs.Platform.{PlatformAsks, ModelAsks, model_in, platform_of, platform_with};
+ghost use Rattle.acpi.specs.Platform.{PlatformAsks, ModelAsks, model_in, platform_beside, platform_of};
 ghost use Rattle.acpi.specs.Relocation.{Relocation};
 ghost use Rattle.acpi.specs.Tables.{memory_of, pointers_of};
 
@@ -15,7 +15,7 @@ use crate::tables::AcpiTables;
 use acpi_base::madt::Madt;
 pub use acpi_base::model::{ModelAndProcessors, Processor, ProcessorInfo, ProcessorState};
 use acpi_base::{AcpiHandler, AcpiResult};
-use acpi_fixed::fadt::{Fadt, PowerProfile};
+use acpi_fixed::fadt::{FadtBrief, PowerProfile};
 use interrupt::InterruptModel;
 pub use mailbox::{Mailbox, MailboxWrite};
 pub use scripted::ScriptedMailbox;
@@ -76,31 +76,36 @@ impl<A: Allocator + Clone> PlatformInfo<A> {
     }
 
     /// `new_in`, by the exact clause from which its laws follow.
+    #[tactic(auto, using(crate::proofs::Brief::profile_of_brief, crate::proofs::Brief::timer_in_brief))]
     fn found<H: AcpiHandler>(tables: &AcpiTables<'_, H>, allocator: A) -> AcpiResult<Self>
         ensures { GivesOrFull (PlatformAsks (memory_of tables.now) (pointers_of tables.now)) result
             (platform_of (memory_of tables.now) (pointers_of tables.now)) }
     {
-        // It is looked at where it lies: a FADT's record is long.
-        let found = tables.first_member::<Fadt>();
+        // It is looked at where it lies, so that it isn't copied.
+        let found = tables.first_member::<FadtBrief>();
         match &found {
-            Ok(fadt) => PlatformInfo::with(fadt, tables, allocator),
+            Ok(fadt) => {
+                PlatformInfo::beside(fadt.power_profile(), PmTimer::of(fadt), tables, allocator)
+            }
             Err(error) => Err(*error),
         }
     }
 
-    /// What a FADT and the first valid MADT say.
-    fn with<H: AcpiHandler>(
-        fadt: &Fadt,
+    /// What the first valid MADT says, beside what the FADT says: a profile, and a timer or why
+    /// that is refused.
+    fn beside<H: AcpiHandler>(
+        power_profile: PowerProfile,
+        timer: AcpiResult<Option<PmTimer>>,
         tables: &AcpiTables<'_, H>,
         allocator: A,
     ) -> AcpiResult<Self>
         ensures { GivesOrFull (ModelAsks (memory_of tables.now) (pointers_of tables.now)) result
-            (platform_with (memory_of tables.now) (pointers_of tables.now) fadt.now) }
+            (platform_beside (memory_of tables.now) (pointers_of tables.now) power_profile timer) }
     {
         let (interrupt_model, processor_info) = found_model(tables, allocator)?;
-        let pm_timer = PmTimer::new(fadt)?;
+        let pm_timer = timer?;
         Ok(PlatformInfo {
-            power_profile: fadt.power_profile(),
+            power_profile,
             interrupt_model,
             processor_info,
             pm_timer,

@@ -17,7 +17,7 @@ use crate::ssdts::SsdtIterator;
 use acpi_base::bytes::skip;
 use acpi_base::sdt::{SdtHeader, map_sdt, map_table};
 use acpi_base::{AcpiError, AcpiHandler, AcpiResult, AcpiTable, PhysicalMapping, Signature};
-use acpi_fixed::fadt::Fadt;
+use acpi_fixed::fadt::FadtBrief;
 use std::alloc::{Allocator, Global};
 
 /// The tables that a root table leads to. The root table stays mapped until this is dropped.
@@ -171,11 +171,12 @@ impl<'h, H: AcpiHandler> AcpiTables<'h, H> {
     }
 
     /// `dsdt`, by the exact clause from which its footprint follows.
+    #[tactic(auto, using(crate::proofs::Brief::dsdt_of_brief))]
     fn find_dsdt(&self) -> AcpiResult<AmlTable>
         ensures { result ≡ dsdt_stream (memory_of self.now) (pointers_of self.now) }
     {
-        // It is looked at where it lies: a FADT's record is long.
-        let found = self.first_member::<Fadt>();
+        // It is looked at where it lies, so that it isn't copied.
+        let found = self.first_member::<FadtBrief>();
         match &found {
             Ok(fadt) => self.dsdt_at(fadt.dsdt_address()?),
             Err(error) => Err(*error),

@@ -1,4 +1,5 @@
 pub mod Bgrt
+pub mod Brief
 pub mod Fadt
 pub mod Flags
 pub mod Registers

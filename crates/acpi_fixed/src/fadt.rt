@@ -1,6 +1,9 @@
 //! The fixed hardware: where its registers lie, and what it can do.
 ghost use Rattle.std.specs.Prelude.{◌≡◌};
+ghost use Rattle.acpi_fixed.specs.Fadt.{profile_for};
 
+mod brief;
+mod extended;
 mod flags;
 mod front;
 mod registers;
@@ -9,8 +12,10 @@ use acpi_base::address::GenericAddress;
 use acpi_base::bytes::filled;
 use acpi_base::sdt::SdtHeader;
 use acpi_base::{AcpiError, AcpiResult, AcpiTable, PhysicalRecord, Signature};
+pub use brief::FadtBrief;
+use extended::extended_number_in;
 pub use flags::{ArmBootArchFlags, FixedFeatureFlags, IaPcBootArchFlags};
-use front::{Front, extended_number_in, number_in};
+use front::{Front, number_in};
 use registers::{RegisterBytes, Registers, address_from, register_from};
 
 /// What the machine is for (section 5.2.9).
@@ -98,6 +103,24 @@ pub struct Fadt {
     x_dsdt_address: Option<u64>,
 }
 
+/// The profile of a code.
+fn profile_from(code: u8) -> PowerProfile
+    ensures { result ≡ profile_for code }
+{
+    match code {
+        0 => PowerProfile::Unspecified,
+        1 => PowerProfile::Desktop,
+        2 => PowerProfile::Mobile,
+        3 => PowerProfile::Workstation,
+        4 => PowerProfile::EnterpriseServer,
+        5 => PowerProfile::SohoServer,
+        6 => PowerProfile::AppliancePc,
+        7 => PowerProfile::PerformanceServer,
+        8 => PowerProfile::Tablet,
+        other => PowerProfile::Reserved(other),
+    }
+}
+
 impl PhysicalRecord for Fadt {
     ghost use Rattle.acpi_fixed.specs.Fadt.{fadt_at};
 
@@ -137,8 +160,8 @@ impl PhysicalRecord for Fadt {
             flags: FixedFeatureFlags::new(number_in(front, bytes, 112, 4) as u32),
             reset_value: number_in(front, bytes, 128, 1) as u8,
             arm_boot_arch: ArmBootArchFlags::new(number_in(front, bytes, 129, 2) as u16),
-            x_firmware_ctrl: extended_number_in(front, bytes, 132),
-            x_dsdt_address: extended_number_in(front, bytes, 140),
+            x_firmware_ctrl: extended_number_in(bytes, 132),
+            x_dsdt_address: extended_number_in(bytes, 140),
         }
     }
 }
@@ -184,18 +207,7 @@ impl Fadt {
     pub fn power_profile(&self) -> PowerProfile
         ensures { result ≡ profile_of self.now }
     {
-        match self.preferred_pm_profile {
-            0 => PowerProfile::Unspecified,
-            1 => PowerProfile::Desktop,
-            2 => PowerProfile::Mobile,
-            3 => PowerProfile::Workstation,
-            4 => PowerProfile::EnterpriseServer,
-            5 => PowerProfile::SohoServer,
-            6 => PowerProfile::AppliancePc,
-            7 => PowerProfile::PerformanceServer,
-            8 => PowerProfile::Tablet,
-            other => PowerProfile::Reserved(other),
-        }
+        profile_from(self.preferred_pm_profile)
     }
 
     /// The physical address of the FACS: the 64-bit one where it is there and not 0, else the

@@ -4,6 +4,7 @@ ghost use Rattle.std.specs.Hash.{isize};
 ghost use Rattle.std.specs.Ordering.{nat_cmp};
 ghost use Rattle.acpi_base.specs.Equality.{IsEquality};
 ghost use Rattle.acpi_fixed.specs.Bgrt.{rank_of};
+ghost use Rattle.acpi_fixed.specs.Brief.{BriefIsBrief};
 ghost use Rattle.acpi_fixed.specs.Fadt.{fadt_at, registers_of};
 ghost use Rattle.acpi_fixed.specs.Registers.{registers_at};
 
@@ -43,4 +44,9 @@ pub fn image_type_hash<H: Hasher>(form: &ImageType, state: &mut H)
 /// The registers that a table's record gives are those that the table says.
 pub fn registers_are_the_tables(table: &[u8])
     ensures { registers_of (fadt_at table.now) ≡ registers_at table.now }
+{}
+
+/// What is read of a FADT to go on from it is what its whole record says.
+pub fn a_brief_is_of_its_table()
+    ensures { BriefIsBrief }
 {}

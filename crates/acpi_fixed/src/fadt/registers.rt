@@ -1,9 +1,10 @@
 //! What the FADT gives in two ways: by a field of its first versions, and by an extended one.
 ghost use Rattle.std.specs.Prelude.{◌≡◌, ◌+◌, ◌≤◌};
 ghost use Rattle.acpi_base.specs.Bytes.{filled_part};
-ghost use Rattle.acpi_fixed.specs.Registers.{address_or, extended_address, register_of};
+ghost use Rattle.acpi_fixed.specs.Registers.{address_or, register_of};
 
-use super::front::{Front, is_extended};
+use super::extended::extended_address_in;
+use super::front::Front;
 use acpi_base::address::{AccessSize, AddressSpace, GenericAddress, RawAddress};
 use acpi_base::bytes::{field, filled};
 use acpi_base::{AcpiError, AcpiResult};
@@ -38,21 +39,6 @@ pub(crate) fn register_from(raw: Option<RawAddress>) -> AcpiResult<Option<Generi
     }
 }
 
-/// The twelve bytes of a generic address at an offset, which tables of revision 2 and above have,
-/// where they have all of these bytes.
-#[inline(always)]
-#[tactic(auto, using(crate::proofs::Front::address_there, crate::proofs::Front::no_address))]
-fn extended_address_in(table: &[u8], offset: usize) -> Option<RawAddress>
-    requires { offset + 12 ≤ 276 }
-    ensures { result ≡ extended_address table.now offset }
-{
-    if is_extended(table, offset, 12) {
-        Some(filled(table, offset))
-    } else {
-        None
-    }
-}
-
 /// A block of registers: by the first port and the number of bytes that the first versions of the
 /// table have, and by its extended field.
 #[derive(Clone, Copy, Debug)]
@@ -68,7 +54,7 @@ impl RegisterBlock {
 
     /// The block whose address, length and extended field a table has at these offsets.
     #[inline(always)]
-    fn read(table: &[u8], address: usize, size: usize, extended: usize) -> RegisterBlock
+    pub(super) fn read(table: &[u8], address: usize, size: usize, extended: usize) -> RegisterBlock
         requires { extended + 12 ≤ 276 }
         ensures { result ≡ block_at table.now address size extended }
     {

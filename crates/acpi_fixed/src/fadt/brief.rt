@@ -1,0 +1,101 @@
+//! What is wanted of a FADT to go on from it.
+ghost use Rattle.std.specs.Prelude.{◌≡◌};
+
+use super::extended::extended_number_in;
+use super::registers::{RegisterBlock, address_from};
+use super::{FixedFeatureFlags, PowerProfile, profile_from};
+use acpi_base::address::GenericAddress;
+use acpi_base::bytes::field;
+use acpi_base::sdt::SdtHeader;
+use acpi_base::{AcpiError, AcpiResult, AcpiTable, PhysicalRecord, Signature};
+
+/// The fields of a FADT (section 5.2.9) by which the DSDT, the profile and the timer are found: a
+/// short record, since what a lookup finds is handed on by copying. It is valid exactly where the
+/// whole `Fadt` is.
+#[derive(Clone, Copy)]
+pub struct FadtBrief {
+    header: SdtHeader,
+    dsdt_address: u32,
+    preferred_pm_profile: u8,
+    flags: FixedFeatureFlags,
+    x_dsdt_address: Option<u64>,
+    pm_timer: RegisterBlock,
+}
+
+impl PhysicalRecord for FadtBrief {
+    ghost use Rattle.acpi_fixed.specs.Brief.{brief_at};
+
+    const MIN_LENGTH: usize = 116;
+
+    ghost MIN_LENGTH = { 116 };
+
+    ghost reading = { brief_at };
+
+    #[tactic(auto, unfolding(crate::specs::Brief::brief_at))]
+    fn read(bytes: &[u8]) -> Self {
+        FadtBrief {
+            header: SdtHeader::read(bytes),
+            dsdt_address: field(bytes, 40, 4) as u32,
+            preferred_pm_profile: field(bytes, 45, 1) as u8,
+            flags: FixedFeatureFlags::new(field(bytes, 112, 4) as u32),
+            x_dsdt_address: extended_number_in(bytes, 140),
+            pm_timer: RegisterBlock::read(bytes, 76, 91, 208),
+        }
+    }
+}
+
+impl AcpiTable for FadtBrief {
+    ghost use Rattle.std.proofs.Common.{lit≤};
+    ghost use Rattle.acpi_base.specs.Header.{check_table};
+    ghost use Rattle.acpi_base.specs.declared.signature.TheConstants.Signature.{FADT};
+
+    const SIGNATURE: Signature = Signature::FADT;
+
+    ghost SIGNATURE = { FADT };
+
+    ghost verdict = { check_table FADT };
+
+    #[tactic(auto, unfolding(crate::specs::Brief::brief_at))]
+    fn header(&self) -> &SdtHeader {
+        &self.header
+    }
+
+    fn validate(&self, bytes: &[u8]) -> AcpiResult<()> {
+        self.header().validate(Self::SIGNATURE, bytes)
+    }
+
+    ghost least = { lit≤ tt };
+}
+
+impl FadtBrief {
+    ghost use Rattle.acpi_fixed.specs.Brief.{brief_dsdt_address, brief_flags, brief_profile, brief_timer_block};
+
+    /// What `Fadt::dsdt_address` answers.
+    pub fn dsdt_address(&self) -> AcpiResult<u64>
+        ensures { result ≡ brief_dsdt_address self.now }
+    {
+        let refusal = AcpiError::InvalidDsdtAddress;
+        address_from(refusal, self.x_dsdt_address, self.dsdt_address)
+    }
+
+    /// What `Fadt::power_profile` answers.
+    pub fn power_profile(&self) -> PowerProfile
+        ensures { result ≡ brief_profile self.now }
+    {
+        profile_from(self.preferred_pm_profile)
+    }
+
+    /// The flags of the fixed hardware.
+    pub fn flags(&self) -> FixedFeatureFlags
+        ensures { result ≡ brief_flags self.now }
+    {
+        self.flags
+    }
+
+    /// What `Fadt::pm_timer_block` answers.
+    pub fn pm_timer_block(&self) -> AcpiResult<Option<GenericAddress>>
+        ensures { result ≡ brief_timer_block self.now }
+    {
+        self.pm_timer.timer_block()
+    }
+}
