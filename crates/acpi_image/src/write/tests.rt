@@ -254,6 +254,57 @@ fn memory_is_asked_for_behind_the_checks(rt: HostRuntime) -> Result<(), Fail> {
     Ok(())
 }
 
+/// Fourteen boot graphics that touch, from 0x2000 to 0x2310, in another order than that of their
+/// addresses, and behind them one at an address.
+fn fifteen_with(address: u64) -> [PlacedTable<'static>; 15] {
+    let mut tables = [graphic_at(address); 15];
+    for index in 0..14usize {
+        tables[index] = graphic_at(0x2000 + 56 * (5 * index as u64 % 14));
+    }
+    tables
+}
+
+#[test]
+fn compares_a_table_with_all_before_it(rt: HostRuntime) -> Result<(), Fail> {
+    // the RSDP lies from 0x500 to 0x524, and the root table from 0x1000 to 0x109C
+    for (address, answer) in [
+        (0x4C8, None),
+        (0x4C9, Some(WriteError::Overlap)),
+        (0x523, Some(WriteError::Overlap)),
+        (0x524, None),
+        (0xFC9, Some(WriteError::Overlap)),
+        (0x109B, Some(WriteError::Overlap)),
+        (0x109C, None),
+        (0x1FC8, None),
+        (0x1FC9, Some(WriteError::Overlap)),
+        (0x2150, Some(WriteError::Overlap)),
+        (0x230F, Some(WriteError::Overlap)),
+        (0x2310, None),
+    ] {
+        let tables = fifteen_with(address);
+        let file = write_image(rt.alloc(), 0x500, 0x1000, 2, &tables);
+        assert_eq!(rt; file.err(), answer, "at {address}");
+    }
+    Ok(())
+}
+
+#[test]
+fn tables_are_compared_without_memory_too(rt: HostRuntime) -> Result<(), Fail> {
+    for (address, answer) in [
+        (0x230F, WriteError::Overlap),
+        (0x2310, WriteError::OutOfMemory),
+    ] {
+        let tables = fifteen_with(address);
+        for blocks in 0..64usize {
+            let heap = LocalHeap::new(rt.alloc(), 16 * blocks)?;
+            let refused = write_in(&heap, 0x500, 0x1000, 2, &tables).err();
+            assert_eq!(rt; refused, Some(answer), "with {blocks} blocks");
+            assert_eq!(rt; heap.used(), 0);
+        }
+    }
+    Ok(())
+}
+
 #[test]
 fn refusals_print_their_names(rt: HostRuntime) -> Result<(), Fail> {
     let alloc = rt.alloc();
