@@ -1,3 +1,7 @@
 pub mod Command
+pub mod Lines
+pub mod Output
+pub mod PlatformLines
 pub mod Status
 pub mod Words
+pub mod Writing

@@ -1,5 +1,5 @@
 -- The status that a run ends with.
-use Rattle.std.specs.Prelude.{◌≡◌, ◌⊎◌, ℕ, List, Option, Some, None, Result, Ok, Err}
+use Rattle.std.specs.Prelude.{ℕ, List, Option, Some, None, Result, Ok, Err}
 use Rattle.acpi_base.specs.Memory.{Memory}
 use Rattle.acpi_base.specs.declared.error.AcpiError.{AcpiError}
 use Rattle.acpi.specs.Opened.{Opened, opened_at, opened_by_rsdp, opened_by_search}
@@ -40,9 +40,3 @@ abbrev pub RunsOutWith : Option Command → Option (List ℕ) → Type 0
 RunsOutWith None file = ⊥
 RunsOutWith (Some command) None = ⊥
 RunsOutWith (Some command) (Some file) = RunsOut file
-
--- a status that a run may end with where each write is taken: the one that is defined, or 1 where
--- memory can run out
-abbrev pub IsStatus : List (List ℕ) → Option (List ℕ) → ℕ → Type 0
-IsStatus words file status =
-    (status ≡ status_for words file) ⊎ ((status ≡ 1) × RunsOutWith (command_of words) file)

@@ -13,7 +13,7 @@ mod run;
 mod tests;
 mod words;
 
-use run::run;
+use run::run_gathered;
 use std::process::ExitCode;
 use std::{env, fs, io};
 use words::{file_named, texts_or_none};
@@ -25,7 +25,7 @@ fn main(rt: HostRuntime) -> ExitCode {
 /// Runs the program on the process's words, and answers the status. The words are judged before the
 /// file that they name is opened.
 ///
-/// Refuses where memory for the words is refused.
+/// Refuses where memory for the words or for gathering the outputs is refused.
 fn view(rt: &HostRuntime) -> io::Result<u8> {
     let texts = texts_or_none(rt.alloc(), texts_of(rt))?;
     let mut words = Vec::new(rt.alloc());
@@ -34,8 +34,7 @@ fn view(rt: &HostRuntime) -> io::Result<u8> {
     }
     let image = file_named(&words).and_then(|name| fs::read(rt, name).ok());
     let bytes = image.as_ref().map(|image| image.as_slice());
-    let (mut out, mut err) = (io::writer(rt), rt.stderr());
-    Ok(run(rt.alloc(), &words, bytes, &mut out, &mut err))
+    run_gathered(rt.alloc(), &words, bytes, io::writer(rt), rt.stderr())
 }
 
 /// The words behind the program's name.

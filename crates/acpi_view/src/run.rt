@@ -1,10 +1,13 @@
 //! The program over any writers.
-ghost use Rattle.std.specs.Prelude.{◌≡◌, ◌≢◌, ◌⊎◌, IfOk, None, map};
+ghost use Rattle.std.specs.Prelude.{◌≡◌, ◌≢◌, ◌⊎◌, IfOk, IfSome, None, OnOk, map};
+ghost use Rattle.std.specs.Io.KnownBytes.{Appends};
 ghost use Rattle.std.specs.Option.{option_copied};
 ghost use Rattle.acpi_base.specs.Steps.{Gives};
 ghost use Rattle.acpi.specs.Opened.{opened_of};
+ghost use Rattle.acpi.specs.Tables.{lender_of};
 ghost use Rattle.acpi_view.specs.Command.{command_of};
-ghost use Rattle.acpi_view.specs.Status.{IsStatus, opened_for, status_for, status_of};
+ghost use Rattle.acpi_view.specs.Output.{Ends, Prints, found_for, found_in, refusal_line};
+ghost use Rattle.acpi_view.specs.Status.{opened_for, status_for, status_of};
 
 use crate::lines::{print_parts, print_skipped_tables};
 use crate::words::{Command, parse_command};
@@ -23,11 +26,10 @@ const BUFFERED: usize = 32768;
 /// where something is refused, and 2 where the words are no command.
 ///
 /// Faults are found in this order: words that are no command, a file that can't be read, what
-/// `MemoryImage::from_bytes` refuses, and what opening the root table refuses. A write that is
-/// refused ends it with status 1, and so does memory that is refused for gathering what is written;
-/// each output then has a front of what it would have got. Memory that is refused for the platform
-/// or for the regions of configuration space ends nothing: that part is refused, as
-/// `platform: AllocError` or `pci: AllocError`.
+/// `MemoryImage::from_bytes` refuses, and what opening the root table refuses. A write or a flush
+/// that is refused ends it with status 1. Memory that is refused for the platform or for the regions
+/// of configuration space ends nothing: that part is refused, as `platform: AllocError` or
+/// `pci: AllocError`.
 pub fn run<W: Write, E: Write>(
     alloc: Global,
     words: &[&str],
@@ -38,23 +40,59 @@ pub fn run<W: Write, E: Write>(
     // The status is the one that is defined, or 1 where a write or memory is refused.
     ensures status { result ≢ 1 →
         result ≡ status_for (map (λ w. w.now) words.now) (option_copied image.entry) }
+    // What is printed then is what is defined, and nothing else.
+    ensures printed { result ≢ 1 →
+        Prints (found_for (map (λ w. w.now) words.now) (option_copied image.entry))
+        (W.contents out.old) (W.contents out.new) (E.contents err.old) (E.contents err.new) }
     // So words that are no command give 2, unless the line on the usage can't be written.
     ensures no_command { command_of (map (λ w. w.now) words.now) ≡ None →
         (result ≡ 2) ⊎ (result ≡ 1) }
     // And nothing else gives 2.
     ensures usage { result ≡ 2 → command_of (map (λ w. w.now) words.now) ≡ None }
 {
-    let Ok(mut out) = BufWriter::with_capacity(alloc, BUFFERED, out) else {
-        return 1;
-    };
-    let Ok(mut err) = BufWriter::with_capacity(alloc, BUFFERED, err) else {
-        return 1;
-    };
-    let printed = print_all(alloc, words, image, &mut out, &mut err);
-    match (printed, out.flush(), err.flush()) {
-        (Ok(status), Ok(()), Ok(())) => status,
-        _ => 1,
-    }
+    print_run(alloc, words, image, out, err).unwrap_or(1)
+}
+
+/// `run` over writers that are gathered in 32 KiB each before they are written, so that a refused
+/// write leaves a front of what an output would have got.
+///
+/// Refuses where memory for gathering is refused.
+pub fn run_gathered<W: Write + Drop, E: Write + Drop>(
+    alloc: Global,
+    words: &[&str],
+    image: Option<&[u8]>,
+    out: W,
+    err: E,
+) -> io::Result<u8>
+    ensures { IfOk result (λ s. s ≢ 1 →
+        s ≡ status_for (map (λ w. w.now) words.now) (option_copied image.entry)) }
+{
+    let mut out = BufWriter::with_capacity(alloc, BUFFERED, out)?;
+    let mut err = BufWriter::with_capacity(alloc, BUFFERED, err)?;
+    Ok(run(alloc, words, image, &mut out, &mut err))
+}
+
+/// `run`, which refuses with what the first refused write or flush is refused with.
+#[tactic(auto, using(crate::proofs::Flushed::ends_kept))]
+pub fn print_run<W: Write, E: Write>(
+    alloc: Global,
+    words: &[&str],
+    image: Option<&[u8]>,
+    out: &mut W,
+    err: &mut E,
+) -> io::Result<u8>
+    // Where each write is taken, the status is the one that is defined, and so is what is printed; or
+    // memory for the image is refused, and one line says so.
+    ensures { IfOk result (λ s. Ends (map (λ w. w.now) words.now) (option_copied image.entry) s
+        (W.contents out.old) (W.contents out.new) (E.contents err.old) (E.contents err.new)) }
+{
+    let printed = print_all(alloc, words, image, out, err);
+    let shown = out.flush();
+    let told = err.flush();
+    let status = printed?;
+    shown?;
+    told?;
+    Ok(status)
 }
 
 /// Prints the lines, or the first fault, and answers the status.
@@ -65,8 +103,8 @@ fn print_all<W: Write, E: Write>(
     out: &mut W,
     err: &mut E,
 ) -> io::Result<u8>
-    ensures { IfOk result
-        (λ s. IsStatus (map (λ w. w.now) words.now) (option_copied image.entry) s) }
+    ensures { IfOk result (λ s. Ends (map (λ w. w.now) words.now) (option_copied image.entry) s
+        (W.contents out.old) (W.contents out.new) (E.contents err.old) (E.contents err.new)) }
 {
     let Some(command) = parse_command(words) else {
         writeln!(
@@ -86,13 +124,16 @@ fn print_all<W: Write, E: Write>(
 
 /// Prints why the whole run is refused, and answers its status.
 fn refuse<D: Display + Drop, E: Write>(refusal: D, err: &mut E) -> io::Result<u8>
-    ensures { IfOk result (λ s. s ≡ 1) }
+    ensures status { IfOk result (λ s. s ≡ 1) }
+    ensures line { OnOk result (IfSome (D.output refusal) (λ name.
+        Appends (E.contents err.old) (E.contents err.new) (refusal_line name))) }
 {
     writeln!(err, "refused: {refusal}")?;
     Ok(1)
 }
 
 /// Prints what the tables in a memory say, and answers the status.
+#[tactic(auto, using(crate::proofs::Output::no_lines))]
 fn print_image<H: AcpiHandler, W: Write, E: Write>(
     alloc: Global,
     handler: &H,
@@ -100,7 +141,11 @@ fn print_image<H: AcpiHandler, W: Write, E: Write>(
     out: &mut W,
     err: &mut E,
 ) -> io::Result<u8>
-    ensures { IfOk result (λ s. s ≡ status_of (opened_for (H.memory handler.now) command)) }
+    ensures status { IfOk result
+        (λ s. s ≡ status_of (opened_for (H.memory handler.now) command)) }
+    ensures printed { OnOk result
+        (Prints (found_in (H.memory handler.now) (opened_for (H.memory handler.now) command))
+        (W.contents out.old) (W.contents out.new) (E.contents err.old) (E.contents err.new)) }
 {
     match open(handler, command) {
         Ok(tables) => {
@@ -114,7 +159,8 @@ fn print_image<H: AcpiHandler, W: Write, E: Write>(
 
 /// The tables that a command asks for.
 fn open<H: AcpiHandler>(handler: &H, command: Command) -> AcpiResult<AcpiTables<'_, H>>
-    ensures { Gives (λ t. opened_of t) result (opened_for (H.memory handler.now) command) }
+    ensures lender { IfOk result (λ t. lender_of t ≡ handler.now) }
+    ensures exact { Gives (λ t. opened_of t) result (opened_for (H.memory handler.now) command) }
 {
     match command {
         Command::Rsdt { revision, address } => AcpiTables::from_rsdt(handler, revision, address),

@@ -2,7 +2,7 @@
 
 use super::{WORDS, check_run, empty_root, one_graphic, put, put_head};
 use crate::refusing::{Refused, Refusing};
-use crate::run::run;
+use crate::run::run_gathered;
 use std::alloc::Global;
 use std::process::Abort;
 
@@ -34,7 +34,7 @@ fn run_over(
 ) -> (u8, Refusing, Refusing) {
     let mut out = Refusing::new(alloc, out);
     let mut err = Refusing::new(alloc, err);
-    let status = run(alloc, words, image, &mut out, &mut err);
+    let status = run_gathered(alloc, words, image, &mut out, &mut err).unwrap_or(1);
     (status, out, err)
 }
 
