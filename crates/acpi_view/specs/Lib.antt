@@ -3,5 +3,4 @@ pub mod Lines
 pub mod Output
 pub mod PlatformLines
 pub mod Status
-pub mod Words
 pub mod Writing

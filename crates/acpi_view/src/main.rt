@@ -13,10 +13,11 @@ mod run;
 mod tests;
 mod words;
 
+use acpi_words::{texts_of, texts_or_none};
 use run::run_gathered;
 use std::process::ExitCode;
-use std::{env, fs, io};
-use words::{file_named, texts_or_none};
+use std::{fs, io};
+use words::file_named;
 
 fn main(rt: HostRuntime) -> ExitCode {
     ExitCode::from(view(&rt).unwrap_or(1))
@@ -35,13 +36,4 @@ fn view(rt: &HostRuntime) -> io::Result<u8> {
     let image = file_named(&words).and_then(|name| fs::read(rt, name).ok());
     let bytes = image.as_ref().map(|image| image.as_slice());
     run_gathered(rt.alloc(), &words, bytes, io::writer(rt), rt.stderr())
-}
-
-/// The words behind the program's name.
-fn texts_of(rt: &HostRuntime) -> io::Result<Vec<String>> {
-    let mut texts = Vec::new(rt.alloc());
-    for text in env::args(rt)?.skip(1) {
-        texts.push(text)?;
-    }
-    Ok(texts)
 }

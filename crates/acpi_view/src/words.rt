@@ -1,16 +1,10 @@
 //! What the words of a command line ask for.
-ghost use Rattle.std.specs.Prelude.{◌≡◌, ◌≢◌, ◌^◌, ◌≤◌, [], IfErr, IfOk, IsOkAnd, map};
-ghost use Rattle.std.specs.Char.{is_digit};
-ghost use Rattle.std.specs.List.{list_all};
-ghost use Rattle.acpi_base.specs.Equality.{IsEquality};
-ghost use Rattle.acpi_view.specs.Words.{numeral, revision_of, address_of};
+ghost use Rattle.std.specs.Prelude.{◌≡◌, map};
 ghost use Rattle.std.specs.Option.{option_copied};
-ghost use Rattle.std.specs.IoError.{error_kind};
+ghost use Rattle.acpi_base.specs.Equality.{IsEquality};
 ghost use Rattle.acpi_view.specs.Command.{bios_command, command_of, file_of, form_command, rsdp_command, rsdt_command};
 
-use std::alloc::Global;
-use std::io;
-use std::io::ErrorKind;
+use acpi_words::{parse_address, parse_revision};
 
 /// What the words of a command line ask for.
 #[derive(Clone, Copy, Debug, PartialEq, Eq)]
@@ -29,43 +23,6 @@ pub enum Command {
     },
     /// The tables that the RSDP leads to which is found in the BIOS areas.
     Bios,
-}
-
-/// Whether each character is a digit of a base. A sign is none.
-fn are_digits(text: &str, base: u32) -> bool
-    requires low { 2 ≤ base }
-    requires high { base ≤ 36 }
-    ensures { result ≡ list_all (λ c. is_digit c base) text.now }
-{
-    text.bytes().all(|byte| (byte as char).is_digit(base))
-}
-
-/// The number that digits of a base spell, the highest first, or `None` where there are none, more
-/// than `most`, or something else among them.
-fn number_of(digits: &str, base: u32, most: usize) -> Option<u64>
-    requires low { 2 ≤ base }
-    requires high { base ≤ 36 }
-    requires fits { base ^ most ≤ 2 ^ 64 }
-    ensures { result ≡ numeral base most digits.now }
-{
-    if digits.len() > most || !are_digits(digits, base) {
-        return None;
-    }
-    u64::from_str_radix(digits, base).ok()
-}
-
-/// The revision that a word spells: one to three decimal digits, at most 255.
-fn parse_revision(word: &str) -> Option<u8>
-    ensures { result ≡ revision_of word.now }
-{
-    u8::try_from(number_of(word, 10, 3)?).ok()
-}
-
-/// The address that a word spells: `0x`, and one to sixteen hexadecimal digits of either case.
-fn parse_address(word: &str) -> Option<u64>
-    ensures { result ≡ address_of word.now }
-{
-    number_of(word.strip_prefix("0x")?, 16, 16)
 }
 
 /// The words behind `rsdt`: REVISION, then ADDRESS.
@@ -132,22 +89,6 @@ pub fn file_named<'w>(words: &[&'w str]) -> Option<&'w str>
 {
     parse_command(words)?;
     words.first().copied()
-}
-
-/// The words as they were had, or none where they can't be had, as words that are no text.
-///
-/// Refuses where memory for them is refused.
-pub fn texts_or_none(alloc: Global, texts: io::Result<Vec<String>>) -> io::Result<Vec<String>>
-    ensures had { IfOk texts (λ t. result ≡ Ok t) }
-    // Memory that is refused doesn't make the words wrong.
-    ensures memory { IfErr texts (λ e. error_kind e ≡ ErrorKind.OutOfMemory → result ≡ Err e) }
-    ensures other { IfErr texts (λ e. error_kind e ≢ ErrorKind.OutOfMemory →
-        IsOkAnd result (λ t. t.items ≡ [])) }
-{
-    match texts {
-        Err(refusal) if refusal.kind() != ErrorKind::OutOfMemory => Ok(Vec::new(alloc)),
-        texts => texts,
-    }
 }
 
 /// Commands compare as equal exactly where they are one.

@@ -1,12 +1,9 @@
 //! What words mean, and words that are no command.
 
 use super::{check_run, rsdt_words};
-use crate::words::{Command, file_named, parse_command, texts_or_none};
+use crate::words::{Command, file_named, parse_command};
 use std::alloc::Global;
-use std::io;
-use std::io::ErrorKind;
 use std::process::Abort;
-use std::test::Fail;
 
 const USAGE: &str = "usage: acpi_view IMAGE rsdt REVISION ADDRESS | rsdp ADDRESS | bios\n";
 
@@ -86,16 +83,4 @@ fn wrong_words(rt: HostRuntime) {
     check_usage(&rt, alloc, &["some.image", "rsdp", "0", "0x1000"]);
     check_usage(&rt, alloc, &["some.image", "bios", "0xe0000"]);
     check_usage(&rt, alloc, &["some.image", "Bios"]);
-}
-
-#[test]
-fn words_that_cant_be_had(rt: HostRuntime) -> Result<(), Fail> {
-    let alloc = rt.alloc();
-    let texts = vec![in alloc; String::from_str(alloc, "some.image")?]?;
-    assert_eq!(rt; texts_or_none(alloc, Ok(texts))?.len(), 1);
-    let refused = Err(io::Error::from(ErrorKind::OutOfMemory));
-    assert!(rt; texts_or_none(alloc, refused).is_err());
-    let no_text = Err(io::Error::from(ErrorKind::InvalidData));
-    assert_eq!(rt; texts_or_none(alloc, no_text)?.len(), 0);
-    Ok(())
 }

@@ -9,7 +9,7 @@ use Rattle.std.proofs.lemmas.Bool.{ltb-true, and_parts, le-leb}
 use Rattle.std.proofs.lemmas.Int.Digits.{digits_value-lt}
 use Rattle.std.proofs.lemmas.Str.Parse.{without_leading_plus_none}
 use Rattle.std.proofs.Math.Nat.{pow-le-pow_right}
-use Rattle.acpi_view.specs.Words.{numeral}
+use Rattle.acpi_words.specs.Numbers.{numeral}
 
 -- a list that passes the test is all digits
 all_digits : (base : ℕ) (ds : List ℕ)

@@ -1,6 +1,6 @@
 use Rattle.std.proofs.Common.{◌∙◌, sym, arith}
-use Rattle.acpi_view.proofs.Digits.{parsed}
-use Rattle.acpi_view.proofs.words.number_of.Goals as goal
+use Rattle.acpi_words.proofs.Digits.{parsed}
+use Rattle.acpi_words.proofs.number_of.Goals as goal
 
 pub returns : goal.returns
 returns c =
