@@ -74,3 +74,16 @@ pub places_left : (rsdp root : Place) (revision : ℕ) (tables : List PlacedTabl
 unfolding check_plan
 places_left rsdp root revision tables few many some are short fit =
     planned_places rsdp root revision tables few many ∙ rw (some, are, length-map tables placed_region, short, fit) refl
+
+-- ---- places of tables, and the tables there
+
+placed_places : (tables : List PlacedTable) → SamePlaces (places_of tables) (placed tables)
+placed_places [] = tt
+placed_places (t ∷ ts) = (record { start = refl; count = length-replicate (length t.bytes.now) 0 }, placed_places ts)
+
+-- a table shares a byte with others exactly where its place does with theirs
+pub placed_share : (tables : List PlacedTable) (p : Place) (t : PlacedTable) → p.start ≡ t.address → p.length ≡ length t.bytes.now
+    → shares_any (places_of tables) (region_in p) ≡ shares_any (placed tables) (placed_region t)
+placed_share tables p t start count =
+    same_shares (places_of tables) (placed tables) (region_in p) (placed_region t) (placed_places tables)
+    (record { start = start; count = length-replicate p.length 0 ∙ count })

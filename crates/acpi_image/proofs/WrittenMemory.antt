@@ -36,7 +36,7 @@ rest_bytes : (xs ys : List ℕ) → IsBytes (xs ++ ys) → IsBytes ys
 rest_bytes [] ys h = h
 rest_bytes (x ∷ xs) ys h = rest_bytes xs ys (λ j. h (suc j))
 
-record_bytes : (rs : Memory) → IsBytes (flat_map record_spelling rs) → AllByRecursion (λ r. IsBytes r.bytes) rs
+pub record_bytes : (rs : Memory) → IsBytes (flat_map record_spelling rs) → AllByRecursion (λ r. IsBytes r.bytes) rs
 record_bytes [] h = tt
 record_bytes (r ∷ rs) h =
     let this = front_bytes (record_spelling r) (flat_map record_spelling rs) h in

@@ -24,19 +24,19 @@ unfolding check_names
 names_hold h s o t = rw (same_bytes h.signature.0, s, o, t) refl
 
 -- the names of a header lie in parts of the bytes
-header_names : (b : List ℕ) → is_utf8 (part b 0 4) ≡ true → is_utf8 (part b 10 6) ≡ true → is_utf8 (part b 16 8) ≡ true → check_names (header_at b).signature (header_at b) ≡ Ok tt
+pub header_names : (b : List ℕ) → is_utf8 (part b 0 4) ≡ true → is_utf8 (part b 10 6) ≡ true → is_utf8 (part b 16 8) ≡ true → check_names (header_at b).signature (header_at b) ≡ Ok tt
 unfolding header_at
 header_names b s o t = names_hold _ s o t
 
 -- what is tested of a table's bytes, apart
-record IsTable (b : List ℕ) : Type 0 where
+pub record IsTable (b : List ℕ) : Type 0 where
   pub long : 36 ≤ length b
   pub whole : field_of b 4 4 ≡ length b
   pub signature : is_utf8 (part b 0 4) ≡ true
   pub id : is_utf8 (part b 10 6) ≡ true
   pub table_id : is_utf8 (part b 16 8) ≡ true
 
-table_is : (b : List ℕ) → is_table b ≡ true → IsTable b
+pub table_is : (b : List ℕ) → is_table b ≡ true → IsTable b
 unfolding is_table
 table_is b e =
     let p = and_parts _ _ e in

@@ -13,7 +13,9 @@ mod tests;
 
 pub use crate::error::WriteError;
 use checks::check_plan;
+pub use places::{Place, shares_with_any};
 use records::put_records;
+pub use records::{put_record, put_root, put_rsdp};
 use std::alloc::{Allocator, Global};
 
 /// A table, and where it is to lie.

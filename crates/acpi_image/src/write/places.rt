@@ -14,14 +14,16 @@ use std::collections::BTreeMap;
 
 /// Where a record lies.
 #[derive(Clone, Copy)]
-pub(super) struct Place {
-    pub(super) start: u64,
-    pub(super) length: usize,
+pub struct Place {
+    /// Its first address.
+    pub start: u64,
+    /// How many bytes it has.
+    pub length: usize,
 }
 
 impl Place {
     /// Where a table is to lie.
-    fn of(table: &PlacedTable<'_>) -> Place
+    pub fn of(table: &PlacedTable<'_>) -> Place
         ensures start { result.start ≡ table.now.address }
         ensures length { result.length ≡ length table.now.bytes.now }
     {
@@ -32,7 +34,7 @@ impl Place {
     }
 
     /// Whether it ends below 2^64.
-    fn fits(self) -> bool
+    pub fn fits(self) -> bool
         ensures { result ≡ nat_lt (end_of (region_in self)) (2 ^ 64) }
     {
         self.length as u64 <= u64::MAX - self.start
@@ -47,7 +49,7 @@ impl Place {
 
     /// Whether some byte lies in it and in another.
     #[tactic(auto, unfolding(crate::specs::Image::share))]
-    fn shares_byte(self, other: Place) -> bool
+    pub fn shares_byte(self, other: Place) -> bool
         ensures { result ≡ share (region_in self) (region_in other) }
     {
         self.length > 0 && other.length > 0 && (self.holds(other.start) || other.holds(self.start))
@@ -55,7 +57,7 @@ impl Place {
 }
 
 /// Whether some byte lies in a place and in one of the tables.
-fn shares_with_any(place: Place, tables: &[PlacedTable<'_>]) -> bool
+pub fn shares_with_any(place: Place, tables: &[PlacedTable<'_>]) -> bool
     ensures { result ≡ shares_any (places_of tables.now) (region_in place) }
 {
     for table in tables {

@@ -99,10 +99,11 @@ fn put_head<A: Allocator>(file: &mut Vec<u8, A>, start: u64, count: usize) -> Re
     put_number(file, count as u64, 8)
 }
 
-/// Puts the record of an RSDP.
+/// Puts the record of an RSDP, which leads to a root table at an address: an RSDT for revision 0,
+/// otherwise an XSDT.
 ///
 /// Refuses with `OutOfMemory`.
-fn put_rsdp<A: Allocator>(
+pub fn put_rsdp<A: Allocator>(
     file: &mut Vec<u8, A>,
     address: u64,
     revision: u8,
@@ -182,10 +183,11 @@ fn put_root_table<A: Allocator>(
     Ok(())
 }
 
-/// Puts the record of the root table.
+/// Puts the record of the root table that lists these tables: an RSDT for revision 0, otherwise an
+/// XSDT.
 ///
 /// Refuses with `OutOfMemory`.
-fn put_root<A: Allocator>(
+pub fn put_root<A: Allocator>(
     file: &mut Vec<u8, A>,
     address: u64,
     revision: u8,
@@ -199,6 +201,21 @@ fn put_root<A: Allocator>(
 {
     put_head(file, address, root_length(revision, tables.len()))?;
     put_root_table(file, revision, tables)
+}
+
+/// Puts the record of bytes at an address, as they are.
+///
+/// Refuses with `OutOfMemory`.
+pub fn put_record<A: Allocator>(
+    file: &mut Vec<u8, A>,
+    region: &PlacedTable<'_>,
+) -> Result<(), WriteError>
+    ensures put { OnOk result (file.new.items
+        ≡ file.old.items ++ record_spelling (placed_region region.now)) }
+    ensures refused { IfErr result (λ e. e ≡ OutOfMemory) }
+{
+    put_head(file, region.address, region.bytes.len())?;
+    put(file, region.bytes)
 }
 
 /// Puts the record of a table, with byte 9 set.
