@@ -1,0 +1,5 @@
+pub mod Memories
+pub mod PackedTables
+pub mod Packing
+pub mod Pairs
+pub mod Placing

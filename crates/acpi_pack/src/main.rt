@@ -1,0 +1,62 @@
+//! Makes an image of memory from files.
+//!
+//! `acpi_pack OUT memory ADDRESS FILE [ADDRESS FILE]...` puts each file at its address, and
+//! `acpi_pack OUT tables FILE...` makes an RSDP and an XSDT that lists the tables that the files
+//! are.
+#![tactic(auto)]
+
+mod error;
+mod pack;
+mod place;
+mod run;
+mod save;
+mod sources;
+#[cfg(test)]
+mod tests;
+mod words;
+
+use acpi_words::{texts_of, texts_or_none};
+use run::{Outcome, run};
+use save::save;
+use std::io::Write;
+use std::process::ExitCode;
+use std::{fs, io};
+use words::parse_command;
+
+fn main(rt: HostRuntime) -> ExitCode {
+    ExitCode::from(pack_words(&rt).unwrap_or(1))
+}
+
+/// Runs the program on the process's words, and answers the status. The words are judged before a
+/// file that they name is opened, and the image is made before the output is.
+///
+/// Refuses where memory, or a line of standard error, is refused.
+fn pack_words(rt: &HostRuntime) -> io::Result<u8> {
+    let texts = texts_or_none(rt.alloc(), texts_of(rt))?;
+    let mut words = Vec::new(rt.alloc());
+    for text in &texts {
+        words.push(text.as_str())?;
+    }
+    let mut read = Vec::new(rt.alloc());
+    let mut out = "";
+    if let Some(command) = parse_command(rt.alloc(), &words)? {
+        out = command.out;
+        for name in &command.names {
+            read.push(fs::read(rt, *name).ok())?;
+        }
+    }
+    let mut files = Vec::new(rt.alloc());
+    for file in &read {
+        files.push(file.as_ref().map(|bytes| bytes.as_slice()))?;
+    }
+    let mut err = rt.stderr();
+    match run(rt.alloc(), &words, &files, &mut err) {
+        Outcome::Image(image) if save(rt, out, &image).is_ok() => Ok(0),
+        Outcome::Image(_) => {
+            writeln!(err, "refused {out}: Unwritable")?;
+            Ok(1)
+        }
+        Outcome::Refused(_) | Outcome::Failed => Ok(1),
+        Outcome::NoCommand => Ok(2),
+    }
+}
