@@ -15,6 +15,7 @@ abbrev pub places_of : List PlacedTable → Memory
 places_of tables =
     map (λ t. record { start = t.address; bytes = replicate (length t.bytes.now) 0 }) tables
 
--- the places are apart, and a map lists them: at each address the length of the one that starts there
+-- the places are apart, and a map lists them: at each address the length of the one that starts
+-- there
 abbrev pub IsPlaced : BTreeMap ℕ ℕ → Memory → Type 0
 IsPlaced starts places = AreAllApart places × ListsStarts (λ n. replicate n 0) starts places

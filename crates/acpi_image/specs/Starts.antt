@@ -22,7 +22,9 @@ AreAllApart-prop (r ∷ m) =
 -- the bytes of the first region that starts at an address and has some
 unfoldable pub bytes_at : Memory → ℕ → Option (List ℕ)
 bytes_at [] a = None
-bytes_at (r ∷ m) a = if r.start == a && nat_lt 0 (length r.bytes) then Some r.bytes else bytes_at m a
+bytes_at (r ∷ m) a =
+    if r.start == a && nat_lt 0 (length r.bytes) then Some r.bytes
+    else bytes_at m a
 
 -- at each address a map has, seen by view, the bytes of the region that starts there
 abbrev pub ListsStarts : {X : Type 0} → (X → List ℕ) → BTreeMap ℕ X → Memory → Type 0

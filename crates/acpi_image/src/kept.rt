@@ -87,7 +87,8 @@ impl<'a, A: Allocator> Records<'a, A> {
     where
         A: Clone,
         requires { shares_any (regions_of self.list.items) (region_of added) ≡ false }
-        ensures kept { IfOk result (λ r. r.list.items ≡ self.entry.list.items ++ (added.entry ∷ [])) }
+        ensures kept { IfOk result
+            (λ r. r.list.items ≡ self.entry.list.items ++ (added.entry ∷ [])) }
         ensures refused { IfErr result (λ e. e ≡ OutOfMemory) }
     {
         let Records {

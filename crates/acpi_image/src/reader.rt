@@ -39,7 +39,8 @@ pub(crate) fn records_of<'a, A: Allocator + Copy>(
     alloc: A,
     bytes: &'a [u8],
 ) -> Result<Records<'a, A>, ImageError>
-    ensures { GivesOrRunsOut bytes.now (λ r. regions_of r.list.items) result (records_in bytes.now) }
+    ensures { GivesOrRunsOut bytes.now (λ r. regions_of r.list.items) result
+        (records_in bytes.now) }
 {
     let mut records = Records::none(alloc);
     let mut rest = bytes;
