@@ -87,20 +87,6 @@ fn prints_each_region_of_configuration_space(rt: HostRuntime) -> Result<(), Fail
     check_regions(&rt, 0x8E, &entries, lines)
 }
 
-#[test]
-fn prints_no_line_for_no_region(rt: HostRuntime) -> Result<(), Fail> {
-    check_regions(&rt, 0xB7, &[], "")?;
-    // A byte is missing for a region.
-    let entries = [0, 0, 0, 0xE0, 0, 0, 0, 0, 0, 0, 0, 15, 0, 0, 0];
-    check_regions(&rt, 0xB9, &entries, "")
-}
-
-#[test]
-fn prints_a_region_that_holds_no_bus(rt: HostRuntime) -> Result<(), Fail> {
-    let entries = [0, 0, 0, 0xE0, 0, 0, 0, 0, 0, 0, 5, 4, 0, 0, 0, 0];
-    check_regions(&rt, 0xBE, &entries, "pci 0 5 4 0xe0000000\n")
-}
-
 /// The root lists the types that the program looks for, the last first. The sum of each is 1.
 #[test]
 fn says_in_its_own_order_which_tables_were_skipped(rt: HostRuntime) {

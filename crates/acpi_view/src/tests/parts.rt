@@ -1,37 +1,7 @@
 //! The lines of each part, over images that are spelled out byte by byte.
 
-use super::{
-    WORDS, check_parts, check_run, empty_root, one_graphic, put, put_head, rsdt_words, without_last,
-};
+use super::{WORDS, check_parts, check_run, one_graphic, put, put_head};
 use std::test::Fail;
-
-#[test]
-fn prints_the_boot_graphic(rt: HostRuntime) -> Result<(), Fail> {
-    let parts = [
-        ("revision", "revision 0\n"),
-        ("table", "table BGRT length 56 revision 0\n"),
-        ("bgrt", "bgrt displayed yes angle 180 offset 0 0\n"),
-        ("skipped", ""),
-    ];
-    for (revision, address) in [("0", "0x1000"), ("000", "0x0000000000001000")] {
-        let words = rsdt_words(revision, address);
-        check_parts(&rt, rt.alloc(), &words, &one_graphic(), &parts)?;
-    }
-    Ok(())
-}
-
-#[test]
-fn prints_what_a_part_is_refused_for(rt: HostRuntime) -> Result<(), Fail> {
-    let parts = [
-        ("revision", "revision 0\n"),
-        ("table", ""),
-        ("dsdt", "dsdt: TableMissing FACP\n"),
-        ("ssdt", ""),
-        ("bgrt", "bgrt: TableMissing BGRT\n"),
-        ("skipped", ""),
-    ];
-    check_parts(&rt, rt.alloc(), &WORDS, &empty_root(36, 0x9F), &parts)
-}
 
 /// An RSDT at 0x1000 that lists a BGRT at 0x2000, and an RSDP of version 1 at 0x500 that leads to
 /// it, in a region of 36 bytes.
@@ -117,35 +87,6 @@ fn says_why_a_table_was_skipped(rt: HostRuntime) -> Result<(), Fail> {
         ("skipped", "skipped BGRT 0x2000: SdtInvalidChecksum BGRT\n"),
     ];
     check_parts(&rt, rt.alloc(), &WORDS, &file, &parts)
-}
-
-#[test]
-fn says_why_a_madt_was_skipped(rt: HostRuntime) -> Result<(), Fail> {
-    // Without entries and flags, the sum is 0 under 0xB7.
-    let mut file = [0; 116];
-    put_head(&mut file, 0, 0x1000, 40);
-    put(&mut file, 16, b"RSDT\x28\0\0\0\0\x7b");
-    put(&mut file, 52, &[0, 0x20]);
-    put_head(&mut file, 56, 0x2000, 44);
-    put(&mut file, 72, b"APIC\x2c\0\0\0\0\xb8");
-    let parts = [
-        ("table", ""),
-        ("skipped", "skipped APIC 0x2000: SdtInvalidChecksum APIC\n"),
-    ];
-    check_parts(&rt, rt.alloc(), &WORDS, &file, &parts)
-}
-
-#[test]
-fn says_that_a_table_is_cut(rt: HostRuntime) -> Result<(), Fail> {
-    // The BGRT's last byte is not lent.
-    let mut file = one_graphic();
-    put_head(&mut file, 56, 0x2000, 55);
-    let parts = [
-        ("table", ""),
-        ("bgrt", "bgrt: TableMissing BGRT\n"),
-        ("skipped BGRT", "skipped BGRT 0x2000: MapFailed\n"),
-    ];
-    check_parts(&rt, rt.alloc(), &WORDS, without_last(&file), &parts)
 }
 
 #[test]

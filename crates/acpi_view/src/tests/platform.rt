@@ -25,11 +25,11 @@ fn put_tables(file: &mut [u8], count: u8, checksum: u8)
     put(file, MADT + 4, &[count, 0, 0, 0, 0, checksum]);
 }
 
-/// A MADT of two processors, the first with these flags, and the second disabled.
-fn two_processors(checksum: u8, flags: u8) -> [u8; 268] {
+/// A MADT of two processors with this checksum, the second disabled.
+fn two_processors(checksum: u8) -> [u8; 268] {
     let mut file = [0; 268];
     put_tables(&mut file, 60, checksum);
-    put(&mut file, MADT + 44, &[0, 8, 1, 2, flags]);
+    put(&mut file, MADT + 44, &[0, 8, 1, 2, 1]);
     put(&mut file, MADT + 52, &[0, 8, 3, 4]);
     file
 }
@@ -51,15 +51,8 @@ fn prints_the_platform_behind_the_dsdt(rt: HostRuntime) {
         "bgrt: TableMissing BGRT\n",
         "spcr: TableMissing SPCR\n",
     );
-    let file = two_processors(0x8C, 1);
+    let file = two_processors(0x8C);
     check_run(&rt, rt.alloc(), &WORDS, Some(&file), (0, lines, ""));
-}
-
-#[test]
-fn prints_a_boot_processor_that_is_disabled(rt: HostRuntime) -> Result<(), Fail> {
-    let lines = "processor 1 2 disabled\nprocessor 3 4 disabled\n";
-    let file = two_processors(0x8D, 0);
-    check_parts(&rt, rt.alloc(), &WORDS, &file, &[("processor", lines)])
 }
 
 #[test]
@@ -71,14 +64,14 @@ fn knows_no_model_without_a_madt(rt: HostRuntime) -> Result<(), Fail> {
         ("timer", "timer none\n"),
         ("skipped", "skipped APIC 0x3000: SdtInvalidChecksum APIC\n"),
     ];
-    let file = two_processors(0x8E, 1);
+    let file = two_processors(0x8E);
     check_parts(&rt, rt.alloc(), &WORDS, &file, &parts)
 }
 
 #[test]
 fn prints_nothing_else_of_a_platform_that_is_refused(rt: HostRuntime) -> Result<(), Fail> {
     // The MADT is valid, but no FADT is.
-    let mut alone = two_processors(0x8C, 1);
+    let mut alone = two_processors(0x8C);
     put(&mut alone, FADT + 9, &[0x73]);
     // An entry of 0 bytes.
     let mut malformed = [0; 254];
@@ -169,15 +162,5 @@ fn prints_a_timer_of_32_bits(rt: HostRuntime) -> Result<(), Fail> {
     put(&mut file, FADT + 9, &[0x5B]);
     put(&mut file, FADT + 113, &[1]);
     let parts = [("timer", "timer 0x608 bits 32\n")];
-    check_parts(&rt, rt.alloc(), &WORDS, &file, &parts)
-}
-
-#[test]
-fn prints_the_address_that_no_entry_overrides(rt: HostRuntime) -> Result<(), Fail> {
-    // The entry of the address is of a reserved kind.
-    let mut file = every_kind();
-    put(&mut file, MADT + 9, &[0xE6]);
-    put(&mut file, MADT + 100, &[0x85]);
-    let parts = [("model", "model apic 0xfee00000 pics yes\n")];
     check_parts(&rt, rt.alloc(), &WORDS, &file, &parts)
 }
