@@ -3,6 +3,7 @@ ghost use Rattle.std.specs.Prelude.{◌+◌, ◌≤◌, length};
 
 mod addresses;
 mod refusals;
+mod save;
 mod tables;
 
 use crate::run::{Outcome, run};
