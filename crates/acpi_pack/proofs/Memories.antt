@@ -1,26 +1,25 @@
 -- What is packed is a memory, and its valid tables are the files.
-use Rattle.std.proofs.Common.{◌≡◌, ℕ, ◌+◌, ◌*◌, ◌^◌, ◌<◌, ◌≤◌, Bool, true, false, List, [], ◌∷◌, ◌++◌, length, map, drop, Some, None, Result, Ok, Err, refl, sym, ap, subst, ◌∙◌, arith, inl, inr, lit<}
-use Rattle.std.specs.Prelude.{◌⊎◌, ◌==◌, IfOk, nat_lt, not, flat_map, Option}
+use Rattle.std.proofs.Common.{◌≡◌, ℕ, ◌+◌, ◌^◌, ◌<◌, ◌≤◌, Bool, true, false, List, [], ◌∷◌, ◌++◌, map, Result, Ok, Err, refl, sym, subst, arith, inl, inr}
+use Rattle.std.specs.Prelude.{◌⊎◌, IfOk, not, flat_map, Option}
 use Rattle.std.specs.List.{AllByRecursion, Contains}
-use Rattle.std.specs.Option.{ok_or}
 use Rattle.std.proofs.lemmas.Bool.{and_parts, leb-true, ltb-true}
-use Rattle.std.proofs.lemmas.List.{append-nil, append_assoc, length-map}
+use Rattle.std.proofs.lemmas.List.{append-nil, append_assoc}
 use Rattle.acpi_base.proofs.Steps.{bind_ok, holds_ok}
-use Rattle.acpi_base.specs.Bytes.{IsBytes, sum_of}
-use Rattle.acpi_base.specs.Memory.{Memory, Region, AreApart, IsMemory, IsRegion, end_of, lies_in}
+use Rattle.acpi_base.specs.Bytes.{IsBytes}
+use Rattle.acpi_base.specs.Memory.{Memory, Region, AreApart, IsMemory, end_of}
 use Rattle.acpi_base.specs.Steps.{◌>>=◌, holds}
 use Rattle.acpi_base.specs.Table.{own_table_at}
 use Rattle.acpi.specs.Lists.{valid_tables}
 use Rattle.acpi_image.proofs.Images.{image_again}
-use Rattle.acpi_image.proofs.Placed.{every_in, own_table_there}
+use Rattle.acpi_image.proofs.Placed.{own_table_there}
 use Rattle.acpi_image.proofs.Sharing.{all_apart, memory_with}
 use Rattle.acpi_image.proofs.WrittenMemory.{record_bytes}
 use Rattle.acpi_image.proofs.WrittenTables.{header_names, table_is}
-use Rattle.acpi_image.specs.Image.{IsImage, record_spelling, shares_any}
+use Rattle.acpi_image.specs.Image.{IsImage, record_spelling}
 use Rattle.acpi_image.specs.Written.{starts_of}
 use Rattle.acpi_pack.specs.Pack.{check_place, check_places, file_of, packed_files, regions}
 use Rattle.acpi_pack.specs.Packed.{IsMemoryFile, IsRight}
-use Rattle.acpi_pack.specs.Place.{ArePlaced, IsPlaced}
+use Rattle.acpi_pack.specs.Place.{ArePlaced}
 use Rattle.acpi_pack.specs.Sources.{check_contents}
 use Rattle.acpi_pack.specs.declared.error.Refusal.{Refusal}
 

@@ -1,14 +1,14 @@
 -- What is packed of tables is a memory, is opened there, and lists the files in order.
-use Rattle.std.proofs.Common.{◌≡◌, ℕ, suc, ◌+◌, ◌*◌, ◌^◌, ◌<◌, ◌≤◌, Bool, true, false, List, [], ◌∷◌, ◌++◌, length, map, drop, Some, None, Result, Ok, Err, refl, sym, ap, subst, ◌∙◌, arith, inl, inr, lit<, ne_eqb}
-use Rattle.std.specs.Prelude.{◌≢◌, ◌==◌, IfOk, nat_lt, replicate, Option}
+use Rattle.std.proofs.Common.{◌≡◌, ℕ, ◌+◌, ◌^◌, ◌<◌, ◌≤◌, false, List, [], ◌∷◌, ◌++◌, length, map, drop, Some, None, Result, Ok, Err, refl, sym, ap, subst, ◌∙◌, arith, ne_eqb}
+use Rattle.std.specs.Prelude.{◌==◌, IfOk, Option}
 use Rattle.std.specs.List.{AllByRecursion, Contains}
 use Rattle.std.specs.Option.{ok_or}
 use Rattle.std.proofs.lemmas.Bool.{ltb-true}
 use Rattle.std.proofs.lemmas.List.{append-nil, length-map, length-replicate}
 use Rattle.acpi_base.proofs.Steps.{bind_ok, holds_ok}
 use Rattle.acpi_base.specs.Bytes.{IsBytes}
-use Rattle.acpi_base.specs.Memory.{Memory, Region, AreApart, IsMemory, end_of, lies_in}
-use Rattle.acpi_base.specs.Steps.{◌>>=◌, holds}
+use Rattle.acpi_base.specs.Memory.{Memory, Region, AreApart, IsMemory, end_of}
+use Rattle.acpi_base.specs.Steps.{◌>>=◌}
 use Rattle.acpi.specs.Lists.{valid_tables}
 use Rattle.acpi.specs.Opened.{opened_by_rsdp}
 use Rattle.acpi.specs.Root.{pointers, root_at, width_of}
@@ -25,7 +25,7 @@ use Rattle.acpi_pack.proofs.Memories.{HasPlace, file_is, has_place, is_file, pla
 use Rattle.acpi_pack.proofs.Placing.{is_placed, placed_bytes, placed_law}
 use Rattle.acpi_pack.specs.Pack.{all_regions, check_place, dsdt_address, dsdt_at, file_of, first_address, fixed_of, laid_out, listed_or, packed_tables, rsdp_address, rsdp_place, unless_second}
 use Rattle.acpi_pack.specs.Packed.{IsPacked, IsRight, opened_with}
-use Rattle.acpi_pack.specs.Place.{ArePlaced, IsPlaced, place_at, placed_from}
+use Rattle.acpi_pack.specs.Place.{ArePlaced, place_at, placed_from}
 use Rattle.acpi_pack.specs.Sources.{bytes_of, check_tables, entries}
 use Rattle.acpi_pack.specs.declared.error.Refusal.{Refusal}
 use Rattle.acpi_pack.specs.declared.error.Refusal.TheVariants.{NoRoom}

@@ -1,11 +1,11 @@
 -- Regions of files, and what is packed of them.
-use Rattle.std.proofs.Common.{◌≡◌, ℕ, ◌+◌, ◌^◌, ◌<◌, ◌≤◌, Bool, true, false, List, [], ◌∷◌, ◌++◌, length, map, drop, Some, None, Result, Ok, Err, refl, sym, ap, ◌∙◌, arith, inl, inr}
+use Rattle.std.proofs.Common.{◌≡◌, ℕ, ◌≤◌, List, [], ◌∷◌, ◌++◌, length, drop, refl, sym, arith, inl, inr}
 use Rattle.std.specs.Prelude.{Option, min}
 use Rattle.std.specs.Borrow.{Bor}
 use Rattle.std.proofs.Math.ListN.{drop_of_length-le}
 use Rattle.std.proofs.lemmas.Bool.{cases_lt}
 use Rattle.std.proofs.lemmas.List.{append-nil}
-use Rattle.acpi_base.specs.Memory.{Memory, Region}
+use Rattle.acpi_base.specs.Memory.{Memory}
 use Rattle.acpi_pack.specs.Held.{contents}
 use Rattle.acpi_pack.specs.Pack.{regions}
 

@@ -1,6 +1,6 @@
 -- What holds of an image that is packed: it is read as the memory of what is placed, and what is
 -- opened there lists the tables.
-use Rattle.std.specs.Prelude.{◌≡◌, ℕ, List, ◌∷◌, drop, map, Option, Result, Ok, true}
+use Rattle.std.specs.Prelude.{◌≡◌, ℕ, List, ◌∷◌, drop, map, Option, Ok, true}
 use Rattle.std.specs.List.{AllByRecursion}
 use Rattle.acpi.specs.Lists.{valid_tables}
 use Rattle.acpi.specs.Opened.{Opened, opened_by_rsdp}
@@ -10,7 +10,7 @@ use Rattle.acpi_base.specs.Bytes.{sum_of}
 use Rattle.acpi_base.specs.Memory.{Memory, Region, IsMemory}
 use Rattle.acpi_image.specs.Image.{IsImage, records_in}
 use Rattle.acpi_image.specs.WriteChecks.{is_table}
-use Rattle.acpi_image.specs.Written.{root_length, root_record, root_to, starts_of}
+use Rattle.acpi_image.specs.Written.{root_record, root_to, starts_of}
 use Rattle.acpi_pack.specs.Pack.{all_regions, first_address, fixed_of, packed_tables, rsdp_address}
 use Rattle.acpi_pack.specs.Place.{ArePlaced}
 use Rattle.acpi_pack.specs.Sources.{bytes_of, entries}

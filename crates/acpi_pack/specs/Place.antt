@@ -2,7 +2,7 @@
 use Rattle.std.specs.Prelude.{◌≡◌, ◌⊎◌, ℕ, ◌+◌, ◌*◌, ◌/◌, ◌%◌, ◌^◌, ◌<◌, ◌≤◌, nat_le, nat_lt, ◌||◌, if◌then◌else◌}
 use Rattle.std.specs.Prelude.{List, [], ◌∷◌, length, Option, Some, None, Result, Ok, Err}
 use Rattle.acpi_base.specs.Memory.{Memory, Region, end_of}
-use Rattle.acpi_base.specs.Steps.{◌>>=◌, holds}
+use Rattle.acpi_base.specs.Steps.{◌>>=◌}
 use Rattle.acpi_pack.specs.declared.error.Refusal.{Refusal}
 use Rattle.acpi_pack.specs.declared.error.Refusal.TheVariants.{NoRoom}
 

@@ -1,6 +1,6 @@
 -- What a run comes to, and what it prints.
 use Rattle.std.specs.Prelude.{◌≡◌, ◌≢◌, ℕ, ◌++◌, if◌then◌else◌, codes, is_none}
-use Rattle.std.specs.Prelude.{List, [], ◌∷◌, flat_map, slice_get, Option, Some, None, Result, Ok, Err, unwrap_or}
+use Rattle.std.specs.Prelude.{List, [], flat_map, slice_get, Option, Some, None, Result, Ok, Err, unwrap_or}
 use Rattle.std.specs.Io.KnownBytes.{Appends}
 use Rattle.acpi_base.specs.Memory.{Memory}
 use Rattle.acpi_pack.specs.Pack.{dsdt_address, file_of, packed_files, packed_tables}

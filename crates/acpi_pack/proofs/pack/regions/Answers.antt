@@ -1,4 +1,4 @@
-use Rattle.std.proofs.Common.{◌∙◌, sym}
+use Rattle.std.proofs.Common.{◌∙◌}
 use Rattle.acpi_pack.proofs.Packing.{regions_end}
 use Rattle.acpi_pack.proofs.pack.regions.Goals as goal
 
