@@ -47,7 +47,6 @@ pub(crate) fn place_one(fixed: &PlacedTable<'_>, from: u64, count: usize) -> Opt
 /// one before it.
 ///
 /// Refuses with `NoRoom` where one has none, and with `OutOfMemory`.
-
 pub(crate) fn place<'a>(
     alloc: Global,
     tables: &[Entry<'a>],
