@@ -2,6 +2,7 @@
 //! memory that is spelled out byte by byte. `caller`, `example` and `writer` are the README's callers.
 #![tactic(auto)]
 
+pub mod answers;
 pub mod caller;
 pub mod example;
 pub mod handlers;
