@@ -1,6 +1,7 @@
 -- What the parts print is what all of it prints.
 use Rattle.std.proofs.Common.{ℕ, List, [], refl}
 use Rattle.std.specs.Prelude.{Option, Err}
+use Rattle.std.specs.Global.{Global}
 use Rattle.std.specs.Io.KnownBytes.{Appends}
 use Rattle.std.proofs.KnownBytes.{Appends-nil}
 use Rattle.acpi_base.specs.Memory.{Memory}
@@ -16,7 +17,7 @@ pub all_lines : (m : Memory) (o : Opened) (a b c d e f g h i j : Option (List �
     → Appends b c (header_lines m (pointers_in o))
     → Appends c d (dsdt_lines m (pointers_in o))
     → Appends d e (ssdt_lines m (pointers_in o))
-    → AppendsSome (IsPlatformText m (pointers_in o)) e f
+    → AppendsSome (IsPlatformText Global m (pointers_in o)) e f
     → Appends f g (hpet_lines m (pointers_in o))
     → AppendsSome (IsPciText m (pointers_in o)) g h
     → Appends h i (bgrt_lines m (pointers_in o))

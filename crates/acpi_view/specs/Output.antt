@@ -1,5 +1,6 @@
 -- What a run prints, as the image's bytes define it.
 use Rattle.std.specs.Prelude.{◌≡◌, ◌⊎◌, ℕ, List, [], ◌∷◌, ◌++◌, drop, codes, Option, Some, None, Result, Ok, Err}
+use Rattle.std.specs.Global.{Global}
 use Rattle.std.specs.Io.KnownBytes.{Appends}
 use Rattle.acpi_base.specs.ErrorText.{error_text}
 use Rattle.acpi_base.specs.Memory.{Memory}
@@ -44,7 +45,7 @@ lines_of platform pci m opened = let ps = pointers_in opened in
 pub record IsLines (m : Memory) (opened : Opened) (text : List ℕ) : Type 0 where
   pub platform : List ℕ
   pub pci : List ℕ
-  pub platform_is : IsPlatformText m (pointers_in opened) platform
+  pub platform_is : IsPlatformText Global m (pointers_in opened) platform
   pub pci_is : IsPciText m (pointers_in opened) pci
   pub whole : text ≡ lines_of platform pci m opened
 

@@ -1,6 +1,5 @@
 -- The lines of the platform.
 use Rattle.std.specs.Prelude.{ℕ, List, [], ◌∷◌, ◌++◌, flat_map, codes, decimal, Option, Some, None, if◌then◌else◌}
-use Rattle.std.specs.Global.{Global}
 use Rattle.acpi_base.specs.Memory.{Memory}
 use Rattle.acpi_base.specs.declared.model.interrupt.Apic.{Apic}
 use Rattle.acpi_base.specs.declared.model.interrupt.InterruptModel.{InterruptModel}
@@ -149,11 +148,11 @@ info_lines info =
     ++ processor_lines info.processor_info
     ++ timer_line info.pm_timer
 
--- the program's own, in memory of the global allocator
-abbrev pub platform_lines : Memory → List ℕ → List ℕ
-platform_lines m ps =
-    lines_or_refusal (codes "platform") info_lines (platform_of {A = Global} m ps)
+-- the same of a list of pointers, in memory of an allocator
+abbrev pub platform_lines : Type 0 → Memory → List ℕ → List ℕ
+platform_lines A m ps = lines_or_refusal (codes "platform") info_lines (platform_of {A = A} m ps)
 
 -- what may be printed of it
-abbrev pub IsPlatformText : Memory → List ℕ → List ℕ → Type 0
-IsPlatformText m ps text = IsPartText (PlatformAsks m ps) (codes "platform") (platform_lines m ps) text
+abbrev pub IsPlatformText : Type 0 → Memory → List ℕ → List ℕ → Type 0
+IsPlatformText A m ps text =
+    IsPartText (PlatformAsks m ps) (codes "platform") (platform_lines A m ps) text

@@ -26,8 +26,8 @@ use acpi::{
     AcpiError, AcpiHandler, AcpiResult, AcpiTable, AcpiTables, AmlTable, HpetInfo,
     PciConfigRegions, TableFault,
 };
-use platform::print_platform;
-use std::alloc::Global;
+pub(crate) use platform::print_platform;
+use std::alloc::{Allocator, Global};
 use std::io;
 use std::io::Write;
 
@@ -161,21 +161,21 @@ fn print_hpet<H: AcpiHandler, W: Write>(tables: &AcpiTables<'_, H>, out: &mut W)
 
 /// The lines of the regions of configuration space.
 #[tactic(auto, using(crate::proofs::Writing::said_or_full))]
-fn print_pci<H: AcpiHandler, W: Write>(
-    alloc: Global,
+pub(crate) fn print_pci<H: AcpiHandler, A: Allocator + Clone, W: Write>(
+    alloc: A,
     tables: &AcpiTables<'_, H>,
     out: &mut W,
 ) -> io::Result<()>
     ensures { OnOk result (AppendsSome (IsPciText (memory_of tables.now) (pointers_of tables.now))
         (W.contents out.old) (W.contents out.new)) }
 {
-    print_regions(PciConfigRegions::new(alloc, tables), out)
+    print_regions(PciConfigRegions::new_in(tables, alloc), out)
 }
 
 /// The lines of the regions that are found, or why they are refused.
 #[tactic(auto, using(crate::proofs::Writing::still_all, crate::proofs::Writing::still_less, crate::proofs::Writing::still_none, crate::proofs::Regions::shown_lines))]
-fn print_regions<W: Write>(
-    found: AcpiResult<PciConfigRegions<Global>>,
+fn print_regions<A: Allocator, W: Write>(
+    found: AcpiResult<PciConfigRegions<A>>,
     out: &mut W,
 ) -> io::Result<()>
     ensures { OnOk result (Appends (W.contents out.old) (W.contents out.new)

@@ -123,7 +123,7 @@ fn print_all<W: Write, E: Write>(
 }
 
 /// Prints why the whole run is refused, and answers its status.
-fn refuse<D: Display + Drop, E: Write>(refusal: D, err: &mut E) -> io::Result<u8>
+pub(crate) fn refuse<D: Display + Drop, E: Write>(refusal: D, err: &mut E) -> io::Result<u8>
     ensures status { IfOk result (λ s. s ≡ 1) }
     ensures line { OnOk result (IfSome (D.output refusal) (λ name.
         Appends (E.contents err.old) (E.contents err.new) (refusal_line name))) }

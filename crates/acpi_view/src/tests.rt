@@ -9,6 +9,7 @@ mod devices;
 mod parts;
 mod platform;
 mod refusals;
+mod refused;
 mod words;
 mod writes;
 mod written;

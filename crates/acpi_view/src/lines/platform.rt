@@ -19,26 +19,29 @@ use acpi::platform::interrupt::{
 };
 use acpi::platform::{PmTimer, Processor, ProcessorInfo, ProcessorState};
 use acpi::{AcpiHandler, AcpiResult, AcpiTables, PlatformInfo, PowerProfile};
-use std::alloc::Global;
+use std::alloc::Allocator;
 use std::io;
 use std::io::Write;
 
 /// Prints what the platform has, or the one line that says why that is refused.
 #[tactic(auto, using(crate::proofs::Writing::said_or_full))]
-pub(super) fn print_platform<H: AcpiHandler, W: Write>(
-    alloc: Global,
+pub(crate) fn print_platform<H: AcpiHandler, A: Allocator + Clone, W: Write>(
+    alloc: A,
     tables: &AcpiTables<'_, H>,
     out: &mut W,
 ) -> io::Result<()>
     ensures { OnOk result (AppendsSome
-        (IsPlatformText (memory_of tables.now) (pointers_of tables.now))
+        (IsPlatformText A (memory_of tables.now) (pointers_of tables.now))
         (W.contents out.old) (W.contents out.new)) }
 {
-    print_found(tables.platform_info(alloc), out)
+    print_found(tables.platform_info_in(alloc), out)
 }
 
 /// The lines of the platform that is found, or why it is refused.
-fn print_found<W: Write>(found: AcpiResult<PlatformInfo<Global>>, out: &mut W) -> io::Result<()>
+fn print_found<A: Allocator, W: Write>(
+    found: AcpiResult<PlatformInfo<A>>,
+    out: &mut W,
+) -> io::Result<()>
     ensures { OnOk result (Appends (W.contents out.old) (W.contents out.new)
         (lines_or_refusal (codes "platform") info_lines found)) }
 {
@@ -50,7 +53,7 @@ fn print_found<W: Write>(found: AcpiResult<PlatformInfo<Global>>, out: &mut W) -
 
 /// The lines of the profile, of the interrupt model, of the processors and of the timer.
 #[tactic(auto, using(crate::proofs::Writing::then_more))]
-fn print_info<W: Write>(platform: &PlatformInfo<Global>, out: &mut W) -> io::Result<()>
+fn print_info<A: Allocator, W: Write>(platform: &PlatformInfo<A>, out: &mut W) -> io::Result<()>
     ensures { OnOk result (Appends (W.contents out.old) (W.contents out.new)
         (info_lines platform.now)) }
 {
@@ -91,7 +94,7 @@ fn profile_number(profile: PowerProfile) -> u8
 }
 
 /// `model unknown`, or the lines of the APICs.
-fn print_model<W: Write>(model: &InterruptModel<Global>, out: &mut W) -> io::Result<()>
+fn print_model<A: Allocator, W: Write>(model: &InterruptModel<A>, out: &mut W) -> io::Result<()>
     ensures { OnOk result (Appends (W.contents out.old) (W.contents out.new)
         (model_lines model.now)) }
 {
@@ -103,7 +106,7 @@ fn print_model<W: Write>(model: &InterruptModel<Global>, out: &mut W) -> io::Res
 
 /// The line of the local APICs, then the lines of each list.
 #[tactic(auto, using(crate::proofs::Writing::then_more))]
-fn print_apic<W: Write>(apic: &Apic<Global>, out: &mut W) -> io::Result<()>
+fn print_apic<A: Allocator, W: Write>(apic: &Apic<A>, out: &mut W) -> io::Result<()>
     ensures { OnOk result (Appends (W.contents out.old) (W.contents out.new)
         (apic_lines apic.now)) }
 {
@@ -116,7 +119,7 @@ fn print_apic<W: Write>(apic: &Apic<Global>, out: &mut W) -> io::Result<()>
 
 /// `model apic ADDRESS pics yes|no`.
 #[tactic(auto, unfolding(crate::specs::PlatformLines::apic_line))]
-fn print_local_apic<W: Write>(apic: &Apic<Global>, out: &mut W) -> io::Result<()>
+fn print_local_apic<A: Allocator, W: Write>(apic: &Apic<A>, out: &mut W) -> io::Result<()>
     ensures { OnOk result (Appends (W.contents out.old) (W.contents out.new)
         (apic_line apic.now)) }
 {
@@ -251,7 +254,10 @@ fn input_word(input: LocalInterruptLine) -> &'static str
 
 /// The line of each processor, the boot processor's first.
 #[tactic(auto, using(crate::proofs::Writing::then_more))]
-fn print_processors<W: Write>(listed: &Option<ProcessorInfo<Global>>, out: &mut W) -> io::Result<()>
+fn print_processors<A: Allocator, W: Write>(
+    listed: &Option<ProcessorInfo<A>>,
+    out: &mut W,
+) -> io::Result<()>
     ensures { OnOk result (Appends (W.contents out.old) (W.contents out.new)
         (processor_lines listed.now)) }
 {

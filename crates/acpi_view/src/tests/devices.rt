@@ -77,14 +77,18 @@ fn check_regions(
     check_parts(rt, rt.alloc(), &WORDS, &file[..TABLE + count], &parts)
 }
 
+/// The entries of two regions.
+pub(super) const TWO_REGIONS: [u8; 32] = [
+    0, 0, 0, 0xE0, 0, 0, 0, 0, 0, 0, 0, 15, 0, 0, 0, 0, 0, 0, 0, 0, 8, 0, 0, 0, 2, 1, 16, 255, 0,
+    0, 0, 0,
+];
+
+/// Their lines.
+pub(super) const TWO_LINES: &str = "pci 0 0 15 0xe0000000\npci 258 16 255 0x800000000\n";
+
 #[test]
 fn prints_each_region_of_configuration_space(rt: HostRuntime) -> Result<(), Fail> {
-    let entries = [
-        0, 0, 0, 0xE0, 0, 0, 0, 0, 0, 0, 0, 15, 0, 0, 0, 0, 0, 0, 0, 0, 8, 0, 0, 0, 2, 1, 16, 255,
-        0, 0, 0, 0,
-    ];
-    let lines = "pci 0 0 15 0xe0000000\npci 258 16 255 0x800000000\n";
-    check_regions(&rt, 0x8E, &entries, lines)
+    check_regions(&rt, 0x8E, &TWO_REGIONS, TWO_LINES)
 }
 
 /// The root lists the types that the program looks for, the last first. The sum of each is 1.

@@ -26,7 +26,7 @@ fn put_tables(file: &mut [u8], count: u8, checksum: u8)
 }
 
 /// A MADT of two processors with this checksum, the second disabled.
-fn two_processors(checksum: u8) -> [u8; 268] {
+pub(super) fn two_processors(checksum: u8) -> [u8; 268] {
     let mut file = [0; 268];
     put_tables(&mut file, 60, checksum);
     put(&mut file, MADT + 44, &[0, 8, 1, 2, 1]);
