@@ -14,11 +14,12 @@ mod sums;
 mod words;
 
 use acpi_image::MemoryImage;
+use acpi_words::{texts_of, texts_or_none};
 use calls::time_calls;
 use counted::Counted;
 use std::io::Write;
 use std::process::ExitCode;
-use std::{env, fs, io};
+use std::{fs, io};
 use stopwatch::Stopwatch;
 use sums::time_sums;
 use words::{Order, order_of};
@@ -31,10 +32,7 @@ fn main(rt: HostRuntime) -> ExitCode {
 /// the file, its memory, the root table, memory or a write is refused, and 2 where the words are no
 /// order.
 fn bench(rt: &HostRuntime) -> io::Result<u8> {
-    let mut texts = Vec::new(rt.alloc());
-    for text in env::args(rt)?.skip(1) {
-        texts.push(text)?;
-    }
+    let texts = texts_or_none(rt.alloc(), texts_of(rt))?;
     let mut words = Vec::new(rt.alloc());
     for text in &texts {
         words.push(text.as_str())?;

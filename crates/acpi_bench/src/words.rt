@@ -1,6 +1,7 @@
 //! What the words of a command line ask for.
 
 use acpi::{AcpiHandler, AcpiResult, AcpiTables};
+use acpi_words::{parse_address, parse_revision};
 
 /// How many batches are timed where the words don't say.
 const BATCHES: u64 = 1000;
@@ -39,12 +40,12 @@ pub(crate) struct Order<'w> {
 pub(crate) fn order_of<'w>(words: &[&'w str]) -> Option<Order<'w>> {
     let (image, root, rest) = match words {
         [image, "rsdt", revision, address, rest @ ..] => {
-            let revision = revision.parse().ok()?;
-            let address = address_of(address)?;
+            let revision = parse_revision(revision)?;
+            let address = parse_address(address)?;
             (image, Root::Rsdt { revision, address }, rest)
         }
         [image, "rsdp", address, rest @ ..] => {
-            let address = address_of(address)?;
+            let address = parse_address(address)?;
             (image, Root::Rsdp { address }, rest)
         }
         _ => return None,
@@ -59,9 +60,4 @@ pub(crate) fn order_of<'w>(words: &[&'w str]) -> Option<Order<'w>> {
         root,
         batches,
     })
-}
-
-/// The address that a word spells: `0x` and hexadecimal digits.
-fn address_of(word: &str) -> Option<u64> {
-    u64::from_str_radix(word.strip_prefix("0x")?, 16).ok()
 }
