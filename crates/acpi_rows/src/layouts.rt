@@ -25,12 +25,12 @@ fn boot_graphic(rt: HostRuntime) {
     put(&mut bytes, 9, &[0x93]);
     put(&mut bytes, 36, &[1, 0, 5]);
     let table = Bgrt::read(&bytes);
-    assert_eq!(rt; table.validate(&bytes), Ok(()));
-    assert_eq!(rt; table.version, 1);
-    assert!(rt; table.was_displayed());
-    assert_eq!(rt; table.orientation_offset(), 180);
-    assert_eq!(rt; table.image_type(), ImageType::Bitmap);
-    assert_eq!(rt; table.image_offset(), (0, 0));
+    let head = (table.validate(&bytes), table.version);
+    let display = (table.was_displayed(), table.orientation_offset());
+    assert_eq!(rt;
+        (head, display, table.image_type(), table.image_offset()),
+        ((Ok(()), 1), (true, 180), ImageType::Bitmap, (0, 0))
+    );
 }
 
 #[test]
@@ -40,11 +40,16 @@ fn boot_graphic_that_is_placed(rt: HostRuntime) {
     put(&mut bytes, 40, &[0, 0, 0, 0, 1, 0, 0, 0]);
     put(&mut bytes, 48, &[0x20, 3, 0, 0, 0x58, 2, 0, 0]);
     let table = Bgrt::read(&bytes);
-    assert!(rt; !table.was_displayed());
-    assert_eq!(rt; table.orientation_offset(), 270);
-    assert_eq!(rt; table.image_type(), ImageType::Reserved);
-    assert_eq!(rt; table.image_address, 0x1_0000_0000);
-    assert_eq!(rt; table.image_offset(), (800, 600));
+    let display = (table.was_displayed(), table.orientation_offset());
+    assert_eq!(rt;
+        (
+            display,
+            table.image_type(),
+            table.image_address,
+            table.image_offset()
+        ),
+        ((false, 270), ImageType::Reserved, 0x1_0000_0000, (800, 600))
+    );
 }
 
 #[test]
@@ -57,26 +62,26 @@ fn generic_addresses(rt: HostRuntime) {
         access_size: AccessSize::DWordAccess,
         address: 0x608,
     };
-    assert_eq!(rt; said, Ok(meant));
     let reserved_space = [0x0b, 0x20, 0, 3, 8, 6, 0, 0, 0, 0, 0, 0];
-    assert_eq!(rt;
-        GenericAddress::from_raw(reserved_space),
-        Err(AcpiError::InvalidGenericAddress)
-    );
     let reserved_size = [1, 0x20, 0, 5, 8, 6, 0, 0, 0, 0, 0, 0];
+    let other_space = GenericAddress::from_raw(reserved_space);
+    let other_size = GenericAddress::from_raw(reserved_size);
+    let refused = Err(AcpiError::InvalidGenericAddress);
     assert_eq!(rt;
-        GenericAddress::from_raw(reserved_size),
-        Err(AcpiError::InvalidGenericAddress)
+        [said, other_space, other_size],
+        [Ok(meant), refused, refused]
     );
+    let spaces = [AddressSpace::try_from(0x7f), AddressSpace::try_from(0xc0)];
     assert_eq!(rt;
-        AddressSpace::try_from(0x7f),
-        Ok(AddressSpace::FunctionalFixedHardware)
+        (spaces, AccessSize::try_from(4)),
+        (
+            [
+                Ok(AddressSpace::FunctionalFixedHardware),
+                Ok(AddressSpace::OemDefined(0xc0))
+            ],
+            Ok(AccessSize::QWordAccess)
+        )
     );
-    assert_eq!(rt;
-        AddressSpace::try_from(0xc0),
-        Ok(AddressSpace::OemDefined(0xc0))
-    );
-    assert_eq!(rt; AccessSize::try_from(4), Ok(AccessSize::QWordAccess));
 }
 
 #[test]
@@ -87,10 +92,15 @@ fn fixed_hardware_of_the_first_version(rt: HostRuntime) {
     put(&mut bytes, 9, &[0x32]);
     put(&mut bytes, 40, &[0, 0x40]);
     let table = Fadt::read(&bytes);
-    assert_eq!(rt; table.validate(&bytes), Ok(()));
-    assert_eq!(rt; table.dsdt_address(), Ok(0x4000));
-    assert_eq!(rt; table.facs_address(), Err(AcpiError::InvalidFacsAddress));
-    assert_eq!(rt; table.power_profile(), PowerProfile::Unspecified);
+    let addresses = [table.dsdt_address(), table.facs_address()];
+    assert_eq!(rt;
+        (table.validate(&bytes), addresses, table.power_profile()),
+        (
+            Ok(()),
+            [Ok(0x4000), Err(AcpiError::InvalidFacsAddress)],
+            PowerProfile::Unspecified
+        )
+    );
     let nothing = GenericAddress {
         address_space: AddressSpace::SystemMemory,
         bit_width: 0,
@@ -98,8 +108,10 @@ fn fixed_hardware_of_the_first_version(rt: HostRuntime) {
         access_size: AccessSize::Undefined,
         address: 0,
     };
-    assert_eq!(rt; table.reset_register(), Ok(nothing));
-    assert_eq!(rt; table.sleep_status_register(), Ok(None));
+    assert_eq!(rt;
+        (table.reset_register(), table.sleep_status_register()),
+        (Ok(nothing), Ok(None))
+    );
 }
 
 #[test]
@@ -109,8 +121,10 @@ fn no_dsdt(rt: HostRuntime) {
     put(&mut bytes, 4, &[116]);
     put(&mut bytes, 9, &[0x72]);
     let table = Fadt::read(&bytes);
-    assert_eq!(rt; table.validate(&bytes), Ok(()));
-    assert_eq!(rt; table.dsdt_address(), Err(AcpiError::InvalidDsdtAddress));
+    assert_eq!(rt;
+        (table.validate(&bytes), table.dsdt_address()),
+        (Ok(()), Err(AcpiError::InvalidDsdtAddress))
+    );
 }
 
 #[test]
@@ -120,25 +134,30 @@ fn timer_by_its_ports(rt: HostRuntime) {
     put(&mut bytes, 91, &[4]);
     put(&mut bytes, 112, &[0, 1]);
     let table = Fadt::read(&bytes);
-    assert_eq!(rt; table.pm_timer_block(), Ok(Some(ports(32, 0x608))));
-    assert!(rt; table.flags.pm_timer_is_32_bit());
-    assert!(rt; !table.flags.rtc_wakes_system_from_s4());
-    assert!(rt; !table.flags.supports_docking());
+    let flags = [
+        table.flags.pm_timer_is_32_bit(),
+        table.flags.rtc_wakes_system_from_s4(),
+        table.flags.supports_docking(),
+    ];
+    assert_eq!(rt;
+        (table.pm_timer_block(), flags),
+        (Ok(Some(ports(32, 0x608))), [true, false, false])
+    );
 }
 
 #[test]
 fn timer_by_its_extended_block(rt: HostRuntime) {
-    let mut bytes = [0u8; 244];
-    put(&mut bytes, 8, &[2]);
-    put(&mut bytes, 91, &[4]);
-    put(&mut bytes, 208, &[0x0b, 0, 0, 0, 8, 6]);
-    let refused = Fadt::read(&bytes).pm_timer_block();
-    assert_eq!(rt; refused, Err(AcpiError::InvalidGenericAddress));
-    bytes[91] = 5;
-    assert_eq!(rt; Fadt::read(&bytes).pm_timer_block(), Ok(None));
-    bytes[91] = 4;
-    bytes[8] = 1;
-    assert_eq!(rt; Fadt::read(&bytes).pm_timer_block(), Ok(None));
+    for (revision, length, block) in [
+        (2, 4, Err(AcpiError::InvalidGenericAddress)),
+        (2, 5, Ok(None)),
+        (1, 4, Ok(None)),
+    ] {
+        let mut bytes = [0u8; 244];
+        put(&mut bytes, 8, &[revision]);
+        put(&mut bytes, 91, &[length]);
+        put(&mut bytes, 208, &[0x0b, 0, 0, 0, 8, 6]);
+        assert_eq!(rt; Fadt::read(&bytes).pm_timer_block(), block);
+    }
 }
 
 #[test]
@@ -158,8 +177,10 @@ fn dsdt_field_that_is_whole(rt: HostRuntime) {
     put(&mut bytes, 40, &[0, 0x40]);
     put(&mut bytes, 140, &[0, 0x40, 0, 0, 1]);
     let table = Fadt::read(&bytes);
-    assert_eq!(rt; table.dsdt_address(), Ok(0x1_0000_4000));
-    assert_eq!(rt; table.facs_address(), Ok(0x3000));
+    assert_eq!(rt;
+        [table.dsdt_address(), table.facs_address()],
+        [Ok(0x1_0000_4000), Ok(0x3000)]
+    );
 }
 
 #[test]
@@ -167,19 +188,27 @@ fn event_blocks_without_an_address(rt: HostRuntime) {
     let mut bytes = [0u8; 116];
     put(&mut bytes, 88, &[4]);
     let table = Fadt::read(&bytes);
-    assert_eq!(rt; table.pm1a_event_block(), Ok(ports(32, 0)));
-    assert_eq!(rt; table.pm1b_event_block(), Ok(None));
+    assert_eq!(rt;
+        (table.pm1a_event_block(), table.pm1b_event_block()),
+        (Ok(ports(32, 0)), Ok(None))
+    );
 }
 
 #[test]
 fn width_of_ports(rt: HostRuntime) {
     let mut bytes = [0u8; 116];
     put(&mut bytes, 88, &[31]);
-    assert_eq!(rt; Fadt::read(&bytes).pm1a_event_block(), Ok(ports(248, 0)));
+    let widest = Fadt::read(&bytes).pm1a_event_block();
     put(&mut bytes, 88, &[32]);
-    let refused = Fadt::read(&bytes).pm1a_event_block();
-    assert_eq!(rt; refused, Err(AcpiError::InvalidGenericAddress));
-    assert_eq!(rt; Fadt::read(&bytes).pm1b_event_block(), Ok(None));
+    let wider = Fadt::read(&bytes);
+    assert_eq!(rt;
+        (widest, wider.pm1a_event_block(), wider.pm1b_event_block()),
+        (
+            Ok(ports(248, 0)),
+            Err(AcpiError::InvalidGenericAddress),
+            Ok(None)
+        )
+    );
 }
 
 #[test]
@@ -189,14 +218,24 @@ fn ports_of_every_block(rt: HostRuntime) {
     put(&mut bytes, 72, &[5, 0, 0, 0, 6, 0, 0, 0, 7, 0, 0, 0, 8]);
     put(&mut bytes, 88, &[9, 10, 11, 4, 12, 13]);
     let table = Fadt::read(&bytes);
-    assert_eq!(rt; table.pm1a_event_block(), Ok(ports(72, 1)));
-    assert_eq!(rt; table.pm1b_event_block(), Ok(Some(ports(72, 2))));
-    assert_eq!(rt; table.pm1a_control_block(), Ok(ports(80, 3)));
-    assert_eq!(rt; table.pm1b_control_block(), Ok(Some(ports(80, 4))));
-    assert_eq!(rt; table.pm2_control_block(), Ok(Some(ports(88, 5))));
-    assert_eq!(rt; table.pm_timer_block(), Ok(Some(ports(32, 6))));
-    assert_eq!(rt; table.gpe0_block(), Ok(Some(ports(96, 7))));
-    assert_eq!(rt; table.gpe1_block(), Ok(Some(ports(104, 8))));
+    let events = (table.pm1a_event_block(), table.pm1b_event_block());
+    let controls = (table.pm1a_control_block(), table.pm1b_control_block());
+    assert_eq!(rt;
+        (events, controls),
+        (
+            (Ok(ports(72, 1)), Ok(Some(ports(72, 2)))),
+            (Ok(ports(80, 3)), Ok(Some(ports(80, 4))))
+        )
+    );
+    let general = (table.gpe0_block(), table.gpe1_block());
+    assert_eq!(rt;
+        (table.pm2_control_block(), table.pm_timer_block(), general),
+        (
+            Ok(Some(ports(88, 5))),
+            Ok(Some(ports(32, 6))),
+            (Ok(Some(ports(96, 7))), Ok(Some(ports(104, 8))))
+        )
+    );
 }
 
 #[test]
@@ -206,10 +245,15 @@ fn sleep_registers(rt: HostRuntime) {
     put(&mut bytes, 244, &[1, 8, 0, 0, 4, 6]);
     put(&mut bytes, 256, &[1, 8, 0, 5, 5, 6]);
     let table = Fadt::read(&bytes);
-    assert_eq!(rt; table.sleep_control_register(), Ok(Some(ports(8, 0x604))));
     assert_eq!(rt;
-        table.sleep_status_register(),
-        Err(AcpiError::InvalidGenericAddress)
+        [
+            table.sleep_control_register(),
+            table.sleep_status_register()
+        ],
+        [
+            Ok(Some(ports(8, 0x604))),
+            Err(AcpiError::InvalidGenericAddress)
+        ]
     );
 }
 
@@ -218,8 +262,13 @@ fn no_sleep_registers(rt: HostRuntime) {
     let mut bytes = [0u8; 244];
     put(&mut bytes, 8, &[6]);
     let table = Fadt::read(&bytes);
-    assert_eq!(rt; table.sleep_control_register(), Ok(None));
-    assert_eq!(rt; table.sleep_status_register(), Ok(None));
+    assert_eq!(rt;
+        [
+            table.sleep_control_register(),
+            table.sleep_status_register()
+        ],
+        [Ok(None), Ok(None)]
+    );
 }
 
 #[test]
@@ -230,41 +279,65 @@ fn flags_and_plain_fields(rt: HostRuntime) {
     put(&mut bytes, 116, &[1, 8, 0, 0, 0xf9, 0x0c]);
     put(&mut bytes, 128, &[6, 2]);
     let table = Fadt::read(&bytes);
-    assert_eq!(rt; table.power_profile(), PowerProfile::Tablet);
-    assert_eq!(rt; table.sci_interrupt, 9);
-    assert!(rt; table.iapc_boot_arch.motherboard_implements_8042());
-    assert!(rt; !table.iapc_boot_arch.legacy_devices_are_accessible());
-    assert!(rt; table.flags.use_instr_after_write_to_slp_typx());
-    assert!(rt; !table.flags.system_is_headless());
-    assert_eq!(rt; table.reset_register(), Ok(ports(8, 0xcf9)));
-    assert_eq!(rt; table.reset_value, 6);
-    assert!(rt; table.arm_boot_arch.use_hvc_as_psci_conduit());
-    assert!(rt; !table.arm_boot_arch.implements_psci());
+    let reset = (table.reset_register(), table.reset_value);
+    assert_eq!(rt;
+        (table.power_profile(), table.sci_interrupt, reset),
+        (PowerProfile::Tablet, 9, (Ok(ports(8, 0xcf9)), 6))
+    );
+    let (iapc, flags, arm) = (table.iapc_boot_arch, table.flags, table.arm_boot_arch);
+    let set = [
+        iapc.motherboard_implements_8042(),
+        flags.use_instr_after_write_to_slp_typx(),
+        arm.use_hvc_as_psci_conduit(),
+    ];
+    let unset = [
+        iapc.legacy_devices_are_accessible(),
+        flags.system_is_headless(),
+        arm.implements_psci(),
+    ];
+    assert_eq!(rt; (set, unset), ([true; 3], [false; 3]));
 }
 
 /// Each byte is its own offset, so each field's value says where it lies.
 #[test]
 fn fields_where_they_lie(rt: HostRuntime) {
     let mut bytes = [0u8; 131];
-    for (offset, byte) in bytes.iter_mut().enumerate() {
-        *byte = (offset % 256) as u8;
+    for offset in 0..131usize {
+        bytes[offset] = offset as u8;
     }
     let table = Fadt::read(&bytes);
-    assert_eq!(rt; table.power_profile(), PowerProfile::Reserved(45));
-    assert_eq!(rt; table.sci_interrupt, 0x2f2e);
-    assert_eq!(rt; table.smi_cmd_port, 0x3332_3130);
-    assert_eq!(rt; (table.acpi_enable, table.acpi_disable), (52, 53));
-    assert_eq!(rt; (table.s4bios_req, table.pstate_control), (54, 55));
-    assert_eq!(rt; (table.gpe1_base, table.c_state_control), (94, 95));
-    assert_eq!(rt; table.worst_c2_latency, 0x6160);
-    assert_eq!(rt; table.worst_c3_latency, 0x6362);
-    assert_eq!(rt; (table.flush_size, table.flush_stride), (0x6564, 0x6766));
-    assert_eq!(rt; (table.duty_offset, table.duty_width), (104, 105));
     assert_eq!(rt;
-        (table.day_alarm, table.month_alarm, table.century),
-        (106, 107, 108)
+        (
+            table.power_profile(),
+            table.sci_interrupt,
+            table.smi_cmd_port
+        ),
+        (PowerProfile::Reserved(45), 0x2f2e, 0x3332_3130)
     );
-    assert_eq!(rt; table.reset_value, 128);
+    let switches = (table.acpi_enable, table.acpi_disable);
+    let commands = (
+        table.s4bios_req,
+        table.pstate_control,
+        table.c_state_control,
+    );
+    assert_eq!(rt;
+        (switches, commands, table.gpe1_base),
+        ((52, 53), (54, 55, 95), 94)
+    );
+    let latencies = (table.worst_c2_latency, table.worst_c3_latency);
+    let flush = (table.flush_size, table.flush_stride);
+    let duty = (table.duty_offset, table.duty_width);
+    let clock = (table.day_alarm, table.month_alarm, table.century);
+    assert_eq!(rt;
+        (latencies, flush, duty, clock, table.reset_value),
+        (
+            (0x6160, 0x6362),
+            (0x6564, 0x6766),
+            (104, 105),
+            (106, 107, 108),
+            128
+        )
+    );
 }
 
 #[test]

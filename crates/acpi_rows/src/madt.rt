@@ -5,7 +5,7 @@ ghost use Rattle.std.specs.Prelude.{◌+◌, ◌≤◌, length};
 mod fields;
 mod wakeup;
 
-use acpi::{AcpiHandler, AcpiTables};
+use acpi::{AcpiHandler, AcpiResult, AcpiTables};
 use acpi_base::madt::{Madt, MadtEntry, MadtEntryIter, MpProtectedModeWakeupCommand};
 use acpi_base::{AcpiError, MadtError, PhysicalMapping};
 use acpi_image::MemoryImage;
@@ -39,7 +39,6 @@ fn check(
 {
     let table = table_of(entries);
     let table = &table[..44 + entries.len()];
-    assert_eq!(rt; walk(table), (count, malformed), "{entries:?}");
     let window = Window::new(0, table);
     let madt: PhysicalMapping<Window<'_>, Madt> = PhysicalMapping::new(
         0,
@@ -47,8 +46,15 @@ fn check(
         table.len(),
         &window,
     );
-    assert_eq!(rt; madt.entries().count(), count);
-    assert_eq!(rt; madt.get_mpwk_mailbox_addr(), mailbox, "{entries:?}");
+    assert_eq!(rt;
+        (
+            walk(table),
+            madt.entries().count(),
+            madt.get_mpwk_mailbox_addr()
+        ),
+        ((count, malformed), count, mailbox),
+        "{entries:?}"
+    );
 }
 
 #[test]
@@ -143,59 +149,51 @@ fn the_end_is_known_once_it_is_reached(rt: HostRuntime) {
 #[test]
 fn a_table_shorter_than_its_fixed_fields_has_no_entries(rt: HostRuntime) {
     let table = [0x10; 128];
-    for length in [0, 1, 36, 38, 43, 44] {
-        assert_eq!(rt;
-            walk(front(&table, length)),
-            (0, false),
-            "of {length} bytes"
-        );
+    for (length, walked) in [
+        (0, (0, false)),
+        (1, (0, false)),
+        (36, (0, false)),
+        (38, (0, false)),
+        (43, (0, false)),
+        (44, (0, false)),
+        (45, (0, true)),
+        (60, (1, false)),
+    ] {
+        assert_eq!(rt; walk(front(&table, length)), walked, "of {length} bytes");
     }
-    assert_eq!(rt; walk(front(&table, 45)), (0, true));
-    assert_eq!(rt; walk(front(&table, 60)), (1, false));
 }
 
 #[test]
 fn the_length_says_where_the_next_entry_begins(rt: HostRuntime) -> Result<(), Fail> {
     let table = table_of(&[0, 9, 1, 2, 1, 0, 0, 0, 0xFF, 0, 8, 3, 4, 0, 0, 0, 0]);
     let mut entries = MadtEntryIter::over(front(&table, 61));
-    let Some(MadtEntry::LocalApic(first)) = entries.next() else {
-        return Err(NO_MAILBOX)?
-    };
-    assert_eq!(rt; (first.header.entry_type, first.header.length), (0, 9));
-    assert_eq!(rt; (first.processor_id, first.apic_id, first.flags), (1, 2, 1));
-    let Some(MadtEntry::LocalApic(second)) = entries.next() else {
-        return Err(NO_MAILBOX)?
-    };
-    assert_eq!(rt; (second.header.entry_type, second.header.length), (0, 8));
-    assert_eq!(rt;
-        (second.processor_id, second.apic_id, second.flags),
-        (3, 4, 0)
-    );
-    assert!(rt; entries.next().is_none());
-    assert!(rt; !entries.ended_malformed());
+    for (length, fields) in [(9, (1, 2, 1)), (8, (3, 4, 0))] {
+        let Some(MadtEntry::LocalApic(e)) = entries.next() else {
+            return Err(NO_MAILBOX)?
+        };
+        assert_eq!(rt;
+            (
+                e.header.entry_type,
+                e.header.length,
+                (e.processor_id, e.apic_id, e.flags)
+            ),
+            (0, length, fields)
+        );
+    }
+    let is_none = entries.next().is_none();
+    assert_eq!(rt; [is_none, entries.ended_malformed()], [true, false]);
     Ok(())
 }
 
-fn check_found<H: AcpiHandler>(
-    rt: &impl Abort,
-    handler: &H,
-    length: usize,
-    walked: (usize, bool),
-) -> Result<(), AcpiError> {
+/// Where the MADT below the RSDT at 0x1000 lies and how many bytes it has, how many entries, and
+/// whether they end at a malformed one.
+fn found<H: AcpiHandler>(handler: &H) -> AcpiResult<((u64, usize), (usize, bool))> {
     let tables = AcpiTables::from_rsdt(handler, 0, 0x1000)?;
     let madt = tables.find_table::<Madt>()?;
-    assert_eq!(rt;
-        (madt.physical_start(), madt.region_length()),
-        (0x2000, length)
-    );
+    let place = (madt.physical_start(), madt.region_length());
     let mut entries = madt.entries();
     let count = entries.by_ref().count();
-    assert_eq!(rt;
-        (count, entries.ended_malformed()),
-        walked,
-        "of {length} bytes"
-    );
-    Ok(())
+    Ok((place, (count, entries.ended_malformed())))
 }
 
 #[test]
@@ -211,12 +209,10 @@ fn a_madt_may_end_in_a_malformed_entry(rt: HostRuntime) -> Result<(), Fail> {
         let entries = front(entries, 20);
         let file = with_madt(checksum, entries);
         let image = MemoryImage::from_bytes(rt.alloc(), front(&file, 116 + entries.len()))?;
-        let length = 44 + entries.len();
-        check_found(&rt, &image, length, walked)?;
-        check_found(&rt, &Exact::new(&image), length, walked)?;
         let recording = Recording::new(&image);
-        check_found(&rt, &recording, length, walked)?;
-        assert_eq!(rt; recording.flaw(), None);
+        let answers = [found(&image), found(&Exact::new(&image)), found(&recording)];
+        let answer = Ok(((0x2000, 44 + entries.len()), walked));
+        assert_eq!(rt; (answers, recording.flaw()), ([answer; 3], None));
     }
     Ok(())
 }
@@ -229,8 +225,10 @@ fn the_fixed_fields_stand_before_the_entries(rt: HostRuntime) {
         put(&mut table, 40, &flags.to_le_bytes());
         let window = Window::new(0, &table);
         let madt: PhysicalMapping<Window<'_>, Madt> = PhysicalMapping::new(0, &table, 44, &window);
-        assert_eq!(rt; (madt.local_apic_address, madt.flags), (0x1234_5678, flags));
-        assert_eq!(rt; madt.supports_8259(), pair);
+        assert_eq!(rt;
+            (madt.local_apic_address, madt.flags, madt.supports_8259()),
+            (0x1234_5678, flags, pair)
+        );
     }
 }
 

@@ -5,6 +5,7 @@ use acpi::rsdp::Rsdp;
 use acpi::sdt::Signature;
 use acpi::{AcpiError, AcpiHandler, AcpiResult, AcpiTables, PhysicalRecord};
 use acpi_image::MemoryImage;
+use acpi_lenders::answers::place_of;
 use acpi_lenders::handlers::Exact;
 use acpi_lenders::samples::rsdps::{put_rsdp, put_rsdp_2};
 use acpi_lenders::samples::{change, put, put_graphic, put_head, put_table};
@@ -37,22 +38,24 @@ fn an_rsdp_shows_its_fields(rt: HostRuntime) {
     let mut bytes = [0xff; 36];
     put_rsdp(&mut bytes, 0, 0x11);
     let old = Rsdp::read(&bytes);
-    assert_eq!(rt; old.validate(&bytes), Ok(()));
-    assert_eq!(rt; (old.revision(), old.rsdt_address()), (0, 0x1000));
-    assert_eq!(rt; (old.length(), old.xsdt_address()), (None, None));
-    assert_eq!(rt; old.ext_checksum(), None);
+    let first_part = (old.validate(&bytes), old.revision(), old.rsdt_address());
+    let second_part = (old.length(), old.xsdt_address(), old.ext_checksum());
+    assert_eq!(rt;
+        (first_part, second_part),
+        ((Ok(()), 0, 0x1000), (None, None, None))
+    );
     let mut bytes = [0; 36];
     put_rsdp_2(&mut bytes, 0);
     let new = Rsdp::read(&bytes);
-    assert_eq!(rt; new.signature(), *b"RSD PTR ");
-    assert_eq!(rt; (new.checksum(), new.revision()), (0x1f, 2));
-    assert_eq!(rt; new.oem_id(), Some("      "));
-    assert_eq!(rt; new.rsdt_address(), 0);
+    let head = (new.signature(), new.checksum(), new.oem_id());
     assert_eq!(rt;
-        (new.length(), new.xsdt_address()),
-        (Some(36), Some(0x2000))
+        (head, new.revision(), new.rsdt_address()),
+        ((*b"RSD PTR ", 0x1f, Some("      ")), 2, 0)
     );
-    assert_eq!(rt; new.ext_checksum(), Some(0xbc));
+    assert_eq!(rt;
+        (new.length(), new.xsdt_address(), new.ext_checksum()),
+        (Some(36), Some(0x2000), Some(0xbc))
+    );
 }
 
 /// An RSDP of revision 2 at 0x500 that names an RSDT and an XSDT by the second bytes of their
@@ -80,12 +83,17 @@ fn rsdp_to(rsdt: u8, xsdt: u8, checksum: u8, extended_checksum: u8) -> [u8; 256]
 /// Checks that the RSDP leads to the RSDT, and that a revision alone leads to an XSDT.
 fn check_rsdt<H: AcpiHandler>(rt: &impl Abort, handler: &H) -> AcpiResult<()> {
     let tables = AcpiTables::from_rsdp(handler, 0x500)?;
-    assert_eq!(rt; tables.revision(), 2);
-    assert_eq!(rt; tables.find_table::<Bgrt>()?.physical_start(), 0x3000);
-    let no_xsdt = Some(AcpiError::SdtInvalidSignature(Signature::XSDT));
-    assert_eq!(rt; AcpiTables::from_rsdt(handler, 2, 0x1000).err(), no_xsdt);
-    let nothing = Some(AcpiError::MapFailed);
-    assert_eq!(rt; AcpiTables::from_rsdt(handler, 2, 0).err(), nothing);
+    assert_eq!(rt;
+        (tables.revision(), place_of::<Bgrt, H>(&tables)),
+        (2, Ok((0x3000, 56)))
+    );
+    let at_rsdt = AcpiTables::from_rsdt(handler, 2, 0x1000).err();
+    let nowhere = AcpiTables::from_rsdt(handler, 2, 0).err();
+    let no_xsdt = AcpiError::SdtInvalidSignature(Signature::XSDT);
+    assert_eq!(rt;
+        [at_rsdt, nowhere],
+        [Some(no_xsdt), Some(AcpiError::MapFailed)]
+    );
     Ok(())
 }
 

@@ -67,15 +67,13 @@ fn one_console() -> [u8; 152] {
 fn check_found<H: AcpiHandler>(rt: &impl Abort, handler: &H) -> Result<(), AcpiError> {
     let tables = AcpiTables::from_rsdt(handler, 0, 0x1000)?;
     let console = tables.find_table::<Spcr>()?;
+    let place = (console.physical_start(), console.region_length());
+    let interrupts = (console.irq(), console.global_system_interrupt());
+    let rates = (console.baud_rate(), console.uart_clock_frequency());
     assert_eq!(rt;
-        (console.physical_start(), console.region_length()),
-        (0x2000, 80)
+        (place, interrupts, rates, console.namespace_string()),
+        ((0x2000, 80), (Some(4), None), (Some(115200), None), Ok(""))
     );
-    assert_eq!(rt; console.baud_rate(), Some(115200));
-    assert_eq!(rt; console.irq(), Some(4));
-    assert_eq!(rt; console.global_system_interrupt(), None);
-    assert_eq!(rt; console.uart_clock_frequency(), None);
-    assert_eq!(rt; console.namespace_string(), Ok(""));
     Ok(())
 }
 
@@ -95,12 +93,12 @@ fn the_serial_console_is_found(rt: HostRuntime) -> Result<(), Fail> {
 fn a_table_whose_sum_is_not_0_is_refused(rt: HostRuntime) {
     let mut bytes = [0; 80];
     put(&mut bytes, 0, b"SPCR\x50\0\0\0\0\x78");
-    assert_eq!(rt; Spcr::read(&bytes).validate(&bytes), Ok(()));
+    let valid = Spcr::read(&bytes).validate(&bytes);
     bytes[79] = 1;
     let refused = Spcr::read(&bytes).validate(&bytes);
     assert_eq!(rt;
-        refused,
-        Err(AcpiError::SdtInvalidChecksum(Signature::SPCR))
+        [valid, refused],
+        [Ok(()), Err(AcpiError::SdtInvalidChecksum(Signature::SPCR))]
     );
 }
 
@@ -149,13 +147,15 @@ fn the_interrupt_type_says_which_interrupts_count(rt: HostRuntime) {
         (0x20, None, None),
     ] {
         let console = reading(2, 52, &[interrupt_type, 4, 20, 0, 0, 0, 5]);
-        assert_eq!(rt; console.irq(), irq, "type {interrupt_type}");
         assert_eq!(rt;
-            console.global_system_interrupt(),
-            gsi,
+            (
+                console.irq(),
+                console.global_system_interrupt(),
+                console.baud_rate()
+            ),
+            (irq, gsi, None),
             "type {interrupt_type}"
         );
-        assert_eq!(rt; console.baud_rate(), None);
     }
 }
 
@@ -180,20 +180,19 @@ fn some_codes_are_baud_rates(rt: HostRuntime) {
 fn a_precise_rate_goes_first(rt: HostRuntime) {
     let mut bytes = [0; 84];
     bytes[58] = 7;
-    assert_eq!(rt; Spcr::read(&bytes).baud_rate(), Some(115200));
+    let coded = Spcr::read(&bytes).baud_rate();
     put(&mut bytes, 80, &[0, 0x10, 0x0E, 0]);
-    assert_eq!(rt; Spcr::read(&bytes).baud_rate(), Some(921600));
+    let precise = Spcr::read(&bytes).baud_rate();
+    assert_eq!(rt; [coded, precise], [Some(115200), Some(921600)]);
 }
 
 #[test]
 fn the_clock_came_with_revision_3(rt: HostRuntime) {
     let clock = [0, 0x20, 0x1C, 0];
-    assert_eq!(rt; reading(2, 76, &clock).uart_clock_frequency(), None);
-    assert_eq!(rt;
-        reading(3, 76, &clock).uart_clock_frequency(),
-        Some(1843200)
-    );
-    assert_eq!(rt; reading(3, 76, &[0; 4]).uart_clock_frequency(), None);
+    let old = reading(2, 76, &clock).uart_clock_frequency();
+    let new = reading(3, 76, &clock).uart_clock_frequency();
+    let none = reading(3, 76, &[0; 4]).uart_clock_frequency();
+    assert_eq!(rt; [old, new, none], [None, Some(1843200), None]);
 }
 
 #[test]
@@ -225,46 +224,69 @@ fn no_base_address_is_twelve_zeros(rt: HostRuntime) {
 
 #[test]
 fn a_port_may_be_no_pci_device(rt: HostRuntime) {
-    let none = reading(2, 64, &[0xFF, 0xFF, 0xFF, 0xFF, 0, 0, 0]);
-    assert_eq!(rt; (none.pci_device_id(), none.pci_vendor_id()), (None, None));
-    assert_eq!(rt; none.pci_bus_number(), None);
-    assert_eq!(rt; none.pci_device_number(), None);
-    assert_eq!(rt; none.pci_function_number(), None);
-    let some = reading(2, 64, &[0, 0, 0xFF, 0xFE, 0xFF, 1, 7]);
-    assert_eq!(rt;
-        (some.pci_device_id(), some.pci_vendor_id()),
-        (Some(0), Some(0xFEFF))
-    );
-    assert_eq!(rt; some.pci_bus_number(), Some(0xFF));
-    assert_eq!(rt; some.pci_device_number(), Some(1));
-    assert_eq!(rt; some.pci_function_number(), Some(7));
+    for (bytes, ids, place, function) in [
+        (
+            [0xFF, 0xFF, 0xFF, 0xFF, 0, 0, 0],
+            (None, None),
+            (None, None),
+            None,
+        ),
+        (
+            [0, 0, 0xFF, 0xFE, 0xFF, 1, 7],
+            (Some(0), Some(0xFEFF)),
+            (Some(0xFF), Some(1)),
+            Some(7),
+        ),
+    ] {
+        let port = reading(2, 64, &bytes);
+        let port_ids = (port.pci_device_id(), port.pci_vendor_id());
+        let port_place = (port.pci_bus_number(), port.pci_device_number());
+        assert_eq!(rt;
+            (port_ids, port_place, port.pci_function_number()),
+            (ids, place, function)
+        );
+    }
 }
 
 /// Each byte is its own offset, so each field's value says where it lies.
 #[test]
 fn fields_where_they_lie(rt: HostRuntime) {
     let mut bytes = [0u8; 80];
-    for (offset, byte) in bytes.iter_mut().enumerate() {
-        *byte = (offset % 256) as u8;
+    for offset in 0..80usize {
+        bytes[offset] = offset as u8;
     }
     let console = Spcr::read(&bytes);
-    assert_eq!(rt; console.header.signature.to_bytes(), [0, 1, 2, 3]);
+    let header = &console.header;
+    let header = (header.signature.to_bytes(), header.length, header.revision);
+    let interrupt_type = console.interrupt_type().bits();
+    let interrupts = (interrupt_type, console.global_system_interrupt());
     assert_eq!(rt;
-        (console.header.length, console.header.revision),
-        (0x0706_0504, 8)
+        (header, console.interface_type(), interrupts),
+        (
+            ([0, 1, 2, 3], 0x0706_0504, 8),
+            SpcrInterfaceType::Unknown(36),
+            (0x14, Some(0x3938_3736))
+        )
     );
-    assert_eq!(rt; console.interface_type(), SpcrInterfaceType::Unknown(36));
-    assert_eq!(rt; console.interrupt_type().bits(), 0x14);
-    assert_eq!(rt; console.global_system_interrupt(), Some(0x3938_3736));
-    assert_eq!(rt; (console.parity, console.stop_bits), (59, 60));
-    assert_eq!(rt; console.flow_control().bits(), 5);
-    assert_eq!(rt; console.terminal_type().bits(), 0x0E);
-    assert_eq!(rt; console.language, 63);
-    assert_eq!(rt; console.pci_device_id(), Some(0x4140));
-    assert_eq!(rt; console.pci_vendor_id(), Some(0x4342));
-    assert_eq!(rt; console.pci_bus_number(), Some(68));
-    assert_eq!(rt; console.pci_device_number(), Some(69));
-    assert_eq!(rt; console.pci_function_number(), Some(70));
-    assert_eq!(rt; (console.pci_flags, console.pci_segment), (0x4A49_4847, 75));
-    assert_eq!(rt; console.uart_clock_frequency(), Some(0x4F4E_4D4C));
+    let line = (console.parity, console.stop_bits);
+    let flow_control = console.flow_control().bits();
+    let terminal = (console.terminal_type().bits(), console.language);
+    let port = (console.pci_flags, console.pci_segment);
+    assert_eq!(rt;
+        (line, flow_control, terminal, port),
+        ((59, 60), 5, (0x0E, 63), (0x4A49_4847, 75))
+    );
+    let ids = (console.pci_device_id(), console.pci_vendor_id());
+    let place = (console.pci_bus_number(), console.pci_device_number());
+    let function = console.pci_function_number();
+    let clock = console.uart_clock_frequency();
+    assert_eq!(rt;
+        (ids, place, function, clock),
+        (
+            (Some(0x4140), Some(0x4342)),
+            (Some(68), Some(69)),
+            Some(70),
+            Some(0x4F4E_4D4C)
+        )
+    );
 }

@@ -52,9 +52,12 @@ fn signatures_print_their_text_or_their_digits(rt: HostRuntime) -> Result<(), Fa
         ([0xC3, 0xA9, b'4', b'2'], "é42", "\"é42\""),
     ] {
         let signature = Signature::from_bytes(bytes);
-        assert_eq!(rt; format!(in rt.alloc(); "{signature}")?.as_str(), shown);
-        assert_eq!(rt; format!(in rt.alloc(); "{signature:?}")?.as_str(), quoted);
-        assert_eq!(rt; signature.to_bytes(), bytes);
+        let text = format!(in rt.alloc(); "{signature}")?;
+        let debugged = format!(in rt.alloc(); "{signature:?}")?;
+        assert_eq!(rt;
+            (text.as_str(), debugged.as_str(), signature.to_bytes()),
+            (shown, quoted, bytes)
+        );
     }
     Ok(())
 }

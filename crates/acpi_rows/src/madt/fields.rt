@@ -6,6 +6,7 @@ use acpi_base::madt::{EntryHeader, MadtEntry, MadtEntryIter};
 use acpi_base::{AcpiError, MadtError};
 use acpi_lenders::samples::madts::table_of;
 use acpi_lenders::samples::{front, put};
+use std::fmt::Debug;
 use std::process::Abort;
 use std::test::Fail;
 
@@ -49,24 +50,25 @@ fn each_kind_has_a_least_length(rt: HostRuntime) {
         (0x0F, 19, 20),
         (0x10, 15, 16),
     ] {
-        let table = counted(kind, least);
         let fixed: usize = 44;
-        assert_eq!(rt;
-            walk(front(&table, fixed + least as usize)),
-            (1, false),
-            "kind {kind}"
-        );
-        let table = counted(kind, short);
-        assert_eq!(rt;
-            walk(front(&table, fixed + short as usize)),
-            (0, true),
-            "kind {kind}"
-        );
+        let whole = walk(front(&counted(kind, least), fixed + least as usize));
+        let cut = walk(front(&counted(kind, short), fixed + short as usize));
+        assert_eq!(rt; (whole, cut), ((1, false), (0, true)), "kind {kind}");
     }
 }
 
-fn check_header(rt: &impl Abort, header: EntryHeader, kind: u8, length: u8) {
-    assert_eq!(rt; (header.entry_type, header.length), (kind, length));
+/// Checks an entry's kind and length, and its other fields.
+fn check_entry<F: PartialEq + Debug + Drop>(
+    rt: &impl Abort,
+    header: EntryHeader,
+    wanted: (u8, u8),
+    fields: F,
+    wanted_fields: F,
+) {
+    assert_eq!(rt;
+        ((header.entry_type, header.length), fields),
+        (wanted, wanted_fields)
+    );
 }
 
 #[test]
@@ -74,35 +76,38 @@ fn apic_entries_have_their_fields(rt: HostRuntime) -> Result<(), Fail> {
     let Some(MadtEntry::LocalApic(e)) = first(0, 8) else {
         return Err(OTHER)?
     };
-    check_header(&rt, e.header, 0, 8);
-    assert_eq!(rt; (e.processor_id, e.apic_id, e.flags), (3, 4, 0x0807_0605));
+    let fields = (e.processor_id, e.apic_id, e.flags);
+    check_entry(&rt, e.header, (0, 8), fields, (3, 4, 0x0807_0605));
     let Some(MadtEntry::IoApic(e)) = first(1, 12) else {
         return Err(OTHER)?
     };
-    check_header(&rt, e.header, 1, 12);
-    assert_eq!(rt; (e.io_apic_id, e.io_apic_address), (3, 0x0807_0605));
-    assert_eq!(rt; e.global_system_interrupt_base, 0x0C0B_0A09);
+    let fields = (
+        e.io_apic_id,
+        e.io_apic_address,
+        e.global_system_interrupt_base,
+    );
+    let wanted = (3, 0x0807_0605, 0x0C0B_0A09);
+    check_entry(&rt, e.header, (1, 12), fields, wanted);
     let Some(MadtEntry::InterruptSourceOverride(e)) = first(2, 10) else {
         return Err(OTHER)?;
     };
-    check_header(&rt, e.header, 2, 10);
-    assert_eq!(rt; (e.bus, e.irq), (3, 4));
-    assert_eq!(rt; (e.global_system_interrupt, e.flags), (0x0807_0605, 0x0A09));
+    let fields = (e.bus, e.irq, e.global_system_interrupt, e.flags);
+    check_entry(&rt, e.header, (2, 10), fields, (3, 4, 0x0807_0605, 0x0A09));
     let Some(MadtEntry::NmiSource(e)) = first(3, 8) else {
         return Err(OTHER)?
     };
-    check_header(&rt, e.header, 3, 8);
-    assert_eq!(rt; (e.flags, e.global_system_interrupt), (0x0403, 0x0807_0605));
+    let fields = (e.flags, e.global_system_interrupt);
+    check_entry(&rt, e.header, (3, 8), fields, (0x0403, 0x0807_0605));
     let Some(MadtEntry::LocalApicNmi(e)) = first(4, 6) else {
         return Err(OTHER)?
     };
-    check_header(&rt, e.header, 4, 6);
-    assert_eq!(rt; (e.processor_id, e.flags, e.nmi_line), (3, 0x0504, 6));
+    let fields = (e.processor_id, e.flags, e.nmi_line);
+    check_entry(&rt, e.header, (4, 6), fields, (3, 0x0504, 6));
     let Some(MadtEntry::LocalApicAddressOverride(e)) = first(5, 12) else {
         return Err(OTHER)?;
     };
-    check_header(&rt, e.header, 5, 12);
-    assert_eq!(rt; e.local_apic_address, 0x0C0B_0A09_0807_0605);
+    let address = e.local_apic_address;
+    check_entry(&rt, e.header, (5, 12), address, 0x0C0B_0A09_0807_0605);
     Ok(())
 }
 
@@ -111,17 +116,14 @@ fn x2apic_entries_have_their_fields(rt: HostRuntime) -> Result<(), Fail> {
     let Some(MadtEntry::LocalX2Apic(e)) = first(9, 16) else {
         return Err(OTHER)?
     };
-    check_header(&rt, e.header, 9, 16);
-    assert_eq!(rt; (e.x2apic_id, e.flags), (0x0807_0605, 0x0C0B_0A09));
-    assert_eq!(rt; e.processor_uid, 0x100F_0E0D);
+    let fields = (e.x2apic_id, e.flags, e.processor_uid);
+    let wanted = (0x0807_0605, 0x0C0B_0A09, 0x100F_0E0D);
+    check_entry(&rt, e.header, (9, 16), fields, wanted);
     let Some(MadtEntry::X2ApicNmi(e)) = first(10, 12) else {
         return Err(OTHER)?
     };
-    check_header(&rt, e.header, 10, 12);
-    assert_eq!(rt;
-        (e.flags, e.processor_uid, e.nmi_line),
-        (0x0403, 0x0807_0605, 9)
-    );
+    let fields = (e.flags, e.processor_uid, e.nmi_line);
+    check_entry(&rt, e.header, (10, 12), fields, (0x0403, 0x0807_0605, 9));
     Ok(())
 }
 
@@ -130,32 +132,33 @@ fn sapic_entries_have_their_fields(rt: HostRuntime) -> Result<(), Fail> {
     let Some(MadtEntry::IoSapic(e)) = first(6, 16) else {
         return Err(OTHER)?
     };
-    check_header(&rt, e.header, 6, 16);
-    assert_eq!(rt;
-        (e.io_apic_id, e.global_system_interrupt_base),
-        (3, 0x0807_0605)
+    let fields = (
+        e.io_apic_id,
+        e.global_system_interrupt_base,
+        e.io_sapic_address,
     );
-    assert_eq!(rt; e.io_sapic_address, 0x100F_0E0D_0C0B_0A09);
+    let wanted = (3, 0x0807_0605, 0x100F_0E0D_0C0B_0A09);
+    check_entry(&rt, e.header, (6, 16), fields, wanted);
     let Some(MadtEntry::LocalSapic(e)) = first(7, 16) else {
         return Err(OTHER)?
     };
-    check_header(&rt, e.header, 7, 16);
-    assert_eq!(rt;
-        (e.processor_id, e.local_sapic_id, e.local_sapic_eid),
-        (3, 4, 5)
+    let ids = (e.processor_id, e.local_sapic_id, e.local_sapic_eid);
+    let wanted = ((3, 4, 5), 0x0C0B_0A09, 0x100F_0E0D);
+    check_entry(
+        &rt,
+        e.header,
+        (7, 16),
+        (ids, e.flags, e.processor_uid),
+        wanted,
     );
-    assert_eq!(rt; (e.flags, e.processor_uid), (0x0C0B_0A09, 0x100F_0E0D));
     let Some(MadtEntry::PlatformInterruptSource(e)) = first(8, 16) else {
         return Err(OTHER)?;
     };
-    check_header(&rt, e.header, 8, 16);
-    assert_eq!(rt; (e.flags, e.interrupt_type), (0x0403, 5));
-    assert_eq!(rt;
-        (e.processor_id, e.processor_eid, e.io_sapic_vector),
-        (6, 7, 8)
-    );
-    assert_eq!(rt; e.global_system_interrupt, 0x0C0B_0A09);
-    assert_eq!(rt; e.platform_interrupt_source_flags, 0x100F_0E0D);
+    let kind = (e.flags, e.interrupt_type);
+    let goal = (e.processor_id, e.processor_eid, e.io_sapic_vector);
+    let source = (e.global_system_interrupt, e.platform_interrupt_source_flags);
+    let wanted = ((0x0403, 5), (6, 7, 8), (0x0C0B_0A09, 0x100F_0E0D));
+    check_entry(&rt, e.header, (8, 16), (kind, goal, source), wanted);
     Ok(())
 }
 
@@ -164,28 +167,33 @@ fn gicc_entries_have_their_fields(rt: HostRuntime) -> Result<(), Fail> {
     let Some(MadtEntry::Gicc(e)) = first(11, 82) else {
         return Err(OTHER)?
     };
-    check_header(&rt, e.header, 11, 82);
+    let fields = (e.cpu_interface_number, e.processor_uid, e.flags);
+    let wanted = (0x0807_0605, 0x0C0B_0A09, 0x100F_0E0D);
+    check_entry(&rt, e.header, (11, 82), fields, wanted);
+    let parking = (e.parking_protocol_version, e.parked_address);
+    let interrupts = (e.performance_interrupt_gsiv, e.vgic_maintenance_interrupt);
+    let class = e.processor_power_efficiency_class;
+    let last = (e.spe_overflow_interrupt, e.trbe_interrupt.access(6));
     assert_eq!(rt;
-        (e.cpu_interface_number, e.processor_uid),
-        (0x0807_0605, 0x0C0B_0A09)
+        (parking, interrupts, class, last),
+        (
+            (0x1413_1211, 0x201F_1E1D_1C1B_1A19),
+            (0x1817_1615, 0x3C3B_3A39),
+            0x4D,
+            (0x504F, Some(0x5251))
+        )
     );
+    let registers = (e.gic_registers_address, e.gic_virtual_registers_address);
+    let hypervisor = e.gic_hypervisor_registers_address;
     assert_eq!(rt;
-        (e.flags, e.parking_protocol_version),
-        (0x100F_0E0D, 0x1413_1211)
+        (registers, hypervisor, e.gicr_base_address, e.mpidr),
+        (
+            (0x2827_2625_2423_2221, 0x302F_2E2D_2C2B_2A29),
+            0x3837_3635_3433_3231,
+            0x4443_4241_403F_3E3D,
+            0x4C4B_4A49_4847_4645
+        )
     );
-    assert_eq!(rt; e.performance_interrupt_gsiv, 0x1817_1615);
-    assert_eq!(rt; e.parked_address, 0x201F_1E1D_1C1B_1A19);
-    assert_eq!(rt; e.gic_registers_address, 0x2827_2625_2423_2221);
-    assert_eq!(rt; e.gic_virtual_registers_address, 0x302F_2E2D_2C2B_2A29);
-    assert_eq!(rt; e.gic_hypervisor_registers_address, 0x3837_3635_3433_3231);
-    assert_eq!(rt; e.vgic_maintenance_interrupt, 0x3C3B_3A39);
-    assert_eq!(rt; e.gicr_base_address, 0x4443_4241_403F_3E3D);
-    assert_eq!(rt; e.mpidr, 0x4C4B_4A49_4847_4645);
-    assert_eq!(rt;
-        (e.processor_power_efficiency_class, e.spe_overflow_interrupt),
-        (0x4D, 0x504F)
-    );
-    assert_eq!(rt; e.trbe_interrupt.access(6), Some(0x5251));
     Ok(())
 }
 
@@ -202,14 +210,12 @@ fn a_short_gicc_entry_ends_in_zeros(rt: HostRuntime) -> Result<(), Fail> {
         let Some(MadtEntry::Gicc(e)) = first(11, length) else {
             return Err(OTHER)?
         };
-        assert_eq!(rt; e.mpidr, 0x4C4B_4A49_4847_4645);
+        let last = (e.spe_overflow_interrupt, e.trbe_interrupt.access(6));
         assert_eq!(rt;
-            e.processor_power_efficiency_class,
-            class,
+            (e.mpidr, e.processor_power_efficiency_class, last),
+            (0x4C4B_4A49_4847_4645, class, (interrupt, None)),
             "of {length} bytes"
         );
-        assert_eq!(rt; e.spe_overflow_interrupt, interrupt, "of {length} bytes");
-        assert_eq!(rt; e.trbe_interrupt.access(6), None, "of {length} bytes");
     }
     Ok(())
 }
@@ -221,9 +227,11 @@ fn the_trace_interrupt_came_with_revision_6(rt: HostRuntime) -> Result<(), Fail>
     let Some(MadtEntry::Gicc(e)) = MadtEntryIter::over(front(&table, 126)).next() else {
         return Err(OTHER)?;
     };
-    assert_eq!(rt; e.trbe_interrupt.access(6), Some(23));
-    assert_eq!(rt; e.trbe_interrupt.access(0xFF), Some(23));
-    assert_eq!(rt; e.trbe_interrupt.access(5), None);
+    let trace = e.trbe_interrupt;
+    assert_eq!(rt;
+        [trace.access(6), trace.access(0xFF), trace.access(5)],
+        [Some(23), Some(23), None]
+    );
     Ok(())
 }
 
@@ -232,38 +240,32 @@ fn gic_entries_have_their_fields(rt: HostRuntime) -> Result<(), Fail> {
     let Some(MadtEntry::Gicd(e)) = first(12, 24) else {
         return Err(OTHER)?
     };
-    check_header(&rt, e.header, 12, 24);
-    assert_eq!(rt;
-        (e.gic_id, e.physical_base_address),
-        (0x0807_0605, 0x100F_0E0D_0C0B_0A09)
-    );
-    assert_eq!(rt; (e.system_vector_base, e.gic_version), (0x1413_1211, 0x15));
+    let place = (e.gic_id, e.physical_base_address);
+    let wanted = ((0x0807_0605, 0x100F_0E0D_0C0B_0A09), 0x1413_1211, 0x15);
+    let fields = (place, e.system_vector_base, e.gic_version);
+    check_entry(&rt, e.header, (12, 24), fields, wanted);
     let Some(MadtEntry::GicMsiFrame(e)) = first(13, 24) else {
         return Err(OTHER)?
     };
-    check_header(&rt, e.header, 13, 24);
-    assert_eq!(rt;
-        (e.frame_id, e.physical_base_address),
-        (0x0807_0605, 0x100F_0E0D_0C0B_0A09)
+    let place = (e.frame_id, e.physical_base_address);
+    let interrupts = (e.flags, e.spi_count, e.spi_base);
+    let wanted = (
+        (0x0807_0605, 0x100F_0E0D_0C0B_0A09),
+        (0x1413_1211, 0x1615, 0x1817),
     );
-    assert_eq!(rt;
-        (e.flags, e.spi_count, e.spi_base),
-        (0x1413_1211, 0x1615, 0x1817)
-    );
+    check_entry(&rt, e.header, (13, 24), (place, interrupts), wanted);
     let Some(MadtEntry::GicRedistributor(e)) = first(14, 16) else {
         return Err(OTHER)?
     };
-    check_header(&rt, e.header, 14, 16);
-    assert_eq!(rt; e.discovery_range_base_address, 0x0C0B_0A09_0807_0605);
-    assert_eq!(rt; e.discovery_range_length, 0x100F_0E0D);
+    let range = (e.discovery_range_base_address, e.discovery_range_length);
+    let wanted = (0x0C0B_0A09_0807_0605, 0x100F_0E0D);
+    check_entry(&rt, e.header, (14, 16), range, wanted);
     let Some(MadtEntry::GicInterruptTranslationService(e)) = first(15, 20) else {
         return Err(OTHER)?;
     };
-    check_header(&rt, e.header, 15, 20);
-    assert_eq!(rt;
-        (e.id, e.physical_base_address),
-        (0x0807_0605, 0x100F_0E0D_0C0B_0A09)
-    );
+    let place = (e.id, e.physical_base_address);
+    let wanted = (0x0807_0605, 0x100F_0E0D_0C0B_0A09);
+    check_entry(&rt, e.header, (15, 20), place, wanted);
     Ok(())
 }
 
@@ -272,10 +274,8 @@ fn a_wakeup_entry_has_its_fields(rt: HostRuntime) -> Result<(), Fail> {
     let Some(MadtEntry::MultiprocessorWakeup(e)) = first(16, 16) else {
         return Err(OTHER)?
     };
-    check_header(&rt, e.header, 16, 16);
-    assert_eq!(rt;
-        (e.mailbox_version, e.mailbox_address),
-        (0x0403, 0x100F_0E0D_0C0B_0A09)
-    );
+    let mailbox = (e.mailbox_version, e.mailbox_address);
+    let wanted = (0x0403, 0x100F_0E0D_0C0B_0A09);
+    check_entry(&rt, e.header, (16, 16), mailbox, wanted);
     Ok(())
 }

@@ -49,37 +49,52 @@ fn the_mailbox_is_read_until_it_is_taken(rt: HostRuntime) -> Result<(), Fail> {
     for (answers, timeout, outcome, reads) in rows {
         let mut mailbox = ScriptedMailbox::new(answers);
         let answer = wake(rt.alloc(), front(&file, 132), &mut mailbox, timeout)?;
-        assert_eq!(rt; answer, outcome, "{answers:?}, {timeout}");
-        assert_eq!(rt; mailbox.reads(), reads, "{answers:?}, {timeout}");
-        assert_eq!(rt; mailbox.opened(), Some(0x5000));
         let writes = [
             MailboxWrite::Command(0),
             MailboxWrite::ApicId(7),
             MailboxWrite::WakeupVector(0x8000),
             MailboxWrite::Command(1),
         ];
-        assert_eq!(rt; mailbox.writes(), writes.as_slice());
+        assert_eq!(rt;
+            (answer, mailbox.reads(), mailbox.opened(), mailbox.writes()),
+            (outcome, reads, Some(0x5000), writes.as_slice()),
+            "{answers:?}, {timeout}"
+        );
     }
     Ok(())
 }
 
-/// Checks that nothing was done to a mailbox.
-fn check_untouched(rt: &impl Abort, mailbox: &ScriptedMailbox<'_>) {
-    assert_eq!(rt; mailbox.opened(), None);
-    assert_eq!(rt; mailbox.writes().len(), 0);
-    assert_eq!(rt; mailbox.reads(), 0);
+/// Checks what the answer was, and that nothing was done to the mailbox.
+fn check_untouched(
+    rt: &impl Abort,
+    answer: AcpiResult<()>,
+    refusal: AcpiError,
+    mailbox: &ScriptedMailbox<'_>,
+) {
+    assert_eq!(rt;
+        (
+            answer,
+            mailbox.opened(),
+            mailbox.writes().len(),
+            mailbox.reads()
+        ),
+        (Err(refusal), None, 0, 0)
+    );
 }
 
 #[test]
 fn nothing_is_done_without_a_mailbox(rt: HostRuntime) -> Result<(), Fail> {
     let mut mailbox = ScriptedMailbox::new(&[0]);
     let missing = wake(rt.alloc(), &empty_root(), &mut mailbox, 9)?;
-    assert_eq!(rt; missing, Err(AcpiError::TableMissing(Signature::MADT)));
-    check_untouched(&rt, &mailbox);
+    check_untouched(
+        &rt,
+        missing,
+        AcpiError::TableMissing(Signature::MADT),
+        &mailbox,
+    );
     let file = with_madt(0x34, &[0x7F, 2]);
     let other = wake(rt.alloc(), front(&file, 118), &mut mailbox, 9)?;
-    assert_eq!(rt; other, Err(NO_MAILBOX));
-    check_untouched(&rt, &mailbox);
+    check_untouched(&rt, other, NO_MAILBOX, &mailbox);
     Ok(())
 }
 
@@ -129,7 +144,6 @@ fn nothing_is_done_to_a_mailbox_that_stays_closed(rt: HostRuntime) -> Result<(),
         inner: ScriptedMailbox::new(&[0]),
     };
     let refused = wake(rt.alloc(), front(&file, 132), &mut closed, 9)?;
-    assert_eq!(rt; refused, Err(AcpiError::MapFailed));
-    check_untouched(&rt, &closed.inner);
+    check_untouched(&rt, refused, AcpiError::MapFailed, &closed.inner);
     Ok(())
 }

@@ -16,13 +16,21 @@ fn bits_of<F: Flags<Bits = u8>>(set: Option<F>) -> Option<u8> {
 /// Checks that each name stands for its bits, that these are a set, and that the last bits are not.
 fn check_names<F: Flags<Bits = u8>>(rt: &impl Abort, names: &[(&str, u8)], unknown: u8) {
     for (name, bits) in names {
-        assert_eq!(rt; bits_of(F::from_name(name)), Some(*bits), "{name}");
-        assert_eq!(rt; bits_of(F::from_bits(*bits)), Some(*bits), "{name}");
-        assert_eq!(rt; bits_of(F::from_bits(*bits | unknown)), None, "{name}");
+        let named = bits_of(F::from_name(name));
+        let known = bits_of(F::from_bits(*bits));
+        let other = bits_of(F::from_bits(*bits | unknown));
+        assert_eq!(rt;
+            [named, known, other],
+            [Some(*bits), Some(*bits), None],
+            "{name}"
+        );
     }
-    assert_eq!(rt; bits_of(F::from_name("NONE")), None);
-    assert_eq!(rt; bits_of(F::from_bits(unknown)), None);
-    assert_eq!(rt; bits_of(F::from_bits(0)), Some(0));
+    let unnamed = bits_of(F::from_name("NONE"));
+    let other = bits_of(F::from_bits(unknown));
+    assert_eq!(rt;
+        [unnamed, other, bits_of(F::from_bits(0))],
+        [None, None, Some(0)]
+    );
 }
 
 #[test]
@@ -49,29 +57,43 @@ fn each_name_has_its_bit(rt: HostRuntime) {
 #[test]
 fn a_terminal_type_keeps_its_low_four_bits(rt: HostRuntime) {
     let terminals = reading(2, 62, &[0xF5]).terminal_type();
-    assert_eq!(rt; terminals.bits(), 0x05);
-    assert!(rt; terminals.contains(SpcrTerminalType::VT1000));
-    assert!(rt; terminals.contains(SpcrTerminalType::VT_UTF8));
-    assert!(rt; !terminals.contains(SpcrTerminalType::EXTENDED_VT1000));
-    assert!(rt; !terminals.contains(SpcrTerminalType::ANSI));
+    let contained = [
+        terminals.contains(SpcrTerminalType::VT1000),
+        terminals.contains(SpcrTerminalType::VT_UTF8),
+        terminals.contains(SpcrTerminalType::EXTENDED_VT1000),
+        terminals.contains(SpcrTerminalType::ANSI),
+    ];
+    assert_eq!(rt;
+        (terminals.bits(), contained),
+        (0x05, [true, true, false, false])
+    );
 }
 
 #[test]
 fn a_flow_control_keeps_its_low_three_bits(rt: HostRuntime) {
-    assert_eq!(rt; reading(2, 61, &[0xFF]).flow_control().bits(), 0x07);
+    let every = reading(2, 61, &[0xFF]).flow_control();
     let signals = reading(2, 61, &[0xFA]).flow_control();
-    assert!(rt; signals.contains(SpcrFlowControl::RTS_CTS));
-    assert!(rt; !signals.contains(SpcrFlowControl::DCD));
-    assert!(rt; !signals.contains(SpcrFlowControl::XON_XOFF));
+    let contained = [
+        signals.contains(SpcrFlowControl::RTS_CTS),
+        signals.contains(SpcrFlowControl::DCD),
+        signals.contains(SpcrFlowControl::XON_XOFF),
+    ];
+    assert_eq!(rt; (every.bits(), contained), (0x07, [true, false, false]));
 }
 
 #[test]
 fn an_interrupt_type_keeps_its_low_five_bits(rt: HostRuntime) {
-    assert_eq!(rt; reading(2, 52, &[0xFF]).interrupt_type().bits(), 0x1F);
+    let every = reading(2, 52, &[0xFF]).interrupt_type();
     let controllers = reading(2, 52, &[0xE9]).interrupt_type();
-    assert!(rt; controllers.contains(SpcrInterruptType::DUAL_8259));
-    assert!(rt; controllers.contains(SpcrInterruptType::ARMH_GIC));
-    assert!(rt; !controllers.contains(SpcrInterruptType::IO_APIC));
-    assert!(rt; !controllers.contains(SpcrInterruptType::IO_SAPIC));
-    assert!(rt; !controllers.contains(SpcrInterruptType::RISCV_PLIC));
+    let contained = [
+        controllers.contains(SpcrInterruptType::DUAL_8259),
+        controllers.contains(SpcrInterruptType::ARMH_GIC),
+        controllers.contains(SpcrInterruptType::IO_APIC),
+        controllers.contains(SpcrInterruptType::IO_SAPIC),
+        controllers.contains(SpcrInterruptType::RISCV_PLIC),
+    ];
+    assert_eq!(rt;
+        (every.bits(), contained),
+        (0x1F, [true, true, false, false, false])
+    );
 }
