@@ -4,6 +4,8 @@
 #[cfg(test)]
 mod lists;
 #[cfg(test)]
+mod loans;
+#[cfg(test)]
 mod lookups;
 #[cfg(test)]
 mod notices;

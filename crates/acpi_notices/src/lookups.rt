@@ -5,6 +5,7 @@ use acpi::bgrt::{Bgrt, ImageType};
 use acpi::sdt::{SdtHeader, Signature, map_table};
 use acpi::{AcpiError, AcpiHandler, AcpiTables, PhysicalMapping, PhysicalRecord};
 use acpi_image::MemoryImage;
+use acpi_lenders::answers::place_of;
 use acpi_lenders::example::Wsmt;
 use acpi_lenders::handlers::Exact;
 use acpi_lenders::samples::graphics::{
@@ -20,11 +21,14 @@ struct EmptyRoot;
 impl Scenario for EmptyRoot {
     fn check<R: Abort, H: AcpiHandler>(rt: &R, handler: &H) -> Result<(), AcpiError> {
         let tables = AcpiTables::from_rsdt(handler, 0, 0x1000)?;
-        assert_eq!(rt; tables.revision(), 0);
         let graphic = tables.find_table::<Bgrt>().err();
-        assert_eq!(rt; graphic, Some(AcpiError::TableMissing(Signature::BGRT)));
         let protections = tables.find_table::<Wsmt>().err();
-        assert_eq!(rt; protections, Some(AcpiError::TableMissing(Signature::WSMT)));
+        let no_graphic = AcpiError::TableMissing(Signature::BGRT);
+        let no_protections = AcpiError::TableMissing(Signature::WSMT);
+        assert_eq!(rt;
+            (tables.revision(), graphic, protections),
+            (0, Some(no_graphic), Some(no_protections))
+        );
         Ok(())
     }
 }
@@ -42,15 +46,23 @@ impl Scenario for Graphic {
     fn check<R: Abort, H: AcpiHandler>(rt: &R, handler: &H) -> Result<(), AcpiError> {
         let tables = AcpiTables::from_rsdt(handler, 0, 0x1000)?;
         let graphic = tables.find_table::<Bgrt>()?;
-        assert_eq!(rt; graphic.physical_start(), 0x2000);
-        assert_eq!(rt; graphic.region_length(), 56);
-        assert_eq!(rt; graphic.bytes(), &one_graphic()[72..]);
-        assert_eq!(rt; graphic.version, 1);
-        assert!(rt; graphic.was_displayed());
-        assert_eq!(rt; graphic.orientation_offset(), 180);
-        assert_eq!(rt; graphic.image_type(), ImageType::Bitmap);
-        assert_eq!(rt; graphic.image_address, 0);
-        assert_eq!(rt; graphic.image_offset(), (0, 0));
+        let file = one_graphic();
+        let place = (graphic.physical_start(), graphic.region_length());
+        let shown = (
+            graphic.version,
+            graphic.was_displayed(),
+            graphic.orientation_offset(),
+        );
+        let image = (
+            graphic.image_type(),
+            graphic.image_address,
+            graphic.image_offset(),
+        );
+        let bitmap = (ImageType::Bitmap, 0, (0, 0));
+        assert_eq!(rt;
+            (place, graphic.bytes(), shown, image),
+            ((0x2000, 56), &file[72..], (1, true, 180), bitmap)
+        );
         Ok(())
     }
 }
@@ -68,12 +80,14 @@ struct CutGraphic;
 impl Scenario for CutGraphic {
     fn check<R: Abort, H: AcpiHandler>(rt: &R, handler: &H) -> Result<(), AcpiError> {
         let header = PhysicalMapping::<H, SdtHeader>::map(handler, 0x2000, 36)?;
-        assert_eq!(rt; header.length, 56);
         let alone = map_table::<H, Bgrt>(handler, 0x2000).err();
-        assert_eq!(rt; alone, Some(AcpiError::MapFailed));
         let tables = AcpiTables::from_rsdt(handler, 0, 0x1000)?;
-        let graphic = tables.find_table::<Bgrt>().err();
-        assert_eq!(rt; graphic, Some(AcpiError::TableMissing(Signature::BGRT)));
+        let listed = tables.find_table::<Bgrt>().err();
+        let missing = AcpiError::TableMissing(Signature::BGRT);
+        assert_eq!(rt;
+            (header.length, alone, listed),
+            (56, Some(AcpiError::MapFailed), Some(missing))
+        );
         Ok(())
     }
 }
@@ -85,10 +99,16 @@ fn a_table_that_is_not_lent_whole_is_missing(rt: HostRuntime) -> Result<(), Fail
     Ok(())
 }
 
-/// The place of the boot graphic below the XSDT at 0x3000.
-fn graphic_place<H: AcpiHandler>(handler: &H) -> Result<u64, AcpiError> {
+/// Checks where the boot graphic below the XSDT at 0x3000 lies.
+fn check_place<H: AcpiHandler>(
+    rt: &impl Abort,
+    handler: &H,
+    address: u64,
+) -> Result<(), AcpiError> {
     let tables = AcpiTables::from_rsdt(handler, 2, 0x3000)?;
-    Ok(tables.find_table::<Bgrt>()?.physical_start())
+    let place = place_of::<Bgrt, H>(&tables)?;
+    assert_eq!(rt; (tables.revision(), place), (2, (address, 56)));
+    Ok(())
 }
 
 /// The boot graphic that the last pointer leads to.
@@ -96,9 +116,7 @@ struct LastPointer;
 
 impl Scenario for LastPointer {
     fn check<R: Abort, H: AcpiHandler>(rt: &R, handler: &H) -> Result<(), AcpiError> {
-        assert_eq!(rt; AcpiTables::from_rsdt(handler, 2, 0x3000)?.revision(), 2);
-        assert_eq!(rt; graphic_place(handler)?, 0x1234);
-        Ok(())
+        check_place(rt, handler, 0x1234)
     }
 }
 
@@ -107,8 +125,7 @@ struct FirstPointer;
 
 impl Scenario for FirstPointer {
     fn check<R: Abort, H: AcpiHandler>(rt: &R, handler: &H) -> Result<(), AcpiError> {
-        assert_eq!(rt; graphic_place(handler)?, 0x10_0000);
-        Ok(())
+        check_place(rt, handler, 0x10_0000)
     }
 }
 
@@ -120,23 +137,20 @@ fn a_short_last_pointer_is_filled_up(rt: HostRuntime) -> Result<(), Fail> {
     Ok(())
 }
 
+/// How many bytes of the boot graphic are mapped, and how many are lent.
+fn graphic_lengths<H: AcpiHandler>(handler: &H) -> Result<(usize, usize), AcpiError> {
+    let tables = AcpiTables::from_rsdt(handler, 0, 0x1000)?;
+    let graphic = tables.find_table::<Bgrt>()?;
+    Ok((graphic.region_length(), graphic.mapped_length()))
+}
+
 #[test]
 fn more_is_lent_than_is_mapped(rt: HostRuntime) -> Result<(), Fail> {
     let file = long_graphic();
     let image = MemoryImage::from_bytes(rt.alloc(), &file)?;
-    let tables = AcpiTables::from_rsdt(&image, 0, 0x1000)?;
-    let graphic = tables.find_table::<Bgrt>()?;
-    assert_eq!(rt;
-        (graphic.region_length(), graphic.mapped_length()),
-        (56, 64)
-    );
-    let exact = Exact::new(&image);
-    let tables = AcpiTables::from_rsdt(&exact, 0, 0x1000)?;
-    let graphic = tables.find_table::<Bgrt>()?;
-    assert_eq!(rt;
-        (graphic.region_length(), graphic.mapped_length()),
-        (56, 56)
-    );
+    let whole = graphic_lengths(&image)?;
+    let exact = graphic_lengths(&Exact::new(&image))?;
+    assert_eq!(rt; [whole, exact], [(56, 64), (56, 56)]);
     Ok(())
 }
 
@@ -146,14 +160,14 @@ fn a_header_is_validated_over_its_bytes(rt: HostRuntime) {
     put_table(&mut bytes, 0, b"SSDT", 36, 0x9E);
     let header = SdtHeader::read(&bytes);
     // Bytes behind the length count for nothing.
-    assert_eq!(rt; header.validate(Signature::SSDT, &bytes), Ok(()));
-    assert_eq!(rt;
-        header.validate(Signature::DSDT, &bytes),
-        Err(AcpiError::SdtInvalidSignature(Signature::DSDT))
-    );
+    let right = header.validate(Signature::SSDT, &bytes);
+    let misnamed = header.validate(Signature::DSDT, &bytes);
     put(&mut bytes, 20, &[1]);
+    let changed = SdtHeader::read(&bytes).validate(Signature::SSDT, &bytes);
+    let bad_name = AcpiError::SdtInvalidSignature(Signature::DSDT);
+    let bad_sum = AcpiError::SdtInvalidChecksum(Signature::SSDT);
     assert_eq!(rt;
-        SdtHeader::read(&bytes).validate(Signature::SSDT, &bytes),
-        Err(AcpiError::SdtInvalidChecksum(Signature::SSDT))
+        [right, misnamed, changed],
+        [Ok(()), Err(bad_name), Err(bad_sum)]
     );
 }

@@ -1,15 +1,18 @@
 //! What is lent while an iterator is walked along, to its end or not.
 ghost use Rattle.std.specs.Iterator.{IsFinite};
 
+use crate::loans::{check_ended, check_open};
 use crate::scenarios::{Scenario, over_each_handler};
 use acpi::bgrt::Bgrt;
 use acpi::{AcpiError, AcpiHandler, AcpiTables};
 use acpi_lenders::example::Wsmt;
 use acpi_lenders::handlers::Recording;
-use acpi_lenders::history::places;
 use acpi_lenders::samples::members::faulty_members;
 use std::process::Abort;
 use std::test::Fail;
+
+/// The root table, which alone stays lent.
+const ROOT: (u64, usize) = (0x1000, 56);
 
 /// Walks along an iterator to its end, while only the root stays lent.
 fn walk_all<H: AcpiHandler, I: Iterator + Drop>(
@@ -23,15 +26,30 @@ where
     requires can { I.can_next items }
     requires ends { IsFinite (I.remaining items) }
 {
-    let root = places(&[(0x1000, 56)]);
-    assert_eq!(rt; recording.open(), root);
+    check_open(rt, recording, &[ROOT]);
     let mut seen = 0u32;
     for _ in items {
-        assert_eq!(rt; recording.open(), root);
+        check_open(rt, recording, &[ROOT]);
         seen = seen.wrapping_add(1);
     }
+    check_open(rt, recording, &[ROOT]);
     assert_eq!(rt; seen, count);
-    assert_eq!(rt; recording.open(), root);
+}
+
+/// Takes the first item of an iterator, and drops it then, while only the root stays lent.
+fn step_once<H: AcpiHandler, I: Iterator + Drop>(
+    rt: &impl Abort,
+    recording: &Recording<'_, H>,
+    mut items: I,
+)
+where
+    I::Item: Drop,
+    requires can { I.can_next items }
+{
+    assert!(rt; items.next().is_some());
+    check_open(rt, recording, &[ROOT]);
+    drop(items);
+    check_open(rt, recording, &[ROOT]);
 }
 
 /// Each iterator to its end.
@@ -47,7 +65,7 @@ impl Scenario for WholeWalks {
         // No member is valid, and only the one that isn't lent at all is a fault.
         walk_all(rt, &recording, tables.faults::<Wsmt>(), 1);
         drop(tables);
-        assert_eq!(rt; recording.flaw(), None);
+        check_ended(rt, &recording);
         Ok(())
     }
 }
@@ -57,23 +75,13 @@ struct FirstSteps;
 
 impl Scenario for FirstSteps {
     fn check<R: Abort, H: AcpiHandler>(rt: &R, handler: &H) -> Result<(), AcpiError> {
-        let root = places(&[(0x1000, 56)]);
         let recording = Recording::new(handler);
         let tables = AcpiTables::from_rsdt(&recording, 0, 0x1000)?;
-        let mut headers = tables.headers();
-        assert_eq!(rt; headers.next().map(|it| it.length), Some(44));
-        assert_eq!(rt; recording.open(), root);
-        drop(headers);
-        let mut ssdts = tables.ssdts();
-        assert_eq!(rt; ssdts.next().map(|it| it.address), Some(0x3024));
-        assert_eq!(rt; recording.open(), root);
-        drop(ssdts);
-        let mut faults = tables.faults::<Bgrt>();
-        assert_eq!(rt; faults.next().map(|it| it.address), Some(0x2000));
-        assert_eq!(rt; recording.open(), root);
-        drop(faults);
+        step_once(rt, &recording, tables.headers());
+        step_once(rt, &recording, tables.ssdts());
+        step_once(rt, &recording, tables.faults::<Bgrt>());
         drop(tables);
-        assert_eq!(rt; recording.flaw(), None);
+        check_ended(rt, &recording);
         Ok(())
     }
 }

@@ -1,5 +1,6 @@
 //! What is lent after a lookup, and while the table that it found is mapped.
 
+use crate::loans::{check_ended, check_open};
 use crate::scenarios::{Scenario, over_each_handler};
 use acpi::bgrt::Bgrt;
 use acpi::sdt::{Signature, map_own_sdt, map_sdt, map_table};
@@ -7,7 +8,6 @@ use acpi::{AcpiError, AcpiHandler, AcpiResult, AcpiTables, AmlTable};
 use acpi_image::MemoryImage;
 use acpi_lenders::example::Wsmt;
 use acpi_lenders::handlers::{Exact, Recording};
-use acpi_lenders::history::places;
 use acpi_lenders::samples::change;
 use acpi_lenders::samples::members::{faulty_members, with_dsdt};
 use std::process::Abort;
@@ -22,20 +22,21 @@ impl Scenario for Lookups {
         let recording = Recording::new(handler);
         let tables = AcpiTables::from_rsdt(&recording, 0, 0x1000)?;
         let missing = tables.find_table::<Wsmt>().err();
-        assert_eq!(rt; missing, Some(AcpiError::TableMissing(Signature::WSMT)));
-        assert_eq!(rt; recording.open(), places(&[root]));
+        check_open(rt, &recording, &[root]);
         let found = tables.find_table::<Bgrt>()?;
-        assert_eq!(rt; found.physical_start(), 0x6000);
-        assert_eq!(rt; recording.open(), places(&[root, graphic]));
+        check_open(rt, &recording, &[root, graphic]);
         let again = tables.find_table::<Bgrt>()?;
-        assert_eq!(rt; recording.open(), places(&[root, graphic, graphic]));
+        check_open(rt, &recording, &[root, graphic, graphic]);
+        let address = found.physical_start();
         drop(found);
-        assert_eq!(rt; recording.open(), places(&[root, graphic]));
-        assert!(rt; again.was_displayed());
+        check_open(rt, &recording, &[root, graphic]);
+        let displayed = again.was_displayed();
         drop(again);
-        assert_eq!(rt; recording.open(), places(&[root]));
+        check_open(rt, &recording, &[root]);
         drop(tables);
-        assert_eq!(rt; recording.flaw(), None);
+        check_ended(rt, &recording);
+        let wanted = Some(AcpiError::TableMissing(Signature::WSMT));
+        assert_eq!(rt; (missing, address, displayed), (wanted, 0x6000, true));
         Ok(())
     }
 }
@@ -43,6 +44,15 @@ impl Scenario for Lookups {
 #[test]
 fn a_lookup_leaves_what_it_found_lent(rt: HostRuntime) -> Result<(), Fail> {
     over_each_handler::<Lookups>(&rt, &faulty_members())
+}
+
+/// What is no valid table at an address leaves nothing lent, however it is opened.
+fn check_no_table<H: AcpiHandler>(rt: &impl Abort, recording: &Recording<'_, H>, address: u64) {
+    let of_type = map_table::<Recording<'_, H>, Bgrt>(recording, address).is_err();
+    let of_name = map_sdt(recording, address, Signature::BGRT).is_err();
+    let of_any = map_own_sdt(recording, address).is_err();
+    assert_eq!(rt; [of_type, of_name, of_any], [true; 3]);
+    check_ended(rt, recording);
 }
 
 /// The table at an address, opened with no root table.
@@ -55,19 +65,20 @@ impl Scenario for Alone {
         let of_name = map_sdt(&recording, 0x3000, Signature::SSDT)?;
         let of_any = map_own_sdt(&recording, 0x3000)?;
         let ssdt = (0x3000, 44);
-        assert_eq!(rt; recording.open(), places(&[(0x6000, 56), ssdt, ssdt]));
-        assert_eq!(rt; of_type.mapped_length(), 56);
-        assert_eq!(rt; (of_name.bytes().len(), of_any.bytes().len()), (44, 44));
+        check_open(rt, &recording, &[(0x6000, 56), ssdt, ssdt]);
+        let lengths = [
+            of_type.mapped_length(),
+            of_name.bytes().len(),
+            of_any.bytes().len(),
+        ];
+        assert_eq!(rt; lengths, [56, 44, 44]);
         drop(of_name);
         drop(of_type);
-        assert_eq!(rt; recording.open(), places(&[ssdt]));
+        check_open(rt, &recording, &[ssdt]);
         drop(of_any);
-        for address in [0x2000, 0x4000, 0x5000] {
-            assert!(rt; map_table::<Recording<'_, H>, Bgrt>(&recording, address).is_err());
-            assert!(rt; map_sdt(&recording, address, Signature::BGRT).is_err());
-            assert!(rt; map_own_sdt(&recording, address).is_err());
-            assert_eq!(rt; recording.flaw(), None, "at {address}");
-        }
+        check_no_table(rt, &recording, 0x2000);
+        check_no_table(rt, &recording, 0x4000);
+        check_no_table(rt, &recording, 0x5000);
         Ok(())
     }
 }
@@ -86,9 +97,9 @@ fn check_dsdt<H: AcpiHandler>(
     let recording = Recording::new(handler);
     let tables = AcpiTables::from_rsdt(&recording, 0, 0x1000)?;
     assert_eq!(rt; tables.dsdt(), stream);
-    assert_eq!(rt; recording.open(), places(&[(0x1000, 40)]));
+    check_open(rt, &recording, &[(0x1000, 40)]);
     drop(tables);
-    assert_eq!(rt; recording.flaw(), None);
+    check_ended(rt, &recording);
     Ok(())
 }
 

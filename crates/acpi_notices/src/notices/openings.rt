@@ -1,12 +1,12 @@
 //! What is lent once the tables are opened by an address, and that nothing is where they aren't.
 
+use crate::loans::{check_ended, check_open};
 use acpi::bgrt::Bgrt;
 use acpi::rsdp::Rsdp;
 use acpi::sdt::Signature;
 use acpi::{AcpiError, AcpiHandler, AcpiResult, AcpiTables};
 use acpi_image::MemoryImage;
 use acpi_lenders::handlers::{Exact, Recording};
-use acpi_lenders::history::places;
 use acpi_lenders::samples::change;
 use acpi_lenders::samples::rsdps::two_roots;
 use std::process::Abort;
@@ -48,14 +48,14 @@ fn check_opened<H: AcpiHandler>(
     let graphic = (0x2000, 56);
     let recording = Recording::new(handler);
     let tables = opened(&recording, way)?;
-    assert_eq!(rt; recording.open(), places(&[root]));
+    check_open(rt, &recording, &[root]);
     let found = tables.find_table::<Bgrt>()?;
-    assert_eq!(rt; recording.open(), places(&[root, graphic]));
+    check_open(rt, &recording, &[root, graphic]);
     drop(tables);
-    assert_eq!(rt; recording.open(), places(&[graphic]));
+    check_open(rt, &recording, &[graphic]);
     assert!(rt; found.was_displayed());
     drop(found);
-    assert_eq!(rt; recording.flaw(), None);
+    check_ended(rt, &recording);
     Ok(())
 }
 
@@ -74,7 +74,7 @@ pub(super) fn check_way(
 fn check_not_opened<H: AcpiHandler>(rt: &impl Abort, handler: &H, way: Way, refusal: AcpiError) {
     let recording = Recording::new(handler);
     assert_eq!(rt; opened(&recording, way).err(), Some(refusal));
-    assert_eq!(rt; recording.flaw(), None);
+    check_ended(rt, &recording);
 }
 
 /// The same over both handlers of an image.

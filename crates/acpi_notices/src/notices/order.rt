@@ -2,13 +2,14 @@
 //! it, and then the header is lent no more; an RSDP's 36 bytes still are; and a table is checked
 //! while it is lent.
 
+use crate::loans::{check_ended, check_events, check_open};
 use crate::scenarios::{Scenario, over_each_handler};
 use acpi::bgrt::Bgrt;
 use acpi::rsdp::Rsdp;
 use acpi::{AcpiError, AcpiHandler, AcpiTables};
 use acpi_image::MemoryImage;
 use acpi_lenders::handlers::{Exact, Recording};
-use acpi_lenders::history::{Event, Shown, places};
+use acpi_lenders::history::{Event, Shown};
 use acpi_lenders::samples::graphics::{empty_root, long_graphic, one_graphic};
 use acpi_lenders::samples::rsdps::{AREA, put_areas, put_long_rsdp, two_roots};
 use acpi_lenders::watched::Watched;
@@ -42,7 +43,6 @@ fn a_header_is_lent_no_more_when_the_whole_is_asked_for(rt: HostRuntime) -> Resu
     let recording = Recording::new(&exact);
     let graphic = AcpiTables::from_rsdt(&recording, 0, 0x1000)?.find_table::<Bgrt>()?;
     drop(graphic);
-    let history = recording.history();
     let expected = [
         lent(0x1000, 36),
         ended(0x1000, 36),
@@ -54,7 +54,7 @@ fn a_header_is_lent_no_more_when_the_whole_is_asked_for(rt: HostRuntime) -> Resu
         ended(0x1000, 40),
         ended(0x2000, 56),
     ];
-    assert_eq!(rt; history.events(), expected.as_slice());
+    check_events(&rt, &recording, &expected);
     Ok(())
 }
 
@@ -66,32 +66,28 @@ fn a_table_that_is_lent_with_its_header_is_asked_for_once(rt: HostRuntime) -> Re
     let recording = Recording::showing(&image, Shown::These(&shown));
     let tables = AcpiTables::from_rsdt(&recording, 0, 0x1000)?;
     let graphic = tables.find_table::<Bgrt>()?;
-    assert_eq!(rt;
-        (graphic.region_length(), graphic.mapped_length()),
-        (56, 64)
-    );
     drop(graphic);
     drop(tables);
-    assert_eq!(rt; recording.flaw(), None);
-    let history = recording.history();
-    let lent = |address, whole, lent| Event::Lent {
-        address,
+    check_ended(&rt, &recording);
+    let root_lent = Event::Lent {
+        address: 0x1000,
         size: 36,
-        whole,
-        lent,
+        whole: 40,
+        lent: 40,
     };
-    let ended = |address, shown, lent| Event::Ended {
-        address,
-        shown,
-        lent,
+    let graphic_lent = Event::Lent {
+        address: 0x2000,
+        size: 36,
+        whole: 56,
+        lent: 64,
     };
-    let expected = [
-        lent(0x1000, 40, 40),
-        lent(0x2000, 56, 64),
-        ended(0x2000, 56, 64),
-        ended(0x1000, 40, 40),
-    ];
-    assert_eq!(rt; history.events(), expected.as_slice());
+    let graphic_ended = Event::Ended {
+        address: 0x2000,
+        shown: 56,
+        lent: 64,
+    };
+    let expected = [root_lent, graphic_lent, graphic_ended, ended(0x1000, 40)];
+    check_events(&rt, &recording, &expected);
     Ok(())
 }
 
@@ -102,8 +98,7 @@ impl Scenario for NoPointers {
     fn check<R: Abort, H: AcpiHandler>(rt: &R, handler: &H) -> Result<(), AcpiError> {
         let recording = Recording::new(handler);
         drop(AcpiTables::from_rsdt(&recording, 0, 0x1000)?);
-        let expected = [lent(0x1000, 36), ended(0x1000, 36)];
-        assert_eq!(rt; recording.history().events(), expected.as_slice());
+        check_events(rt, &recording, &[lent(0x1000, 36), ended(0x1000, 36)]);
         Ok(())
     }
 }
@@ -120,7 +115,6 @@ fn an_rsdp_is_lent_while_its_whole_is(rt: HostRuntime) -> Result<(), Fail> {
     let exact = Exact::new(&image);
     let recording = Recording::new(&exact);
     drop(AcpiTables::from_rsdp(&recording, 0x700)?);
-    let history = recording.history();
     let expected = [
         lent(0x700, 36),
         lent(0x700, 40),
@@ -131,7 +125,7 @@ fn an_rsdp_is_lent_while_its_whole_is(rt: HostRuntime) -> Result<(), Fail> {
         lent(0x3000, 44),
         ended(0x3000, 44),
     ];
-    assert_eq!(rt; history.events(), expected.as_slice());
+    check_events(&rt, &recording, &expected);
     Ok(())
 }
 
@@ -144,7 +138,6 @@ fn an_area_is_lent_while_its_candidates_are(rt: HostRuntime) -> Result<(), Fail>
     let exact = Exact::new(&image);
     let recording = Recording::new(&exact);
     drop(Rsdp::search_for_on_bios(&recording)?);
-    let history = recording.history();
     let expected = [
         lent(0x40e, 2),
         ended(0x40e, 2),
@@ -155,7 +148,7 @@ fn an_area_is_lent_while_its_candidates_are(rt: HostRuntime) -> Result<(), Fail>
         ended(0xe0000, 0x20010),
         ended(0xe0020, 36),
     ];
-    assert_eq!(rt; history.events(), expected.as_slice());
+    check_events(&rt, &recording, &expected);
     Ok(())
 }
 
@@ -168,8 +161,7 @@ impl Scenario for CheckedOnce {
         let tables = AcpiTables::from_rsdt(&recording, 0, 0x1000)?;
         let table = tables.find_table::<Watched>()?;
         assert_eq!(rt; table.checks(), 1);
-        let open = places(&[(0x1000, 40), (0x2000, 56)]);
-        assert_eq!(rt; recording.open(), open);
+        check_open(rt, &recording, &[(0x1000, 40), (0x2000, 56)]);
         Ok(())
     }
 }

@@ -1,5 +1,6 @@
 //! What a history with a wrong notice is refused for, and mappings by themselves.
 
+use crate::loans::check_open;
 use acpi::sdt::SdtHeader;
 use acpi::{AcpiHandler, AcpiResult, PhysicalMapping};
 use acpi_image::MemoryImage;
@@ -25,14 +26,41 @@ const HEADER: Event = Event::Lent {
     lent: 64,
 };
 
-/// The notice of a mapping of these lengths there.
-fn ended(shown: usize, lent: usize) -> Event {
-    Event::Ended {
-        address: 0x2000,
-        shown,
-        lent,
-    }
-}
+/// The notice of the table there, and that of its header alone.
+const RIGHT: Event = Event::Ended {
+    address: 0x2000,
+    shown: 56,
+    lent: 64,
+};
+
+const HEADER_ENDED: Event = Event::Ended {
+    address: 0x2000,
+    shown: 36,
+    lent: 64,
+};
+
+/// Notices that name the length that was lent in place of the one asked for, both exchanged, and one
+/// for both.
+const LONG: Event = Event::Ended {
+    address: 0x2000,
+    shown: 64,
+    lent: 64,
+};
+
+const SWAPPED: Event = Event::Ended {
+    address: 0x2000,
+    shown: 64,
+    lent: 56,
+};
+
+const CUT: Event = Event::Ended {
+    address: 0x2000,
+    shown: 56,
+    lent: 56,
+};
+
+/// No notice came for what is lent.
+const STILL_LENT: Option<Flaw> = Some(Flaw::StillLent(0x2000, 64));
 
 /// The notice at another address.
 const ELSEWHERE: Event = Event::Ended {
@@ -51,86 +79,84 @@ fn history_of(events: &[Event]) -> History {
 
 #[test]
 fn a_wrong_notice_is_seen(rt: HostRuntime) {
-    let right = ended(56, 64);
-    let long = ended(64, 64);
-    let swapped = ended(64, 56);
-    let cut = ended(56, 56);
-    let still_lent = Some(Flaw::StillLent(0x2000, 64));
-    for (events, flaw) in [
-        ([LENT, right].as_slice(), None),
-        ([LENT, LENT, right, right].as_slice(), None),
-        // the length that was lent in place of the one asked for, both exchanged, one for both
-        ([LENT, long].as_slice(), Some(Flaw::Unmatched(long))),
-        ([LENT, swapped].as_slice(), Some(Flaw::Unmatched(swapped))),
-        ([LENT, cut].as_slice(), Some(Flaw::Unmatched(cut))),
+    let histories: [(&[Event], Option<Flaw>); 14] = [
+        (&[LENT, RIGHT], None),
+        (&[LENT, LENT, RIGHT, RIGHT], None),
+        // other lengths
+        (&[LENT, LONG], Some(Flaw::Unmatched(LONG))),
+        (&[LENT, SWAPPED], Some(Flaw::Unmatched(SWAPPED))),
+        (&[LENT, CUT], Some(Flaw::Unmatched(CUT))),
         // another address
-        (
-            [LENT, ELSEWHERE].as_slice(),
-            Some(Flaw::Unmatched(ELSEWHERE)),
-        ),
+        (&[LENT, ELSEWHERE], Some(Flaw::Unmatched(ELSEWHERE))),
         // two notices, none, one for nothing, one before its loan
-        (
-            [LENT, right, right].as_slice(),
-            Some(Flaw::Unmatched(right)),
-        ),
-        ([LENT].as_slice(), still_lent),
-        ([right].as_slice(), Some(Flaw::Unmatched(right))),
-        ([right, LENT].as_slice(), Some(Flaw::Unmatched(right))),
+        (&[LENT, RIGHT, RIGHT], Some(Flaw::Unmatched(RIGHT))),
+        (&[LENT], STILL_LENT),
+        (&[RIGHT], Some(Flaw::Unmatched(RIGHT))),
+        (&[RIGHT, LENT], Some(Flaw::Unmatched(RIGHT))),
         // the header alone, the whole table, and neither
-        ([HEADER, ended(36, 64)].as_slice(), None),
-        ([HEADER, right].as_slice(), None),
-        ([HEADER, long].as_slice(), Some(Flaw::Unmatched(long))),
+        (&[HEADER, HEADER_ENDED], None),
+        (&[HEADER, RIGHT], None),
+        (&[HEADER, LONG], Some(Flaw::Unmatched(LONG))),
         // a second request that no mapping holds
-        ([LENT, LENT, right].as_slice(), still_lent),
-    ] {
+        (&[LENT, LENT, RIGHT], STILL_LENT),
+    ];
+    for (events, flaw) in histories {
         assert_eq!(rt; history_of(events).flaw(Shown::AsAsked), flaw);
     }
 }
 
 #[test]
 fn a_scenario_says_what_is_shown(rt: HostRuntime) {
-    let header = ended(36, 64);
-    let table = ended(56, 64);
-    let history = history_of(&[LENT, LENT, table, header]);
-    assert_eq!(rt; history.flaw(Shown::These(&[36, 56])), None);
-    assert_eq!(rt; history.flaw(Shown::These(&[56, 36])), None);
-    let open = history_of(&[LENT, LENT, table]).open(Shown::These(&[36, 56]));
-    assert_eq!(rt; open, places(&[(0x2000, 36)]));
-    // Two loans of 56 bytes; and one loan too many.
-    assert_eq!(rt; history.flaw(Shown::AsAsked), Some(Flaw::Unmatched(header)));
-    assert_eq!(rt; history.flaw(Shown::These(&[36])), Some(Flaw::Full));
+    let history = history_of(&[LENT, LENT, RIGHT, HEADER_ENDED]);
+    let flaws = [
+        history.flaw(Shown::These(&[36, 56])),
+        history.flaw(Shown::These(&[56, 36])),
+        // Two loans of 56 bytes; and one loan too many.
+        history.flaw(Shown::AsAsked),
+        history.flaw(Shown::These(&[36])),
+    ];
+    let wanted = [
+        None,
+        None,
+        Some(Flaw::Unmatched(HEADER_ENDED)),
+        Some(Flaw::Full),
+    ];
+    let open = history_of(&[LENT, LENT, RIGHT]).open(Shown::These(&[36, 56]));
+    assert_eq!(rt; (flaws, open), (wanted, places(&[(0x2000, 36)])));
 }
 
 #[test]
 fn a_history_that_is_too_long_is_refused(rt: HostRuntime) {
     let mut history = History::NOTHING;
     for _ in 0..32 {
-        history = history.with(LENT).with(ended(56, 64));
+        history = history.with(LENT).with(RIGHT);
     }
-    assert_eq!(rt; history.flaw(Shown::AsAsked), None);
-    assert_eq!(rt; history.with(LENT).flaw(Shown::AsAsked), Some(Flaw::Full));
-    let mut history = History::NOTHING;
-    for _ in 0..9 {
-        history = history.with(LENT);
-    }
-    assert_eq!(rt; history.flaw(Shown::AsAsked), Some(Flaw::Full));
+    let flaws = [
+        history.flaw(Shown::AsAsked),
+        history.with(LENT).flaw(Shown::AsAsked),
+        history_of(&[LENT; 9]).flaw(Shown::AsAsked),
+    ];
+    assert_eq!(rt; flaws, [None, Some(Flaw::Full), Some(Flaw::Full)]);
 }
 
 /// Maps the header of the boot graphic twice, the second time from bytes that were lent already.
 fn check_mapping<H: AcpiHandler>(rt: &impl Abort, handler: &H, lent: usize) -> AcpiResult<()> {
     let recording = Recording::showing(handler, Shown::These(&[36, 40]));
     let asked = PhysicalMapping::<Recording<'_, H>, SdtHeader>::map(&recording, 0x2000, 36)?;
-    assert_eq!(rt; recording.open(), places(&[(0x2000, 36)]));
+    check_open(rt, &recording, &[(0x2000, 36)]);
     let bytes = recording.map_physical_region(0x2000, 40)?;
     let given = PhysicalMapping::<Recording<'_, H>, SdtHeader>::new(0x2000, bytes, 40, &recording);
-    assert_eq!(rt; (asked.region_length(), given.region_length()), (36, 40));
-    assert_eq!(rt; recording.open(), places(&[(0x2000, 36), (0x2000, 40)]));
+    check_open(rt, &recording, &[(0x2000, 36), (0x2000, 40)]);
+    let asked_for = asked.region_length();
     drop(asked);
-    assert_eq!(rt; recording.open(), places(&[(0x2000, 40)]));
-    assert_eq!(rt; given.mapped_length(), lent);
+    check_open(rt, &recording, &[(0x2000, 40)]);
+    let lengths = [asked_for, given.region_length(), given.mapped_length()];
     drop(given);
-    assert_eq!(rt; recording.flaw(), None);
-    assert_eq!(rt; recording.history().events().len(), 4);
+    let events = recording.history().events().len();
+    assert_eq!(rt;
+        (recording.flaw(), lengths, events),
+        (None, [36, 40, lent], 4)
+    );
     Ok(())
 }
 

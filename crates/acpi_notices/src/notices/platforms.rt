@@ -1,10 +1,11 @@
 //! What is asked for a platform, and that only the root stays lent.
 
+use crate::loans::{check_ended, check_open};
 use acpi::sdt::Signature;
 use acpi::{AcpiError, AcpiHandler, AcpiTables, MadtError};
 use acpi_image::MemoryImage;
 use acpi_lenders::handlers::{Exact, Recording};
-use acpi_lenders::history::{Event, History, places};
+use acpi_lenders::history::{Event, History};
 use acpi_lenders::samples::change;
 use acpi_lenders::samples::platforms::{FADT, MADT, put_bad_timer, with_fadt_and_madt};
 use linked_list_allocator::LocalHeap;
@@ -12,8 +13,9 @@ use std::alloc::AllocError;
 use std::process::Abort;
 use std::test::Fail;
 
-/// How many requests were made for bytes at an address.
-fn requests_at(history: &History, place: u64) -> usize {
+/// Whether bytes at an address were asked for by no more than so many lookups, each of which asks
+/// for a header and then for the whole.
+fn is_looked_at(history: &History, place: u64, lookups: usize) -> bool {
     let mut count = 0usize;
     for event in history.events() {
         let address = match *event {
@@ -24,7 +26,7 @@ fn requests_at(history: &History, place: u64) -> usize {
             count = count.wrapping_add(1);
         }
     }
-    count
+    count <= lookups.saturating_mul(2)
 }
 
 /// What the platform is refused with, over a heap of so many bytes or else the global allocator.
@@ -47,23 +49,22 @@ fn check_platform<H: AcpiHandler>(
     handler: &H,
     size: Option<usize>,
     refusal: Option<AcpiError>,
-    lookups: [usize; 2],
+    [of_fadt, of_madt]: [usize; 2],
 ) -> Result<(), Fail> {
     let recording = Recording::new(handler);
     let tables = AcpiTables::from_rsdt(&recording, 0, 0x1000)?;
-    assert_eq!(rt; refusal_over(rt, &tables, size)?, refusal);
-    assert_eq!(rt; recording.open(), places(&[(0x1000, 44)]));
+    let refused = refusal_over(rt, &tables, size)?;
+    check_open(rt, &recording, &[(0x1000, 44)]);
     drop(tables);
-    assert_eq!(rt; recording.flaw(), None);
-    // The root table is opened once, and a lookup asks for a header and then for the whole.
+    check_ended(rt, &recording);
     let history = recording.history();
-    for (place, looks) in [(0x1000, 1), (0x2000, lookups[0]), (0x3000, lookups[1])] {
-        let requests = requests_at(&history, place);
-        assert!(rt;
-            requests <= looks.saturating_mul(2),
-            "{requests} at {place}"
-        );
-    }
+    let few_requests = [
+        // The root table is opened once.
+        is_looked_at(&history, 0x1000, 1),
+        is_looked_at(&history, 0x2000, of_fadt),
+        is_looked_at(&history, 0x3000, of_madt),
+    ];
+    assert_eq!(rt; (refused, few_requests), (refusal, [true; 3]));
     Ok(())
 }
 

@@ -1,12 +1,12 @@
 //! What is lent while the BIOS areas are searched, and after.
 
 use super::openings::{Way, check_refusal, check_way};
+use crate::loans::{check_ended, check_open};
 use acpi::rsdp::Rsdp;
 use acpi::sdt::Signature;
 use acpi::{AcpiError, AcpiHandler};
 use acpi_image::MemoryImage;
 use acpi_lenders::handlers::{Exact, Recording};
-use acpi_lenders::history::places;
 use acpi_lenders::samples::rsdps::{AREA, AREA_END, put_areas, put_long_rsdp, put_roots, put_rsdp};
 use acpi_lenders::samples::{change, put_head};
 use std::process::Abort;
@@ -24,23 +24,37 @@ fn check_found<H: AcpiHandler>(
     let recording = Recording::new(handler);
     let found = Rsdp::search_for_on_bios(&recording)?;
     assert_eq!(rt; found.physical_start(), address);
-    assert_eq!(rt; recording.open(), places(&[(address, 36)]));
+    check_open(rt, &recording, &[(address, 36)]);
     drop(found);
-    assert_eq!(rt; recording.flaw(), None);
+    check_ended(rt, &recording);
     Ok(())
 }
 
 /// The search alone, and both ways into the tables that begin with it.
 fn check_searches(
-    rt: &impl Abort,
-    image: &MemoryImage<'_>,
+    rt: &(impl Abort + AllocGlobal),
+    file: &[u8],
     address: u64,
     root: (u64, usize),
-) -> Result<(), AcpiError> {
-    check_found(rt, image, address)?;
-    check_found(rt, &Exact::new(image), address)?;
-    check_way(rt, image, Way::Search, root)?;
-    check_way(rt, image, Way::Validated, root)
+) -> Result<(), Fail> {
+    let image = MemoryImage::from_bytes(rt.alloc(), file)?;
+    check_found(rt, &image, address)?;
+    check_found(rt, &Exact::new(&image), address)?;
+    check_way(rt, &image, Way::Search, root)?;
+    check_way(rt, &image, Way::Validated, root)?;
+    Ok(())
+}
+
+/// What both ways that begin with the search are refused with.
+fn check_vain(
+    rt: &(impl Abort + AllocGlobal),
+    file: &[u8],
+    refusal: AcpiError,
+) -> Result<(), Fail> {
+    let image = MemoryImage::from_bytes(rt.alloc(), file)?;
+    check_refusal(rt, &image, Way::Search, refusal);
+    check_refusal(rt, &image, Way::Validated, refusal);
+    Ok(())
 }
 
 #[test]
@@ -53,19 +67,13 @@ fn the_first_area_is_lent_no_more(rt: HostRuntime) -> Result<(), Fail> {
     put_long_rsdp(&mut file, AREA + 0x40);
     change(&mut file, AREA + 0x40 + 22, 0xFF);
     put_rsdp(&mut file, AREA + 0x100, 0x11);
-    let image = MemoryImage::from_bytes(rt.alloc(), &file)?;
-    check_searches(&rt, &image, 0xe0100, (0x1000, 40))?;
-    drop(image);
+    check_searches(&rt, &file, 0xe0100, (0x1000, 40))?;
     // One of version 2 before it, whose whole is lent beside its 36 bytes.
     put_long_rsdp(&mut file, AREA + 0x80);
-    let image = MemoryImage::from_bytes(rt.alloc(), &file)?;
-    check_searches(&rt, &image, 0xe0080, (0x3000, 44))?;
-    drop(image);
+    check_searches(&rt, &file, 0xe0080, (0x3000, 44))?;
     // One at the area's own address.
     put_rsdp(&mut file, AREA, 0x11);
-    let image = MemoryImage::from_bytes(rt.alloc(), &file)?;
-    check_searches(&rt, &image, 0xe0000, (0x1000, 40))?;
-    Ok(())
+    check_searches(&rt, &file, 0xe0000, (0x1000, 40))
 }
 
 #[test]
@@ -75,9 +83,7 @@ fn the_second_area_is_lent_no_more(rt: HostRuntime) -> Result<(), Fail> {
     put_roots(&mut file, AREA_END);
     put_head(&mut file, ROOTS_END, 0x9fc00, 0x410);
     put_long_rsdp(&mut file, ROOTS_END + 16 + 0x20);
-    let image = MemoryImage::from_bytes(rt.alloc(), &file)?;
-    check_searches(&rt, &image, 0x9fc20, (0x3000, 44))?;
-    Ok(())
+    check_searches(&rt, &file, 0x9fc20, (0x3000, 44))
 }
 
 #[test]
@@ -102,16 +108,11 @@ fn nothing_stays_lent_of_a_vain_search(rt: HostRuntime) -> Result<(), Fail> {
         put_roots(&mut file, AREA_END);
         put_head(&mut file, ROOTS_END, 0x9fc00, 0x410);
         change(&mut file, offset, byte);
-        let image = MemoryImage::from_bytes(rt.alloc(), &file)?;
-        check_refusal(&rt, &image, Way::Search, refusal);
-        check_refusal(&rt, &image, Way::Validated, refusal);
+        check_vain(&rt, &file, refusal)?;
     }
     let mut file = vec![in rt.alloc(); 0u8; ROOTS_END]?;
     put_areas(&mut file, 0);
     put_roots(&mut file, AREA_END);
-    let image = MemoryImage::from_bytes(rt.alloc(), &file)?;
     // No second area is lent.
-    check_refusal(&rt, &image, Way::Search, AcpiError::MapFailed);
-    check_refusal(&rt, &image, Way::Validated, AcpiError::MapFailed);
-    Ok(())
+    check_vain(&rt, &file, AcpiError::MapFailed)
 }
