@@ -4,6 +4,7 @@ use acpi::bgrt::Bgrt;
 use acpi::sdt::Signature;
 use acpi::{AcpiError, AcpiHandler, AcpiResult, AcpiTable, AcpiTables, MadtError, TableFault};
 use acpi_image::MemoryImage;
+use acpi_lenders::answers::{gives, place_of};
 use acpi_lenders::handlers::Exact;
 use acpi_lenders::samples::graphics::one_graphic;
 use acpi_lenders::samples::platforms::with_fadt_and_madt;
@@ -16,24 +17,25 @@ pub(crate) fn check_missing<T: AcpiTable, H: AcpiHandler>(
     rt: &impl Abort,
     tables: &AcpiTables<'_, H>,
 ) {
-    let missing = Some(AcpiError::TableMissing(T::SIGNATURE));
-    assert_eq!(rt; tables.find_table::<T>().err(), missing);
-    assert_eq!(rt; tables.faults::<T>().next(), None);
+    let missing = Err(AcpiError::TableMissing(T::SIGNATURE));
+    let has_faults = tables.faults::<T>().next().is_some();
+    assert_eq!(rt; (place_of::<T, H>(tables), has_faults), (missing, false));
 }
 
 /// Checks the reading of the boot graphic at 0x2000: passed over, for this reason.
 fn check_fault<H: AcpiHandler>(rt: &impl Abort, handler: &H, error: AcpiError) -> AcpiResult<()> {
     let tables = AcpiTables::from_rsdt(handler, 0, 0x1000)?;
-    let missing = Some(AcpiError::TableMissing(Signature::BGRT));
-    assert_eq!(rt; tables.find_table::<Bgrt>().err(), missing);
     let fault = TableFault {
         address: 0x2000,
         error,
     };
-    let mut faults = tables.faults::<Bgrt>();
-    assert_eq!(rt; faults.next(), Some(fault));
-    assert_eq!(rt; faults.next(), None);
-    assert!(rt; tables.headers().next().is_none());
+    assert!(rt; gives(tables.faults::<Bgrt>(), &[fault]));
+    let missing = Err(AcpiError::TableMissing(Signature::BGRT));
+    let has_headers = tables.headers().next().is_some();
+    assert_eq!(rt;
+        (place_of::<Bgrt, H>(&tables), has_headers),
+        (missing, false)
+    );
     Ok(())
 }
 

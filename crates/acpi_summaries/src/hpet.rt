@@ -5,6 +5,7 @@ ghost use Rattle.std.specs.Prelude.{◌+◌, ◌≤◌, length};
 use acpi::hpet::{HpetInfo, HpetTable, PageProtection};
 use acpi::sdt::Signature;
 use acpi::{AcpiError, AcpiResult, AcpiTables, TableFault};
+use acpi_lenders::answers::gives;
 use acpi_lenders::example::Window;
 use acpi_lenders::samples::graphics::two_tables;
 use acpi_lenders::samples::{put, put_table};
@@ -79,17 +80,19 @@ fn the_fields_are_where_they_lie(rt: HostRuntime) {
 
 #[test]
 fn the_id_says_what_the_hardware_is(rt: HostRuntime) -> Result<(), Fail> {
-    for (checksum, id, (revision, comparators), (is_wide, is_legacy), vendor) in [
-        (0xEE, [0, 0, 0, 0], (0, 1), (false, false), 0),
-        (0x45, [0x01, 0xA2, 0x86, 0x80], (1, 3), (true, true), 0x8086),
-        (0xF2, [0xFF; 4], (255, 32), (true, true), 0xFFFF),
+    for (checksum, id, wanted) in [
+        (0xEE, [0, 0, 0, 0], ((0, 1), (false, false), 0)),
+        (
+            0x45,
+            [0x01, 0xA2, 0x86, 0x80],
+            ((1, 3), (true, true), 0x8086),
+        ),
+        (0xF2, [0xFF; 4], ((255, 32), (true, true), 0xFFFF)),
     ] {
         let info = info(&with_bytes(checksum, 36, &id))?;
-        assert_eq!(rt; info.hardware_rev(), revision, "{id:?}");
-        assert_eq!(rt; info.num_comparators(), comparators, "{id:?}");
-        assert_eq!(rt; info.main_counter_is_64bits(), is_wide, "{id:?}");
-        assert_eq!(rt; info.legacy_irq_capable(), is_legacy, "{id:?}");
-        assert_eq!(rt; info.pci_vendor_id(), vendor, "{id:?}");
+        let counts = (info.hardware_rev(), info.num_comparators());
+        let flags = (info.main_counter_is_64bits(), info.legacy_irq_capable());
+        assert_eq!(rt; (counts, flags, info.pci_vendor_id()), wanted);
     }
     Ok(())
 }
@@ -103,55 +106,59 @@ fn the_low_half_of_the_last_byte_protects_pages(rt: HostRuntime) -> Result<(), F
         (0x0D, 0xF3, PageProtection::Other),
     ] {
         let info = info(&with_bytes(checksum, 55, &[byte]))?;
-        assert_eq!(rt; info.page_protection, protection, "{byte:#x}");
+        assert_eq!(rt; info.page_protection, protection);
     }
     Ok(())
 }
 
 #[test]
 fn only_the_space_and_the_address_of_the_registers_count(rt: HostRuntime) -> Result<(), Fail> {
-    let ports = info(&with_bytes(0xED, 40, &[1])).map(fields);
-    assert_eq!(rt; ports, Err(AcpiError::InvalidGenericAddress));
+    let ports = info(&with_bytes(0xED, 40, &[1])).err();
     let info = info(&with_bytes(0xF8, 43, &[0xFF]))?;
-    assert_eq!(rt; info.base_address, 0xFED0_0000);
+    let refusal = Some(AcpiError::InvalidGenericAddress);
+    assert_eq!(rt; (ports, info.base_address), (refusal, 0xFED0_0000));
     Ok(())
+}
+
+/// Memory from 0x1000 on with an HPET of so many bytes and with this checksum, and one behind it
+/// that has another number and another address.
+fn with_two(count: u8, checksum: u8) -> [u8; 184] {
+    let mut memory = [0; 184];
+    put_table(&mut memory, 0, b"RSDT", 44, 0xB7);
+    put(&mut memory, 36, &[0x40, 0x10, 0, 0, 0x80, 0x10]);
+    put_timers(&mut memory, 0x40, count, checksum);
+    put_timers(&mut memory, 0x80, 56, 0xDD);
+    put(&mut memory, 0x80 + 45, &[0x10]);
+    put(&mut memory, 0x80 + 52, &[1]);
+    memory
 }
 
 #[test]
 fn the_first_valid_hpet_is_taken(rt: HostRuntime) -> Result<(), Fail> {
-    let none = info(&with_timers(0xEF)).map(fields);
-    assert_eq!(rt; none, Err(AcpiError::TableMissing(Signature::HPET)));
+    let none = info(&with_timers(0xEF)).err();
+    assert_eq!(rt; none, Some(AcpiError::TableMissing(Signature::HPET)));
     for (count, checksum, error) in [
         (56, 0xEF, AcpiError::SdtInvalidChecksum(Signature::HPET)),
         // The sum of 55 bytes is right.
         (55, 0x01, AcpiError::SdtInvalidLength(Signature::HPET)),
     ] {
-        let mut memory = [0; 184];
-        put_table(&mut memory, 0, b"RSDT", 44, 0xB7);
-        put(&mut memory, 36, &[0x40, 0x10, 0, 0, 0x80, 0x10]);
-        put_timers(&mut memory, 0x40, count, checksum);
-        // The second has another number and another address.
-        put_timers(&mut memory, 0x80, 56, 0xDD);
-        put(&mut memory, 0x80 + 45, &[0x10]);
-        put(&mut memory, 0x80 + 52, &[1]);
+        let memory = with_two(count, checksum);
         let window = Window::new(0x1000, &memory);
         let tables = AcpiTables::from_rsdt(&window, 0, 0x1000)?;
-        let said = fields(HpetInfo::new(&tables)?);
+        let said = HpetInfo::new(&tables).map(fields);
         let wanted = (0, 0xFED0_1000, 1, 0x80, PageProtection::Protected64K);
-        assert_eq!(rt; said, wanted, "of {count} bytes");
-        let mut faults = tables.faults::<HpetTable>();
+        assert_eq!(rt; said, Ok(wanted));
         let fault = TableFault {
             address: 0x1040,
             error,
         };
-        assert_eq!(rt; faults.next(), Some(fault));
-        assert_eq!(rt; faults.next(), None);
+        assert!(rt; gives(tables.faults::<HpetTable>(), &[fault]));
     }
     Ok(())
 }
 
 #[test]
 fn a_root_without_an_hpet_has_no_timers(rt: HostRuntime) {
-    let none = info(&two_tables()).map(fields);
-    assert_eq!(rt; none, Err(AcpiError::TableMissing(Signature::HPET)));
+    let none = info(&two_tables()).err();
+    assert_eq!(rt; none, Some(AcpiError::TableMissing(Signature::HPET)));
 }

@@ -6,7 +6,7 @@ use crate::seen::{Seen, check_answer, io_apic, nmi_line, nmi_source, processor, 
 use acpi::madt::Madt;
 use acpi::platform::ProcessorState;
 use acpi::platform::interrupt::{LocalInterruptLine, NmiProcessor, Polarity, TriggerMode};
-use acpi::{AcpiError, AcpiHandler, AcpiTables, MadtError, PhysicalMapping};
+use acpi::{AcpiError, AcpiHandler, AcpiResult, AcpiTables, MadtError, PhysicalMapping};
 use acpi_image::MemoryImage;
 use acpi_lenders::example::Window;
 use acpi_lenders::samples::madts::{table_of, with_madt};
@@ -21,7 +21,7 @@ fn check_mapping<H: AcpiHandler>(
     wanted: Result<Seen<'_>, MadtError>,
 ) {
     let answer = madt.parse_interrupt_model_in(rt.alloc());
-    check_answer(rt, &answer, wanted.map_err(AcpiError::InvalidMadt));
+    check_answer(rt, answer, wanted.map_err(AcpiError::InvalidMadt));
 }
 
 /// Checks the model of a table, or the fault that it is refused for.
@@ -55,6 +55,17 @@ fn a_model_without_apics_is_unknown(rt: HostRuntime) {
     check_table(&rt, &[0xFF; 44], Ok(Seen::NOTHING));
 }
 
+/// Checks the model of the MADT below the RSDT at 0x1000, or the fault that it is refused for.
+fn check_listed<H: AcpiHandler>(
+    rt: &(impl Abort + AllocGlobal),
+    handler: &H,
+    wanted: Result<Seen<'_>, MadtError>,
+) -> AcpiResult<()> {
+    let tables = AcpiTables::from_rsdt(handler, 0, 0x1000)?;
+    check_mapping(rt, &tables.find_table::<Madt>()?, wanted);
+    Ok(())
+}
+
 #[test]
 fn a_madt_that_ends_in_no_entry_is_refused(rt: HostRuntime) -> Result<(), Fail> {
     let malformed = Err(MadtError::InvalidEntryLength);
@@ -68,8 +79,7 @@ fn a_madt_that_ends_in_no_entry_is_refused(rt: HostRuntime) -> Result<(), Fail> 
         let entries = front(entries, 20);
         let file = with_madt(checksum, entries);
         let image = MemoryImage::from_bytes(rt.alloc(), front(&file, 116 + entries.len()))?;
-        let tables = AcpiTables::from_rsdt(&image, 0, 0x1000)?;
-        check_mapping(&rt, &tables.find_table::<Madt>()?, wanted);
+        check_listed(&rt, &image, wanted)?;
     }
     Ok(())
 }

@@ -2,9 +2,10 @@
 //! at 0x1040. Bytes that are not named are zero.
 ghost use Rattle.std.specs.Prelude.{◌+◌, ◌*◌, ◌≤◌, length};
 
-use acpi::mcfg::{Mcfg, McfgEntryIter, PciConfigEntry, PciConfigRegions};
+use acpi::mcfg::{Mcfg, McfgEntry, McfgEntryIter, PciConfigEntry, PciConfigRegions};
 use acpi::sdt::Signature;
 use acpi::{AcpiError, AcpiHandler, AcpiTables};
+use acpi_lenders::answers::gives;
 use acpi_lenders::example::Window;
 use acpi_lenders::samples::graphics::two_tables;
 use acpi_lenders::samples::{front, put, put_table};
@@ -60,15 +61,11 @@ pub(crate) type Place = ((u16, u8, u8, u8), Option<u64>);
 /// Checks that these regions are given, each once and in order, and these addresses.
 pub(crate) fn check_found<A: Allocator>(
     rt: &impl Abort,
-    found: &PciConfigRegions<A>,
+    found: PciConfigRegions<A>,
     regions: &[Region],
     places: &[Place],
 ) {
-    let mut shown = found.iter();
-    for region in regions {
-        assert_eq!(rt; shown.next().map(region_of), Some(*region));
-    }
-    assert!(rt; shown.next().is_none());
+    assert!(rt; gives(found.iter().map(region_of), regions));
     for (function, wanted) in places {
         let (segment, bus, device, number) = *function;
         let address = found.physical_address(segment, bus, device, number);
@@ -89,12 +86,16 @@ fn check(
     let memory = with_regions(checksum, regions);
     let window = Window::new(0x1000, &memory);
     let tables = AcpiTables::from_rsdt(&window, 0, 0x1000)?;
-    let found = PciConfigRegions::new(rt.alloc(), &tables)?;
-    check_found(rt, &found, regions, places);
+    check_found(
+        rt,
+        PciConfigRegions::new(rt.alloc(), &tables)?,
+        regions,
+        places,
+    );
     let heap = LocalHeap::new(rt.alloc(), 4096)?;
     let found = PciConfigRegions::new_in(&tables, &heap)?;
-    assert_eq!(rt; heap.used() > 0, !regions.is_empty());
-    check_found(rt, &found, regions, places);
+    assert!(rt; (heap.used() > 0) != regions.is_empty());
+    check_found(rt, found, regions, places);
     Ok(())
 }
 
@@ -103,13 +104,25 @@ fn a_rest_that_is_shorter_than_an_entry_is_none(rt: HostRuntime) -> Result<(), F
     let memory = with_entries(0x30, &[1, 2, 3, 4, 5, 6, 7, 8, 9, 10, 11, 12, 13, 14, 15]);
     let window = Window::new(0x1000, &memory);
     let tables = AcpiTables::from_rsdt(&window, 0, 0x1000)?;
-    let mcfg = tables.find_table::<Mcfg>()?;
-    assert_eq!(rt; mcfg.region_length(), 59);
-    assert_eq!(rt; mcfg.entries().len(), 0);
-    assert!(rt; mcfg.entries().next().is_none());
     let found = PciConfigRegions::new(rt.alloc(), &tables)?;
-    check_found(&rt, &found, &[], &[((0x0A09, 11, 0, 0), None)]);
+    check_found(&rt, found, &[], &[((0x0A09, 11, 0, 0), None)]);
+    let mcfg = tables.find_table::<Mcfg>()?;
+    let has_none = mcfg.entries().next().is_none();
+    assert_eq!(rt;
+        (mcfg.region_length(), mcfg.entries().len(), has_none),
+        (59, 0, true)
+    );
     Ok(())
+}
+
+/// An entry, as a region.
+fn entry_region(entry: McfgEntry) -> Region {
+    (
+        entry.pci_segment_group,
+        entry.bus_number_start,
+        entry.bus_number_end,
+        entry.base_address,
+    )
 }
 
 #[test]
@@ -118,21 +131,16 @@ fn the_fields_of_an_entry_are_where_they_lie(rt: HostRuntime) -> Result<(), Fail
     let memory = with_entries(0x1F, &bytes);
     let window = Window::new(0x1000, &memory);
     let tables = AcpiTables::from_rsdt(&window, 0, 0x1000)?;
-    let mcfg = tables.find_table::<Mcfg>()?;
-    let mut entries = mcfg.entries();
-    assert_eq!(rt; entries.len(), 1);
-    let Some(entry) = entries.next() else {
-        return Err(MISSING)?
-    };
-    assert_eq!(rt; entry.base_address, 0x0807_0605_0403_0201);
-    assert_eq!(rt; entry.pci_segment_group, 0x0A09);
-    assert_eq!(rt; (entry.bus_number_start, entry.bus_number_end), (11, 12));
-    assert_eq!(rt; entries.len(), 0);
-    assert!(rt; entries.next().is_none());
     let region = (0x0A09, 11, 12, 0x0807_0605_0403_0201);
     let places = [((0x0A09, 11, 0, 0), Some(0x0807_0605_0403_0201))];
     let found = PciConfigRegions::new(rt.alloc(), &tables)?;
-    check_found(&rt, &found, &[region], &places);
+    check_found(&rt, found, &[region], &places);
+    let mcfg = tables.find_table::<Mcfg>()?;
+    let mut entries = mcfg.entries();
+    let count = entries.len();
+    let first = entries.next().map(entry_region);
+    let rest = (entries.len(), entries.next().is_none());
+    assert_eq!(rt; (count, first, rest), (1, Some(region), (0, true)));
     Ok(())
 }
 
@@ -141,9 +149,11 @@ fn a_table_shorter_than_its_fixed_fields_has_no_entries(rt: HostRuntime) {
     let memory = [0xFF; 60];
     for (length, count) in [(0, 0), (36, 0), (43, 0), (44, 0), (59, 0), (60, 1)] {
         let mut entries = McfgEntryIter::over(front(&memory, length));
-        assert_eq!(rt; entries.len(), count, "of {length} bytes");
-        assert_eq!(rt; entries.next().is_some(), count == 1);
-        assert!(rt; entries.next().is_none());
+        let found = (entries.len(), entries.next().is_some());
+        assert_eq!(rt;
+            (found, entries.next().is_none()),
+            ((count, count == 1), true)
+        );
     }
 }
 
@@ -230,8 +240,7 @@ fn check_refusal<H: AcpiHandler>(
 ) -> Result<(), Fail> {
     let heap = LocalHeap::new(rt.alloc(), bytes)?;
     let refusal = PciConfigRegions::new_in(tables, &heap).err();
-    assert_eq!(rt; refusal, wanted, "over {bytes} bytes");
-    assert_eq!(rt; heap.used(), 0);
+    assert_eq!(rt; (refusal, heap.used()), (wanted, 0));
     Ok(())
 }
 
@@ -251,6 +260,16 @@ fn refused_memory_leaves_nothing_allocated(rt: HostRuntime) -> Result<(), Fail> 
     Ok(())
 }
 
+/// Checks that no MCFG is found, and no memory asked for.
+fn check_missing<H: AcpiHandler>(
+    rt: &(impl Abort + AllocGlobal),
+    tables: &AcpiTables<'_, H>,
+) -> Result<(), Fail> {
+    let refusal = PciConfigRegions::new(rt.alloc(), tables).err();
+    assert_eq!(rt; refusal, Some(MISSING));
+    check_refusal(rt, tables, 0, Some(MISSING))
+}
+
 #[test]
 fn memory_is_asked_for_only_where_there_are_regions(rt: HostRuntime) -> Result<(), Fail> {
     let memory = with_regions(0xB7, &[]);
@@ -260,10 +279,7 @@ fn memory_is_asked_for_only_where_there_are_regions(rt: HostRuntime) -> Result<(
     let damaged = with_regions(0xB8, &[]);
     for memory in [two_tables().as_slice(), &damaged] {
         let window = Window::new(0x1000, front(memory, 168));
-        let tables = AcpiTables::from_rsdt(&window, 0, 0x1000)?;
-        check_refusal(&rt, &tables, 0, Some(MISSING))?;
-        let refusal = PciConfigRegions::new(rt.alloc(), &tables).err();
-        assert_eq!(rt; refusal, Some(MISSING));
+        check_missing(&rt, &AcpiTables::from_rsdt(&window, 0, 0x1000)?)?;
     }
     Ok(())
 }

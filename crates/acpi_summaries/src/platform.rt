@@ -20,10 +20,10 @@ pub(crate) fn check_platform<H: AcpiHandler>(
     wanted: AcpiResult<Seen<'_>>,
 ) {
     let alloc = rt.alloc();
-    check_answer(rt, &PlatformInfo::new(alloc, tables), wanted);
-    check_answer(rt, &PlatformInfo::new_in(tables, alloc), wanted);
-    check_answer(rt, &tables.platform_info(alloc), wanted);
-    check_answer(rt, &tables.platform_info_in(alloc), wanted);
+    check_answer(rt, PlatformInfo::new(alloc, tables), wanted);
+    check_answer(rt, PlatformInfo::new_in(tables, alloc), wanted);
+    check_answer(rt, tables.platform_info(alloc), wanted);
+    check_answer(rt, tables.platform_info_in(alloc), wanted);
 }
 
 /// Checks what the platform of a file is, or what it is refused with.

@@ -10,8 +10,10 @@ use acpi::platform::interrupt::InterruptModel;
 use acpi::platform::{PlatformInfo, Processor, ProcessorState};
 use acpi::{
     AcpiError, AcpiHandler, AcpiResult, AcpiTables, MadtError, ManagedSlice, PhysicalMapping,
+    PowerProfile,
 };
 use acpi_image::MemoryImage;
+use acpi_lenders::answers::place_of;
 use acpi_lenders::example::Window;
 use acpi_lenders::samples::madts::table_of;
 use acpi_lenders::samples::platforms::{MADT, with_fadt_and_madt};
@@ -41,16 +43,15 @@ fn others() -> [Processor; 64] {
     others
 }
 
-/// Checks that lookups answer: of a FADT, and of a MADT of 564 bytes.
-fn check_lookups<H: AcpiHandler>(rt: &impl Abort, tables: &AcpiTables<'_, H>) -> AcpiResult<()> {
-    assert_eq!(rt; tables.find_table::<Fadt>()?.physical_start(), 0x2000);
-    let madt = tables.find_table::<Madt>()?;
+/// Checks that lookups answer: of a FADT of 116 bytes, and of a MADT of 564.
+fn check_lookups<H: AcpiHandler>(rt: &impl Abort, tables: &AcpiTables<'_, H>) {
+    let fadt = place_of::<Fadt, H>(tables);
+    let madt = place_of::<Madt, H>(tables);
+    let count = tables.headers().count();
     assert_eq!(rt;
-        (madt.physical_start(), madt.region_length()),
-        (0x3000, 564)
+        (fadt, madt, count),
+        (Ok((0x2000, 116)), Ok((0x3000, 564)), 2)
     );
-    assert_eq!(rt; tables.headers().count(), 2);
-    Ok(())
 }
 
 /// Checks the platform over a heap of this size, of which so many bytes are taken.
@@ -62,25 +63,31 @@ fn check_over<H: AcpiHandler>(
 ) -> AcpiResult<()> {
     let heap = LocalHeap::new(rt.alloc(), size)?;
     let filled = ManagedSlice::new_in(taken, 0u8, &heap)?;
-    check_answer(rt, &tables.platform_info_in(&heap), wanted);
+    check_answer(rt, tables.platform_info_in(&heap), wanted);
     assert_eq!(rt; heap.used(), filled.as_slice().len());
     Ok(())
+}
+
+/// Checks that lookups answer after a refusal for want of memory, and then the platform with memory.
+fn check_again<H: AcpiHandler>(
+    rt: &(impl Abort + AllocGlobal),
+    tables: &AcpiTables<'_, H>,
+) -> AcpiResult<()> {
+    check_over(rt, tables, (64, 0), Err(AcpiError::AllocError))?;
+    check_lookups(rt, tables);
+    let wanted = Seen {
+        boot_processor: Some(processor(0, 0, ProcessorState::Running, false)),
+        application_processors: &others(),
+        ..Seen::APIC
+    };
+    check_over(rt, tables, (65536, 0), Ok(wanted))
 }
 
 #[test]
 fn tables_are_found_after_a_refusal(rt: HostRuntime) -> Result<(), Fail> {
     let file = with_fadt_and_madt(0x04, front(&many_processors(), 520));
     let image = MemoryImage::from_bytes(rt.alloc(), &file)?;
-    let tables = AcpiTables::from_rsdt(&image, 0, 0x1000)?;
-    check_over(&rt, &tables, (64, 0), Err(AcpiError::AllocError))?;
-    check_lookups(&rt, &tables)?;
-    // Asked again with memory.
-    let wanted = Seen {
-        boot_processor: Some(processor(0, 0, ProcessorState::Running, false)),
-        application_processors: &others(),
-        ..Seen::APIC
-    };
-    check_over(&rt, &tables, (65536, 0), Ok(wanted))?;
+    check_again(&rt, &AcpiTables::from_rsdt(&image, 0, 0x1000)?)?;
     Ok(())
 }
 
@@ -125,7 +132,7 @@ fn check_over_16_bytes(
     let window = Window::new(0, table);
     let madt = PhysicalMapping::<_, Madt>::new(0, table, table.len(), &window);
     let heap = LocalHeap::new(rt.alloc(), 16)?;
-    check_answer(rt, &madt.parse_interrupt_model_in(&heap), wanted);
+    check_answer(rt, madt.parse_interrupt_model_in(&heap), wanted);
     assert_eq!(rt; heap.used(), 0);
     Ok(())
 }
@@ -147,33 +154,63 @@ fn memory_is_asked_for_a_faultless_model_of_apics_alone(rt: HostRuntime) -> Resu
 fn is_refused<T: See + Drop>(rt: &impl Abort, answer: AcpiResult<T>, wanted: Seen<'_>) -> bool {
     let is_refused = matches!(answer, Err(AcpiError::AllocError));
     if !is_refused {
-        check_answer(rt, &answer, Ok(wanted));
+        check_answer(rt, answer, Ok(wanted));
     }
     is_refused
 }
 
-/// Asks over heaps whose free bytes grow from none on. This has to be refused at so many sizes or
-/// more, and at the last one no more.
-fn check_sweep<F: Fn(&LocalHeap) -> bool>(
-    rt: &(impl Abort + AllocGlobal),
-    least: u32,
-    is_refused: F,
-) -> AcpiResult<()>
-    requires { F.IsAlwaysCallable is_refused }
-{
-    let (mut count, mut last) = (0u32, true);
-    for blocks in 1..16usize {
-        // The least heap has 16 bytes, so these are taken first.
-        let heap = LocalHeap::new(rt.alloc(), 16 * blocks)?;
-        let taken = ManagedSlice::new_in(16, 0u8, &heap)?;
-        last = is_refused(&heap);
-        assert_eq!(rt; heap.used(), 16, "{blocks} blocks");
-        drop(taken);
-        assert_eq!(rt; heap.used(), 0, "{blocks} blocks");
-        count = count.wrapping_add(u32::from(last));
+/// Counts what is refused.
+fn add(counts: &mut [u32], refused: &[bool]) {
+    for (count, is_refused) in counts.iter_mut().zip(refused) {
+        *count = count.wrapping_add(u32::from(*is_refused));
     }
-    assert!(rt; !last);
-    assert!(rt; count >= least, "{count} sizes");
+}
+
+/// Checks that each was refused at so many sizes or more, and at the last one no more.
+fn check_counts(rt: &impl Abort, counts: &[u32], last: &[bool], least: u32) {
+    assert!(rt; last.iter().all(|it| !*it));
+    assert!(rt; counts.iter().all(|it| *it >= least), "{counts:?}");
+}
+
+/// Whether a platform is refused over a heap of this size, of which 16 bytes are taken first, and
+/// whether its interrupt model alone is. Else they have to say what is wanted of the platform.
+fn refused_requests<H: AcpiHandler>(
+    rt: &(impl Abort + AllocGlobal),
+    (tables, madt): (&AcpiTables<'_, H>, &PhysicalMapping<'_, H, Madt>),
+    size: usize,
+    platform: Seen<'_>,
+) -> AcpiResult<[bool; 2]> {
+    let model = Seen {
+        power_profile: PowerProfile::Unspecified,
+        pm_timer: None,
+        ..platform
+    };
+    let heap = LocalHeap::new(rt.alloc(), size)?;
+    let taken = ManagedSlice::new_in(16, 0u8, &heap)?;
+    let platform_refused = is_refused(rt, tables.platform_info_in(&heap), platform);
+    let used = heap.used();
+    let model_refused = is_refused(rt, madt.parse_interrupt_model_in(&heap), model);
+    let uses = [used, heap.used()];
+    drop(taken);
+    assert_eq!(rt; (uses, heap.used()), ([16, 16], 0));
+    Ok([platform_refused, model_refused])
+}
+
+/// Checks these requests over heaps whose free bytes grow from none on. Each has to be refused at so
+/// many sizes or more, and at the last one no more.
+fn check_sweep<H: AcpiHandler>(
+    rt: &(impl Abort + AllocGlobal),
+    parts: (&AcpiTables<'_, H>, &PhysicalMapping<'_, H, Madt>),
+    platform: Seen<'_>,
+    least: u32,
+) -> AcpiResult<()> {
+    let (mut counts, mut last) = ([0u32; 2], [true; 2]);
+    // The least heap has 16 bytes.
+    for blocks in 1..16usize {
+        last = refused_requests(rt, parts, 16 * blocks, platform)?;
+        add(&mut counts, &last);
+    }
+    check_counts(rt, &counts, &last, least);
     Ok(())
 }
 
@@ -183,15 +220,9 @@ fn check_requests<H: AcpiHandler>(
     tables: &AcpiTables<'_, H>,
     least: u32,
 ) -> AcpiResult<()> {
-    let platform = tables.platform_info(rt.alloc())?;
-    check_sweep(rt, least, |heap| {
-        is_refused(rt, tables.platform_info_in(heap), platform.seen())
-    })?;
     let madt = tables.find_table::<Madt>()?;
-    let model = madt.parse_interrupt_model_in(rt.alloc())?;
-    check_sweep(rt, least, |heap| {
-        is_refused(rt, madt.parse_interrupt_model_in(heap), model.seen())
-    })
+    let platform = tables.platform_info(rt.alloc())?;
+    check_sweep(rt, (tables, &madt), platform.seen(), least)
 }
 
 /// Tables that say something of each part of a platform.
@@ -208,8 +239,7 @@ fn each_request_is_refused_in_turn(rt: HostRuntime) -> Result<(), Fail> {
     let small = with_fadt_and_madt(0x8C, &two_processors(1));
     for (file, least) in [(small, 1), (whole_platform(), 2)] {
         let image = MemoryImage::from_bytes(rt.alloc(), &file)?;
-        let tables = AcpiTables::from_rsdt(&image, 0, 0x1000)?;
-        check_requests(&rt, &tables, least)?;
+        check_requests(&rt, &AcpiTables::from_rsdt(&image, 0, 0x1000)?, least)?;
     }
     Ok(())
 }
@@ -247,31 +277,37 @@ fn refused_clones_over<H: AcpiHandler>(
     size: usize,
 ) -> AcpiResult<Option<[bool; 5]>> {
     let heap = LocalHeap::new(rt.alloc(), size)?;
-    let Ok(platform) = tables.platform_info_in(&heap) else {
-        return Ok(None);
-    };
-    let used = heap.used();
-    let refused = refused_clones(rt, &platform)?;
-    assert_eq!(rt; heap.used(), used, "{size} bytes");
-    Ok(Some(refused))
+    match tables.platform_info_in(&heap) {
+        Ok(platform) => {
+            let used = heap.used();
+            let refused = refused_clones(rt, &platform);
+            assert_eq!(rt; heap.used(), used);
+            refused.map(Some)
+        }
+        Err(_) => Ok(None),
+    }
+}
+
+/// Checks the clones of a platform and of its parts over heaps of growing sizes.
+fn check_clones<H: AcpiHandler>(
+    rt: &(impl Abort + AllocGlobal),
+    tables: &AcpiTables<'_, H>,
+) -> AcpiResult<()> {
+    let (mut counts, mut last) = ([0u32; 5], [true; 5]);
+    for blocks in 0..32usize {
+        if let Some(refused) = refused_clones_over(rt, tables, 16 * blocks)? {
+            add(&mut counts, &refused);
+            last = refused;
+        }
+    }
+    check_counts(rt, &counts, &last, 2);
+    Ok(())
 }
 
 #[test]
 fn each_request_of_a_clone_is_refused_in_turn(rt: HostRuntime) -> Result<(), Fail> {
     let file = whole_platform();
     let image = MemoryImage::from_bytes(rt.alloc(), &file)?;
-    let tables = AcpiTables::from_rsdt(&image, 0, 0x1000)?;
-    let (mut counts, mut last) = ([0u32; 5], [true; 5]);
-    for blocks in 0..32usize {
-        let Some(refused) = refused_clones_over(&rt, &tables, 16 * blocks)? else {
-            continue;
-        };
-        for (count, is_refused) in counts.iter_mut().zip(refused) {
-            *count = count.wrapping_add(u32::from(is_refused));
-        }
-        last = refused;
-    }
-    assert_eq!(rt; last, [false; 5]);
-    assert!(rt; counts.iter().all(|it| *it >= 2), "{counts:?}");
+    check_clones(&rt, &AcpiTables::from_rsdt(&image, 0, 0x1000)?)?;
     Ok(())
 }

@@ -180,12 +180,12 @@ impl<A: Allocator> See for PlatformInfo<A> {
 }
 
 /// Checks that an answer is this one: the same refusal, or the same in each field.
-pub(crate) fn check_answer<T: See>(
+pub(crate) fn check_answer<T: See + Drop>(
     rt: &impl Abort,
-    answer: &AcpiResult<T>,
+    answer: AcpiResult<T>,
     wanted: AcpiResult<Seen<'_>>,
 ) {
-    match answer {
+    match &answer {
         Ok(found) => {
             let seen = found.seen();
             let is_same = wanted.is_ok_and(|it| it.is(&seen));

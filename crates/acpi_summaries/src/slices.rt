@@ -10,9 +10,9 @@ use std::test::Fail;
 #[test]
 fn a_slice_holds_copies_of_one_value(rt: HostRuntime) -> Result<(), Fail> {
     let sevens = ManagedSlice::new(rt.alloc(), 3, 7u8)?;
-    assert_eq!(rt; sevens.as_slice(), [7, 7, 7].as_slice());
     let none = ManagedSlice::new(rt.alloc(), 0, 7u8)?;
-    assert_eq!(rt; none.as_slice(), [].as_slice());
+    let found = [sevens.as_slice(), none.as_slice()];
+    assert_eq!(rt; found, [[7, 7, 7].as_slice(), &[]]);
     Ok(())
 }
 
@@ -23,8 +23,8 @@ fn a_clone_keeps_what_is_written_over(rt: HostRuntime) -> Result<(), Fail> {
     if let [_, second, _] = slice.as_mut_slice() {
         *second = 9;
     }
-    assert_eq!(rt; slice.as_slice(), [7, 9, 7].as_slice());
-    assert_eq!(rt; clone.as_slice(), [7, 7, 7].as_slice());
+    let found = [slice.as_slice(), clone.as_slice()];
+    assert_eq!(rt; found, [[7, 9, 7].as_slice(), &[7, 7, 7]]);
     Ok(())
 }
 
@@ -61,22 +61,22 @@ impl<'c> Clone for Counted<'c> {
 fn each_item_is_dropped_once(rt: HostRuntime) -> Result<(), Fail> {
     let alive = Cell::new(0);
     let slice = ManagedSlice::new(rt.alloc(), 5, Counted::new(&alive))?;
-    assert_eq!(rt; alive.get(), 5);
+    let made = alive.get();
     let clone = slice.clone()?;
-    assert_eq!(rt; alive.get(), 10);
+    let cloned = alive.get();
     drop(slice);
-    assert_eq!(rt; alive.get(), 5);
+    let left = alive.get();
     drop(clone);
-    assert_eq!(rt; alive.get(), 0);
+    assert_eq!(rt; [made, cloned, left, alive.get()], [5, 10, 5, 0]);
     let none = ManagedSlice::new(rt.alloc(), 0, Counted::new(&alive))?;
-    assert_eq!(rt; alive.get(), 0);
+    let made = alive.get();
     drop(none);
-    assert_eq!(rt; alive.get(), 0);
+    let left = alive.get();
     // Where there is no memory for them, the value goes too.
     let heap = LocalHeap::new(rt.alloc(), 0)?;
     let refused = ManagedSlice::new_in(5, Counted::new(&alive), &heap).err();
-    assert_eq!(rt; refused, Some(AcpiError::AllocError));
-    assert_eq!(rt; alive.get(), 0);
+    let counts = [made, left, alive.get()];
+    assert_eq!(rt; (refused, counts), (Some(AcpiError::AllocError), [0; 3]));
     Ok(())
 }
 
@@ -84,13 +84,12 @@ fn each_item_is_dropped_once(rt: HostRuntime) -> Result<(), Fail> {
 fn a_heap_that_is_too_small_refuses_and_stays_unused(rt: HostRuntime) -> Result<(), Fail> {
     let heap = LocalHeap::new(rt.alloc(), 64)?;
     let refused = ManagedSlice::new_in(64, 7u64, &heap).err();
-    assert_eq!(rt; refused, Some(AcpiError::AllocError));
-    assert_eq!(rt; heap.used(), 0);
+    assert_eq!(rt; (refused, heap.used()), (Some(AcpiError::AllocError), 0));
     // It has room for one of 64 bytes, and then none for a clone.
     let whole = ManagedSlice::new_in(8, 7u64, &heap)?;
-    assert_eq!(rt; heap.used(), 64);
-    assert_eq!(rt; whole.clone().err(), Some(AllocError));
-    assert_eq!(rt; heap.used(), 64);
+    let used = heap.used();
+    let refused = whole.clone().err();
+    assert_eq!(rt; (used, refused, heap.used()), (64, Some(AllocError), 64));
     assert_eq!(rt; whole.as_slice(), [7; 8].as_slice());
     drop(whole);
     assert_eq!(rt; heap.used(), 0);
@@ -102,12 +101,18 @@ fn no_items_ask_for_no_memory(rt: HostRuntime) -> Result<(), Fail> {
     // The least heap has 16 bytes.
     let heap = LocalHeap::new(rt.alloc(), 0)?;
     let all = ManagedSlice::new_in(16, 7u8, &heap)?;
-    assert_eq!(rt; heap.free(), 0);
+    let free = heap.free();
     let none = ManagedSlice::new_in(0, 7u64, &heap)?;
     let clone = none.clone()?;
-    assert_eq!(rt; (none.as_slice().len(), clone.as_slice().len()), (0, 0));
     let one = ManagedSlice::new_in(1, 7u8, &heap).err();
-    assert_eq!(rt; one, Some(AcpiError::AllocError));
-    assert_eq!(rt; all.as_slice().len(), 16);
+    let lengths = [
+        all.as_slice().len(),
+        none.as_slice().len(),
+        clone.as_slice().len(),
+    ];
+    assert_eq!(rt;
+        (free, one, lengths),
+        (0, Some(AcpiError::AllocError), [16, 0, 0])
+    );
     Ok(())
 }

@@ -6,6 +6,7 @@ use acpi::madt::Madt;
 use acpi::sdt::Signature;
 use acpi::{AcpiError, AcpiHandler, AcpiResult, AcpiTables, TableFault};
 use acpi_image::MemoryImage;
+use acpi_lenders::answers::{gives, place_of};
 use acpi_lenders::handlers::Exact;
 use acpi_lenders::samples::front;
 use acpi_lenders::samples::machine::{Machine, machine_rsdt};
@@ -27,18 +28,15 @@ fn with_other_body(alloc: Global, table: &[u8]) -> Result<Vec<u8>, AllocError> {
 /// reason.
 fn check_madt<H: AcpiHandler>(rt: &impl Abort, handler: &H, error: AcpiError) -> AcpiResult<()> {
     let tables = AcpiTables::from_rsdt(handler, 0, 0x1000)?;
-    let madt = tables.find_table::<Madt>()?;
-    assert_eq!(rt; (madt.physical_start(), madt.region_length()), (0x3000, 60));
-    assert_eq!(rt; tables.faults::<Madt>().next(), None);
-    let fadt = tables.find_table::<Fadt>().err();
-    assert_eq!(rt; fadt, Some(AcpiError::TableMissing(Signature::FADT)));
-    let mut faults = tables.faults::<Fadt>();
+    let places = [place_of::<Madt, H>(&tables), place_of::<Fadt, H>(&tables)];
+    let missing = AcpiError::TableMissing(Signature::FADT);
+    assert_eq!(rt; places, [Ok((0x3000, 60)), Err(missing)]);
     let fault = TableFault {
         address: 0x2000,
         error,
     };
-    assert_eq!(rt; faults.next(), Some(fault));
-    assert_eq!(rt; faults.next(), None);
+    assert!(rt; gives(tables.faults::<Madt>(), &[]));
+    assert!(rt; gives(tables.faults::<Fadt>(), &[fault]));
     Ok(())
 }
 
@@ -82,6 +80,11 @@ fn the_body_of_another_table_counts_for_nothing(rt: HostRuntime) -> Result<(), F
     check_fadt(&rt, front(fadt, 115), AcpiError::MapFailed)
 }
 
+/// Whether a header with this signature is listed.
+fn lists<H: AcpiHandler>(tables: &AcpiTables<'_, H>, signature: Signature) -> bool {
+    tables.headers().any(|it| it.signature == signature)
+}
+
 /// Checks that lookups of all types but the changed table's are the same over two handlers, and
 /// that only over the second that table is none.
 fn check_others<H: AcpiHandler, J: AcpiHandler>(
@@ -92,8 +95,10 @@ fn check_others<H: AcpiHandler, J: AcpiHandler>(
     let tables = AcpiTables::from_rsdt(handler, 0, 0x1000)?;
     let others = AcpiTables::from_rsdt(other, 0, 0x1000)?;
     check_lookups(rt, &tables, &others, Some(changed));
-    assert!(rt; tables.headers().any(|it| it.signature == changed));
-    assert!(rt; others.headers().all(|it| it.signature != changed));
+    assert_eq!(rt;
+        [lists(&tables, changed), lists(&others, changed)],
+        [true, false]
+    );
     Ok(())
 }
 

@@ -4,6 +4,7 @@ use super::{HeaderStart, around, check_headers, platform_file, platform_said, pl
 use acpi::bgrt::Bgrt;
 use acpi::{AcpiError, AcpiHandler, AcpiResult, AcpiTables, TableFault};
 use acpi_image::MemoryImage;
+use acpi_lenders::answers::gives;
 use acpi_lenders::handlers::Exact;
 use acpi_lenders::samples::placed::{Placed, file_of};
 use acpi_lenders::samples::platforms::moved_xsdt;
@@ -11,28 +12,28 @@ use acpi_lenders::samples::rsdps::{put_rsdp, put_rsdp_2};
 use std::process::Abort;
 use std::test::Fail;
 
-/// What an RSDP at 0x500 leads to: the revision, the headers below the root table, and the listed
-/// addresses where nothing is lent.
+/// What an RSDP at 0x500 leads to: the revision, the headers below the root table, and the faults
+/// of the listed addresses where nothing is lent.
 #[derive(Clone, Copy)]
 struct Led<'l> {
     revision: u8,
     headers: &'l [HeaderStart],
-    not_lent: &'l [u64],
+    not_lent: &'l [TableFault],
+}
+
+/// The fault of a listed address where nothing is lent.
+fn not_lent(address: u64) -> TableFault {
+    TableFault {
+        address,
+        error: AcpiError::MapFailed,
+    }
 }
 
 fn check_led<H: AcpiHandler>(rt: &impl Abort, handler: &H, led: Led<'_>) -> AcpiResult<()> {
     let tables = AcpiTables::from_rsdp(handler, 0x500)?;
     assert_eq!(rt; tables.revision(), led.revision);
     check_headers(rt, &tables, led.headers);
-    let mut faults = tables.faults::<Bgrt>();
-    for address in led.not_lent {
-        let fault = TableFault {
-            address: *address,
-            error: AcpiError::MapFailed,
-        };
-        assert_eq!(rt; faults.next(), Some(fault));
-    }
-    assert_eq!(rt; faults.next(), None);
+    assert!(rt; gives(tables.faults::<Bgrt>(), led.not_lent));
     Ok(())
 }
 
@@ -63,7 +64,7 @@ fn an_rsdp_of_version_1_leads_to_an_rsdt(rt: HostRuntime) -> Result<(), Fail> {
     // With the RSDP and the root table alone.
     let led = Led {
         headers: &[],
-        not_lent: &[0x2000, 0x3000],
+        not_lent: &[not_lent(0x2000), not_lent(0x3000)],
         ..led
     };
     check(&rt, &[rsdp, root], led)
@@ -81,13 +82,13 @@ fn an_rsdp_of_version_2_leads_to_an_xsdt(rt: HostRuntime) -> Result<(), Fail> {
     let led = Led {
         revision: 2,
         headers: platform_said().headers,
-        not_lent: &[0x7000],
+        not_lent: &[not_lent(0x7000)],
     };
     check(&rt, &[rsdp, root, (0x8000, fadt), (0x9000, madt)], led)?;
     // With the RSDP and the root table alone.
     let led = Led {
         headers: &[],
-        not_lent: &[0x7000, 0x8000, 0x9000],
+        not_lent: &[not_lent(0x7000), not_lent(0x8000), not_lent(0x9000)],
         ..led
     };
     check(&rt, &[rsdp, root], led)

@@ -23,18 +23,16 @@ const BEHIND: Margins = Margins {
     byte: 0xFF,
 };
 
-/// Checks that the same streams of AML are found below both roots.
-fn check_streams<H: AcpiHandler, J: AcpiHandler>(
+/// Checks that lookups, the revision and the streams of AML are the same below both roots.
+fn check_alike<H: AcpiHandler, J: AcpiHandler>(
     rt: &impl Abort,
     tables: &AcpiTables<'_, H>,
     others: &AcpiTables<'_, J>,
 ) {
-    assert_eq!(rt; tables.dsdt(), others.dsdt());
-    let mut streams = others.ssdts();
-    for stream in tables.ssdts() {
-        assert_eq!(rt; streams.next(), Some(stream));
-    }
-    assert_eq!(rt; streams.next(), None);
+    check_lookups(rt, tables, others, None);
+    let found = (tables.revision(), tables.dsdt());
+    assert_eq!(rt; found, (others.revision(), others.dsdt()));
+    assert!(rt; tables.ssdts().eq(others.ssdts()));
 }
 
 /// Checks that all answers below the RSDT at 0x1000 are the same over two handlers.
@@ -45,9 +43,7 @@ fn check_same<H: AcpiHandler, J: AcpiHandler>(
 ) -> AcpiResult<()> {
     let tables = AcpiTables::from_rsdt(handler, 0, 0x1000)?;
     let others = AcpiTables::from_rsdt(other, 0, 0x1000)?;
-    assert_eq!(rt; tables.revision(), others.revision());
-    check_lookups(rt, &tables, &others, None);
-    check_streams(rt, &tables, &others);
+    check_alike(rt, &tables, &others);
     check_said(rt, &tables, said);
     check_said(rt, &others, said);
     Ok(())
@@ -119,23 +115,26 @@ fn only_the_mapped_length_shows_how_much_is_lent(rt: HostRuntime) -> Result<(), 
     let file = file_of(rt.alloc(), &platform_tables(&file), BEHIND)?;
     let image = MemoryImage::from_bytes(rt.alloc(), &file)?;
     let exact = Exact::new(&image);
-    assert_eq!(rt; lengths(&image), Ok([(116, 180), (60, 124)]));
-    assert_eq!(rt; lengths(&exact), Ok([(116, 116), (60, 60)]));
+    assert_eq!(rt;
+        [lengths(&image), lengths(&exact)],
+        [Ok([(116, 180), (60, 124)]), Ok([(116, 116), (60, 60)])]
+    );
     Ok(())
 }
 
 /// Checks what stands last in the machine's tables, and no byte behind it.
 fn check_ends<H: AcpiHandler>(rt: &impl Abort, handler: &H) -> AcpiResult<()> {
     let tables = AcpiTables::from_rsdt(handler, 0, 0x1000)?;
+    let entries = tables.find_table::<Madt>()?.entries().count();
+    let regions = tables.find_table::<Mcfg>()?.entries().count();
+    let streams = (tables.dsdt(), tables.ssdts().next());
+    let wanted = (Ok(stream_at(0x7024)), Some(stream_at(0xA024)));
+    assert_eq!(rt; (entries, regions, streams), (3, 1, wanted));
     let fadt = tables.find_table::<Fadt>()?;
-    assert_eq!(rt; fadt.dsdt_address(), Ok(0x7000));
-    assert_eq!(rt; fadt.facs_address(), Err(AcpiError::InvalidFacsAddress));
-    assert_eq!(rt; tables.find_table::<Madt>()?.entries().count(), 3);
-    assert_eq!(rt; tables.find_table::<Mcfg>()?.entries().count(), 1);
-    assert_eq!(rt; tables.find_table::<Spcr>()?.namespace_string(), Ok(""));
-    let (dsdt, ssdt) = (stream_at(0x7024), stream_at(0xA024));
-    assert_eq!(rt; tables.dsdt(), Ok(dsdt));
-    assert_eq!(rt; tables.ssdts().next(), Some(ssdt));
+    let console = tables.find_table::<Spcr>()?;
+    let addresses = (fadt.dsdt_address(), fadt.facs_address());
+    let wanted = (Ok(0x7000), Err(AcpiError::InvalidFacsAddress));
+    assert_eq!(rt; (addresses, console.namespace_string()), (wanted, Ok("")));
     Ok(())
 }
 
