@@ -10,27 +10,10 @@ use acpi::{AcpiHandler, AcpiResult, AcpiTable, AcpiTables};
 use acpi_image::MemoryImage;
 use acpi_lenders::answers::place_of;
 use acpi_lenders::handlers::{Exact, Recording};
-use acpi_lenders::history::{Event, History};
 use acpi_lenders::samples::machine::{Machine, machine_rsdt};
 use acpi_lenders::samples::placed::{Margins, file_of};
 use std::process::Abort;
 use std::test::Fail;
-
-/// How many requests there were at an address.
-fn requests_at(history: &History, address: u64) -> usize {
-    let mut count = 0usize;
-    for event in history.events() {
-        match event {
-            Event::Lent { address: it, .. } | Event::Refused { address: it, .. } => {
-                if *it == address {
-                    count = count.wrapping_add(1);
-                }
-            }
-            Event::Ended { .. } => {}
-        }
-    }
-    count
-}
 
 /// Checks that each address was asked for at most twice, and each loan has its notice.
 fn check_few<H: AcpiHandler>(rt: &impl Abort, recording: &Recording<'_, H>) {
@@ -38,9 +21,9 @@ fn check_few<H: AcpiHandler>(rt: &impl Abort, recording: &Recording<'_, H>) {
     for address in [
         0x1000, 0x2000, 0x3000, 0x4000, 0x6000, 0x7000, 0x8000, 0x9000, 0xA000,
     ] {
-        assert!(rt; requests_at(&history, address) <= 2, "{address:#x}");
+        assert!(rt; history.requests_at(address) <= 2, "{address:#x}");
     }
-    assert!(rt; recording.flaw().is_none());
+    assert_eq!(rt; recording.flaw(), None);
 }
 
 /// Checks a lookup of a type, and why members were passed over.

@@ -167,6 +167,21 @@ impl History {
         &self.events[..self.count.min(ROOM)]
     }
 
+    /// How many requests there were at an address, granted or not.
+    pub fn requests_at(&self, place: u64) -> usize {
+        let mut count = 0usize;
+        for event in self.events() {
+            let address = match *event {
+                Event::Lent { address, .. } | Event::Refused { address, .. } => address,
+                Event::Ended { .. } => continue,
+            };
+            if address == place {
+                count = count.wrapping_add(1);
+            }
+        }
+        count
+    }
+
     /// The loans that are open at the end.
     ///
     /// Refuses the first notice that names no open loan: for each loan one notice is right, of the

@@ -11,13 +11,8 @@ use acpi_lenders::samples::members::{damaged_first, faulty_members, repeated};
 use std::process::Abort;
 use std::test::Fail;
 
-/// Whether just these headers are listed, in order, by name and length.
-fn lists<H: AcpiHandler>(tables: &AcpiTables<'_, H>, wanted: &[(Signature, u32)]) -> bool {
-    gives(tables.headers().map(|it| (it.signature, it.length)), wanted)
-}
-
 /// Whether just these SSDTs are listed, in order, and none once the end was seen.
-fn streams<H: AcpiHandler>(tables: &AcpiTables<'_, H>, wanted: &[AmlTable]) -> bool {
+fn lists_streams<H: AcpiHandler>(tables: &AcpiTables<'_, H>, wanted: &[AmlTable]) -> bool {
     let mut ssdts = tables.ssdts();
     for stream in wanted {
         if ssdts.next() != Some(*stream) {
@@ -45,8 +40,11 @@ fn check_lists<H: AcpiHandler>(
 ) -> AcpiResult<()> {
     let tables = AcpiTables::from_rsdt(handler, 0, 0x1000)?;
     let walks = [
-        lists(&tables, headers),
-        streams(&tables, ssdts),
+        gives(
+            tables.headers().map(|it| (it.signature, it.length)),
+            headers,
+        ),
+        lists_streams(&tables, ssdts),
         gives(tables.faults::<Bgrt>(), faults),
     ];
     assert_eq!(rt; (graphic_of(&tables), walks), (graphic, [true; 3]));

@@ -10,7 +10,6 @@ use acpi::platform::interrupt::InterruptModel;
 use acpi::platform::{PlatformInfo, Processor, ProcessorState};
 use acpi::{
     AcpiError, AcpiHandler, AcpiResult, AcpiTables, MadtError, ManagedSlice, PhysicalMapping,
-    PowerProfile,
 };
 use acpi_image::MemoryImage;
 use acpi_lenders::answers::place_of;
@@ -173,18 +172,13 @@ fn check_counts(rt: &impl Abort, counts: &[u32], last: &[bool], least: u32) {
 }
 
 /// Whether a platform is refused over a heap of this size, of which 16 bytes are taken first, and
-/// whether its interrupt model alone is. Else they have to say what is wanted of the platform.
+/// whether its interrupt model alone is. Else they have to say what is wanted.
 fn refused_requests<H: AcpiHandler>(
     rt: &(impl Abort + AllocGlobal),
     (tables, madt): (&AcpiTables<'_, H>, &PhysicalMapping<'_, H, Madt>),
     size: usize,
-    platform: Seen<'_>,
+    (platform, model): (Seen<'_>, Seen<'_>),
 ) -> AcpiResult<[bool; 2]> {
-    let model = Seen {
-        power_profile: PowerProfile::Unspecified,
-        pm_timer: None,
-        ..platform
-    };
     let heap = LocalHeap::new(rt.alloc(), size)?;
     let taken = ManagedSlice::new_in(16, 0u8, &heap)?;
     let platform_refused = is_refused(rt, tables.platform_info_in(&heap), platform);
@@ -201,13 +195,13 @@ fn refused_requests<H: AcpiHandler>(
 fn check_sweep<H: AcpiHandler>(
     rt: &(impl Abort + AllocGlobal),
     parts: (&AcpiTables<'_, H>, &PhysicalMapping<'_, H, Madt>),
-    platform: Seen<'_>,
+    wanted: (Seen<'_>, Seen<'_>),
     least: u32,
 ) -> AcpiResult<()> {
     let (mut counts, mut last) = ([0u32; 2], [true; 2]);
     // The least heap has 16 bytes.
     for blocks in 1..16usize {
-        last = refused_requests(rt, parts, 16 * blocks, platform)?;
+        last = refused_requests(rt, parts, 16 * blocks, wanted)?;
         add(&mut counts, &last);
     }
     check_counts(rt, &counts, &last, least);
@@ -221,8 +215,10 @@ fn check_requests<H: AcpiHandler>(
     least: u32,
 ) -> AcpiResult<()> {
     let madt = tables.find_table::<Madt>()?;
+    let model = madt.parse_interrupt_model_in(rt.alloc())?;
     let platform = tables.platform_info(rt.alloc())?;
-    check_sweep(rt, (tables, &madt), platform.seen(), least)
+    let wanted = (platform.seen(), model.seen());
+    check_sweep(rt, (tables, &madt), wanted, least)
 }
 
 /// Tables that say something of each part of a platform.

@@ -8,6 +8,7 @@ use acpi::{AcpiError, AcpiHandler, AcpiTables};
 use acpi_lenders::example::Wsmt;
 use acpi_lenders::handlers::Recording;
 use acpi_lenders::samples::members::faulty_members;
+use std::fmt::Debug;
 use std::process::Abort;
 use std::test::Fail;
 
@@ -36,17 +37,18 @@ where
     assert_eq!(rt; seen, count);
 }
 
-/// Takes the first item of an iterator, and drops it then, while only the root stays lent.
+/// Checks the first item of an iterator, and drops it then, while only the root stays lent.
 fn step_once<H: AcpiHandler, I: Iterator + Drop>(
     rt: &impl Abort,
     recording: &Recording<'_, H>,
     mut items: I,
+    first: I::Item,
 )
 where
-    I::Item: Drop,
+    I::Item: PartialEq + Debug + Drop,
     requires can { I.can_next items }
 {
-    assert!(rt; items.next().is_some());
+    assert_eq!(rt; items.next(), Some(first));
     check_open(rt, recording, &[ROOT]);
     drop(items);
     check_open(rt, recording, &[ROOT]);
@@ -77,9 +79,12 @@ impl Scenario for FirstSteps {
     fn check<R: Abort, H: AcpiHandler>(rt: &R, handler: &H) -> Result<(), AcpiError> {
         let recording = Recording::new(handler);
         let tables = AcpiTables::from_rsdt(&recording, 0, 0x1000)?;
-        step_once(rt, &recording, tables.headers());
-        step_once(rt, &recording, tables.ssdts());
-        step_once(rt, &recording, tables.faults::<Bgrt>());
+        let lengths = tables.headers().map(|it| it.length);
+        step_once(rt, &recording, lengths, 44);
+        let streams = tables.ssdts().map(|it| it.address);
+        step_once(rt, &recording, streams, 0x3024);
+        let faults = tables.faults::<Bgrt>().map(|it| it.address);
+        step_once(rt, &recording, faults, 0x2000);
         drop(tables);
         check_ended(rt, &recording);
         Ok(())

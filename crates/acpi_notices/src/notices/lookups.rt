@@ -76,9 +76,9 @@ impl Scenario for Alone {
         drop(of_type);
         check_open(rt, &recording, &[ssdt]);
         drop(of_any);
-        check_no_table(rt, &recording, 0x2000);
-        check_no_table(rt, &recording, 0x4000);
-        check_no_table(rt, &recording, 0x5000);
+        for address in [0x2000, 0x4000, 0x5000] {
+            check_no_table(rt, &recording, address);
+        }
         Ok(())
     }
 }

@@ -66,8 +66,10 @@ fn a_table_that_is_lent_with_its_header_is_asked_for_once(rt: HostRuntime) -> Re
     let recording = Recording::showing(&image, Shown::These(&shown));
     let tables = AcpiTables::from_rsdt(&recording, 0, 0x1000)?;
     let graphic = tables.find_table::<Bgrt>()?;
+    let lengths = (graphic.region_length(), graphic.mapped_length());
     drop(graphic);
     drop(tables);
+    assert_eq!(rt; lengths, (56, 64));
     check_ended(&rt, &recording);
     let root_lent = Event::Lent {
         address: 0x1000,

@@ -26,33 +26,35 @@ const HEADER: Event = Event::Lent {
     lent: 64,
 };
 
-/// The notice of the table there, and that of its header alone.
+/// The notice of the table there.
 const RIGHT: Event = Event::Ended {
     address: 0x2000,
     shown: 56,
     lent: 64,
 };
 
+/// The notice of its header alone.
 const HEADER_ENDED: Event = Event::Ended {
     address: 0x2000,
     shown: 36,
     lent: 64,
 };
 
-/// Notices that name the length that was lent in place of the one asked for, both exchanged, and one
-/// for both.
+/// A notice with the length that was lent in place of the one asked for.
 const LONG: Event = Event::Ended {
     address: 0x2000,
     shown: 64,
     lent: 64,
 };
 
+/// One with both lengths exchanged.
 const SWAPPED: Event = Event::Ended {
     address: 0x2000,
     shown: 64,
     lent: 56,
 };
 
+/// One with the length asked for in place of the one that was lent.
 const CUT: Event = Event::Ended {
     address: 0x2000,
     shown: 56,

@@ -5,29 +5,12 @@ use acpi::sdt::Signature;
 use acpi::{AcpiError, AcpiHandler, AcpiTables, MadtError};
 use acpi_image::MemoryImage;
 use acpi_lenders::handlers::{Exact, Recording};
-use acpi_lenders::history::{Event, History};
 use acpi_lenders::samples::change;
 use acpi_lenders::samples::platforms::{FADT, MADT, put_bad_timer, with_fadt_and_madt};
 use linked_list_allocator::LocalHeap;
 use std::alloc::AllocError;
 use std::process::Abort;
 use std::test::Fail;
-
-/// Whether bytes at an address were asked for by no more than so many lookups, each of which asks
-/// for a header and then for the whole.
-fn is_looked_at(history: &History, place: u64, lookups: usize) -> bool {
-    let mut count = 0usize;
-    for event in history.events() {
-        let address = match *event {
-            Event::Lent { address, .. } | Event::Refused { address, .. } => address,
-            Event::Ended { .. } => continue,
-        };
-        if address == place {
-            count = count.wrapping_add(1);
-        }
-    }
-    count <= lookups.saturating_mul(2)
-}
 
 /// What the platform is refused with, over a heap of so many bytes or else the global allocator.
 fn refusal_over<H: AcpiHandler>(
@@ -58,11 +41,11 @@ fn check_platform<H: AcpiHandler>(
     drop(tables);
     check_ended(rt, &recording);
     let history = recording.history();
+    // The root table is opened once, and a lookup asks for a header and then for the whole.
     let few_requests = [
-        // The root table is opened once.
-        is_looked_at(&history, 0x1000, 1),
-        is_looked_at(&history, 0x2000, of_fadt),
-        is_looked_at(&history, 0x3000, of_madt),
+        history.requests_at(0x1000) <= 2,
+        history.requests_at(0x2000) <= of_fadt.saturating_mul(2),
+        history.requests_at(0x3000) <= of_madt.saturating_mul(2),
     ];
     assert_eq!(rt; (refused, few_requests), (refusal, [true; 3]));
     Ok(())
