@@ -5,19 +5,11 @@
 //! `acpi_view IMAGE bios` the one that the RSDP leads to which the BIOS areas hold.
 #![tactic(auto)]
 
-mod lines;
-#[cfg(test)]
-mod refusing;
-mod run;
-#[cfg(test)]
-mod tests;
-mod words;
-
+use acpi_report::run::run_gathered;
+use acpi_report::words::file_named;
 use acpi_words::{texts_of, texts_or_none};
-use run::run_gathered;
 use std::process::ExitCode;
 use std::{fs, io};
-use words::file_named;
 
 fn main(rt: HostRuntime) -> ExitCode {
     ExitCode::from(view(&rt).unwrap_or(1))

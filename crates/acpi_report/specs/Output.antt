@@ -1,0 +1,116 @@
+-- What a run prints, as the image's bytes define it.
+use Rattle.std.specs.Prelude.{◌≡◌, ◌⊎◌, ℕ, List, [], ◌∷◌, ◌++◌, drop, codes, Option, Some, None, Result, Ok, Err}
+use Rattle.std.specs.Global.{Global}
+use Rattle.std.specs.Io.KnownBytes.{Appends}
+use Rattle.acpi_base.specs.ErrorText.{error_text}
+use Rattle.acpi_base.specs.Memory.{Memory}
+use Rattle.acpi_base.specs.declared.error.AcpiError.{AcpiError}
+use Rattle.acpi.specs.Hpet.{hpet_kind}
+use Rattle.acpi.specs.Lists.{fadt_kind}
+use Rattle.acpi.specs.Opened.{Opened}
+use Rattle.acpi.specs.Pci.{mcfg_kind}
+use Rattle.acpi.specs.Platform.{madt_kind}
+use Rattle.acpi.specs.Root.{pointers, width_of}
+use Rattle.acpi_image.specs.ErrorText.{image_error_text}
+use Rattle.acpi_image.specs.Image.{records_in}
+use Rattle.acpi_image.specs.declared.error.ImageError.{ImageError}
+use Rattle.acpi_report.specs.Command.{command_of}
+use Rattle.acpi_report.specs.Lines.{IsPciText, bgrt_kind, bgrt_lines, dsdt_lines, header_lines, hpet_lines, line, revision_line, skipped_lines, spcr_kind, spcr_lines, ssdt_lines}
+use Rattle.acpi_report.specs.PlatformLines.{IsPlatformText}
+use Rattle.acpi_report.specs.Status.{RunsOutWith, opened_for, status_for}
+use Rattle.acpi_report.specs.Writing.{AppendsSome}
+use Rattle.acpi_report.specs.declared.words.Command.{Command}
+
+-- ---- standard output
+
+-- the pointers of a root table that is opened
+abbrev pub pointers_in : Opened → List ℕ
+pointers_in opened = pointers (width_of opened.kind) (drop 36 opened.root)
+
+-- all lines in order, where the platform and the PCI regions have these
+abbrev pub lines_of : List ℕ → List ℕ → Memory → Opened → List ℕ
+lines_of platform pci m opened = let ps = pointers_in opened in
+    revision_line opened.revision
+    ++ header_lines m ps
+    ++ dsdt_lines m ps
+    ++ ssdt_lines m ps
+    ++ platform
+    ++ hpet_lines m ps
+    ++ pci
+    ++ bgrt_lines m ps
+    ++ spcr_lines m ps
+
+-- the text is all lines, with those that are defined for the platform and the PCI regions, or with
+-- the one that says that memory is refused, where they ask for it
+pub record IsLines (m : Memory) (opened : Opened) (text : List ℕ) : Type 0 where
+  pub platform : List ℕ
+  pub pci : List ℕ
+  pub platform_is : IsPlatformText Global m (pointers_in opened) platform
+  pub pci_is : IsPciText m (pointers_in opened) pci
+  pub whole : text ≡ lines_of platform pci m opened
+
+-- ---- standard error
+
+-- for each type of table that is looked for, why tables were passed over
+abbrev pub skipped_lines_of : Memory → Opened → List ℕ
+skipped_lines_of m opened = let ps = pointers_in opened in
+    skipped_lines m fadt_kind ps
+    ++ skipped_lines m madt_kind ps
+    ++ skipped_lines m mcfg_kind ps
+    ++ skipped_lines m hpet_kind ps
+    ++ skipped_lines m bgrt_kind ps
+    ++ skipped_lines m spcr_kind ps
+
+abbrev pub usage_line : List ℕ
+usage_line =
+    line (codes "usage: acpi_view IMAGE rsdt REVISION ADDRESS | rsdp ADDRESS | bios" ∷ [])
+
+-- refused: NAME
+abbrev pub refusal_line : List ℕ → List ℕ
+refusal_line name = line (codes "refused: " ∷ name ∷ [])
+
+-- ---- both, of words and a file
+
+-- the memory and the root table in it that are found, or the one line that says why there are none
+abbrev pub Found : Type 0
+Found = Result (Memory × Opened) (List ℕ)
+
+abbrev pub found_in : Memory → Result Opened AcpiError → Found
+found_in m (Ok opened) = Ok (m, opened)
+found_in m (Err e) = Err (refusal_line (error_text e))
+
+abbrev pub found_over : Command → Result Memory ImageError → Found
+found_over command (Ok m) = found_in m (opened_for m command)
+found_over command (Err refusal) = Err (refusal_line (image_error_text refusal))
+
+abbrev pub found_with : Option Command → Option (List ℕ) → Found
+found_with None file = Err usage_line
+found_with (Some command) None = Err (refusal_line (codes "Unreadable"))
+found_with (Some command) (Some file) = found_over command (records_in file)
+
+abbrev pub found_for : List (List ℕ) → Option (List ℕ) → Found
+found_for words file = found_with (command_of words) file
+
+-- a text of standard output: all lines, or nothing where nothing is found
+abbrev pub IsOutput : Found → List ℕ → Type 0
+IsOutput (Ok found) text = IsLines found.0 found.1 text
+IsOutput (Err complaint) text = text ≡ []
+
+-- the text of standard error: the tables passed over, or why nothing is found
+abbrev pub complaints_of : Found → List ℕ
+complaints_of (Ok found) = skipped_lines_of found.0 found.1
+complaints_of (Err complaint) = complaint
+
+-- standard output grew by its text and by nothing else, and standard error by its own
+pub record Prints (found : Found) (out out_after err err_after : Option (List ℕ)) : Type 0 where
+  pub lines : AppendsSome (IsOutput found) out out_after
+  pub complaints : Appends err err_after (complaints_of found)
+
+-- how a run ends of which each write is taken: with the status that is defined, and what is found is
+-- printed, or where memory can run out, with 1 and a line that says so
+abbrev pub Ends : List (List ℕ) → Option (List ℕ) → ℕ
+    → Option (List ℕ) → Option (List ℕ) → Option (List ℕ) → Option (List ℕ) → Type 0
+Ends words file status out out_after err err_after =
+    ((status ≡ status_for words file) × Prints (found_for words file) out out_after err err_after)
+    ⊎ ((status ≡ 1) × RunsOutWith (command_of words) file
+    × Prints (Err (refusal_line (codes "OutOfMemory"))) out out_after err err_after)

@@ -1,0 +1,6 @@
+//! What the ACPI tables in a file of memory say, as lines, and the command that asks for them.
+#![tactic(auto)]
+
+pub mod lines;
+pub mod run;
+pub mod words;

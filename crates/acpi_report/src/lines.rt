@@ -1,0 +1,330 @@
+//! The lines that the program prints.
+ghost use Rattle.std.specs.Prelude.{◌≡◌, OnOk, codes};
+ghost use Rattle.std.specs.Io.KnownBytes.{Appends};
+ghost use Rattle.acpi_base.specs.Table.{kind};
+ghost use Rattle.acpi.specs.Pci.{shown_in};
+ghost use Rattle.acpi.specs.Tables.{memory_of, pointers_of, revision_of};
+ghost use Rattle.acpi.specs.Opened.{opened_of};
+ghost use Rattle.acpi_report.specs.Output.{IsLines, skipped_lines_of};
+ghost use Rattle.acpi_report.specs.Writing.{AppendsSome};
+ghost use Rattle.acpi_report.specs.Lines.{IsPciText, bgrt_lines, console_line, dsdt_lines};
+ghost use Rattle.acpi_report.specs.Lines.{graphic_line, header_line, header_lines, hpet_line};
+ghost use Rattle.acpi_report.specs.Lines.{hpet_lines, lines_or_refusal, refused_line, region_line, region_lines};
+ghost use Rattle.acpi_report.specs.Lines.{revision_line, skipped_line, skipped_lines, spcr_lines};
+ghost use Rattle.acpi_report.specs.Lines.{ssdt_lines, stream_line, yes_or_no};
+
+mod listed;
+mod pieces;
+mod platform;
+
+use acpi::bgrt::Bgrt;
+use acpi::fadt::Fadt;
+use acpi::hpet::HpetTable;
+use acpi::madt::Madt;
+use acpi::mcfg::{Mcfg, PciConfigEntry};
+use acpi::sdt::{SdtHeader, Signature};
+use acpi::spcr::Spcr;
+use acpi::{
+    AcpiError, AcpiHandler, AcpiResult, AcpiTable, AcpiTables, AmlTable, HpetInfo,
+    PciConfigRegions, TableFault,
+};
+pub(crate) use listed::{Line, print_each};
+pub(crate) use pieces::{Piece, write_line};
+pub use platform::print_platform;
+use std::alloc::{Allocator, Global};
+use std::io;
+use std::io::Write;
+
+/// Prints each part of the tables.
+pub fn print_parts<H: AcpiHandler, W: Write>(
+    alloc: Global,
+    tables: &AcpiTables<'_, H>,
+    out: &mut W,
+) -> io::Result<()>
+    ensures { OnOk result (AppendsSome (IsLines (memory_of tables.now) (opened_of tables.now))
+        (W.contents out.old) (W.contents out.new)) }
+{
+    print_revision(tables, out)?;
+    print_headers(tables, out)?;
+    print_dsdt(tables, out)?;
+    print_ssdts(tables, out)?;
+    print_platform(alloc, tables, out)?;
+    print_hpet(tables, out)?;
+    print_pci(alloc, tables, out)?;
+    print_bgrt(tables, out)?;
+    print_spcr(tables, out)
+}
+
+/// Prints why tables were passed over, for each type of table that the program looks for.
+#[tactic(auto, using(crate::proofs::Writing::then_more))]
+pub fn print_skipped_tables<H: AcpiHandler, E: Write>(
+    tables: &AcpiTables<'_, H>,
+    err: &mut E,
+) -> io::Result<()>
+    ensures { OnOk result (Appends (E.contents err.old) (E.contents err.new)
+        (skipped_lines_of (memory_of tables.now) (opened_of tables.now))) }
+{
+    print_skipped::<H, Fadt, E>(tables, err)?;
+    print_skipped::<H, Madt, E>(tables, err)?;
+    print_skipped::<H, Mcfg, E>(tables, err)?;
+    print_skipped::<H, HpetTable, E>(tables, err)?;
+    print_skipped::<H, Bgrt, E>(tables, err)?;
+    print_skipped::<H, Spcr, E>(tables, err)
+}
+
+/// The line of each table that the lookup of a type passes over, but for
+/// those of another signature.
+#[tactic(auto, using(crate::proofs::Writing::still_all, crate::proofs::Writing::still_less, crate::proofs::Writing::still_none))]
+fn print_skipped<H: AcpiHandler, T: AcpiTable, E: Write>(
+    tables: &AcpiTables<'_, H>,
+    err: &mut E,
+) -> io::Result<()>
+    ensures { OnOk result (Appends (E.contents err.old) (E.contents err.new)
+        (skipped_lines (memory_of tables.now)
+        (kind T.SIGNATURE T.MIN_LENGTH T.verdict) (pointers_of tables.now))) }
+{
+    for fault in tables.faults::<T>() {
+        print_fault(T::SIGNATURE, fault, err)?;
+    }
+    Ok(())
+}
+
+/// `skipped SIG ADDRESS: REFUSAL`.
+fn print_fault<E: Write>(signature: Signature, fault: TableFault, err: &mut E) -> io::Result<()>
+    ensures { OnOk result (Appends (E.contents err.old) (E.contents err.new)
+        (skipped_line signature fault)) }
+{
+    let pieces = [
+        Piece::Name("skipped ", signature),
+        Piece::Address(" ", fault.address),
+        Piece::Refusal(": ", fault.error),
+    ];
+    write_line(&pieces, err)
+}
+
+/// `revision R`, the one that the tables were opened with.
+#[tactic(auto, unfolding(crate::specs::Lines::revision_line))]
+fn print_revision<H: AcpiHandler, W: Write>(
+    tables: &AcpiTables<'_, H>,
+    out: &mut W,
+) -> io::Result<()>
+    ensures { OnOk result (Appends (W.contents out.old) (W.contents out.new)
+        (revision_line (revision_of tables.now))) }
+{
+    let revision = tables.revision() as u64;
+    write_line(&[Piece::Number("revision ", revision)], out)
+}
+
+/// `table SIG length L revision R` for each valid table.
+#[tactic(auto, using(crate::proofs::Writing::still_all, crate::proofs::Writing::still_less, crate::proofs::Writing::still_none))]
+fn print_headers<H: AcpiHandler, W: Write>(
+    tables: &AcpiTables<'_, H>,
+    out: &mut W,
+) -> io::Result<()>
+    ensures { OnOk result (Appends (W.contents out.old) (W.contents out.new)
+        (header_lines (memory_of tables.now) (pointers_of tables.now))) }
+{
+    for header in tables.headers() {
+        print_header(&header, out)?;
+    }
+    Ok(())
+}
+
+/// `table SIG length L revision R`.
+fn print_header<W: Write>(header: &SdtHeader, out: &mut W) -> io::Result<()>
+    ensures { OnOk result (Appends (W.contents out.old) (W.contents out.new)
+        (header_line header.now)) }
+{
+    let pieces = [
+        Piece::Name("table ", header.signature),
+        Piece::Number(" length ", header.length as u64),
+        Piece::Number(" revision ", header.revision as u64),
+    ];
+    write_line(&pieces, out)
+}
+
+/// `dsdt ADDRESS length L` for the AML of the DSDT.
+fn print_dsdt<H: AcpiHandler, W: Write>(tables: &AcpiTables<'_, H>, out: &mut W) -> io::Result<()>
+    ensures { OnOk result (Appends (W.contents out.old) (W.contents out.new)
+        (dsdt_lines (memory_of tables.now) (pointers_of tables.now))) }
+{
+    match tables.dsdt() {
+        Ok(stream) => print_stream("dsdt", stream, out),
+        Err(refusal) => print_refused("dsdt", refusal, out),
+    }
+}
+
+/// `ssdt ADDRESS length L` for the AML of each valid SSDT.
+#[tactic(auto, using(crate::proofs::Writing::still_all, crate::proofs::Writing::still_less, crate::proofs::Writing::still_none))]
+fn print_ssdts<H: AcpiHandler, W: Write>(tables: &AcpiTables<'_, H>, out: &mut W) -> io::Result<()>
+    ensures { OnOk result (Appends (W.contents out.old) (W.contents out.new)
+        (ssdt_lines (memory_of tables.now) (pointers_of tables.now))) }
+{
+    for stream in tables.ssdts() {
+        print_stream("ssdt", stream, out)?;
+    }
+    Ok(())
+}
+
+/// The line of the block of event timers, or why it is refused.
+fn print_hpet<H: AcpiHandler, W: Write>(tables: &AcpiTables<'_, H>, out: &mut W) -> io::Result<()>
+    ensures { OnOk result (Appends (W.contents out.old) (W.contents out.new)
+        (hpet_lines (memory_of tables.now) (pointers_of tables.now))) }
+{
+    match HpetInfo::new(tables) {
+        Ok(info) => print_timers(&info, out),
+        Err(refusal) => print_refused("hpet", refusal, out),
+    }
+}
+
+/// `hpet ADDRESS number N tick T`.
+fn print_timers<W: Write>(info: &HpetInfo, out: &mut W) -> io::Result<()>
+    ensures { OnOk result (Appends (W.contents out.old) (W.contents out.new)
+        (hpet_line info.now)) }
+{
+    let pieces = [
+        Piece::Address("hpet ", info.base_address),
+        Piece::Number(" number ", info.hpet_number as u64),
+        Piece::Number(" tick ", info.clock_tick_unit as u64),
+    ];
+    write_line(&pieces, out)
+}
+
+/// The lines of the regions of configuration space.
+#[tactic(auto, using(crate::proofs::Writing::said_or_full))]
+pub fn print_pci<H: AcpiHandler, A: Allocator + Clone, W: Write>(
+    alloc: A,
+    tables: &AcpiTables<'_, H>,
+    out: &mut W,
+) -> io::Result<()>
+    ensures { OnOk result (AppendsSome (IsPciText (memory_of tables.now) (pointers_of tables.now))
+        (W.contents out.old) (W.contents out.new)) }
+{
+    print_regions(PciConfigRegions::new_in(tables, alloc), out)
+}
+
+/// The lines of the regions that are found, or why they are refused.
+#[tactic(auto, using(crate::proofs::Writing::still_all, crate::proofs::Writing::still_less, crate::proofs::Writing::still_none, crate::proofs::Regions::shown_lines))]
+fn print_regions<A: Allocator, W: Write>(
+    found: AcpiResult<PciConfigRegions<A>>,
+    out: &mut W,
+) -> io::Result<()>
+    ensures { OnOk result (Appends (W.contents out.old) (W.contents out.new)
+        (lines_or_refusal (codes "pci") region_lines found)) }
+{
+    let regions = match found {
+        Ok(regions) => regions,
+        Err(refusal) => return print_refused("pci", refusal, out),
+    };
+    for region in regions.iter() {
+        print_region(region, out)?;
+    }
+    Ok(())
+}
+
+/// `pci SEGMENT FIRST LAST ADDRESS`.
+fn print_region<W: Write>(region: PciConfigEntry, out: &mut W) -> io::Result<()>
+    ensures { OnOk result (Appends (W.contents out.old) (W.contents out.new)
+        (region_line (shown_in region).0)) }
+{
+    let (first, last) = region.bus_range.into_inner();
+    let pieces = [
+        Piece::Number("pci ", region.segment_group as u64),
+        Piece::Number(" ", first as u64),
+        Piece::Number(" ", last as u64),
+        Piece::Address(" ", region.physical_address),
+    ];
+    write_line(&pieces, out)
+}
+
+/// The line of the boot graphic, or why it is refused.
+fn print_bgrt<H: AcpiHandler, W: Write>(tables: &AcpiTables<'_, H>, out: &mut W) -> io::Result<()>
+    ensures { OnOk result (Appends (W.contents out.old) (W.contents out.new)
+        (bgrt_lines (memory_of tables.now) (pointers_of tables.now))) }
+{
+    match tables.find_table::<Bgrt>() {
+        Ok(graphic) => print_graphic(&graphic, out),
+        Err(refusal) => print_refused("bgrt", refusal, out),
+    }
+}
+
+/// `bgrt displayed yes|no angle A offset X Y`.
+fn print_graphic<W: Write>(graphic: &Bgrt, out: &mut W) -> io::Result<()>
+    ensures { OnOk result (Appends (W.contents out.old) (W.contents out.new)
+        (graphic_line graphic.now)) }
+{
+    let displayed = yes_or_no(graphic.was_displayed());
+    let angle = graphic.orientation_offset();
+    let (x, y) = graphic.image_offset();
+    let pieces = [
+        Piece::Word("bgrt displayed ", displayed),
+        Piece::Number(" angle ", angle as u64),
+        Piece::Number(" offset ", x as u64),
+        Piece::Number(" ", y as u64),
+    ];
+    write_line(&pieces, out)
+}
+
+/// `yes` or `no`.
+fn yes_or_no(holds: bool) -> &'static str
+    ensures { result.now ≡ yes_or_no holds }
+{
+    if holds { "yes" } else { "no" }
+}
+
+/// The line of the serial console, or why it is refused.
+fn print_spcr<H: AcpiHandler, W: Write>(tables: &AcpiTables<'_, H>, out: &mut W) -> io::Result<()>
+    ensures { OnOk result (Appends (W.contents out.old) (W.contents out.new)
+        (spcr_lines (memory_of tables.now) (pointers_of tables.now))) }
+{
+    match tables.find_table::<Spcr>() {
+        Ok(console) => print_console(&console, out),
+        Err(refusal) => print_refused("spcr", refusal, out),
+    }
+}
+
+/// `spcr baud B irq I gsi G`.
+fn print_console<W: Write>(console: &Spcr, out: &mut W) -> io::Result<()>
+    ensures { OnOk result (Appends (W.contents out.old) (W.contents out.new)
+        (console_line console.now)) }
+{
+    let pieces = [
+        Piece::Text("spcr"),
+        Piece::Setting("baud", console.baud_rate()),
+        Piece::Setting("irq", widened(console.irq())),
+        Piece::Setting("gsi", console.global_system_interrupt()),
+    ];
+    write_line(&pieces, out)
+}
+
+/// The number in four bytes.
+fn widened(number: Option<u8>) -> Option<u32>
+    ensures { result ≡ number }
+{
+    match number {
+        Some(number) => Some(u32::from(number)),
+        None => None,
+    }
+}
+
+/// `PART ADDRESS length L` for a stream of AML.
+fn print_stream<W: Write>(part: &str, stream: AmlTable, out: &mut W) -> io::Result<()>
+    ensures { OnOk result (Appends (W.contents out.old) (W.contents out.new)
+        (stream_line part.now stream)) }
+{
+    let pieces = [
+        Piece::Text(part),
+        Piece::Address(" ", stream.address),
+        Piece::Number(" length ", stream.length as u64),
+    ];
+    write_line(&pieces, out)
+}
+
+/// `PART: `, and why this part is refused.
+fn print_refused<W: Write>(part: &str, refusal: AcpiError, out: &mut W) -> io::Result<()>
+    ensures { OnOk result (Appends (W.contents out.old) (W.contents out.new)
+        (refused_line part.now refusal)) }
+{
+    let pieces = [Piece::Text(part), Piece::Refusal(": ", refusal)];
+    write_line(&pieces, out)
+}

@@ -1,0 +1,170 @@
+//! The program over any writers.
+ghost use Rattle.std.specs.Prelude.{◌≡◌, ◌≢◌, ◌⊎◌, IfOk, IfSome, None, OnOk, map};
+ghost use Rattle.std.specs.Io.KnownBytes.{Appends};
+ghost use Rattle.std.specs.Option.{option_copied};
+ghost use Rattle.acpi_base.specs.Steps.{Gives};
+ghost use Rattle.acpi.specs.Opened.{opened_of};
+ghost use Rattle.acpi.specs.Tables.{lender_of};
+ghost use Rattle.acpi_report.specs.Command.{command_of};
+ghost use Rattle.acpi_report.specs.Output.{Ends, Prints, found_for, found_in, refusal_line};
+ghost use Rattle.acpi_report.specs.Status.{opened_for, status_for, status_of};
+
+use crate::lines::{print_parts, print_skipped_tables};
+use crate::words::{Command, parse_command};
+use acpi::{AcpiHandler, AcpiResult, AcpiTables};
+use acpi_image::MemoryImage;
+use std::alloc::Global;
+use std::fmt::Display;
+use std::io;
+use std::io::{BufWriter, Write};
+
+/// How many bytes of an output are gathered before they are written.
+const BUFFERED: usize = 32768;
+
+/// Runs the program on the words behind its name, and on the bytes of the file that the first word
+/// names, which are `None` where it can't be read. It answers the status: 0 where all is printed, 1
+/// where something is refused, and 2 where the words are no command.
+///
+/// Faults are found in this order: words that are no command, a file that can't be read, what
+/// `MemoryImage::from_bytes` refuses, and what opening the root table refuses. A write or a flush
+/// that is refused ends it with status 1. Memory that is refused for the platform or for the regions
+/// of configuration space ends nothing: that part is refused, as `platform: AllocError` or
+/// `pci: AllocError`.
+pub fn run<W: Write, E: Write>(
+    alloc: Global,
+    words: &[&str],
+    image: Option<&[u8]>,
+    out: &mut W,
+    err: &mut E,
+) -> u8
+    // The status is the one that is defined, or 1 where a write or memory is refused.
+    ensures status { result ≢ 1 →
+        result ≡ status_for (map (λ w. w.now) words.now) (option_copied image.entry) }
+    // What is printed then is what is defined, and nothing else.
+    ensures printed { result ≢ 1 →
+        Prints (found_for (map (λ w. w.now) words.now) (option_copied image.entry))
+        (W.contents out.old) (W.contents out.new) (E.contents err.old) (E.contents err.new) }
+    // So words that are no command give 2, unless the line on the usage can't be written.
+    ensures no_command { command_of (map (λ w. w.now) words.now) ≡ None →
+        (result ≡ 2) ⊎ (result ≡ 1) }
+    // And nothing else gives 2.
+    ensures usage { result ≡ 2 → command_of (map (λ w. w.now) words.now) ≡ None }
+{
+    print_run(alloc, words, image, out, err).unwrap_or(1)
+}
+
+/// `run` over writers that are gathered in 32 KiB each before they are written, so that a refused
+/// write leaves a front of what an output would have got.
+///
+/// Refuses where memory for gathering is refused.
+pub fn run_gathered<W: Write + Drop, E: Write + Drop>(
+    alloc: Global,
+    words: &[&str],
+    image: Option<&[u8]>,
+    out: W,
+    err: E,
+) -> io::Result<u8>
+    ensures { IfOk result (λ s. s ≢ 1 →
+        s ≡ status_for (map (λ w. w.now) words.now) (option_copied image.entry)) }
+{
+    let mut out = BufWriter::with_capacity(alloc, BUFFERED, out)?;
+    let mut err = BufWriter::with_capacity(alloc, BUFFERED, err)?;
+    Ok(run(alloc, words, image, &mut out, &mut err))
+}
+
+/// `run`, which refuses with what the first refused write or flush is refused with.
+#[tactic(auto, using(crate::proofs::Flushed::ends_kept))]
+pub fn print_run<W: Write, E: Write>(
+    alloc: Global,
+    words: &[&str],
+    image: Option<&[u8]>,
+    out: &mut W,
+    err: &mut E,
+) -> io::Result<u8>
+    // Where each write is taken, the status is the one that is defined, and so is what is printed; or
+    // memory for the image is refused, and one line says so.
+    ensures { IfOk result (λ s. Ends (map (λ w. w.now) words.now) (option_copied image.entry) s
+        (W.contents out.old) (W.contents out.new) (E.contents err.old) (E.contents err.new)) }
+{
+    let printed = print_all(alloc, words, image, out, err);
+    let shown = out.flush();
+    let told = err.flush();
+    let status = printed?;
+    shown?;
+    told?;
+    Ok(status)
+}
+
+/// Prints the lines, or the first fault, and answers the status.
+fn print_all<W: Write, E: Write>(
+    alloc: Global,
+    words: &[&str],
+    image: Option<&[u8]>,
+    out: &mut W,
+    err: &mut E,
+) -> io::Result<u8>
+    ensures { IfOk result (λ s. Ends (map (λ w. w.now) words.now) (option_copied image.entry) s
+        (W.contents out.old) (W.contents out.new) (E.contents err.old) (E.contents err.new)) }
+{
+    let Some(command) = parse_command(words) else {
+        writeln!(
+            err,
+            "usage: acpi_view IMAGE rsdt REVISION ADDRESS | rsdp ADDRESS | bios"
+        )?;
+        return Ok(2);
+    };
+    let Some(bytes) = image else {
+        return refuse("Unreadable", err);
+    };
+    match MemoryImage::from_bytes(alloc, bytes) {
+        Ok(image) => print_image(alloc, &image, command, out, err),
+        Err(refusal) => refuse(refusal, err),
+    }
+}
+
+/// Prints why the whole run is refused, and answers its status.
+pub fn refuse<D: Display + Drop, E: Write>(refusal: D, err: &mut E) -> io::Result<u8>
+    ensures status { IfOk result (λ s. s ≡ 1) }
+    ensures line { OnOk result (IfSome (D.output refusal) (λ name.
+        Appends (E.contents err.old) (E.contents err.new) (refusal_line name))) }
+{
+    writeln!(err, "refused: {refusal}")?;
+    Ok(1)
+}
+
+/// Prints what the tables in a memory say, and answers the status.
+#[tactic(auto, using(crate::proofs::Output::no_lines))]
+fn print_image<H: AcpiHandler, W: Write, E: Write>(
+    alloc: Global,
+    handler: &H,
+    command: Command,
+    out: &mut W,
+    err: &mut E,
+) -> io::Result<u8>
+    ensures status { IfOk result
+        (λ s. s ≡ status_of (opened_for (H.memory handler.now) command)) }
+    ensures printed { OnOk result
+        (Prints (found_in (H.memory handler.now) (opened_for (H.memory handler.now) command))
+        (W.contents out.old) (W.contents out.new) (E.contents err.old) (E.contents err.new)) }
+{
+    match open(handler, command) {
+        Ok(tables) => {
+            print_parts(alloc, &tables, out)?;
+            print_skipped_tables(&tables, err)?;
+            Ok(0)
+        }
+        Err(refusal) => refuse(refusal, err),
+    }
+}
+
+/// The tables that a command asks for.
+fn open<H: AcpiHandler>(handler: &H, command: Command) -> AcpiResult<AcpiTables<'_, H>>
+    ensures lender { IfOk result (λ t. lender_of t ≡ handler.now) }
+    ensures exact { Gives (λ t. opened_of t) result (opened_for (H.memory handler.now) command) }
+{
+    match command {
+        Command::Rsdt { revision, address } => AcpiTables::from_rsdt(handler, revision, address),
+        Command::Rsdp { address } => AcpiTables::from_rsdp(handler, address),
+        Command::Bios => AcpiTables::search_for_rsdp_bios(handler),
+    }
+}

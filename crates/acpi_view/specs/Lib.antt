@@ -1,6 +1,0 @@
-pub mod Command
-pub mod Lines
-pub mod Output
-pub mod PlatformLines
-pub mod Status
-pub mod Writing
