@@ -1,7 +1,6 @@
 pub mod Brief
 pub mod Agreed
 pub mod AgreedOpened
-pub mod Examples
 pub mod First
 pub mod Least
 pub mod Led
@@ -10,7 +9,6 @@ pub mod Passed
 pub mod Pieces
 pub mod Places
 pub mod Rooted
-pub mod Searched
 pub mod Spelled
 pub mod Texts
 pub mod Timers

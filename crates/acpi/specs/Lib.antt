@@ -1,5 +1,3 @@
-pub mod ExampleLaws
-pub mod Examples
 pub mod Footprint
 pub mod FootprintLaws
 pub mod Hpet

@@ -1,37 +1,11 @@
-//! Laws of the definitions, each the contract of a call that does nothing, and of the tests for
-//! equality and the clones.
+//! Laws of comparisons and of clones. The laws of the definitions are in the crate `acpi_laws`.
 ghost use Rattle.std.specs.Prelude.{◌≡◌, IfOk, Ok};
 ghost use Rattle.acpi_base.specs.Equality.{IsEquality};
-ghost use Rattle.acpi.specs.Laws.{LookupIsFirst, OnePointers, SecondAreas, SkipsInvalid};
-
-pub mod examples;
-pub mod footprints;
 
 use crate::hpet::PageProtection;
 use crate::platform::{MailboxWrite, PlatformInfo, PmTimer};
 use crate::records::{AmlTable, Sdt, TableFault};
 use std::alloc::{AllocError, Allocator};
-
-/// The bytes behind a root table's header spell exactly one list of pointers.
-pub fn one_pointers()
-    ensures { OnePointers }
-{}
-
-/// A lookup answers a table exactly where that is the first valid one.
-pub fn lookup_is_first()
-    ensures { LookupIsFirst }
-{}
-
-/// A member that isn't valid, put anywhere into the list of pointers, changes nothing in a lookup.
-pub fn skips_invalid()
-    ensures { SkipsInvalid }
-{}
-
-/// Where the search for the RSDP looks second, for four words at 0x40e: an area in its place, the
-/// fallback for none and for one out of range, and the highest that is taken.
-pub fn second_areas()
-    ensures { SecondAreas }
-{}
 
 /// Streams of AML are equal exactly where their fields are.
 pub fn aml_table_equality(a: &AmlTable, b: &AmlTable) -> bool

@@ -1,16 +1,13 @@
 pub mod Agreement
 pub mod Clones
-pub mod Codes
 pub mod Cuts
 pub mod Damage
-pub mod Examples
 pub mod Held
 pub mod Inside
 pub mod Lent
 pub mod MadtCounts
 pub mod Numbers
 pub mod OneRegion
-pub mod Ordered
 pub mod Orders
 pub mod Own
 pub mod Plain

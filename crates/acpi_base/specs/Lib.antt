@@ -1,5 +1,4 @@
 pub mod Address
-pub mod AddressLaws
 pub mod Bits
 pub mod Bytes
 pub mod Claim
@@ -8,7 +7,6 @@ pub mod Entries
 pub mod EntryLaws
 pub mod Equality
 pub mod ErrorText
-pub mod Examples
 pub mod Extended
 pub mod Header
 pub mod Interrupts

@@ -2,8 +2,6 @@
 ghost use Rattle.std.specs.Prelude.{◌≡◌};
 ghost use Rattle.acpi_base.specs.Address.{generic_address_of};
 
-pub mod laws;
-
 use crate::bytes::{field, filled};
 use crate::error::{AcpiError, AcpiResult};
 use crate::handler::PhysicalRecord;

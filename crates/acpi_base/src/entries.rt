@@ -2,8 +2,6 @@
 ghost use Rattle.std.specs.Prelude.{◌≡◌, ◌<◌, length, IfSome, IfNone, []};
 ghost use Rattle.acpi_base.specs.Entries.{IsEntry, cut, front, least_length, with_entry};
 
-pub mod laws;
-
 /// The least length of an entry of a kind, where these are those of the first kinds.
 fn least_length(least_lengths: &[usize], kind: u8) -> usize
     ensures { result ≡ least_length least_lengths.now kind }

@@ -1,16 +1,12 @@
-//! Laws of the definitions, each the contract of a call that does nothing, and of comparisons and
-//! conversions.
+//! Laws of the names of tables, of comparisons and of conversions. The laws of the definitions are in
+//! the crate `acpi_laws`.
 ghost use Rattle.std.specs.Prelude.{◌≡◌, ◌↔◌};
 ghost use Rattle.std.specs.Cmp.Lexicographic.{slice_cmp};
 ghost use Rattle.std.specs.Ordering.{nat_cmp};
 ghost use Rattle.std.specs.declared.cmp.Ordering.TheVariants.{Equal};
 ghost use Rattle.acpi_base.specs.Equality.{IsEquality};
-ghost use Rattle.acpi_base.specs.Laws.{FieldPastEnd, LentIsInside};
 ghost use Rattle.acpi_base.specs.Names.{NamesAreSpelled};
-ghost use Rattle.acpi_base.specs.Ranges.{OwnTableDependsOn, TableDependsOn};
 ghost use Rattle.acpi_base.specs.Text.{letters_of};
-
-pub mod examples;
 
 use crate::address::{AccessSize, AddressSpace, GenericAddress};
 use crate::error::{AcpiError, MadtError};
@@ -18,30 +14,6 @@ use crate::madt::MpProtectedModeWakeupCommand;
 use crate::signature::Signature;
 use crate::spcr::SpcrInterfaceType;
 use std::cmp::Ordering;
-
-/// In a memory of disjoint regions, what is lent is exactly a range that lies whole inside one
-/// region, with the bytes that the region has there.
-pub fn lent_is_inside()
-    ensures { LentIsInside }
-{}
-
-/// A number whose bytes reach past the end is read as if zeros followed.
-pub fn field_past_end()
-    ensures { FieldPastEnd }
-{}
-
-/// The table at an address, or what refuses it, is the same over every memory that agrees on its
-/// ranges.
-#[tactic(auto, using(crate::proofs::Agreement::same_table))]
-pub fn table_depends_on()
-    ensures { TableDependsOn }
-{}
-
-/// So is the table at an address under the signature that it bears.
-#[tactic(auto, using(crate::proofs::Agreement::same_own_table))]
-pub fn own_table_depends_on()
-    ensures { OwnTableDependsOn }
-{}
 
 /// Each constant of `Signature` has the four letters of its table.
 pub fn names_are_spelled()

@@ -1,5 +1,0 @@
-use Rattle.acpi_base.proofs.Inside.{lent_is_inside}
-use Rattle.acpi_base.proofs.laws.lent_is_inside.Goals as goal
-
-pub returns : goal.returns
-returns c = lent_is_inside

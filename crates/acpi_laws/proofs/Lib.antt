@@ -1,0 +1,5 @@
+pub mod Codes
+pub mod Instances
+pub mod Ordered
+pub mod Searched
+pub mod TableInstances

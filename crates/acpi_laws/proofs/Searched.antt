@@ -1,0 +1,110 @@
+-- The search of the BIOS areas that are written out: the first candidate is valid. How many there
+-- are behind it is left open, since antt would compute all of them.
+use Rattle.std.proofs.Common.{◌≡◌, ℕ, suc, List, [], ◌∷◌, ◌++◌, drop, Option, Some, Result, Ok, refl, ap, ◌∙◌}
+use Rattle.std.specs.Prelude.{replicate}
+use Rattle.std.specs.Str.{chars, is_utf8}
+use Rattle.acpi_base.specs.Bytes.{field_of, sum_of}
+use Rattle.acpi_laws.specs.TableExamples.{hpet, unnamed}
+use Rattle.acpi_base.specs.Header.{check_names, check_table, header_at}
+use Rattle.acpi_base.specs.Memory.{Memory, at, rest_from}
+use Rattle.acpi_base.specs.Ranges as ranges
+use Rattle.acpi_base.specs.Ranges.{AgreesOn, Ranges}
+use Rattle.acpi_base.specs.Steps.{◌>>=◌, lent}
+use Rattle.acpi_base.specs.declared.error.AcpiError.{AcpiError}
+use Rattle.acpi_base.specs.Table.{length_in, table_at, table_of, whole_of}
+use Rattle.acpi_laws.specs.ExampleLaws.{OpenedBySearchInstance, SearchInstance, opened}
+use Rattle.acpi_laws.specs.Examples.{bios, bios_here, bios_there, damaged, dsdt, fadt, madt, mcfg, memory, rsdp, rsdt, ssdt}
+use Rattle.acpi.specs.Opened.{opened_from}
+use Rattle.acpi.specs.OpenedRanges.{area_ranges, opened_ranges, or_else_ranges, rsdp_ranges, search_ranges}
+use Rattle.acpi.specs.Rsdp.{check_first, check_sum, length_of, root_of_rsdp, rsdp_at, rsdp_of}
+use Rattle.acpi.specs.Search.{count_of, first_area, found_in, found_rsdp, room_of, second_area, word_in}
+
+-- ---- where the first candidate is valid
+
+found_there : (m : Memory) (s : _) (n : ℕ) (area b : List ℕ) → count_of s ≡ suc n → lent m s.start (room_of s) ≡ Ok area → rsdp_at m s.start ≡ Ok b
+    → found_in m s ≡ Ok (Some (s.start, b))
+unfolding found_in
+found_there m s n area b count there valid = rw (there, count, valid) refl
+
+ranges_there : (m : Memory) (s : _) (n : ℕ) (area b : List ℕ) → count_of s ≡ suc n → lent m s.start (room_of s) ≡ Ok area → rsdp_at m s.start ≡ Ok b
+    → area_ranges m s ≡ (s.start, room_of s) ∷ (rsdp_ranges m s.start ++ [])
+ranges_there m s n area b count there valid = rw (there, count, valid) refl
+
+-- the ranges behind the word's
+behind_word : (second : ℕ → Ranges) (w : Result ℕ AcpiError) (f : Result (Option (ℕ × List ℕ)) AcpiError) (a b : Ranges) (word : ℕ) (found : ℕ × List ℕ)
+    → w ≡ Ok word → f ≡ Ok (Some found) → a ≡ b → ranges.◌>>=◌ w (λ word. a ++ ranges.◌>>=◌ f (λ first. or_else_ranges first (second word))) ≡ b ++ []
+behind_word second w f a b word found named there same = rw (named, there, same) refl
+
+ranges_are : (m : Memory) (s : _) (n word : ℕ) (area b : List ℕ) → count_of s ≡ suc n → word_in m ≡ Ok word → lent m s.start (room_of s) ≡ Ok area → rsdp_at m s.start ≡ Ok b
+    → ranges.◌>>=◌ (word_in m) (λ word. area_ranges m s ++ ranges.◌>>=◌ (found_in m s) (λ first. or_else_ranges first (area_ranges m (second_area word))))
+    ≡ (s.start, room_of s) ∷ ((rsdp_ranges m s.start ++ []) ++ [])
+ranges_are m s n word area b count named there valid =
+    behind_word (λ word. area_ranges m (second_area word)) (word_in m) (found_in m s) (area_ranges m s) _ word (s.start, b) named
+    (found_there m s n area b count there valid) (ranges_there m s n area b count there valid)
+
+agrees_by : (m k : Memory) (r s : Ranges) → r ≡ s → AgreesOn m k s → AgreesOn m k r
+agrees_by m k r s same h = rw same h
+
+-- what a search finds opens
+behind_search : (m k : Memory) (r s : Ranges) (q : Result (ℕ × List ℕ) AcpiError) (found : ℕ × List ℕ) → r ≡ s → q ≡ Ok found → AgreesOn m k (s ++ opened_ranges m (root_of_rsdp found.1))
+    → AgreesOn m k (r ++ ranges.◌>>=◌ q (λ f. opened_ranges m (root_of_rsdp f.1)))
+behind_search m k r s q found same there h = rw (same, there) h
+
+opened_is : (m : Memory) (q : Result (ℕ × List ℕ) AcpiError) (found : ℕ × List ℕ) → q ≡ Ok found → (q >>= λ f. opened_from m (root_of_rsdp f.1)) ≡ opened_from m (root_of_rsdp found.1)
+opened_is m q found there = rw there refl
+
+found_is : (m : Memory) (n word : ℕ) (area b : List ℕ) → count_of first_area ≡ suc n → word_in m ≡ Ok word → lent m first_area.start (room_of first_area) ≡ Ok area
+    → rsdp_at m first_area.start ≡ Ok b → found_rsdp m ≡ Ok (first_area.start, b)
+unfolding found_rsdp
+found_is m n word area b count named there valid = rw (named, found_there m first_area n area b count there valid) refl
+
+-- ---- at the memories
+
+word_is : word_in bios_here ≡ Ok 0
+unfolding word_in at rest_from field_of bios
+word_is = refl
+
+area_is : lent bios_here 0xe0000 131088 ≡ Ok (rsdp ++ replicate 131052 0)
+unfolding at rest_from bios memory rsdp rsdt fadt hpet madt mcfg ssdt dsdt unnamed damaged
+area_is = refl
+
+rsdp_is : rsdp_at bios_here 0xe0000 ≡ Ok rsdp
+unfolding at rest_from rsdp_at rsdp_of length_of check_first check_sum field_of sum_of is_utf8 chars lib.Utf8.encode bios memory rsdp rsdt fadt hpet madt mcfg ssdt dsdt unnamed damaged
+rsdp_is = refl
+
+searched : Ranges
+searched = (0x40e, 2) ∷ (0xe0000, 131088) ∷ (0xe0000, 36) ∷ []
+
+found_here : found_rsdp bios_here ≡ Ok (0xe0000, rsdp)
+found_here = found_is bios_here 8190 0 _ rsdp refl word_is area_is rsdp_is
+
+rest_is : (0xe0000, 131088) ∷ ((rsdp_ranges bios_here 0xe0000 ++ []) ++ []) ≡ drop 1 searched
+unfolding searched at rest_from rsdp_of length_of check_first check_sum field_of sum_of is_utf8 chars lib.Utf8.encode bios memory rsdp rsdt fadt hpet madt mcfg ssdt dsdt unnamed damaged
+rest_is = refl
+
+searched_is : search_ranges bios_here ≡ searched
+unfolding searched
+searched_is = ap (λ r. (0x40e, 2) ∷ r) (ranges_are bios_here first_area 8190 0 _ rsdp refl word_is area_is rsdp_is ∙ rest_is)
+
+they_agree : AgreesOn bios_here bios_there searched
+unfolding searched at rest_from bios memory rsdp rsdt fadt hpet madt mcfg ssdt dsdt unnamed damaged
+they_agree = (refl, (refl, (refl, tt)))
+
+pub search_instance : SearchInstance
+search_instance = (agrees_by bios_here bios_there (search_ranges bios_here) searched searched_is they_agree, found_here)
+
+-- ---- what it opens
+
+root_is : opened_from bios_here (root_of_rsdp rsdp) ≡ Ok opened
+unfolding at rest_from length_in whole_of table_of table_at header_at check_names check_table field_of sum_of is_utf8 chars lib.Utf8.encode rsdp_of bios memory rsdp rsdt fadt hpet madt mcfg ssdt dsdt unnamed damaged
+root_is = refl
+
+they_agree_below : AgreesOn bios_here bios_there (searched ++ opened_ranges bios_here (root_of_rsdp rsdp))
+unfolding searched at rest_from length_in header_at check_names field_of is_utf8 chars lib.Utf8.encode rsdp_of bios memory rsdp rsdt fadt hpet madt mcfg ssdt dsdt unnamed damaged
+they_agree_below = (refl, (refl, (refl, (refl, (refl, tt)))))
+
+pub opened_by_search_instance : OpenedBySearchInstance
+opened_by_search_instance = (
+  behind_search bios_here bios_there (search_ranges bios_here) searched (found_rsdp bios_here) (0xe0000, rsdp) searched_is found_here they_agree_below,
+  opened_is bios_here (found_rsdp bios_here) (0xe0000, rsdp) found_here ∙ root_is,
+)

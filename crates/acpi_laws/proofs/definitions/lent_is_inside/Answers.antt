@@ -1,0 +1,5 @@
+use Rattle.acpi_base.proofs.Inside.{lent_is_inside}
+use Rattle.acpi_laws.proofs.definitions.lent_is_inside.Goals as goal
+
+pub returns : goal.returns
+returns c = lent_is_inside

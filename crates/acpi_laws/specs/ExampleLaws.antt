@@ -1,0 +1,172 @@
+-- The laws of ranges and of relocation, each at the memories that are written out.
+use Rattle.std.specs.Prelude.{◌≡◌, ℕ, true, false, List, [], ◌∷◌, map, Some, Ok}
+use Rattle.acpi_base.specs.declared.address.AccessSize.TheVariants.{Undefined}
+use Rattle.acpi_base.specs.declared.address.AddressSpace.TheVariants.{SystemIo}
+use Rattle.acpi_base.specs.declared.error.AcpiError.TheVariants.{SdtInvalidOemId}
+use Rattle.acpi_base.specs.declared.mcfg.McfgEntry.{McfgEntry}
+use Rattle.acpi_base.specs.declared.model.interrupt.InterruptModel.TheVariants.{Apic}
+use Rattle.acpi_base.specs.declared.model.processor.ProcessorState.TheVariants.{Running}
+use Rattle.acpi_base.specs.declared.signature.TheConstants.Signature.{HPET}
+use Rattle.acpi_laws.specs.TableExamples.{Instance, hpet}
+use Rattle.acpi_base.specs.Header.{header_at}
+use Rattle.acpi_base.specs.Memory.{Memory}
+use Rattle.acpi_base.specs.Ranges.{AgreesOn, Ranges}
+use Rattle.acpi_fixed.specs.declared.fadt.PowerProfile.TheVariants.{Desktop}
+use Rattle.acpi_laws.specs.Examples.{bios_here, bios_there, here, listed, more, moved}
+use Rattle.acpi_laws.specs.Examples.{moved_pointers, rsdp, rsdt, tables, there}
+use Rattle.acpi.specs.Footprint.{dsdt_ranges, header_ranges, lookup_ranges, platform_ranges}
+use Rattle.acpi.specs.Footprint.{ssdt_ranges}
+use Rattle.acpi.specs.Hpet.{hpet_kind, hpet_of}
+use Rattle.acpi.specs.Lists.{dsdt_stream, faults_of, ssdt_streams, valid_headers, valid_tables}
+use Rattle.acpi.specs.Lookup.{lookup}
+use Rattle.acpi.specs.Opened.{Opened, opened_by_rsdp, opened_by_search, opened_from}
+use Rattle.acpi.specs.OpenedRanges.{opened_by_rsdp_ranges, opened_by_search_ranges, opened_ranges}
+use Rattle.acpi.specs.OpenedRanges.{rsdp_ranges, search_ranges}
+use Rattle.acpi.specs.Pci.{found_regions, mcfg_kind}
+use Rattle.acpi.specs.Platform.{madt_kind, platform_of}
+use Rattle.acpi.specs.Relocation.{bytes_found}
+use Rattle.acpi.specs.Root.{place}
+use Rattle.acpi.specs.Rsdp.{rsdp_at}
+use Rattle.acpi.specs.Search.{found_rsdp}
+use Rattle.acpi.specs.Wake.{mailbox_found}
+use Rattle.acpi.specs.declared.hpet.HpetInfo.{HpetInfo}
+use Rattle.acpi.specs.declared.hpet.PageProtection.TheVariants as protections
+use Rattle.acpi.specs.declared.platform.PlatformInfo.{PlatformInfo}
+use Rattle.acpi.specs.declared.root.RootKind.TheVariants.{Rsdt}
+
+-- ---- what the tables say
+
+abbrev pub said_of_timers : HpetInfo
+said_of_timers = record {
+  event_timer_block_id = 0x8086a201;
+  base_address = 0xfed00000;
+  hpet_number = 0;
+  clock_tick_unit = 128;
+  page_protection = protections.None;
+}
+
+abbrev pub said_of_regions : List McfgEntry
+said_of_regions =
+    record {
+      base_address = 0xb0000000;
+      pci_segment_group = 0;
+      bus_number_start = 0;
+      bus_number_end = 255;
+    }
+    ∷ []
+
+abbrev pub said_of_platform : {A : Type 0} → PlatformInfo A
+said_of_platform = record {
+  power_profile = Desktop;
+  interrupt_model = Apic (record {
+    local_apic_address = 0xfee00000;
+    io_apics = [];
+    local_apic_nmi_lines = [];
+    interrupt_source_overrides = [];
+    nmi_sources = [];
+    also_has_legacy_pics = true;
+  });
+  processor_info = Some (record {
+    boot_processor = record {
+      processor_uid = 0;
+      local_apic_id = 0;
+      state = Running;
+      is_ap = false;
+    };
+    application_processors = [];
+  });
+  pm_timer = Some (record {
+    base = record {
+      address_space = SystemIo;
+      bit_width = 32;
+      bit_offset = 0;
+      access_size = Undefined;
+      address = 0x608;
+    };
+    supports_32bit = true;
+  });
+}
+
+abbrev pub opened : Opened
+opened = record { revision = 0; kind = Rsdt; address = 0x1000; root = rsdt }
+
+-- ---- below a root table
+
+-- a definition over pointers, at the two memories that differ
+abbrev pub At : {A : Type 0} → (Memory → List ℕ → Ranges) → (Memory → List ℕ → A)
+    → List ℕ → A → Type 0
+At ranges defined ps answer = Instance here there ranges defined ps answer
+
+abbrev pub LookupInstance : Type 0
+LookupInstance =
+    At (λ m. lookup_ranges m hpet_kind) (λ m. lookup m hpet_kind) more (Ok (0x4000, hpet))
+
+abbrev pub FaultsInstance : Type 0
+FaultsInstance = At (λ m. lookup_ranges m hpet_kind) (λ m. faults_of m hpet_kind) more
+    (record { address = 0x2000; error = SdtInvalidOemId HPET } ∷ [])
+
+abbrev pub HeadersInstance : Type 0
+HeadersInstance = At header_ranges valid_headers listed (map header_at tables)
+
+abbrev pub SsdtsInstance : Type 0
+SsdtsInstance = At ssdt_ranges ssdt_streams more (record { address = 0x7024; length = 2 } ∷ [])
+
+abbrev pub DsdtInstance : Type 0
+DsdtInstance = At dsdt_ranges dsdt_stream more (Ok (record { address = 0x8024; length = 4 }))
+
+abbrev pub PlatformInstance : Type 0 → Type 0
+PlatformInstance A =
+    At platform_ranges (λ m ps. platform_of {A = A} m ps) more (Ok said_of_platform)
+
+abbrev pub HpetInstance : Type 0
+HpetInstance = At (λ m. lookup_ranges m hpet_kind) hpet_of more (Ok said_of_timers)
+
+abbrev pub RegionsInstance : Type 0
+RegionsInstance = At (λ m. lookup_ranges m mcfg_kind) found_regions more (Ok said_of_regions)
+
+abbrev pub MailboxInstance : Type 0
+MailboxInstance = At (λ m. lookup_ranges m madt_kind) mailbox_found more (Ok 0xa000)
+
+-- ---- what leads to a root table
+
+abbrev pub RsdpInstance : Type 0
+RsdpInstance = Instance here there rsdp_ranges rsdp_at 0x500 (Ok rsdp)
+
+abbrev pub OpenedInstance : Type 0
+OpenedInstance =
+    Instance here there opened_ranges opened_from (place 0 Rsdt 0x1000) (Ok opened)
+
+abbrev pub OpenedByRsdpInstance : Type 0
+OpenedByRsdpInstance = Instance here there opened_by_rsdp_ranges opened_by_rsdp 0x500 (Ok opened)
+
+abbrev pub SearchInstance : Type 0
+SearchInstance = AgreesOn bios_here bios_there (search_ranges bios_here)
+    × (found_rsdp bios_here ≡ Ok (0xe0000, rsdp))
+
+abbrev pub OpenedBySearchInstance : Type 0
+OpenedBySearchInstance = AgreesOn bios_here bios_there (opened_by_search_ranges bios_here)
+    × (opened_by_search bios_here ≡ Ok opened)
+
+-- ---- the same tables elsewhere
+
+-- both memories lead to the same valid tables, and the definition says this of both
+abbrev pub AtMoved : {A : Type 0} → (Memory → List ℕ → A) → A → Type 0
+AtMoved defined answer =
+    (valid_tables moved moved_pointers ≡ valid_tables here listed)
+    × (defined here listed ≡ answer)
+    × (defined moved moved_pointers ≡ answer)
+
+abbrev pub LookupMoved : Type 0
+LookupMoved = AtMoved (λ m ps. bytes_found (lookup m hpet_kind ps)) (Ok hpet)
+
+abbrev pub HeadersMoved : Type 0
+HeadersMoved = AtMoved valid_headers (map header_at tables)
+
+abbrev pub PlatformMoved : Type 0 → Type 0
+PlatformMoved A = AtMoved (λ m ps. platform_of {A = A} m ps) (Ok said_of_platform)
+
+abbrev pub HpetMoved : Type 0
+HpetMoved = AtMoved hpet_of (Ok said_of_timers)
+
+abbrev pub RegionsMoved : Type 0
+RegionsMoved = AtMoved found_regions (Ok said_of_regions)

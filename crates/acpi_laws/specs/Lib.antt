@@ -1,0 +1,4 @@
+pub mod CodeLaws
+pub mod ExampleLaws
+pub mod Examples
+pub mod TableExamples

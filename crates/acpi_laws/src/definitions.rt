@@ -1,0 +1,55 @@
+//! What holds of the definitions of memory, numbers, codes, entries, pointers, lookups and the
+//! search.
+ghost use Rattle.acpi_base.specs.EntryLaws.{CutIsCut, OneCut};
+ghost use Rattle.acpi_base.specs.Laws.{FieldPastEnd, LentIsInside};
+ghost use Rattle.acpi.specs.Laws.{LookupIsFirst, OnePointers, SecondAreas, SkipsInvalid};
+ghost use Rattle.acpi_laws.specs.CodeLaws.{SizesDecode, SpacesDecode};
+
+/// In a memory of disjoint regions, what is lent is exactly a range that lies whole inside one
+/// region, with the bytes that the region has there.
+pub fn lent_is_inside()
+    ensures { LentIsInside }
+{}
+
+/// A number whose bytes reach past the end of a table is read as if zeros followed.
+pub fn field_past_end()
+    ensures { FieldPastEnd }
+{}
+
+/// A code in a generic address is decoded to the one value that has it, and refused with
+/// `InvalidGenericAddress` if there is none.
+pub fn codes_decode()
+    ensures spaces { SpacesDecode }
+    ensures sizes { SizesDecode }
+{}
+
+/// Bytes are cut into entries and a remainder in one way at most.
+pub fn one_cut()
+    ensures { OneCut }
+{}
+
+/// The cut that is computed is a cut of the bytes.
+pub fn cut_is_cut()
+    ensures { CutIsCut }
+{}
+
+/// The bytes after a root table's header encode exactly one list of pointers.
+pub fn one_pointers()
+    ensures { OnePointers }
+{}
+
+/// A lookup answers a table exactly if that is the first valid one.
+pub fn lookup_is_first()
+    ensures { LookupIsFirst }
+{}
+
+/// A member that isn't valid, put anywhere into the list of pointers, changes nothing in a lookup.
+pub fn skips_invalid()
+    ensures { SkipsInvalid }
+{}
+
+/// The area in which the search for the RSDP looks second, for four numbers at 0x40e: an area in its
+/// place, the fallback for none and for one out of range, and the highest that is taken.
+pub fn second_areas()
+    ensures { SecondAreas }
+{}
