@@ -68,6 +68,10 @@ pub none_valid : (m : Memory) (k : Kind) (ps : List ℕ) (e : AcpiError) → loo
 none_valid m k [] e said = (cc, tt)
 none_valid m k (p ∷ ps) e said = cases_missing m k p ps e (table_at m k p) refl said (none_valid m k ps e)
 
+none_found : (m : Memory) (k : Kind) (ps : List ℕ) → NoneValid m k ps → lookup m k ps ≡ Err (TableMissing k.signature)
+none_found m k [] none = refl
+none_found m k (p ∷ ps) none = passed (here p) (table_at m k p) (lookup m k ps) none.0 ∙ none_found m k ps none.1
+
 -- ---- calls
 
 pub gives_first : {X : Type 0} (m : Memory) (k : Kind) (ps : List ℕ) (place : X → ℕ) (bytes : X → List ℕ) (r : Result X AcpiError) → Gives (λ x. (place x, bytes x)) r (lookup m k ps) → IfOk r (λ x. IsFirstValid m k ps (place x) (bytes x))
@@ -77,3 +81,10 @@ gives_first m k ps place bytes (Err e) said = tt
 pub gives_missing : {X : Type 0} (m : Memory) (k : Kind) (ps : List ℕ) (view : X → ℕ × List ℕ) (r : Result X AcpiError) → Gives view r (lookup m k ps) → IfErr r (λ e. (e ≡ TableMissing k.signature) × NoneValid m k ps)
 gives_missing m k ps view (Ok x) said = tt
 gives_missing m k ps view (Err e) said = none_valid m k ps e said
+
+refused_as : {X : Type 0} (view : X → ℕ × List ℕ) (r : Result X AcpiError) (e : AcpiError) (said : Result (ℕ × List ℕ) AcpiError) → said ≡ Err e → Gives view r said → r ≡ Err e
+refused_as view (Ok x) e said none gives = absurd cc
+refused_as view (Err d) e said none gives = let same : d ≡ e = cc in rw same refl
+
+pub gives_absent : {X : Type 0} (m : Memory) (k : Kind) (ps : List ℕ) (view : X → ℕ × List ℕ) (r : Result X AcpiError) → Gives view r (lookup m k ps) → NoneValid m k ps → r ≡ Err (TableMissing k.signature)
+gives_absent m k ps view r gives none = refused_as view r (TableMissing k.signature) (lookup m k ps) (none_found m k ps none) gives

@@ -12,5 +12,6 @@ pub mod Rooted
 pub mod Spelled
 pub mod Texts
 pub mod Timers
+pub mod Validated
 pub mod Walk
 pub mod Within

@@ -1,6 +1,7 @@
 //! Laws of comparisons and of clones. The laws of the definitions are in the crate `acpi_laws`.
-ghost use Rattle.std.specs.Prelude.{◌≡◌, IfOk, Ok};
+ghost use Rattle.std.specs.Prelude.{◌≡◌, IfOk, IsOk, Ok, None};
 ghost use Rattle.acpi_base.specs.Equality.{IsEquality};
+ghost use Rattle.acpi_base.specs.declared.model.interrupt.InterruptModel.TheVariants.{Unknown};
 
 use crate::hpet::PageProtection;
 use crate::platform::{MailboxWrite, PlatformInfo, PmTimer};
@@ -60,7 +61,10 @@ pub fn pm_timer_clone(timer: &PmTimer) -> Result<PmTimer, AllocError>
 pub fn platform_clone<A: Allocator + Clone>(
     platform: &PlatformInfo<A>,
 ) -> Result<PlatformInfo<A>, AllocError>
-    ensures { IfOk result (λ c. c ≡ platform.now) }
+    ensures same { IfOk result (λ c. c ≡ platform.now) }
+    // An unknown model holds no slice, and neither do no processors, so nothing is asked for.
+    ensures unknown { platform.now.interrupt_model ≡ Unknown → platform.now.processor_info ≡ None
+        → IsOk result }
 {
     platform.clone()
 }

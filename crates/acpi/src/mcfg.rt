@@ -1,5 +1,5 @@
 //! Where the configuration space of a PCI function lies.
-ghost use Rattle.std.specs.Prelude.{◌≡◌, ◌<◌, ◌≤◌, List, [], IfOk, IfSome, IsOk};
+ghost use Rattle.std.specs.Prelude.{◌≡◌, ◌<◌, ◌≤◌, List, [], vec_capacity, vec_len, IfOk, IfSome, IsOk};
 ghost use Rattle.acpi_base.specs.Mcfg.{regions_left};
 ghost use Rattle.acpi.specs.Pci.{address_in, is_of, region_of};
 ghost use Rattle.acpi_base.specs.declared.mcfg.McfgEntry.{McfgEntry};
@@ -135,6 +135,7 @@ fn collected<A: Allocator>(
     allocator: A,
 ) -> Result<Vec<McfgEntry, A>, AllocError>
     ensures items { IfOk result (λ v. v.items ≡ regions_left entries.entry) }
+    ensures room { IfOk result (λ v. vec_capacity v ≡ vec_len v) }
     ensures none { regions_left entries.entry ≡ [] → IsOk result }
 {
     let mut regions = Vec::with_capacity(allocator, entries.len())?;

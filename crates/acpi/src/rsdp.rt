@@ -1,6 +1,6 @@
 //! The Root System Description Pointer (RSDP), which leads to the root table.
 ghost use Rattle.std.specs.Prelude.{◌≡◌, ◌<◌, IfOk};
-ghost use Rattle.acpi_base.specs.Mapping.{start_of, bytes_of, handler_of};
+ghost use Rattle.acpi_base.specs.Mapping.{IsOfMemory, start_of, bytes_of, handler_of};
 ghost use Rattle.acpi_base.specs.Steps.{Gives};
 ghost use Rattle.acpi.specs.Rsdp.{check_sum, check_whole_at, rsdp_at};
 
@@ -56,7 +56,8 @@ impl PhysicalRecord for Rsdp {
 }
 
 impl Rsdp {
-    ghost use Rattle.std.specs.Prelude.{◌≤◌, length, IfSome};
+    ghost use Rattle.std.specs.Prelude.{◌≤◌, ℕ, length, IfSome, IsOk, Some};
+    ghost use Rattle.acpi_base.specs.Memory.{Memory, at};
     ghost use Rattle.acpi_base.specs.Text.{IsTextOf};
     ghost use Rattle.acpi.specs.Rsdp.{signature_of, checksum_of, oem_id_of, revision_of};
     ghost use Rattle.acpi.specs.Rsdp.{rsdt_address_of, xsdt_address_of, extended_length_of};
@@ -154,8 +155,21 @@ impl Rsdp {
     /// 20 bytes do not sum to 0 modulo 256. For a revision above 0 it also refuses with
     /// `RsdpInvalidChecksum` where the length is under 36 or past the bytes, or where that many
     /// bytes do not sum to 0.
-    #[tactic(auto, unfolding(crate::specs::Rsdp::check_rsdp))]
     pub fn validate(&self, bytes: &[u8]) -> AcpiResult<()>
+        requires least { 36 ≤ length bytes.now }
+        requires read { self.now ≡ rsdp_of bytes.now }
+        ensures exact { result ≡ check_rsdp bytes.now }
+        // Bytes that a memory has at an address, and that hold all checks, are a valid RSDP there,
+        // as `AcpiTables::from_validated_rsdp` wants it.
+        ensures valid { (m : Memory) (a : ℕ) → at m a (length bytes.now) ≡ Some bytes.now
+            → IfOk result (λ _. IsOk (rsdp_at m a)) }
+    {
+        self.validate_exact(bytes)
+    }
+
+    /// `validate`, by the exact clause from which its law follows.
+    #[tactic(auto, unfolding(crate::specs::Rsdp::check_rsdp))]
+    fn validate_exact(&self, bytes: &[u8]) -> AcpiResult<()>
         requires least { 36 ≤ length bytes.now }
         requires read { self.now ≡ rsdp_of bytes.now }
         ensures { result ≡ check_rsdp bytes.now }
@@ -239,6 +253,7 @@ pub(crate) fn map_rsdp<'h, H: AcpiHandler>(
 ) -> AcpiResult<PhysicalMapping<'h, H, Rsdp>>
     ensures place { IfOk result (λ m. start_of m ≡ address) }
     ensures handler { IfOk result (λ m. handler_of m ≡ handler.now) }
+    ensures lent { IfOk result (λ m. IsOfMemory (H.memory handler.now) m) }
     ensures rsdp { Gives (λ m. bytes_of m) result (rsdp_at (H.memory handler.now) address) }
 {
     let rsdp = PhysicalMapping::<'h, H, Rsdp>::map(handler, address, 36)?;

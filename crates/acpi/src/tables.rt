@@ -2,7 +2,7 @@
 ghost use Rattle.std.specs.Prelude.{◌≡◌, ◌^◌, ◌<◌, length, Some};
 ghost use Rattle.std.specs.Result.{result_ok};
 ghost use Rattle.std.proofs.Props.{props};
-ghost use Rattle.acpi_base.specs.Mapping.{start_of, bytes_of, handler_of};
+ghost use Rattle.acpi_base.specs.Mapping.{IsOfMemory, start_of, bytes_of, handler_of};
 ghost use Rattle.acpi.specs.Root.{root_at};
 
 mod opening;
@@ -33,7 +33,7 @@ pub struct AcpiTables<'h, H: AcpiHandler> {
 
 impl<'h, H: AcpiHandler> AcpiTables<'h, H> {
     ghost use Rattle.std.specs.Prelude.{◌≤◌, ◌∷◌, ◌++◌, ℕ, List};
-    ghost use Rattle.std.specs.Prelude.{IfErr, IsErr, IfOk, Ok};
+    ghost use Rattle.std.specs.Prelude.{IfErr, IsErr, IfOk, Ok, Err};
     ghost use Rattle.acpi_base.specs.Steps.{Gives, GivesOrFull};
     ghost use Rattle.acpi_base.specs.Table.{kind, table_at};
     ghost use Rattle.acpi_base.specs.declared.error.AcpiError.TheVariants.{TableMissing};
@@ -68,6 +68,7 @@ impl<'h, H: AcpiHandler> AcpiTables<'h, H> {
     fn member<T: AcpiTable>(&self, address: u64) -> AcpiResult<PhysicalMapping<'h, H, T>>
         ensures place { IfOk result (λ m. start_of m ≡ address) }
         ensures handler { IfOk result (λ m. handler_of m ≡ lender_of self.now) }
+        ensures lent { IfOk result (λ m. IsOfMemory (memory_of self.now) m) }
         ensures table { Gives (λ m. bytes_of m) result
             (table_at (memory_of self.now) (kind T.SIGNATURE T.MIN_LENGTH T.verdict) address) }
     {
@@ -78,6 +79,7 @@ impl<'h, H: AcpiHandler> AcpiTables<'h, H> {
     #[inline(always)]
     pub(crate) fn first_member<T: AcpiTable>(&self) -> AcpiResult<PhysicalMapping<'h, H, T>>
         ensures handler { IfOk result (λ m. handler_of m ≡ lender_of self.now) }
+        ensures lent { IfOk result (λ m. IsOfMemory (memory_of self.now) m) }
         ensures found { let k = kind T.SIGNATURE T.MIN_LENGTH T.verdict in
             Gives (λ m. (start_of m, bytes_of m)) result
             (lookup (memory_of self.now) k (pointers_of self.now)) }
@@ -99,6 +101,8 @@ impl<'h, H: AcpiHandler> AcpiTables<'h, H> {
     /// member that isn't lent, or fails another check, is passed over.
     pub fn find_table<T: AcpiTable>(&self) -> AcpiResult<PhysicalMapping<'h, H, T>>
         ensures handler { IfOk result (λ m. handler_of m ≡ lender_of self.now) }
+        // However many bytes were lent, all of them are the memory's.
+        ensures lent { IfOk result (λ m. IsOfMemory (memory_of self.now) m) }
         ensures exact { let k = kind T.SIGNATURE T.MIN_LENGTH T.verdict in
             Gives (λ m. (start_of m, bytes_of m)) result
             (lookup (memory_of self.now) k (pointers_of self.now)) }
@@ -115,6 +119,9 @@ impl<'h, H: AcpiHandler> AcpiTables<'h, H> {
         ensures missing { let k = kind T.SIGNATURE T.MIN_LENGTH T.verdict in
             IfErr result (λ e. (e ≡ TableMissing T.SIGNATURE)
             × NoneValid (memory_of self.now) k (pointers_of self.now)) }
+        ensures absent { let k = kind T.SIGNATURE T.MIN_LENGTH T.verdict in
+            NoneValid (memory_of self.now) k (pointers_of self.now)
+            → result ≡ Err (TableMissing T.SIGNATURE) }
         // It depends on the root table, and of the members up to the one found on the header and,
         // where this has the names and the least length, on the table.
         ensures footprint { let k = kind T.SIGNATURE T.MIN_LENGTH T.verdict in

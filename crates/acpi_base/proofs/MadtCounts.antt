@@ -2,7 +2,7 @@
 use Rattle.std.proofs.Common.{◌≡◌, ℕ, suc, ◌*◌, ◌-◌, ◌≤◌, List, [], ◌∷◌, ◌++◌, length, length-drop, drop, Option, Some, None, ap, arith, length-append}
 use Rattle.std.specs.List.{concat, AllByRecursion, filter_map, cons_option}
 use Rattle.acpi_base.specs.Entries.{IsEntry, cut}
-use Rattle.acpi_base.specs.Madt.{entries_of, entry_of, madt_lengths}
+use Rattle.acpi_base.specs.Madt.{cut_of, entries_of, entry_of, madt_lengths}
 use Rattle.acpi_base.proofs.Cuts.{cut_is_cut}
 
 two_each : (kinds : List ℕ) (es : List (List ℕ)) → AllByRecursion (IsEntry kinds) es → 2 * length es ≤ length (concat es)
@@ -23,6 +23,9 @@ length-cons_option (Some x) xs = omega arith
 length-filter_map : {X Y : Type 0} (f : X → Option Y) (xs : List X) → length (filter_map f xs) ≤ length xs
 length-filter_map f [] = omega arith
 length-filter_map f (x ∷ xs) = omega (arith, length-filter_map f xs, length-cons_option (f x) (filter_map f xs))
+
+pub cut_of_few : (table : List ℕ) → 2 * length (cut_of table).0 ≤ length table - 44
+cut_of_few table = omega (arith, cut_few madt_lengths (drop 44 table), length-drop 44 table)
 
 pub entries_few : (table : List ℕ) → 2 * length (entries_of table) ≤ length table - 44
 entries_few table = omega (arith, length-filter_map entry_of (cut madt_lengths (drop 44 table)).0, cut_few madt_lengths (drop 44 table), length-drop 44 table)

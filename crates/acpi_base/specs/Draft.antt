@@ -1,8 +1,9 @@
 -- How far a model is gathered.
-use Rattle.std.specs.Prelude.{ℕ, ◌+◌, ◌-◌, ◌≤◌, length, vec_capacity, vec_len, true, false, List, ◌++◌, drop, slice_get, Option, Some, None}
+use Rattle.std.specs.Prelude.{◌≡◌, ℕ, ◌+◌, ◌-◌, ◌≤◌, length, vec_capacity, vec_len, true, false, List, ◌++◌, drop, slice_get, Option, Some, None}
 use Rattle.std.specs.List.{filter_map}
 use Rattle.std.specs.Option.{option_map}
 use Rattle.acpi_base.specs.Model.{Model, address_in, io_apic_in, last_address, nmi_line_in, nmi_source_in, override_in, processor_in}
+use Rattle.acpi_base.specs.declared.model.counts.Counts.{Counts}
 use Rattle.acpi_base.specs.declared.model.draft.Draft.{Draft}
 use Rattle.acpi_base.specs.declared.model.interrupt.InterruptModel.TheVariants as model
 use Rattle.acpi_base.specs.declared.model.part.Part.{Part}
@@ -56,3 +57,11 @@ pub record HasRoom {A : Type 0} (d : Draft A) (parts : List Part) : Type 0 where
   pub processors :
       vec_len d.application_processors + others_in d.boot_processor parts
       ≤ vec_capacity d.application_processors
+
+-- the room is just what is counted: all processors but the boot processor are in a list
+pub record HoldsRoom {A : Type 0} (d : Draft A) (counts : Counts) : Type 0 where
+  pub io_apics : vec_capacity d.io_apics ≡ counts.io_apics
+  pub nmi_lines : vec_capacity d.nmi_lines ≡ counts.nmi_lines
+  pub overrides : vec_capacity d.overrides ≡ counts.overrides
+  pub nmi_sources : vec_capacity d.nmi_sources ≡ counts.nmi_sources
+  pub processors : vec_capacity d.application_processors ≡ counts.processors - 1

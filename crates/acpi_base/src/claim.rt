@@ -16,7 +16,7 @@ pub(crate) struct Claim<'h, H: AcpiHandler> {
 }
 
 impl<'h, H: AcpiHandler> Claim<'h, H> {
-    ghost use Rattle.std.specs.Prelude.{◌≡◌, ◌<◌, take, IfOk};
+    ghost use Rattle.std.specs.Prelude.{◌≡◌, ◌<◌, take, IfOk, IsOk};
     ghost use Rattle.acpi_base.specs.Claim.{IsLentOf, all_of, claimed_at, claimed_from, shown_by};
     ghost use Rattle.acpi_base.specs.Steps.{Gives, lent};
 
@@ -50,8 +50,8 @@ impl<'h, H: AcpiHandler> Claim<'h, H> {
         Ok(Claim::new(address, granted, size, handler))
     }
 
-    /// The `size` bytes where a claim starts: of the bytes that are lent already, where these are
-    /// as many, or else asked for anew, behind the notice for what was lent.
+    /// The `size` bytes where a claim starts: of the bytes that are lent already, if these are as
+    /// many, or else asked for anew, after the notice for what was lent.
     #[tactic(auto, using(crate::proofs::Lent::lent_front))]
     pub(crate) fn widen(self, size: usize) -> AcpiResult<Self>
         requires some { 0 < size }
@@ -62,6 +62,10 @@ impl<'h, H: AcpiHandler> Claim<'h, H> {
         ensures shown { let m = H.memory (claimed_from self.entry) in
             Gives (λ c. shown_by c) result (lent m (claimed_at self.entry) size) }
         ensures all { IfOk result (λ c. IsLentOf (H.memory (claimed_from self.entry)) c) }
+        // A loan that is long enough is kept as it is.
+        ensures enough { size ≤ length (all_of self.entry) → IsOk result }
+        ensures kept { size ≤ length (all_of self.entry)
+            → IfOk result (λ c. all_of c ≡ all_of self.entry) }
     {
         if size <= self.lent.len() {
             let Claim {

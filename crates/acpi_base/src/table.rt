@@ -2,7 +2,7 @@
 ghost use Rattle.std.specs.Prelude.{◌≡◌, ℕ, ◌+◌, ◌^◌, ◌<◌, ◌≤◌, List, length, Result, IfErr, IfOk, Ok, Err};
 ghost use Rattle.acpi_base.specs.Claim.{IsLentOf, claimed_at, claimed_from, shown_by};
 ghost use Rattle.acpi_base.specs.Header.{header_at};
-ghost use Rattle.acpi_base.specs.Mapping.{start_of, bytes_of, handler_of};
+ghost use Rattle.acpi_base.specs.Mapping.{IsOfMemory, start_of, bytes_of, handler_of};
 ghost use Rattle.acpi_base.specs.Steps.{Gives, lent};
 ghost use Rattle.acpi_base.specs.Table.{Kind, kind, own_table_at, plain_kind, table_at, table_of};
 ghost use Rattle.acpi_base.specs.Table.{whole_of};
@@ -87,6 +87,7 @@ fn claim_whole<'h, H: AcpiHandler>(
     ensures long { IfOk result (λ c. least ≤ length (shown_by c)) }
     ensures short { IfOk result (λ c. length (shown_by c) < 2 ^ 32) }
     ensures ends { IfOk result (λ c. claimed_at c + length (shown_by c) < 2 ^ 64) }
+    ensures all { IfOk result (λ c. IsLentOf (H.memory (claimed_from head.entry)) c) }
     ensures shown { let m = H.memory (claimed_from head.entry) in Gives (λ c. shown_by c) result
         (whole_of m signature least (claimed_at head.entry) (shown_by head.entry)) }
 {
@@ -109,6 +110,7 @@ fn map_named<'h, H: AcpiHandler, T: AcpiTable>(
     requires lent { IsLentOf (H.memory (claimed_from head)) head }
     ensures place { IfOk result (λ m. start_of m ≡ claimed_at head.entry) }
     ensures handler { IfOk result (λ m. handler_of m ≡ claimed_from head.entry) }
+    ensures lent { IfOk result (λ m. IsOfMemory (H.memory (claimed_from head.entry)) m) }
     ensures table { let m = H.memory (claimed_from head.entry) in Gives (λ x. bytes_of x) result
         (table_of m (kind T.SIGNATURE T.MIN_LENGTH T.verdict)
         (claimed_at head.entry) (shown_by head.entry)) }
@@ -133,6 +135,8 @@ pub fn map_table<'h, H: AcpiHandler, T: AcpiTable>(
 ) -> AcpiResult<PhysicalMapping<'h, H, T>>
     ensures place { IfOk result (λ m. start_of m ≡ address) }
     ensures handler { IfOk result (λ m. handler_of m ≡ handler.now) }
+    // However many bytes were lent, all of them are the memory's.
+    ensures lent { IfOk result (λ m. IsOfMemory (H.memory handler.now) m) }
     ensures table { Gives (λ m. bytes_of m) result
         (table_at (H.memory handler.now) (kind T.SIGNATURE T.MIN_LENGTH T.verdict) address) }
 {
@@ -153,6 +157,7 @@ fn map_plain<'h, H: AcpiHandler>(
     requires shown { lent (H.memory (claimed_from head)) (claimed_at head) 36 ≡ Ok (shown_by head) }
     ensures place { IfOk result (λ m. start_of m ≡ claimed_at head.entry) }
     ensures handler { IfOk result (λ m. handler_of m ≡ claimed_from head.entry) }
+    ensures lent { IfOk result (λ m. IsOfMemory (H.memory (claimed_from head.entry)) m) }
     ensures short { IfOk result (λ m. length (bytes_of m) < 2 ^ 32) }
     ensures ends { IfOk result (λ m. start_of m + length (bytes_of m) < 2 ^ 64) }
     ensures table { let m = H.memory (claimed_from head.entry) in Gives (λ x. bytes_of x) result
@@ -180,6 +185,8 @@ pub fn map_sdt<'h, H: AcpiHandler>(
 ) -> AcpiResult<PhysicalMapping<'h, H, SdtHeader>>
     ensures place { IfOk result (λ m. start_of m ≡ address) }
     ensures handler { IfOk result (λ m. handler_of m ≡ handler.now) }
+    // However many bytes were lent, all of them are the memory's.
+    ensures lent { IfOk result (λ m. IsOfMemory (H.memory handler.now) m) }
     ensures short { IfOk result (λ m. length (bytes_of m) < 2 ^ 32) }
     ensures ends { IfOk result (λ m. start_of m + length (bytes_of m) < 2 ^ 64) }
     ensures table { Gives (λ m. bytes_of m) result
@@ -200,6 +207,8 @@ pub fn map_own_sdt<'h, H: AcpiHandler>(
 ) -> AcpiResult<PhysicalMapping<'h, H, SdtHeader>>
     ensures place { IfOk result (λ m. start_of m ≡ address) }
     ensures handler { IfOk result (λ m. handler_of m ≡ handler.now) }
+    // However many bytes were lent, all of them are the memory's.
+    ensures lent { IfOk result (λ m. IsOfMemory (H.memory handler.now) m) }
     ensures table { Gives (λ m. bytes_of m) result (own_table_at (H.memory handler.now) address) }
 {
     let head = Claim::request(handler, address, SdtHeader::MIN_LENGTH)?;

@@ -3,7 +3,7 @@ ghost use Rattle.std.specs.Prelude.{◌≡◌, ◌<◌, ◌≤◌, ◌^◌, ◌+
 ghost use Rattle.std.specs.Option.{option_map};
 ghost use Rattle.std.specs.Str.{bytes_eq};
 ghost use Rattle.acpi_base.specs.Bytes.{part};
-ghost use Rattle.acpi_base.specs.Mapping.{handler_of};
+ghost use Rattle.acpi_base.specs.Mapping.{IsOfMemory, handler_of};
 ghost use Rattle.acpi_base.specs.Steps.{Gives, lent};
 ghost use Rattle.acpi.specs.Rsdp.{rsd_ptr};
 ghost use Rattle.acpi.specs.Search.{count_of, found_in, found_rsdp, placed, room_of, walk, word_in};
@@ -35,6 +35,7 @@ fn first_candidate<'h, H: AcpiHandler>(
     requires low { area.end < 2 ^ 32 }
     requires lent { lent (H.memory handler.now) area.start (room_of area) ≡ Ok bytes.now }
     ensures handler { IfSome result (λ m. handler_of m ≡ handler.now) }
+    ensures lent { IfSome result (λ m. IsOfMemory (H.memory handler.now) m) }
     ensures found { option_map placed result
         ≡ walk (H.memory handler.now) (count_of area) area.start }
 {
@@ -63,6 +64,7 @@ fn search_area<'h, H: AcpiHandler>(
     requires some { area.start + 20 ≤ area.end }
     requires low { area.end < 2 ^ 32 }
     ensures handler { IfOk result (λ o. IfSome o (λ m. handler_of m ≡ handler.now)) }
+    ensures lent { IfOk result (λ o. IfSome o (λ m. IsOfMemory (H.memory handler.now) m)) }
     ensures found { Gives (option_map placed) result (found_in (H.memory handler.now) area) }
 {
     let length = (area.end - area.start + 16) as usize;
@@ -83,6 +85,7 @@ fn area_word<H: AcpiHandler>(handler: &H) -> AcpiResult<u16>
 #[tactic(auto, unfolding(crate::specs::Search::found_rsdp))]
 fn search_areas<'h, H: AcpiHandler>(handler: &'h H) -> AcpiResult<PhysicalMapping<'h, H, Rsdp>>
     ensures handler { IfOk result (λ m. handler_of m ≡ handler.now) }
+    ensures lent { IfOk result (λ m. IsOfMemory (H.memory handler.now) m) }
     ensures found { Gives placed result (found_rsdp (H.memory handler.now)) }
 {
     let word = area_word(handler)?;
@@ -117,6 +120,8 @@ impl Rsdp {
         handler: &'h H,
     ) -> AcpiResult<PhysicalMapping<'h, H, Rsdp>>
         ensures handler { IfOk result (λ m. handler_of m ≡ handler.now) }
+        // However many bytes were lent, all of them are the memory's.
+        ensures lent { IfOk result (λ m. IsOfMemory (H.memory handler.now) m) }
         ensures exact { Gives placed result (found_rsdp (H.memory handler.now)) }
         ensures valid { IfOk result (λ m. IsOk (rsdp_at (H.memory handler.now) (start_of m))) }
         // In the reader's words: the least valid candidate, or the cause of the refusal.

@@ -22,12 +22,14 @@ impl<'a> MadtEntryIter<'a> {
 
     /// The entries of a MADT's bytes: those behind its 44 fixed ones. It knows no memory and no
     /// handler.
-    #[tactic(auto, using(crate::proofs::MadtCounts::entries_few))]
+    #[tactic(auto, using(crate::proofs::MadtCounts::entries_few, crate::proofs::MadtCounts::cut_of_few))]
     pub fn over(table: &'a [u8]) -> Self
         ensures items { entries_left result ≡ entries_of table.now }
         ensures rest { rest_left result ≡ (cut_of table.now).1 }
         ensures begun { has_ended result ≡ false }
         ensures few { 2 * length (entries_left result) ≤ length table.now - 44 }
+        // So few are all entries, those of other kinds among them, that a walk steps over.
+        ensures all_few { 2 * length (cut_of table.now).0 ≤ length table.now - 44 }
     {
         MadtEntryIter {
             rest: skip(table, Madt::MIN_LENGTH),

@@ -28,17 +28,18 @@ pub(super) struct Draft<A: Allocator> {
 
 impl<A: Allocator + Clone> Draft<A> {
     ghost use Rattle.std.specs.Prelude.{IfOk, IfErr, List};
-    ghost use Rattle.acpi_base.specs.Draft.{HasRoom, model_behind};
+    ghost use Rattle.acpi_base.specs.Draft.{HasRoom, HoldsRoom, model_behind};
     ghost use Rattle.acpi_base.specs.Model.{gathered};
     ghost use Rattle.acpi_base.specs.Parts.{counts_of};
     ghost use Rattle.acpi_base.specs.declared.model.part.Part.{Part};
 
-    /// Nothing yet, with room for as many as are counted.
+    /// Nothing yet, with room for exactly as many as are counted.
     ///
     /// Refuses with `AllocError` where a growth is refused, or a clone of the allocator.
     pub(super) fn with_room(madt: &Madt, counts: Counts, allocator: A) -> AcpiResult<Self>
         ensures room { IfOk result (λ d. (parts : List Part) → counts_of parts ≡ counts
             → HasRoom d parts) }
+        ensures exact { IfOk result (λ d. HoldsRoom d counts) }
         ensures begun { IfOk result (λ d. (parts : List Part)
             → model_behind d parts ≡ gathered madt.now parts) }
         ensures refused { IfErr result (λ e. e ≡ NoMemory) }

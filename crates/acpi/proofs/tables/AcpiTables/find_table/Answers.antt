@@ -1,7 +1,7 @@
 use Rattle.acpi_base.specs.Table.{kind}
 use Rattle.acpi.proofs.Agreed.{from_tables, same_lookup}
 use Rattle.acpi_base.specs.Mapping.{bytes_of, start_of}
-use Rattle.acpi.proofs.First.{gives_first, gives_missing}
+use Rattle.acpi.proofs.First.{gives_absent, gives_first, gives_missing}
 use Rattle.acpi.proofs.Passed.{gives_skipping}
 use Rattle.acpi.proofs.tables.AcpiTables.find_table.Goals as goal
 
@@ -10,6 +10,9 @@ returns-clause-first g c = gives_first _ _ _ (λ m. start_of m) (λ m. bytes_of 
 
 pub returns-clause-missing : goal.returns-clause-missing
 returns-clause-missing g c = gives_missing _ _ _ (λ m. (start_of m, bytes_of m)) _ c.first_member.ensures.found
+
+pub returns-clause-absent : goal.returns-clause-absent
+returns-clause-absent g c = gives_absent _ _ _ (λ m. (start_of m, bytes_of m)) _ c.first_member.ensures.found
 
 pub returns-clause-skips : goal.returns-clause-skips
 returns-clause-skips g c = gives_skipping _ _ _ (λ m. (start_of m, bytes_of m)) _ c.first_member.ensures.found
