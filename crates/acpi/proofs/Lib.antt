@@ -1,6 +1,7 @@
 pub mod Brief
 pub mod Agreed
 pub mod AgreedOpened
+pub mod Calls
 pub mod First
 pub mod Least
 pub mod Led

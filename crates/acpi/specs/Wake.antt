@@ -1,12 +1,15 @@
 -- Waking a processor by the mailbox (ACPI 6.4, section 5.2.12.19).
-use Rattle.std.specs.Prelude.{◌≡◌, ◌≢◌, ◌<◌, ◌+◌, ℕ, List, Option, Result}
+use Rattle.std.specs.Prelude.{◌≡◌, ◌≢◌, ◌<◌, ◌+◌, ◌++◌, ℕ, List, [], ◌∷◌, Option, Result, replicate}
 use Rattle.acpi_base.specs.Madt.{mailbox_of}
 use Rattle.acpi_base.specs.Memory.{Memory}
 use Rattle.acpi_base.specs.Steps.{◌>>=◌}
 use Rattle.acpi_base.specs.declared.error.AcpiError.{AcpiError}
 use Rattle.acpi.specs.Lookup.{lookup}
 use Rattle.acpi.specs.Platform.{madt_kind}
+use Rattle.acpi.specs.declared.platform.mailbox.MailboxCall.{MailboxCall}
+use Rattle.acpi.specs.declared.platform.mailbox.MailboxCall.TheVariants.{Opened, Read, Wrote}
 use Rattle.acpi.specs.declared.platform.mailbox.MailboxWrite.{MailboxWrite}
+use Rattle.acpi.specs.declared.platform.mailbox.MailboxWrite.TheVariants.{ApicId, Command, WakeupVector}
 
 -- where the mailbox of the first valid MADT lies
 abbrev pub mailbox_found : Memory → List ℕ → Result ℕ AcpiError
@@ -43,3 +46,29 @@ Wakes before n after =
 -- no answer under n is 0, and n were read
 abbrev pub Waits : (ℕ → ℕ) → ℕ → (ℕ → ℕ) → Type 0
 Waits before n after = NoneBelow before n × AfterReads before n after
+
+-- ---- the calls that are made
+
+-- these calls and no others lead from one state of a mailbox to another, one after the other
+abbrev pub Makes : {Mailbox : Type 0} → (Mailbox → MailboxCall → Mailbox → Type 0) → Mailbox
+    → List MailboxCall → Mailbox → Type 0
+Makes called before [] after = after ≡ before
+Makes {Mailbox = Mailbox} called before (call ∷ calls) after =
+    (next : Mailbox) × called before call next × Makes called next calls after
+
+-- so many reads of the command
+abbrev pub reads : ℕ → List MailboxCall
+reads n = replicate n Read
+
+-- what is done before the command is read: the mailbox is opened, and gets the command 0, the id,
+-- the vector, the command 1
+abbrev pub wakes_by : ℕ → ℕ → ℕ → List MailboxCall
+wakes_by address id vector =
+    Opened address ∷ Wrote (Command 0) ∷ Wrote (ApicId id) ∷ Wrote (WakeupVector vector)
+    ∷ Wrote (Command 1) ∷ []
+
+-- after these calls the command is read up to the first answer 0, and no further
+abbrev pub MakesUntilWoken : {Mailbox : Type 0} → (Mailbox → MailboxCall → Mailbox → Type 0)
+    → (ℕ → ℕ) → Mailbox → List MailboxCall → Mailbox → Type 0
+MakesUntilWoken called answer before calls after =
+    (i : ℕ) × (answer i ≡ 0) × NoneBelow answer i × Makes called before (calls ++ reads (i + 1)) after

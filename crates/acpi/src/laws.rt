@@ -4,7 +4,7 @@ ghost use Rattle.acpi_base.specs.Equality.{IsEquality};
 ghost use Rattle.acpi_base.specs.declared.model.interrupt.InterruptModel.TheVariants.{Unknown};
 
 use crate::hpet::PageProtection;
-use crate::platform::{MailboxWrite, PlatformInfo, PmTimer};
+use crate::platform::{MailboxCall, MailboxWrite, PlatformInfo, PmTimer};
 use crate::records::{AmlTable, Sdt, TableFault};
 use std::alloc::{AllocError, Allocator};
 
@@ -45,6 +45,13 @@ pub fn protection_equality(a: &PageProtection, b: &PageProtection) -> bool
 
 /// Writes to a mailbox compare as equal exactly where they are one.
 pub fn mailbox_write_equality(a: &MailboxWrite, b: &MailboxWrite) -> bool
+    ensures { IsEquality result a.now b.now }
+{
+    a == b
+}
+
+/// Calls of a mailbox compare as equal exactly where they are one.
+pub fn mailbox_call_equality(a: &MailboxCall, b: &MailboxCall) -> bool
     ensures { IsEquality result a.now b.now }
 {
     a == b

@@ -17,7 +17,7 @@ pub use acpi_base::model::{ModelAndProcessors, Processor, ProcessorInfo, Process
 use acpi_base::{AcpiHandler, AcpiResult};
 use acpi_fixed::fadt::{FadtBrief, PowerProfile};
 use interrupt::InterruptModel;
-pub use mailbox::{Mailbox, MailboxWrite};
+pub use mailbox::{Mailbox, MailboxCall, MailboxWrite};
 pub use scripted::ScriptedMailbox;
 use std::alloc::{Allocator, Global};
 pub use timer::PmTimer;

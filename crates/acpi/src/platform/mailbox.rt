@@ -2,6 +2,7 @@
 ghost use Rattle.std.specs.Prelude.{◌≡◌, ◌+◌, ◌++◌, ◌<◌, ◌∷◌, ℕ, List, [], length};
 ghost use Rattle.std.specs.Prelude.{OnErr, OnOk, Option, Result, Some};
 ghost use Rattle.acpi_base.specs.declared.error.AcpiError.{AcpiError};
+ghost use Rattle.acpi.specs.declared.platform.mailbox.MailboxCall.{MailboxCall};
 ghost use Rattle.acpi.specs.declared.platform.mailbox.MailboxWrite.{MailboxWrite};
 
 use acpi_base::AcpiResult;
@@ -17,11 +18,26 @@ pub enum MailboxWrite {
     WakeupVector(u64),
 }
 
+/// One call of a mailbox.
+#[derive(Clone, Copy, Debug, PartialEq, Eq)]
+pub enum MailboxCall {
+    /// It was opened at this physical address.
+    Opened(u64),
+    /// This was written to it.
+    Wrote(MailboxWrite),
+    /// Its command was read.
+    Read,
+}
+
 /// A mailbox (section 5.2.12.19), as a kernel or a test reaches it.
 ///
-/// It means four things: for each address the answer that `open` gives there, the address that was
-/// opened, the writes since then, and for each number i the answer of the i-th read from now. Only
-/// `open` can fail.
+/// It means five things: for each address the answer that `open` gives there, the address that was
+/// opened, the writes since then, for each number i the answer of the i-th read from now, and to
+/// which state a call leads from which one. Only `open` can fail.
+///
+/// The answers of reads are those that the mailbox still has to give, whatever is written to it. So
+/// of a real mailbox it is asked that its implementor says beforehand what the firmware is going to
+/// answer; no proof shows that a real one answers so, or at all.
 pub trait Mailbox {
     // What `open` answers at each address.
     ghost open_answer: { Self → ℕ → Result (Unit {0}) AcpiError };
@@ -35,11 +51,16 @@ pub trait Mailbox {
     // The answer of the i-th read from now, counted from 0.
     ghost answer: { Self → ℕ → ℕ };
 
+    // This call leads from the one state to the other.
+    ghost called: { Self → MailboxCall → Self → Type 0 };
+
     /// Opens the mailbox at a physical address, with no writes yet.
     ///
     /// Refuses as it likes, and then changes nothing.
     fn open(&mut self, address: u64) -> AcpiResult<()>
         ensures answered { result ≡ open_answer self.old address }
+        ensures made { OnOk result (called self.old (MailboxCall.Opened address) self.new) }
+        ensures unchanged { OnErr result (self.new ≡ self.old) }
         ensures ok { OnOk result ((opened self.new ≡ Some address) × (writes self.new ≡ [])) }
         ensures refused { OnErr result
             ((opened self.new ≡ opened self.old) × (writes self.new ≡ writes self.old)) }
@@ -49,6 +70,7 @@ pub trait Mailbox {
     /// Writes the command.
     fn write_command(&mut self, command: u16)
         requires { length (writes self.old) < 4 }
+        ensures made { called self.old (MailboxCall.Wrote (MailboxWrite.Command command)) self.new }
         ensures written { writes self.new ≡ writes self.old ++ MailboxWrite.Command command ∷ [] }
         ensures opened_kept { opened self.new ≡ opened self.old }
         ensures reads_kept { (i : ℕ) → answer self.new i ≡ answer self.old i }
@@ -57,6 +79,7 @@ pub trait Mailbox {
     /// Writes the id of the local APIC that the command is for.
     fn write_apic_id(&mut self, id: u32)
         requires { length (writes self.old) < 4 }
+        ensures made { called self.old (MailboxCall.Wrote (MailboxWrite.ApicId id)) self.new }
         ensures written { writes self.new ≡ writes self.old ++ MailboxWrite.ApicId id ∷ [] }
         ensures opened_kept { opened self.new ≡ opened self.old }
         ensures reads_kept { (i : ℕ) → answer self.new i ≡ answer self.old i }
@@ -65,6 +88,7 @@ pub trait Mailbox {
     /// Writes the physical address that the processor begins to run at.
     fn write_wakeup_vector(&mut self, vector: u64)
         requires { length (writes self.old) < 4 }
+        ensures made { called self.old (MailboxCall.Wrote (MailboxWrite.WakeupVector vector)) self.new }
         ensures written { writes self.new
             ≡ writes self.old ++ MailboxWrite.WakeupVector vector ∷ [] }
         ensures opened_kept { opened self.new ≡ opened self.old }
@@ -74,6 +98,7 @@ pub trait Mailbox {
     /// Reads the command. The firmware sets it to 0 once it has taken it.
     fn read_command(&mut self) -> u16
         ensures answered { result ≡ answer self.old 0 }
+        ensures made { called self.old MailboxCall.Read self.new }
         ensures moved { (i : ℕ) → answer self.new i ≡ answer self.old (i + 1) }
         ensures opened_kept { opened self.new ≡ opened self.old }
         ensures written_kept { writes self.new ≡ writes self.old }

@@ -1,11 +1,12 @@
 //! A mailbox that answers from a script, for tests and dry runs.
 ghost use Rattle.std.specs.Prelude.{◌≤◌};
 
-use super::mailbox::{Mailbox, MailboxWrite};
+use super::mailbox::{Mailbox, MailboxCall, MailboxWrite};
 use acpi_base::AcpiResult;
 
 /// A mailbox that can be opened anywhere, gives these answers to the reads, and then 1 for ever. It
-/// shows what was done to it.
+/// shows what was done to it: the first 32 calls, the address opened last, the writes since then, and
+/// how many reads there were.
 #[derive(Drop)]
 pub struct ScriptedMailbox<'a> {
     answers: &'a [u16],
@@ -13,12 +14,16 @@ pub struct ScriptedMailbox<'a> {
     writes: [MailboxWrite; 4],
     written: usize,
     reads: u64,
+    calls: [MailboxCall; 32],
+    called: usize,
     ghost room: { written ≤ 4 },
+    ghost listed: { called ≤ 32 },
 }
 
 impl<'a> ScriptedMailbox<'a> {
     ghost use Rattle.std.specs.Prelude.{◌≡◌, ◌<◌, ◌++◌, ◌∷◌, ℕ, [], None, slice_index_or, take};
-    ghost use Rattle.acpi.specs.Scripted.{reads_of};
+    ghost use Rattle.acpi.specs.Scripted.{Lists, calls_of, reads_of};
+    ghost use Rattle.acpi.specs.declared.platform.mailbox.MailboxCall.{MailboxCall};
 
     /// A mailbox that gives these answers, from the first on. It isn't opened yet.
     pub fn new(answers: &'a [u16]) -> ScriptedMailbox<'a>
@@ -27,6 +32,7 @@ impl<'a> ScriptedMailbox<'a> {
         ensures opened { ⟦<ScriptedMailbox<'a> as Mailbox>⟧.opened result ≡ None }
         ensures writes { ⟦<ScriptedMailbox<'a> as Mailbox>⟧.writes result ≡ [] }
         ensures reads { reads_of result ≡ 0 }
+        ensures calls { calls_of result ≡ [] }
     {
         ScriptedMailbox {
             answers,
@@ -34,6 +40,8 @@ impl<'a> ScriptedMailbox<'a> {
             writes: [MailboxWrite::Command(0); 4],
             written: 0,
             reads: 0,
+            calls: [MailboxCall::Read; 32],
+            called: 0,
         }
     }
 
@@ -51,11 +59,33 @@ impl<'a> ScriptedMailbox<'a> {
         &self.writes[..self.written]
     }
 
+    /// The calls that were made of it, in order: all of them, or the first 32 if there were more.
+    pub fn calls(&self) -> &[MailboxCall]
+        ensures { result.now ≡ calls_of self.now }
+    {
+        &self.calls[..self.called]
+    }
+
     /// How many reads there were, since it was made; it stays at the greatest `u64`.
     pub fn reads(&self) -> u64
         ensures { result ≡ reads_of self.now }
     {
         self.reads
+    }
+
+    /// Lists one more call, if there is room for it.
+    fn list(&mut self, call: MailboxCall)
+        ensures listed { Lists self.old call self.new }
+        ensures written { take self.new.written self.new.writes
+            ≡ take self.old.written self.old.writes }
+        ensures opened { self.new.opened ≡ self.old.opened }
+        ensures answers { self.new.answers.now ≡ self.old.answers.now }
+        ensures reads { self.new.reads ≡ self.old.reads }
+    {
+        if self.called < self.calls.len() {
+            self.calls[self.called] = call;
+            self.called += 1;
+        }
     }
 
     /// Keeps one more write.
@@ -66,15 +96,18 @@ impl<'a> ScriptedMailbox<'a> {
         ensures opened { self.new.opened ≡ self.old.opened }
         ensures answers { self.new.answers.now ≡ self.old.answers.now }
         ensures reads { self.new.reads ≡ self.old.reads }
+        ensures listed { Lists self.old (MailboxCall.Wrote write) self.new }
     {
         self.writes[self.written] = write;
         self.written += 1;
+        self.list(MailboxCall::Wrote(write));
     }
 }
 
 impl<'a> Mailbox for ScriptedMailbox<'a> {
     ghost use Rattle.std.specs.Prelude.{◌≡◌, ◌+◌, ◌-◌, ◌^◌, ◌<◌, ℕ, [], Ok, Some, length, min};
-    ghost use Rattle.acpi.specs.Scripted.{Puts, answer_of, opened_of, reads_of, writes_of};
+    ghost use Rattle.acpi.specs.Scripted.{Lists, Puts, answer_of, opened_of, reads_of, writes_of};
+    ghost use Rattle.acpi.specs.declared.platform.mailbox.MailboxCall.{MailboxCall};
     ghost use Rattle.acpi.specs.declared.platform.mailbox.MailboxWrite.{MailboxWrite};
 
     ghost open_answer = { λ _ _. Ok tt };
@@ -85,14 +118,18 @@ impl<'a> Mailbox for ScriptedMailbox<'a> {
 
     ghost answer = { λ s i. answer_of s i };
 
+    ghost called = { λ s c t. Lists s c t };
+
     fn open(&mut self, address: u64) -> AcpiResult<()>
         ensures answered { result ≡ Ok tt }
         ensures opened { (opened_of self.new ≡ Some address) × (writes_of self.new ≡ []) }
         ensures reads_kept { (i : ℕ) → answer_of self.new i ≡ answer_of self.old i }
         ensures count_kept { reads_of self.new ≡ reads_of self.old }
+        ensures made { Lists self.old (MailboxCall.Opened address) self.new }
     {
         self.opened = Some(address);
         self.written = 0;
+        self.list(MailboxCall::Opened(address));
         Ok(())
     }
 
@@ -123,7 +160,9 @@ impl<'a> Mailbox for ScriptedMailbox<'a> {
         ensures opened_kept { opened_of self.new ≡ opened_of self.old }
         ensures written_kept { writes_of self.new ≡ writes_of self.old }
         ensures counted { reads_of self.new ≡ min (reads_of self.old + 1) (2 ^ 64 - 1) }
+        ensures made { Lists self.old MailboxCall.Read self.new }
     {
+        self.list(MailboxCall::Read);
         self.reads = self.reads.saturating_add(1);
         match self.answers {
             [] => 1,

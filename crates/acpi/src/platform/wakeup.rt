@@ -1,12 +1,13 @@
 //! Waking a processor by the mailbox.
-ghost use Rattle.std.specs.Prelude.{◌≡◌, ℕ, [], ◌∷◌, OnOk, MatchResult, Some, Ok, Err};
+ghost use Rattle.std.specs.Prelude.{◌≡◌, ℕ, ◌++◌, [], ◌∷◌, OnOk, MatchResult, Some, Ok, Err};
 ghost use Rattle.acpi_base.specs.declared.error.AcpiError.{AcpiError};
 ghost use Rattle.acpi_base.specs.declared.error.AcpiError.TheVariants.{InvalidMadt};
 ghost use Rattle.acpi_base.specs.declared.error.MadtError.TheVariants.{WakeupApsTimeout};
 ghost use Rattle.acpi.specs.Footprint.{FootprintBelow, lookup_ranges};
 ghost use Rattle.acpi.specs.Platform.{madt_kind};
 ghost use Rattle.acpi.specs.Tables.{memory_of, pointers_of};
-ghost use Rattle.acpi.specs.Wake.{IsUntouched, Waits, Wakes, mailbox_found, opening};
+ghost use Rattle.acpi.specs.Wake.{IsUntouched, Makes, MakesUntilWoken, Waits, Wakes};
+ghost use Rattle.acpi.specs.Wake.{mailbox_found, opening, reads, wakes_by};
 ghost use Rattle.acpi.specs.declared.platform.mailbox.MailboxWrite.{MailboxWrite};
 
 use super::mailbox::Mailbox;
@@ -34,6 +35,16 @@ pub fn wakeup_aps<H: AcpiHandler, M: Mailbox>(
         → opening (M.open_answer mailbox.old) (mailbox_found (memory_of tables.now)
         (pointers_of tables.now)) ≡ Err e
         → (result ≡ Err e) × IsUntouched M.opened M.writes M.answer mailbox.old mailbox.new }
+    ensures unchanged { (e : AcpiError)
+        → opening (M.open_answer mailbox.old) (mailbox_found (memory_of tables.now)
+        (pointers_of tables.now)) ≡ Err e → mailbox.new ≡ mailbox.old }
+    // These calls are made of the mailbox, in this order, and no others.
+    ensures made { (a : ℕ) → mailbox_found (memory_of tables.now) (pointers_of tables.now) ≡ Ok a
+        → OnOk (M.open_answer mailbox.old a) (MatchResult result
+        (λ _. MakesUntilWoken M.called (M.answer mailbox.old) mailbox.old
+        (wakes_by a apic_id wakeup_vector) mailbox.new)
+        (λ _. Makes M.called mailbox.old
+        (wakes_by a apic_id wakeup_vector ++ reads timeout_loops) mailbox.new)) }
     ensures answers_kept { (a : ℕ) → M.open_answer mailbox.new a ≡ M.open_answer mailbox.old a }
     ensures opened { (a : ℕ) → mailbox_found (memory_of tables.now) (pointers_of tables.now) ≡ Ok a
         → OnOk (M.open_answer mailbox.old a) (M.opened mailbox.new ≡ Some a) }
@@ -51,12 +62,22 @@ pub fn wakeup_aps<H: AcpiHandler, M: Mailbox>(
     ensures footprint { FootprintBelow tables.now (λ m. lookup_ranges m madt_kind) mailbox_found
         (λ said. mailbox_found (memory_of tables.now) (pointers_of tables.now) ≡ said) }
 {
-    let madt = tables.find_table::<Madt>()?;
-    let address = madt.get_mpwk_mailbox_addr()?;
+    let address = mailbox_address(tables)?;
     wake(mailbox, address, apic_id, wakeup_vector, timeout_loops)
 }
 
+/// The address of the mailbox of the first valid MADT.
+///
+/// Refuses with `TableMissing` if no valid MADT is listed, and then with what
+/// `get_mpwk_mailbox_addr` refuses.
+fn mailbox_address<H: AcpiHandler>(tables: &AcpiTables<'_, H>) -> AcpiResult<u64>
+    ensures { result ≡ mailbox_found (memory_of tables.now) (pointers_of tables.now) }
+{
+    tables.find_table::<Madt>()?.get_mpwk_mailbox_addr()
+}
+
 /// Wakes a processor by the mailbox at an address.
+#[tactic(auto, using(crate::proofs::Calls::woken_after, crate::proofs::Calls::makes_append))]
 fn wake<M: Mailbox>(
     mailbox: &mut M,
     address: u64,
@@ -66,6 +87,13 @@ fn wake<M: Mailbox>(
 ) -> AcpiResult<()>
     ensures refused { (e : AcpiError) → M.open_answer mailbox.old address ≡ Err e
         → (result ≡ Err e) × IsUntouched M.opened M.writes M.answer mailbox.old mailbox.new }
+    ensures unchanged { (e : AcpiError) → M.open_answer mailbox.old address ≡ Err e
+        → mailbox.new ≡ mailbox.old }
+    ensures made { OnOk (M.open_answer mailbox.old address) (MatchResult result
+        (λ _. MakesUntilWoken M.called (M.answer mailbox.old) mailbox.old
+        (wakes_by address apic_id wakeup_vector) mailbox.new)
+        (λ _. Makes M.called mailbox.old
+        (wakes_by address apic_id wakeup_vector ++ reads timeout_loops) mailbox.new)) }
     ensures answers_kept { (a : ℕ) → M.open_answer mailbox.new a ≡ M.open_answer mailbox.old a }
     ensures opened { OnOk (M.open_answer mailbox.old address)
         (M.opened mailbox.new ≡ Some address) }
@@ -87,11 +115,15 @@ fn wake<M: Mailbox>(
 
 /// Reads the command until it is 0, at most `timeout_loops` times. Refuses with
 /// `InvalidMadt(WakeupApsTimeout)` where no read is 0.
+#[tactic(auto, using(crate::proofs::Calls::one_read, crate::proofs::Calls::woken))]
 fn wait<M: Mailbox>(mailbox: &mut M, timeout_loops: u64) -> AcpiResult<()>
     ensures answered { MatchResult result
         (λ _. Wakes (M.answer mailbox.old) timeout_loops (M.answer mailbox.new))
         (λ e. (e ≡ InvalidMadt WakeupApsTimeout)
         × Waits (M.answer mailbox.old) timeout_loops (M.answer mailbox.new)) }
+    ensures made { MatchResult result
+        (λ _. MakesUntilWoken M.called (M.answer mailbox.old) mailbox.old [] mailbox.new)
+        (λ _. Makes M.called mailbox.old (reads timeout_loops) mailbox.new) }
     ensures opened_kept { M.opened mailbox.new ≡ M.opened mailbox.old }
     ensures written_kept { M.writes mailbox.new ≡ M.writes mailbox.old }
     ensures answers_kept { (a : ℕ) → M.open_answer mailbox.new a ≡ M.open_answer mailbox.old a }
