@@ -56,6 +56,15 @@ impl Row {
         Ok(file)
     }
 
+    /// The same kind and the same bytes.
+    fn copied(&self, alloc: Global) -> Result<(String, Vec<Region>), AllocError> {
+        let mut regions = Vec::new(alloc);
+        for region in &self.regions {
+            regions.push(region.copied()?)?;
+        }
+        Ok((self.kind.clone()?, regions))
+    }
+
     /// Takes the region at an address out.
     fn take_out(&mut self, address: &str) -> Option<Region> {
         let address = parse_address(address)?;
@@ -157,13 +166,12 @@ impl Rows {
 
     /// Gives the row the bytes of an earlier one.
     fn take_bytes_of(&mut self, name: &str) -> Result<bool, AllocError> {
-        let Some(like) = self.earlier.iter().find(|row| row.name.as_str() == name) else {
+        let Some(like) = self.earlier_row(name) else {
             return Ok(false);
         };
-        self.row.kind = like.kind.clone()?;
-        for region in &like.regions {
-            self.row.regions.push(region.copied()?)?;
-        }
+        let (kind, regions) = like.copied(self.alloc)?;
+        self.row.kind = kind;
+        self.row.regions = regions;
         Ok(true)
     }
 

@@ -30,19 +30,24 @@ pub fn ask_rows<A: Answers>(rt: &HostRuntime, answers: &A) -> io::Result<()> {
     let mut count = 0u64;
     for line in rt.lines(rt.alloc()) {
         let line = line?;
-        if rows.take(line.as_str())? {
-            continue;
+        if !rows.take(line.as_str())? && ask(rt, answers, &rows.row, line.as_str())? {
+            count = count.wrapping_add(1);
         }
-        let row = &rows.row;
-        let Some((question, wanted)) = line.split_once(": ") else {
-            println!(rt; "{}: not understood: {line}", row.name)?;
-            continue;
-        };
-        let answer = answers.answer(rt.alloc(), row, question)?;
-        if answer.as_str() != wanted {
-            println!(rt; "{}: {question}: {answer}, not {wanted}", row.name)?;
-        }
-        count = count.wrapping_add(1);
     }
     println!(rt; "{count} questions")
+}
+
+/// Asks what a line asks about a row, and prints what is wrong. It says whether the line is a
+/// question.
+fn ask<A: Answers>(rt: &HostRuntime, answers: &A, row: &Row, line: &str) -> io::Result<bool> {
+    let name = row.name.as_str();
+    let Some((question, wanted)) = line.split_once(": ") else {
+        println!(rt; "{name}: not understood: {line}")?;
+        return Ok(false);
+    };
+    let answer = answers.answer(rt.alloc(), row, question)?;
+    if answer.as_str() != wanted {
+        println!(rt; "{name}: {question}: {answer}, not {wanted}")?;
+    }
+    Ok(true)
 }
