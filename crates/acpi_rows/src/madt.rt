@@ -1,8 +1,8 @@
 //! The entries of a MADT, its fixed fields, and the interrupts that it describes.
 
 use crate::named::field_of;
+use acpi::PhysicalMapping;
 use acpi::platform::interrupt::InterruptModel;
-use acpi::{AcpiResult, PhysicalMapping};
 use acpi_base::madt::{Madt, MadtEntry, MadtEntryIter};
 use acpi_lenders::example::Window;
 use acpi_lenders::rows::shown;
