@@ -7,6 +7,7 @@ pub mod caller;
 pub mod example;
 pub mod handlers;
 pub mod history;
+pub mod rows;
 pub mod samples;
 pub mod watched;
 pub mod writer;

@@ -1,4 +1,5 @@
 //! The README's callers.
+ghost use Rattle.std.specs.Prelude.{◌<◌};
 
 use acpi::sdt::Signature;
 use acpi::{AcpiError, AcpiHandler};
@@ -11,25 +12,25 @@ use acpi_lenders::samples::{front, put_graphic};
 use acpi_lenders::writer::{GuestError, tables_of_guest};
 use std::test::Fail;
 
+/// How many bytes a window lends from an address on, where so many are asked for.
+fn lent(window: &Window<'_>, address: u64, size: usize) -> Option<usize>
+    requires { 0 < size }
+{
+    let region = window.map_physical_region(address, size).ok()?;
+    Some(region.len())
+}
+
 #[test]
 fn a_window_lends_what_lies_inside_it(rt: HostRuntime) {
     let memory = [1, 2, 3, 4];
     let window = Window::new(0x1000, &memory);
-    for (address, size, length) in [
-        (0x1000, 1, Some(4)),
-        (0x1003, 1, Some(1)),
-        (0xFFF, 1, None),
-        (0x1000, 5, None),
-        (0x1003, 2, None),
-        (0x1004, 1, None),
-        (u64::MAX, 1, None),
-    ] {
-        let lent = match window.map_physical_region(address, size) {
-            Ok(region) => Some(region.len()),
-            Err(_) => None,
-        };
-        assert_eq!(rt; lent, length, "at {address}");
-    }
+    let first = lent(&window, 0x1000, 1);
+    let last = lent(&window, 0x1003, 1);
+    assert_eq!(rt; [first, last], [Some(4), Some(1)]);
+    let before = lent(&window, 0xFFF, 1);
+    let too_many = [lent(&window, 0x1000, 5), lent(&window, 0x1003, 2)];
+    let behind = [lent(&window, 0x1004, 1), lent(&window, u64::MAX, 1)];
+    assert_eq!(rt; (before, too_many, behind), (None, [None; 2], [None; 2]));
 }
 
 #[test]

@@ -1,6 +1,5 @@
 //! Waking a processor by the mailbox, over tables that are found from an RSDT.
 
-use super::NO_MAILBOX;
 use acpi::platform::{Mailbox, MailboxWrite, ScriptedMailbox, wakeup_aps};
 use acpi::sdt::Signature;
 use acpi::{AcpiError, AcpiResult, AcpiTables, MadtError};
@@ -12,7 +11,17 @@ use std::alloc::Global;
 use std::process::Abort;
 use std::test::Fail;
 
+const NO_MAILBOX: AcpiError = AcpiError::InvalidMadt(MadtError::UnexpectedEntry);
+
 const TIMEOUT: AcpiError = AcpiError::InvalidMadt(MadtError::WakeupApsTimeout);
+
+/// What is written to the mailbox, in order, where there is one.
+const WRITES: [MailboxWrite; 4] = [
+    MailboxWrite::Command(0),
+    MailboxWrite::ApicId(7),
+    MailboxWrite::WakeupVector(0x8000),
+    MailboxWrite::Command(1),
+];
 
 /// An RSDT that lists a MADT of 60 bytes with a wakeup entry. The mailbox lies at 0x5000.
 fn with_mailbox() -> [u8; 136] {
@@ -49,16 +58,10 @@ fn the_mailbox_is_read_until_it_is_taken(rt: HostRuntime) -> Result<(), Fail> {
     for (answers, timeout, outcome, reads) in rows {
         let mut mailbox = ScriptedMailbox::new(answers);
         let answer = wake(rt.alloc(), front(&file, 132), &mut mailbox, timeout)?;
-        let writes = [
-            MailboxWrite::Command(0),
-            MailboxWrite::ApicId(7),
-            MailboxWrite::WakeupVector(0x8000),
-            MailboxWrite::Command(1),
-        ];
         assert_eq!(rt;
             (answer, mailbox.reads(), mailbox.opened(), mailbox.writes()),
-            (outcome, reads, Some(0x5000), writes.as_slice()),
-            "{answers:?}, {timeout}"
+            (outcome, reads, Some(0x5000), WRITES.as_slice()),
+            "{answers:?}"
         );
     }
     Ok(())

@@ -1,0 +1,40 @@
+//! Generic addresses, and codes by themselves.
+
+use acpi::address::{AccessSize, AddressSpace, GenericAddress};
+use acpi_base::madt::MpProtectedModeWakeupCommand;
+use acpi_lenders::rows::shown;
+use std::alloc::{AllocError, Global};
+
+/// What the twelve bytes of a generic address answer.
+pub(crate) fn of_address(
+    alloc: Global,
+    bytes: &[u8],
+    question: &str,
+) -> Result<String, AllocError> {
+    let Some(raw) = bytes.first_chunk::<12>() else {
+        return Ok(String::new(alloc));
+    };
+    match question {
+        "read" => shown(alloc, &GenericAddress::from_raw(*raw)),
+        "codes" => shown(
+            alloc,
+            &(AddressSpace::try_from(raw[0]), AccessSize::try_from(raw[3])),
+        ),
+        _ => Ok(String::new(alloc)),
+    }
+}
+
+/// The wakeup command of the number that two bytes hold, and the command's own number.
+pub(crate) fn of_command(
+    alloc: Global,
+    bytes: &[u8],
+    question: &str,
+) -> Result<String, AllocError> {
+    match (question, bytes) {
+        ("command", [low, high]) => {
+            let command = MpProtectedModeWakeupCommand::try_from(u16::from_le_bytes([*low, *high]));
+            shown(alloc, &command.map(|command| (command, command as u16)))
+        }
+        _ => Ok(String::new(alloc)),
+    }
+}

@@ -1,0 +1,43 @@
+//! Values by their names.
+
+use acpi_lenders::rows::shown;
+use std::alloc::{AllocError, Global};
+use std::fmt::Debug;
+
+/// The value of a name.
+pub(crate) fn named<T: Copy>(values: &[(&str, T)], name: &str) -> Option<T> {
+    for (other, value) in values {
+        if *other == name {
+            return Some(*value);
+        }
+    }
+    None
+}
+
+/// The names of the flags that are set, in order, or `none`.
+pub(crate) fn set_names(alloc: Global, flags: &[(&str, bool)]) -> Result<String, AllocError> {
+    let mut names = String::new(alloc);
+    for (name, is_set) in flags {
+        if *is_set {
+            names.push_str(if names.is_empty() { "" } else { " " })?;
+            names.push_str(name)?;
+        }
+    }
+    if names.is_empty() {
+        names.push_str("none")?;
+    }
+    Ok(names)
+}
+
+/// The text of the field of a name, in the text of a value as it is debugged.
+pub(crate) fn field_of<T: Debug>(
+    alloc: Global,
+    value: &T,
+    name: &str,
+) -> Result<String, AllocError> {
+    let text = shown(alloc, value)?;
+    let name = format!(in alloc; " {name}: ")?;
+    let (_, rest) = text.split_once(name.as_str()).unwrap_or(("", ""));
+    let (field, _) = rest.split_once(", ").unwrap_or((rest, ""));
+    String::from_str(alloc, field.strip_suffix(" }").unwrap_or(field))
+}
