@@ -1,6 +1,6 @@
 //! Waking a processor by the mailbox, over tables that are found from an RSDT.
 
-use acpi::platform::{Mailbox, MailboxWrite, ScriptedMailbox, wakeup_aps};
+use acpi::platform::{Mailbox, MailboxCall, MailboxWrite, ScriptedMailbox, wakeup_aps};
 use acpi::sdt::Signature;
 use acpi::{AcpiError, AcpiResult, AcpiTables, MadtError};
 use acpi_image::MemoryImage;
@@ -21,6 +21,24 @@ const WRITES: [MailboxWrite; 4] = [
     MailboxWrite::ApicId(7),
     MailboxWrite::WakeupVector(0x8000),
     MailboxWrite::Command(1),
+];
+
+/// The calls that are made of a mailbox at 0x5000, as far as the command is read nine times.
+const CALLS: [MailboxCall; 14] = [
+    MailboxCall::Opened(0x5000),
+    MailboxCall::Wrote(MailboxWrite::Command(0)),
+    MailboxCall::Wrote(MailboxWrite::ApicId(7)),
+    MailboxCall::Wrote(MailboxWrite::WakeupVector(0x8000)),
+    MailboxCall::Wrote(MailboxWrite::Command(1)),
+    MailboxCall::Read,
+    MailboxCall::Read,
+    MailboxCall::Read,
+    MailboxCall::Read,
+    MailboxCall::Read,
+    MailboxCall::Read,
+    MailboxCall::Read,
+    MailboxCall::Read,
+    MailboxCall::Read,
 ];
 
 /// An RSDT that lists a MADT of 60 bytes with a wakeup entry. The mailbox lies at 0x5000.
@@ -45,7 +63,7 @@ fn wake<M: Mailbox>(
 
 #[test]
 fn the_mailbox_is_read_until_it_is_taken(rt: HostRuntime) -> Result<(), Fail> {
-    let rows: [(&[u16], u64, AcpiResult<()>, u64); 7] = [
+    let rows: [(&[u16], u64, AcpiResult<()>, usize); 7] = [
         (&[1, 2, 0], 3, Ok(()), 3),
         (&[1, 1, 1], 3, Err(TIMEOUT), 3),
         (&[9, 0], 9, Ok(()), 2),
@@ -59,8 +77,8 @@ fn the_mailbox_is_read_until_it_is_taken(rt: HostRuntime) -> Result<(), Fail> {
         let mut mailbox = ScriptedMailbox::new(answers);
         let answer = wake(rt.alloc(), front(&file, 132), &mut mailbox, timeout)?;
         assert_eq!(rt;
-            (answer, mailbox.reads(), mailbox.opened(), mailbox.writes()),
-            (outcome, reads, Some(0x5000), WRITES.as_slice()),
+            (answer, mailbox.calls(), mailbox.opened(), mailbox.writes()),
+            (outcome, &CALLS[..5 + reads], Some(0x5000), WRITES.as_slice()),
             "{answers:?}"
         );
     }
@@ -78,7 +96,7 @@ fn check_untouched(
         (
             answer,
             mailbox.opened(),
-            mailbox.writes().len(),
+            mailbox.calls().len(),
             mailbox.reads()
         ),
         (Err(refusal), None, 0, 0)
@@ -118,6 +136,8 @@ impl<'a> Mailbox for Closed<'a> {
     ghost writes = { λ s. ⟦<ScriptedMailbox<'a> as Mailbox>⟧.writes s.inner };
 
     ghost answer = { λ s. ⟦<ScriptedMailbox<'a> as Mailbox>⟧.answer s.inner };
+
+    ghost called = { λ s c t. ⟦<ScriptedMailbox<'a> as Mailbox>⟧.called s.inner c t.inner };
 
     fn open(&mut self, _address: u64) -> AcpiResult<()> {
         Err(AcpiError::MapFailed)
