@@ -2,7 +2,6 @@
 ghost use Rattle.std.specs.Prelude.{◌+◌, ◌≤◌, length};
 
 pub mod graphics;
-pub mod machine;
 pub mod madts;
 pub mod members;
 pub mod placed;

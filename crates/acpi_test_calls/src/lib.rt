@@ -5,4 +5,6 @@
 #[cfg(test)]
 mod callers;
 #[cfg(test)]
+mod slices;
+#[cfg(test)]
 mod wakeup;

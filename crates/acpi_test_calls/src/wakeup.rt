@@ -64,21 +64,22 @@ fn wake<M: Mailbox>(
 #[test]
 fn the_mailbox_is_read_until_it_is_taken(rt: HostRuntime) -> Result<(), Fail> {
     let rows: [(&[u16], u64, AcpiResult<()>, usize); 7] = [
-        (&[1, 2, 0], 3, Ok(()), 3),
-        (&[1, 1, 1], 3, Err(TIMEOUT), 3),
-        (&[9, 0], 9, Ok(()), 2),
-        (&[0], 0, Err(TIMEOUT), 0),
-        (&[4, 0xFFFF, 0], 3, Ok(()), 3),
-        (&[4, 0xFFFF, 0], 2, Err(TIMEOUT), 2),
-        (&[], 5, Err(TIMEOUT), 5),
+        (&[1, 2, 0], 3, Ok(()), 8),
+        (&[1, 1, 1], 3, Err(TIMEOUT), 8),
+        (&[9, 0], 9, Ok(()), 7),
+        (&[0], 0, Err(TIMEOUT), 5),
+        (&[4, 0xFFFF, 0], 3, Ok(()), 8),
+        (&[4, 0xFFFF, 0], 2, Err(TIMEOUT), 7),
+        (&[], 5, Err(TIMEOUT), 10),
     ];
     let file = with_mailbox();
-    for (answers, timeout, outcome, reads) in rows {
+    // The mailbox is called five times before it is read.
+    for (answers, timeout, outcome, count) in rows {
         let mut mailbox = ScriptedMailbox::new(answers);
         let answer = wake(rt.alloc(), front(&file, 132), &mut mailbox, timeout)?;
         assert_eq!(rt;
-            (answer, mailbox.calls(), mailbox.opened(), mailbox.writes()),
-            (outcome, &CALLS[..5 + reads], Some(0x5000), WRITES.as_slice()),
+            (answer, Some(mailbox.calls()), mailbox.opened(), mailbox.writes()),
+            (outcome, CALLS.get(..count), Some(0x5000), WRITES.as_slice()),
             "{answers:?}"
         );
     }

@@ -1,9 +1,6 @@
-//! Files of tables that lie at any addresses, with any bytes around them.
+//! Records of tables that lie at any addresses, with any bytes around them.
 
-use std::alloc::{AllocError, Global};
-
-/// An address, and the table that lies there.
-pub type Placed<'t> = (u64, &'t [u8]);
+use std::alloc::AllocError;
 
 /// What lies around each table in its record: so many bytes before it and behind it, all the same.
 #[derive(Clone, Copy)]
@@ -20,19 +17,6 @@ impl Margins {
         behind: 0,
         byte: 0,
     };
-}
-
-/// A file with a record for each of these tables.
-pub fn file_of(
-    alloc: Global,
-    tables: &[Placed<'_>],
-    margins: Margins,
-) -> Result<Vec<u8>, AllocError> {
-    let mut file = Vec::new(alloc);
-    for (address, table) in tables {
-        add_record(&mut file, *address, table, margins)?;
-    }
-    Ok(file)
 }
 
 /// Adds a record of a table at an address.

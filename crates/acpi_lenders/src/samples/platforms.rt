@@ -27,20 +27,6 @@ pub fn with_fadt_and_madt(checksum: u8, entries: &[u8]) -> [u8; 916]
     file
 }
 
-/// An XSDT that lists 0x7000, 0x8000 and 0x9000.
-pub fn moved_xsdt() -> [u8; 60] {
-    let mut xsdt = [0; 60];
-    put_table(&mut xsdt, 0, b"XSDT", 60, 0x01);
-    put(
-        &mut xsdt,
-        36,
-        &[
-            0, 0x70, 0, 0, 0, 0, 0, 0, 0, 0x80, 0, 0, 0, 0, 0, 0, 0, 0x90,
-        ],
-    );
-    xsdt
-}
-
 /// Makes the FADT one of 244 bytes and of revision 2, whose timer has a reserved address space.
 pub fn put_bad_timer(file: &mut [u8])
     requires { 320 ≤ length file.old }

@@ -72,7 +72,7 @@ fn each_item_is_dropped_once(rt: HostRuntime) -> Result<(), Fail> {
     let made = alive.get();
     drop(none);
     let left = alive.get();
-    // Where there is no memory for them, the value goes too.
+    // If there is no memory for them, the value goes too.
     let heap = LocalHeap::new(rt.alloc(), 0)?;
     let refused = ManagedSlice::new_in(5, Counted::new(&alive), &heap).err();
     let counts = [made, left, alive.get()];

@@ -1,0 +1,109 @@
+//! Questions whose answers need memory, over heaps that may be too small.
+//!
+//! `QUESTION in SIZE TAKEN` asks over a heap of so many bytes, of which some are taken before.
+//! `QUESTION in growing heaps` asks over ever larger heaps.
+
+use crate::devices::{function, regions};
+use crate::platforms::{clone_text, model_text, platform_text};
+use acpi::madt::Madt;
+use acpi::{AcpiHandler, AcpiTables, ManagedSlice, PciConfigRegions};
+use acpi_lenders::rows::shown;
+use linked_list_allocator::LocalHeap;
+use std::alloc::{AllocError, Allocator, Global};
+
+/// The answer over a heap of this kind.
+pub(crate) fn answer<H: AcpiHandler>(
+    alloc: Global,
+    tables: &AcpiTables<'_, H>,
+    asked: &str,
+    heap: &str,
+) -> Result<String, AllocError> {
+    let Some((size, taken)) = heap.split_once(' ') else {
+        return Ok(String::new(alloc));
+    };
+    match (size.parse::<u32>(), taken.parse::<u32>()) {
+        (Ok(size), Ok(taken)) => over_heap(alloc, tables, asked, size as usize, taken as usize),
+        _ => over_growing_heaps(alloc, tables, asked),
+    }
+}
+
+/// The answer over a heap of so many bytes, of which some are taken before. What is allocated for the
+/// answer has to be free again.
+fn over_heap<H: AcpiHandler>(
+    alloc: Global,
+    tables: &AcpiTables<'_, H>,
+    asked: &str,
+    size: usize,
+    taken: usize,
+) -> Result<String, AllocError> {
+    let heap = LocalHeap::new(alloc, size)?;
+    let _filled = ManagedSlice::new_in(taken, 0u8, &heap);
+    let used = heap.used();
+    let text = answer_in(alloc, tables, &heap, asked)?;
+    if heap.used() == used {
+        Ok(text)
+    } else {
+        String::from_str(alloc, "left allocated")
+    }
+}
+
+/// The answer in memory of an allocator. A clone says nothing if there is none for the platform
+/// itself.
+fn answer_in<H: AcpiHandler, A: Allocator + Clone>(
+    alloc: Global,
+    tables: &AcpiTables<'_, H>,
+    allocator: A,
+    asked: &str,
+) -> Result<String, AllocError> {
+    match asked {
+        "platform" => platform_text(alloc, tables.platform_info_in(allocator)),
+        "model" => model(alloc, tables, allocator),
+        "regions" => regions(alloc, PciConfigRegions::new_in(tables, allocator)),
+        _ => match asked.strip_prefix("function ") {
+            Some(digits) => function(alloc, PciConfigRegions::new_in(tables, allocator), digits),
+            None => match &tables.platform_info_in(allocator) {
+                Ok(platform) => clone_text(alloc, platform, asked),
+                Err(_) => Ok(String::new(alloc)),
+            },
+        },
+    }
+}
+
+/// The interrupt model of the first valid MADT, in memory of an allocator.
+pub(crate) fn model<H: AcpiHandler, A: Allocator + Clone>(
+    alloc: Global,
+    tables: &AcpiTables<'_, H>,
+    allocator: A,
+) -> Result<String, AllocError> {
+    match tables.find_table::<Madt>() {
+        Ok(madt) => model_text(alloc, madt.parse_interrupt_model_in(allocator)),
+        Err(refusal) => shown(alloc, &refusal),
+    }
+}
+
+/// What is answered over heaps of ever more bytes, of which 16 are taken before: how often memory is
+/// refused, and the one answer of all other heaps.
+fn over_growing_heaps<H: AcpiHandler>(
+    alloc: Global,
+    tables: &AcpiTables<'_, H>,
+    asked: &str,
+) -> Result<String, AllocError> {
+    let mut refused = 0u32;
+    let mut said = String::new(alloc);
+    for blocks in 1..33usize {
+        let text = over_heap(alloc, tables, asked, 16 * blocks, 16)?;
+        if text.as_str() == "AllocError" {
+            refused = refused.wrapping_add(1);
+        } else if said.is_empty() {
+            said = text;
+        } else if said != text {
+            return Ok(text);
+        }
+    }
+    let times = match refused {
+        0 => "never",
+        1 => "once",
+        _ => "more than once",
+    };
+    format!(in alloc; "{times} refused; {said}")
+}
