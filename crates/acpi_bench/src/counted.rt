@@ -1,7 +1,7 @@
 //! A handler that counts what it is asked for.
 
 use acpi::{AcpiHandler, AcpiResult};
-use acpi_image::MemoryImage;
+use acpi_image_reader::MemoryImage;
 use std::cell::Cell;
 
 /// A handler over an image that counts the requests. In a kernel each of them maps pages. The count
@@ -28,7 +28,7 @@ impl<'i, 'f> Counted<'i, 'f> {
 }
 
 impl AcpiHandler for Counted<'_, '_> {
-    ghost use Rattle.acpi_image.specs.Held.{memory_of};
+    ghost use Rattle.acpi_image_reader.specs.Held.{memory_of};
 
     ghost memory = { λ c. memory_of c.image.now };
 

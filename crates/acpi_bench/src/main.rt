@@ -13,7 +13,7 @@ mod stopwatch;
 mod sums;
 mod words;
 
-use acpi_image::MemoryImage;
+use acpi_image_reader::MemoryImage;
 use acpi_words::{texts_of, texts_or_none};
 use calls::time_calls;
 use counted::Counted;

@@ -1,12 +1,7 @@
 pub mod Checked
-pub mod Images
-pub mod Listing
 pub mod Overlaps
 pub mod Placed
 pub mod Places
-pub mod Records
-pub mod Rest
-pub mod Sharing
 pub mod Summed
 pub mod Written
 pub mod WrittenLaws

@@ -6,11 +6,11 @@ use Rattle.std.proofs.Math.Seq.{drop-cons}
 use Rattle.std.specs.BTreeMap.{BTreeMap}
 use Rattle.std.specs.List.{AllByRecursion, list_all}
 use Rattle.acpi_base.specs.Memory.{Memory, Region, AreApart, end_of}
-use Rattle.acpi_image.proofs.Listing.{flipped, starts_none}
-use Rattle.acpi_image.proofs.Sharing.{apart_is, share_is, shares_none}
-use Rattle.acpi_image.specs.Image.{share, shares_any}
+use Rattle.acpi_image_reader.proofs.Listing.{flipped, starts_none}
+use Rattle.acpi_image_reader.proofs.Sharing.{apart_is, share_is, shares_none}
+use Rattle.acpi_image_reader.specs.Image.{share, shares_any}
 use Rattle.acpi_image.specs.Places.{IsPlaced, places_of, region_in}
-use Rattle.acpi_image.specs.Starts.{AreAllApart}
+use Rattle.acpi_image_reader.specs.Starts.{AreAllApart}
 use Rattle.acpi_image.specs.WriteChecks.{some_share}
 use Rattle.acpi_image.specs.declared.write.PlacedTable.{PlacedTable}
 use Rattle.acpi_image.specs.declared.write.places.Place.{Place}

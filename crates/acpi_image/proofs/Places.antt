@@ -3,7 +3,7 @@ use Rattle.std.proofs.Common.{◌≡◌, ℕ, ◌^◌, ◌==◌, nat_lt, true, f
 use Rattle.std.specs.List.{list_all}
 use Rattle.std.proofs.lemmas.List.{length-replicate, length-map}
 use Rattle.acpi_base.specs.Memory.{Memory, Region, end_of}
-use Rattle.acpi_image.specs.Image.{share, shares_any}
+use Rattle.acpi_image_reader.specs.Image.{share, shares_any}
 use Rattle.acpi_image.specs.Places.{places_of, region_in}
 use Rattle.acpi_image.specs.WriteChecks.{check_places, check_plan, check_tables, pointers_fit, some_share}
 use Rattle.acpi_image.specs.Written.{placed, placed_region, plan, records_of, root_length, starts_of, summed}

@@ -1,7 +1,7 @@
 -- How many bytes are written, and how numbers are spelled there.
 use Rattle.std.proofs.Common.{◌≡◌, ℕ, zero, suc, ◌+◌, ◌-◌, ◌*◌, ◌/◌, ◌%◌, ◌^◌, ◌<◌, ◌≤◌, Bool, true, false, List, [], ◌∷◌, ◌++◌, length, take, drop, refl, sym, ap, ◌∙◌, arith, if◌then◌else◌, w64}
 use Rattle.std.specs.Prelude.{OnOk, Result, Ok, Err, flat_map}
-use Rattle.acpi_image.specs.Image.{record_spelling}
+use Rattle.acpi_image_reader.specs.Image.{record_spelling}
 use Rattle.acpi_image.specs.declared.error.WriteError.{WriteError}
 use Rattle.std.specs.Int.{from_le_bytes, to_le_bytes}
 use Rattle.std.proofs.lemmas.Nat.{le_bytes_8}

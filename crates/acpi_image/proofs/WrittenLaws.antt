@@ -19,14 +19,14 @@ use Rattle.acpi.specs.Opened.{opened_by_rsdp}
 use Rattle.acpi.specs.Root.{pointers, root_at, width_of}
 use Rattle.acpi.specs.Rsdp.{rsdp_at}
 use Rattle.acpi_image.proofs.Checked.{Passed, are_tables, passed}
-use Rattle.acpi_image.proofs.Images.{image_again}
+use Rattle.acpi_image_reader.proofs.Images.{image_again}
 use Rattle.acpi_image.proofs.Placed.{every_in}
 use Rattle.acpi_image.proofs.Written.{length-rsdp_to}
 use Rattle.acpi_image.proofs.WrittenMemory.{Ends, low_ones, places_are, places_end, pointers_narrow}
 use Rattle.acpi_image.proofs.WrittenRoot.{pointers_are, root_there}
 use Rattle.acpi_image.proofs.WrittenRsdp.{IsRsdp, is_rsdp, rsdp_there}
 use Rattle.acpi_image.proofs.WrittenTables.{sums_are_set, tables_there}
-use Rattle.acpi_image.specs.Image.{record_spelling}
+use Rattle.acpi_image_reader.specs.Image.{record_spelling}
 use Rattle.acpi_image.specs.WriteChecks.{WritesOrRunsOut, check_plan, written}
 use Rattle.acpi_image.specs.WriteLaws.{IsWritten, SaysOfTables, WrittenIsRead, opened_of, said_of}
 use Rattle.acpi_image.specs.declared.error.WriteError.{WriteError}

@@ -10,8 +10,8 @@ use Rattle.acpi_base.specs.Memory.{Memory, Region, AreApart, IsMemory, end_of}
 use Rattle.acpi_base.specs.Steps.{holds}
 use Rattle.acpi.specs.Root.{width_of}
 use Rattle.acpi.specs.declared.root.RootKind.TheVariants.{Rsdt, Xsdt}
-use Rattle.acpi_image.proofs.Sharing.{all_apart}
-use Rattle.acpi_image.specs.Image.{record_spelling}
+use Rattle.acpi_image_reader.proofs.Sharing.{all_apart}
+use Rattle.acpi_image_reader.specs.Image.{record_spelling}
 use Rattle.acpi_image.specs.WriteChecks.{check_places, some_share}
 use Rattle.acpi_image.specs.Written.{starts_of, summed}
 use Rattle.acpi_image.specs.declared.error.WriteError.{WriteError}

@@ -1,16 +1,7 @@
 -- How a refusal is printed.
 use Rattle.std.specs.Prelude.{ℕ, List, ◌++◌, codes, decimal}
-use Rattle.acpi_image.specs.declared.error.ImageError.{ImageError}
-use Rattle.acpi_image.specs.declared.error.ImageError.TheVariants as refusal
 use Rattle.acpi_image.specs.declared.error.WriteError.{WriteError}
 use Rattle.acpi_image.specs.declared.error.WriteError.TheVariants as written
-
--- the variant's name
-abbrev pub image_error_text : ImageError → List ℕ
-image_error_text refusal.Truncated = codes "Truncated"
-image_error_text refusal.EndTooLarge = codes "EndTooLarge"
-image_error_text refusal.Overlap = codes "Overlap"
-image_error_text refusal.OutOfMemory = codes "OutOfMemory"
 
 -- the variant's name, and behind a space the number that it carries
 abbrev pub write_error_text : WriteError → List ℕ

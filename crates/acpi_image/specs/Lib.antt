@@ -1,9 +1,9 @@
+pub use Rattle.acpi_image_reader.specs.Held
+pub use Rattle.acpi_image_reader.specs.Image
+pub use Rattle.acpi_image_reader.specs.Regions
+pub use Rattle.acpi_image_reader.specs.Starts
 pub mod ErrorText
-pub mod Held
-pub mod Image
 pub mod Places
-pub mod Regions
-pub mod Starts
 pub mod WriteChecks
 pub mod WriteLaws
 pub mod Written

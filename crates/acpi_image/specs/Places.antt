@@ -2,7 +2,7 @@
 use Rattle.std.specs.Prelude.{ℕ, List, length, map, replicate}
 use Rattle.std.specs.BTreeMap.{BTreeMap}
 use Rattle.acpi_base.specs.Memory.{Memory, Region}
-use Rattle.acpi_image.specs.Starts.{AreAllApart, ListsStarts}
+use Rattle.acpi_image_reader.specs.Starts.{AreAllApart, ListsStarts}
 use Rattle.acpi_image.specs.declared.write.PlacedTable.{PlacedTable}
 use Rattle.acpi_image.specs.declared.write.places.Place.{Place}
 

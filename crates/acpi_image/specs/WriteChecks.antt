@@ -6,7 +6,7 @@ use Rattle.std.specs.Str.{is_utf8}
 use Rattle.acpi_base.specs.Bytes.{field_of, part}
 use Rattle.acpi_base.specs.Memory.{Memory, end_of}
 use Rattle.acpi_base.specs.Steps.{◌>>=◌, holds}
-use Rattle.acpi_image.specs.Image.{record_spelling, shares_any}
+use Rattle.acpi_image_reader.specs.Image.{record_spelling, shares_any}
 use Rattle.acpi_image.specs.Written.{Plan, kind_of, pointers_of, records_of, root_length}
 use Rattle.acpi_image.specs.declared.error.WriteError.{WriteError}
 use Rattle.acpi_image.specs.declared.error.WriteError.TheVariants as refusal

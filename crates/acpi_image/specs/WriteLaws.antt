@@ -11,7 +11,7 @@ use Rattle.acpi.specs.Opened.{Opened, opened_by_rsdp}
 use Rattle.acpi.specs.Root.{pointers, root_at, width_of}
 use Rattle.acpi.specs.Rsdp.{rsdp_at}
 use Rattle.acpi.specs.declared.root.RootKind.{RootKind}
-use Rattle.acpi_image.specs.Image.{IsImage, records_in}
+use Rattle.acpi_image_reader.specs.Image.{IsImage, records_in}
 use Rattle.acpi_image.specs.WriteChecks.{written}
 use Rattle.acpi_image.specs.Written.{Plan, kind_of, pointers_of, records_of, root_to}
 use Rattle.acpi_image.specs.Written.{rsdp_to, tables_of, with_sum}

@@ -1,37 +1,6 @@
-//! The refusals of a file, and of an image to be written.
+//! The refusals of an image that is to be written.
 
 use std::fmt;
-
-/// Why a file spells no memory. Each is about one of its records.
-#[derive(Clone, Copy, Debug, PartialEq, Eq)]
-pub enum ImageError {
-    /// Fewer than 16 bytes are left for a start and a length, or fewer bytes than that length
-    /// behind them.
-    Truncated,
-    /// Start and length add up to more than 2^64 - 1.
-    EndTooLarge,
-    /// It shares a byte with an earlier record.
-    Overlap,
-    /// The allocator refused to grow.
-    OutOfMemory,
-}
-
-/// The variant's name.
-impl fmt::Display for ImageError {
-    ghost use Rattle.std.specs.Prelude.{Some};
-    ghost use Rattle.acpi_image.specs.ErrorText.{image_error_text};
-
-    ghost output = { λ e. Some (image_error_text e) };
-
-    fn fmt<W: fmt::Write>(&self, f: &mut fmt::Formatter<W>) -> fmt::Result {
-        match self {
-            ImageError::Truncated => write!(f, "Truncated"),
-            ImageError::EndTooLarge => write!(f, "EndTooLarge"),
-            ImageError::Overlap => write!(f, "Overlap"),
-            ImageError::OutOfMemory => write!(f, "OutOfMemory"),
-        }
-    }
-}
 
 /// Why an image is not written.
 #[derive(Clone, Copy, Debug, PartialEq, Eq)]
@@ -61,14 +30,15 @@ impl fmt::Display for WriteError {
     ghost output = { λ e. Some (write_error_text e) };
 
     fn fmt<W: fmt::Write>(&self, f: &mut fmt::Formatter<W>) -> fmt::Result {
-        match self {
-            WriteError::ZeroRoot => write!(f, "ZeroRoot"),
-            WriteError::BadTable(index) => write!(f, "BadTable {index}"),
-            WriteError::TooMany => write!(f, "TooMany"),
-            WriteError::PointerTooLarge => write!(f, "PointerTooLarge"),
-            WriteError::EndTooLarge => write!(f, "EndTooLarge"),
-            WriteError::Overlap => write!(f, "Overlap"),
-            WriteError::OutOfMemory => write!(f, "OutOfMemory"),
-        }
+        let name = match self {
+            WriteError::ZeroRoot => "ZeroRoot",
+            WriteError::BadTable(index) => return write!(f, "BadTable {index}"),
+            WriteError::TooMany => "TooMany",
+            WriteError::PointerTooLarge => "PointerTooLarge",
+            WriteError::EndTooLarge => "EndTooLarge",
+            WriteError::Overlap => "Overlap",
+            WriteError::OutOfMemory => "OutOfMemory",
+        };
+        f.write_str(name)
     }
 }

@@ -3,16 +3,11 @@ ghost use Rattle.acpi_base.specs.Equality.{IsEquality};
 
 pub mod written;
 
-use crate::error::{ImageError, WriteError};
+use crate::error::WriteError;
+pub use acpi_image_reader::laws::image_error_equality;
 
-/// Whether two refusals are the same: `==` says so exactly where their variants are equal.
-pub fn image_error_equality(a: &ImageError, b: &ImageError) -> bool
-    ensures { IsEquality result a.now b.now }
-{
-    a == b
-}
-
-/// The same of the refusals of an image to be written, with the indices that they carry.
+/// Whether two refusals of an image to be written are the same, with the indices that they carry:
+/// `==` says so exactly where their variants and these are equal.
 pub fn write_error_equality(one: &WriteError, other: &WriteError) -> bool
     ensures { IsEquality result one.now other.now }
 {

@@ -3,15 +3,8 @@
 #![tactic(auto)]
 
 mod error;
-pub mod image;
-mod kept;
 pub mod laws;
-mod reader;
-mod record;
-mod starts;
-#[cfg(test)]
-mod tests;
 pub mod write;
 
-pub use image::{ImageError, MemoryImage};
+pub use acpi_image_reader::{ImageError, MemoryImage, image, reader};
 pub use write::{PlacedTable, WriteError, write_image};

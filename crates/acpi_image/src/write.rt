@@ -8,8 +8,6 @@ ghost use Rattle.acpi_image.specs.Written.{plan};
 mod checks;
 mod places;
 mod records;
-#[cfg(test)]
-mod tests;
 
 pub use crate::error::WriteError;
 use checks::check_plan;
@@ -27,9 +25,9 @@ pub struct PlacedTable<'a> {
     pub bytes: &'a [u8],
 }
 
-/// The file of `write_image`, in memory of this allocator.
+/// The file that `write_image` answers, or its refusal, in memory of this allocator.
 #[tactic(auto, unfolding(crate::specs::WriteChecks::written))]
-pub(crate) fn write_in<A: Allocator + Copy>(
+pub fn write_in<A: Allocator + Copy>(
     alloc: A,
     rsdp_address: u64,
     root_address: u64,

@@ -12,7 +12,7 @@ use Rattle.acpi_base.specs.declared.sdt.SdtHeader.{SdtHeader}
 use Rattle.acpi.specs.Lists.{own_header_at, valid_headers, valid_tables}
 use Rattle.acpi.specs.Opened.{Opened, opened_by_rsdp}
 use Rattle.acpi.specs.Root.{pointers, width_of}
-use Rattle.acpi_image.specs.declared.error.ImageError.{ImageError}
+use Rattle.acpi_image_reader.specs.declared.error.ImageError.{ImageError}
 use Rattle.acpi_image.specs.WriteLaws.{IsWritten, opened_of}
 use Rattle.acpi_image.specs.Written.{Plan, pointers_of, records_of}
 

@@ -5,23 +5,13 @@
 //! are.
 #![tactic(auto)]
 
-mod error;
-mod pack;
-mod place;
-mod run;
-mod save;
-mod sources;
-#[cfg(test)]
-mod tests;
-mod words;
-
+use acpi_packing::run::{Outcome, run};
+use acpi_packing::save::save;
+use acpi_packing::words::parse_command;
 use acpi_words::{texts_of, texts_or_none};
-use run::{Outcome, run};
-use save::save;
 use std::io::Write;
 use std::process::ExitCode;
 use std::{fs, io};
-use words::parse_command;
 
 fn main(rt: HostRuntime) -> ExitCode {
     ExitCode::from(pack_words(&rt).unwrap_or(1))

@@ -2,10 +2,10 @@
 use Rattle.std.proofs.Common.{ℕ, List, ◌≡◌, ◌∙◌, IfOk, OnOk, ap, codes, inl, inr, subst, sym}
 use Rattle.std.specs.Prelude.{Option, Some, None, Result, Ok, Err}
 use Rattle.std.specs.Io.KnownBytes.{Appends}
-use Rattle.acpi_image.specs.ErrorText.{image_error_text}
-use Rattle.acpi_image.specs.Image.{Refuses, records_in}
-use Rattle.acpi_image.specs.declared.error.ImageError.{ImageError}
-use Rattle.acpi_image.specs.declared.error.ImageError.TheVariants as refusal
+use Rattle.acpi_image_reader.specs.ErrorText.{image_error_text}
+use Rattle.acpi_image_reader.specs.Image.{Refuses, records_in}
+use Rattle.acpi_image_reader.specs.declared.error.ImageError.{ImageError}
+use Rattle.acpi_image_reader.specs.declared.error.ImageError.TheVariants as refusal
 use Rattle.acpi_report.proofs.Output.{no_lines}
 use Rattle.acpi_report.specs.Command.{command_of}
 use Rattle.acpi_report.specs.Output.{Ends, Prints, found_over, found_with, refusal_line}

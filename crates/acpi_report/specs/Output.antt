@@ -11,9 +11,9 @@ use Rattle.acpi.specs.Opened.{Opened}
 use Rattle.acpi.specs.Pci.{mcfg_kind}
 use Rattle.acpi.specs.Platform.{madt_kind}
 use Rattle.acpi.specs.Root.{pointers, width_of}
-use Rattle.acpi_image.specs.ErrorText.{image_error_text}
-use Rattle.acpi_image.specs.Image.{records_in}
-use Rattle.acpi_image.specs.declared.error.ImageError.{ImageError}
+use Rattle.acpi_image_reader.specs.ErrorText.{image_error_text}
+use Rattle.acpi_image_reader.specs.Image.{records_in}
+use Rattle.acpi_image_reader.specs.declared.error.ImageError.{ImageError}
 use Rattle.acpi_report.specs.Command.{command_of}
 use Rattle.acpi_report.specs.Lines.{IsPciText, bgrt_kind, bgrt_lines, dsdt_lines, header_lines, hpet_lines, line, revision_line, skipped_lines, spcr_kind, spcr_lines, ssdt_lines}
 use Rattle.acpi_report.specs.PlatformLines.{IsPlatformText}

@@ -3,8 +3,8 @@ use Rattle.std.specs.Prelude.{ℕ, List, Option, Some, None, Result, Ok, Err}
 use Rattle.acpi_base.specs.Memory.{Memory}
 use Rattle.acpi_base.specs.declared.error.AcpiError.{AcpiError}
 use Rattle.acpi.specs.Opened.{Opened, opened_at, opened_by_rsdp, opened_by_search}
-use Rattle.acpi_image.specs.Image.{RunsOut, records_in}
-use Rattle.acpi_image.specs.declared.error.ImageError.{ImageError}
+use Rattle.acpi_image_reader.specs.Image.{RunsOut, records_in}
+use Rattle.acpi_image_reader.specs.declared.error.ImageError.{ImageError}
 use Rattle.acpi_report.specs.Command.{command_of}
 use Rattle.acpi_report.specs.declared.words.Command.{Command}
 use Rattle.acpi_report.specs.declared.words.Command.TheVariants.{Rsdt, Rsdp, Bios}

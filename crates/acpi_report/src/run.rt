@@ -12,7 +12,7 @@ ghost use Rattle.acpi_report.specs.Status.{opened_for, status_for, status_of};
 use crate::lines::{print_parts, print_skipped_tables};
 use crate::words::{Command, parse_command};
 use acpi::{AcpiHandler, AcpiResult, AcpiTables};
-use acpi_image::MemoryImage;
+use acpi_image_reader::MemoryImage;
 use std::alloc::Global;
 use std::fmt::Display;
 use std::io;

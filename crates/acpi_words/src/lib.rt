@@ -7,9 +7,6 @@ ghost use Rattle.std.specs.IoError.{error_kind};
 ghost use Rattle.std.specs.List.{list_all};
 ghost use Rattle.acpi_words.specs.Numbers.{address_of, numeral, revision_of};
 
-#[cfg(test)]
-mod tests;
-
 use std::alloc::Global;
 use std::io::ErrorKind;
 use std::{env, io};

@@ -2,13 +2,13 @@
 ghost use Rattle.std.specs.Prelude.{◌≡◌, ◌^◌, ◌<◌, ◌∷◌, ◌++◌, [], true, false, nat_lt, length, IfOk, OnOk};
 ghost use Rattle.std.specs.List.{list_all};
 ghost use Rattle.acpi_base.specs.Memory.{Memory, end_of, lies_in};
-ghost use Rattle.acpi_image.specs.Image.{share, shares_any};
+ghost use Rattle.acpi_image_reader.specs.Image.{share, shares_any};
 ghost use Rattle.acpi_image.specs.Places.{IsPlaced, places_of, region_in};
 ghost use Rattle.acpi_image.specs.WriteChecks as checks;
 
 use crate::error::WriteError;
-use crate::starts::{add_start, last_up_to};
 use crate::write::PlacedTable;
+use acpi_image_reader::starts::{add_start, last_up_to};
 use std::alloc::{AllocError, Allocator};
 use std::collections::BTreeMap;
 
@@ -48,7 +48,7 @@ impl Place {
     }
 
     /// Whether some byte lies in it and in another.
-    #[tactic(auto, unfolding(crate::specs::Image::share))]
+    #[tactic(auto, unfolding(acpi_image_reader::specs::Image::share))]
     pub fn shares_byte(self, other: Place) -> bool
         ensures { result ≡ share (region_in self) (region_in other) }
     {

@@ -3,7 +3,7 @@ ghost use Rattle.std.specs.Prelude.{◌≡◌, ◌^◌, ◌<◌, ◌≤◌, ◌+
 ghost use Rattle.std.specs.List.{All};
 ghost use Rattle.acpi.specs.Root.{kind_of_revision, width_of};
 ghost use Rattle.acpi_base.specs.Bytes.{IsBytes, spelling};
-ghost use Rattle.acpi_image.specs.Image.{record_spelling};
+ghost use Rattle.acpi_image_reader.specs.Image.{record_spelling};
 ghost use Rattle.acpi_image.specs.Written.{placed, placed_region, plan, records_of, root_header};
 ghost use Rattle.acpi_image.specs.Written.{root_length, root_record, root_to, rsdp_record};
 ghost use Rattle.acpi_image.specs.Written.{rsdp_to, rsdp_unsummed, starts_of, summed, with_sum};

@@ -1,5 +1,5 @@
 use Rattle.std.proofs.Common.{◌≡◌, drop}
-use Rattle.acpi_image.specs.Image.{shares_any}
+use Rattle.acpi_image_reader.specs.Image.{shares_any}
 use Rattle.acpi_image.specs.Places.{places_of, region_in}
 use Rattle.acpi_image.proofs.write.places.shares_with_any.Given as goal
 

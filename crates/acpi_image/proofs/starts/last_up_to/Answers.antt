@@ -1,8 +1,0 @@
-use Rattle.std.proofs.Common.{arith}
-use Rattle.std.proofs.lemmas.Bool.Decides.{nat_tests}
-use Rattle.std.proofs.lemmas.Map.Keys.{ge_from_not_lt}
-use Rattle.acpi_image.proofs.starts.last_up_to.Goals as goal
-
-pub returns-in-Some-clause-last : goal.returns-in-Some-clause-last
-returns-in-Some-clause-last g c =
-    λ a upto some. ge_from_not_lt _ _ ((c.range.ensures.in_range tt).4 _ _ c.in-Some.ensures.steps a (tt, grind (arith, nat_tests)) some)

@@ -1,8 +1,0 @@
--- What an image shows.
-use Rattle.acpi_base.specs.Memory.{Memory}
-use Rattle.acpi_image.specs.Regions.{regions_of}
-use Rattle.acpi_image.specs.declared.image.MemoryImage.{MemoryImage}
-
--- the memory that it lends
-abbrev pub memory_of : MemoryImage → Memory
-memory_of image = regions_of image.records.list.items

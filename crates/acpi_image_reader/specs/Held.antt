@@ -1,0 +1,8 @@
+-- What an image shows.
+use Rattle.acpi_base.specs.Memory.{Memory}
+use Rattle.acpi_image_reader.specs.Regions.{regions_of}
+use Rattle.acpi_image_reader.specs.declared.image.MemoryImage.{MemoryImage}
+
+-- the memory that it lends
+abbrev pub memory_of : MemoryImage → Memory
+memory_of image = regions_of image.records.list.items

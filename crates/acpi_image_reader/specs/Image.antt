@@ -1,0 +1,86 @@
+-- A file of memory is its records, one behind the other, and nothing else.
+use Rattle.std.specs.Prelude.{◌≡◌, ℕ, ◌+◌, ◌^◌, zero, suc, nat_le, nat_lt, Result, Ok, Err}
+use Rattle.std.specs.Prelude.{Bool, true, false, not, ◌&&◌, ◌||◌}
+use Rattle.std.specs.Prelude.{List, [], ◌∷◌, ◌++◌, length, take, drop, flat_map}
+use Rattle.acpi_base.specs.Bytes.{spelling, field_of}
+use Rattle.acpi_base.specs.Memory.{Memory, Region, lies_in}
+use Rattle.acpi_base.specs.Steps.{◌>>=◌, holds}
+use Rattle.acpi_image_reader.specs.declared.error.ImageError.{ImageError}
+use Rattle.acpi_image_reader.specs.declared.error.ImageError.TheVariants as refusal
+
+-- a region's record: where it starts and how many bytes it has, in eight bytes each, and its bytes
+abbrev pub record_spelling : Region → List ℕ
+record_spelling r = spelling 8 r.start ++ (spelling 8 (length r.bytes) ++ r.bytes)
+
+-- the file is the records of these regions, in their order
+abbrev pub IsImage : List ℕ → Memory → Type 0
+IsImage file regions = file ≡ flat_map record_spelling regions
+
+-- the region whose record the bytes begin with, and the bytes behind that record
+unfoldable pub record_at : List ℕ → Result (Region × List ℕ) ImageError
+record_at bytes = do
+  _ ← holds (nat_le 16 (length bytes)) refusal.Truncated
+  _ ← holds (nat_le (field_of bytes 8 8) (length (drop 16 bytes))) refusal.Truncated
+  _ ← holds (nat_lt (field_of bytes 0 8 + field_of bytes 8 8) (2 ^ 64)) refusal.EndTooLarge
+  Ok (
+    record { start = field_of bytes 0 8; bytes = take (field_of bytes 8 8) (drop 16 bytes) },
+    drop (field_of bytes 8 8) (drop 16 bytes),
+  )
+
+-- two regions share a byte: both have some, and one holds the other's start
+unfoldable pub share : Region → Region → Bool
+share r s =
+    nat_lt 0 (length r.bytes)
+    && (nat_lt 0 (length s.bytes) && (lies_in r s.start || lies_in s r.start))
+
+abbrev pub shares_any : Memory → Region → Bool
+shares_any [] r = false
+shares_any (s ∷ m) r = share s r || shares_any m r
+
+-- the same as record_at, where the region shares no byte with an earlier one
+unfoldable pub next_at : Memory → List ℕ → Result (Region × List ℕ) ImageError
+next_at earlier bytes = do
+  found ← record_at bytes
+  _ ← holds (not (shares_any earlier found.0)) refusal.Overlap
+  Ok found
+
+-- ---- want of memory in its place: granted says, for each number of regions that are kept, whether
+-- there is memory for one more
+
+-- the earlier regions, and then those of the bytes, at most n
+abbrev pub records_from : (ℕ → Bool) → ℕ → Memory → List ℕ → Result Memory ImageError
+records_from granted zero earlier bytes = Ok earlier
+records_from granted (suc n) earlier [] = Ok earlier
+records_from granted (suc n) earlier (b ∷ bs) = do
+  found ← next_at earlier (b ∷ bs)
+  _ ← holds (granted (length earlier)) refusal.OutOfMemory
+  records_from granted n (earlier ++ (found.0 ∷ [])) found.1
+
+-- the regions of a file, or the first refusal; a file has fewer records than bytes
+unfoldable pub records_with : (ℕ → Bool) → List ℕ → Result Memory ImageError
+records_with granted file = records_from granted (length file) [] file
+
+abbrev pub ample : ℕ → Bool
+ample kept = true
+
+-- the same where there is memory for all of them
+abbrev pub records_in : List ℕ → Result Memory ImageError
+records_in file = records_with ample file
+
+-- somewhere memory can run out, behind a record that passed its checks and before any refusal
+abbrev pub RunsOut : List ℕ → Type 0
+RunsOut file = (granted : ℕ → Bool) × (records_with granted file ≡ Err refusal.OutOfMemory)
+
+-- a refusal is the one that is defined; want of memory comes where memory can run out
+abbrev pub Refuses : {Y : Type 0} → List ℕ → ImageError → Result Y ImageError → Type 0
+Refuses file refusal.OutOfMemory said = RunsOut file
+Refuses file refusal.Truncated said = said ≡ Err refusal.Truncated
+Refuses file refusal.EndTooLarge said = said ≡ Err refusal.EndTooLarge
+Refuses file refusal.Overlap said = said ≡ Err refusal.Overlap
+
+-- what a call answered to a file, seen by view, is what the definition says, or OutOfMemory where
+-- memory can run out
+abbrev pub GivesOrRunsOut : {X Y : Type 0}
+    → List ℕ → (X → Y) → Result X ImageError → Result Y ImageError → Type 0
+GivesOrRunsOut file view (Ok x) said = said ≡ Ok (view x)
+GivesOrRunsOut file view (Err e) said = Refuses file e said

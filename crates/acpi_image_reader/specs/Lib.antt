@@ -1,0 +1,5 @@
+pub mod ErrorText
+pub mod Held
+pub mod Image
+pub mod Regions
+pub mod Starts

@@ -1,0 +1,53 @@
+//! The records of a file, in order.
+ghost use Rattle.std.specs.Prelude.{◌≡◌, ◌<◌, false, length, IfOk};
+ghost use Rattle.acpi_base.specs.Steps.{Gives};
+ghost use Rattle.acpi_image_reader.specs.Image.{GivesOrRunsOut, next_at, records_in, shares_any};
+ghost use Rattle.acpi_image_reader.specs.Regions.{region_of, regions_of};
+
+use crate::error::ImageError;
+pub use crate::kept::Records;
+use crate::record::{Record, first_record};
+use std::alloc::Allocator;
+
+/// The record that the bytes begin with, which shares no byte with an earlier one, and the bytes
+/// behind it.
+///
+/// Refuses, in this order, with `Truncated`, `EndTooLarge` and `Overlap`.
+#[tactic(auto, unfolding(crate::specs::Image::next_at))]
+fn next_record<'a, A: Allocator>(
+    earlier: &Records<'_, A>,
+    bytes: &'a [u8],
+) -> Result<(Record<'a>, &'a [u8]), ImageError>
+    ensures shorter { IfOk result (λ x. length x.1.now < length bytes.now) }
+    ensures apart { IfOk result
+        (λ x. shares_any (regions_of earlier.now.list.items) (region_of x.0) ≡ false) }
+    ensures exact { Gives (λ x. (region_of x.0, x.1.now)) result
+        (next_at (regions_of earlier.now.list.items) bytes.now) }
+{
+    let (record, rest) = first_record(bytes)?;
+    if earlier.shares_with_any(&record) {
+        return Err(ImageError::Overlap);
+    }
+    Ok((record, rest))
+}
+
+/// The records of a file, kept in memory of this allocator.
+///
+/// Refuses, records in order, and for each in this order, with `Truncated`, `EndTooLarge` and
+/// `Overlap`, and with `OutOfMemory` if there is none for a record that is accepted.
+pub fn records_of<'a, A: Allocator + Copy>(
+    alloc: A,
+    bytes: &'a [u8],
+) -> Result<Records<'a, A>, ImageError>
+    ensures { GivesOrRunsOut bytes.now (λ r. regions_of r.list.items) result
+        (records_in bytes.now) }
+{
+    let mut records = Records::none(alloc);
+    let mut rest = bytes;
+    while !rest.is_empty() {
+        let (next, behind) = next_record(&records, rest)?;
+        records = records.with(next)?;
+        rest = behind;
+    }
+    Ok(records)
+}

@@ -1,0 +1,89 @@
+//! One record of a file.
+ghost use Rattle.std.specs.Prelude.{◌^◌, ◌<◌, length, IfOk};
+ghost use Rattle.acpi_base.specs.Memory.{end_of};
+ghost use Rattle.acpi_base.specs.Steps.{Gives};
+ghost use Rattle.acpi_image_reader.specs.Image.{record_at};
+ghost use Rattle.acpi_image_reader.specs.Regions.{region_of};
+
+use crate::error::ImageError;
+use acpi_base::bytes::field;
+
+/// A region that a file spells: its first address, and its bytes, which lie in the file.
+#[derive(Clone, Copy)]
+pub(crate) struct Record<'a> {
+    pub(crate) start: u64,
+    pub(crate) bytes: &'a [u8],
+}
+
+impl<'a> Record<'a> {
+    ghost use Rattle.std.specs.Prelude.{◌≡◌, ◌-◌, ◌↔◌, IfSome, IfNone, drop, true, false};
+    ghost use Rattle.acpi_base.specs.Memory.{AreApart, lies_in};
+    ghost use Rattle.acpi_image_reader.specs.Image.{share};
+
+    /// The bytes from an address on, where it lies in this record.
+    #[tactic(auto, using(crate::proofs::Rest::is_inside, crate::proofs::Rest::is_above, crate::proofs::Rest::is_below))]
+    pub(crate) fn rest(&self, address: u64) -> Option<&'a [u8]>
+        ensures inside { IfSome result (λ s. lies_in (region_of self.now) address ≡ true) }
+        ensures bytes { IfSome result
+            (λ s. s.now ≡ drop (address - self.now.start) self.now.bytes.now) }
+        ensures outside { IfNone result (lies_in (region_of self.now) address ≡ false) }
+    {
+        if address < self.start {
+            return None;
+        }
+        let skipped = (address - self.start) as usize;
+        if skipped < self.bytes.len() {
+            Some(&self.bytes[skipped..])
+        } else {
+            None
+        }
+    }
+
+    /// Whether an address lies in this record.
+    fn holds(&self, address: u64) -> bool
+        ensures { result ≡ lies_in (region_of self.now) address }
+    {
+        self.rest(address).is_some()
+    }
+
+    /// Whether some byte lies in this record and in another. One without bytes shares none.
+    #[tactic(auto, unfolding(crate::specs::Image::share), using(crate::proofs::Sharing::share_is, crate::proofs::Sharing::apart_is))]
+    pub(crate) fn shares_byte(&self, other: &Record<'_>) -> bool
+        ensures exact { result ≡ share (region_of self.now) (region_of other.now) }
+        // That is, no address lies in both exactly where the answer is no.
+        ensures law { (result ≡ false) ↔ AreApart (region_of self.now) (region_of other.now) }
+    {
+        if self.bytes.is_empty() || other.bytes.is_empty() {
+            return false;
+        }
+        self.holds(other.start) || other.holds(self.start)
+    }
+}
+
+/// The record that the bytes begin with, and the bytes behind it.
+///
+/// Refuses, in this order, with `Truncated` and `EndTooLarge`.
+#[tactic(auto, unfolding(crate::specs::Image::record_at))]
+pub(crate) fn first_record(bytes: &[u8]) -> Result<(Record<'_>, &[u8]), ImageError>
+    ensures shorter { IfOk result (λ x. length x.1.now < length bytes.now) }
+    ensures fits { IfOk result (λ x. end_of (region_of x.0) < 2 ^ 64) }
+    ensures exact { Gives (λ x. (region_of x.0, x.1.now)) result (record_at bytes.now) }
+{
+    if bytes.len() < 16 {
+        return Err(ImageError::Truncated);
+    }
+    let start = field(bytes, 0, 8);
+    let length = field(bytes, 8, 8) as usize;
+    let behind = &bytes[16..];
+    if behind.len() < length {
+        return Err(ImageError::Truncated);
+    }
+    if length as u64 > u64::MAX - start {
+        return Err(ImageError::EndTooLarge);
+    }
+    let record = Record {
+        start,
+        bytes: &behind[..length],
+    };
+    Ok((record, &behind[length..]))
+}

@@ -1,0 +1,16 @@
+-- What files and entries hold, wherever their bytes lie.
+use Rattle.std.specs.Prelude.{ℕ, List, map, Option}
+use Rattle.std.specs.Option.{option_copied}
+use Rattle.std.specs.Borrow.{Bor}
+use Rattle.acpi_packing.specs.declared.sources.Entry.{Entry}
+
+-- the bytes of a file, none where it can't be read
+abbrev pub content : Option (Bor (List ℕ)) → Option (List ℕ)
+content file = option_copied file
+
+abbrev pub contents : List (Option (Bor (List ℕ))) → List (Option (List ℕ))
+contents files = map content files
+
+-- a file's index and its bytes
+abbrev pub entry_of : Entry → ℕ × List ℕ
+entry_of e = (e.index, e.bytes.now)

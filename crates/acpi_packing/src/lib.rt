@@ -1,0 +1,15 @@
+//! Images of memory from files: what the words of a command line ask for, where the files lie, and
+//! the file that is made.
+#![tactic(auto)]
+
+mod error;
+mod pack;
+mod place;
+pub mod run;
+pub mod save;
+mod sources;
+pub mod words;
+
+pub use error::{FileError, Refusal};
+pub use pack::{pack_files, pack_tables};
+pub use sources::Source;

@@ -1,0 +1,311 @@
+//! Images that are packed from files.
+ghost use Rattle.std.specs.Prelude.{◌≡◌, ◌≢◌, ◌+◌, ◌^◌, ◌<◌, ◌≤◌, ◌++◌, [], length, map, option_map, flat_map, IfErr, IfNone, IfOk, IfSome, OnOk, Ok, Err};
+ghost use Rattle.acpi.specs.declared.root.RootKind.TheVariants.{Xsdt};
+ghost use Rattle.acpi_base.specs.Bytes.{IsBytes};
+ghost use Rattle.acpi_base.specs.Memory.{end_of};
+ghost use Rattle.acpi_base.specs.Steps.{Gives};
+ghost use Rattle.acpi_image_reader.specs.Image.{record_spelling, shares_any};
+ghost use Rattle.acpi_image.specs.Written.{placed, placed_region, root_length};
+ghost use Rattle.acpi_packing.specs.Held.{contents, entry_of};
+ghost use Rattle.acpi_packing.specs.Pack as pack;
+ghost use Rattle.acpi_packing.specs.Pack.{all_regions, check_place, check_places, file_of, fixed_of, laid_out};
+ghost use Rattle.acpi_packing.specs.Pack.{packed_files, packed_tables, regions};
+ghost use Rattle.acpi_packing.specs.Packed.{IsMemoryFile, IsPacked};
+ghost use Rattle.acpi_packing.specs.Sources.{bytes_of};
+ghost use Rattle.acpi_packing.specs.declared.error.Refusal.TheVariants.{OutOfMemory};
+
+use crate::error::{FileError, Refusal};
+use crate::place::{place, place_one};
+use crate::sources::{Entry, Kind, Source, bytes_of, check_contents, check_tables, entries};
+use acpi::PhysicalRecord;
+use acpi::fadt::Fadt;
+use acpi_image::PlacedTable;
+use acpi_image::write::{Place, put_record, put_root, put_rsdp, shares_with_any};
+use std::alloc::Global;
+
+/// Where the RSDP lies: where the BIOS areas begin that are searched for it (section 5.2.5.1).
+const RSDP: u64 = 0xe0000;
+
+/// From where on the other tables lie: behind the BIOS areas.
+const FIRST: u64 = 0x100000;
+
+/// Whether a table shares a byte with an earlier one.
+fn shares_byte(earlier: &[PlacedTable<'_>], table: &PlacedTable<'_>) -> bool
+    ensures { result ≡ shares_any (placed earlier.now) (placed_region table.now) }
+{
+    shares_with_any(Place::of(table), earlier)
+}
+
+/// Tests where a file is put, of this index, behind the earlier ones.
+///
+/// Refuses, in this order, with `EndTooLarge` and `Overlap`.
+#[tactic(auto, unfolding(crate::specs::Pack::check_place))]
+fn check_place(
+    index: usize,
+    earlier: &[PlacedTable<'_>],
+    table: &PlacedTable<'_>,
+) -> Result<(), Refusal>
+    ensures exact { result ≡ check_place index (placed earlier.now) (placed_region table.now) }
+    ensures ends { OnOk result (end_of (placed_region table.now) < 2 ^ 64) }
+{
+    if table.bytes.len() as u64 > u64::MAX - table.address {
+        return Err(Refusal::File(index, FileError::EndTooLarge));
+    }
+    if shares_byte(earlier, table) {
+        return Err(Refusal::File(index, FileError::Overlap));
+    }
+    Ok(())
+}
+
+/// Tests where each file is put.
+///
+/// Refuses, files in order, as `check_place` does.
+fn check_places(tables: &[PlacedTable<'_>]) -> Result<(), Refusal>
+    ensures { result ≡ check_places 0 [] (placed tables.now) }
+{
+    for index in 0..tables.len() {
+        check_place(index, &tables[..index], &tables[index])?;
+    }
+    Ok(())
+}
+
+/// The records of tables, one behind the other.
+///
+/// Refuses with `OutOfMemory`.
+fn put_tables(file: &mut Vec<u8>, tables: &[PlacedTable<'_>]) -> Result<(), Refusal>
+    ensures put { OnOk result
+        (file.new.items ≡ file.old.items ++ flat_map record_spelling (placed tables.now)) }
+    ensures refused { IfErr result (λ e. e ≡ OutOfMemory) }
+    ensures bytes { OnOk result (IsBytes file.new.items) }
+{
+    for table in tables {
+        put_record(file, table)?;
+    }
+    Ok(())
+}
+
+/// Each file at its address.
+///
+/// Refuses with `OutOfMemory`.
+fn regions<'a>(
+    alloc: Global,
+    addresses: &[u64],
+    files: &[Source<'a>],
+) -> Result<Vec<PlacedTable<'a>>, Refusal>
+    ensures all { IfOk result
+        (λ v. placed v.items ≡ regions addresses.now (contents files.now)) }
+    ensures refused { IfErr result (λ e. e ≡ OutOfMemory) }
+{
+    let mut tables = Vec::new(alloc);
+    for index in 0..addresses.len().min(files.len()) {
+        tables.push(PlacedTable {
+            address: addresses[index],
+            bytes: bytes_of(files[index]),
+        })?;
+    }
+    Ok(tables)
+}
+
+/// The file of `pack_files`, by its exact clauses alone.
+#[tactic(auto, unfolding(crate::specs::Pack::packed_files))]
+fn files_image(alloc: Global, addresses: &[u64], files: &[Source<'_>]) -> Result<Vec<u8>, Refusal>
+    ensures exact { IfOk result (λ v.
+        file_of (packed_files addresses.now (contents files.now)) ≡ Ok v.items) }
+    ensures refused { IfErr result (λ e. e ≢ OutOfMemory
+        → packed_files addresses.now (contents files.now) ≡ Err e) }
+    ensures bytes { IfOk result (λ v. IsBytes v.items) }
+{
+    check_contents(files)?;
+    let tables = regions(alloc, addresses, files)?;
+    check_places(&tables)?;
+    let mut file = Vec::new(alloc);
+    put_tables(&mut file, &tables)?;
+    Ok(file)
+}
+
+/// A file of memory that holds each of these files at its address, as it is.
+///
+/// Refuses, files in order, with `Unreadable` and `Empty`; then, files in order, with `EndTooLarge`
+/// and `Overlap`; and with `OutOfMemory`.
+pub fn pack_files(
+    alloc: Global,
+    addresses: &[u64],
+    files: &[Source<'_>],
+) -> Result<Vec<u8>, Refusal>
+    // The file, or the first refusal, is the one that is defined.
+    ensures exact { IfOk result (λ v.
+        file_of (packed_files addresses.now (contents files.now)) ≡ Ok v.items) }
+    ensures refused { IfErr result (λ e. e ≢ OutOfMemory
+        → packed_files addresses.now (contents files.now) ≡ Err e) }
+    // The file is the records of the files at their addresses, and is read as the memory of these.
+    ensures law { IfOk result (λ v.
+        IsMemoryFile (regions addresses.now (contents files.now)) v.items) }
+{
+    files_image(alloc, addresses, files)
+}
+
+/// The address that a FADT gives for the DSDT, its 64-bit field first, where it is as long as a
+/// FADT is (section 5.2.9).
+#[tactic(auto, unfolding(crate::specs::Pack::address_in))]
+fn address_in(fadt: &[u8]) -> Option<u64>
+    ensures { result ≡ pack.address_in fadt.now }
+{
+    if fadt.len() < Fadt::MIN_LENGTH {
+        return None;
+    }
+    Fadt::read(fadt).dsdt_address().ok()
+}
+
+/// The address that the first FADT among tables gives for the DSDT.
+pub(crate) fn dsdt_address(tables: &[Entry<'_>]) -> Option<u64>
+    ensures { result ≡ pack.dsdt_address (bytes_of (map entry_of tables.now)) }
+{
+    for table in tables {
+        if table.bytes.starts_with(b"FACP") {
+            return address_in(table.bytes);
+        }
+    }
+    None
+}
+
+/// The DSDT, where it is to lie. It is left out where no address is given.
+///
+/// Refuses, in this order, with `EndTooLarge`, `Overlap` where it shares a byte with the RSDP, and
+/// `Overlap` for a second DSDT.
+fn dsdt_at<'a>(
+    address: Option<u64>,
+    found: &[Entry<'a>],
+) -> Result<Option<PlacedTable<'a>>, Refusal>
+    ensures exact { Gives (λ d. option_map placed_region d) result
+        (pack.dsdt_at address (map entry_of found.now)) }
+    ensures ends { IfOk result (λ d. IfSome d (λ t. end_of (placed_region t) < 2 ^ 64)) }
+{
+    let (Some(address), [first, others @ ..]) = (address, found) else {
+        return Ok(None);
+    };
+    let dsdt = PlacedTable {
+        address,
+        bytes: first.bytes,
+    };
+    let rsdp = PlacedTable {
+        address: RSDP,
+        bytes: &[0; 36],
+    };
+    check_place(first.index, &[rsdp], &dsdt)?;
+    match others {
+        [] => Ok(Some(dsdt)),
+        [second, ..] => Err(Refusal::File(second.index, FileError::Overlap)),
+    }
+}
+
+/// What the other tables keep away from: the DSDT, or where there is none, nothing.
+fn fixed_of<'a>(dsdt: Option<PlacedTable<'a>>) -> PlacedTable<'a>
+    ensures { placed_region result ≡ fixed_of (option_map placed_region dsdt.entry) }
+{
+    match dsdt {
+        Some(dsdt) => dsdt,
+        None => PlacedTable {
+            address: 0,
+            bytes: &[],
+        },
+    }
+}
+
+/// The records of an RSDP of revision 2, the XSDT at an address, the tables that it lists, and the
+/// DSDT.
+///
+/// Refuses with `OutOfMemory`.
+fn put_all(
+    file: &mut Vec<u8>,
+    root: u64,
+    tables: &[PlacedTable<'_>],
+    dsdt: Option<PlacedTable<'_>>,
+) -> Result<(), Refusal>
+    requires { root_length Xsdt (length tables.now) < 2 ^ 32 }
+    ensures put { let all = all_regions root (placed tables.now) (option_map placed_region dsdt.entry)
+        in OnOk result (file.new.items ≡ file.old.items ++ flat_map record_spelling all) }
+    ensures refused { IfErr result (λ e. e ≡ OutOfMemory) }
+    ensures bytes { OnOk result (IsBytes file.new.items) }
+{
+    put_rsdp(file, RSDP, 2, root)?;
+    put_root(file, root, 2, tables)?;
+    put_tables(file, tables)?;
+    if let Some(dsdt) = dsdt {
+        put_record(file, &dsdt)?;
+    }
+    Ok(())
+}
+
+/// The number of bytes of an XSDT that lists so many tables, where that is below 2^32.
+fn root_length(count: usize) -> Option<usize>
+    ensures there { IfSome result (λ n. n ≡ root_length Xsdt count) }
+    ensures low { IfSome result (λ n. n < 2 ^ 32) }
+    ensures none { IfNone result (2 ^ 32 ≤ root_length Xsdt count) }
+{
+    if count <= (u32::MAX as usize - 36) / 8 {
+        Some(36 + 8 * count)
+    } else {
+        None
+    }
+}
+
+/// The file that lists these tables, and holds the DSDT at its address.
+///
+/// Refuses with `NoRoom` and `OutOfMemory`.
+#[tactic(auto, unfolding(crate::specs::Pack::laid_out))]
+fn lay_out(
+    alloc: Global,
+    listed: &[Entry<'_>],
+    dsdt: Option<PlacedTable<'_>>,
+) -> Result<Vec<u8>, Refusal>
+    requires { IfSome dsdt (λ t. end_of (placed_region t) < 2 ^ 64) }
+    ensures exact { IfOk result (λ v. file_of (laid_out (option_map placed_region dsdt.entry)
+        (bytes_of (map entry_of listed.now))) ≡ Ok v.items) }
+    ensures refused { IfErr result (λ e. e ≢ OutOfMemory
+        → laid_out (option_map placed_region dsdt.entry) (bytes_of (map entry_of listed.now))
+        ≡ Err e) }
+    ensures bytes { IfOk result (λ v. IsBytes v.items) }
+{
+    let fixed = fixed_of(dsdt);
+    let length = root_length(listed.len()).ok_or(Refusal::NoRoom)?;
+    let root = place_one(&fixed, FIRST, length).ok_or(Refusal::NoRoom)?;
+    let tables = place(alloc, listed, &fixed, root + length as u64)?;
+    let mut file = Vec::new(alloc);
+    put_all(&mut file, root, &tables, dsdt)?;
+    Ok(file)
+}
+
+/// The file of `pack_tables`, by its exact clauses alone.
+#[tactic(auto, unfolding(crate::specs::Pack::packed_tables))]
+fn tables_image(alloc: Global, files: &[Source<'_>]) -> Result<Vec<u8>, Refusal>
+    ensures exact { IfOk result (λ v. file_of (packed_tables (contents files.now)) ≡ Ok v.items) }
+    ensures refused { IfErr result (λ e. e ≢ OutOfMemory
+        → packed_tables (contents files.now) ≡ Err e) }
+    ensures bytes { IfOk result (λ v. IsBytes v.items) }
+{
+    check_tables(files)?;
+    let listed = entries(alloc, files, Kind::Listed)?;
+    let found = entries(alloc, files, Kind::Dsdt)?;
+    let dsdt = dsdt_at(dsdt_address(&listed), &found)?;
+    lay_out(alloc, &listed, dsdt)
+}
+
+/// A file of memory that holds an RSDP of revision 2 at 0xe0000, an XSDT that lists these tables in
+/// order, each at a multiple of 16 from 0x100000 on and away from all others, and the DSDT where
+/// the first FADT says. The bytes of tables are kept as they are. What no root table lists is left
+/// out, and so is a DSDT for which no FADT gives an address.
+///
+/// Refuses, files in order, with `Unreadable`, `Empty`, `Short` and `Long`; then for the DSDT with
+/// `EndTooLarge` and `Overlap`; then with `NoRoom`; and with `OutOfMemory` (sections 5.2.5.3, 5.2.8
+/// and 5.2.9).
+pub fn pack_tables(alloc: Global, files: &[Source<'_>]) -> Result<Vec<u8>, Refusal>
+    // The file, or the first refusal, is the one that is defined.
+    ensures exact { IfOk result (λ v. file_of (packed_tables (contents files.now)) ≡ Ok v.items) }
+    ensures refused { IfErr result (λ e. e ≢ OutOfMemory
+        → packed_tables (contents files.now) ≡ Err e) }
+    // The file is the records of a memory and nothing else; it is read and opened, and with every
+    // sum right its valid tables are the files that are listed, in order.
+    ensures law { IfOk result (λ v. IsPacked (contents files.now) v.items) }
+{
+    tables_image(alloc, files)
+}

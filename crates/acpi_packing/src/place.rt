@@ -1,0 +1,78 @@
+//! Where tables lie.
+ghost use Rattle.std.specs.Prelude.{◌≡◌, ◌≢◌, ◌+◌, ◌^◌, ◌<◌, length, map, IfErr, IfOk, IfSome, Ok, Err};
+ghost use Rattle.acpi_image.specs.Written.{placed, placed_region};
+ghost use Rattle.acpi_base.specs.Memory.{end_of};
+ghost use Rattle.acpi_packing.specs.Held.{entry_of};
+ghost use Rattle.acpi_packing.specs.Place.{ArePlaced, aligned, place_at, placed_from};
+ghost use Rattle.acpi_packing.specs.Sources.{bytes_of};
+ghost use Rattle.acpi_packing.specs.declared.error.Refusal.TheVariants.{OutOfMemory};
+
+use crate::error::Refusal;
+use crate::sources::Entry;
+use acpi_image::PlacedTable;
+use std::alloc::Global;
+
+/// The least multiple of 16 from an address on.
+fn aligned(address: u128) -> u128
+    requires { address < 2 ^ 64 }
+    ensures { result ≡ aligned address }
+{
+    (address + 15) / 16 * 16
+}
+
+/// The address of so many bytes: the least multiple of 16 from an address on, or where they would
+/// touch what lies already, the least one behind that; `None` where they end above 2^64 - 1.
+#[tactic(auto, unfolding(crate::specs::Place::place_at, crate::specs::Place::start_at))]
+pub(crate) fn place_one(fixed: &PlacedTable<'_>, from: u64, count: usize) -> Option<u64>
+    requires { end_of (placed_region fixed.now) < 2 ^ 64 }
+    ensures value { result ≡ place_at (placed_region fixed.now) from count }
+    ensures ends { IfSome result (λ a. a + count < 2 ^ 64) }
+{
+    let count = count as u128;
+    let behind = fixed.address as u128 + fixed.bytes.len() as u128;
+    let first = aligned(from as u128);
+    let address = if first + count <= fixed.address as u128 || behind <= first {
+        first
+    } else {
+        aligned(behind)
+    };
+    if address + count < 1 << 64 {
+        Some(address as u64)
+    } else {
+        None
+    }
+}
+
+/// Tables from an address on, in order, each at the address that `place_one` gives it behind the
+/// one before it.
+///
+/// Refuses with `NoRoom` where one has none, and with `OutOfMemory`.
+pub(crate) fn place<'a>(
+    alloc: Global,
+    tables: &[Entry<'a>],
+    fixed: &PlacedTable<'_>,
+    from: u64,
+) -> Result<Vec<PlacedTable<'a>>, Refusal>
+    requires { end_of (placed_region fixed.now) < 2 ^ 64 }
+    ensures exact { IfOk result (λ v. placed_from (placed_region fixed.now) from
+        (bytes_of (map entry_of tables.now)) ≡ Ok (placed v.items)) }
+    ensures refused { IfErr result (λ e. e ≢ OutOfMemory → placed_from (placed_region fixed.now) from
+        (bytes_of (map entry_of tables.now)) ≡ Err e) }
+    ensures count { IfOk result (λ v. length v.items ≡ length tables.now) }
+    // They are aligned, lie one behind the other and away from what lies already, and fit.
+    ensures law { IfOk result (λ v. ArePlaced (placed_region fixed.now) from (placed v.items)) }
+{
+    let mut placed = Vec::new(alloc);
+    let mut next = from;
+    for table in tables {
+        let Some(address) = place_one(fixed, next, table.bytes.len()) else {
+            return Err(Refusal::NoRoom);
+        };
+        placed.push(PlacedTable {
+            address,
+            bytes: table.bytes,
+        })?;
+        next = address + table.bytes.len() as u64;
+    }
+    Ok(placed)
+}

@@ -1,0 +1,192 @@
+//! The program over files that are read, and over any writer.
+ghost use Rattle.std.specs.Prelude.{◌≡◌, ◌≢◌, [], IfErr, IfOk, Some, Ok, Err, map, string_bytes};
+ghost use Rattle.acpi_packing.specs.Held.{contents, entry_of};
+ghost use Rattle.acpi_packing.specs.Pack.{file_of};
+ghost use Rattle.acpi_packing.specs.Run.{IsReport, left_out_by, left_out_lines, packed_by};
+ghost use Rattle.acpi_packing.specs.Run.{Ends, name_of, refused_line, refused_name, usage_line};
+ghost use Rattle.acpi_packing.specs.Words.{addresses_of, request_in, request_of};
+ghost use Rattle.acpi_packing.specs.declared.error.Refusal.TheVariants.{OutOfMemory};
+
+use crate::error::Refusal;
+use crate::pack::{dsdt_address, pack_files, pack_tables};
+use crate::sources::{Entry, Kind, Source, entries};
+use crate::words::{Command, Form, parse_command};
+use std::alloc::{AllocError, Global};
+use std::io::Write;
+
+/// What a run comes to.
+#[derive(Drop)]
+pub enum Outcome {
+    /// The bytes of the image that is to be written.
+    Image(Vec<u8>),
+    /// Nothing is packed.
+    Refused(Refusal),
+    /// The words are no command.
+    NoCommand,
+    /// Standard error can't be written, or memory for what is to be printed is refused.
+    Failed,
+}
+
+/// The image that a command asks for.
+///
+/// Refuses as `pack_files` and `pack_tables` do.
+fn packed(alloc: Global, form: &Form, files: &[Source<'_>]) -> Result<Vec<u8>, Refusal>
+    ensures exact { IfOk result (λ v.
+        file_of (packed_by (addresses_of form.now) (contents files.now)) ≡ Ok v.items) }
+    ensures refused { IfErr result (λ e. e ≢ OutOfMemory
+        → packed_by (addresses_of form.now) (contents files.now) ≡ Err e) }
+{
+    match form {
+        Form::Memory(addresses) => pack_files(alloc, addresses, files),
+        Form::Tables => pack_tables(alloc, files),
+    }
+}
+
+/// The files of a command that are left out.
+///
+/// Refuses with `OutOfMemory`.
+fn left_out<'a>(alloc: Global, form: &Form, files: &[Source<'a>]) -> Result<Vec<Entry<'a>>, Refusal>
+    ensures all { IfOk result (λ v.
+        map entry_of v.items ≡ left_out_by (addresses_of form.now) (contents files.now)) }
+    ensures refused { IfErr result (λ e. e ≡ OutOfMemory) }
+{
+    if let Form::Memory(_) = form {
+        return Ok(Vec::new(alloc));
+    }
+    let mut left_out = entries(alloc, files, Kind::Unlisted)?;
+    if dsdt_address(&entries(alloc, files, Kind::Listed)?).is_none() {
+        let dsdts = entries(alloc, files, Kind::Dsdt)?;
+        match left_out.extend_from_slice(&dsdts) {
+            Ok(()) => {}
+            Err(_) => return Err(Refusal::OutOfMemory),
+        }
+    }
+    Ok(left_out)
+}
+
+/// The name of the file of this index.
+fn name_of<'w>(names: &[&'w str], index: usize) -> &'w str
+    ensures { result.now ≡ name_of (map (λ n. n.now) names.now) index }
+{
+    match names.get(index) {
+        Some(name) => *name,
+        None => "",
+    }
+}
+
+/// A line for each file that is left out.
+///
+/// Refuses where memory is refused.
+fn left_out_lines(
+    alloc: Global,
+    names: &[&str],
+    left_out: &[Entry<'_>],
+) -> Result<String, AllocError>
+    ensures { IfOk result (λ t. string_bytes t
+        ≡ left_out_lines (map (λ n. n.now) names.now) (map entry_of left_out.now)) }
+{
+    let mut text = String::new(alloc);
+    for entry in left_out {
+        let name = name_of(names, entry.index);
+        writeln!(text, "left out {name}")?;
+    }
+    Ok(text)
+}
+
+/// The name of the file that a refusal is about.
+fn refused_name<'w>(command: &Command<'w>, refusal: Refusal) -> &'w str
+    ensures { result.now ≡ refused_name (request_of command.now) refusal }
+{
+    match refusal {
+        Refusal::File(index, _) => name_of(&command.names, index),
+        Refusal::NoRoom | Refusal::OutOfMemory => command.out,
+    }
+}
+
+/// The line that says why nothing is packed.
+///
+/// Refuses where memory is refused.
+fn refused_line(
+    alloc: Global,
+    command: &Command<'_>,
+    refusal: Refusal,
+) -> Result<String, AllocError>
+    ensures { IfOk result (λ t. string_bytes t ≡ refused_line (request_of command.now) refusal) }
+{
+    let name = refused_name(command, refusal);
+    let mut text = String::new(alloc);
+    writeln!(text, "refused {name}: {refusal}")?;
+    Ok(text)
+}
+
+/// The line on the usage.
+///
+/// Refuses where memory is refused.
+fn usage_line(alloc: Global) -> Result<String, AllocError>
+    ensures { IfOk result (λ t. string_bytes t ≡ usage_line) }
+{
+    let usage = "usage: acpi_pack OUT memory ADDRESS FILE [ADDRESS FILE]... | tables FILE...\n";
+    String::from_str(alloc, usage)
+}
+
+/// What a command comes to, and what is printed of it.
+///
+/// Refuses where memory for what is printed is refused.
+fn report_command(
+    alloc: Global,
+    command: &Command<'_>,
+    files: &[Source<'_>],
+) -> Result<(Outcome, String), AllocError>
+    ensures { IfOk result (λ r.
+        IsReport (Some (request_of command.now)) (contents files.now) r.0 (string_bytes r.1)) }
+{
+    let image = match packed(alloc, &command.form, files) {
+        Ok(image) => image,
+        Err(refusal) => {
+            let text = refused_line(alloc, command, refusal)?;
+            return Ok((Outcome::Refused(refusal), text));
+        }
+    };
+    let Ok(left_out) = left_out(alloc, &command.form, files) else {
+        return Err(AllocError);
+    };
+    let text = left_out_lines(alloc, &command.names, &left_out)?;
+    Ok((Outcome::Image(image), text))
+}
+
+/// What words come to, and what is printed of it.
+///
+/// Refuses where memory for the words or for what is printed is refused.
+fn report(
+    alloc: Global,
+    words: &[&str],
+    files: &[Source<'_>],
+) -> Result<(Outcome, String), AllocError>
+    ensures { IfOk result (λ r. IsReport (request_in (map (λ w. w.now) words.now))
+        (contents files.now) r.0 (string_bytes r.1)) }
+{
+    match parse_command(alloc, words)? {
+        Some(command) => report_command(alloc, &command, files),
+        None => Ok((Outcome::NoCommand, usage_line(alloc)?)),
+    }
+}
+
+/// Runs the program on the words behind its name, and on the files that they name, in order, `None`
+/// for one that can't be read. It answers what is to be written, and prints lines: one for each
+/// file that is left out, or one that says why nothing is packed, or the usage.
+///
+/// Faults are found in this order: words that are no command, then what `pack_files` or
+/// `pack_tables` refuses.
+pub fn run<E: Write>(alloc: Global, words: &[&str], files: &[Source<'_>], err: &mut E) -> Outcome
+    // What it comes to is what is defined, and so is all that is printed.
+    ensures exact { Ends (request_in (map (λ w. w.now) words.now)) (contents files.now) result
+        (E.contents err.old) (E.contents err.new) }
+{
+    match report(alloc, words, files) {
+        Ok((outcome, text)) => match err.write_all(text.as_bytes()) {
+            Ok(()) => outcome,
+            Err(_) => Outcome::Failed,
+        },
+        Err(_) => Outcome::Failed,
+    }
+}

@@ -1,0 +1,163 @@
+//! What files hold, which of them are tables, and why one is refused by itself.
+ghost use Rattle.std.specs.Prelude.{◌≡◌, IfErr, IfOk, map};
+ghost use Rattle.acpi_packing.specs.Held.{content, contents, entry_of};
+ghost use Rattle.acpi_packing.specs.Sources as sources;
+ghost use Rattle.acpi_packing.specs.Sources.{bytes_in, is_of, is_unlisted, is_dsdt};
+ghost use Rattle.acpi_packing.specs.declared.error.Refusal.TheVariants.{OutOfMemory};
+
+use crate::error::{FileError, Refusal};
+use acpi_base::bytes::field;
+use std::alloc::Global;
+
+/// The bytes of a file, `None` where it can't be read.
+pub type Source<'a> = Option<&'a [u8]>;
+
+/// What is done with a file of tables.
+#[derive(Clone, Copy)]
+pub(crate) enum Kind {
+    /// The XSDT lists it.
+    Listed,
+    /// It lies where the FADT says.
+    Dsdt,
+    /// It is left out.
+    Unlisted,
+}
+
+/// A file and its index among all of them.
+#[derive(Clone, Copy)]
+pub(crate) struct Entry<'a> {
+    pub(crate) index: usize,
+    pub(crate) bytes: &'a [u8],
+}
+
+/// The bytes of a file, or none where it can't be read.
+pub(crate) fn bytes_of<'a>(file: Source<'a>) -> &'a [u8]
+    ensures { result.now ≡ bytes_in (content file.entry) }
+{
+    match file {
+        Some(bytes) => bytes,
+        None => &[],
+    }
+}
+
+/// Whether bytes begin with the DSDT's signature.
+fn is_dsdt(bytes: &[u8]) -> bool
+    ensures { result ≡ is_dsdt bytes.now }
+{
+    bytes.starts_with(b"DSDT")
+}
+
+/// Whether bytes are what no root table lists: the FACS, a root table, or the RSDP.
+fn is_unlisted(bytes: &[u8]) -> bool
+    ensures { result ≡ is_unlisted bytes.now }
+{
+    bytes.starts_with(b"FACS")
+        || bytes.starts_with(b"RSDT")
+        || bytes.starts_with(b"XSDT")
+        || bytes.starts_with(b"RSD PTR ")
+}
+
+impl Kind {
+    /// Whether a file with these bytes is of this kind.
+    fn has(self, bytes: &[u8]) -> bool
+        ensures { result ≡ is_of self bytes.now }
+    {
+        match self {
+            Kind::Listed => !is_dsdt(bytes) && !is_unlisted(bytes),
+            Kind::Dsdt => is_dsdt(bytes),
+            Kind::Unlisted => is_unlisted(bytes),
+        }
+    }
+}
+
+/// The files of a kind, in order.
+///
+/// Refuses with `OutOfMemory`.
+pub(crate) fn entries<'a>(
+    alloc: Global,
+    files: &[Source<'a>],
+    kind: Kind,
+) -> Result<Vec<Entry<'a>>, Refusal>
+    ensures found { IfOk result
+        (λ v. map entry_of v.items ≡ sources.entries kind 0 (contents files.now)) }
+    ensures refused { IfErr result (λ e. e ≡ OutOfMemory) }
+{
+    let mut found = Vec::new(alloc);
+    for (index, file) in files.iter().enumerate() {
+        let bytes = bytes_of(*file);
+        if kind.has(bytes) {
+            found.push(Entry { index, bytes })?;
+        }
+    }
+    Ok(found)
+}
+
+/// Tests that a file can be read, and has bytes.
+///
+/// Refuses, in this order, with `Unreadable` and `Empty`.
+fn check_content(index: usize, file: Source<'_>) -> Result<(), Refusal>
+    ensures { result ≡ sources.check_content index (content file.entry) }
+{
+    match file {
+        None => Err(Refusal::File(index, FileError::Unreadable)),
+        Some(bytes) if bytes.is_empty() => Err(Refusal::File(index, FileError::Empty)),
+        Some(_) => Ok(()),
+    }
+}
+
+/// Tests each file by itself.
+///
+/// Refuses, files in order, and for each in this order, with `Unreadable` and `Empty`.
+pub(crate) fn check_contents(files: &[Source<'_>]) -> Result<(), Refusal>
+    ensures { result ≡ sources.check_contents 0 (contents files.now) }
+{
+    for (index, file) in files.iter().enumerate() {
+        check_content(index, *file)?;
+    }
+    Ok(())
+}
+
+/// Tests that bytes have a header, and a length field that is their number.
+///
+/// Refuses, in this order, with `Short` and `Long`.
+#[tactic(auto, unfolding(crate::specs::Sources::check_length))]
+fn check_length(index: usize, bytes: &[u8]) -> Result<(), Refusal>
+    ensures { result ≡ sources.check_length index bytes.now }
+{
+    let length = field(bytes, 4, 4) as usize;
+    if bytes.len() < 36 || bytes.len() < length {
+        return Err(Refusal::File(index, FileError::Short));
+    }
+    if length < bytes.len() {
+        return Err(Refusal::File(index, FileError::Long));
+    }
+    Ok(())
+}
+
+/// Tests a file of tables.
+///
+/// Refuses, in this order, with `Unreadable`, `Empty`, and for what is not left out `Short` and
+/// `Long`.
+#[tactic(auto, unfolding(crate::specs::Sources::check_table))]
+fn check_table(index: usize, file: Source<'_>) -> Result<(), Refusal>
+    ensures { result ≡ sources.check_table index (content file.entry) }
+{
+    check_content(index, file)?;
+    let bytes = bytes_of(file);
+    if is_unlisted(bytes) {
+        return Ok(());
+    }
+    check_length(index, bytes)
+}
+
+/// Tests each file of tables by itself.
+///
+/// Refuses, files in order, as `check_table` does.
+pub(crate) fn check_tables(files: &[Source<'_>]) -> Result<(), Refusal>
+    ensures { result ≡ sources.check_tables 0 (contents files.now) }
+{
+    for (index, file) in files.iter().enumerate() {
+        check_table(index, *file)?;
+    }
+    Ok(())
+}

@@ -1,0 +1,15 @@
+//! Tests of files of memory: how they are read, written, and packed from other files.
+#![tactic(auto)]
+
+#[cfg(test)]
+mod bytes;
+#[cfg(test)]
+mod packing;
+#[cfg(test)]
+mod reading;
+#[cfg(test)]
+mod saving;
+#[cfg(test)]
+mod words;
+#[cfg(test)]
+mod writing;
