@@ -1,7 +1,6 @@
 //! Steps that look tables up, or list them.
 ghost use Rattle.std.specs.Iterator.{IsFinite};
 
-use crate::kept::Place;
 use crate::said::{Hex, Pair};
 use crate::step::Step;
 use crate::transcript::Transcript;
@@ -49,10 +48,7 @@ fn look_up_type<T: AcpiTable, H: AcpiHandler>(
             step,
         );
     }
-    match tables.find_table::<T>() {
-        Ok(table) => transcript.say(Place::of(&table)),
-        Err(error) => transcript.say(error),
-    }
+    transcript.find(tables.find_table::<T>())
 }
 
 /// Lists the headers, or the AML of the SSDTs.

@@ -1,9 +1,9 @@
 //! What steps say, as it is printed.
 
-use acpi::bgrt::Bgrt;
+use acpi::{AcpiHandler, PhysicalMapping, PhysicalRecord};
 use std::fmt::{self, Display};
 
-/// An address as it is printed.
+/// A number in hexadecimal digits.
 #[derive(Clone, Copy)]
 pub(crate) struct Hex(pub(crate) u64);
 
@@ -23,32 +23,28 @@ impl<A: Display, B: Display> Display for Pair<A, B> {
     }
 }
 
-/// Bytes in hexadecimal digits.
+/// Where a mapping begins, and how many bytes it shows of those that are lent.
 #[derive(Clone, Copy)]
-pub(crate) struct Bytes<'b>(pub(crate) &'b [u8]);
+pub(crate) struct Place {
+    start: u64,
+    shown: usize,
+    lent: usize,
+}
 
-impl Display for Bytes<'_> {
-    fn fmt<W: fmt::Write>(&self, f: &mut fmt::Formatter<W>) -> fmt::Result {
-        for byte in self.0 {
-            write!(f, "{byte:02x}")?;
+impl Place {
+    pub(crate) fn of<H: AcpiHandler, T: PhysicalRecord>(
+        mapping: &PhysicalMapping<'_, H, T>,
+    ) -> Place {
+        Place {
+            start: mapping.physical_start(),
+            shown: mapping.region_length(),
+            lent: mapping.mapped_length(),
         }
-        Ok(())
     }
 }
 
-/// The fields of a boot graphic.
-#[derive(Clone, Copy)]
-pub(crate) struct Graphic<'g>(pub(crate) &'g Bgrt);
-
-impl Display for Graphic<'_> {
+impl Display for Place {
     fn fmt<W: fmt::Write>(&self, f: &mut fmt::Formatter<W>) -> fmt::Result {
-        let graphic = self.0;
-        let (version, displayed) = (graphic.version, graphic.was_displayed());
-        let (angle, kind) = (graphic.orientation_offset(), graphic.image_type());
-        let (address, (x, y)) = (graphic.image_address, graphic.image_offset());
-        write!(
-            f,
-            "version {version} displayed {displayed} angle {angle} {kind:?} {address:#x} {x} {y}"
-        )
+        write!(f, "{:#x} {}/{}", self.start, self.shown, self.lent)
     }
 }

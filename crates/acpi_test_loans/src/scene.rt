@@ -1,10 +1,10 @@
-//! A scene: what its steps have opened and kept.
+//! A scene: what its steps open and keep.
 
-use crate::kept::{Kept, Place};
+use crate::kept::{Kept, mapped};
 use crate::lookups::{count_checks, list, look_up};
-use crate::said::{Bytes, Graphic, Pair};
+use crate::said::{Hex, Pair};
 use crate::step::Step;
-use crate::summaries::summarize;
+use crate::summaries::summary;
 use crate::transcript::Transcript;
 use acpi::rsdp::Rsdp;
 use acpi::{AcpiHandler, AcpiResult, AcpiTables};
@@ -14,11 +14,11 @@ use std::cell::Cell;
 
 /// What the steps so far have opened and kept.
 #[derive(Drop)]
-pub(crate) struct Scene<'r, H: AcpiHandler> {
-    pub(crate) handler: &'r H,
-    pub(crate) transcript: Transcript<'r>,
+struct Scene<'r, H: AcpiHandler> {
+    handler: &'r H,
+    transcript: Transcript<'r>,
     tables: Option<AcpiTables<'r, H>>,
-    pub(crate) kept: Vec<Kept<'r, H>>,
+    kept: Vec<Kept<'r, H>>,
 }
 
 /// What the last of these steps comes to.
@@ -26,7 +26,7 @@ pub(crate) fn told<'r, H: AcpiHandler>(
     alloc: Global,
     handler: &'r H,
     history: &'r Cell<History>,
-    steps: &[String],
+    steps: &str,
 ) -> Result<String, AllocError> {
     let mut scene = Scene {
         handler,
@@ -34,10 +34,9 @@ pub(crate) fn told<'r, H: AcpiHandler>(
         tables: None,
         kept: Vec::new(alloc),
     };
-    for step in steps {
-        scene.transcript.begin_anew();
-        scene.perform(alloc, Step::of(step.as_str()))?;
-        scene.transcript.tell()?;
+    for step in steps.lines() {
+        scene.transcript.begin_anew()?;
+        scene.perform(alloc, Step::of(step))?;
     }
     scene.transcript.told()
 }
@@ -45,78 +44,85 @@ pub(crate) fn told<'r, H: AcpiHandler>(
 impl<'r, H: AcpiHandler> Scene<'r, H> {
     /// Does a step.
     fn perform(&mut self, alloc: Global, step: Step<'_>) -> Result<(), AllocError> {
+        let (handler, address) = (self.handler, step.address);
         match step.verb {
-            "rsdt" | "rsdp" | "bios" | "validated" => self.open(step),
+            "rsdt" => self.open(AcpiTables::from_rsdt(handler, step.count(), address)),
+            "rsdp" => self.open(AcpiTables::from_rsdp(handler, address)),
+            "bios" => self.open(AcpiTables::search_for_rsdp_bios(handler)),
+            "validated" => self.open(validated(handler)),
+            "search" => self.transcript.find(Rsdp::search_for_on_bios(handler)),
             "close" => {
                 self.tables = None;
                 Ok(())
             }
             "release" => {
-                self.release(step.address);
+                self.release(step.count() as usize);
                 Ok(())
             }
-            "bytes" | "graphic" | "header" => self.show(step),
-            "search" | "table" | "named" | "own" | "map" | "given" => self.keep_alone(step),
+            "show" => self.show(alloc),
             _ => self.perform_below(alloc, step),
         }
     }
 
-    /// Opens the tables.
-    fn open(&mut self, step: Step<'_>) -> Result<(), AllocError> {
-        let handler = self.handler;
-        let opened = match step.verb {
-            "rsdt" => AcpiTables::from_rsdt(handler, step.number.unwrap_or(0), step.address),
-            "rsdp" => AcpiTables::from_rsdp(handler, step.address),
-            "bios" => AcpiTables::search_for_rsdp_bios(handler),
-            _ => validated(handler),
-        };
+    /// Keeps the tables, if they are opened.
+    fn open(&mut self, opened: AcpiResult<AcpiTables<'r, H>>) -> Result<(), AllocError> {
         match opened {
             Err(error) => self.transcript.say(error),
             Ok(tables) => {
-                self.transcript.say(Pair("revision", tables.revision()))?;
+                let revision = tables.revision();
                 self.tables = Some(tables);
-                Ok(())
+                self.transcript.say(Pair("revision", revision))
             }
         }
     }
 
-    /// Drops the first mapping that is kept of an address.
-    fn release(&mut self, address: u64) {
-        let place = self.kept.iter().position(|it| it.place().start == address);
-        if let Some(place) = place {
+    /// Keeps a mapping, if there is one.
+    fn keep(&mut self, mapping: AcpiResult<Kept<'r, H>>) -> Result<(), AllocError> {
+        match mapping {
+            Err(error) => self.transcript.say(error),
+            Ok(mapping) => {
+                let place = mapping.place();
+                self.kept.push(mapping)?;
+                self.transcript.say(place)
+            }
+        }
+    }
+
+    /// Drops the mapping that is kept at a place of the list.
+    fn release(&mut self, place: usize) {
+        if place < self.kept.len() {
             self.kept.remove(place);
         }
     }
 
-    /// Says what the first mapping shows that is kept of an address.
-    fn show(&mut self, step: Step<'_>) -> Result<(), AllocError> {
-        let shows = self.kept.iter().find(|it| it.place().start == step.address);
-        match shows {
-            None => self.transcript.say("nothing is kept"),
-            Some(Kept::Graphic(graphic)) if step.verb == "graphic" => {
-                self.transcript.say(Graphic(graphic))
-            }
-            Some(Kept::Header(header)) if step.verb == "header" => {
-                self.transcript.say(Pair(header.signature, header.length))
-            }
-            Some(mapping) => self.transcript.say(Bytes(mapping.bytes())),
-        }
+    /// Says what the mapping shows that is kept last, and its bytes.
+    fn show(&mut self, alloc: Global) -> Result<(), AllocError> {
+        let Some(kept) = self.kept.last() else {
+            return Ok(());
+        };
+        self.transcript.say(kept)?;
+        self.transcript.say(hex::encode(alloc, kept.bytes())?)
     }
 
-    /// Does a step that asks something of the tables.
+    /// Does a step that asks something of the tables, or that needs none.
     fn perform_below(&mut self, alloc: Global, step: Step<'_>) -> Result<(), AllocError> {
         let Some(tables) = &self.tables else {
-            return self.transcript.say("no tables");
+            return self.keep(mapped(self.handler, step));
         };
         match step.verb {
-            "keep" => match tables.find_table() {
-                Err(error) => self.transcript.say(error),
-                Ok(graphic) => self.keep(Kept::Graphic(graphic)),
-            },
+            "keep" => {
+                let graphic = found_graphic(tables);
+                self.keep(graphic)
+            }
             "find" | "faults" => look_up(&mut self.transcript, tables, step),
             "headers" | "ssdts" => list(&mut self.transcript, tables, step),
             "checks" => count_checks(&mut self.transcript, tables),
-            _ => summarize(alloc, &mut self.transcript, tables, step),
+            "dsdt" => self
+                .transcript
+                .answer(tables.dsdt().map(|it| Pair(Hex(it.address), it.length))),
+            _ => self
+                .transcript
+                .answer(summary(alloc, tables, step).map(Hex)),
         }
     }
 }
@@ -125,4 +131,9 @@ impl<'r, H: AcpiHandler> Scene<'r, H> {
 fn validated<H: AcpiHandler>(handler: &H) -> AcpiResult<AcpiTables<'_, H>> {
     let found = Rsdp::search_for_on_bios(handler)?;
     AcpiTables::from_validated_rsdp(handler, found)
+}
+
+/// The boot graphic that is found.
+fn found_graphic<'r, H: AcpiHandler>(tables: &AcpiTables<'r, H>) -> AcpiResult<Kept<'r, H>> {
+    Ok(Kept::Graphic(tables.find_table()?))
 }

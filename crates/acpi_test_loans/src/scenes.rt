@@ -10,18 +10,17 @@ use acpi_lenders::rows::{Answers, Row, shown};
 use std::alloc::{AllocError, Global};
 use std::cell::RefCell;
 
-/// The steps of a scene that were asked for so far. A scene begins with the step that names a
-/// handler. What a step finds depends on what those before it keep, so all are done anew for each
-/// question.
+/// The steps of a scene that were asked for so far, each with a line end. What a step comes to
+/// depends on what those before it keep, so all are done anew for each question.
 #[derive(Drop)]
 pub(crate) struct Scenes {
-    steps: RefCell<Vec<String>>,
+    steps: RefCell<String>,
 }
 
 impl Scenes {
     pub(crate) fn new(alloc: Global) -> Scenes {
         Scenes {
-            steps: RefCell::new(Vec::new(alloc)),
+            steps: RefCell::new(String::new(alloc)),
         }
     }
 }
@@ -34,15 +33,12 @@ impl Answers for Scenes {
         let Ok(mut steps) = self.steps.try_borrow_mut() else {
             return Ok(String::new(alloc));
         };
-        let (first, rest) = question.split_once(' ').unwrap_or((question, ""));
-        let begins = first == "exact" || first == "generous";
-        if begins {
+        if question.starts_with("exact ") || question.starts_with("generous ") {
             steps.clear();
-            steps.push(String::from_str(alloc, first)?)?;
         }
-        let step = if begins { rest } else { question };
-        steps.push(String::from_str(alloc, step)?)?;
-        answered(alloc, row, &steps)
+        steps.push_str(question)?;
+        steps.push('\n')?;
+        answered(alloc, row, steps.as_str())
     }
 }
 
@@ -51,31 +47,22 @@ fn validity(alloc: Global, bytes: &[u8], name: &str) -> Result<String, AllocErro
     if bytes.len() < SdtHeader::MIN_LENGTH {
         return Ok(String::new(alloc));
     }
-    shown(
-        alloc,
-        &SdtHeader::read(bytes).validate(signature_of(name), bytes),
-    )
+    let header = SdtHeader::read(bytes);
+    shown(alloc, &header.validate(signature_of(name), bytes))
 }
 
-/// What the last of these steps comes to, the first of which names the handler.
-fn answered(alloc: Global, row: &Row, steps: &[String]) -> Result<String, AllocError> {
+/// What the last of these steps comes to. The first begins with the handler's name.
+fn answered(alloc: Global, row: &Row, scene: &str) -> Result<String, AllocError> {
     let file = row.file(alloc)?;
-    let (Ok(image), [handler, steps @ ..]) = (MemoryImage::from_bytes(alloc, &file), steps) else {
-        return Ok(String::new(alloc));
-    };
-    if handler.as_str() == "exact" {
-        recorded(alloc, &Exact::new(&image), steps)
-    } else {
-        recorded(alloc, &image, steps)
+    match (MemoryImage::from_bytes(alloc, &file), scene.split_once(' ')) {
+        (Ok(image), Some(("exact", steps))) => recorded(alloc, &Exact::new(&image), steps),
+        (Ok(image), Some(("generous", steps))) => recorded(alloc, &image, steps),
+        _ => Ok(String::new(alloc)),
     }
 }
 
 /// The same over a handler that is recorded.
-fn recorded<H: AcpiHandler>(
-    alloc: Global,
-    handler: &H,
-    steps: &[String],
-) -> Result<String, AllocError> {
+fn recorded<H: AcpiHandler>(alloc: Global, handler: &H, steps: &str) -> Result<String, AllocError> {
     let recording = Recording::new(handler);
     told(alloc, &recording, recording.cell(), steps)
 }

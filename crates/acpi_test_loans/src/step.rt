@@ -3,8 +3,8 @@
 use acpi::sdt::Signature;
 use acpi_words::parse_address;
 
-/// What a step is made of: a verb, a name, a number and an address, of which the last three may
-/// stand in any order, or not at all.
+/// What a step is made of: a verb, and a name, a number and an address if it has them, in any
+/// order.
 #[derive(Clone, Copy)]
 pub(crate) struct Step<'s> {
     pub(crate) verb: &'s str,
@@ -33,9 +33,14 @@ impl<'s> Step<'s> {
         }
         step
     }
+
+    /// The number, or 0 if there is none.
+    pub(crate) fn count(&self) -> u8 {
+        self.number.unwrap_or(0)
+    }
 }
 
-/// The signature of a name; that of a boot graphic if it is another name than these.
+/// The signature of a name; that of a boot graphic if it is none of these.
 pub(crate) fn signature_of(name: &str) -> Signature {
     match name {
         "SSDT" => Signature::SSDT,

@@ -1,5 +1,7 @@
 //! What happened at a handler, as text.
 
+use crate::said::Place;
+use acpi::{AcpiHandler, AcpiResult, PhysicalMapping, PhysicalRecord};
 use acpi_lenders::history::{Event, History};
 use std::alloc::{AllocError, Global};
 use std::cell::Cell;
@@ -23,7 +25,7 @@ impl<'r> Transcript<'r> {
     }
 
     /// Tells what happened since.
-    pub(crate) fn tell(&mut self) -> Result<(), AllocError> {
+    fn tell(&mut self) -> Result<(), AllocError> {
         let history = self.history.replace(History::NOTHING);
         for event in history.events() {
             let (sign, address, length, lent) = match *event {
@@ -65,13 +67,38 @@ impl<'r> Transcript<'r> {
         write!(self.text, "= {said} ")
     }
 
-    /// Leaves out what was told so far.
-    pub(crate) fn begin_anew(&mut self) {
+    /// Says what a call answered.
+    pub(crate) fn answer<T: Display + Drop>(
+        &mut self,
+        answer: AcpiResult<T>,
+    ) -> Result<(), AllocError> {
+        match answer {
+            Ok(said) => self.say(said),
+            Err(error) => self.say(error),
+        }
+    }
+
+    /// Says where a mapping lies, which is dropped then.
+    pub(crate) fn find<H: AcpiHandler, T: PhysicalRecord>(
+        &mut self,
+        found: AcpiResult<PhysicalMapping<'_, H, T>>,
+    ) -> Result<(), AllocError> {
+        match found {
+            Ok(mapping) => self.say(Place::of(&mapping)),
+            Err(error) => self.say(error),
+        }
+    }
+
+    /// Leaves out what happened so far.
+    pub(crate) fn begin_anew(&mut self) -> Result<(), AllocError> {
+        self.tell()?;
         self.text.clear();
+        Ok(())
     }
 
     /// All that was told, and what is lent now.
-    pub(crate) fn told(self) -> Result<String, AllocError> {
+    pub(crate) fn told(mut self) -> Result<String, AllocError> {
+        self.tell()?;
         let Transcript {
             history: _,
             mut text,
