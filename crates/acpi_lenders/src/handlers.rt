@@ -74,6 +74,11 @@ impl<'a, H: AcpiHandler> Recording<'a, H> {
         self.history.get()
     }
 
+    /// Where the history is kept. What is put there in its place is gone on with.
+    pub fn cell(&self) -> &Cell<History> {
+        &self.history
+    }
+
     /// What is lent now, where each notice so far ended one loan.
     pub fn open(&self) -> Result<Places, Flaw> {
         self.history.get().open(self.shown)

@@ -5,6 +5,8 @@
 #[cfg(test)]
 mod callers;
 #[cfg(test)]
+mod pairing;
+#[cfg(test)]
 mod slices;
 #[cfg(test)]
 mod wakeup;

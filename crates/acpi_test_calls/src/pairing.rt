@@ -1,14 +1,6 @@
-//! What a history with a wrong notice is refused for, and mappings by themselves.
+//! What a history with a wrong notice is refused for.
 
-use crate::loans::check_open;
-use acpi::sdt::SdtHeader;
-use acpi::{AcpiHandler, AcpiResult, PhysicalMapping};
-use acpi_image::MemoryImage;
-use acpi_lenders::handlers::{Exact, Recording};
 use acpi_lenders::history::{Event, Flaw, History, Shown, places};
-use acpi_lenders::samples::graphics::long_graphic;
-use std::process::Abort;
-use std::test::Fail;
 
 /// 64 bytes are lent at 0x2000 for the 56 that were asked for.
 const LENT: Event = Event::Lent {
@@ -139,34 +131,4 @@ fn a_history_that_is_too_long_is_refused(rt: HostRuntime) {
         history_of(&[LENT; 9]).flaw(Shown::AsAsked),
     ];
     assert_eq!(rt; flaws, [None, Some(Flaw::Full), Some(Flaw::Full)]);
-}
-
-/// Maps the header of the boot graphic twice, the second time from bytes that were lent already.
-fn check_mapping<H: AcpiHandler>(rt: &impl Abort, handler: &H, lent: usize) -> AcpiResult<()> {
-    let recording = Recording::showing(handler, Shown::These(&[36, 40]));
-    let asked = PhysicalMapping::<Recording<'_, H>, SdtHeader>::map(&recording, 0x2000, 36)?;
-    check_open(rt, &recording, &[(0x2000, 36)]);
-    let bytes = recording.map_physical_region(0x2000, 40)?;
-    let given = PhysicalMapping::<Recording<'_, H>, SdtHeader>::new(0x2000, bytes, 40, &recording);
-    check_open(rt, &recording, &[(0x2000, 36), (0x2000, 40)]);
-    let asked_for = asked.region_length();
-    drop(asked);
-    check_open(rt, &recording, &[(0x2000, 40)]);
-    let lengths = [asked_for, given.region_length(), given.mapped_length()];
-    drop(given);
-    let events = recording.history().events().len();
-    assert_eq!(rt;
-        (recording.flaw(), lengths, events),
-        (None, [36, 40, lent], 4)
-    );
-    Ok(())
-}
-
-#[test]
-fn a_mapping_ends_its_own_loan(rt: HostRuntime) -> Result<(), Fail> {
-    let file = long_graphic();
-    let image = MemoryImage::from_bytes(rt.alloc(), &file)?;
-    check_mapping(&rt, &image, 64)?;
-    check_mapping(&rt, &Exact::new(&image), 40)?;
-    Ok(())
 }

@@ -1,0 +1,52 @@
+//! Steps that gather what tables say.
+
+use crate::step::Step;
+use acpi::hpet::HpetInfo;
+use acpi::platform::{ScriptedMailbox, wakeup_aps};
+use acpi::{AcpiHandler, AcpiResult, AcpiTables, PciConfigRegions};
+use linked_list_allocator::LocalHeap;
+use std::alloc::Global;
+
+/// Asks the tables for a summary, over a heap of so many bytes or else the global allocator, and
+/// answers a number of it: where the timers lie, how many regions of PCI configuration space there
+/// are, how many writes wake a processor, and 0 of a platform.
+pub(crate) fn summary<H: AcpiHandler>(
+    alloc: Global,
+    tables: &AcpiTables<'_, H>,
+    step: Step<'_>,
+) -> AcpiResult<u64> {
+    if step.verb == "wake" {
+        return wake(tables, step.count());
+    }
+    if let Some(size) = step.number {
+        return summary_in(&LocalHeap::new(alloc, size as usize)?, tables, step.verb);
+    }
+    match step.verb {
+        "platform" => {
+            let _platform = tables.platform_info(alloc)?;
+            Ok(0)
+        }
+        "pci" => Ok(PciConfigRegions::new(alloc, tables)?.iter().count() as u64),
+        _ => Ok(HpetInfo::new(tables)?.base_address),
+    }
+}
+
+/// How many writes wake a processor, if it answers the mailbox in so many reads.
+fn wake<H: AcpiHandler>(tables: &AcpiTables<'_, H>, reads: u8) -> AcpiResult<u64> {
+    let mut mailbox = ScriptedMailbox::new(&[0]);
+    wakeup_aps(tables, &mut mailbox, 1, 0x8000, reads as u64)?;
+    Ok(mailbox.writes().len() as u64)
+}
+
+/// The same over a heap.
+fn summary_in<H: AcpiHandler>(
+    heap: &LocalHeap,
+    tables: &AcpiTables<'_, H>,
+    verb: &str,
+) -> AcpiResult<u64> {
+    if verb == "pci" {
+        return Ok(PciConfigRegions::new_in(tables, heap)?.iter().count() as u64);
+    }
+    let _platform = tables.platform_info_in(heap)?;
+    Ok(0)
+}
