@@ -3,9 +3,7 @@ ghost use Rattle.std.specs.Prelude.{◌+◌, ◌≤◌, length};
 
 pub mod graphics;
 pub mod madts;
-pub mod members;
 pub mod placed;
-pub mod platforms;
 pub mod rsdps;
 
 /// Writes bytes at an offset.
@@ -14,13 +12,6 @@ pub fn put(file: &mut [u8], offset: usize, bytes: &[u8])
 {
     for (i, byte) in bytes.iter().enumerate() {
         file[offset + i] = *byte;
-    }
-}
-
-/// Writes one byte where there is one.
-pub fn change(bytes: &mut [u8], offset: usize, byte: u8) {
-    if offset < bytes.len() {
-        bytes[offset] = byte;
     }
 }
 

@@ -1,22 +1,7 @@
-//! RSDPs, the BIOS areas that a search looks at, and the root tables that RSDPs lead to.
+//! RSDPs, and the root tables that they lead to.
 ghost use Rattle.std.specs.Prelude.{◌+◌, ◌≤◌, length};
 
 use super::{put, put_graphic, put_head, put_table};
-
-/// Where the bytes of the first area begin in a file, and where they end.
-pub const AREA: usize = 34;
-
-pub const AREA_END: usize = 131122;
-
-/// Writes a word at 0x40e, and the head of the first area with the 16 bytes behind it, which are
-/// zero. More records follow at `AREA_END`.
-pub fn put_areas(file: &mut [u8], word: u16)
-    requires { 131122 ≤ length file.old }
-{
-    put_head(file, 0, 0x40e, 2);
-    put(file, 16, &word.to_le_bytes());
-    put_head(file, 18, 0xe0000, 0x20010);
-}
 
 /// Writes an RSDP of version 1 that leads to the RSDT at 0x1000.
 pub fn put_rsdp(file: &mut [u8], offset: usize, checksum: u8)
@@ -25,18 +10,6 @@ pub fn put_rsdp(file: &mut [u8], offset: usize, checksum: u8)
     put(file, offset, b"RSD PTR ");
     put(file, offset + 8, &[checksum]);
     put(file, offset + 9, b"      \0\0\x10\0\0");
-}
-
-/// Writes an RSDP of version 2 that leads to the XSDT at 0x2000.
-pub fn put_rsdp_2(file: &mut [u8], offset: usize)
-    requires { offset + 36 ≤ length file.old }
-{
-    put(
-        file,
-        offset,
-        b"RSD PTR \x1f      \x02\0\0\0\0\x24\0\0\0\0\x20",
-    );
-    put(file, offset + 32, &[0xBC]);
 }
 
 /// Writes an RSDP of version 2 and of 40 bytes, the last four being 1, 2, 3 and 4. It leads to the
