@@ -78,7 +78,12 @@ fn the_mailbox_is_read_until_it_is_taken(rt: HostRuntime) -> Result<(), Fail> {
         let mut mailbox = ScriptedMailbox::new(answers);
         let answer = wake(rt.alloc(), front(&file, 132), &mut mailbox, timeout)?;
         assert_eq!(rt;
-            (answer, Some(mailbox.calls()), mailbox.opened(), mailbox.writes()),
+            (
+                answer,
+                Some(mailbox.calls()),
+                mailbox.opened(),
+                mailbox.writes()
+            ),
             (outcome, CALLS.get(..count), Some(0x5000), WRITES.as_slice()),
             "{answers:?}"
         );
