@@ -1,5 +1,5 @@
 -- The calls that are made of a mailbox, one after the other.
-use Rattle.std.proofs.Common.{◌≡◌, ℕ, zero, suc, ◌<◌, ◌+◌, List, [], ◌∷◌, ◌++◌, refl, sym, ap, ◌∙◌, arith}
+use Rattle.std.proofs.Common.{◌≡◌, ℕ, zero, suc, ◌+◌, List, [], ◌∷◌, ◌++◌, refl, sym, ap, ◌∙◌, arith}
 use Rattle.acpi.specs.Wake.{Makes, MakesUntilWoken, NoneBelow, reads}
 use Rattle.acpi.specs.declared.platform.mailbox.MailboxCall.{MailboxCall}
 use Rattle.acpi.specs.declared.platform.mailbox.MailboxCall.TheVariants.{Read}

@@ -10,7 +10,7 @@ use Rattle.acpi_base.specs.Bytes.{field_of}
 use Rattle.acpi_base.specs.Memory.{Memory, at}
 use Rattle.acpi_base.specs.Steps.{lent}
 use Rattle.acpi_base.specs.declared.error.AcpiError.{AcpiError}
-use Rattle.acpi.specs.Rsdp.{check_first, check_rsdp, check_sum, check_whole, check_whole_at, length_of, rsdp_at, rsdp_of}
+use Rattle.acpi.specs.Rsdp.{check_first, check_rsdp, check_whole, check_whole_at, length_of, rsdp_at, rsdp_of}
 
 rsdp_front : (b : List ℕ) → rsdp_of (take 36 b) ≡ rsdp_of b
 unfolding rsdp_of field_of
