@@ -66,29 +66,36 @@ impl fmt::Display for AcpiError {
     ghost output = { λ e. Some (error_text e) };
 
     fn fmt<W: fmt::Write>(&self, f: &mut fmt::Formatter<W>) -> fmt::Result {
-        match self {
-            AcpiError::NoValidRsdp => write!(f, "NoValidRsdp"),
-            AcpiError::RsdpIncorrectSignature => write!(f, "RsdpIncorrectSignature"),
-            AcpiError::RsdpInvalidOemId => write!(f, "RsdpInvalidOemId"),
-            AcpiError::RsdpInvalidChecksum => write!(f, "RsdpInvalidChecksum"),
+        let name = match self {
             AcpiError::SdtInvalidSignature(signature) => {
-                write!(f, "SdtInvalidSignature {signature}")
+                return write!(f, "SdtInvalidSignature {signature}");
             }
-            AcpiError::SdtInvalidOemId(signature) => write!(f, "SdtInvalidOemId {signature}"),
-            AcpiError::SdtInvalidTableId(signature) => write!(f, "SdtInvalidTableId {signature}"),
+            AcpiError::SdtInvalidOemId(signature) => {
+                return write!(f, "SdtInvalidOemId {signature}");
+            }
+            AcpiError::SdtInvalidTableId(signature) => {
+                return write!(f, "SdtInvalidTableId {signature}");
+            }
             AcpiError::SdtInvalidChecksum(signature) => {
-                write!(f, "SdtInvalidChecksum {signature}")
+                return write!(f, "SdtInvalidChecksum {signature}");
             }
-            AcpiError::TableMissing(signature) => write!(f, "TableMissing {signature}"),
-            AcpiError::InvalidFacsAddress => write!(f, "InvalidFacsAddress"),
-            AcpiError::InvalidDsdtAddress => write!(f, "InvalidDsdtAddress"),
-            AcpiError::InvalidMadt(error) => write!(f, "InvalidMadt {error}"),
-            AcpiError::InvalidGenericAddress => write!(f, "InvalidGenericAddress"),
-            AcpiError::AllocError => write!(f, "AllocError"),
-            AcpiError::MapFailed => write!(f, "MapFailed"),
-            AcpiError::SdtInvalidLength(signature) => write!(f, "SdtInvalidLength {signature}"),
-            AcpiError::InvalidNamespaceString => write!(f, "InvalidNamespaceString"),
-        }
+            AcpiError::SdtInvalidLength(signature) => {
+                return write!(f, "SdtInvalidLength {signature}");
+            }
+            AcpiError::TableMissing(signature) => return write!(f, "TableMissing {signature}"),
+            AcpiError::InvalidMadt(error) => return write!(f, "InvalidMadt {error}"),
+            AcpiError::NoValidRsdp => "NoValidRsdp",
+            AcpiError::RsdpIncorrectSignature => "RsdpIncorrectSignature",
+            AcpiError::RsdpInvalidOemId => "RsdpInvalidOemId",
+            AcpiError::RsdpInvalidChecksum => "RsdpInvalidChecksum",
+            AcpiError::InvalidFacsAddress => "InvalidFacsAddress",
+            AcpiError::InvalidDsdtAddress => "InvalidDsdtAddress",
+            AcpiError::InvalidGenericAddress => "InvalidGenericAddress",
+            AcpiError::AllocError => "AllocError",
+            AcpiError::MapFailed => "MapFailed",
+            AcpiError::InvalidNamespaceString => "InvalidNamespaceString",
+        };
+        f.write_str(name)
     }
 }
 
@@ -119,16 +126,14 @@ impl fmt::Display for MadtError {
     ghost output = { λ e. Some (madt_error_text e) };
 
     fn fmt<W: fmt::Write>(&self, f: &mut fmt::Formatter<W>) -> fmt::Result {
-        match self {
-            MadtError::UnexpectedEntry => write!(f, "UnexpectedEntry"),
-            MadtError::InterruptOverrideEntryHasInvalidBus => {
-                write!(f, "InterruptOverrideEntryHasInvalidBus")
-            }
-            MadtError::InvalidLocalNmiLine => write!(f, "InvalidLocalNmiLine"),
-            MadtError::MpsIntiInvalidPolarity => write!(f, "MpsIntiInvalidPolarity"),
-            MadtError::MpsIntiInvalidTriggerMode => write!(f, "MpsIntiInvalidTriggerMode"),
-            MadtError::WakeupApsTimeout => write!(f, "WakeupApsTimeout"),
-            MadtError::InvalidEntryLength => write!(f, "InvalidEntryLength"),
-        }
+        f.write_str(match self {
+            MadtError::UnexpectedEntry => "UnexpectedEntry",
+            MadtError::InterruptOverrideEntryHasInvalidBus => "InterruptOverrideEntryHasInvalidBus",
+            MadtError::InvalidLocalNmiLine => "InvalidLocalNmiLine",
+            MadtError::MpsIntiInvalidPolarity => "MpsIntiInvalidPolarity",
+            MadtError::MpsIntiInvalidTriggerMode => "MpsIntiInvalidTriggerMode",
+            MadtError::WakeupApsTimeout => "WakeupApsTimeout",
+            MadtError::InvalidEntryLength => "InvalidEntryLength",
+        })
     }
 }

@@ -13,13 +13,46 @@ use acpi::spcr::Spcr;
 use acpi::{AcpiHandler, AcpiTable, AcpiTables, HpetInfo, PciConfigRegions};
 use std::alloc::Global;
 use std::io;
-use std::io::Write;
-use std::time::Clock;
+
+/// A call of tables that are open.
+#[derive(Clone, Copy)]
+enum Call {
+    FindFadt,
+    FindMadt,
+    FindMcfg,
+    FindHpet,
+    FindBgrt,
+    FindSpcr,
+    FindSix,
+    Headers,
+    Ssdts,
+    Dsdt,
+    Platform,
+    Hpet,
+    Pci,
+}
+
+/// The calls of open tables, as they are timed in order, and their names.
+const CALLS: [(&str, Call); 13] = [
+    ("find FACP", Call::FindFadt),
+    ("find APIC", Call::FindMadt),
+    ("find MCFG", Call::FindMcfg),
+    ("find HPET", Call::FindHpet),
+    ("find BGRT", Call::FindBgrt),
+    ("find SPCR", Call::FindSpcr),
+    ("six lookups", Call::FindSix),
+    ("headers", Call::Headers),
+    ("ssdts", Call::Ssdts),
+    ("dsdt", Call::Dsdt),
+    ("platform", Call::Platform),
+    ("hpet", Call::Hpet),
+    ("pci", Call::Pci),
+];
 
 /// Times opening, and each call of what is opened. Where nothing is opened, it times no more.
-pub(crate) fn time_calls<C: Clock, W: Write + Drop>(
+pub(crate) fn time_calls(
     alloc: Global,
-    stopwatch: &mut Stopwatch<'_, C, W>,
+    stopwatch: &mut Stopwatch<'_>,
     handler: &Counted<'_, '_>,
     root: Root,
 ) -> io::Result<()> {
@@ -29,22 +62,42 @@ pub(crate) fn time_calls<C: Clock, W: Write + Drop>(
         handler,
         &|| opened_and_found(root, handler),
     )?;
-    let Ok(tables) = root.open(handler) else {
-        return Ok(());
-    };
-    stopwatch.time("find FACP", handler, &|| place_of::<_, Fadt>(&tables))?;
-    stopwatch.time("find APIC", handler, &|| place_of::<_, Madt>(&tables))?;
-    stopwatch.time("find MCFG", handler, &|| place_of::<_, Mcfg>(&tables))?;
-    stopwatch.time("find HPET", handler, &|| place_of::<_, HpetTable>(&tables))?;
-    stopwatch.time("find BGRT", handler, &|| place_of::<_, Bgrt>(&tables))?;
-    stopwatch.time("find SPCR", handler, &|| place_of::<_, Spcr>(&tables))?;
-    stopwatch.time("six lookups", handler, &|| six_places(&tables))?;
-    stopwatch.time("headers", handler, &|| header_lengths(&tables))?;
-    stopwatch.time("ssdts", handler, &|| stream_lengths(&tables))?;
-    stopwatch.time("dsdt", handler, &|| dsdt_place(&tables))?;
-    stopwatch.time("platform", handler, &|| processors(alloc, &tables))?;
-    stopwatch.time("hpet", handler, &|| timer_place(&tables))?;
-    stopwatch.time("pci", handler, &|| function_place(alloc, &tables))
+    match root.open(handler) {
+        Ok(tables) => time_open(alloc, stopwatch, handler, &tables),
+        Err(_) => Ok(()),
+    }
+}
+
+/// Times each call of open tables.
+fn time_open<H: AcpiHandler>(
+    alloc: Global,
+    stopwatch: &mut Stopwatch<'_>,
+    handler: &Counted<'_, '_>,
+    tables: &AcpiTables<'_, H>,
+) -> io::Result<()> {
+    for (name, call) in &CALLS {
+        stopwatch.time(name, handler, &|| answer(alloc, tables, *call))?;
+    }
+    Ok(())
+}
+
+/// What a call answers.
+fn answer<H: AcpiHandler>(alloc: Global, tables: &AcpiTables<'_, H>, call: Call) -> u64 {
+    match call {
+        Call::FindFadt => place_of::<H, Fadt>(tables),
+        Call::FindMadt => place_of::<H, Madt>(tables),
+        Call::FindMcfg => place_of::<H, Mcfg>(tables),
+        Call::FindHpet => place_of::<H, HpetTable>(tables),
+        Call::FindBgrt => place_of::<H, Bgrt>(tables),
+        Call::FindSpcr => place_of::<H, Spcr>(tables),
+        Call::FindSix => six_places(tables),
+        Call::Headers => header_lengths(tables),
+        Call::Ssdts => stream_lengths(tables),
+        Call::Dsdt => dsdt_place(tables),
+        Call::Platform => processors(alloc, tables),
+        Call::Hpet => timer_place(tables),
+        Call::Pci => function_place(alloc, tables),
+    }
 }
 
 /// The revision of what is opened.

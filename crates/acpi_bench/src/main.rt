@@ -17,12 +17,14 @@ use acpi_image_reader::MemoryImage;
 use acpi_words::{texts_of, texts_or_none};
 use calls::time_calls;
 use counted::Counted;
-use std::io::Write;
+use std::fmt::Display;
 use std::process::ExitCode;
 use std::{fs, io};
 use stopwatch::Stopwatch;
 use sums::time_sums;
 use words::{Order, order_of};
+
+const USAGE: &str = "acpi_bench IMAGE rsdt REVISION ADDRESS [BATCHES] | rsdp ADDRESS [BATCHES]";
 
 fn main(rt: HostRuntime) -> ExitCode {
     ExitCode::from(bench(&rt).unwrap_or(1))
@@ -37,32 +39,42 @@ fn bench(rt: &HostRuntime) -> io::Result<u8> {
     for text in &texts {
         words.push(text.as_str())?;
     }
-    let Some(order) = order_of(&words) else {
-        let usage = "acpi_bench IMAGE rsdt REVISION ADDRESS [BATCHES] | rsdp ADDRESS [BATCHES]";
-        writeln!(rt.stderr(), "usage: {usage}")?;
-        return Ok(2);
-    };
-    let Ok(file) = fs::read(rt, order.image) else {
-        writeln!(rt.stderr(), "refused: the file can't be read")?;
-        return Ok(1);
-    };
-    run(rt, &order, &file)
+    match order_of(&words) {
+        Some(order) => bench_file(rt, order),
+        None => refuse(rt, 2, "usage", &USAGE),
+    }
 }
 
-/// Times all calls on the memory that the file spells.
-fn run(rt: &HostRuntime, order: &Order<'_>, file: &[u8]) -> io::Result<u8> {
-    let Ok(image) = MemoryImage::from_bytes(rt.alloc(), file) else {
-        writeln!(rt.stderr(), "refused: the file is no image of memory")?;
-        return Ok(1);
-    };
-    let handler = Counted::new(&image);
-    let mut stopwatch = Stopwatch::new(rt, io::writer(rt), order.batches);
-    if let Err(refusal) = order.root.open(&handler) {
-        writeln!(rt.stderr(), "refused: {refusal}")?;
-        return Ok(1);
+/// Times all calls on the memory that a file spells.
+fn bench_file(rt: &HostRuntime, order: Order<'_>) -> io::Result<u8> {
+    match fs::read(rt, order.image) {
+        Ok(file) => bench_memory(rt, order, &file),
+        Err(_) => refuse(rt, 1, "refused", &"the file can't be read"),
     }
-    time_calls(rt.alloc(), &mut stopwatch, &handler, order.root)?;
-    time_sums(rt.alloc(), &mut stopwatch, &handler)?;
+}
+
+/// The same on these bytes of the file.
+fn bench_memory(rt: &HostRuntime, order: Order<'_>, file: &[u8]) -> io::Result<u8> {
+    match MemoryImage::from_bytes(rt.alloc(), file) {
+        Ok(image) => bench_handler(rt, order, &Counted::new(&image)),
+        Err(_) => refuse(rt, 1, "refused", &"the file is no image of memory"),
+    }
+}
+
+/// The same over this handler.
+fn bench_handler(rt: &HostRuntime, order: Order<'_>, handler: &Counted<'_, '_>) -> io::Result<u8> {
+    if let Err(refusal) = order.root.open(handler) {
+        return refuse(rt, 1, "refused", &refusal);
+    }
+    let mut stopwatch = Stopwatch::new(rt, order.batches);
+    time_calls(rt.alloc(), &mut stopwatch, handler, order.root)?;
+    time_sums(rt.alloc(), &mut stopwatch, handler)?;
     stopwatch.finish()?;
     Ok(0)
+}
+
+/// Prints why nothing is timed, and answers the status that says so.
+fn refuse(rt: &HostRuntime, status: u8, how: &str, why: &impl Display) -> io::Result<u8> {
+    eprintln!(rt; "{how}: {why}")?;
+    Ok(status)
 }

@@ -2,8 +2,7 @@
 
 use crate::counted::Counted;
 use std::io;
-use std::io::Write;
-use std::time::{Clock, Instant};
+use std::time::Instant;
 
 /// How many nanoseconds a batch takes at least, so that reading the clock counts for little.
 const LONG: u64 = 20_000;
@@ -13,20 +12,18 @@ const MOST: u32 = 20;
 
 /// Times calls, and prints a line for each.
 #[derive(Drop)]
-pub(crate) struct Stopwatch<'c, C: Clock, W: Write + Drop> {
-    clock: &'c C,
-    out: W,
+pub(crate) struct Stopwatch<'r> {
+    rt: &'r HostRuntime,
     batches: u64,
     /// The sum of all answers. It is printed in the end, so that no call can be left out.
     answers: u64,
 }
 
-impl<'c, C: Clock, W: Write + Drop> Stopwatch<'c, C, W> {
+impl<'r> Stopwatch<'r> {
     /// Times so many batches of each call.
-    pub(crate) fn new(clock: &'c C, out: W, batches: u64) -> Self {
+    pub(crate) fn new(rt: &'r HostRuntime, batches: u64) -> Self {
         Stopwatch {
-            clock,
-            out,
+            rt,
             batches,
             answers: 0,
         }
@@ -45,26 +42,20 @@ impl<'c, C: Clock, W: Write + Drop> Stopwatch<'c, C, W> {
         let before = handler.requests();
         self.answers = self.answers.wrapping_add(call());
         let requests = handler.requests().wrapping_sub(before);
-        write!(self.out, "{name} requests {requests}")?;
-        if self.batches > 0 {
-            let tenths = self.least(call)?;
-            write!(self.out, " ns {}.{}", tenths / 10, tenths % 10)?;
+        if self.batches == 0 {
+            return println!(self.rt; "{name} requests {requests}");
         }
-        writeln!(self.out)
+        let tenths = self.least(call)?;
+        let (whole, tenth) = (tenths / 10, tenths % 10);
+        println!(self.rt; "{name} requests {requests} ns {whole}.{tenth}")
     }
 
-    /// Prints the sum of all answers where a clock was read, and that all is printed.
-    pub(crate) fn finish(self) -> io::Result<()> {
-        let Stopwatch {
-            mut out,
-            batches,
-            answers,
-            ..
-        } = self;
-        if batches > 0 {
-            writeln!(out, "answers {answers}")?;
+    /// Prints the sum of all answers, if a clock was read.
+    pub(crate) fn finish(&self) -> io::Result<()> {
+        if self.batches == 0 {
+            return Ok(());
         }
-        out.flush()
+        println!(self.rt; "answers {}", self.answers)
     }
 
     /// The tenths of nanoseconds that a call takes in the fastest batch.
@@ -97,11 +88,11 @@ impl<'c, C: Clock, W: Write + Drop> Stopwatch<'c, C, W> {
         requires { F.IsAlwaysCallable call.now }
     {
         let mut answers: u64 = 0;
-        let start = Instant::now(self.clock)?;
+        let start = Instant::now(self.rt)?;
         for _ in 0..calls {
             answers = answers.wrapping_add(call());
         }
-        let elapsed = start.elapsed(self.clock)?;
+        let elapsed = start.elapsed(self.rt)?;
         self.answers = self.answers.wrapping_add(answers);
         Ok(u64::try_from(elapsed.as_nanos()).unwrap_or(u64::MAX))
     }

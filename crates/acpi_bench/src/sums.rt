@@ -6,47 +6,47 @@ use acpi::sdt::byte_sum;
 use std::alloc::Global;
 use std::cell::Cell;
 use std::io;
-use std::io::Write;
-use std::time::Clock;
 
 /// How many bytes a sum is moved along before it begins anew, so that no two calls in a row are one
 /// to the compiler, and that most begin as tables do, at no particular address.
 const MOVES: usize = 16;
 
-/// Times the sum of as many bytes as a header has, a FADT of the fifth revision and more, a page,
-/// and a large table.
-pub(crate) fn time_sums<C: Clock, W: Write + Drop>(
+/// The size of a large table, the most that is summed up.
+const LARGE: usize = 1 << 20;
+
+/// How many bytes are summed up, and the names of both sums: as many as a header has, a FADT of the
+/// fifth revision and more, a page, and a large table.
+const SUMS: [(usize, &str, &str); 4] = [
+    (36, "sum of 36", "plain sum of 36"),
+    (276, "sum of 276", "plain sum of 276"),
+    (4096, "sum of 4096", "plain sum of 4096"),
+    (LARGE, "sum of 1048576", "plain sum of 1048576"),
+];
+
+/// Times both sums of so many bytes each.
+pub(crate) fn time_sums(
     alloc: Global,
-    stopwatch: &mut Stopwatch<'_, C, W>,
+    stopwatch: &mut Stopwatch<'_>,
     handler: &Counted<'_, '_>,
 ) -> io::Result<()> {
-    time_sum(alloc, stopwatch, handler, 36)?;
-    time_sum(alloc, stopwatch, handler, 276)?;
-    time_sum(alloc, stopwatch, handler, 4096)?;
-    time_sum(alloc, stopwatch, handler, 1 << 20)
+    let bytes = vec![in alloc; 0xA5; LARGE + MOVES]?;
+    time_sums_of(stopwatch, handler, &bytes)
 }
 
-/// Times both sums of so many bytes.
-fn time_sum<C: Clock, W: Write + Drop>(
-    alloc: Global,
-    stopwatch: &mut Stopwatch<'_, C, W>,
+/// The same of these bytes.
+fn time_sums_of(
+    stopwatch: &mut Stopwatch<'_>,
     handler: &Counted<'_, '_>,
-    size: usize,
+    bytes: &[u8],
 ) -> io::Result<()> {
-    let bytes = vec![in alloc; 0xA5; size.saturating_add(MOVES)]?;
-    let moved = Cell::new(0);
-    let name = format!(in alloc; "sum of {size}")?;
-    stopwatch.time(
-        &name,
-        handler,
-        &|| { u64::from(byte_sum(window(&bytes, &moved, size))) },
-    )?;
-    let name = format!(in alloc; "plain sum of {size}")?;
-    stopwatch.time(
-        &name,
-        handler,
-        &|| { u64::from(plain_sum(window(&bytes, &moved, size))) },
-    )
+    for (size, name, plain_name) in &SUMS {
+        let (size, moved) = (*size, Cell::new(0));
+        let sum = || { u64::from(byte_sum(window(bytes, &moved, size))) };
+        let plain_sum = || { u64::from(plain_sum(window(bytes, &moved, size))) };
+        stopwatch.time(name, handler, &sum)?;
+        stopwatch.time(plain_name, handler, &plain_sum)?;
+    }
+    Ok(())
 }
 
 /// So many of the bytes, or none where there are fewer, one place further than the last time.

@@ -26,7 +26,7 @@ impl Root {
 }
 
 /// What is to be timed.
-#[derive(Drop)]
+#[derive(Clone, Copy)]
 pub(crate) struct Order<'w> {
     /// The name of the file of memory.
     pub(crate) image: &'w str,
@@ -38,26 +38,36 @@ pub(crate) struct Order<'w> {
 
 /// The order that the words behind the program's name are, or `None` where they are none.
 pub(crate) fn order_of<'w>(words: &[&'w str]) -> Option<Order<'w>> {
-    let (image, root, rest) = match words {
-        [image, "rsdt", revision, address, rest @ ..] => {
-            let revision = parse_revision(revision)?;
-            let address = parse_address(address)?;
-            (image, Root::Rsdt { revision, address }, rest)
-        }
-        [image, "rsdp", address, rest @ ..] => {
-            let address = parse_address(address)?;
-            (image, Root::Rsdp { address }, rest)
-        }
-        _ => return None,
-    };
-    let batches = match rest {
-        [] => BATCHES,
-        [batches] => batches.parse().ok()?,
-        _ => return None,
-    };
+    let (image, words) = words.split_first()?;
+    let (root, words) = root_of(words)?;
     Some(Order {
         image: *image,
         root,
-        batches,
+        batches: batches_of(words)?,
     })
+}
+
+/// What leads to the tables, and the words behind it.
+fn root_of<'a, 'w>(words: &'a [&'w str]) -> Option<(Root, &'a [&'w str])> {
+    match words {
+        ["rsdt", revision, address, rest @ ..] => {
+            let revision = parse_revision(revision)?;
+            let address = parse_address(address)?;
+            Some((Root::Rsdt { revision, address }, rest))
+        }
+        ["rsdp", address, rest @ ..] => {
+            let address = parse_address(address)?;
+            Some((Root::Rsdp { address }, rest))
+        }
+        _ => None,
+    }
+}
+
+/// How many batches are timed.
+fn batches_of(words: &[&str]) -> Option<u64> {
+    match words {
+        [] => Some(BATCHES),
+        [batches] => batches.parse().ok(),
+        _ => None,
+    }
 }

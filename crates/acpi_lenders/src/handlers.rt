@@ -1,6 +1,6 @@
 //! Handlers over another handler, for tests.
 
-use crate::history::{Event, Flaw, History, Places, Shown};
+use crate::history::{Event, Flaw, History, Shown};
 use acpi::sdt::field;
 use acpi::{AcpiHandler, AcpiResult};
 use std::cell::Cell;
@@ -50,21 +50,14 @@ fn whole_of(lent: &[u8], size: usize) -> usize {
 #[derive(Drop)]
 pub struct Recording<'a, H: AcpiHandler> {
     inner: &'a H,
-    shown: Shown<'a>,
     history: Cell<History>,
 }
 
 impl<'a, H: AcpiHandler> Recording<'a, H> {
     /// For a scenario in which each mapping shows what was asked for, or the whole table.
     pub fn new(inner: &'a H) -> Self {
-        Recording::showing(inner, Shown::AsAsked)
-    }
-
-    /// For a scenario in which mappings show so many bytes.
-    pub fn showing(inner: &'a H, shown: Shown<'a>) -> Self {
         Recording {
             inner,
-            shown,
             history: Cell::new(History::NOTHING),
         }
     }
@@ -79,14 +72,9 @@ impl<'a, H: AcpiHandler> Recording<'a, H> {
         &self.history
     }
 
-    /// What is lent now, where each notice so far ended one loan.
-    pub fn open(&self) -> Result<Places, Flaw> {
-        self.history.get().open(self.shown)
-    }
-
     /// What is wrong, if anything is, now that all loans should have ended.
     pub fn flaw(&self) -> Option<Flaw> {
-        self.history.get().flaw(self.shown)
+        self.history.get().flaw(Shown::AsAsked)
     }
 
     fn record(&self, event: Event) {

@@ -81,7 +81,7 @@ impl Loan {
 /// mapping of it should show. Zeros follow.
 pub type Places = [(u64, usize); LOANS];
 
-/// These loans, as `Recording::open` answers them.
+/// These loans, as `History::open` answers them.
 pub fn places(loans: &[(u64, usize)]) -> Result<Places, Flaw> {
     let mut places = [(0, 0); LOANS];
     for (place, loan) in places.iter_mut().zip(loans) {
@@ -93,43 +93,82 @@ pub fn places(loans: &[(u64, usize)]) -> Result<Places, Flaw> {
 /// The loans that are open, in the order of the grants.
 #[derive(Clone, Copy)]
 struct Loans {
+    /// Nothing follows the first that is none.
     open: [Option<Loan>; LOANS],
+    /// How many requests were granted so far.
+    granted: usize,
 }
 
 impl Loans {
     const NONE: Loans = Loans {
         open: [None; LOANS],
+        granted: 0,
     };
 
-    fn with(mut self, loan: Loan) -> Result<Loans, Flaw> {
+    /// Adds a loan, and says whether there is room for it.
+    fn add(&mut self, loan: Loan) -> bool {
+        self.granted = self.granted.saturating_add(1);
         for place in &mut self.open {
             if place.is_none() {
                 *place = Some(loan);
-                return Ok(self);
+                return true;
             }
         }
-        Err(Flaw::Full)
+        false
     }
 
-    /// All but the first that a notice names, where there is one.
-    fn without(self, ended: (u64, usize, usize)) -> Result<Option<Loans>, Flaw> {
-        let mut left = Loans::NONE;
-        let mut found = false;
-        for loan in self.open.iter().flatten() {
-            if !found && loan.is_named(ended) {
-                found = true;
-            } else {
-                left = left.with(*loan)?;
+    /// Takes out the first that a notice names, and says whether there is one.
+    fn end(&mut self, notice: (u64, usize, usize)) -> bool {
+        let mut is_found = false;
+        for i in 0..LOANS {
+            if let Some(loan) = self.open[i] {
+                is_found = is_found || loan.is_named(notice);
+            }
+            if is_found {
+                self.open[i] = if i + 1 < LOANS {
+                    self.open[i + 1]
+                } else {
+                    None
+                };
             }
         }
-        Ok(found.then_some(left))
+        is_found
+    }
+
+    /// Goes on with what happened next.
+    fn follow(&mut self, event: Event, shown: Shown<'_>) -> Result<(), Flaw> {
+        let (is_right, flaw) = match event {
+            Event::Refused { .. } => return Ok(()),
+            Event::Lent {
+                address,
+                size,
+                whole,
+                lent,
+            } => {
+                let is_added = match shown.of(self.granted, size, whole) {
+                    None => false,
+                    Some(shown) => self.add(Loan {
+                        address,
+                        shown,
+                        lent,
+                    }),
+                };
+                (is_added, Flaw::Full)
+            }
+            Event::Ended {
+                address,
+                shown,
+                lent,
+            } => (self.end((address, shown, lent)), Flaw::Unmatched(event)),
+        };
+        if is_right { Ok(()) } else { Err(flaw) }
     }
 
     fn places(&self) -> Places {
         let mut places = [(0, 0); LOANS];
-        for (place, loan) in places.iter_mut().zip(&self.open) {
-            if let Some(loan) = loan {
-                *place = (loan.address, loan.shown.1);
+        for i in 0..LOANS {
+            if let Some(loan) = self.open[i] {
+                places[i] = (loan.address, loan.shown.1);
             }
         }
         places
@@ -191,33 +230,8 @@ impl History {
             return Err(Flaw::Full);
         }
         let mut loans = Loans::NONE;
-        let mut granted = 0usize;
         for event in self.events() {
-            match *event {
-                Event::Refused { .. } => {}
-                Event::Lent {
-                    address,
-                    size,
-                    whole,
-                    lent,
-                } => {
-                    let shown = shown.of(granted, size, whole).ok_or(Flaw::Full)?;
-                    loans = loans.with(Loan {
-                        address,
-                        shown,
-                        lent,
-                    })?;
-                    granted = granted.wrapping_add(1);
-                }
-                Event::Ended {
-                    address,
-                    shown,
-                    lent,
-                } => {
-                    let left = loans.without((address, shown, lent))?;
-                    loans = left.ok_or(Flaw::Unmatched(*event))?;
-                }
-            }
+            loans.follow(*event, shown)?;
         }
         Ok(loans)
     }
@@ -232,10 +246,10 @@ impl History {
     pub fn flaw(&self, shown: Shown<'_>) -> Option<Flaw> {
         match self.loans(shown) {
             Err(flaw) => Some(flaw),
-            Ok(loans) => {
-                let first = loans.open.iter().flatten().next()?;
-                Some(Flaw::StillLent(first.address, first.lent))
-            }
+            Ok(loans) => match loans.open[0] {
+                None => None,
+                Some(first) => Some(Flaw::StillLent(first.address, first.lent)),
+            },
         }
     }
 }

@@ -14,8 +14,8 @@
 //! - `OFFSET HEX` puts bytes into the table or region that was begun last or gone back to. Blanks
 //!   may part them, and with `*COUNT` at its end a part is put so many times.
 //! - `OFFSET "TEXT"` puts the bytes of a text there.
-//! - `sum` changes its byte 9 so that all its bytes sum to 0.
-//! - `sum AT OFFSET LENGTH` changes its byte AT so that as many bytes from an offset on sum to 0.
+//! - `sum` changes its byte 9 so that all its bytes sum to 0, and `sum LENGTH` so that its first
+//!   bytes do, so many.
 //! - `QUESTION: ANSWER` asks about the bytes as the lines before made them.
 
 mod asked;
@@ -39,6 +39,15 @@ pub struct Row {
 }
 
 impl Row {
+    /// A row that has no bytes.
+    fn named(alloc: Global, name: String) -> Row {
+        Row {
+            name,
+            kind: String::new(alloc),
+            regions: Vec::new(alloc),
+        }
+    }
+
     /// The bytes of the table.
     pub fn table(&self) -> &[u8] {
         match self.regions.last() {
@@ -56,13 +65,61 @@ impl Row {
         Ok(file)
     }
 
-    /// The same kind and the same bytes.
-    fn copied(&self, alloc: Global) -> Result<(String, Vec<Region>), AllocError> {
-        let mut regions = Vec::new(alloc);
-        for region in &self.regions {
-            regions.push(region.copied()?)?;
+    /// Becomes of a kind, and has no bytes.
+    fn begin(&mut self, kind: &str) -> Result<(), AllocError> {
+        self.regions.clear();
+        self.kind.clear();
+        self.kind.push_str(kind)
+    }
+
+    /// Takes the kind and the bytes of another row.
+    fn copy(&mut self, other: &Row) -> Result<bool, AllocError> {
+        self.begin(other.kind.as_str())?;
+        for region in &other.regions {
+            let bytes = region.bytes.clone()?;
+            self.regions.push(Region {
+                address: region.address,
+                bytes,
+            })?;
         }
-        Ok((self.kind.clone()?, regions))
+        Ok(true)
+    }
+
+    /// Begins a region of zeros, or goes back to one.
+    fn go_to(&mut self, alloc: Global, place: &str) -> Result<bool, AllocError> {
+        match place.split_once(' ') {
+            None => match self.take_out(place) {
+                None => Ok(false),
+                Some(region) => self.add(region),
+            },
+            Some((address, count)) => match (parse_address(address), count.parse::<u32>()) {
+                (Some(address), Ok(count)) => self.add_zeros(alloc, address, count),
+                _ => Ok(false),
+            },
+        }
+    }
+
+    /// Begins a table by itself.
+    fn begin_table(&mut self, alloc: Global, kind: &str, count: &str) -> Result<bool, AllocError> {
+        match count.parse::<u32>() {
+            Ok(count) if !kind.ends_with(':') => {
+                self.begin(kind)?;
+                self.add_zeros(alloc, 0, count)
+            }
+            _ => Ok(false),
+        }
+    }
+
+    /// Adds so many zeros at an address.
+    fn add_zeros(&mut self, alloc: Global, address: u64, count: u32) -> Result<bool, AllocError> {
+        let mut bytes = Vec::new(alloc);
+        bytes.resize(count as usize, 0)?;
+        self.add(Region { address, bytes })
+    }
+
+    fn add(&mut self, region: Region) -> Result<bool, AllocError> {
+        self.regions.push(region)?;
+        Ok(true)
     }
 
     /// Takes the region at an address out.
@@ -73,35 +130,19 @@ impl Row {
         Some(self.regions.remove(index))
     }
 
-    /// Changes the checksum so that all bytes sum to 0.
-    fn sum(&mut self) -> bool {
+    /// Puts what a text spells.
+    fn put(&mut self, offset: usize, text: &str) -> bool {
         match self.regions.last_mut() {
             None => false,
-            Some(region) => {
-                let count = region.bytes.len();
-                region.put_sum(9, 0, count)
-            }
+            Some(region) => region.put(offset, text),
         }
     }
 
-    /// Changes a byte so that others and it sum to 0, as three numbers say.
-    fn put_sum(&mut self, numbers: &str) -> bool {
-        let (Some(region), Some((at, range))) = (self.regions.last_mut(), numbers.split_once(' '))
-        else {
-            return false;
-        };
-        let Some((offset, count)) = range.split_once(' ') else {
-            return false;
-        };
-        match (
-            at.parse::<u32>(),
-            offset.parse::<u32>(),
-            count.parse::<u32>(),
-        ) {
-            (Ok(at), Ok(offset), Ok(count)) => {
-                region.put_sum(at as usize, offset as usize, count as usize)
-            }
-            _ => false,
+    /// Changes a checksum.
+    fn sum(&mut self, count: &str) -> bool {
+        match self.regions.last_mut() {
+            None => false,
+            Some(region) => region.sum(count),
         }
     }
 }
@@ -121,94 +162,50 @@ impl Rows {
         Rows {
             alloc,
             earlier: Vec::new(alloc),
-            row: Row {
-                name: String::new(alloc),
-                kind: String::new(alloc),
-                regions: Vec::new(alloc),
-            },
+            row: Row::named(alloc, String::new(alloc)),
         }
     }
 
     /// Does what a line says that asks nothing, and answers whether it is understood.
     pub fn take(&mut self, line: &str) -> Result<bool, AllocError> {
-        let Some((first, rest)) = line.split_once(' ') else {
-            return Ok(line.is_empty() || line == "sum" && self.row.sum());
-        };
+        let (first, rest) = line.split_once(' ').unwrap_or((line, ""));
         match first {
+            "" => Ok(rest.is_empty()),
             "#" => Ok(true),
             "=" => self.begin(rest),
-            "like" => self.take_bytes_of(rest),
-            "@" => self.go_to(rest),
+            "like" => self.copy(rest),
+            "@" => self.row.go_to(self.alloc, rest),
             "drop" => Ok(self.row.take_out(rest).is_some()),
-            "sum" => Ok(self.row.put_sum(rest)),
+            "sum" => Ok(self.row.sum(rest)),
             _ => match first.parse::<u32>() {
-                Ok(offset) => self.put(offset as usize, rest),
-                Err(_) => self.begin_table(first, rest),
+                Ok(offset) => Ok(self.row.put(offset as usize, rest)),
+                Err(_) => self.row.begin_table(self.alloc, first, rest),
             },
         }
-    }
-
-    /// The row of a name among those before the last.
-    fn earlier_row(&self, name: &str) -> Option<&Row> {
-        self.earlier.iter().find(|row| row.name.as_str() == name)
     }
 
     /// Begins a row, unless there is one of this name.
     fn begin(&mut self, name: &str) -> Result<bool, AllocError> {
-        let row = Row {
-            name: String::from_str(self.alloc, name)?,
-            kind: String::new(self.alloc),
-            regions: Vec::new(self.alloc),
-        };
+        let row = Row::named(self.alloc, String::from_str(self.alloc, name)?);
         self.earlier.push(mem::replace(&mut self.row, row))?;
-        Ok(self.earlier_row(name).is_none())
+        Ok(row_of(&self.earlier, name).is_none())
     }
 
     /// Gives the row the bytes of an earlier one.
-    fn take_bytes_of(&mut self, name: &str) -> Result<bool, AllocError> {
-        let Some(like) = self.earlier_row(name) else {
-            return Ok(false);
-        };
-        let (kind, regions) = like.copied(self.alloc)?;
-        self.row.kind = kind;
-        self.row.regions = regions;
-        Ok(true)
-    }
-
-    /// Begins a region, or goes back to one.
-    fn go_to(&mut self, place: &str) -> Result<bool, AllocError> {
-        let region = match place.split_once(' ') {
-            None => self.row.take_out(place),
-            Some((address, count)) => match (parse_address(address), count.parse::<u32>()) {
-                (Some(address), Ok(count)) => Some(Region::of_zeros(self.alloc, address, count)?),
-                _ => None,
-            },
-        };
-        let Some(region) = region else {
-            return Ok(false);
-        };
-        self.row.regions.push(region)?;
-        Ok(true)
-    }
-
-    /// Begins a table by itself.
-    fn begin_table(&mut self, kind: &str, count: &str) -> Result<bool, AllocError> {
-        let (false, Ok(count)) = (kind.ends_with(':'), count.parse::<u32>()) else {
-            return Ok(false);
-        };
-        self.row.kind = String::from_str(self.alloc, kind)?;
-        self.row.regions = Vec::new(self.alloc);
-        self.row
-            .regions
-            .push(Region::of_zeros(self.alloc, 0, count)?)?;
-        Ok(true)
-    }
-
-    /// Puts what a text spells.
-    fn put(&mut self, offset: usize, text: &str) -> Result<bool, AllocError> {
-        match self.row.regions.last_mut() {
+    fn copy(&mut self, name: &str) -> Result<bool, AllocError> {
+        match row_of(&self.earlier, name) {
             None => Ok(false),
-            Some(region) => region.put(self.alloc, offset, text),
+            Some(like) => self.row.copy(like),
         }
     }
+}
+
+/// The row of a name.
+fn row_of<'r>(rows: &'r [Row], name: &str) -> Option<&'r Row> {
+    for row in rows {
+        if row.name.as_str() == name {
+            return Some(row);
+        }
+    }
+    None
 }

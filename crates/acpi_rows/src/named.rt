@@ -15,18 +15,22 @@ pub(crate) fn named<T: Copy>(values: &[(&str, T)], name: &str) -> Option<T> {
 }
 
 /// The names of the flags that are set, in order, or `none`.
-pub(crate) fn set_names(alloc: Global, flags: &[(&str, bool)]) -> Result<String, AllocError> {
-    let mut names = String::new(alloc);
-    for (name, is_set) in flags {
+pub(crate) fn set_names(
+    alloc: Global,
+    names: &[&str],
+    flags: &[bool],
+) -> Result<String, AllocError> {
+    let mut text = String::new(alloc);
+    for (name, is_set) in names.iter().zip(flags) {
         if *is_set {
-            names.push_str(if names.is_empty() { "" } else { " " })?;
-            names.push_str(name)?;
+            text.push_str(if text.is_empty() { "" } else { " " })?;
+            text.push_str(name)?;
         }
     }
-    if names.is_empty() {
-        names.push_str("none")?;
+    if text.is_empty() {
+        text.push_str("none")?;
     }
-    Ok(names)
+    Ok(text)
 }
 
 /// The text of the field of a name, in the text of a value as it is debugged.

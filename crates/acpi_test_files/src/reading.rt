@@ -1,11 +1,13 @@
 //! Files of memory that are read, and why others are not.
 
+use crate::bytes::Room;
+use crate::checks::{check, check_at};
 use acpi_base::{AcpiError, AcpiHandler};
 use acpi_image::{ImageError, MemoryImage};
 use acpi_image_reader::reader::records_of;
 use linked_list_allocator::LocalHeap;
 use std::alloc::Global;
-use std::test::Fail;
+use std::process::Abort;
 
 /// A record: its start, its length, and the bytes behind these.
 type Record = (u64, u64, &'static [u8]);
@@ -145,136 +147,187 @@ static ROWS: [Row; 13] = [
 ];
 
 /// Puts a record behind those of a file.
-fn put(file: &mut Vec<u8>, (start, length, bytes): (u64, u64, &[u8])) -> Result<(), Fail> {
-    file.extend_from_slice(&start.to_le_bytes())?;
-    file.extend_from_slice(&length.to_le_bytes())?;
-    file.extend_from_slice(bytes)?;
-    Ok(())
+fn put(file: &mut Room, (start, length, bytes): (u64, u64, &[u8])) {
+    file.push(&start.to_le_bytes());
+    file.push(&length.to_le_bytes());
+    file.push(bytes);
+}
+
+/// The file of some records, cut behind so many bytes.
+fn file_of(records: &[Record], left: usize) -> Room {
+    let mut file = Room::EMPTY;
+    for record in records {
+        put(&mut file, *record);
+    }
+    file.truncate(left);
+    file
 }
 
 /// Whether a request for some bytes is answered so: by these bytes, or for `None` by a refusal.
 fn is_lent(image: &MemoryImage<'_>, address: u64, size: usize, wanted: Option<&[u8]>) -> bool {
-    if size == 0 {
-        return false;
-    }
-    match (image.map_physical_region(address, size), wanted) {
-        (Ok(lent), Some(bytes)) => lent == bytes,
-        (Err(error), None) => error == AcpiError::MapFailed,
-        _ => false,
+    let wanted = wanted.ok_or(AcpiError::MapFailed);
+    size != 0 && image.map_physical_region(address, size) == wanted
+}
+
+/// Checks how each request is answered.
+fn check_lent(
+    rt: &impl Abort,
+    name: &str,
+    image: &MemoryImage<'_>,
+    requests: &[(u64, usize, Option<&[u8]>)],
+) {
+    for (address, size, wanted) in requests {
+        check_at(rt, name, *address, is_lent(image, *address, *size, *wanted));
     }
 }
 
+/// Checks why a file is refused, and what is lent if it is not.
+fn check_file(
+    rt: &impl Abort,
+    alloc: Global,
+    name: &str,
+    file: &[u8],
+    wanted: Option<ImageError>,
+    requests: &[Request],
+) {
+    let refused = match MemoryImage::from_bytes(alloc, file) {
+        Ok(image) => {
+            check_lent(rt, name, &image, requests);
+            None
+        }
+        Err(error) => Some(error),
+    };
+    check(rt, name, refused, wanted);
+}
+
 #[test]
-fn each_file_is_read_as_its_row_says(rt: HostRuntime) -> Result<(), Fail> {
+fn each_file_is_read_as_its_row_says(rt: HostRuntime) {
     for row in &ROWS {
-        let mut file = Vec::new(rt.alloc());
-        for record in row.records {
-            put(&mut file, *record)?;
-        }
-        file.truncate(row.left);
-        let image = MemoryImage::from_bytes(rt.alloc(), &file);
-        if let Ok(image) = &image {
-            for (address, size, lent) in row.requests {
-                let is_right = is_lent(image, *address, *size, *lent);
-                assert!(rt; is_right, "{} at {address}", row.name);
-            }
-        }
-        assert_eq!(rt; image.err(), row.refused, "{}", row.name);
+        let file = file_of(row.records, row.left);
+        let (refused, requests) = (row.refused, row.requests);
+        check_file(&rt, rt.alloc(), row.name, file.bytes(), refused, requests);
     }
-    Ok(())
 }
 
 /// Forty records of two bytes that touch, from 0x1000 on, in another order than that of their
 /// starts, and one of no bytes. The bytes of the one at 0x1000 + 2 i are i and i + 100.
-fn forty(alloc: Global) -> Result<Vec<u8>, Fail> {
-    let mut file = Vec::new(alloc);
+fn forty() -> Room {
+    let mut file = Room::EMPTY;
     for index in 0..40u64 {
         let place = 7 * index % 40;
         let bytes = [place as u8, place as u8 + 100];
-        put(&mut file, (0x1000 + 2 * place, 2, &bytes))?;
+        put(&mut file, (0x1000 + 2 * place, 2, &bytes));
     }
-    put(&mut file, (0x1007, 0, &[]))?;
-    Ok(file)
+    put(&mut file, (0x1007, 0, &[]));
+    file
 }
 
-#[test]
-fn lends_each_of_many_records(rt: HostRuntime) -> Result<(), Fail> {
-    let file = forty(rt.alloc())?;
-    let image = MemoryImage::from_bytes(rt.alloc(), &file)?;
+/// Checks what is lent of each of the forty records, and around them.
+fn check_forty(rt: &impl Abort, image: &MemoryImage<'_>) {
     for place in 0..40u8 {
         let start = 0x1000 + 2 * u64::from(place);
         let bytes = [place, place + 100];
-        assert!(rt; is_lent(&image, start, 2, Some(&bytes)), "{place}");
-        assert!(rt; is_lent(&image, start + 1, 1, Some(&bytes[1..])), "{place}");
-        assert!(rt; is_lent(&image, start, 3, None), "{place}");
+        let requests = [
+            (start, 2, Some(bytes.as_slice())),
+            (start + 1, 1, Some(&bytes[1..])),
+            (start, 3, None),
+        ];
+        check_lent(rt, "one of forty", image, &requests);
     }
-    for address in [0xFFF, 0x1050, u64::MAX] {
-        assert!(rt; is_lent(&image, address, 1, None), "{address}");
-    }
-    Ok(())
+    let around = [(0xFFF, 1, None), (0x1050, 1, None), (u64::MAX, 1, None)];
+    check_lent(rt, "none of forty", image, &around);
 }
 
 #[test]
-fn compares_a_record_with_all_before_it(rt: HostRuntime) -> Result<(), Fail> {
-    // the last record behind forty others that lie from 0x1000 to 0x1050
-    let refused = Some(ImageError::Overlap);
-    for (start, count, answer) in [
-        (0xFF0, 16, None),
-        (0xFF0, 17, refused),
-        (0x104F, 1, refused),
-        (0x1050, 100, None),
-        (0xF80, 0x100, refused),
-        (0x1021, 0, None),
-    ] {
-        let mut file = forty(rt.alloc())?;
-        put(&mut file, (start, count as u64, &[7; 0x100][..count]))?;
-        let image = MemoryImage::from_bytes(rt.alloc(), &file);
-        assert_eq!(rt; image.err(), answer, "from {start}");
+fn lends_each_of_many_records(rt: HostRuntime) {
+    let file = forty();
+    match MemoryImage::from_bytes(rt.alloc(), file.bytes()) {
+        Ok(image) => check_forty(&rt, &image),
+        Err(error) => check(&rt, "forty", Some(error), None),
     }
-    Ok(())
+}
+
+/// Records behind the forty, which lie from 0x1000 to 0x1050: the start, the length, and why the
+/// file is refused.
+static LASTS: [(&str, u64, usize, Option<ImageError>); 6] = [
+    ("up to the first", 0xFF0, 16, None),
+    ("into the first", 0xFF0, 17, Some(ImageError::Overlap)),
+    ("in the last", 0x104F, 1, Some(ImageError::Overlap)),
+    ("from the last on", 0x1050, 100, None),
+    ("over all", 0xF80, 0x100, Some(ImageError::Overlap)),
+    ("empty", 0x1021, 0, None),
+];
+
+#[test]
+fn compares_a_record_with_all_before_it(rt: HostRuntime) {
+    for (name, start, count, refused) in LASTS {
+        let mut file = forty();
+        put(
+            &mut file,
+            (start, count as u64, &[7; 0x100][..count.min(0x100)]),
+        );
+        check_file(&rt, rt.alloc(), name, file.bytes(), refused, &[]);
+    }
+}
+
+/// How many of the fifteen lowest addresses lend a 7 and nothing behind it, for a file that is read
+/// in a heap.
+fn sevens_in(heap: &LocalHeap, file: &[u8]) -> Result<usize, ImageError> {
+    let records = records_of(heap, file)?;
+    let mut sevens = 0usize;
+    for start in 0..15u64 {
+        if records.rest_at(start) == [7].as_slice() {
+            sevens = sevens.wrapping_add(1);
+        }
+    }
+    Ok(sevens)
+}
+
+/// The same in a heap of so many bytes, and how many of these are used afterwards. `None` if there
+/// is no such heap.
+fn sevens_within(
+    alloc: Global,
+    room: usize,
+    file: &[u8],
+) -> Option<(Result<usize, ImageError>, usize)> {
+    let heap = LocalHeap::new(alloc, room).ok()?;
+    let sevens = sevens_in(&heap, file);
+    Some((sevens, heap.used()))
 }
 
 #[test]
-fn each_growth_refused_in_turn(rt: HostRuntime) -> Result<(), Fail> {
-    let mut file = Vec::new(rt.alloc());
+fn each_growth_refused_in_turn(rt: HostRuntime) {
+    let mut file = Room::EMPTY;
     for start in 0..14u64 {
-        put(&mut file, (start, 1, &[7]))?;
+        put(&mut file, (start, 1, &[7]));
     }
     let (mut refused, mut read) = (0u32, 0u32);
     for blocks in 0..256usize {
-        let heap = LocalHeap::new(rt.alloc(), 16 * blocks)?;
-        match records_of(&heap, &file) {
-            Ok(records) => {
-                let lent = (0..15u64)
-                    .filter(|start| records.rest_at(*start) == [7].as_slice())
-                    .count();
-                assert_eq!(rt; lent, 14);
-                read = read.wrapping_add(1);
-            }
-            Err(error) => {
-                assert_eq!(rt; error, ImageError::OutOfMemory);
-                refused = refused.wrapping_add(1);
-            }
+        let found = sevens_within(rt.alloc(), 16 * blocks, file.bytes());
+        if found == Some((Ok(14), 0)) {
+            read = read.wrapping_add(1);
+        } else {
+            check(
+                &rt,
+                "refused",
+                found,
+                Some((Err(ImageError::OutOfMemory), 0)),
+            );
+            refused = refused.wrapping_add(1);
         }
-        assert_eq!(rt; heap.used(), 0);
     }
-    assert!(rt; refused > 1 && read > 1);
-    Ok(())
+    check(&rt, "both", refused > 1 && read > 1, true);
 }
 
 #[test]
-fn memory_is_asked_for_behind_the_checks(rt: HostRuntime) -> Result<(), Fail> {
-    let heap = LocalHeap::new(rt.alloc(), 0)?;
-    let mut file = Vec::new(rt.alloc());
-    put(&mut file, ROOT)?;
-    put(&mut file, GRAPHIC)?;
+fn memory_is_asked_for_behind_the_checks(rt: HostRuntime) {
     for (left, answer) in [
-        (127, Some(ImageError::OutOfMemory)),
-        (15, Some(ImageError::Truncated)),
-        (0, None),
+        (127, Err(ImageError::OutOfMemory)),
+        (15, Err(ImageError::Truncated)),
+        (0, Ok(0)),
     ] {
-        file.truncate(left);
-        assert_eq!(rt; records_of(&heap, &file).err(), answer, "{left}");
+        let file = file_of(&[ROOT, GRAPHIC], left);
+        let found = sevens_within(rt.alloc(), 0, file.bytes());
+        check(&rt, "without memory", found, Some((answer, 0)));
     }
-    Ok(())
 }

@@ -1,18 +1,35 @@
 //! Words that can't be had.
 
+use crate::checks::check;
 use acpi_words::texts_or_none;
+use std::alloc::Global;
 use std::io;
 use std::io::ErrorKind;
-use std::test::Fail;
+
+/// One word that was had.
+fn one_word(alloc: Global) -> io::Result<Vec<String>> {
+    let word = String::from_str(alloc, "some.image")?;
+    Ok(vec![in alloc; word]?)
+}
+
+/// How many words there are where these were had, or none where they are refused.
+fn words_of(alloc: Global, texts: io::Result<Vec<String>>) -> Option<usize> {
+    match texts_or_none(alloc, texts) {
+        Ok(texts) => Some(texts.len()),
+        Err(_) => None,
+    }
+}
 
 #[test]
-fn words_that_cant_be_had(rt: HostRuntime) -> Result<(), Fail> {
+fn words_that_cant_be_had(rt: HostRuntime) {
     let alloc = rt.alloc();
-    let texts = vec![in alloc; String::from_str(alloc, "some.image")?]?;
-    assert_eq!(rt; texts_or_none(alloc, Ok(texts))?.len(), 1);
-    let refused = Err(io::Error::from(ErrorKind::OutOfMemory));
-    assert!(rt; texts_or_none(alloc, refused).is_err());
+    let out_of_memory = Err(io::Error::from(ErrorKind::OutOfMemory));
     let no_text = Err(io::Error::from(ErrorKind::InvalidData));
-    assert_eq!(rt; texts_or_none(alloc, no_text)?.len(), 0);
-    Ok(())
+    for (name, found, wanted) in [
+        ("had", words_of(alloc, one_word(alloc)), Some(1)),
+        ("out of memory", words_of(alloc, out_of_memory), None),
+        ("no text", words_of(alloc, no_text), Some(0)),
+    ] {
+        check(&rt, name, found, wanted);
+    }
 }

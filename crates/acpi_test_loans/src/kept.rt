@@ -1,7 +1,8 @@
 //! Mappings that a scene keeps.
 
-use crate::said::Place;
+use crate::said::{Pair, Place};
 use crate::step::{Step, signature_of};
+use crate::verb::Verb;
 use acpi::bgrt::Bgrt;
 use acpi::sdt::{SdtHeader, map_own_sdt, map_sdt, map_table};
 use acpi::{AcpiHandler, AcpiResult, PhysicalMapping};
@@ -34,15 +35,17 @@ impl<H: AcpiHandler> Kept<'_, H> {
 impl<H: AcpiHandler> Display for Kept<'_, H> {
     fn fmt<W: fmt::Write>(&self, f: &mut fmt::Formatter<W>) -> fmt::Result {
         match self {
-            Kept::Header(header) => write!(f, "{} {}", header.signature, header.length),
-            Kept::Graphic(graphic) => {
-                let shown = (graphic.version, graphic.was_displayed());
-                let turned = (graphic.orientation_offset(), graphic.image_type());
-                let placed = (graphic.image_address, graphic.image_offset());
-                write!(f, "{shown:?} {turned:?} {placed:?}")
-            }
+            Kept::Header(header) => Pair(header.signature, header.length).fmt(f),
+            Kept::Graphic(graphic) => show_graphic(graphic, f),
         }
     }
+}
+
+fn show_graphic<W: fmt::Write>(graphic: &Bgrt, f: &mut fmt::Formatter<W>) -> fmt::Result {
+    let shown = (graphic.version, graphic.was_displayed());
+    let turned = (graphic.orientation_offset(), graphic.image_type());
+    let placed = (graphic.image_address, graphic.image_offset());
+    write!(f, "{shown:?} {turned:?} {placed:?}")
 }
 
 /// What lies at an address, mapped in the way that a step says.
@@ -50,15 +53,31 @@ pub(crate) fn mapped<'h, H: AcpiHandler>(
     handler: &'h H,
     step: Step<'_>,
 ) -> AcpiResult<Kept<'h, H>> {
+    match step.verb {
+        Verb::Table => Ok(Kept::Graphic(map_table(handler, step.address)?)),
+        _ => Ok(Kept::Header(header_mapped(handler, step)?)),
+    }
+}
+
+/// A header, mapped in the way that a step says.
+fn header_mapped<'h, H: AcpiHandler>(
+    handler: &'h H,
+    step: Step<'_>,
+) -> AcpiResult<PhysicalMapping<'h, H, SdtHeader>> {
     let address = step.address;
-    Ok(match step.verb {
-        "table" => Kept::Graphic(map_table(handler, address)?),
-        "named" => Kept::Header(map_sdt(handler, address, signature_of(step.name))?),
-        "own" => Kept::Header(map_own_sdt(handler, address)?),
-        "given" => {
-            let bytes = handler.map_physical_region(address, 40)?;
-            Kept::Header(PhysicalMapping::new(address, bytes, 40, handler))
-        }
-        _ => Kept::Header(PhysicalMapping::map(handler, address, 36)?),
-    })
+    match step.verb {
+        Verb::Named => map_sdt(handler, address, signature_of(step.name)),
+        Verb::Own => map_own_sdt(handler, address),
+        Verb::Given => header_given(handler, address),
+        _ => PhysicalMapping::map(handler, address, 36),
+    }
+}
+
+/// A header in bytes that were lent before.
+fn header_given<H: AcpiHandler>(
+    handler: &H,
+    address: u64,
+) -> AcpiResult<PhysicalMapping<'_, H, SdtHeader>> {
+    let bytes = handler.map_physical_region(address, 40)?;
+    Ok(PhysicalMapping::new(address, bytes, 40, handler))
 }

@@ -1,9 +1,10 @@
-//! Steps that look tables up, or list them.
-ghost use Rattle.std.specs.Iterator.{IsFinite};
+//! Steps that ask something of the tables.
 
 use crate::said::{Hex, Pair};
 use crate::step::Step;
+use crate::summaries::summary;
 use crate::transcript::Transcript;
+use crate::verb::{Kind, Verb};
 use acpi::bgrt::Bgrt;
 use acpi::fadt::Fadt;
 use acpi::hpet::HpetTable;
@@ -13,24 +14,64 @@ use acpi::spcr::Spcr;
 use acpi::{AcpiHandler, AcpiTable, AcpiTables};
 use acpi_lenders::example::Wsmt;
 use acpi_lenders::watched::Watched;
-use std::alloc::AllocError;
-use std::fmt::Display;
+use std::alloc::Global;
 
-/// Looks a table up or lists why others are passed over, by the name of its type.
-pub(crate) fn look_up<H: AcpiHandler>(
+/// Asks the tables what a step says.
+pub(crate) fn ask<H: AcpiHandler>(
+    alloc: Global,
     transcript: &mut Transcript<'_>,
     tables: &AcpiTables<'_, H>,
     step: Step<'_>,
-) -> Result<(), AllocError> {
-    match step.name {
-        "FACP" => look_up_type::<Fadt, H>(transcript, tables, step),
-        "APIC" => look_up_type::<Madt, H>(transcript, tables, step),
-        "HPET" => look_up_type::<HpetTable, H>(transcript, tables, step),
-        "MCFG" => look_up_type::<Mcfg, H>(transcript, tables, step),
-        "BGRT" => look_up_type::<Bgrt, H>(transcript, tables, step),
-        "SPCR" => look_up_type::<Spcr, H>(transcript, tables, step),
-        "WSMT" => look_up_type::<Wsmt, H>(transcript, tables, step),
-        _ => transcript.say("no such table"),
+) {
+    match step.verb {
+        Verb::Find | Verb::Faults => look_up(transcript, tables, step),
+        Verb::Headers => list_headers(transcript, tables, step.most()),
+        Verb::Ssdts => list_streams(transcript, tables, step.most()),
+        Verb::Checks => count_checks(transcript, tables),
+        Verb::Dsdt => say_dsdt(transcript, tables),
+        Verb::Platform | Verb::Hpet | Verb::Pci | Verb::Wake => {
+            sum_up(alloc, transcript, tables, step);
+        }
+        _ => transcript.say(&"no such question"),
+    }
+}
+
+/// Says where the AML of the DSDT lies.
+fn say_dsdt<H: AcpiHandler>(transcript: &mut Transcript<'_>, tables: &AcpiTables<'_, H>) {
+    match tables.dsdt() {
+        Ok(stream) => transcript.say(&Pair(Hex(stream.address), stream.length)),
+        Err(error) => transcript.say(&error),
+    }
+}
+
+/// Says a summary.
+fn sum_up<H: AcpiHandler>(
+    alloc: Global,
+    transcript: &mut Transcript<'_>,
+    tables: &AcpiTables<'_, H>,
+    step: Step<'_>,
+) {
+    match summary(alloc, tables, step) {
+        Ok(number) => transcript.say(&Hex(number)),
+        Err(error) => transcript.say(&error),
+    }
+}
+
+/// Looks a table up or lists why others are passed over, by the name of its type.
+fn look_up<H: AcpiHandler>(
+    transcript: &mut Transcript<'_>,
+    tables: &AcpiTables<'_, H>,
+    step: Step<'_>,
+) {
+    match Kind::of(step.name) {
+        Some(Kind::Fadt) => look_up_type::<Fadt, H>(transcript, tables, step),
+        Some(Kind::Madt) => look_up_type::<Madt, H>(transcript, tables, step),
+        Some(Kind::Hpet) => look_up_type::<HpetTable, H>(transcript, tables, step),
+        Some(Kind::Mcfg) => look_up_type::<Mcfg, H>(transcript, tables, step),
+        Some(Kind::Bgrt) => look_up_type::<Bgrt, H>(transcript, tables, step),
+        Some(Kind::Spcr) => look_up_type::<Spcr, H>(transcript, tables, step),
+        Some(Kind::Wsmt) => look_up_type::<Wsmt, H>(transcript, tables, step),
+        None => transcript.say(&"no such table"),
     }
 }
 
@@ -39,65 +80,48 @@ fn look_up_type<T: AcpiTable, H: AcpiHandler>(
     transcript: &mut Transcript<'_>,
     tables: &AcpiTables<'_, H>,
     step: Step<'_>,
-) -> Result<(), AllocError> {
-    if step.verb == "faults" {
-        let faults = tables.faults::<T>();
-        return walk(
-            transcript,
-            faults.map(|it| Pair(Hex(it.address), it.error)),
-            step,
-        );
+) {
+    match step.verb {
+        Verb::Find => transcript.find(tables.find_table::<T>()),
+        _ => list_faults::<T, H>(transcript, tables, step.most()),
     }
-    transcript.find(tables.find_table::<T>())
 }
 
-/// Lists the headers, or the AML of the SSDTs.
-pub(crate) fn list<H: AcpiHandler>(
+fn list_faults<T: AcpiTable, H: AcpiHandler>(
     transcript: &mut Transcript<'_>,
     tables: &AcpiTables<'_, H>,
-    step: Step<'_>,
-) -> Result<(), AllocError> {
-    if step.verb == "headers" {
-        let headers = tables.headers();
-        return walk(
-            transcript,
-            headers.map(|it| Pair(it.signature, it.length)),
-            step,
-        );
+    most: usize,
+) {
+    for fault in tables.faults::<T>().take(most) {
+        transcript.say(&Pair(Hex(fault.address), fault.error));
     }
-    let streams = tables.ssdts();
-    walk(
-        transcript,
-        streams.map(|it| Pair(Hex(it.address), it.length)),
-        step,
-    )
 }
 
-/// Says each item that an iterator gives, or so many of them at most.
-fn walk<I: Iterator + Drop>(
+fn list_headers<H: AcpiHandler>(
     transcript: &mut Transcript<'_>,
-    items: I,
-    step: Step<'_>,
-) -> Result<(), AllocError>
-where
-    I::Item: Display + Drop,
-    requires can { I.can_next items }
-    requires ends { IsFinite (I.remaining items) }
-{
-    let most = step.number.unwrap_or(u8::MAX);
-    for item in items.take(most as usize) {
-        transcript.say(item)?;
+    tables: &AcpiTables<'_, H>,
+    most: usize,
+) {
+    for header in tables.headers().take(most) {
+        transcript.say(&Pair(header.signature, header.length));
     }
-    Ok(())
+}
+
+/// Lists the AML of the SSDTs.
+fn list_streams<H: AcpiHandler>(
+    transcript: &mut Transcript<'_>,
+    tables: &AcpiTables<'_, H>,
+    most: usize,
+) {
+    for stream in tables.ssdts().take(most) {
+        transcript.say(&Pair(Hex(stream.address), stream.length));
+    }
 }
 
 /// Looks up the table that counts how often its value was checked.
-pub(crate) fn count_checks<H: AcpiHandler>(
-    transcript: &mut Transcript<'_>,
-    tables: &AcpiTables<'_, H>,
-) -> Result<(), AllocError> {
+fn count_checks<H: AcpiHandler>(transcript: &mut Transcript<'_>, tables: &AcpiTables<'_, H>) {
     match tables.find_table::<Watched>() {
-        Ok(table) => transcript.say(Pair("checks", table.checks())),
-        Err(error) => transcript.say(error),
+        Ok(table) => transcript.say(&Pair("checks", table.checks())),
+        Err(error) => transcript.say(&error),
     }
 }

@@ -11,10 +11,10 @@
 //! - `rsdt REVISION ADDRESS`, `rsdp ADDRESS`, `bios` and `validated` open tables: by the root
 //!   table, by the RSDP, by the search, and by the mapping that the search for an RSDP alone finds.
 //!   `close` drops them.
-//! - `keep` finds the boot graphic and keeps its mapping. Where no tables are open, `table ADDRESS`,
-//!   `named NAME ADDRESS`, `own ADDRESS` and `map ADDRESS` keep what they map at an address, and
-//!   `given ADDRESS` maps bytes that were lent before. `show` says what the mapping that was kept
-//!   last holds, and `release PLACE` drops one of them, or else the first.
+//! - `keep` finds the boot graphic and keeps its mapping. `table ADDRESS`, `named NAME ADDRESS`,
+//!   `own ADDRESS` and `map ADDRESS` keep what they map at an address, and `given ADDRESS` maps bytes
+//!   that were lent before. `show` says what the mapping that was kept last holds, and
+//!   `release PLACE` drops one of them, or else the first.
 //! - `find NAME` looks a table up and drops it, as `search` does with an RSDP. `checks` says how
 //!   often the table was checked.
 //! - `headers`, `ssdts` and `faults NAME` list to the end, or so many items as a number says.
@@ -32,6 +32,7 @@ mod scenes;
 mod step;
 mod summaries;
 mod transcript;
+mod verb;
 
 use acpi_lenders::rows::ask_rows;
 use scenes::Scenes;

@@ -1,11 +1,11 @@
 //! A scene: what its steps open and keep.
 
 use crate::kept::{Kept, mapped};
-use crate::lookups::{count_checks, list, look_up};
-use crate::said::{Hex, Pair};
+use crate::lookups::ask;
+use crate::said::Pair;
 use crate::step::Step;
-use crate::summaries::summary;
 use crate::transcript::Transcript;
+use crate::verb::Verb;
 use acpi::rsdp::Rsdp;
 use acpi::{AcpiHandler, AcpiResult, AcpiTables};
 use acpi_lenders::history::History;
@@ -35,55 +35,65 @@ pub(crate) fn told<'r, H: AcpiHandler>(
         kept: Vec::new(alloc),
     };
     for step in steps.lines() {
-        scene.transcript.begin_anew()?;
-        scene.perform(alloc, Step::of(step))?;
+        scene.transcript.begin_anew();
+        scene.perform(alloc, Step::of(step));
     }
     scene.transcript.told()
 }
 
 impl<'r, H: AcpiHandler> Scene<'r, H> {
     /// Does a step.
-    fn perform(&mut self, alloc: Global, step: Step<'_>) -> Result<(), AllocError> {
-        let (handler, address) = (self.handler, step.address);
+    fn perform(&mut self, alloc: Global, step: Step<'_>) {
         match step.verb {
-            "rsdt" => self.open(AcpiTables::from_rsdt(handler, step.count(), address)),
-            "rsdp" => self.open(AcpiTables::from_rsdp(handler, address)),
-            "bios" => self.open(AcpiTables::search_for_rsdp_bios(handler)),
-            "validated" => self.open(validated(handler)),
-            "search" => self.transcript.find(Rsdp::search_for_on_bios(handler)),
-            "close" => {
-                self.tables = None;
-                Ok(())
+            Verb::Rsdt | Verb::Rsdp | Verb::Bios | Verb::Validated => self.open(step),
+            Verb::Search => self.transcript.find(Rsdp::search_for_on_bios(self.handler)),
+            Verb::Close => self.tables = None,
+            Verb::Release => self.release(step.count() as usize),
+            Verb::Show => self.show(alloc),
+            Verb::Table | Verb::Named | Verb::Own | Verb::Given | Verb::Map => {
+                self.keep(mapped(self.handler, step));
             }
-            "release" => {
-                self.release(step.count() as usize);
-                Ok(())
-            }
-            "show" => self.show(alloc),
-            _ => self.perform_below(alloc, step),
+            Verb::Keep => self.keep_graphic(),
+            _ => self.ask_tables(alloc, step),
         }
     }
 
-    /// Keeps the tables, if they are opened.
-    fn open(&mut self, opened: AcpiResult<AcpiTables<'r, H>>) -> Result<(), AllocError> {
-        match opened {
-            Err(error) => self.transcript.say(error),
+    /// Opens tables, and keeps them if there are any.
+    fn open(&mut self, step: Step<'_>) {
+        match opened(self.handler, step) {
+            Err(error) => self.transcript.say(&error),
             Ok(tables) => {
                 let revision = tables.revision();
                 self.tables = Some(tables);
-                self.transcript.say(Pair("revision", revision))
+                self.transcript.say(&Pair("revision", revision));
             }
+        }
+    }
+
+    /// Keeps the boot graphic, if it is found in tables that are open.
+    fn keep_graphic(&mut self) {
+        if let Some(tables) = &self.tables {
+            let graphic = found_graphic(tables);
+            self.keep(graphic);
+        }
+    }
+
+    /// Asks the tables something, if any are open.
+    fn ask_tables(&mut self, alloc: Global, step: Step<'_>) {
+        if let Some(tables) = &self.tables {
+            ask(alloc, &mut self.transcript, tables, step);
         }
     }
 
     /// Keeps a mapping, if there is one.
-    fn keep(&mut self, mapping: AcpiResult<Kept<'r, H>>) -> Result<(), AllocError> {
+    fn keep(&mut self, mapping: AcpiResult<Kept<'r, H>>) {
         match mapping {
-            Err(error) => self.transcript.say(error),
+            Err(error) => self.transcript.say(&error),
             Ok(mapping) => {
                 let place = mapping.place();
-                self.kept.push(mapping)?;
-                self.transcript.say(place)
+                let pushed = self.kept.push(mapping).is_ok();
+                self.transcript.require(pushed);
+                self.transcript.say(&place);
             }
         }
     }
@@ -96,41 +106,25 @@ impl<'r, H: AcpiHandler> Scene<'r, H> {
     }
 
     /// Says what the mapping shows that is kept last, and its bytes.
-    fn show(&mut self, alloc: Global) -> Result<(), AllocError> {
-        let Some(kept) = self.kept.last() else {
-            return Ok(());
-        };
-        self.transcript.say(kept)?;
-        self.transcript.say(hex::encode(alloc, kept.bytes())?)
-    }
-
-    /// Does a step that asks something of the tables, or that needs none.
-    fn perform_below(&mut self, alloc: Global, step: Step<'_>) -> Result<(), AllocError> {
-        let Some(tables) = &self.tables else {
-            return self.keep(mapped(self.handler, step));
-        };
-        match step.verb {
-            "keep" => {
-                let graphic = found_graphic(tables);
-                self.keep(graphic)
+    fn show(&mut self, alloc: Global) {
+        if let Some(kept) = self.kept.last() {
+            self.transcript.say(kept);
+            match hex::encode(alloc, kept.bytes()) {
+                Ok(bytes) => self.transcript.say(&bytes),
+                Err(_) => self.transcript.require(false),
             }
-            "find" | "faults" => look_up(&mut self.transcript, tables, step),
-            "headers" | "ssdts" => list(&mut self.transcript, tables, step),
-            "checks" => count_checks(&mut self.transcript, tables),
-            "dsdt" => self
-                .transcript
-                .answer(tables.dsdt().map(|it| Pair(Hex(it.address), it.length))),
-            _ => self
-                .transcript
-                .answer(summary(alloc, tables, step).map(Hex)),
         }
     }
 }
 
-/// The tables that a search for the RSDP alone leads to, and then the mapping that it found.
-fn validated<H: AcpiHandler>(handler: &H) -> AcpiResult<AcpiTables<'_, H>> {
-    let found = Rsdp::search_for_on_bios(handler)?;
-    AcpiTables::from_validated_rsdp(handler, found)
+/// The tables that a step opens.
+fn opened<'h, H: AcpiHandler>(handler: &'h H, step: Step<'_>) -> AcpiResult<AcpiTables<'h, H>> {
+    match step.verb {
+        Verb::Rsdt => AcpiTables::from_rsdt(handler, step.count(), step.address),
+        Verb::Rsdp => AcpiTables::from_rsdp(handler, step.address),
+        Verb::Bios => AcpiTables::search_for_rsdp_bios(handler),
+        _ => AcpiTables::from_validated_rsdp(handler, Rsdp::search_for_on_bios(handler)?),
+    }
 }
 
 /// The boot graphic that is found.

@@ -30,16 +30,26 @@ impl Answers for Scenes {
         if row.kind.as_str() == "header" {
             return validity(alloc, row.table(), question);
         }
-        let Ok(mut steps) = self.steps.try_borrow_mut() else {
-            return Ok(String::new(alloc));
-        };
-        if question.starts_with("exact ") || question.starts_with("generous ") {
-            steps.clear();
+        match self.steps.try_borrow_mut() {
+            Ok(mut steps) => answered_next(alloc, row, &mut steps, question),
+            Err(_) => Ok(String::new(alloc)),
         }
-        steps.push_str(question)?;
-        steps.push('\n')?;
-        answered(alloc, row, steps.as_str())
     }
+}
+
+/// What the step comes to that a question is, after these.
+fn answered_next(
+    alloc: Global,
+    row: &Row,
+    steps: &mut String,
+    question: &str,
+) -> Result<String, AllocError> {
+    if question.starts_with("exact ") || question.starts_with("generous ") {
+        steps.clear();
+    }
+    steps.push_str(question)?;
+    steps.push('\n')?;
+    answered(alloc, row, steps.as_str())
 }
 
 /// Whether bytes are a valid table of this name, or why they aren't.
@@ -51,12 +61,24 @@ fn validity(alloc: Global, bytes: &[u8], name: &str) -> Result<String, AllocErro
     shown(alloc, &header.validate(signature_of(name), bytes))
 }
 
-/// What the last of these steps comes to. The first begins with the handler's name.
+/// What the last of these steps comes to over the memory of a row.
 fn answered(alloc: Global, row: &Row, scene: &str) -> Result<String, AllocError> {
     let file = row.file(alloc)?;
-    match (MemoryImage::from_bytes(alloc, &file), scene.split_once(' ')) {
-        (Ok(image), Some(("exact", steps))) => recorded(alloc, &Exact::new(&image), steps),
-        (Ok(image), Some(("generous", steps))) => recorded(alloc, &image, steps),
+    match MemoryImage::from_bytes(alloc, &file) {
+        Ok(image) => answered_over(alloc, &image, scene),
+        Err(_) => Ok(String::new(alloc)),
+    }
+}
+
+/// The same over this memory. The first step begins with the handler's name.
+fn answered_over(
+    alloc: Global,
+    image: &MemoryImage<'_>,
+    scene: &str,
+) -> Result<String, AllocError> {
+    match scene.split_once(' ') {
+        Some(("exact", steps)) => recorded(alloc, &Exact::new(image), steps),
+        Some(("generous", steps)) => recorded(alloc, image, steps),
         _ => Ok(String::new(alloc)),
     }
 }

@@ -1,5 +1,6 @@
 //! What a step says.
 
+use crate::verb::Verb;
 use acpi::sdt::Signature;
 use acpi_words::parse_address;
 
@@ -7,7 +8,7 @@ use acpi_words::parse_address;
 /// order.
 #[derive(Clone, Copy)]
 pub(crate) struct Step<'s> {
-    pub(crate) verb: &'s str,
+    pub(crate) verb: Verb,
     pub(crate) name: &'s str,
     pub(crate) number: Option<u8>,
     pub(crate) address: u64,
@@ -17,7 +18,7 @@ impl<'s> Step<'s> {
     pub(crate) fn of(text: &'s str) -> Step<'s> {
         let (verb, rest) = text.split_once(' ').unwrap_or((text, ""));
         let mut step = Step {
-            verb,
+            verb: Verb::of(verb),
             name: "",
             number: None,
             address: 0,
@@ -37,6 +38,11 @@ impl<'s> Step<'s> {
     /// The number, or 0 if there is none.
     pub(crate) fn count(&self) -> u8 {
         self.number.unwrap_or(0)
+    }
+
+    /// How many items are listed at most.
+    pub(crate) fn most(&self) -> usize {
+        self.number.unwrap_or(u8::MAX) as usize
     }
 }
 

@@ -1,6 +1,7 @@
 //! Steps that gather what tables say.
 
 use crate::step::Step;
+use crate::verb::Verb;
 use acpi::hpet::HpetInfo;
 use acpi::platform::{ScriptedMailbox, wakeup_aps};
 use acpi::{AcpiHandler, AcpiResult, AcpiTables, PciConfigRegions};
@@ -15,19 +16,38 @@ pub(crate) fn summary<H: AcpiHandler>(
     tables: &AcpiTables<'_, H>,
     step: Step<'_>,
 ) -> AcpiResult<u64> {
-    if step.verb == "wake" {
-        return wake(tables, step.count());
+    match step.verb {
+        Verb::Wake => wake(tables, step.count()),
+        Verb::Hpet => Ok(HpetInfo::new(tables)?.base_address),
+        _ => gathered(alloc, tables, step),
     }
+}
+
+/// A summary of the platform or of PCI configuration space.
+fn gathered<H: AcpiHandler>(
+    alloc: Global,
+    tables: &AcpiTables<'_, H>,
+    step: Step<'_>,
+) -> AcpiResult<u64> {
     if let Some(size) = step.number {
-        return summary_in(&LocalHeap::new(alloc, size as usize)?, tables, step.verb);
+        let heap = LocalHeap::new(alloc, size as usize)?;
+        return gathered_in(&heap, tables, step.verb);
     }
     match step.verb {
-        "platform" => {
-            let _platform = tables.platform_info(alloc)?;
-            Ok(0)
-        }
-        "pci" => Ok(PciConfigRegions::new(alloc, tables)?.iter().count() as u64),
-        _ => Ok(HpetInfo::new(tables)?.base_address),
+        Verb::Pci => regions(alloc, tables),
+        _ => platform(alloc, tables),
+    }
+}
+
+/// The same over a heap.
+fn gathered_in<H: AcpiHandler>(
+    heap: &LocalHeap,
+    tables: &AcpiTables<'_, H>,
+    verb: Verb,
+) -> AcpiResult<u64> {
+    match verb {
+        Verb::Pci => regions_in(heap, tables),
+        _ => platform_in(heap, tables),
     }
 }
 
@@ -38,15 +58,24 @@ fn wake<H: AcpiHandler>(tables: &AcpiTables<'_, H>, reads: u8) -> AcpiResult<u64
     Ok(mailbox.writes().len() as u64)
 }
 
+/// How many regions of PCI configuration space there are.
+fn regions<H: AcpiHandler>(alloc: Global, tables: &AcpiTables<'_, H>) -> AcpiResult<u64> {
+    Ok(PciConfigRegions::new(alloc, tables)?.iter().count() as u64)
+}
+
 /// The same over a heap.
-fn summary_in<H: AcpiHandler>(
-    heap: &LocalHeap,
-    tables: &AcpiTables<'_, H>,
-    verb: &str,
-) -> AcpiResult<u64> {
-    if verb == "pci" {
-        return Ok(PciConfigRegions::new_in(tables, heap)?.iter().count() as u64);
-    }
+fn regions_in<H: AcpiHandler>(heap: &LocalHeap, tables: &AcpiTables<'_, H>) -> AcpiResult<u64> {
+    Ok(PciConfigRegions::new_in(tables, heap)?.iter().count() as u64)
+}
+
+/// 0, if there is a platform.
+fn platform<H: AcpiHandler>(alloc: Global, tables: &AcpiTables<'_, H>) -> AcpiResult<u64> {
+    let _platform = tables.platform_info(alloc)?;
+    Ok(0)
+}
+
+/// The same over a heap.
+fn platform_in<H: AcpiHandler>(heap: &LocalHeap, tables: &AcpiTables<'_, H>) -> AcpiResult<u64> {
     let _platform = tables.platform_info_in(heap)?;
     Ok(0)
 }

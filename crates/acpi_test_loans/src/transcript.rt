@@ -13,6 +13,8 @@ pub(crate) struct Transcript<'r> {
     history: &'r Cell<History>,
     text: String,
     lent: Vec<(u64, usize)>,
+    /// Whether memory ran out. `told` refuses then, so that no step has to.
+    is_cut_short: bool,
 }
 
 impl<'r> Transcript<'r> {
@@ -21,33 +23,52 @@ impl<'r> Transcript<'r> {
             history,
             text: String::new(alloc),
             lent: Vec::new(alloc),
+            is_cut_short: false,
+        }
+    }
+
+    /// Refuses in the end, unless memory was found for something.
+    pub(crate) fn require(&mut self, found: bool) {
+        if !found {
+            self.is_cut_short = true;
         }
     }
 
     /// Tells what happened since.
-    fn tell(&mut self) -> Result<(), AllocError> {
+    fn tell(&mut self) {
         let history = self.history.replace(History::NOTHING);
         for event in history.events() {
-            let (sign, address, length, lent) = match *event {
-                Event::Refused { address, size } => ('!', address, size, 0),
-                Event::Lent {
-                    address,
-                    size,
-                    whole: _,
-                    lent,
-                } => {
-                    self.lent.push((address, lent))?;
-                    ('+', address, size, lent)
-                }
-                Event::Ended {
-                    address,
-                    shown,
-                    lent,
-                } => (self.end((address, lent)), address, shown, lent),
-            };
-            write!(self.text, "{sign}{address:#x} {length}/{lent} ")?;
+            self.tell_event(*event);
         }
-        Ok(())
+    }
+
+    fn tell_event(&mut self, event: Event) {
+        match event {
+            Event::Refused { address, size } => self.note('!', address, size, 0),
+            Event::Lent {
+                address,
+                size,
+                whole: _,
+                lent,
+            } => {
+                let pushed = self.lent.push((address, lent)).is_ok();
+                self.require(pushed);
+                self.note('+', address, size, lent);
+            }
+            Event::Ended {
+                address,
+                shown,
+                lent,
+            } => {
+                let sign = self.end((address, lent));
+                self.note(sign, address, shown, lent);
+            }
+        }
+    }
+
+    fn note(&mut self, sign: char, address: u64, length: usize, lent: usize) {
+        let written = write!(self.text, "{sign}{address:#x} {length}/{lent} ").is_ok();
+        self.require(written);
     }
 
     /// Takes a loan that is ended off the list, and answers the sign of its notice.
@@ -62,52 +83,44 @@ impl<'r> Transcript<'r> {
     }
 
     /// Tells what happened since, and then this.
-    pub(crate) fn say(&mut self, said: impl Display + Drop) -> Result<(), AllocError> {
-        self.tell()?;
-        write!(self.text, "= {said} ")
-    }
-
-    /// Says what a call answered.
-    pub(crate) fn answer<T: Display + Drop>(
-        &mut self,
-        answer: AcpiResult<T>,
-    ) -> Result<(), AllocError> {
-        match answer {
-            Ok(said) => self.say(said),
-            Err(error) => self.say(error),
-        }
+    pub(crate) fn say(&mut self, said: &impl Display) {
+        self.tell();
+        let written = write!(self.text, "= {said} ").is_ok();
+        self.require(written);
     }
 
     /// Says where a mapping lies, which is dropped then.
     pub(crate) fn find<H: AcpiHandler, T: PhysicalRecord>(
         &mut self,
         found: AcpiResult<PhysicalMapping<'_, H, T>>,
-    ) -> Result<(), AllocError> {
+    ) {
         match found {
-            Ok(mapping) => self.say(Place::of(&mapping)),
-            Err(error) => self.say(error),
+            Ok(mapping) => self.say(&Place::of(&mapping)),
+            Err(error) => self.say(&error),
         }
     }
 
     /// Leaves out what happened so far.
-    pub(crate) fn begin_anew(&mut self) -> Result<(), AllocError> {
-        self.tell()?;
+    pub(crate) fn begin_anew(&mut self) {
+        self.tell();
         self.text.clear();
-        Ok(())
     }
 
     /// All that was told, and what is lent now.
     pub(crate) fn told(mut self) -> Result<String, AllocError> {
-        self.tell()?;
-        let Transcript {
-            history: _,
-            mut text,
-            lent,
-        } = self;
-        write!(text, "|")?;
-        for (address, length) in &lent {
-            write!(text, " {address:#x}/{length}")?;
+        self.tell();
+        self.tell_loans();
+        if self.is_cut_short {
+            return Err(AllocError);
         }
-        Ok(text)
+        Ok(self.text)
+    }
+
+    fn tell_loans(&mut self) {
+        let mut written = write!(self.text, "|").is_ok();
+        for (address, length) in &self.lent {
+            written &= write!(self.text, " {address:#x}/{length}").is_ok();
+        }
+        self.require(written);
     }
 }

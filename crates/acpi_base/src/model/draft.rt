@@ -1,5 +1,5 @@
 //! A model that is being gathered.
-ghost use Rattle.std.specs.Prelude.{◌≡◌};
+ghost use Rattle.std.specs.Prelude.{◌≡◌, [], vec_capacity, vec_len, IfOk};
 ghost use Rattle.acpi_base.specs.Model.{state_of};
 ghost use Rattle.acpi_base.specs.declared.error.AcpiError.TheVariants.{AllocError as NoMemory};
 
@@ -11,7 +11,7 @@ use super::processor::{Processor, ProcessorInfo, ProcessorState};
 use crate::error::AcpiResult;
 use crate::madt::Madt;
 use crate::managed_slice::ManagedSlice;
-use std::alloc::Allocator;
+use std::alloc::{AllocError, Allocator};
 
 /// What the entries so far say.
 #[derive(Drop)]
@@ -47,10 +47,10 @@ impl<A: Allocator + Clone> Draft<A> {
         Ok(Draft {
             local_apic_address: madt.local_apic_address as u64,
             has_legacy_pics: madt.supports_8259(),
-            io_apics: Vec::with_capacity(allocator.clone()?, counts.io_apics)?,
-            nmi_lines: Vec::with_capacity(allocator.clone()?, counts.nmi_lines)?,
-            overrides: Vec::with_capacity(allocator.clone()?, counts.overrides)?,
-            nmi_sources: Vec::with_capacity(allocator.clone()?, counts.nmi_sources)?,
+            io_apics: room(&allocator, counts.io_apics)?,
+            nmi_lines: room(&allocator, counts.nmi_lines)?,
+            overrides: room(&allocator, counts.overrides)?,
+            nmi_sources: room(&allocator, counts.nmi_sources)?,
             boot_processor: None,
             application_processors: Vec::with_capacity(
                 allocator,
@@ -135,6 +135,17 @@ impl<A: Allocator> Draft<A> {
         };
         (InterruptModel::Apic(apic), processors)
     }
+}
+
+/// An empty list with room for just so many items.
+///
+/// Refuses where a growth is refused, or the clone of the allocator.
+fn room<T, A: Allocator + Clone>(allocator: &A, count: usize) -> Result<Vec<T, A>, AllocError>
+    ensures items { IfOk result (λ v. v.items ≡ []) }
+    ensures len { IfOk result (λ v. vec_len v ≡ 0) }
+    ensures capacity { IfOk result (λ v. vec_capacity v ≡ count) }
+{
+    Vec::with_capacity(allocator.clone()?, count)
 }
 
 /// What a processor does, by what it is and by whether it can be used.

@@ -26,28 +26,43 @@ pub fn printed<T: Display>(alloc: Global, value: &T) -> Result<String, AllocErro
 /// Prints each question with another answer than the row has, each line that is not understood,
 /// and at last how many questions there were.
 pub fn ask_rows<A: Answers>(rt: &HostRuntime, answers: &A) -> io::Result<()> {
+    let text = io::read_to_string(rt.alloc(), rt.reader())?;
     let mut rows = Rows::new(rt.alloc());
-    let mut count = 0u64;
-    for line in rt.lines(rt.alloc()) {
-        let line = line?;
-        if !rows.take(line.as_str())? && ask(rt, answers, &rows.row, line.as_str())? {
-            count = count.wrapping_add(1);
-        }
-    }
+    let count = ask_lines(rt, answers, &mut rows, text.as_str())?;
     println!(rt; "{count} questions")
 }
 
-/// Asks what a line asks about a row, and prints what is wrong. It says whether the line is a
-/// question.
-fn ask<A: Answers>(rt: &HostRuntime, answers: &A, row: &Row, line: &str) -> io::Result<bool> {
-    let name = row.name.as_str();
+/// Takes each line, and counts those that ask.
+fn ask_lines<A: Answers>(
+    rt: &HostRuntime,
+    answers: &A,
+    rows: &mut Rows,
+    text: &str,
+) -> io::Result<u64> {
+    let mut count = 0u64;
+    for line in text.lines() {
+        if !rows.take(line)? {
+            ask(rt, answers, &rows.row, line)?;
+            count = count.wrapping_add(1);
+        }
+    }
+    Ok(count)
+}
+
+/// Asks what a line asks about a row, and prints what is wrong.
+fn ask<A: Answers>(rt: &HostRuntime, answers: &A, row: &Row, line: &str) -> io::Result<()> {
     let Some((question, wanted)) = line.split_once(": ") else {
-        println!(rt; "{name}: not understood: {line}")?;
-        return Ok(false);
+        return complain(rt, row, line, "not understood");
     };
     let answer = answers.answer(rt.alloc(), row, question)?;
-    if answer.as_str() != wanted {
-        println!(rt; "{name}: {question}: {answer}, not {wanted}")?;
+    if answer.as_str() == wanted {
+        return Ok(());
     }
-    Ok(true)
+    complain(rt, row, line, answer.as_str())
+}
+
+/// Prints a line of a row, and what it is in fact.
+fn complain(rt: &HostRuntime, row: &Row, line: &str, fact: &str) -> io::Result<()> {
+    let name = row.name.as_str();
+    println!(rt; "{name}: {line}, but it is {fact}")
 }

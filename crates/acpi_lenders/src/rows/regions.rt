@@ -1,7 +1,5 @@
 //! Bytes that rows spell.
 
-use std::alloc::{AllocError, Global};
-
 /// Bytes that lie together, from an address on.
 #[derive(Drop)]
 pub struct Region {
@@ -10,74 +8,63 @@ pub struct Region {
 }
 
 impl Region {
-    /// So many zeros at an address.
-    pub(crate) fn of_zeros(alloc: Global, address: u64, count: u32) -> Result<Region, AllocError> {
-        let mut bytes = Vec::new(alloc);
-        bytes.resize(count as usize, 0)?;
-        Ok(Region { address, bytes })
-    }
-
-    /// The same bytes at the same address.
-    pub(crate) fn copied(&self) -> Result<Region, AllocError> {
-        Ok(Region {
-            address: self.address,
-            bytes: self.bytes.clone()?,
-        })
-    }
-
     /// Puts what a text spells, and says whether it spells bytes that all have a place.
-    pub(crate) fn put(
-        &mut self,
-        alloc: Global,
-        offset: usize,
-        text: &str,
-    ) -> Result<bool, AllocError> {
+    pub(crate) fn put(&mut self, offset: usize, text: &str) -> bool {
         if let Some(quoted) = text.strip_prefix('"') {
             let letters = quoted.strip_suffix('"').unwrap_or(quoted);
-            return Ok(self.put_bytes(offset, letters.as_bytes()));
+            return self.put_letters(offset, letters.as_bytes());
         }
         let mut offset = offset;
         for part in text.split(' ') {
             let (digits, times) = part.split_once('*').unwrap_or((part, "1"));
-            let (Ok(bytes), Ok(times)) = (hex::decode(alloc, digits), times.parse::<u16>()) else {
-                return Ok(false);
+            let Ok(times) = times.parse::<u16>() else {
+                return false;
             };
             for _ in 0..times {
-                if !self.put_bytes(offset, &bytes) {
-                    return Ok(false);
+                if !self.put_digits(offset, digits) {
+                    return false;
                 }
-                offset = offset.saturating_add(bytes.len());
+                offset = offset.saturating_add(digits.len() / 2);
             }
         }
-        Ok(true)
+        true
     }
 
-    /// Puts bytes where there are such, and says whether there were as many.
-    fn put_bytes(&mut self, offset: usize, bytes: &[u8]) -> bool {
+    /// Puts letters where there is room for all of them.
+    fn put_letters(&mut self, offset: usize, letters: &[u8]) -> bool {
         let mut are_put = true;
-        for (i, byte) in bytes.iter().enumerate() {
+        for (i, letter) in letters.iter().enumerate() {
             match self.bytes.get_mut(offset.saturating_add(i)) {
                 None => are_put = false,
-                Some(there) => *there = *byte,
+                Some(there) => *there = *letter,
             }
         }
         are_put
     }
 
-    /// Changes the byte at an offset so that so many bytes, of which it is one, sum to 0, and says
-    /// whether there are as many.
-    pub(crate) fn put_sum(&mut self, at: usize, from: usize, count: usize) -> bool {
-        let Some(summed) = self.bytes.get(from..from.saturating_add(count)) else {
-            return false;
+    /// Puts the bytes of hexadecimal digits where there is room for all of them.
+    fn put_digits(&mut self, offset: usize, digits: &str) -> bool {
+        let end = offset.saturating_add(digits.len() / 2);
+        end <= self.bytes.len()
+            && hex::decode_to_slice(digits, &mut self.bytes[offset..end]).is_ok()
+    }
+
+    /// Changes byte 9 so that the first bytes, so many or else all, sum to 0, and says whether there
+    /// are as many.
+    pub(crate) fn sum(&mut self, count: &str) -> bool {
+        let count = match count.parse::<u32>() {
+            Ok(count) => count as usize,
+            Err(_) if count.is_empty() => self.bytes.len(),
+            Err(_) => return false,
         };
+        if count > self.bytes.len() || self.bytes.len() < 10 {
+            return false;
+        }
         let mut total: u8 = 0;
-        for byte in summed {
+        for byte in &self.bytes[..count] {
             total = total.wrapping_add(*byte);
         }
-        let Some(there) = self.bytes.get_mut(at) else {
-            return false;
-        };
-        *there = there.wrapping_sub(total);
+        self.bytes[9] = self.bytes[9].wrapping_sub(total);
         true
     }
 }

@@ -3,15 +3,6 @@ ghost use Rattle.std.specs.Prelude.{◌≤◌, length};
 
 use super::{put, put_head, put_table};
 
-/// A table of 128 bytes with these entries.
-pub fn table_of(entries: &[u8]) -> [u8; 128]
-    requires { length entries.now ≤ 84 }
-{
-    let mut table = [0; 128];
-    put(&mut table, 44, entries);
-    table
-}
-
 /// An RSDT at 0x1000 that lists a MADT at 0x2000 with this checksum and these entries. The file
 /// ends behind the last of them.
 pub fn with_madt(checksum: u8, entries: &[u8]) -> [u8; 136]

@@ -1,5 +1,6 @@
 //! Records of tables that lie at any addresses, with any bytes around them.
 
+use super::put_head;
 use std::alloc::AllocError;
 
 /// What lies around each table in its record: so many bytes before it and behind it, all the same.
@@ -29,17 +30,10 @@ pub fn add_record(
     let start = address.wrapping_sub(margins.before as u64);
     let count = table.len().wrapping_add(margins.before);
     let count = count.wrapping_add(margins.behind);
-    file.extend_from_slice(&start.to_le_bytes())?;
-    file.extend_from_slice(&(count as u64).to_le_bytes())?;
-    add_bytes(file, margins.before, margins.byte)?;
+    let mut head = [0; 16];
+    put_head(&mut head, 0, start, count as u64);
+    file.extend_from_slice(&head)?;
+    file.resize(file.len().saturating_add(margins.before), margins.byte)?;
     file.extend_from_slice(table)?;
-    add_bytes(file, margins.behind, margins.byte)
-}
-
-/// Adds so many times the same byte.
-fn add_bytes(file: &mut Vec<u8>, count: usize, byte: u8) -> Result<(), AllocError> {
-    for _ in 0..count {
-        file.push(byte)?;
-    }
-    Ok(())
+    file.resize(file.len().saturating_add(margins.behind), margins.byte)
 }

@@ -1,11 +1,11 @@
 //! Images of tables, read as `acpi_view` reads them.
 
+use crate::checks::check;
 use acpi::madt::Madt;
 use acpi::{AcpiError, AcpiResult, AcpiTables};
 use acpi_image::MemoryImage;
 use std::alloc::Global;
 use std::process::Abort;
-use std::test::Fail;
 
 /// What is read in an image: how many tables are listed, where the AML of the DSDT and of the SSDTs
 /// lies, and the MADTs that are passed over, with why.
@@ -17,6 +17,48 @@ pub(crate) struct Opened {
     pub(crate) faults: &'static [(u64, AcpiError)],
 }
 
+type Tables<'t, 'm> = AcpiTables<'t, MemoryImage<'m>>;
+
+/// Where the AML of the DSDT lies.
+fn dsdt_of(tables: &Tables<'_, '_>) -> AcpiResult<u64> {
+    Ok(tables.dsdt()?.address)
+}
+
+/// Checks where the AML of the SSDTs lies.
+fn check_ssdts(rt: &impl Abort, name: &str, tables: &Tables<'_, '_>, wanted: &[u64]) {
+    let mut wanted = wanted.iter().copied();
+    for stream in tables.ssdts() {
+        check(rt, name, Some(stream.address), wanted.next());
+    }
+    check(rt, name, wanted.next(), None);
+}
+
+/// Checks which MADTs are passed over, and why.
+fn check_faults(rt: &impl Abort, name: &str, tables: &Tables<'_, '_>, wanted: &[(u64, AcpiError)]) {
+    let mut wanted = wanted.iter().copied();
+    for fault in tables.faults::<Madt>() {
+        check(rt, name, Some((fault.address, fault.error)), wanted.next());
+    }
+    check(rt, name, wanted.next(), None);
+}
+
+/// Checks what is read in tables.
+fn check_tables(rt: &impl Abort, name: &str, tables: &Tables<'_, '_>, wanted: Opened) {
+    check(rt, name, tables.revision(), 2);
+    check(rt, name, tables.headers().count(), wanted.headers);
+    check(rt, name, dsdt_of(tables), wanted.dsdt);
+    check_ssdts(rt, name, tables, wanted.ssdts);
+    check_faults(rt, name, tables, wanted.faults);
+}
+
+/// Checks what is read in a memory whose RSDP lies at 0xe0000.
+fn check_memory(rt: &impl Abort, name: &str, memory: &MemoryImage<'_>, wanted: Opened) {
+    match AcpiTables::from_rsdp(memory, 0xe0000) {
+        Ok(tables) => check_tables(rt, name, &tables, wanted),
+        Err(error) => check(rt, name, Some(error), None),
+    }
+}
+
 /// Checks what is read in an image.
 pub(crate) fn check_opened(
     rt: &impl Abort,
@@ -24,20 +66,9 @@ pub(crate) fn check_opened(
     name: &str,
     image: &[u8],
     wanted: Opened,
-) -> Result<(), Fail> {
-    let memory = MemoryImage::from_bytes(alloc, image)?;
-    let tables = AcpiTables::from_rsdp(&memory, 0xe0000)?;
-    let said = (
-        tables.revision(),
-        tables.headers().count(),
-        tables.dsdt().map(|stream| stream.address),
-    );
-    assert_eq!(rt; said, (2, wanted.headers, wanted.dsdt), "{name}");
-    let ssdts = tables.ssdts().map(|stream| stream.address);
-    assert!(rt; ssdts.eq(wanted.ssdts.iter().copied()), "{name}");
-    let faults = tables
-        .faults::<Madt>()
-        .map(|fault| (fault.address, fault.error));
-    assert!(rt; faults.eq(wanted.faults.iter().copied()), "{name}");
-    Ok(())
+) {
+    match MemoryImage::from_bytes(alloc, image) {
+        Ok(memory) => check_memory(rt, name, &memory, wanted),
+        Err(error) => check(rt, name, Some(error), None),
+    }
 }

@@ -1,0 +1,103 @@
+//! What steps do, and the tables that they name.
+
+/// What a step does, as `main` says.
+#[derive(Clone, Copy)]
+pub(crate) enum Verb {
+    Rsdt,
+    Rsdp,
+    Bios,
+    Validated,
+    Search,
+    Close,
+    Release,
+    Show,
+    Keep,
+    Table,
+    Named,
+    Own,
+    Given,
+    Map,
+    Find,
+    Faults,
+    Headers,
+    Ssdts,
+    Checks,
+    Dsdt,
+    Platform,
+    Hpet,
+    Pci,
+    Wake,
+    /// Nothing: there is no such verb.
+    Unknown,
+}
+
+const VERBS: [(&str, Verb); 24] = [
+    ("rsdt", Verb::Rsdt),
+    ("rsdp", Verb::Rsdp),
+    ("bios", Verb::Bios),
+    ("validated", Verb::Validated),
+    ("search", Verb::Search),
+    ("close", Verb::Close),
+    ("release", Verb::Release),
+    ("show", Verb::Show),
+    ("keep", Verb::Keep),
+    ("table", Verb::Table),
+    ("named", Verb::Named),
+    ("own", Verb::Own),
+    ("given", Verb::Given),
+    ("map", Verb::Map),
+    ("find", Verb::Find),
+    ("faults", Verb::Faults),
+    ("headers", Verb::Headers),
+    ("ssdts", Verb::Ssdts),
+    ("checks", Verb::Checks),
+    ("dsdt", Verb::Dsdt),
+    ("platform", Verb::Platform),
+    ("hpet", Verb::Hpet),
+    ("pci", Verb::Pci),
+    ("wake", Verb::Wake),
+];
+
+impl Verb {
+    pub(crate) fn of(name: &str) -> Verb {
+        named(&VERBS, name).unwrap_or(Verb::Unknown)
+    }
+}
+
+/// A type of table.
+#[derive(Clone, Copy)]
+pub(crate) enum Kind {
+    Fadt,
+    Madt,
+    Hpet,
+    Mcfg,
+    Bgrt,
+    Spcr,
+    Wsmt,
+}
+
+const KINDS: [(&str, Kind); 7] = [
+    ("FACP", Kind::Fadt),
+    ("APIC", Kind::Madt),
+    ("HPET", Kind::Hpet),
+    ("MCFG", Kind::Mcfg),
+    ("BGRT", Kind::Bgrt),
+    ("SPCR", Kind::Spcr),
+    ("WSMT", Kind::Wsmt),
+];
+
+impl Kind {
+    pub(crate) fn of(name: &str) -> Option<Kind> {
+        named(&KINDS, name)
+    }
+}
+
+/// The value of a name.
+fn named<T: Copy>(values: &[(&str, T)], name: &str) -> Option<T> {
+    for (other, value) in values {
+        if *other == name {
+            return Some(*value);
+        }
+    }
+    None
+}
