@@ -86,13 +86,15 @@ impl<A: Allocator> PciConfigRegions<A> {
     }
 
     /// The physical address of a function's configuration space: the base of the first region of the
-    /// segment group that holds the bus, and 2^20 bytes for each bus behind that region's first, 2^15
+    /// segment group that holds the bus, and 2^20 bytes for each bus after that region's first, 2^15
     /// for each device and 2^12 for each function.
     ///
-    /// It is `None` where no region holds the bus, where the device is above 31 or the function
-    /// above 7, and where the sum is 2^64 or more; no later region is then tried. Of the 4096 bytes
-    /// of configuration space only the first is promised to lie below 2^64. A base is taken as it is,
-    /// aligned or not.
+    /// A base is that of the region's first bus here, as the Rust crate has it. The PCI Firmware
+    /// Specification (section 4.1.2) and Linux count it from bus 0: they agree if the first bus is 0.
+    ///
+    /// It is `None` if no region holds the bus, if the device is above 31 or the function above 7, and
+    /// if the sum is 2^64 or more; no later region is then tried. Of the 4096 bytes of configuration
+    /// space only the first is promised to lie below 2^64. A base is taken as it is, aligned or not.
     pub fn physical_address(
         &self,
         segment_group_no: u16,

@@ -54,8 +54,9 @@ impl PlatformInfo<Global> {
 }
 
 impl<A: Allocator + Clone> PlatformInfo<A> {
-    /// What the first valid FADT and the first valid MADT say. Where no MADT is valid, the interrupt
-    /// model is `Unknown`, and there are no processors.
+    /// What the first valid FADT and the first valid MADT say. If no MADT is valid, the interrupt
+    /// model is `Unknown`, and there are no processors. A MADT with a malformed remainder is refused
+    /// whole: a model of half the entries would be taken for the whole.
     ///
     /// Refuses, in this order, with `TableMissing` where no valid FADT is listed, with what
     /// `parse_interrupt_model_in` refuses of the MADT, and with what `PmTimer::new` refuses. Memory is

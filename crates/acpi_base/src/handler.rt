@@ -10,6 +10,10 @@ use crate::error::AcpiResult;
 ///
 /// `memory` is what there is: regions of bytes of which no two share an address, each ending below
 /// 2^64. Two regions that adjoin are still two: a range across their border is not lent.
+///
+/// Bytes must not change while they are lent: a hypervisor that reads the tables of a running guest
+/// copies the guest's memory first. What is lent bounds the time of the calls too: a table's length
+/// and a candidate RSDP's length are believed as far as that many bytes are lent.
 pub trait AcpiHandler {
     ghost memory: { Self → Memory };
 

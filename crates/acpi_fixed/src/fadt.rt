@@ -290,20 +290,22 @@ impl Fadt {
         self.registers().pm_timer.timer_block()
     }
 
-    /// The registers of the first general purpose events, or `None` where neither field gives an
-    /// address.
+    /// The registers of the first general purpose events, or `None` if neither field gives an
+    /// address (section 5.2.9).
     ///
-    /// Refuses as `pm1a_event_block` does.
+    /// Refuses as `pm1a_event_block` does: also a block that the 32-bit field places and that is 32
+    /// bytes long or longer, as real chipsets have them, since eight bits a byte don't fit the width.
     pub fn gpe0_block(&self) -> AcpiResult<Option<GenericAddress>>
         ensures { result ≡ optional_block_of (registers_of self.now).gpe0 }
     {
         self.registers().gpe0.optional_block()
     }
 
-    /// The registers of further general purpose events, or `None` where neither field gives an
-    /// address.
+    /// The registers of further general purpose events, or `None` if neither field gives an address
+    /// (section 5.2.9).
     ///
-    /// Refuses as `pm1a_event_block` does.
+    /// Refuses as `pm1a_event_block` does: also a block that the 32-bit field places and that is 32
+    /// bytes long or longer, as real chipsets have them, since eight bits a byte don't fit the width.
     pub fn gpe1_block(&self) -> AcpiResult<Option<GenericAddress>>
         ensures { result ≡ optional_block_of (registers_of self.now).gpe1 }
     {

@@ -113,8 +113,13 @@ impl Rsdp {
     /// has no valid RSDP, and each is asked for with 16 bytes behind it. A candidate that fails any
     /// check is skipped, also one that isn't lent as far as its length says.
     ///
-    /// Refuses with `MapFailed` where the word or an area that is asked for isn't lent, and with
-    /// `NoValidRsdp` where no candidate is left.
+    /// Each area is asked for in one piece, so a handler whose regions follow the firmware's memory
+    /// map, where video memory cuts the second area, lends too little: give the search one that has
+    /// each area in one region. It takes at most as many steps as there are candidates times the
+    /// length that one claims, as far as that is lent.
+    ///
+    /// Refuses with `MapFailed` if the word or an area that is asked for isn't lent, and with
+    /// `NoValidRsdp` if no candidate is left.
     #[tactic(auto, using(crate::proofs::Least::searched, crate::proofs::Led::found_valid))]
     pub fn search_for_on_bios<'h, H: AcpiHandler>(
         handler: &'h H,
