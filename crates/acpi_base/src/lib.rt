@@ -7,7 +7,7 @@
 pub mod address;
 pub mod bytes;
 mod claim;
-pub mod entries;
+mod entries;
 pub mod error;
 pub mod extended;
 pub mod handler;
