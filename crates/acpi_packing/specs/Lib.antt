@@ -3,6 +3,7 @@ pub mod Pack
 pub mod Packed
 pub mod Place
 pub mod Run
+pub mod Save
 pub mod Sources
 pub mod Texts
 pub mod Words
