@@ -1,4 +1,5 @@
 pub mod Held
+pub mod Listing
 pub mod Pack
 pub mod Packed
 pub mod Place
