@@ -1,8 +1,10 @@
 pub mod Held
+pub mod Listing
 pub mod Pack
 pub mod Packed
 pub mod Place
 pub mod Run
+pub mod Save
 pub mod Sources
 pub mod Texts
 pub mod Words

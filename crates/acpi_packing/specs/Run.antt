@@ -1,8 +1,9 @@
 -- What a run comes to, and what it prints.
 use Rattle.std.specs.Prelude.{◌≡◌, ◌≢◌, ℕ, ◌++◌, if◌then◌else◌, codes, is_none}
-use Rattle.std.specs.Prelude.{List, [], flat_map, slice_get, Option, Some, None, Result, Ok, Err, unwrap_or}
+use Rattle.std.specs.Prelude.{List, [], flat_map, Option, Some, None, Result, Ok, Err}
 use Rattle.std.specs.Io.KnownBytes.{Appends}
 use Rattle.acpi_base.specs.Memory.{Memory}
+use Rattle.acpi_packing.specs.Listing.{name_of}
 use Rattle.acpi_packing.specs.Pack.{dsdt_address, file_of, packed_files, packed_tables}
 use Rattle.acpi_packing.specs.Sources.{bytes_of, entries}
 use Rattle.acpi_packing.specs.Texts.{refusal_text}
@@ -27,9 +28,6 @@ left_out_by None files =
     entries Unlisted 0 files ++ (if is_none (dsdt_address (bytes_of (entries Listed 0 files)))
     then entries Dsdt 0 files
     else [])
-
-abbrev pub name_of : List (List ℕ) → ℕ → List ℕ
-name_of names n = unwrap_or (slice_get names n) []
 
 abbrev pub left_out_lines : List (List ℕ) → List (ℕ × List ℕ) → List ℕ
 left_out_lines names left_out =

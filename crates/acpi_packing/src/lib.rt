@@ -3,6 +3,7 @@
 #![tactic(auto)]
 
 mod error;
+pub mod listing;
 mod pack;
 mod place;
 pub mod run;

@@ -3,11 +3,12 @@ ghost use Rattle.std.specs.Prelude.{◌≡◌, ◌≢◌, [], IfErr, IfOk, Some,
 ghost use Rattle.acpi_packing.specs.Held.{contents, entry_of};
 ghost use Rattle.acpi_packing.specs.Pack.{file_of};
 ghost use Rattle.acpi_packing.specs.Run.{IsReport, left_out_by, left_out_lines, packed_by};
-ghost use Rattle.acpi_packing.specs.Run.{Ends, name_of, refused_line, refused_name, usage_line};
+ghost use Rattle.acpi_packing.specs.Run.{Ends, refused_line, refused_name, usage_line};
 ghost use Rattle.acpi_packing.specs.Words.{addresses_of, request_in, request_of};
 ghost use Rattle.acpi_packing.specs.declared.error.Refusal.TheVariants.{OutOfMemory};
 
 use crate::error::Refusal;
+use crate::listing::name_of;
 use crate::pack::{dsdt_address, pack_files, pack_tables};
 use crate::sources::{Entry, Kind, Source, entries};
 use crate::words::{Command, Form, parse_command};
@@ -62,16 +63,6 @@ fn left_out<'a>(alloc: Global, form: &Form, files: &[Source<'a>]) -> Result<Vec<
         }
     }
     Ok(left_out)
-}
-
-/// The name of the file of this index.
-fn name_of<'w>(names: &[&'w str], index: usize) -> &'w str
-    ensures { result.now ≡ name_of (map (λ n. n.now) names.now) index }
-{
-    match names.get(index) {
-        Some(name) => *name,
-        None => "",
-    }
 }
 
 /// A line for each file that is left out.
