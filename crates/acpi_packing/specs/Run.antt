@@ -62,9 +62,7 @@ IsReport (Some r) files (outcome.Refused e) text =
     × (text ≡ refused_line r e)
 IsReport request files said text = ⊥
 
--- the same of a run, which adds the text to what was printed, and that text alone; it comes to
--- nothing where standard error or memory for the text is refused
+-- the same of a run, which adds the text to what was printed, and that text alone
 abbrev pub Ends : Option Request → List (Option (List ℕ)) → Outcome → Option (List ℕ) → Option (List ℕ)
     → Type 0
-Ends request files outcome.Failed old new = Unit {0}
 Ends request files said old new = (text : List ℕ) × IsReport request files said text × Appends old new text
