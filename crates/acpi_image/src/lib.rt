@@ -6,5 +6,5 @@ mod error;
 pub mod laws;
 pub mod write;
 
-pub use acpi_image_reader::{ImageError, MemoryImage, image, reader};
+pub use acpi_image_reader::{ImageError, MemoryImage, Record, image, reader};
 pub use write::{PlacedTable, WriteError, write_image};

@@ -10,6 +10,7 @@ ghost use Rattle.acpi_image_reader.specs.Regions.{regions_of};
 pub use crate::error::ImageError;
 use crate::kept::Records;
 use crate::reader::records_of;
+use crate::record::Record;
 use acpi_base::{AcpiError, AcpiHandler, AcpiResult};
 use std::alloc::Global;
 
@@ -58,6 +59,13 @@ impl<'a> MemoryImage<'a> {
             → (records_in bytes.now ≡ Ok m) ↔ (IsImage bytes.now m × IsMemory m) }
     {
         MemoryImage::image_of(alloc, bytes)
+    }
+
+    /// Its regions, in the order of the file's records.
+    pub fn records(&self) -> &[Record<'a>]
+        ensures { regions_of result.now ≡ memory_of self.now }
+    {
+        &self.records.list
     }
 }
 

@@ -10,3 +10,4 @@ mod record;
 pub mod starts;
 
 pub use image::{ImageError, MemoryImage};
+pub use record::Record;

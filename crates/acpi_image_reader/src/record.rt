@@ -8,11 +8,13 @@ ghost use Rattle.acpi_image_reader.specs.Regions.{region_of};
 use crate::error::ImageError;
 use acpi_base::bytes::field;
 
-/// A region that a file spells: its first address, and its bytes, which lie in the file.
+/// A region that a file spells, by one of its records.
 #[derive(Clone, Copy)]
-pub(crate) struct Record<'a> {
-    pub(crate) start: u64,
-    pub(crate) bytes: &'a [u8],
+pub struct Record<'a> {
+    /// Its first address.
+    pub start: u64,
+    /// Its bytes, which lie in the file.
+    pub bytes: &'a [u8],
 }
 
 impl<'a> Record<'a> {

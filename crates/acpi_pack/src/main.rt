@@ -29,11 +29,13 @@ fn pack_words(rt: &HostRuntime) -> io::Result<u8> {
     }
     let mut read = Vec::new(rt.alloc());
     let mut out = "";
+    let mut names = Vec::new(rt.alloc());
     if let Some(command) = parse_command(rt.alloc(), &words)? {
         out = command.out;
-        for name in &command.names {
-            read.push(fs::read(rt, *name).ok())?;
-        }
+        names = command.names;
+    }
+    for name in &names {
+        read.push(fs::read(rt, *name).ok())?;
     }
     let mut files = Vec::new(rt.alloc());
     for file in &read {
@@ -41,11 +43,13 @@ fn pack_words(rt: &HostRuntime) -> io::Result<u8> {
     }
     let mut err = rt.stderr();
     match run(rt.alloc(), &words, &files, &mut err) {
-        Outcome::Image(image) if save(rt, out, &image).is_ok() => Ok(0),
-        Outcome::Image(_) => {
-            writeln!(err, "refused {out}: Unwritable")?;
-            Ok(1)
-        }
+        Outcome::Image(image) => match save(rt, out, &names, &image) {
+            Ok(()) => Ok(0),
+            Err(refusal) => {
+                writeln!(err, "refused {out}: {refusal}")?;
+                Ok(1)
+            }
+        },
         Outcome::Refused(_) | Outcome::Failed => Ok(1),
         Outcome::NoCommand => Ok(2),
     }

@@ -3,3 +3,4 @@ pub mod PackedTables
 pub mod Packing
 pub mod Pairs
 pub mod Placing
+pub mod Saving

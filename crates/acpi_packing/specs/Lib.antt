@@ -1,8 +1,12 @@
 pub mod Held
+pub mod Listing
 pub mod Pack
 pub mod Packed
 pub mod Place
+pub mod Program
 pub mod Run
+pub mod Save
+pub mod Saves
 pub mod Sources
 pub mod Texts
 pub mod Words

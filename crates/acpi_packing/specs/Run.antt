@@ -1,8 +1,9 @@
 -- What a run comes to, and what it prints.
 use Rattle.std.specs.Prelude.{◌≡◌, ◌≢◌, ℕ, ◌++◌, if◌then◌else◌, codes, is_none}
-use Rattle.std.specs.Prelude.{List, [], flat_map, slice_get, Option, Some, None, Result, Ok, Err, unwrap_or}
+use Rattle.std.specs.Prelude.{List, [], flat_map, Option, Some, None, Result, Ok, Err}
 use Rattle.std.specs.Io.KnownBytes.{Appends}
 use Rattle.acpi_base.specs.Memory.{Memory}
+use Rattle.acpi_packing.specs.Listing.{name_of}
 use Rattle.acpi_packing.specs.Pack.{dsdt_address, file_of, packed_files, packed_tables}
 use Rattle.acpi_packing.specs.Sources.{bytes_of, entries}
 use Rattle.acpi_packing.specs.Texts.{refusal_text}
@@ -27,9 +28,6 @@ left_out_by None files =
     entries Unlisted 0 files ++ (if is_none (dsdt_address (bytes_of (entries Listed 0 files)))
     then entries Dsdt 0 files
     else [])
-
-abbrev pub name_of : List (List ℕ) → ℕ → List ℕ
-name_of names n = unwrap_or (slice_get names n) []
 
 abbrev pub left_out_lines : List (List ℕ) → List (ℕ × List ℕ) → List ℕ
 left_out_lines names left_out =
@@ -64,9 +62,7 @@ IsReport (Some r) files (outcome.Refused e) text =
     × (text ≡ refused_line r e)
 IsReport request files said text = ⊥
 
--- the same of a run, which adds the text to what was printed, and that text alone; it comes to
--- nothing where standard error or memory for the text is refused
+-- the same of a run, which adds the text to what was printed, and that text alone
 abbrev pub Ends : Option Request → List (Option (List ℕ)) → Outcome → Option (List ℕ) → Option (List ℕ)
     → Type 0
-Ends request files outcome.Failed old new = Unit {0}
 Ends request files said old new = (text : List ℕ) × IsReport request files said text × Appends old new text

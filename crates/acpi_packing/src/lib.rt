@@ -3,11 +3,14 @@
 #![tactic(auto)]
 
 mod error;
+pub mod listing;
 mod pack;
 mod place;
+pub mod program;
 pub mod run;
 pub mod save;
 mod sources;
+pub mod storage;
 pub mod words;
 
 pub use error::{FileError, Refusal};

@@ -1,17 +1,19 @@
 //! The program over files that are read, and over any writer.
-ghost use Rattle.std.specs.Prelude.{◌≡◌, ◌≢◌, [], IfErr, IfOk, Some, Ok, Err, map, string_bytes};
+ghost use Rattle.std.specs.Prelude.{◌≡◌, ◌≢◌, [], IfErr, IfOk, Some, Ok, Err, map, option_map, string_bytes};
 ghost use Rattle.acpi_packing.specs.Held.{contents, entry_of};
 ghost use Rattle.acpi_packing.specs.Pack.{file_of};
 ghost use Rattle.acpi_packing.specs.Run.{IsReport, left_out_by, left_out_lines, packed_by};
-ghost use Rattle.acpi_packing.specs.Run.{Ends, name_of, refused_line, refused_name, usage_line};
+ghost use Rattle.acpi_packing.specs.Run.{Ends, refused_line, refused_name, usage_line};
 ghost use Rattle.acpi_packing.specs.Words.{addresses_of, request_in, request_of};
 ghost use Rattle.acpi_packing.specs.declared.error.Refusal.TheVariants.{OutOfMemory};
 
 use crate::error::Refusal;
+use crate::listing::name_of;
 use crate::pack::{dsdt_address, pack_files, pack_tables};
 use crate::sources::{Entry, Kind, Source, entries};
 use crate::words::{Command, Form, parse_command};
 use std::alloc::{AllocError, Global};
+use std::io;
 use std::io::Write;
 
 /// What a run comes to.
@@ -23,8 +25,6 @@ pub enum Outcome {
     Refused(Refusal),
     /// The words are no command.
     NoCommand,
-    /// Standard error can't be written, or memory for what is to be printed is refused.
-    Failed,
 }
 
 /// The image that a command asks for.
@@ -62,16 +62,6 @@ fn left_out<'a>(alloc: Global, form: &Form, files: &[Source<'a>]) -> Result<Vec<
         }
     }
     Ok(left_out)
-}
-
-/// The name of the file of this index.
-fn name_of<'w>(names: &[&'w str], index: usize) -> &'w str
-    ensures { result.now ≡ name_of (map (λ n. n.now) names.now) index }
-{
-    match names.get(index) {
-        Some(name) => *name,
-        None => "",
-    }
 }
 
 /// A line for each file that is left out.
@@ -154,39 +144,55 @@ fn report_command(
     Ok((Outcome::Image(image), text))
 }
 
-/// What words come to, and what is printed of it.
+/// What the command that is asked for comes to, if any, and what is printed of it.
 ///
-/// Refuses where memory for the words or for what is printed is refused.
+/// Refuses if memory for what is printed is refused.
 fn report(
     alloc: Global,
-    words: &[&str],
+    asked: &Option<Command<'_>>,
     files: &[Source<'_>],
 ) -> Result<(Outcome, String), AllocError>
-    ensures { IfOk result (λ r. IsReport (request_in (map (λ w. w.now) words.now))
+    ensures { IfOk result (λ r. IsReport (option_map request_of asked.now)
         (contents files.now) r.0 (string_bytes r.1)) }
 {
-    match parse_command(alloc, words)? {
-        Some(command) => report_command(alloc, &command, files),
+    match asked {
+        Some(command) => report_command(alloc, command, files),
         None => Ok((Outcome::NoCommand, usage_line(alloc)?)),
     }
 }
 
-/// Runs the program on the words behind its name, and on the files that they name, in order, `None`
-/// for one that can't be read. It answers what is to be written, and prints lines: one for each
-/// file that is left out, or one that says why nothing is packed, or the usage.
-///
-/// Faults are found in this order: words that are no command, then what `pack_files` or
-/// `pack_tables` refuses.
-pub fn run<E: Write>(alloc: Global, words: &[&str], files: &[Source<'_>], err: &mut E) -> Outcome
-    // What it comes to is what is defined, and so is all that is printed.
-    ensures exact { Ends (request_in (map (λ w. w.now) words.now)) (contents files.now) result
-        (E.contents err.old) (E.contents err.new) }
+/// `run` of the command that the arguments are, or of `None` if they are no command.
+pub(crate) fn run_command<E: Write>(
+    alloc: Global,
+    asked: &Option<Command<'_>>,
+    files: &[Source<'_>],
+    err: &mut E,
+) -> io::Result<Outcome>
+    ensures { IfOk result (λ o. Ends (option_map request_of asked.now) (contents files.now) o
+        (E.contents err.old) (E.contents err.new)) }
 {
-    match report(alloc, words, files) {
-        Ok((outcome, text)) => match err.write_all(text.as_bytes()) {
-            Ok(()) => outcome,
-            Err(_) => Outcome::Failed,
-        },
-        Err(_) => Outcome::Failed,
-    }
+    let (outcome, text) = report(alloc, asked, files)?;
+    err.write_all(text.as_bytes())?;
+    Ok(outcome)
+}
+
+/// Runs the program on the arguments after its name, and on the files that they name, in order,
+/// `None` for one that can't be read. It answers what is to be written, and prints lines: one for
+/// each file that is left out, or one that says why nothing is packed, or the usage.
+///
+/// Faults are found in this order: arguments that are no command, then what `pack_files` or
+/// `pack_tables` refuses. Refuses if a write to standard error, or memory for the arguments or for
+/// what is printed, is refused.
+pub fn run<E: Write>(
+    alloc: Global,
+    words: &[&str],
+    files: &[Source<'_>],
+    err: &mut E,
+) -> io::Result<Outcome>
+    // What it comes to is what is defined, and so is all that is printed.
+    ensures exact { IfOk result (λ o. Ends (request_in (map (λ w. w.now) words.now))
+        (contents files.now) o (E.contents err.old) (E.contents err.new)) }
+{
+    let asked = parse_command(alloc, words)?;
+    run_command(alloc, &asked, files, err)
 }

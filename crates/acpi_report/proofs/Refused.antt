@@ -7,8 +7,7 @@ use Rattle.acpi_image_reader.specs.Image.{Refuses, records_in}
 use Rattle.acpi_image_reader.specs.declared.error.ImageError.{ImageError}
 use Rattle.acpi_image_reader.specs.declared.error.ImageError.TheVariants as refusal
 use Rattle.acpi_report.proofs.Output.{no_lines}
-use Rattle.acpi_report.specs.Command.{command_of}
-use Rattle.acpi_report.specs.Output.{Ends, Prints, found_over, found_with, refusal_line}
+use Rattle.acpi_report.specs.Output.{EndsWith, Prints, found_over, found_with, refusal_line, usage_line}
 use Rattle.acpi_report.specs.Status.{RunsOutWith, status_over, status_with}
 use Rattle.acpi_report.specs.declared.words.Command.{Command}
 
@@ -17,66 +16,74 @@ pub one_line : (a c d : Option (List ℕ)) (complaint : List ℕ)
     → Appends c d complaint → Prints (Err complaint) a a c d
 one_line a c d complaint grows = record { lines = no_lines a complaint; complaints = grows }
 
-pub refused_ends : {E : Type 0} (words : List (List ℕ)) (file : Option (List ℕ)) (r : Result ℕ E)
+-- no command is given
+pub usage_ends : (given : Option Command) (file : Option (List ℕ)) (a c d : Option (List ℕ))
+    → given ≡ None → Appends c d usage_line → EndsWith given file 2 a a c d
+usage_ends given file a c d none grows = inl (
+  sym (ap (λ o. status_with o file) none),
+  subst (λ o. Prints (found_with o file) a a c d) (sym none) (one_line a c d usage_line grows),
+)
+
+pub refused_ends : {E : Type 0} (given : Option Command) (file : Option (List ℕ)) (r : Result ℕ E)
     (name : List ℕ) (a c d : Option (List ℕ))
-    → status_with (command_of words) file ≡ 1
-    → found_with (command_of words) file ≡ Err (refusal_line name)
+    → status_with given file ≡ 1
+    → found_with given file ≡ Err (refusal_line name)
     → IfOk r (λ s. s ≡ 1) → OnOk r (Appends c d (refusal_line name))
-    → IfOk r (λ s. Ends words file s a a c d)
-refused_ends words file (Ok s) name a c d status found one grows = inl (
+    → IfOk r (λ s. EndsWith given file s a a c d)
+refused_ends given file (Ok s) name a c d status found one grows = inl (
   one ∙ sym status,
   subst (λ f. Prints f a a c d) (sym found) (one_line a c d (refusal_line name) grows),
 )
-refused_ends words file (Err e) name a c d status found one grows = tt
+refused_ends given file (Err e) name a c d status found one grows = tt
 
 -- no file is read
-pub unreadable_ends : {E : Type 0} (words : List (List ℕ)) (file : Option (List ℕ))
+pub unreadable_ends : {E : Type 0} (given : Option Command) (file : Option (List ℕ))
     (command : Command) (r : Result ℕ E) (a c d : Option (List ℕ))
-    → command_of words ≡ Some command → file ≡ None
+    → given ≡ Some command → file ≡ None
     → IfOk r (λ s. s ≡ 1) → OnOk r (Appends c d (refusal_line (codes "Unreadable")))
-    → IfOk r (λ s. Ends words file s a a c d)
-unreadable_ends words file command r a c d asked none =
-    refused_ends words file r (codes "Unreadable") a c d
+    → IfOk r (λ s. EndsWith given file s a a c d)
+unreadable_ends given file command r a c d asked none =
+    refused_ends given file r (codes "Unreadable") a c d
     (ap (λ o. status_with o file) asked ∙ ap (status_with (Some command)) none)
     (ap (λ o. found_with o file) asked ∙ ap (found_with (Some command)) none)
 
 -- memory runs out over a file
-pub full_ends : {E : Type 0} (words : List (List ℕ)) (file : Option (List ℕ)) (r : Result ℕ E)
+pub full_ends : {E : Type 0} (given : Option Command) (file : Option (List ℕ)) (r : Result ℕ E)
     (a c d : Option (List ℕ))
-    → RunsOutWith (command_of words) file
+    → RunsOutWith given file
     → IfOk r (λ s. s ≡ 1) → OnOk r (Appends c d (refusal_line (codes "OutOfMemory")))
-    → IfOk r (λ s. Ends words file s a a c d)
-full_ends words file (Ok s) a c d runs_out one grows =
+    → IfOk r (λ s. EndsWith given file s a a c d)
+full_ends given file (Ok s) a c d runs_out one grows =
     inr (one, runs_out, one_line a c d (refusal_line (codes "OutOfMemory")) grows)
-full_ends words file (Err e) a c d runs_out one grows = tt
+full_ends given file (Err e) a c d runs_out one grows = tt
 
 -- the file spells no memory
-pub unspelled_ends : {E : Type 0} (words : List (List ℕ)) (file : Option (List ℕ))
+pub unspelled_ends : {E : Type 0} (given : Option Command) (file : Option (List ℕ))
     (command : Command) (bytes : List ℕ) (e : ImageError) (r : Result ℕ E)
     (a c d : Option (List ℕ))
-    → command_of words ≡ Some command → file ≡ Some bytes → records_in bytes ≡ Err e
+    → given ≡ Some command → file ≡ Some bytes → records_in bytes ≡ Err e
     → IfOk r (λ s. s ≡ 1) → OnOk r (Appends c d (refusal_line (image_error_text e)))
-    → IfOk r (λ s. Ends words file s a a c d)
-unspelled_ends words file command bytes e r a c d asked read said =
-    refused_ends words file r (image_error_text e) a c d
+    → IfOk r (λ s. EndsWith given file s a a c d)
+unspelled_ends given file command bytes e r a c d asked read said =
+    refused_ends given file r (image_error_text e) a c d
     (ap (λ o. status_with o file) asked ∙ ap (status_with (Some command)) read
     ∙ ap (status_over command) said)
     (ap (λ o. found_with o file) asked ∙ ap (found_with (Some command)) read
     ∙ ap (found_over command) said)
 
 -- the file is refused, by the refusal that is defined, or since memory runs out
-pub image_ends : {E : Type 0} (words : List (List ℕ)) (file : Option (List ℕ))
+pub image_ends : {E : Type 0} (given : Option Command) (file : Option (List ℕ))
     (command : Command) (bytes : List ℕ) (e : ImageError) (r : Result ℕ E)
     (a c d : Option (List ℕ))
-    → command_of words ≡ Some command → file ≡ Some bytes → Refuses bytes e (records_in bytes)
+    → given ≡ Some command → file ≡ Some bytes → Refuses bytes e (records_in bytes)
     → IfOk r (λ s. s ≡ 1) → OnOk r (Appends c d (refusal_line (image_error_text e)))
-    → IfOk r (λ s. Ends words file s a a c d)
-image_ends words file command bytes refusal.OutOfMemory r a c d asked read refuses =
-    full_ends words file r a c d
+    → IfOk r (λ s. EndsWith given file s a a c d)
+image_ends given file command bytes refusal.OutOfMemory r a c d asked read refuses =
+    full_ends given file r a c d
     (subst (λ o. RunsOutWith o file) (sym asked) (subst (RunsOutWith (Some command)) (sym read) refuses))
-image_ends words file command bytes refusal.Truncated r a c d asked read refuses =
-    unspelled_ends words file command bytes refusal.Truncated r a c d asked read refuses
-image_ends words file command bytes refusal.EndTooLarge r a c d asked read refuses =
-    unspelled_ends words file command bytes refusal.EndTooLarge r a c d asked read refuses
-image_ends words file command bytes refusal.Overlap r a c d asked read refuses =
-    unspelled_ends words file command bytes refusal.Overlap r a c d asked read refuses
+image_ends given file command bytes refusal.Truncated r a c d asked read refuses =
+    unspelled_ends given file command bytes refusal.Truncated r a c d asked read refuses
+image_ends given file command bytes refusal.EndTooLarge r a c d asked read refuses =
+    unspelled_ends given file command bytes refusal.EndTooLarge r a c d asked read refuses
+image_ends given file command bytes refusal.Overlap r a c d asked read refuses =
+    unspelled_ends given file command bytes refusal.Overlap r a c d asked read refuses

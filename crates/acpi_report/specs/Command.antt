@@ -42,11 +42,11 @@ abbrev pub command_of : List (List ℕ) → Option Command
 command_of (image ∷ form ∷ rest) = form_command form rest
 command_of _ = None
 
--- the file that words name: the first of them, where they are a command
-abbrev pub file_for : Option Command → List (List ℕ) → Option (List ℕ)
-file_for None words = None
-file_for (Some command) [] = None
-file_for (Some command) (image ∷ rest) = Some image
+-- the files that are read for a command of these arguments: the first of them; none for no command
+abbrev pub files_for : Option Command → List (List ℕ) → List (List ℕ)
+files_for None arguments = []
+files_for (Some command) [] = []
+files_for (Some command) (image ∷ rest) = image ∷ []
 
-abbrev pub file_of : List (List ℕ) → Option (List ℕ)
-file_of words = file_for (command_of words) words
+abbrev pub files_of : List (List ℕ) → List (List ℕ)
+files_of arguments = files_for (command_of arguments) arguments

@@ -4,4 +4,5 @@ pub mod Output
 pub mod Pieces
 pub mod PlatformLines
 pub mod Status
+pub mod View
 pub mod Writing

@@ -17,7 +17,7 @@ use Rattle.acpi_image_reader.specs.declared.error.ImageError.{ImageError}
 use Rattle.acpi_report.specs.Command.{command_of}
 use Rattle.acpi_report.specs.Lines.{IsPciText, bgrt_kind, bgrt_lines, dsdt_lines, header_lines, hpet_lines, line, revision_line, skipped_lines, spcr_kind, spcr_lines, ssdt_lines}
 use Rattle.acpi_report.specs.PlatformLines.{IsPlatformText}
-use Rattle.acpi_report.specs.Status.{RunsOutWith, opened_for, status_for}
+use Rattle.acpi_report.specs.Status.{RunsOutWith, opened_for, status_with}
 use Rattle.acpi_report.specs.Writing.{AppendsSome}
 use Rattle.acpi_report.specs.declared.words.Command.{Command}
 
@@ -107,10 +107,14 @@ pub record Prints (found : Found) (out out_after err err_after : Option (List �
   pub complaints : Appends err err_after (complaints_of found)
 
 -- how a run ends of which each write is taken: with the status that is defined, and what is found is
--- printed, or where memory can run out, with 1 and a line that says so
+-- printed, or if memory can run out, with 1 and a line that says so
+abbrev pub EndsWith : Option Command → Option (List ℕ) → ℕ
+    → Option (List ℕ) → Option (List ℕ) → Option (List ℕ) → Option (List ℕ) → Type 0
+EndsWith asked file status out out_after err err_after =
+    ((status ≡ status_with asked file) × Prints (found_with asked file) out out_after err err_after)
+    ⊎ ((status ≡ 1) × RunsOutWith asked file
+    × Prints (Err (refusal_line (codes "OutOfMemory"))) out out_after err err_after)
+
 abbrev pub Ends : List (List ℕ) → Option (List ℕ) → ℕ
     → Option (List ℕ) → Option (List ℕ) → Option (List ℕ) → Option (List ℕ) → Type 0
-Ends words file status out out_after err err_after =
-    ((status ≡ status_for words file) × Prints (found_for words file) out out_after err err_after)
-    ⊎ ((status ≡ 1) × RunsOutWith (command_of words) file
-    × Prints (Err (refusal_line (codes "OutOfMemory"))) out out_after err err_after)
+Ends words file = EndsWith (command_of words) file

@@ -3,4 +3,5 @@
 
 pub mod lines;
 pub mod run;
+pub mod view;
 pub mod words;

@@ -6,7 +6,7 @@ ghost use Rattle.acpi_base.specs.Steps.{Gives};
 ghost use Rattle.acpi.specs.Opened.{opened_of};
 ghost use Rattle.acpi.specs.Tables.{lender_of};
 ghost use Rattle.acpi_report.specs.Command.{command_of};
-ghost use Rattle.acpi_report.specs.Output.{Ends, Prints, found_for, found_in, refusal_line};
+ghost use Rattle.acpi_report.specs.Output.{Ends, EndsWith, Prints, found_for, found_in, refusal_line};
 ghost use Rattle.acpi_report.specs.Status.{opened_for, status_for, status_of};
 
 use crate::lines::{print_parts, print_skipped_tables};
@@ -53,27 +53,7 @@ pub fn run<W: Write, E: Write>(
     print_run(alloc, words, image, out, err).unwrap_or(1)
 }
 
-/// `run` over writers that are gathered in 32 KiB each before they are written, so that a refused
-/// write leaves a front of what an output would have got.
-///
-/// Refuses where memory for gathering is refused.
-pub fn run_gathered<W: Write + Drop, E: Write + Drop>(
-    alloc: Global,
-    words: &[&str],
-    image: Option<&[u8]>,
-    out: W,
-    err: E,
-) -> io::Result<u8>
-    ensures { IfOk result (λ s. s ≢ 1 →
-        s ≡ status_for (map (λ w. w.now) words.now) (option_copied image.entry)) }
-{
-    let mut out = BufWriter::with_capacity(alloc, BUFFERED, out)?;
-    let mut err = BufWriter::with_capacity(alloc, BUFFERED, err)?;
-    Ok(run(alloc, words, image, &mut out, &mut err))
-}
-
 /// `run`, which refuses with what the first refused write or flush is refused with.
-#[tactic(auto, using(crate::proofs::Flushed::ends_kept))]
 pub fn print_run<W: Write, E: Write>(
     alloc: Global,
     words: &[&str],
@@ -86,7 +66,45 @@ pub fn print_run<W: Write, E: Write>(
     ensures { IfOk result (λ s. Ends (map (λ w. w.now) words.now) (option_copied image.entry) s
         (W.contents out.old) (W.contents out.new) (E.contents err.old) (E.contents err.new)) }
 {
-    let printed = print_all(alloc, words, image, out, err);
+    print_command(alloc, parse_command(words), image, out, err)
+}
+
+/// `print_run` of the command that the arguments are, or of `None` if they are no command, over
+/// writers that are gathered in 32 KiB each before they are written. It answers the status and gives
+/// the writers back.
+///
+/// Refuses with what the first refused write or flush is refused with, or if memory for gathering is
+/// refused. A refused write leaves a front of what an output would have got.
+pub fn run_gathered<W: Write + Drop, E: Write + Drop>(
+    alloc: Global,
+    asked: Option<Command>,
+    image: Option<&[u8]>,
+    out: W,
+    err: E,
+) -> io::Result<(u8, W, E)>
+    // The outputs that are given back have grown by what is defined, and by nothing else.
+    ensures { IfOk result (λ r. EndsWith asked (option_copied image.entry) r.0
+        (W.contents out) (W.contents r.1) (E.contents err) (E.contents r.2)) }
+{
+    let mut out = BufWriter::with_capacity(alloc, BUFFERED, out)?;
+    let mut err = BufWriter::with_capacity(alloc, BUFFERED, err)?;
+    let status = print_command(alloc, asked, image, &mut out, &mut err)?;
+    Ok((status, out.into_inner()?, err.into_inner()?))
+}
+
+/// Prints what a command asks for, or the first fault, flushes both outputs, and answers the status.
+#[tactic(auto, using(crate::proofs::Flushed::ends_kept))]
+fn print_command<W: Write, E: Write>(
+    alloc: Global,
+    asked: Option<Command>,
+    image: Option<&[u8]>,
+    out: &mut W,
+    err: &mut E,
+) -> io::Result<u8>
+    ensures { IfOk result (λ s. EndsWith asked (option_copied image.entry) s
+        (W.contents out.old) (W.contents out.new) (E.contents err.old) (E.contents err.new)) }
+{
+    let printed = print_all(alloc, asked, image, out, err);
     let shown = out.flush();
     let told = err.flush();
     let status = printed?;
@@ -98,15 +116,15 @@ pub fn print_run<W: Write, E: Write>(
 /// Prints the lines, or the first fault, and answers the status.
 fn print_all<W: Write, E: Write>(
     alloc: Global,
-    words: &[&str],
+    asked: Option<Command>,
     image: Option<&[u8]>,
     out: &mut W,
     err: &mut E,
 ) -> io::Result<u8>
-    ensures { IfOk result (λ s. Ends (map (λ w. w.now) words.now) (option_copied image.entry) s
+    ensures { IfOk result (λ s. EndsWith asked (option_copied image.entry) s
         (W.contents out.old) (W.contents out.new) (E.contents err.old) (E.contents err.new)) }
 {
-    let Some(command) = parse_command(words) else {
+    let Some(command) = asked else {
         writeln!(
             err,
             "usage: acpi_view IMAGE rsdt REVISION ADDRESS | rsdp ADDRESS | bios"

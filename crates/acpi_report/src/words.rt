@@ -1,8 +1,7 @@
 //! What the words of a command line ask for.
 ghost use Rattle.std.specs.Prelude.{◌≡◌, map};
-ghost use Rattle.std.specs.Option.{option_copied};
 ghost use Rattle.acpi_base.specs.Equality.{IsEquality};
-ghost use Rattle.acpi_report.specs.Command.{bios_command, command_of, file_of, form_command, rsdp_command, rsdt_command};
+ghost use Rattle.acpi_report.specs.Command.{bios_command, command_of, files_for, form_command, rsdp_command, rsdt_command};
 
 use acpi_words::{parse_address, parse_revision};
 
@@ -82,13 +81,15 @@ pub fn parse_command(words: &[&str]) -> Option<Command>
     parse_form(form, rest)
 }
 
-/// The file that the words behind the program's name ask for: the first of them, or `None` where
-/// they are no command, so that no file is opened for such words.
-pub fn file_named<'w>(words: &[&'w str]) -> Option<&'w str>
-    ensures { option_copied result ≡ file_of (map (λ w. w.now) words.now) }
+/// The files that are read for a command, which is that of these arguments: the one that the first of
+/// them names, or none if they are no command.
+pub fn files_named<'a, 'w>(asked: Option<Command>, arguments: &'a [&'w str]) -> &'a [&'w str]
+    ensures { map (λ n. n.now) result.now ≡ files_for asked (map (λ w. w.now) arguments.now) }
 {
-    parse_command(words)?;
-    words.first().copied()
+    if asked.is_none() || arguments.is_empty() {
+        return &[];
+    }
+    &arguments[..1]
 }
 
 /// Commands compare as equal exactly where they are one.

@@ -1,13 +1,15 @@
-//! Words of command lines: how they are had, and the numbers that they spell.
+//! What programs are made of: arguments, the numbers that they spell, and files that are read.
 #![tactic(auto)]
 
-ghost use Rattle.std.specs.Prelude.{◌≡◌, ◌≢◌, ◌^◌, ◌≤◌, [], IfErr, IfOk, IsOkAnd};
+pub mod files;
+
+ghost use Rattle.std.specs.Prelude.{◌≡◌, ◌≢◌, ◌^◌, ◌≤◌, [], IfErr, IfOk, IsOkAnd, drop, map, string_bytes};
 ghost use Rattle.std.specs.Char.{is_digit};
 ghost use Rattle.std.specs.IoError.{error_kind};
 ghost use Rattle.std.specs.List.{list_all};
 ghost use Rattle.acpi_words.specs.Numbers.{address_of, numeral, revision_of};
 
-use std::alloc::Global;
+use std::alloc::{AllocError, Global};
 use std::io::ErrorKind;
 use std::{env, io};
 
@@ -64,13 +66,34 @@ pub fn texts_or_none(alloc: Global, texts: io::Result<Vec<String>>) -> io::Resul
     }
 }
 
-/// The words behind the program's name.
-///
-/// Refuses where they can't be had.
-pub fn texts_of(rt: &HostRuntime) -> io::Result<Vec<String>> {
-    let mut texts = Vec::new(rt.alloc());
-    for text in env::args(rt)?.skip(1) {
-        texts.push(text)?;
+/// The arguments without the first, the program's name: all others, in order.
+fn after_name(mut texts: Vec<String>) -> Vec<String>
+    ensures { result.items ≡ drop 1 texts.items }
+{
+    if texts.is_empty() {
+        return texts;
     }
-    Ok(texts)
+    texts.remove(0);
+    texts
+}
+
+/// The arguments after the program's name: all that the system gives, in order.
+///
+/// Refuses if they can't be had.
+pub fn texts_of(rt: &HostRuntime) -> io::Result<Vec<String>> {
+    let texts = env::args(rt)?.collect(rt.alloc())?;
+    Ok(after_name(texts))
+}
+
+/// The same texts, borrowed.
+///
+/// Refuses if memory is refused.
+pub fn borrowed(alloc: Global, texts: &[String]) -> Result<Vec<&str>, AllocError>
+    ensures { IfOk result (λ v. map (λ w. w.now) v.items ≡ map string_bytes texts.now) }
+{
+    let mut borrowed = Vec::new(alloc);
+    for text in texts {
+        borrowed.push(text.as_str())?;
+    }
+    Ok(borrowed)
 }

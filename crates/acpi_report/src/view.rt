@@ -1,0 +1,50 @@
+//! The program over any files and any writers.
+ghost use Rattle.std.specs.Prelude.{◌≡◌, IfOk, OnErr, map};
+ghost use Rattle.std.specs.Option.{option_copied};
+ghost use Rattle.acpi_words.specs.Reads.{AsksFront};
+ghost use Rattle.acpi_report.specs.Command.{files_of};
+ghost use Rattle.acpi_report.specs.View.{Views, first_of};
+
+use crate::run::run_gathered;
+use crate::words::{files_named, parse_command};
+use acpi_words::files::{Files, contents_from, count, read_all};
+use std::alloc::Global;
+use std::io;
+use std::io::Write;
+
+/// The bytes of the first file, or `None` if there is no such file or it can't be read.
+fn first_of<'f>(contents: &[Option<&'f [u8]>]) -> Option<&'f [u8]>
+    ensures { option_copied result ≡ first_of (map option_copied contents.now) }
+{
+    match contents {
+        [first, ..] => *first,
+        [] => None,
+    }
+}
+
+/// Runs the program on the arguments after its name. They are judged first; for a command the file
+/// that the first of them names is read, and no other, and for no command none. It answers the
+/// status, which is that of `run`, and gives the outputs back.
+///
+/// Refuses with what the first refused write or flush is refused with, or if memory is refused for
+/// the list of files or for gathering the outputs.
+pub fn view<F: Files, W: Write + Drop, E: Write + Drop>(
+    alloc: Global,
+    arguments: &[&str],
+    files: &mut F,
+    out: W,
+    err: E,
+) -> io::Result<(u8, W, E)>
+    ensures exact { IfOk result (λ r. Views (map (λ w. w.now) arguments.now)
+        (F.asked files.old) (F.asked files.new) r.0
+        (W.contents out) (W.contents r.1) (E.contents err) (E.contents r.2)) }
+    // No other file is asked for if it is refused.
+    ensures refused { OnErr result (AsksFront (files_of (map (λ w. w.now) arguments.now))
+        (F.asked files.old) (F.asked files.new)) }
+{
+    let asked = parse_command(arguments);
+    let start = count(files);
+    read_all(files, files_named(asked, arguments))?;
+    let contents = contents_from(alloc, files, start)?;
+    run_gathered(alloc, asked, first_of(&contents), out, err)
+}
