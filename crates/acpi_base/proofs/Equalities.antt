@@ -57,7 +57,7 @@ one test exact x y = (λ t. ap (λ z. (z, tt)) ((exact x.0 y.0).0 t), λ same. (
 signatures_are : (x y : Signature) → IsEquality (signatures.ghosts.eq x y) x y
 signatures_are x y = search rules
 
-numbers_are : (x y : ℕ) → IsEquality (x == y) x y
+pub numbers_are : (x y : ℕ) → IsEquality (x == y) x y
 numbers_are x y = search rules
 
 madt_errors_are : (x y : MadtError) → IsEquality (madt_errors.ghosts.eq x y) x y
