@@ -2,6 +2,7 @@ pub mod Brief
 pub mod Agreed
 pub mod AgreedOpened
 pub mod Calls
+pub mod Equalities
 pub mod First
 pub mod Least
 pub mod Led
@@ -12,7 +13,6 @@ pub mod Places
 pub mod Rooted
 pub mod Spelled
 pub mod Texts
-pub mod Timers
 pub mod Validated
 pub mod Walk
 pub mod Within

@@ -2,6 +2,7 @@ pub mod Agreement
 pub mod Clones
 pub mod Cuts
 pub mod Damage
+pub mod Equalities
 pub mod Held
 pub mod Inside
 pub mod Lent

@@ -1,4 +1,4 @@
-use Rattle.acpi.proofs.Timers.{timers_are}
+use Rattle.acpi.proofs.Equalities.{timers_are}
 use Rattle.acpi.proofs.laws.pm_timer_equality.Goals as goal
 
 pub returns : goal.returns
