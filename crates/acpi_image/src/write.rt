@@ -70,6 +70,8 @@ pub fn write_image(
     // these, each with byte 9 set.
     ensures law { let p = plan rsdp_address root_address revision tables.now in
         IfOk result (λ v. IsWritten p v.items) }
+    // Each number in it is a byte.
+    ensures bytes { IfOk result (λ v. IsBytes v.items) }
 {
     write_in(alloc, rsdp_address, root_address, revision, tables)
 }
