@@ -11,7 +11,7 @@ mod records;
 
 pub use crate::error::WriteError;
 use checks::check_plan;
-pub use places::{Place, shares_with_any};
+pub use places::Place;
 use records::put_records;
 pub use records::{put_record, put_root, put_rsdp};
 use std::alloc::{Allocator, Global};
