@@ -75,15 +75,10 @@ unfolding check_plan
 places_left rsdp root revision tables few many some are short fit =
     planned_places rsdp root revision tables few many ∙ rw (some, are, length-map tables placed_region, short, fit) refl
 
--- ---- places of tables, and the tables there
-
-placed_places : (tables : List PlacedTable) → SamePlaces (places_of tables) (placed tables)
-placed_places [] = tt
-placed_places (t ∷ ts) = (record { start = refl; count = length-replicate (length t.bytes.now) 0 }, placed_places ts)
-
--- a table shares a byte with others exactly where its place does with theirs
-pub placed_share : (tables : List PlacedTable) (p : Place) (t : PlacedTable) → p.start ≡ t.address → p.length ≡ length t.bytes.now
-    → shares_any (places_of tables) (region_in p) ≡ shares_any (placed tables) (placed_region t)
-placed_share tables p t start count =
-    same_shares (places_of tables) (placed tables) (region_in p) (placed_region t) (placed_places tables)
-    (record { start = start; count = length-replicate p.length 0 ∙ count })
+-- two tables share a byte exactly where their places do
+pub tables_share : (p q : Place) (t u : PlacedTable) → p.start ≡ t.address → p.length ≡ length t.bytes.now → q.start ≡ u.address → q.length ≡ length u.bytes.now
+    → share (region_in p) (region_in q) ≡ share (placed_region t) (placed_region u)
+tables_share p q t u p_start p_count q_start q_count =
+    same_share (region_in p) (placed_region t) (region_in q) (placed_region u)
+    (record { start = p_start; count = length-replicate p.length 0 ∙ p_count })
+    (record { start = q_start; count = length-replicate q.length 0 ∙ q_count })

@@ -1,18 +1,20 @@
 -- How many bytes are written, and how numbers are spelled there.
 use Rattle.std.proofs.Common.{◌≡◌, ℕ, zero, suc, ◌+◌, ◌-◌, ◌*◌, ◌/◌, ◌%◌, ◌^◌, ◌<◌, ◌≤◌, Bool, true, false, List, [], ◌∷◌, ◌++◌, length, take, drop, refl, sym, ap, ◌∙◌, arith, if◌then◌else◌, w64}
-use Rattle.std.specs.Prelude.{OnOk, Result, Ok, Err, flat_map}
+use Rattle.std.specs.Prelude.{OnOk, Result, Ok, Err, flat_map, replicate}
 use Rattle.acpi_image_reader.specs.Image.{record_spelling}
 use Rattle.acpi_image.specs.declared.error.WriteError.{WriteError}
 use Rattle.std.specs.Int.{from_le_bytes, to_le_bytes}
 use Rattle.std.proofs.lemmas.Nat.{le_bytes_8}
 use Rattle.std.proofs.lemmas.List.{length-append, length-set, append_assoc, append-nil, take-append-drop, take_all}
 use Rattle.acpi_base.specs.Bytes.{IsBytes, filled_part, spelling}
+use Rattle.acpi_base.specs.Text.{letters_of}
+use Rattle.acpi_base.specs.declared.signature.Signature.{Signature}
 use Rattle.acpi_base.proofs.Numbers.{number_filled}
 use Rattle.acpi_base.proofs.Spelling.{length-spelling, number-spelling}
 use Rattle.acpi.specs.Root.{signature_of, width_of}
 use Rattle.acpi.specs.declared.root.RootKind.{RootKind}
 use Rattle.acpi.specs.declared.root.RootKind.TheVariants.{Rsdt, Xsdt}
-use Rattle.acpi_image.specs.Written.{root_header, root_length, root_record, root_to, root_unsummed, rsdp_to, rsdp_unsummed, sum_byte, with_first_sum, with_sum}
+use Rattle.acpi_image.specs.Written.{root_header, root_length, root_record, root_to, root_unsummed, rsdp_to, rsdp_unsummed, spaces, sum_byte, with_first_sum, with_sum}
 
 pub length-with_sum : (offset : ℕ) (bytes : List ℕ) → length (with_sum offset bytes) ≡ length bytes
 unfolding with_sum
@@ -45,6 +47,14 @@ pub length-root_header : (kind : RootKind) (count : ℕ) → length (root_header
 unfolding root_header spelling
 length-root_header Rsdt count = refl
 length-root_header Xsdt count = refl
+
+-- the header from its signature on
+pub header_from : (s : Signature) (n : ℕ) → root_header s n ≡ letters_of s ++ (spelling 4 n ++ ((1 ∷ (0 ∷ spaces 6)) ++ (spaces 8 ++ replicate 12 0)))
+unfolding root_header
+header_from s n =
+    append_assoc ((letters_of s ++ spelling 4 n) ++ (1 ∷ (0 ∷ spaces 6))) (spaces 8) (replicate 12 0)
+    ∙ append_assoc (letters_of s ++ spelling 4 n) (1 ∷ (0 ∷ spaces 6)) (spaces 8 ++ replicate 12 0)
+    ∙ append_assoc (letters_of s) (spelling 4 n) ((1 ∷ (0 ∷ spaces 6)) ++ (spaces 8 ++ replicate 12 0))
 
 pub length-root_unsummed : (kind : RootKind) (ps : List ℕ) → length (root_unsummed kind ps) ≡ root_length kind (length ps)
 length-root_unsummed kind ps =

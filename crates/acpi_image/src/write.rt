@@ -11,7 +11,7 @@ mod records;
 
 pub use crate::error::WriteError;
 use checks::check_plan;
-pub use places::{Place, shares_with_any};
+pub use places::Place;
 use records::put_records;
 pub use records::{put_record, put_root, put_rsdp};
 use std::alloc::{Allocator, Global};
@@ -70,6 +70,8 @@ pub fn write_image(
     // these, each with byte 9 set.
     ensures law { let p = plan rsdp_address root_address revision tables.now in
         IfOk result (λ v. IsWritten p v.items) }
+    // Each number in it is a byte.
+    ensures bytes { IfOk result (λ v. IsBytes v.items) }
 {
     write_in(alloc, rsdp_address, root_address, revision, tables)
 }

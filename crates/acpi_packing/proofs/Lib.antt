@@ -1,3 +1,5 @@
+pub mod Counting
+pub mod Laid
 pub mod Memories
 pub mod PackedTables
 pub mod Packing

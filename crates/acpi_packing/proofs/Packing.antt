@@ -1,24 +1,56 @@
--- Regions of files, and what is packed of them.
-use Rattle.std.proofs.Common.{◌≡◌, ℕ, ◌≤◌, List, [], ◌∷◌, ◌++◌, length, drop, refl, sym, arith, inl, inr}
+-- Files at their addresses.
+use Rattle.std.proofs.Common.{◌≡◌, ℕ, zero, suc, ◌+◌, ◌<◌, ◌≤◌, List, [], ◌∷◌, ◌++◌, length, drop, take, get_or, drop-cons, add-one, Ok, refl, ap, arith, inl, inr}
 use Rattle.std.specs.Prelude.{Option, min}
 use Rattle.std.specs.Borrow.{Bor}
 use Rattle.std.proofs.Math.ListN.{drop_of_length-le}
 use Rattle.std.proofs.lemmas.Bool.{cases_lt}
-use Rattle.std.proofs.lemmas.List.{append-nil}
-use Rattle.acpi_base.specs.Memory.{Memory}
-use Rattle.acpi_packing.specs.Held.{contents}
-use Rattle.acpi_packing.specs.Pack.{regions}
+use Rattle.acpi_base.specs.Memory.{Memory, Region}
+use Rattle.acpi_packing.specs.Held.{content, contents}
+use Rattle.acpi_packing.specs.Pack.{check_place, check_places, regions}
+use Rattle.acpi_packing.specs.Sources.{bytes_in}
+
+-- the file at an index, at its address
+abbrev region_at : ℕ → List ℕ → List (Option (Bor (List ℕ))) → ℕ → Option (Bor (List ℕ)) → Region
+region_at i addresses fs a f = record { start = get_or addresses i a; bytes = bytes_in (content (get_or fs i f)) }
 
 no_files : (addresses : List ℕ) → regions addresses [] ≡ []
 no_files [] = refl
 no_files (a ∷ addresses) = refl
 
-pub regions_end : (i : ℕ) (addresses : List ℕ) (fs : List (Option (Bor (List ℕ)))) (before : Memory) (n : ℕ) → n ≡ min (length addresses) (length fs) → n ≤ i
-    → before ≡ before ++ regions (drop i addresses) (contents (drop i fs))
-regions_end i addresses fs before n e past =
+-- no region is left where addresses or files are at their end
+pub regions_past : (i : ℕ) (addresses : List ℕ) (fs : List (Option (Bor (List ℕ)))) (n : ℕ) → n ≡ min (length addresses) (length fs) → n ≤ i
+    → regions (drop i addresses) (contents (drop i fs)) ≡ []
+regions_past i addresses fs n e past =
     elim (cases_lt i (length addresses)) [
       | inl lt ↦
           let short : length fs ≤ i = omega arith in
-          rw (drop_of_length-le fs short, no_files (drop i addresses)) (sym (append-nil before))
-      | inr le ↦ rw (drop_of_length-le addresses le) (sym (append-nil before))
+          rw (drop_of_length-le fs short) (no_files (drop i addresses))
+      | inr le ↦ rw (drop_of_length-le addresses le) refl
     ]
+
+more : (n : ℕ) (addresses : List ℕ) (fs : List (Option (Bor (List ℕ)))) (a : ℕ) (f : Option (Bor (List ℕ))) → n < length addresses → n < length fs
+    → regions (take (suc n) addresses) (contents (take (suc n) fs)) ≡ regions (take n addresses) (contents (take n fs)) ++ (region_at n addresses fs a f ∷ [])
+more n [] fs a f less there = absurd (omega arith)
+more n (x ∷ addresses) [] a f less there = absurd (omega arith)
+more zero (x ∷ addresses) (y ∷ fs) a f less there = refl
+more (suc n) (x ∷ addresses) (y ∷ fs) a f less there =
+    ap (λ (m : Memory). record { start = x; bytes = bytes_in (content y) } ∷ m) (more n addresses fs a f (omega arith) (omega arith))
+
+module _ (i : ℕ) (addresses : List ℕ) (fs : List (Option (Bor (List ℕ)))) (a : ℕ) (f : Option (Bor (List ℕ))) (n : ℕ) (e : n ≡ min (length addresses) (length fs)) (before : i < n) where
+  less : i < length addresses
+  less = omega arith
+
+  there : i < length fs
+  there = omega arith
+
+  next : regions (drop i addresses) (contents (drop i fs)) ≡ region_at i addresses fs a f ∷ regions (drop (i + 1) addresses) (contents (drop (i + 1) fs))
+  next = rw (add-one, drop-cons addresses i a less, drop-cons fs i f there) refl
+
+  -- the next file has its place
+  pub place_checked : (x : Unit {0}) → check_place i (regions (take i addresses) (contents (take i fs))) (region_at i addresses fs a f) ≡ Ok x
+      → check_places (i + 1) (regions (take (i + 1) addresses) (contents (take (i + 1) fs))) (regions (drop (i + 1) addresses) (contents (drop (i + 1) fs)))
+      ≡ check_places i (regions (take i addresses) (contents (take i fs))) (regions (drop i addresses) (contents (drop i fs)))
+  place_checked x placed =
+      let front : regions (take (i + 1) addresses) (contents (take (i + 1) fs)) ≡ regions (take i addresses) (contents (take i fs)) ++ (region_at i addresses fs a f ∷ []) =
+      rw add-one (more i addresses fs a f less there) in
+      rw (front, next, placed) refl

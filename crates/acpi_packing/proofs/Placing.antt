@@ -1,23 +1,22 @@
 -- Where tables are placed.
-use Rattle.std.proofs.Common.{◌≡◌, ℕ, ◌+◌, ◌%◌, ◌^◌, ◌<◌, ◌≤◌, Bool, true, false, List, [], ◌∷◌, ◌++◌, length, map, drop, get_or, drop-cons, add-one, append_assoc, Some, None, Result, Ok, Err, refl, sym, ap, ◌∙◌, arith, inl, inr, if◌then◌else◌}
+use Rattle.std.proofs.Common.{◌≡◌, ℕ, ◌+◌, ◌%◌, ◌^◌, ◌<◌, ◌≤◌, Bool, true, false, List, [], ◌∷◌, ◌++◌, length, map, append_assoc, Some, None, Result, Ok, Err, refl, sym, ap, ◌∙◌, arith, inl, inr, if◌then◌else◌}
 use Rattle.std.specs.Prelude.{◌⊎◌, nat_le, nat_lt, ◌||◌, Option}
 use Rattle.std.proofs.lemmas.Bool.{leb-false, leb-true, ltb-true, or_cases, or_parts}
 use Rattle.acpi_base.specs.Memory.{Memory, Region, end_of}
 use Rattle.acpi_base.specs.Steps.{◌>>=◌}
 use Rattle.acpi_base.proofs.Steps.{bind_ok}
-use Rattle.acpi_packing.specs.Place.{ArePlaced, IsPlaced, aligned, place_at, place_or, placed_from, start_at}
-use Rattle.std.proofs.Math.ListN.{drop_of_length-le}
+use Rattle.acpi_packing.specs.Place.{ArePlaced, IsPlaced, aligned, place_at, place_or, placed_from, room, start_at}
 use Rattle.std.proofs.lemmas.List.{append-nil, length-map}
 use Rattle.acpi_image.specs.Written.{placed, placed_region}
 use Rattle.acpi_image.specs.declared.write.PlacedTable.{PlacedTable}
-use Rattle.acpi_packing.specs.Held.{entry_of}
-use Rattle.acpi_packing.specs.Sources.{bytes_of}
 use Rattle.acpi_packing.specs.declared.error.Refusal.{Refusal}
 use Rattle.acpi_packing.specs.declared.error.Refusal.TheVariants.{NoRoom}
-use Rattle.acpi_packing.specs.declared.sources.Entry.{Entry}
 
 abbrev done : Memory → Result Memory Refusal
 done m = Ok m
+
+abbrev checked : Result (Unit {0}) Refusal
+checked = Ok tt
 
 -- regions, and those behind them
 abbrev pub behind : Memory → Result Memory Refusal → Result Memory Refusal
@@ -124,12 +123,9 @@ pub placed_bytes : (fixed : Region) (from : ℕ) (ts : List (List ℕ)) (m : Mem
 placed_bytes fixed from ts m e = bytes_all fixed ts from m e
 
 -- as many as were to be placed
-pub placed_count : (fixed : Region) (from : ℕ) (ts : List Entry) (tables : List PlacedTable) → placed_from fixed from (bytes_of (map entry_of ts)) ≡ Ok (placed tables)
-    → length tables ≡ length ts
+pub placed_count : (fixed : Region) (from : ℕ) (ts : List (List ℕ)) (tables : List PlacedTable) → placed_from fixed from ts ≡ Ok (placed tables) → length tables ≡ length ts
 placed_count fixed from ts tables e =
-    sym (length-map tables placed_region) ∙ sym (length-map (placed tables) (λ r. r.bytes))
-    ∙ ap length (placed_bytes fixed from (bytes_of (map entry_of ts)) (placed tables) e)
-    ∙ length-map (map entry_of ts) (λ x. x.1) ∙ length-map ts entry_of
+    sym (length-map tables placed_region) ∙ sym (length-map (placed tables) (λ r. r.bytes)) ∙ ap length (placed_bytes fixed from ts (placed tables) e)
 
 -- ---- a table at a time
 
@@ -147,22 +143,19 @@ pub placed_stops : (fixed : Region) (from : ℕ) (before : Memory) (t : List ℕ
     → behind before (placed_from fixed from (t ∷ ts)) ≡ Err NoRoom
 placed_stops fixed from before t ts e = rw e refl
 
--- the table in turn, and those behind it
-turn_is : (ts : List Entry) (i : ℕ) (d : Entry) → i < length ts
-    → bytes_of (map entry_of (drop i ts)) ≡ (get_or ts i d).bytes.now ∷ bytes_of (map entry_of (drop (i + 1) ts))
-turn_is ts i d less =
-    let front : drop i ts ≡ get_or ts i d ∷ drop (i + 1) ts = rw add-one (drop-cons ts i d less) in
-    ap (λ xs. bytes_of (map entry_of xs)) front
+pub placed_all : (fixed : Region) (from : ℕ) (before : Memory) → behind before (placed_from fixed from []) ≡ Ok before
+placed_all fixed from before = ap done (append-nil before)
 
-module _ (fixed : Region) (from : ℕ) (before : Memory) (ts : List Entry) (i : ℕ) (d : Entry) (less : i < length ts) where
-  pub stops_at : place_at fixed from (length (get_or ts i d).bytes.now) ≡ None → behind before (placed_from fixed from (bytes_of (map entry_of (drop i ts)))) ≡ Err NoRoom
-  stops_at e = rw (turn_is ts i d less) (placed_stops fixed from before (get_or ts i d).bytes.now (bytes_of (map entry_of (drop (i + 1) ts))) e)
+-- ---- room
 
-  pub goes_on_at : (a : ℕ) → place_at fixed from (length (get_or ts i d).bytes.now) ≡ Some a
-      → behind (before ++ (record { start = a; bytes = (get_or ts i d).bytes.now } ∷ [])) (placed_from fixed (a + length (get_or ts i d).bytes.now) (bytes_of (map entry_of (drop (i + 1) ts))))
-      ≡ behind before (placed_from fixed from (bytes_of (map entry_of (drop i ts))))
-  goes_on_at a e = rw (turn_is ts i d less) (placed_next fixed from before (get_or ts i d).bytes.now (bytes_of (map entry_of (drop (i + 1) ts))) a e)
+room_behind : (x : Region) (r : Result Memory Refusal) → (r >>= λ _. checked) ≡ ((r >>= λ more. done (x ∷ more)) >>= λ _. checked)
+room_behind x (Ok more) = refl
+room_behind x (Err e) = refl
 
-pub ends_at : (fixed : Region) (from : ℕ) (before : Memory) (ts : List Entry) (i : ℕ) → length ts ≤ i
-    → behind before (placed_from fixed from (bytes_of (map entry_of (drop i ts)))) ≡ Ok before
-ends_at fixed from before ts i past = rw (drop_of_length-le ts past) (ap done (append-nil before))
+-- the next table has its address
+pub room_next : (fixed : Region) (from : ℕ) (t : List ℕ) (ts : List (List ℕ)) (a : ℕ) → place_at fixed from (length t) ≡ Some a → room fixed (a + length t) ts ≡ room fixed from (t ∷ ts)
+room_next fixed from t ts a e = rw e (room_behind (record { start = a; bytes = t }) (placed_from fixed (a + length t) ts))
+
+-- the next table has none
+pub room_stops : (fixed : Region) (from : ℕ) (t : List ℕ) (ts : List (List ℕ)) → place_at fixed from (length t) ≡ None → room fixed from (t ∷ ts) ≡ Err NoRoom
+room_stops fixed from t ts e = rw e refl

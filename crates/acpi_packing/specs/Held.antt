@@ -1,7 +1,9 @@
 -- What files and entries hold, wherever their bytes lie.
-use Rattle.std.specs.Prelude.{ℕ, List, map, Option}
+use Rattle.std.specs.Prelude.{ℕ, List, drop, map, Option}
 use Rattle.std.specs.Option.{option_copied}
 use Rattle.std.specs.Borrow.{Bor}
+use Rattle.acpi_packing.specs.Sources.{entries}
+use Rattle.acpi_packing.specs.declared.sources.FilesOfKind.{FilesOfKind}
 use Rattle.acpi_packing.specs.declared.sources.Entry.{Entry}
 
 -- the bytes of a file, none where it can't be read
@@ -14,3 +16,7 @@ contents files = map content files
 -- a file's index and its bytes
 abbrev pub entry_of : Entry → ℕ × List ℕ
 entry_of e = (e.index, e.bytes.now)
+
+-- the files of a kind that are still to come
+abbrev pub entries_left : FilesOfKind → List (ℕ × List ℕ)
+entries_left s = entries s.kind s.index (contents (drop s.index s.files.now))

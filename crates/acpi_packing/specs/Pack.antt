@@ -1,7 +1,7 @@
 -- What is packed: the regions that an image is made of, or the first refusal.
-use Rattle.std.specs.Prelude.{ℕ, ◌+◌, ◌^◌, nat_le, nat_lt, not, if◌then◌else◌, codes}
+use Rattle.std.specs.Prelude.{◌≡◌, ◌⊎◌, ℕ, ◌+◌, ◌^◌, nat_le, nat_lt, not, if◌then◌else◌, codes}
 use Rattle.std.specs.Prelude.{List, [], ◌∷◌, ◌++◌, length, flat_map, replicate}
-use Rattle.std.specs.Prelude.{Option, Some, None, Result, Ok, Err}
+use Rattle.std.specs.Prelude.{Option, Some, None, Result, Ok, Err, IsOk}
 use Rattle.std.specs.Option.{ok_or}
 use Rattle.std.specs.Result.{result_ok}
 use Rattle.acpi.specs.declared.root.RootKind.TheVariants.{Xsdt}
@@ -14,7 +14,7 @@ use Rattle.acpi_packing.specs.Place.{place_at, placed_from}
 use Rattle.acpi_packing.specs.Sources.{begins, bytes_in, bytes_of, check_contents, check_tables, entries}
 use Rattle.acpi_packing.specs.declared.error.FileError.TheVariants as fault
 use Rattle.acpi_packing.specs.declared.error.Refusal.{Refusal}
-use Rattle.acpi_packing.specs.declared.error.Refusal.TheVariants.{File, NoRoom}
+use Rattle.acpi_packing.specs.declared.error.Refusal.TheVariants.{File, NoRoom, OutOfMemory}
 use Rattle.acpi_packing.specs.declared.sources.Kind.TheVariants.{Dsdt, Listed}
 
 -- the file of n is put at its address: it ends below 2^64, and shares no byte with an earlier one
@@ -126,3 +126,7 @@ abbrev pub file_of : Result Memory Refusal → Result (List ℕ) Refusal
 file_of packed = do
   regions ← packed
   Ok (flat_map record_spelling regions)
+
+-- a refusal is the one that is defined, or OutOfMemory where nothing is refused
+abbrev pub RefusesOrRunsOut : Result Memory Refusal → Refusal → Type 0
+RefusesOrRunsOut packed e = (packed ≡ Err e) ⊎ ((e ≡ OutOfMemory) × IsOk packed)

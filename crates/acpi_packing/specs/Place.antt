@@ -37,6 +37,12 @@ placed_from fixed from (table ∷ tables) =
     place_or fixed (place_at fixed from (length table)) table
     (λ behind. placed_from fixed behind tables)
 
+-- that tables have room, or the refusal
+abbrev pub room : Region → ℕ → List (List ℕ) → Result (Unit {0}) Refusal
+room fixed from tables = do
+  _ ← placed_from fixed from tables
+  Ok tt
+
 -- ---- the same in the reader's words
 
 -- a region from an address on, aligned to 16, before or behind another, that ends below 2^64

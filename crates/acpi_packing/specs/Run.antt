@@ -1,10 +1,10 @@
 -- What a run comes to, and what it prints.
-use Rattle.std.specs.Prelude.{◌≡◌, ◌≢◌, ℕ, ◌++◌, if◌then◌else◌, codes, is_none}
-use Rattle.std.specs.Prelude.{List, [], flat_map, Option, Some, None, Result, Ok, Err}
+use Rattle.std.specs.Prelude.{◌≡◌, ℕ, ◌++◌, if◌then◌else◌, codes, is_none}
+use Rattle.std.specs.Prelude.{List, [], flat_map, Option, Some, None, Result, Ok}
 use Rattle.std.specs.Io.KnownBytes.{Appends}
 use Rattle.acpi_base.specs.Memory.{Memory}
 use Rattle.acpi_packing.specs.Listing.{name_of}
-use Rattle.acpi_packing.specs.Pack.{dsdt_address, file_of, packed_files, packed_tables}
+use Rattle.acpi_packing.specs.Pack.{RefusesOrRunsOut, dsdt_address, file_of, packed_files, packed_tables}
 use Rattle.acpi_packing.specs.Sources.{bytes_of, entries}
 use Rattle.acpi_packing.specs.Texts.{refusal_text}
 use Rattle.acpi_packing.specs.Words.{Request}
@@ -50,16 +50,15 @@ usage_line = codes "usage: acpi_pack OUT memory ADDRESS FILE [ADDRESS FILE]... |
 
 -- ---- what a run comes to
 
--- what is printed is this text, and what it comes to is what is defined; memory that is refused
--- comes in place of any of it
+-- what is printed is this text, and what it comes to is what is defined: an image, or its first
+-- refusal, or OutOfMemory where nothing is refused
 abbrev pub IsReport : Option Request → List (Option (List ℕ)) → Outcome → List ℕ → Type 0
 IsReport None files outcome.NoCommand text = text ≡ usage_line
 IsReport (Some r) files (outcome.Image file) text =
     (file_of (packed_by r.addresses files) ≡ Ok file.items)
     × (text ≡ left_out_lines r.names (left_out_by r.addresses files))
 IsReport (Some r) files (outcome.Refused e) text =
-    (e ≢ refusal.OutOfMemory → packed_by r.addresses files ≡ Err e)
-    × (text ≡ refused_line r e)
+    RefusesOrRunsOut (packed_by r.addresses files) e × (text ≡ refused_line r e)
 IsReport request files said text = ⊥
 
 -- the same of a run, which adds the text to what was printed, and that text alone

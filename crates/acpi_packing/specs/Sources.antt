@@ -45,6 +45,10 @@ entries kind n (file ∷ files) =
 abbrev pub bytes_of : List (ℕ × List ℕ) → List (List ℕ)
 bytes_of found = map (λ e. e.1) found
 
+-- the bytes of the files that the XSDT lists
+abbrev pub listed : List (Option (List ℕ)) → List (List ℕ)
+listed files = bytes_of (entries kinds.Listed 0 files)
+
 -- ---- why a file is refused by itself
 
 -- it can be read, and has bytes

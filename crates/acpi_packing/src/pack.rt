@@ -1,26 +1,27 @@
 //! Images that are packed from files.
-ghost use Rattle.std.specs.Prelude.{◌≡◌, ◌≢◌, ◌+◌, ◌^◌, ◌<◌, ◌≤◌, ◌++◌, [], length, map, option_map, flat_map, IfErr, IfNone, IfOk, IfSome, OnOk, Ok, Err};
+ghost use Rattle.std.specs.Prelude.{◌≡◌, ◌+◌, ◌^◌, ◌<◌, ◌≤◌, ◌++◌, [], length, option_map, flat_map, IfErr, IfNone, IfOk, IfSome, OnOk, Ok};
 ghost use Rattle.acpi.specs.declared.root.RootKind.TheVariants.{Xsdt};
 ghost use Rattle.acpi_base.specs.Bytes.{IsBytes};
 ghost use Rattle.acpi_base.specs.Memory.{end_of};
 ghost use Rattle.acpi_base.specs.Steps.{Gives};
-ghost use Rattle.acpi_image_reader.specs.Image.{record_spelling, shares_any};
+ghost use Rattle.acpi_image_reader.specs.Image.{record_spelling, share, shares_any};
 ghost use Rattle.acpi_image.specs.Written.{placed, placed_region, root_length};
-ghost use Rattle.acpi_packing.specs.Held.{contents, entry_of};
+ghost use Rattle.acpi_packing.specs.Held.{contents};
 ghost use Rattle.acpi_packing.specs.Pack as pack;
-ghost use Rattle.acpi_packing.specs.Pack.{all_regions, check_place, check_places, file_of, fixed_of, laid_out};
-ghost use Rattle.acpi_packing.specs.Pack.{packed_files, packed_tables, regions};
+ghost use Rattle.acpi_packing.specs.Pack.{RefusesOrRunsOut, all_regions, check_place, check_places, file_of, fixed_of};
+ghost use Rattle.acpi_packing.specs.Pack.{laid_out, packed_files, packed_tables, regions};
 ghost use Rattle.acpi_packing.specs.Packed.{IsMemoryFile, IsPacked};
-ghost use Rattle.acpi_packing.specs.Sources.{bytes_of};
+ghost use Rattle.acpi_packing.specs.Sources.{entries, listed};
 ghost use Rattle.acpi_packing.specs.declared.error.Refusal.TheVariants.{OutOfMemory};
+ghost use Rattle.acpi_packing.specs.declared.sources.Kind.TheVariants.{Dsdt};
 
 use crate::error::{FileError, Refusal};
-use crate::place::{place, place_one};
-use crate::sources::{Entry, Kind, Source, bytes_of, check_contents, check_tables, entries};
+use crate::place::{check_room, place, place_one};
+use crate::sources::{Kind, Source, bytes_of, check_contents, check_tables, listed_count, of_kind};
 use acpi::PhysicalRecord;
 use acpi::fadt::Fadt;
 use acpi_image::PlacedTable;
-use acpi_image::write::{Place, put_record, put_root, put_rsdp, shares_with_any};
+use acpi_image::write::{Place, put_record, put_root, put_rsdp};
 use std::alloc::Global;
 
 /// Where the RSDP lies: where the BIOS areas begin that are searched for it (section 5.2.5.1).
@@ -29,29 +30,48 @@ const RSDP: u64 = 0xe0000;
 /// From where on the other tables lie: behind the BIOS areas.
 const FIRST: u64 = 0x100000;
 
-/// Whether a table shares a byte with an earlier one.
-fn shares_byte(earlier: &[PlacedTable<'_>], table: &PlacedTable<'_>) -> bool
-    ensures { result ≡ shares_any (placed earlier.now) (placed_region table.now) }
+/// Whether two tables share a byte.
+fn share(one: &PlacedTable<'_>, other: &PlacedTable<'_>) -> bool
+    ensures { result ≡ share (placed_region one.now) (placed_region other.now) }
 {
-    shares_with_any(Place::of(table), earlier)
+    Place::of(one).shares_byte(Place::of(other))
 }
 
-/// Tests where a file is put, of this index, behind the earlier ones.
+/// Whether a table shares a byte with one of these files at their addresses.
+fn shares_byte(addresses: &[u64], files: &[Source<'_>], table: &PlacedTable<'_>) -> bool
+    ensures { result ≡ shares_any (regions addresses.now (contents files.now))
+        (placed_region table.now) }
+{
+    for index in 0..addresses.len().min(files.len()) {
+        let earlier = PlacedTable {
+            address: addresses[index],
+            bytes: bytes_of(files[index]),
+        };
+        if share(&earlier, table) {
+            return true;
+        }
+    }
+    false
+}
+
+/// Tests where a file is put, of this index, after earlier ones, at their addresses.
 ///
 /// Refuses, in this order, with `EndTooLarge` and `Overlap`.
 #[tactic(auto, unfolding(crate::specs::Pack::check_place))]
 fn check_place(
     index: usize,
-    earlier: &[PlacedTable<'_>],
+    addresses: &[u64],
+    files: &[Source<'_>],
     table: &PlacedTable<'_>,
 ) -> Result<(), Refusal>
-    ensures exact { result ≡ check_place index (placed earlier.now) (placed_region table.now) }
+    ensures exact { result ≡ check_place index (regions addresses.now (contents files.now))
+        (placed_region table.now) }
     ensures ends { OnOk result (end_of (placed_region table.now) < 2 ^ 64) }
 {
     if table.bytes.len() as u64 > u64::MAX - table.address {
         return Err(Refusal::File(index, FileError::EndTooLarge));
     }
-    if shares_byte(earlier, table) {
+    if shares_byte(addresses, files, table) {
         return Err(Refusal::File(index, FileError::Overlap));
     }
     Ok(())
@@ -60,50 +80,36 @@ fn check_place(
 /// Tests where each file is put.
 ///
 /// Refuses, files in order, as `check_place` does.
-fn check_places(tables: &[PlacedTable<'_>]) -> Result<(), Refusal>
-    ensures { result ≡ check_places 0 [] (placed tables.now) }
+fn check_places(addresses: &[u64], files: &[Source<'_>]) -> Result<(), Refusal>
+    ensures { result ≡ check_places 0 [] (regions addresses.now (contents files.now)) }
 {
-    for index in 0..tables.len() {
-        check_place(index, &tables[..index], &tables[index])?;
+    for index in 0..addresses.len().min(files.len()) {
+        let table = PlacedTable {
+            address: addresses[index],
+            bytes: bytes_of(files[index]),
+        };
+        check_place(index, &addresses[..index], &files[..index], &table)?;
     }
     Ok(())
 }
 
-/// The records of tables, one behind the other.
+/// The records of files at their addresses, one after the other.
 ///
 /// Refuses with `OutOfMemory`.
-fn put_tables(file: &mut Vec<u8>, tables: &[PlacedTable<'_>]) -> Result<(), Refusal>
-    ensures put { OnOk result
-        (file.new.items ≡ file.old.items ++ flat_map record_spelling (placed tables.now)) }
+fn put_files(file: &mut Vec<u8>, addresses: &[u64], files: &[Source<'_>]) -> Result<(), Refusal>
+    ensures put { let all = regions addresses.now (contents files.now) in
+        OnOk result (file.new.items ≡ file.old.items ++ flat_map record_spelling all) }
     ensures refused { IfErr result (λ e. e ≡ OutOfMemory) }
     ensures bytes { OnOk result (IsBytes file.new.items) }
 {
-    for table in tables {
-        put_record(file, table)?;
-    }
-    Ok(())
-}
-
-/// Each file at its address.
-///
-/// Refuses with `OutOfMemory`.
-fn regions<'a>(
-    alloc: Global,
-    addresses: &[u64],
-    files: &[Source<'a>],
-) -> Result<Vec<PlacedTable<'a>>, Refusal>
-    ensures all { IfOk result
-        (λ v. placed v.items ≡ regions addresses.now (contents files.now)) }
-    ensures refused { IfErr result (λ e. e ≡ OutOfMemory) }
-{
-    let mut tables = Vec::new(alloc);
     for index in 0..addresses.len().min(files.len()) {
-        tables.push(PlacedTable {
+        let table = PlacedTable {
             address: addresses[index],
             bytes: bytes_of(files[index]),
-        })?;
+        };
+        put_record(file, &table)?;
     }
-    Ok(tables)
+    Ok(())
 }
 
 /// The file of `pack_files`, by its exact clauses alone.
@@ -111,35 +117,37 @@ fn regions<'a>(
 fn files_image(alloc: Global, addresses: &[u64], files: &[Source<'_>]) -> Result<Vec<u8>, Refusal>
     ensures exact { IfOk result (λ v.
         file_of (packed_files addresses.now (contents files.now)) ≡ Ok v.items) }
-    ensures refused { IfErr result (λ e. e ≢ OutOfMemory
-        → packed_files addresses.now (contents files.now) ≡ Err e) }
+    ensures refused { IfErr result (λ e.
+        RefusesOrRunsOut (packed_files addresses.now (contents files.now)) e) }
     ensures bytes { IfOk result (λ v. IsBytes v.items) }
 {
     check_contents(files)?;
-    let tables = regions(alloc, addresses, files)?;
-    check_places(&tables)?;
+    check_places(addresses, files)?;
     let mut file = Vec::new(alloc);
-    put_tables(&mut file, &tables)?;
+    put_files(&mut file, addresses, files)?;
     Ok(file)
 }
 
 /// A file of memory that holds each of these files at its address, as it is.
 ///
 /// Refuses, files in order, with `Unreadable` and `Empty`; then, files in order, with `EndTooLarge`
-/// and `Overlap`; and with `OutOfMemory`.
+/// and `Overlap`; and if nothing is refused so, with `OutOfMemory` where a growth is refused.
 pub fn pack_files(
     alloc: Global,
     addresses: &[u64],
     files: &[Source<'_>],
 ) -> Result<Vec<u8>, Refusal>
-    // The file, or the first refusal, is the one that is defined.
+    // The file, or the first refusal, is the one that is defined; memory runs out only where nothing
+    // is refused.
     ensures exact { IfOk result (λ v.
         file_of (packed_files addresses.now (contents files.now)) ≡ Ok v.items) }
-    ensures refused { IfErr result (λ e. e ≢ OutOfMemory
-        → packed_files addresses.now (contents files.now) ≡ Err e) }
+    ensures refused { IfErr result (λ e.
+        RefusesOrRunsOut (packed_files addresses.now (contents files.now)) e) }
     // The file is the records of the files at their addresses, and is read as the memory of these.
     ensures law { IfOk result (λ v.
         IsMemoryFile (regions addresses.now (contents files.now)) v.items) }
+    // Each number in it is a byte.
+    ensures bytes { IfOk result (λ v. IsBytes v.items) }
 {
     files_image(alloc, addresses, files)
 }
@@ -156,11 +164,11 @@ fn address_in(fadt: &[u8]) -> Option<u64>
     Fadt::read(fadt).dsdt_address().ok()
 }
 
-/// The address that the first FADT among tables gives for the DSDT.
-pub(crate) fn dsdt_address(tables: &[Entry<'_>]) -> Option<u64>
-    ensures { result ≡ pack.dsdt_address (bytes_of (map entry_of tables.now)) }
+/// The address that the first FADT among files gives for the DSDT.
+pub(crate) fn dsdt_address(files: &[Source<'_>]) -> Option<u64>
+    ensures { result ≡ pack.dsdt_address (listed (contents files.now)) }
 {
-    for table in tables {
+    for table in of_kind(files, Kind::Listed) {
         if table.bytes.starts_with(b"FACP") {
             return address_in(table.bytes);
         }
@@ -174,27 +182,24 @@ pub(crate) fn dsdt_address(tables: &[Entry<'_>]) -> Option<u64>
 /// `Overlap` for a second DSDT.
 fn dsdt_at<'a>(
     address: Option<u64>,
-    found: &[Entry<'a>],
+    files: &[Source<'a>],
 ) -> Result<Option<PlacedTable<'a>>, Refusal>
     ensures exact { Gives (λ d. option_map placed_region d) result
-        (pack.dsdt_at address (map entry_of found.now)) }
+        (pack.dsdt_at address (entries Dsdt 0 (contents files.now))) }
     ensures ends { IfOk result (λ d. IfSome d (λ t. end_of (placed_region t) < 2 ^ 64)) }
 {
-    let (Some(address), [first, others @ ..]) = (address, found) else {
+    let mut found = of_kind(files, Kind::Dsdt);
+    let (Some(address), Some(first)) = (address, found.next()) else {
         return Ok(None);
     };
     let dsdt = PlacedTable {
         address,
         bytes: first.bytes,
     };
-    let rsdp = PlacedTable {
-        address: RSDP,
-        bytes: &[0; 36],
-    };
-    check_place(first.index, &[rsdp], &dsdt)?;
-    match others {
-        [] => Ok(Some(dsdt)),
-        [second, ..] => Err(Refusal::File(second.index, FileError::Overlap)),
+    check_place(first.index, &[RSDP], &[Some(&[0; 36])], &dsdt)?;
+    match found.next() {
+        None => Ok(Some(dsdt)),
+        Some(second) => Err(Refusal::File(second.index, FileError::Overlap)),
     }
 }
 
@@ -209,6 +214,21 @@ fn fixed_of<'a>(dsdt: Option<PlacedTable<'a>>) -> PlacedTable<'a>
             bytes: &[],
         },
     }
+}
+
+/// The records of tables, one after the other.
+///
+/// Refuses with `OutOfMemory`.
+fn put_tables(file: &mut Vec<u8>, tables: &[PlacedTable<'_>]) -> Result<(), Refusal>
+    ensures put { OnOk result
+        (file.new.items ≡ file.old.items ++ flat_map record_spelling (placed tables.now)) }
+    ensures refused { IfErr result (λ e. e ≡ OutOfMemory) }
+    ensures bytes { OnOk result (IsBytes file.new.items) }
+{
+    for table in tables {
+        put_record(file, table)?;
+    }
+    Ok(())
 }
 
 /// The records of an RSDP of revision 2, the XSDT at an address, the tables that it lists, and the
@@ -249,27 +269,32 @@ fn root_length(count: usize) -> Option<usize>
     }
 }
 
-/// The file that lists these tables, and holds the DSDT at its address.
+/// The file that lists the tables among files, and holds the DSDT at its address.
 ///
-/// Refuses with `NoRoom` and `OutOfMemory`.
+/// Refuses with `NoRoom`, and if nothing is refused so, with `OutOfMemory`.
 #[tactic(auto, unfolding(crate::specs::Pack::laid_out))]
 fn lay_out(
     alloc: Global,
-    listed: &[Entry<'_>],
+    files: &[Source<'_>],
     dsdt: Option<PlacedTable<'_>>,
 ) -> Result<Vec<u8>, Refusal>
     requires { IfSome dsdt (λ t. end_of (placed_region t) < 2 ^ 64) }
     ensures exact { IfOk result (λ v. file_of (laid_out (option_map placed_region dsdt.entry)
-        (bytes_of (map entry_of listed.now))) ≡ Ok v.items) }
-    ensures refused { IfErr result (λ e. e ≢ OutOfMemory
-        → laid_out (option_map placed_region dsdt.entry) (bytes_of (map entry_of listed.now))
-        ≡ Err e) }
+        (listed (contents files.now))) ≡ Ok v.items) }
+    ensures refused { IfErr result (λ e. RefusesOrRunsOut
+        (laid_out (option_map placed_region dsdt.entry) (listed (contents files.now))) e) }
     ensures bytes { IfOk result (λ v. IsBytes v.items) }
 {
     let fixed = fixed_of(dsdt);
-    let length = root_length(listed.len()).ok_or(Refusal::NoRoom)?;
-    let root = place_one(&fixed, FIRST, length).ok_or(Refusal::NoRoom)?;
-    let tables = place(alloc, listed, &fixed, root + length as u64)?;
+    let Some(length) = root_length(listed_count(files)) else {
+        return Err(Refusal::NoRoom);
+    };
+    let Some(root) = place_one(&fixed, FIRST, length) else {
+        return Err(Refusal::NoRoom);
+    };
+    let first = root + length as u64;
+    check_room(files, &fixed, first)?;
+    let tables = place(alloc, files, &fixed, first)?;
     let mut file = Vec::new(alloc);
     put_all(&mut file, root, &tables, dsdt)?;
     Ok(file)
@@ -279,15 +304,12 @@ fn lay_out(
 #[tactic(auto, unfolding(crate::specs::Pack::packed_tables))]
 fn tables_image(alloc: Global, files: &[Source<'_>]) -> Result<Vec<u8>, Refusal>
     ensures exact { IfOk result (λ v. file_of (packed_tables (contents files.now)) ≡ Ok v.items) }
-    ensures refused { IfErr result (λ e. e ≢ OutOfMemory
-        → packed_tables (contents files.now) ≡ Err e) }
+    ensures refused { IfErr result (λ e. RefusesOrRunsOut (packed_tables (contents files.now)) e) }
     ensures bytes { IfOk result (λ v. IsBytes v.items) }
 {
     check_tables(files)?;
-    let listed = entries(alloc, files, Kind::Listed)?;
-    let found = entries(alloc, files, Kind::Dsdt)?;
-    let dsdt = dsdt_at(dsdt_address(&listed), &found)?;
-    lay_out(alloc, &listed, dsdt)
+    let dsdt = dsdt_at(dsdt_address(files), files)?;
+    lay_out(alloc, files, dsdt)
 }
 
 /// A file of memory that holds an RSDP of revision 2 at 0xe0000, an XSDT that lists these tables in
@@ -296,16 +318,18 @@ fn tables_image(alloc: Global, files: &[Source<'_>]) -> Result<Vec<u8>, Refusal>
 /// out, and so is a DSDT for which no FADT gives an address.
 ///
 /// Refuses, files in order, with `Unreadable`, `Empty`, `Short` and `Long`; then for the DSDT with
-/// `EndTooLarge` and `Overlap`; then with `NoRoom`; and with `OutOfMemory` (sections 5.2.5.3, 5.2.8
-/// and 5.2.9).
+/// `EndTooLarge` and `Overlap`; then with `NoRoom`; and if nothing is refused so, with `OutOfMemory`
+/// where a growth is refused (sections 5.2.5.3, 5.2.8 and 5.2.9).
 pub fn pack_tables(alloc: Global, files: &[Source<'_>]) -> Result<Vec<u8>, Refusal>
-    // The file, or the first refusal, is the one that is defined.
+    // The file, or the first refusal, is the one that is defined; memory runs out only where nothing
+    // is refused.
     ensures exact { IfOk result (λ v. file_of (packed_tables (contents files.now)) ≡ Ok v.items) }
-    ensures refused { IfErr result (λ e. e ≢ OutOfMemory
-        → packed_tables (contents files.now) ≡ Err e) }
+    ensures refused { IfErr result (λ e. RefusesOrRunsOut (packed_tables (contents files.now)) e) }
     // The file is the records of a memory and nothing else; it is read and opened, and with every
     // sum right its valid tables are the files that are listed, in order.
     ensures law { IfOk result (λ v. IsPacked (contents files.now) v.items) }
+    // Each number in it is a byte.
+    ensures bytes { IfOk result (λ v. IsBytes v.items) }
 {
     tables_image(alloc, files)
 }

@@ -1,14 +1,14 @@
 //! Where tables lie.
-ghost use Rattle.std.specs.Prelude.{◌≡◌, ◌≢◌, ◌+◌, ◌^◌, ◌<◌, length, map, IfErr, IfOk, IfSome, Ok, Err};
+ghost use Rattle.std.specs.Prelude.{◌≡◌, ◌≢◌, ◌+◌, ◌^◌, ◌<◌, length, IfErr, IfOk, IfSome, Ok, Err};
 ghost use Rattle.acpi_image.specs.Written.{placed, placed_region};
 ghost use Rattle.acpi_base.specs.Memory.{end_of};
-ghost use Rattle.acpi_packing.specs.Held.{entry_of};
-ghost use Rattle.acpi_packing.specs.Place.{ArePlaced, aligned, place_at, placed_from};
-ghost use Rattle.acpi_packing.specs.Sources.{bytes_of};
+ghost use Rattle.acpi_packing.specs.Held.{contents};
+ghost use Rattle.acpi_packing.specs.Place.{ArePlaced, aligned, place_at, placed_from, room};
+ghost use Rattle.acpi_packing.specs.Sources.{listed};
 ghost use Rattle.acpi_packing.specs.declared.error.Refusal.TheVariants.{OutOfMemory};
 
 use crate::error::Refusal;
-use crate::sources::Entry;
+use crate::sources::{Kind, Source, of_kind};
 use acpi_image::PlacedTable;
 use std::alloc::Global;
 
@@ -43,28 +43,49 @@ pub(crate) fn place_one(fixed: &PlacedTable<'_>, from: u64, count: usize) -> Opt
     }
 }
 
-/// Tables from an address on, in order, each at the address that `place_one` gives it behind the
-/// one before it.
+/// Tests that each table that is listed has an address, placed as `place` does.
 ///
-/// Refuses with `NoRoom` where one has none, and with `OutOfMemory`.
+/// Refuses with `NoRoom` if one has none.
+pub(crate) fn check_room(
+    files: &[Source<'_>],
+    fixed: &PlacedTable<'_>,
+    from: u64,
+) -> Result<(), Refusal>
+    requires { end_of (placed_region fixed.now) < 2 ^ 64 }
+    ensures { result ≡ room (placed_region fixed.now) from (listed (contents files.now)) }
+{
+    let mut next = from;
+    for table in of_kind(files, Kind::Listed) {
+        let Some(address) = place_one(fixed, next, table.bytes.len()) else {
+            return Err(Refusal::NoRoom);
+        };
+        next = address + table.bytes.len() as u64;
+    }
+    Ok(())
+}
+
+/// The tables that are listed, from an address on, in order, each at the address that `place_one`
+/// gives it after the one before it.
+///
+/// Refuses with `NoRoom` if one has none, and with `OutOfMemory`.
 pub(crate) fn place<'a>(
     alloc: Global,
-    tables: &[Entry<'a>],
+    files: &[Source<'a>],
     fixed: &PlacedTable<'_>,
     from: u64,
 ) -> Result<Vec<PlacedTable<'a>>, Refusal>
     requires { end_of (placed_region fixed.now) < 2 ^ 64 }
     ensures exact { IfOk result (λ v. placed_from (placed_region fixed.now) from
-        (bytes_of (map entry_of tables.now)) ≡ Ok (placed v.items)) }
-    ensures refused { IfErr result (λ e. e ≢ OutOfMemory → placed_from (placed_region fixed.now) from
-        (bytes_of (map entry_of tables.now)) ≡ Err e) }
-    ensures count { IfOk result (λ v. length v.items ≡ length tables.now) }
-    // They are aligned, lie one behind the other and away from what lies already, and fit.
+        (listed (contents files.now)) ≡ Ok (placed v.items)) }
+    ensures refused { IfErr result (λ e. e ≢ OutOfMemory
+        → placed_from (placed_region fixed.now) from (listed (contents files.now)) ≡ Err e) }
+    ensures count { IfOk result (λ v. length v.items ≡ length (listed (contents files.now))) }
+    // They are aligned, lie one after the other and away from what lies already, and fit.
     ensures law { IfOk result (λ v. ArePlaced (placed_region fixed.now) from (placed v.items)) }
 {
     let mut placed = Vec::new(alloc);
     let mut next = from;
-    for table in tables {
+    for table in of_kind(files, Kind::Listed) {
         let Some(address) = place_one(fixed, next, table.bytes.len()) else {
             return Err(Refusal::NoRoom);
         };

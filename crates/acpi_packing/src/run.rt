@@ -1,7 +1,7 @@
 //! The program over files that are read, and over any writer.
-ghost use Rattle.std.specs.Prelude.{◌≡◌, ◌≢◌, [], IfErr, IfOk, Some, Ok, Err, map, option_map, string_bytes};
+ghost use Rattle.std.specs.Prelude.{◌≡◌, [], IfErr, IfOk, Some, Ok, map, option_map, string_bytes};
 ghost use Rattle.acpi_packing.specs.Held.{contents, entry_of};
-ghost use Rattle.acpi_packing.specs.Pack.{file_of};
+ghost use Rattle.acpi_packing.specs.Pack.{RefusesOrRunsOut, file_of};
 ghost use Rattle.acpi_packing.specs.Run.{IsReport, left_out_by, left_out_lines, packed_by};
 ghost use Rattle.acpi_packing.specs.Run.{Ends, refused_line, refused_name, usage_line};
 ghost use Rattle.acpi_packing.specs.Words.{addresses_of, request_in, request_of};
@@ -33,8 +33,8 @@ pub enum Outcome {
 fn packed(alloc: Global, form: &Form, files: &[Source<'_>]) -> Result<Vec<u8>, Refusal>
     ensures exact { IfOk result (λ v.
         file_of (packed_by (addresses_of form.now) (contents files.now)) ≡ Ok v.items) }
-    ensures refused { IfErr result (λ e. e ≢ OutOfMemory
-        → packed_by (addresses_of form.now) (contents files.now) ≡ Err e) }
+    ensures refused { IfErr result (λ e.
+        RefusesOrRunsOut (packed_by (addresses_of form.now) (contents files.now)) e) }
 {
     match form {
         Form::Memory(addresses) => pack_files(alloc, addresses, files),
@@ -54,7 +54,7 @@ fn left_out<'a>(alloc: Global, form: &Form, files: &[Source<'a>]) -> Result<Vec<
         return Ok(Vec::new(alloc));
     }
     let mut left_out = entries(alloc, files, Kind::Unlisted)?;
-    if dsdt_address(&entries(alloc, files, Kind::Listed)?).is_none() {
+    if dsdt_address(files).is_none() {
         let dsdts = entries(alloc, files, Kind::Dsdt)?;
         match left_out.extend_from_slice(&dsdts) {
             Ok(()) => {}

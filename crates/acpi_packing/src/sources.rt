@@ -1,8 +1,8 @@
 //! What files hold, which of them are tables, and why one is refused by itself.
-ghost use Rattle.std.specs.Prelude.{◌≡◌, IfErr, IfOk, map};
-ghost use Rattle.acpi_packing.specs.Held.{content, contents, entry_of};
+ghost use Rattle.std.specs.Prelude.{◌≡◌, ◌≤◌, IfErr, IfOk, length, map};
+ghost use Rattle.acpi_packing.specs.Held.{content, contents, entries_left, entry_of};
 ghost use Rattle.acpi_packing.specs.Sources as sources;
-ghost use Rattle.acpi_packing.specs.Sources.{bytes_in, is_of, is_unlisted, is_dsdt};
+ghost use Rattle.acpi_packing.specs.Sources.{bytes_in, is_of, is_unlisted, is_dsdt, listed};
 ghost use Rattle.acpi_packing.specs.declared.error.Refusal.TheVariants.{OutOfMemory};
 
 use crate::error::{FileError, Refusal};
@@ -71,6 +71,58 @@ impl Kind {
 }
 
 /// The files of a kind, in order.
+#[derive(Drop)]
+pub(crate) struct FilesOfKind<'a, 'f> {
+    files: &'f [Source<'a>],
+    kind: Kind,
+    /// How many files were passed.
+    index: usize,
+}
+
+impl<'a> Iterator for FilesOfKind<'a, '_> {
+    ghost use Rattle.std.specs.Iterator.{YieldsFirstBy, item_count};
+    ghost use Rattle.acpi_packing.specs.Held.{entries_left, entry_of};
+
+    type Item = Entry<'a>;
+
+    ghost next_gives = { YieldsFirstBy entry_of (λ s. entries_left s) };
+
+    ghost remaining = { item_count (λ s. entries_left s) };
+
+    fn next(&mut self) -> Option<Entry<'a>> {
+        while self.index < self.files.len() {
+            let index = self.index;
+            let bytes = bytes_of(self.files[index]);
+            self.index = index + 1;
+            if self.kind.has(bytes) {
+                return Some(Entry { index, bytes });
+            }
+        }
+        None
+    }
+}
+
+/// The files of a kind, in order.
+#[tactic(auto, using(crate::proofs::Counting::entries_few))]
+pub(crate) fn of_kind<'a, 'f>(files: &'f [Source<'a>], kind: Kind) -> FilesOfKind<'a, 'f>
+    ensures all { entries_left result ≡ sources.entries kind 0 (contents files.now) }
+    ensures few { length (entries_left result) ≤ length files.now }
+{
+    FilesOfKind {
+        files,
+        kind,
+        index: 0,
+    }
+}
+
+/// How many files the XSDT lists.
+pub(crate) fn listed_count(files: &[Source<'_>]) -> usize
+    ensures { result ≡ length (listed (contents files.now)) }
+{
+    of_kind(files, Kind::Listed).count()
+}
+
+/// The files of a kind, in order, in memory.
 ///
 /// Refuses with `OutOfMemory`.
 pub(crate) fn entries<'a>(
@@ -83,11 +135,8 @@ pub(crate) fn entries<'a>(
     ensures refused { IfErr result (λ e. e ≡ OutOfMemory) }
 {
     let mut found = Vec::new(alloc);
-    for (index, file) in files.iter().enumerate() {
-        let bytes = bytes_of(*file);
-        if kind.has(bytes) {
-            found.push(Entry { index, bytes })?;
-        }
+    for entry in of_kind(files, kind) {
+        found.push(entry)?;
     }
     Ok(found)
 }

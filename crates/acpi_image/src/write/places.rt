@@ -57,7 +57,7 @@ impl Place {
 }
 
 /// Whether some byte lies in a place and in one of the tables.
-pub fn shares_with_any(place: Place, tables: &[PlacedTable<'_>]) -> bool
+fn shares_with_any(place: Place, tables: &[PlacedTable<'_>]) -> bool
     ensures { result ≡ shares_any (places_of tables.now) (region_in place) }
 {
     for table in tables {

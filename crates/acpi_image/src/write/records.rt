@@ -1,7 +1,7 @@
 //! The records of a written image, put into a file one behind the other.
 ghost use Rattle.std.specs.Prelude.{◌≡◌, ◌^◌, ◌<◌, ◌≤◌, ◌++◌, length, flat_map, IfErr, OnOk};
 ghost use Rattle.std.specs.List.{All};
-ghost use Rattle.acpi.specs.Root.{kind_of_revision, width_of};
+ghost use Rattle.acpi.specs.Root.{kind_of_revision, signature_of, width_of};
 ghost use Rattle.acpi_base.specs.Bytes.{IsBytes, spelling};
 ghost use Rattle.acpi_image_reader.specs.Image.{record_spelling};
 ghost use Rattle.acpi_image.specs.Written.{placed, placed_region, plan, records_of, root_header};
@@ -12,7 +12,6 @@ ghost use Rattle.acpi_image.specs.declared.error.WriteError.TheVariants.{OutOfMe
 use crate::error::WriteError;
 use crate::write::PlacedTable;
 use crate::write::checks::{root_length, signature, width};
-use acpi_base::Signature;
 use acpi_base::bytes::byte_sum;
 use std::alloc::Allocator;
 
@@ -117,25 +116,17 @@ pub fn put_rsdp<A: Allocator>(
     put(file, &rsdp_to(revision, root))
 }
 
-/// Puts a root table's header, whose checksum is 0 (section 5.2.6).
-///
-/// Refuses with `OutOfMemory`.
-#[tactic(auto, unfolding(crate::specs::Written::root_header))]
-fn put_header<A: Allocator>(
-    file: &mut Vec<u8, A>,
-    signature: Signature,
-    length: usize,
-) -> Result<(), WriteError>
-    ensures put { OnOk result
-        (file.new.items ≡ file.old.items ++ root_header signature length) }
-    ensures refused { IfErr result (λ e. e ≡ OutOfMemory) }
+/// A root table's header, whose checksum is 0 (section 5.2.6): an RSDT's for revision 0, otherwise
+/// an XSDT's.
+fn root_header(revision: u8, length: usize) -> [u8; 36]
+    ensures { result ≡ root_header (signature_of (kind_of_revision revision)) length }
 {
-    put(file, &signature.to_bytes())?;
-    put_number(file, length as u64, 4)?;
-    put(file, &[1, 0])?;
-    put(file, b"      ")?;
-    put(file, b"        ")?;
-    put(file, &[0; 12])
+    let mut header = [0; 36];
+    header[4..8].copy_from_slice(&(length as u64).to_le_bytes()[..4]);
+    header[8] = 1;
+    header[10..24].copy_from_slice(b"              ");
+    header[..4].copy_from_slice(&signature(revision).to_bytes());
+    header
 }
 
 /// Puts the addresses of tables, in order, as pointers of this width.
@@ -173,11 +164,8 @@ fn put_root_table<A: Allocator>(
     ensures refused { IfErr result (λ e. e ≡ OutOfMemory) }
 {
     let start = file.len();
-    put_header(
-        file,
-        signature(revision),
-        root_length(revision, tables.len()),
-    )?;
+    let length = root_length(revision, tables.len());
+    put(file, &root_header(revision, length))?;
     put_pointers(file, revision, tables)?;
     set_sum(&mut file[start..], 9);
     Ok(())

@@ -1,6 +1,7 @@
-use Rattle.std.proofs.Common.{◌∙◌}
-use Rattle.acpi_image.proofs.Places.{placed_share}
+use Rattle.acpi_packing.proofs.Packing.{regions_past}
 use Rattle.acpi_packing.proofs.pack.shares_byte.Goals as goal
 
 pub returns : goal.returns
-returns c = c.shares_with_any.ensures ∙ placed_share c.args.earlier.now _ c.args.table.now c.of.ensures.start c.of.ensures.length
+returns c =
+    let none = regions_past _ _ _ _ c.min-index-end.ensures c.loop-index-test.false in
+    rw none at c.loop-index.invariant

@@ -1,10 +1,11 @@
-use Rattle.std.proofs.Common.{◌≡◌, map, drop}
+use Rattle.std.proofs.Common.{◌≡◌}
 use Rattle.acpi_image.specs.Written.{placed, placed_region}
-use Rattle.acpi_packing.specs.Held.{entry_of}
+use Rattle.acpi_packing.specs.Held.{contents, entries_left}
 use Rattle.acpi_packing.specs.Place.{placed_from}
-use Rattle.acpi_packing.specs.Sources.{bytes_of}
+use Rattle.acpi_packing.specs.Sources.{bytes_of, listed}
 use Rattle.acpi_packing.proofs.Placing.{behind}
 use Rattle.acpi_packing.proofs.place.place.Given as goal
 
 abbrev pub invariant-loop-table : goal.invariant-loop-table
-invariant-loop-table l = behind (placed l.placed.items) (placed_from (placed_region l.fixed) l.next (bytes_of (map entry_of (drop l.table-index l.tables)))) ≡ placed_from (placed_region l.fixed) l.fn.from (bytes_of (map entry_of l.tables))
+invariant-loop-table l =
+    behind (placed l.placed.items) (placed_from (placed_region l.fixed) l.next (bytes_of (entries_left l.table-iterator))) ≡ placed_from (placed_region l.fixed) l.fn.from (listed (contents l.files))

@@ -6,8 +6,9 @@ use Rattle.acpi_image.proofs.write.records.put_root_table.Goals as goal
 
 pub set_sum-requires : goal.set_sum-requires
 set_sum-requires g c =
-    let first = ap length c.in_ok-put_header.ensures.put in
+    let first = ap length c.in_ok-put.ensures.put in
     let second = ap length c.in_ok-put_pointers.ensures.put in
     let value = ap length c.deref_mut.ensures.value in
-    let long = length-root_header (kind_of_revision c.args.revision) c.root_length.result in
+    let header = ap length c.root_header.ensures in
+    let long = length-root_header (kind_of_revision c.args.revision) c.root_length-length.result in
     grind (arith, length-append, length-take, length-drop)
