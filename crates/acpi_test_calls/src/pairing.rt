@@ -1,6 +1,8 @@
 //! What a history with a wrong notice is refused for.
 
+use crate::checks::check;
 use acpi_lenders::history::{Event, Flaw, History, Shown, places};
+use std::process::Abort;
 
 /// 64 bytes are lent at 0x2000 for the 56 that were asked for.
 const LENT: Event = Event::Lent {
@@ -63,6 +65,67 @@ const ELSEWHERE: Event = Event::Ended {
     lent: 64,
 };
 
+/// Events, how many bytes of each loan a mapping should have shown, and what is wrong with them.
+type Row = (&'static [Event], Shown<'static>, Option<Flaw>);
+
+const AS_ASKED: Shown<'static> = Shown::AsAsked;
+
+static HISTORIES: [Row; 14] = [
+    (&[LENT, RIGHT], AS_ASKED, None),
+    (&[LENT, LENT, RIGHT, RIGHT], AS_ASKED, None),
+    // other lengths
+    (&[LENT, LONG], AS_ASKED, Some(Flaw::Unmatched(LONG))),
+    (&[LENT, SWAPPED], AS_ASKED, Some(Flaw::Unmatched(SWAPPED))),
+    (&[LENT, CUT], AS_ASKED, Some(Flaw::Unmatched(CUT))),
+    // another address
+    (
+        &[LENT, ELSEWHERE],
+        AS_ASKED,
+        Some(Flaw::Unmatched(ELSEWHERE)),
+    ),
+    // two notices, none, one for nothing, one before its loan
+    (
+        &[LENT, RIGHT, RIGHT],
+        AS_ASKED,
+        Some(Flaw::Unmatched(RIGHT)),
+    ),
+    (&[LENT], AS_ASKED, STILL_LENT),
+    (&[RIGHT], AS_ASKED, Some(Flaw::Unmatched(RIGHT))),
+    (&[RIGHT, LENT], AS_ASKED, Some(Flaw::Unmatched(RIGHT))),
+    // the header alone, the whole table, and neither
+    (&[HEADER, HEADER_ENDED], AS_ASKED, None),
+    (&[HEADER, RIGHT], AS_ASKED, None),
+    (&[HEADER, LONG], AS_ASKED, Some(Flaw::Unmatched(LONG))),
+    // a second request that no mapping holds
+    (&[LENT, LENT, RIGHT], AS_ASKED, STILL_LENT),
+];
+
+/// A header and a table are shown, in this order.
+const BOTH: Shown<'static> = Shown::These(&[36, 56]);
+
+/// Two loans that both end, the first notice being the table's.
+const BOTH_ENDED: &[Event] = &[LENT, LENT, RIGHT, HEADER_ENDED];
+
+static SCENARIOS: [Row; 4] = [
+    (BOTH_ENDED, BOTH, None),
+    (BOTH_ENDED, Shown::These(&[56, 36]), None),
+    // Two loans of 56 bytes; and one loan too many.
+    (BOTH_ENDED, AS_ASKED, Some(Flaw::Unmatched(HEADER_ENDED))),
+    (BOTH_ENDED, Shown::These(&[36]), Some(Flaw::Full)),
+];
+
+/// Nine loans, which are one more than there is room for.
+static NINE: [Event; 9] = [LENT; 9];
+
+/// As many events as there is room for, and one more: loans that end at once.
+static LOANS: [Event; 65] = [
+    LENT, RIGHT, LENT, RIGHT, LENT, RIGHT, LENT, RIGHT, LENT, RIGHT, LENT, RIGHT, LENT, RIGHT,
+    LENT, RIGHT, LENT, RIGHT, LENT, RIGHT, LENT, RIGHT, LENT, RIGHT, LENT, RIGHT, LENT, RIGHT,
+    LENT, RIGHT, LENT, RIGHT, LENT, RIGHT, LENT, RIGHT, LENT, RIGHT, LENT, RIGHT, LENT, RIGHT,
+    LENT, RIGHT, LENT, RIGHT, LENT, RIGHT, LENT, RIGHT, LENT, RIGHT, LENT, RIGHT, LENT, RIGHT,
+    LENT, RIGHT, LENT, RIGHT, LENT, RIGHT, LENT, RIGHT, LENT,
+];
+
 fn history_of(events: &[Event]) -> History {
     let mut history = History::NOTHING;
     for event in events {
@@ -71,64 +134,33 @@ fn history_of(events: &[Event]) -> History {
     history
 }
 
+/// Checks what is wrong with these events.
+fn check_flaw(rt: &impl Abort, events: &[Event], shown: Shown<'_>, wanted: Option<Flaw>) {
+    check(rt, "flaw", history_of(events).flaw(shown), wanted);
+}
+
+/// Checks what is wrong with the events of rows.
+fn check_flaws(rt: &impl Abort, rows: &[Row]) {
+    for (events, shown, flaw) in rows {
+        check_flaw(rt, events, *shown, *flaw);
+    }
+}
+
 #[test]
 fn a_wrong_notice_is_seen(rt: HostRuntime) {
-    let histories: [(&[Event], Option<Flaw>); 14] = [
-        (&[LENT, RIGHT], None),
-        (&[LENT, LENT, RIGHT, RIGHT], None),
-        // other lengths
-        (&[LENT, LONG], Some(Flaw::Unmatched(LONG))),
-        (&[LENT, SWAPPED], Some(Flaw::Unmatched(SWAPPED))),
-        (&[LENT, CUT], Some(Flaw::Unmatched(CUT))),
-        // another address
-        (&[LENT, ELSEWHERE], Some(Flaw::Unmatched(ELSEWHERE))),
-        // two notices, none, one for nothing, one before its loan
-        (&[LENT, RIGHT, RIGHT], Some(Flaw::Unmatched(RIGHT))),
-        (&[LENT], STILL_LENT),
-        (&[RIGHT], Some(Flaw::Unmatched(RIGHT))),
-        (&[RIGHT, LENT], Some(Flaw::Unmatched(RIGHT))),
-        // the header alone, the whole table, and neither
-        (&[HEADER, HEADER_ENDED], None),
-        (&[HEADER, RIGHT], None),
-        (&[HEADER, LONG], Some(Flaw::Unmatched(LONG))),
-        // a second request that no mapping holds
-        (&[LENT, LENT, RIGHT], STILL_LENT),
-    ];
-    for (events, flaw) in histories {
-        assert_eq!(rt; history_of(events).flaw(Shown::AsAsked), flaw);
-    }
+    check_flaws(&rt, &HISTORIES);
 }
 
 #[test]
 fn a_scenario_says_what_is_shown(rt: HostRuntime) {
-    let history = history_of(&[LENT, LENT, RIGHT, HEADER_ENDED]);
-    let flaws = [
-        history.flaw(Shown::These(&[36, 56])),
-        history.flaw(Shown::These(&[56, 36])),
-        // Two loans of 56 bytes; and one loan too many.
-        history.flaw(Shown::AsAsked),
-        history.flaw(Shown::These(&[36])),
-    ];
-    let wanted = [
-        None,
-        None,
-        Some(Flaw::Unmatched(HEADER_ENDED)),
-        Some(Flaw::Full),
-    ];
-    let open = history_of(&[LENT, LENT, RIGHT]).open(Shown::These(&[36, 56]));
-    assert_eq!(rt; (flaws, open), (wanted, places(&[(0x2000, 36)])));
+    check_flaws(&rt, &SCENARIOS);
+    let open = history_of(&[LENT, LENT, RIGHT]).open(BOTH);
+    check(&rt, "open", open, places(&[(0x2000, 36)]));
 }
 
 #[test]
 fn a_history_that_is_too_long_is_refused(rt: HostRuntime) {
-    let mut history = History::NOTHING;
-    for _ in 0..32 {
-        history = history.with(LENT).with(RIGHT);
-    }
-    let flaws = [
-        history.flaw(Shown::AsAsked),
-        history.with(LENT).flaw(Shown::AsAsked),
-        history_of(&[LENT; 9]).flaw(Shown::AsAsked),
-    ];
-    assert_eq!(rt; flaws, [None, Some(Flaw::Full), Some(Flaw::Full)]);
+    check_flaw(&rt, &LOANS[..64], AS_ASKED, None);
+    check_flaw(&rt, &LOANS, AS_ASKED, Some(Flaw::Full));
+    check_flaw(&rt, &NINE, AS_ASKED, Some(Flaw::Full));
 }

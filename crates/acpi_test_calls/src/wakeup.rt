@@ -1,5 +1,6 @@
 //! Waking a processor by the mailbox, over tables that are found from an RSDT.
 
+use crate::checks::check;
 use acpi::platform::{Mailbox, MailboxCall, MailboxWrite, ScriptedMailbox, wakeup_aps};
 use acpi::sdt::Signature;
 use acpi::{AcpiError, AcpiResult, AcpiTables, MadtError};
@@ -9,7 +10,8 @@ use acpi_lenders::samples::graphics::empty_root;
 use acpi_lenders::samples::madts::with_madt;
 use std::alloc::Global;
 use std::process::Abort;
-use std::test::Fail;
+
+const NO_MADT: AcpiError = AcpiError::TableMissing(Signature::MADT);
 
 const NO_MAILBOX: AcpiError = AcpiError::InvalidMadt(MadtError::UnexpectedEntry);
 
@@ -49,80 +51,85 @@ fn with_mailbox() -> [u8; 136] {
     )
 }
 
-/// Wakes the processor with the id 7, to run at 0x8000, over the RSDT at 0x1000 of a file.
+/// Wakes the processor with the id 7, to run at 0x8000. `None` if there are no tables.
+fn woken<M: Mailbox>(
+    tables: AcpiResult<AcpiTables<'_, MemoryImage<'_>>>,
+    mailbox: &mut M,
+    timeout: u64,
+) -> Option<AcpiResult<()>> {
+    match tables {
+        Ok(tables) => Some(wakeup_aps(&tables, mailbox, 7, 0x8000, timeout)),
+        Err(_) => None,
+    }
+}
+
+/// The same over the RSDT at 0x1000 of a file.
 fn wake<M: Mailbox>(
     alloc: Global,
     file: &[u8],
     mailbox: &mut M,
     timeout: u64,
-) -> Result<AcpiResult<()>, Fail> {
-    let image = MemoryImage::from_bytes(alloc, file)?;
-    let tables = AcpiTables::from_rsdt(&image, 0, 0x1000)?;
-    Ok(wakeup_aps(&tables, mailbox, 7, 0x8000, timeout))
+) -> Option<AcpiResult<()>> {
+    match MemoryImage::from_bytes(alloc, file) {
+        Ok(image) => {
+            let tables = AcpiTables::from_rsdt(&image, 0, 0x1000);
+            woken(tables, mailbox, timeout)
+        }
+        Err(_) => None,
+    }
+}
+
+/// What the mailbox answers, how often it may be read, the outcome, and how many calls are made of
+/// the mailbox, of which the first five are made before it is read.
+static ROWS: [(&[u16], u64, AcpiResult<()>, usize); 7] = [
+    (&[1, 2, 0], 3, Ok(()), 8),
+    (&[1, 1, 1], 3, Err(TIMEOUT), 8),
+    (&[9, 0], 9, Ok(()), 7),
+    (&[0], 0, Err(TIMEOUT), 5),
+    (&[4, 0xFFFF, 0], 3, Ok(()), 8),
+    (&[4, 0xFFFF, 0], 2, Err(TIMEOUT), 7),
+    (&[], 5, Err(TIMEOUT), 10),
+];
+
+/// Checks what was done to a mailbox: so many calls.
+fn check_done(rt: &impl Abort, mailbox: &ScriptedMailbox<'_>, count: usize) {
+    check(rt, "calls", Some(mailbox.calls()), CALLS.get(..count));
+    check(rt, "opened", mailbox.opened(), Some(0x5000));
+    check(rt, "writes", mailbox.writes(), WRITES.as_slice());
 }
 
 #[test]
-fn the_mailbox_is_read_until_it_is_taken(rt: HostRuntime) -> Result<(), Fail> {
-    let rows: [(&[u16], u64, AcpiResult<()>, usize); 7] = [
-        (&[1, 2, 0], 3, Ok(()), 8),
-        (&[1, 1, 1], 3, Err(TIMEOUT), 8),
-        (&[9, 0], 9, Ok(()), 7),
-        (&[0], 0, Err(TIMEOUT), 5),
-        (&[4, 0xFFFF, 0], 3, Ok(()), 8),
-        (&[4, 0xFFFF, 0], 2, Err(TIMEOUT), 7),
-        (&[], 5, Err(TIMEOUT), 10),
-    ];
+fn the_mailbox_is_read_until_it_is_taken(rt: HostRuntime) {
     let file = with_mailbox();
-    // The mailbox is called five times before it is read.
-    for (answers, timeout, outcome, count) in rows {
+    for (answers, timeout, outcome, count) in &ROWS {
         let mut mailbox = ScriptedMailbox::new(answers);
-        let answer = wake(rt.alloc(), front(&file, 132), &mut mailbox, timeout)?;
-        assert_eq!(rt;
-            (
-                answer,
-                Some(mailbox.calls()),
-                mailbox.opened(),
-                mailbox.writes()
-            ),
-            (outcome, CALLS.get(..count), Some(0x5000), WRITES.as_slice()),
-            "{answers:?}"
-        );
+        let answer = wake(rt.alloc(), front(&file, 132), &mut mailbox, *timeout);
+        check(&rt, "outcome", answer, Some(*outcome));
+        check_done(&rt, &mailbox, *count);
     }
-    Ok(())
 }
 
 /// Checks what the answer was, and that nothing was done to the mailbox.
 fn check_untouched(
     rt: &impl Abort,
-    answer: AcpiResult<()>,
+    answer: Option<AcpiResult<()>>,
     refusal: AcpiError,
     mailbox: &ScriptedMailbox<'_>,
 ) {
-    assert_eq!(rt;
-        (
-            answer,
-            mailbox.opened(),
-            mailbox.calls().len(),
-            mailbox.reads()
-        ),
-        (Err(refusal), None, 0, 0)
-    );
+    check(rt, "refused", answer, Some(Err(refusal)));
+    check(rt, "opened", mailbox.opened(), None);
+    let counts = (mailbox.calls().len(), mailbox.reads());
+    check(rt, "calls", counts, (0, 0));
 }
 
 #[test]
-fn nothing_is_done_without_a_mailbox(rt: HostRuntime) -> Result<(), Fail> {
+fn nothing_is_done_without_a_mailbox(rt: HostRuntime) {
     let mut mailbox = ScriptedMailbox::new(&[0]);
-    let missing = wake(rt.alloc(), &empty_root(), &mut mailbox, 9)?;
-    check_untouched(
-        &rt,
-        missing,
-        AcpiError::TableMissing(Signature::MADT),
-        &mailbox,
-    );
+    let missing = wake(rt.alloc(), &empty_root(), &mut mailbox, 9);
+    check_untouched(&rt, missing, NO_MADT, &mailbox);
     let file = with_madt(0x34, &[0x7F, 2]);
-    let other = wake(rt.alloc(), front(&file, 118), &mut mailbox, 9)?;
+    let other = wake(rt.alloc(), front(&file, 118), &mut mailbox, 9);
     check_untouched(&rt, other, NO_MAILBOX, &mailbox);
-    Ok(())
 }
 
 /// A mailbox that can't be opened.
@@ -167,12 +174,11 @@ impl<'a> Mailbox for Closed<'a> {
 }
 
 #[test]
-fn nothing_is_done_to_a_mailbox_that_stays_closed(rt: HostRuntime) -> Result<(), Fail> {
+fn nothing_is_done_to_a_mailbox_that_stays_closed(rt: HostRuntime) {
     let file = with_mailbox();
     let mut closed = Closed {
         inner: ScriptedMailbox::new(&[0]),
     };
-    let refused = wake(rt.alloc(), front(&file, 132), &mut closed, 9)?;
+    let refused = wake(rt.alloc(), front(&file, 132), &mut closed, 9);
     check_untouched(&rt, refused, AcpiError::MapFailed, &closed.inner);
-    Ok(())
 }

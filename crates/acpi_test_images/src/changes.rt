@@ -73,10 +73,10 @@ fn changed_answer(
 ) -> Result<String, AllocError> {
     let changes = changes_of(alloc, row, change)?;
     let mut said = String::new(alloc);
-    for change in &changes.each {
+    for (index, change) in changes.each.iter().enumerate() {
         let file = changed_file(alloc, &row.regions, changes.address, *change)?;
         let text = handlers::answer(alloc, &file, &row.regions, asked)?;
-        if !said.is_empty() && said != text {
+        if index != 0 && said != text {
             return Ok(text);
         }
         said = text;

@@ -1,12 +1,14 @@
 //! Questions whose answers need memory, over heaps that may be too small.
 //!
 //! `QUESTION in SIZE TAKEN` asks over a heap of so many bytes, of which some are taken before.
-//! `QUESTION in growing heaps` asks over ever larger heaps.
+//! `QUESTION in growing heaps` asks over ever larger heaps. `held by platform` and `held by regions`
+//! ask how many bytes of the heap are taken by what is answered, while it is there. The lists take
+//! whole blocks of 16 bytes.
 
 use crate::devices::{function, regions};
 use crate::platforms::{clone_text, model_text, platform_text};
 use acpi::madt::Madt;
-use acpi::{AcpiHandler, AcpiTables, ManagedSlice, PciConfigRegions};
+use acpi::{AcpiHandler, AcpiResult, AcpiTables, ManagedSlice, PciConfigRegions};
 use acpi_lenders::rows::shown;
 use linked_list_allocator::LocalHeap;
 use std::alloc::{AllocError, Allocator, Global};
@@ -39,12 +41,26 @@ fn over_heap<H: AcpiHandler>(
     let heap = LocalHeap::new(alloc, size)?;
     let _filled = ManagedSlice::new_in(taken, 0u8, &heap);
     let used = heap.used();
-    let text = answer_in(alloc, tables, &heap, asked)?;
+    let text = match asked {
+        "held by platform" => held(alloc, &heap, used, tables.platform_info_in(&heap))?,
+        "held by regions" => held(alloc, &heap, used, PciConfigRegions::new_in(tables, &heap))?,
+        _ => answer_in(alloc, tables, &heap, asked)?,
+    };
     if heap.used() == used {
         Ok(text)
     } else {
         String::from_str(alloc, "left allocated")
     }
+}
+
+/// How many more bytes of a heap are used than before, while an answer is there.
+fn held<T: Drop>(
+    alloc: Global,
+    heap: &LocalHeap,
+    used: usize,
+    _answer: AcpiResult<T>,
+) -> Result<String, AllocError> {
+    shown(alloc, &heap.used().wrapping_sub(used))
 }
 
 /// The answer in memory of an allocator. A clone says nothing if there is none for the platform

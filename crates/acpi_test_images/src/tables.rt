@@ -84,6 +84,7 @@ fn answer_of<H: AcpiHandler>(
         "platform" => platform(alloc, tables),
         "model" => heaps::model(alloc, tables, alloc),
         "ends" => ends(alloc, tables),
+        "after the last" => after_the_last(alloc, tables),
         _ => match asked.split_once(' ') {
             None => Ok(String::new(alloc)),
             Some((asked, "each")) => of_each(alloc, tables, asked),
@@ -118,6 +119,16 @@ fn ends<H: AcpiHandler>(alloc: Global, tables: &AcpiTables<'_, H>) -> Result<Str
     let counts = (madt.entries().count(), mcfg.entries().count());
     let addresses = (fadt.dsdt_address(), fadt.facs_address());
     shown(alloc, &(counts, addresses, spcr.namespace_string()))
+}
+
+/// How many headers there are and how many SSDTs, and what comes if one more of each is asked for.
+fn after_the_last<H: AcpiHandler>(
+    alloc: Global,
+    tables: &AcpiTables<'_, H>,
+) -> Result<String, AllocError> {
+    let (mut headers, mut ssdts) = (tables.headers(), tables.ssdts());
+    let counts = (headers.by_ref().count(), ssdts.by_ref().count());
+    shown(alloc, &(counts, headers.next(), ssdts.next()))
 }
 
 /// What is asked of each of the six types of table.
