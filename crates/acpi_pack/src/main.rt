@@ -24,5 +24,12 @@ fn status(rt: &HostRuntime) -> io::Result<u8> {
     let arguments = borrowed(rt.alloc(), &texts)?;
     let (mut files, mut storage) = (HostFiles::new(rt), HostStorage::new(rt));
     let (mut out, mut err) = (io::writer(rt), rt.stderr());
-    pack(rt.alloc(), &arguments, &mut files, &mut storage, &mut out, &mut err)
+    pack(
+        rt.alloc(),
+        &arguments,
+        &mut files,
+        &mut storage,
+        &mut out,
+        &mut err,
+    )
 }
