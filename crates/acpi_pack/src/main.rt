@@ -5,52 +5,31 @@
 //! are.
 #![tactic(auto)]
 
-use acpi_packing::run::{Outcome, run};
-use acpi_packing::save::save;
-use acpi_packing::words::parse_command;
-use acpi_words::{texts_of, texts_or_none};
-use std::io::Write;
+use acpi_packing::program::pack;
+use acpi_packing::storage::HostStorage;
+use acpi_words::files::HostFiles;
+use acpi_words::{borrowed, texts_of, texts_or_none};
+use std::io;
 use std::process::ExitCode;
-use std::{fs, io};
 
 fn main(rt: HostRuntime) -> ExitCode {
-    ExitCode::from(pack_words(&rt).unwrap_or(1))
+    ExitCode::from(status(&rt).unwrap_or(1))
 }
 
-/// Runs the program on the process's words, and answers the status. The words are judged before a
-/// file that they name is opened, and the image is made before the output is.
+/// Runs the program on the process's arguments, files and outputs, and answers the status.
 ///
-/// Refuses where memory, or a line of standard error, is refused.
-fn pack_words(rt: &HostRuntime) -> io::Result<u8> {
+/// Refuses if a write or memory is refused.
+fn status(rt: &HostRuntime) -> io::Result<u8> {
     let texts = texts_or_none(rt.alloc(), texts_of(rt))?;
-    let mut words = Vec::new(rt.alloc());
-    for text in &texts {
-        words.push(text.as_str())?;
-    }
-    let mut read = Vec::new(rt.alloc());
-    let mut out = "";
-    let mut names = Vec::new(rt.alloc());
-    if let Some(command) = parse_command(rt.alloc(), &words)? {
-        out = command.out;
-        names = command.names;
-    }
-    for name in &names {
-        read.push(fs::read(rt, *name).ok())?;
-    }
-    let mut files = Vec::new(rt.alloc());
-    for file in &read {
-        files.push(file.as_ref().map(|bytes| bytes.as_slice()))?;
-    }
-    let mut err = rt.stderr();
-    match run(rt.alloc(), &words, &files, &mut err) {
-        Outcome::Image(image) => match save(rt, out, &names, &image) {
-            Ok(()) => Ok(0),
-            Err(refusal) => {
-                writeln!(err, "refused {out}: {refusal}")?;
-                Ok(1)
-            }
-        },
-        Outcome::Refused(_) | Outcome::Failed => Ok(1),
-        Outcome::NoCommand => Ok(2),
-    }
+    let arguments = borrowed(rt.alloc(), &texts)?;
+    let (mut files, mut storage) = (HostFiles::new(rt), HostStorage::new(rt));
+    let (mut out, mut err) = (io::writer(rt), rt.stderr());
+    pack(
+        rt.alloc(),
+        &arguments,
+        &mut files,
+        &mut storage,
+        &mut out,
+        &mut err,
+    )
 }

@@ -42,7 +42,7 @@ pub packed : {E : Type 0} (r : Result ℕ E) (arguments : List (List ℕ)) (aske
 packed (Ok s) arguments asked names before after start contents shown kept said saved saved_after
     out out_after err between err_after is_asked are_named asks at_start are_read are_shown ends are_kept follows =
     let read : contents ≡ contents_of asks.reads = are_read ∙ ap contents_of (ap (λ n. drop n after) at_start
-        ∙ ap (drop (length before)) asks.grown ∙ drop-append_seam before asks.reads) in
+    ∙ ap (drop (length before)) asks.grown ∙ drop-append_seam before asks.reads) in
     record {
       asks = record {
         reads = asks.reads;

@@ -21,7 +21,10 @@ pub trait Storage {
         bytes: Vec<u8>,
     ) -> Result<Result<(), SaveError>, AllocError>
         ensures saved { IfOk result (λ a. saved self.new ≡ saved self.old ++ record {
-            name = name.now; sources = map (λ s. s.now) sources.now; bytes = bytes.items; answer = a
+          name = name.now;
+          sources = map (λ s. s.now) sources.now;
+          bytes = bytes.items;
+          answer = a;
         } ∷ []) }
         ensures refused { OnErr result (saved self.new ≡ saved self.old) };
 }

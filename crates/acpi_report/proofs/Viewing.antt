@@ -18,17 +18,17 @@ pub viewed : {R E : Type 0} (r : Result R E) (status : R → ℕ) (shown told : 
     → IfOk r (λ v. Views arguments before after (status v) out (shown v) err (told v))
 viewed (Ok v) status shown told arguments asked names before after start contents image out err
     is_asked are_named asks at_start are_read is_first ends = record {
-  asks = record {
-    reads = asks.reads;
-    names_are = asks.names_are ∙ are_named ∙ ap (λ c. files_for c arguments) is_asked;
-    grown = asks.grown;
-  };
-  ends = subst (λ c. EndsWith c (first_of (contents_of asks.reads)) (status v) out (shown v) err (told v))
-      is_asked
-      (subst (λ i. EndsWith asked i (status v) out (shown v) err (told v))
-      (is_first ∙ ap first_of (are_read ∙ ap contents_of (ap (λ n. drop n after) at_start
-      ∙ ap (drop (length before)) asks.grown ∙ drop-append_seam before asks.reads)))
-      ends);
-}
+      asks = record {
+        reads = asks.reads;
+        names_are = asks.names_are ∙ are_named ∙ ap (λ c. files_for c arguments) is_asked;
+        grown = asks.grown;
+      };
+      ends = subst (λ c. EndsWith c (first_of (contents_of asks.reads)) (status v) out (shown v) err (told v))
+          is_asked
+          (subst (λ i. EndsWith asked i (status v) out (shown v) err (told v))
+          (is_first ∙ ap first_of (are_read ∙ ap contents_of (ap (λ n. drop n after) at_start
+          ∙ ap (drop (length before)) asks.grown ∙ drop-append_seam before asks.reads)))
+          ends);
+    }
 viewed (Err e) status shown told arguments asked names before after start contents image out err
     is_asked are_named asks at_start are_read is_first ends = tt

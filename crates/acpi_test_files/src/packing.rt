@@ -51,7 +51,7 @@ fn rooms_of(files: &[Option<Bytes>]) -> [Option<Room>; 5] {
 }
 
 /// What a run over the files of a row comes to. What it prints is put into `err`.
-fn outcome_of(alloc: Global, row: &Row, err: &mut Vec<u8>) -> Outcome {
+fn outcome_of(alloc: Global, row: &Row, err: &mut Vec<u8>) -> io::Result<Outcome> {
     let rooms = rooms_of(row.files);
     let mut sources: Vec<Source<'_>> = Vec::new(alloc);
     for room in &rooms[..row.files.len().min(5)] {
@@ -59,21 +59,19 @@ fn outcome_of(alloc: Global, row: &Row, err: &mut Vec<u8>) -> Outcome {
             Some(room) => Some(room.bytes()),
             None => None,
         };
-        if sources.push(source).is_err() {
-            return Outcome::Failed;
-        }
+        sources.push(source)?;
     }
     run(alloc, row.words, &sources, err)
 }
 
 /// Checks what a run comes to.
-fn check_outcome(rt: &impl Abort, alloc: Global, row: &Row, outcome: &Outcome) {
+fn check_outcome(rt: &impl Abort, alloc: Global, row: &Row, outcome: &io::Result<Outcome>) {
     match (outcome, row.answer) {
-        (Outcome::NoCommand, Answer::NoCommand) | (Outcome::Refused(_), Answer::Refused) => {}
-        (Outcome::Image(image), Answer::Image(length, parts)) => {
+        (Ok(Outcome::NoCommand), Answer::NoCommand) | (Ok(Outcome::Refused(_)), Answer::Refused) => {}
+        (Ok(Outcome::Image(image)), Answer::Image(length, parts)) => {
             check_bytes(rt, row.name, image, length, parts);
         }
-        (Outcome::Image(image), Answer::Tables(length, parts, opened)) => {
+        (Ok(Outcome::Image(image)), Answer::Tables(length, parts, opened)) => {
             check_bytes(rt, row.name, image, length, parts);
             check_opened(rt, alloc, row.name, image, opened);
         }
@@ -120,5 +118,5 @@ fn a_line_that_cant_be_printed_fails(rt: HostRuntime) {
     let facs = b"FACS\x24\0\0\0\0\0\0\0\0\0\0\0\0\0\0\0\0\0\0\0\0\0\0\0\0\0\0\0\0\0\0\0";
     let files = [Some(facs.as_slice())];
     let outcome = run(rt.alloc(), &["out", "tables", "facs"], &files, &mut Closed);
-    check(&rt, "failed", matches!(outcome, Outcome::Failed), true);
+    check(&rt, "failed", outcome.is_err(), true);
 }

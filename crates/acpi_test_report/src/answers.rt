@@ -3,7 +3,7 @@
 use crate::heaps::{over_heaps, without_memory};
 use crate::writes::refused_writes;
 use acpi_report::run::run;
-use acpi_report::words::{Command, file_named, parse_command};
+use acpi_report::words::{Command, files_named, parse_command};
 use std::alloc::Global;
 use std::{io, str};
 
@@ -78,9 +78,13 @@ pub(crate) fn answer(
 
 /// Adds how words are taken.
 fn add_words(alloc: Global, words: &[&str], answers: &mut Answers<'_>) -> io::Result<()> {
-    let file = file_named(words).unwrap_or("none");
+    let asked = parse_command(words);
+    let file = match files_named(asked, words) {
+        [file, ..] => *file,
+        [] => "none",
+    };
     answers.add("file", format!(in alloc; "{file}\n")?.as_bytes())?;
-    let command = match parse_command(words) {
+    let command = match asked {
         Some(Command::Rsdt { revision, address }) => {
             format!(in alloc; "rsdt {revision} 0x{address:x}\n")?
         }

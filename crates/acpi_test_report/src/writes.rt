@@ -2,6 +2,7 @@
 
 use crate::refusing::{Refused, Refusing};
 use acpi_report::run::run_gathered;
+use acpi_report::words::parse_command;
 use std::alloc::Global;
 use std::io;
 use std::io::Write;
@@ -15,7 +16,10 @@ fn run_over(
 ) -> (u8, Refusing, Refusing) {
     let mut out = Refusing::new(alloc, out);
     let mut err = Refusing::new(alloc, err);
-    let status = run_gathered(alloc, words, image, &mut out, &mut err).unwrap_or(1);
+    let status = match run_gathered(alloc, parse_command(words), image, &mut out, &mut err) {
+        Ok((status, _, _)) => status,
+        Err(_) => 1,
+    };
     (status, out, err)
 }
 

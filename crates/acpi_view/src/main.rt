@@ -22,6 +22,12 @@ fn status(rt: &HostRuntime) -> io::Result<u8> {
     let texts = texts_or_none(rt.alloc(), texts_of(rt))?;
     let arguments = borrowed(rt.alloc(), &texts)?;
     let mut files = HostFiles::new(rt);
-    let (status, _, _) = view(rt.alloc(), &arguments, &mut files, io::writer(rt), rt.stderr())?;
+    let (status, _, _) = view(
+        rt.alloc(),
+        &arguments,
+        &mut files,
+        io::writer(rt),
+        rt.stderr(),
+    )?;
     Ok(status)
 }
