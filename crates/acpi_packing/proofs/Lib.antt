@@ -1,3 +1,4 @@
+pub mod Labels
 pub mod Memories
 pub mod PackedTables
 pub mod Packing

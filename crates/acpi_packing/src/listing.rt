@@ -1,11 +1,13 @@
 //! What lies where in an image that is packed.
 ghost use Rattle.std.specs.Prelude.{◌≡◌, ◌≢◌, ◌++◌, IfErr, IfOk, None, OnOk, Ok, Err, map, string_bytes};
+ghost use Rattle.acpi_base.specs.Memory.{Memory};
 ghost use Rattle.acpi_image_reader.specs.Image.{records_in};
 ghost use Rattle.acpi_image_reader.specs.Regions.{regions_of};
 ghost use Rattle.acpi_image_reader.specs.declared.error.ImageError.TheVariants.{OutOfMemory};
 ghost use Rattle.acpi_packing.specs.Held.{contents, entry_of};
 ghost use Rattle.acpi_packing.specs.Listing as listing;
-ghost use Rattle.acpi_packing.specs.Listing.{label_text, labels_of, name_of, table_label};
+ghost use Rattle.acpi_packing.specs.Listing.{AreNamed, label_text, labels_of, name_of, table_label};
+ghost use Rattle.acpi_packing.specs.Run.{packed_by};
 ghost use Rattle.acpi_packing.specs.Sources as sources;
 ghost use Rattle.acpi_packing.specs.Words.{addresses_of};
 
@@ -158,6 +160,28 @@ fn lines_of(
     Ok(text)
 }
 
+/// The lines of `record_lines`, by its clauses on what they are.
+fn lines_in(
+    alloc: Global,
+    command: &Command<'_>,
+    files: &[Source<'_>],
+    image: &[u8],
+) -> Result<String, ImageError>
+    ensures exact { IfOk result (λ t. listing.listing
+        (labels_of (addresses_of command.now.form) (map (λ n. n.now) command.now.names.items)
+        (contents files.now)) image.now ≡ Ok (string_bytes t)) }
+    ensures refused { IfErr result (λ e. e ≢ OutOfMemory → records_in image.now ≡ Err e) }
+{
+    let memory = MemoryImage::from_bytes(alloc, image)?;
+    let Ok(labels) = labels_of(alloc, command, files) else {
+        return Err(ImageError::OutOfMemory);
+    };
+    match lines_of(alloc, &labels, memory.records()) {
+        Ok(text) => Ok(text),
+        Err(_) => Err(ImageError::OutOfMemory),
+    }
+}
+
 /// A line for each record of an image that a command packed of these files, in order: where it
 /// lies, what it is, and the file that it comes from.
 ///
@@ -173,13 +197,10 @@ pub fn record_lines(
         (labels_of (addresses_of command.now.form) (map (λ n. n.now) command.now.names.items)
         (contents files.now)) image.now ≡ Ok (string_bytes t)) }
     ensures refused { IfErr result (λ e. e ≢ OutOfMemory → records_in image.now ≡ Err e) }
+    // What is packed of these files has the bytes of the files that the lines name.
+    ensures law { (m : Memory)
+        → packed_by (addresses_of command.now.form) (contents files.now) ≡ Ok m
+        → AreNamed (addresses_of command.now.form) (contents files.now) m }
 {
-    let memory = MemoryImage::from_bytes(alloc, image)?;
-    let Ok(labels) = labels_of(alloc, command, files) else {
-        return Err(ImageError::OutOfMemory);
-    };
-    match lines_of(alloc, &labels, memory.records()) {
-        Ok(text) => Ok(text),
-        Err(_) => Err(ImageError::OutOfMemory),
-    }
+    lines_in(alloc, command, files, image)
 }
