@@ -60,9 +60,9 @@ fn table_label<'w>(names: &[&'w str], entry: Entry<'_>) -> Label<'w>
     Label::Table(signature, name_of(names, entry.index))
 }
 
-/// Puts what is said of the files of a kind behind what is there.
+/// Puts what is said of the files of a kind after what is there.
 ///
-/// Refuses where memory is refused.
+/// Refuses if memory is refused.
 fn put_labels<'w>(
     labels: &mut Vec<Label<'w>>,
     alloc: Global,
@@ -84,7 +84,7 @@ fn put_labels<'w>(
 
 /// The names of files, each by itself.
 ///
-/// Refuses where memory is refused.
+/// Refuses if memory is refused.
 fn range_labels<'w>(alloc: Global, names: &[&'w str]) -> Result<Vec<Label<'w>>, AllocError>
     ensures { IfOk result (λ v. map label_text v.items ≡ map (λ n. n.now) names.now) }
 {
@@ -97,7 +97,7 @@ fn range_labels<'w>(alloc: Global, names: &[&'w str]) -> Result<Vec<Label<'w>>, 
 
 /// What is said of the records of an image of tables.
 ///
-/// Refuses where memory is refused.
+/// Refuses if memory is refused.
 fn tables_labels<'w>(
     alloc: Global,
     names: &[&'w str],
@@ -116,7 +116,7 @@ fn tables_labels<'w>(
 
 /// What is said of the records of an image, in order.
 ///
-/// Refuses where memory is refused.
+/// Refuses if memory is refused.
 fn labels_of<'w>(
     alloc: Global,
     command: &Command<'w>,
@@ -143,7 +143,7 @@ fn label_at<'w>(labels: &[Label<'w>], index: usize) -> Label<'w>
 
 /// A line for each of these records.
 ///
-/// Refuses where memory is refused.
+/// Refuses if memory is refused.
 fn lines_of(
     alloc: Global,
     labels: &[Label<'_>],
