@@ -1,4 +1,5 @@
 pub mod Counting
+pub mod Labels
 pub mod Laid
 pub mod Memories
 pub mod PackedTables

@@ -1,5 +1,5 @@
 -- What lies where in an image that is packed: a line for each of its records.
-use Rattle.std.specs.Prelude.{ℕ, ◌+◌, false, codes, List, [], ◌∷◌, ◌++◌, map, Option, Some, None, Result, Ok}
+use Rattle.std.specs.Prelude.{◌≡◌, ℕ, ◌+◌, false, codes, List, [], ◌∷◌, ◌++◌, drop, map, Option, Some, None, Result, Ok}
 use Rattle.std.specs.Prelude.{slice_get, unwrap_or}
 use Rattle.std.specs.Fmt.{digits}
 use Rattle.acpi_base.specs.Bytes.{filled_part}
@@ -8,7 +8,7 @@ use Rattle.acpi_base.specs.Steps.{◌>>=◌}
 use Rattle.acpi_base.specs.Text.{bytes_text}
 use Rattle.acpi_image_reader.specs.Image.{records_in}
 use Rattle.acpi_image_reader.specs.declared.error.ImageError.{ImageError}
-use Rattle.acpi_packing.specs.Sources.{entries}
+use Rattle.acpi_packing.specs.Sources.{bytes_in, bytes_of, entries}
 use Rattle.acpi_packing.specs.declared.listing.Label.{Label}
 use Rattle.acpi_packing.specs.declared.listing.Label.TheVariants as label
 use Rattle.acpi_packing.specs.declared.sources.Kind.TheVariants.{Dsdt, Listed}
@@ -30,6 +30,25 @@ labels_of (Some addresses) names files = names
 labels_of None names files =
     codes "RSDP" ∷ codes "XSDT"
     ∷ map (table_label names) (entries Listed 0 files ++ entries Dsdt 0 files)
+
+-- ---- which files they name
+
+-- the bytes of the files that are named, in order
+abbrev pub named_files : Option (List ℕ) → List (Option (List ℕ)) → List (List ℕ)
+named_files (Some addresses) files = map bytes_in files
+named_files None files = bytes_of (entries Listed 0 files ++ entries Dsdt 0 files)
+
+-- the records before those that come from files: the RSDP and the XSDT
+abbrev pub own_records : Option (List ℕ) → ℕ
+own_records (Some addresses) = 0
+own_records None = 2
+
+-- each other record has the bytes of the file that is named for it, and files without a record are
+-- named after those
+abbrev pub AreNamed : Option (List ℕ) → List (Option (List ℕ)) → Memory → Type 0
+AreNamed addresses files m =
+    (others : List (List ℕ))
+    × (named_files addresses files ≡ map (λ r. r.bytes) (drop (own_records addresses) m) ++ others)
 
 -- ---- the lines
 

@@ -1,11 +1,13 @@
 //! What lies where in an image that is packed.
 ghost use Rattle.std.specs.Prelude.{◌≡◌, ◌≢◌, ◌++◌, IfErr, IfOk, None, OnOk, Ok, Err, map, string_bytes};
+ghost use Rattle.acpi_base.specs.Memory.{Memory};
 ghost use Rattle.acpi_image_reader.specs.Image.{records_in};
 ghost use Rattle.acpi_image_reader.specs.Regions.{regions_of};
 ghost use Rattle.acpi_image_reader.specs.declared.error.ImageError.TheVariants.{OutOfMemory};
 ghost use Rattle.acpi_packing.specs.Held.{contents, entry_of};
 ghost use Rattle.acpi_packing.specs.Listing as listing;
-ghost use Rattle.acpi_packing.specs.Listing.{label_text, labels_of, name_of, table_label};
+ghost use Rattle.acpi_packing.specs.Listing.{AreNamed, label_text, labels_of, name_of, table_label};
+ghost use Rattle.acpi_packing.specs.Run.{packed_by};
 ghost use Rattle.acpi_packing.specs.Sources as sources;
 ghost use Rattle.acpi_packing.specs.Words.{addresses_of};
 
@@ -58,9 +60,9 @@ fn table_label<'w>(names: &[&'w str], entry: Entry<'_>) -> Label<'w>
     Label::Table(signature, name_of(names, entry.index))
 }
 
-/// Puts what is said of the files of a kind behind what is there.
+/// Puts what is said of the files of a kind after what is there.
 ///
-/// Refuses where memory is refused.
+/// Refuses if memory is refused.
 fn put_labels<'w>(
     labels: &mut Vec<Label<'w>>,
     alloc: Global,
@@ -82,7 +84,7 @@ fn put_labels<'w>(
 
 /// The names of files, each by itself.
 ///
-/// Refuses where memory is refused.
+/// Refuses if memory is refused.
 fn range_labels<'w>(alloc: Global, names: &[&'w str]) -> Result<Vec<Label<'w>>, AllocError>
     ensures { IfOk result (λ v. map label_text v.items ≡ map (λ n. n.now) names.now) }
 {
@@ -95,7 +97,7 @@ fn range_labels<'w>(alloc: Global, names: &[&'w str]) -> Result<Vec<Label<'w>>, 
 
 /// What is said of the records of an image of tables.
 ///
-/// Refuses where memory is refused.
+/// Refuses if memory is refused.
 fn tables_labels<'w>(
     alloc: Global,
     names: &[&'w str],
@@ -114,7 +116,7 @@ fn tables_labels<'w>(
 
 /// What is said of the records of an image, in order.
 ///
-/// Refuses where memory is refused.
+/// Refuses if memory is refused.
 fn labels_of<'w>(
     alloc: Global,
     command: &Command<'w>,
@@ -141,7 +143,7 @@ fn label_at<'w>(labels: &[Label<'w>], index: usize) -> Label<'w>
 
 /// A line for each of these records.
 ///
-/// Refuses where memory is refused.
+/// Refuses if memory is refused.
 fn lines_of(
     alloc: Global,
     labels: &[Label<'_>],
@@ -156,6 +158,28 @@ fn lines_of(
         writeln!(text, "0x{:x} {label}", record.start)?;
     }
     Ok(text)
+}
+
+/// The lines of `record_lines`, by its clauses on what they are.
+fn lines_in(
+    alloc: Global,
+    command: &Command<'_>,
+    files: &[Source<'_>],
+    image: &[u8],
+) -> Result<String, ImageError>
+    ensures exact { IfOk result (λ t. listing.listing
+        (labels_of (addresses_of command.now.form) (map (λ n. n.now) command.now.names.items)
+        (contents files.now)) image.now ≡ Ok (string_bytes t)) }
+    ensures refused { IfErr result (λ e. e ≢ OutOfMemory → records_in image.now ≡ Err e) }
+{
+    let memory = MemoryImage::from_bytes(alloc, image)?;
+    let Ok(labels) = labels_of(alloc, command, files) else {
+        return Err(ImageError::OutOfMemory);
+    };
+    match lines_of(alloc, &labels, memory.records()) {
+        Ok(text) => Ok(text),
+        Err(_) => Err(ImageError::OutOfMemory),
+    }
 }
 
 /// A line for each record of an image that a command packed of these files, in order: where it
@@ -173,13 +197,10 @@ pub fn record_lines(
         (labels_of (addresses_of command.now.form) (map (λ n. n.now) command.now.names.items)
         (contents files.now)) image.now ≡ Ok (string_bytes t)) }
     ensures refused { IfErr result (λ e. e ≢ OutOfMemory → records_in image.now ≡ Err e) }
+    // What is packed of these files has the bytes of the files that the lines name.
+    ensures law { (m : Memory)
+        → packed_by (addresses_of command.now.form) (contents files.now) ≡ Ok m
+        → AreNamed (addresses_of command.now.form) (contents files.now) m }
 {
-    let memory = MemoryImage::from_bytes(alloc, image)?;
-    let Ok(labels) = labels_of(alloc, command, files) else {
-        return Err(ImageError::OutOfMemory);
-    };
-    match lines_of(alloc, &labels, memory.records()) {
-        Ok(text) => Ok(text),
-        Err(_) => Err(ImageError::OutOfMemory),
-    }
+    lines_in(alloc, command, files, image)
 }

@@ -6,6 +6,8 @@ mod bytes;
 #[cfg(test)]
 mod checks;
 #[cfg(test)]
+mod listing;
+#[cfg(test)]
 mod packing;
 #[cfg(test)]
 mod reading;

@@ -3,7 +3,7 @@
 mod images;
 mod opened;
 mod refusals;
-mod samples;
+pub(crate) mod samples;
 
 use crate::bytes::{Bytes, Part, Room};
 use crate::checks::{check, check_bytes};
