@@ -6,12 +6,15 @@ use std::process::Abort;
 
 /// Checks what was found against what is wanted.
 pub(crate) fn check<T: Copy + Debug + PartialEq>(rt: &impl Abort, name: &str, found: T, wanted: T) {
-    assert_eq!(rt; found, wanted, "{name}");
+    assert!(rt;
+        found == wanted,
+        "{name}: {found:?}, but {wanted:?} is wanted"
+    );
 }
 
 /// Checks that something is right about what a row says of a place.
 pub(crate) fn check_at(rt: &impl Abort, name: &str, place: u64, is_right: bool) {
-    assert!(rt; is_right, "{name} at {place}");
+    check(rt, name, (place, is_right), (place, true));
 }
 
 /// Checks bytes against their length and what they have at some offsets.

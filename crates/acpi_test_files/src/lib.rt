@@ -14,6 +14,8 @@ mod reading;
 #[cfg(test)]
 mod saving;
 #[cfg(test)]
+mod texts;
+#[cfg(test)]
 mod words;
 #[cfg(test)]
 mod writing;

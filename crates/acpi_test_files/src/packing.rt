@@ -1,6 +1,7 @@
 //! Runs of the packing program over files, and what is read in the images that they make.
 
 mod images;
+mod many;
 mod opened;
 mod refusals;
 pub(crate) mod samples;

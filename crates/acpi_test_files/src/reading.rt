@@ -222,20 +222,19 @@ fn forty() -> Room {
     file
 }
 
+/// Requests beside the forty records.
+static AROUND: [Request; 3] = [(0xFFF, 1, None), (0x1050, 1, None), (u64::MAX, 1, None)];
+
 /// Checks what is lent of each of the forty records, and around them.
 fn check_forty(rt: &impl Abort, image: &MemoryImage<'_>) {
     for place in 0..40u8 {
         let start = 0x1000 + 2 * u64::from(place);
-        let bytes = [place, place + 100];
-        let requests = [
-            (start, 2, Some(bytes.as_slice())),
-            (start + 1, 1, Some(&bytes[1..])),
-            (start, 3, None),
-        ];
-        check_lent(rt, "one of forty", image, &requests);
+        let is_lent = is_lent(image, start, 2, Some(&[place, place + 100]))
+            && is_lent(image, start + 1, 1, Some(&[place + 100]))
+            && is_lent(image, start, 3, None);
+        check_at(rt, "one of forty", start, is_lent);
     }
-    let around = [(0xFFF, 1, None), (0x1050, 1, None), (u64::MAX, 1, None)];
-    check_lent(rt, "none of forty", image, &around);
+    check_lent(rt, "none of forty", image, &AROUND);
 }
 
 #[test]
@@ -247,36 +246,33 @@ fn lends_each_of_many_records(rt: HostRuntime) {
     }
 }
 
-/// Records behind the forty, which lie from 0x1000 to 0x1050: the start, the length, and why the
-/// file is refused.
-static LASTS: [(&str, u64, usize, Option<ImageError>); 6] = [
-    ("up to the first", 0xFF0, 16, None),
-    ("into the first", 0xFF0, 17, Some(ImageError::Overlap)),
-    ("in the last", 0x104F, 1, Some(ImageError::Overlap)),
-    ("from the last on", 0x1050, 100, None),
-    ("over all", 0xF80, 0x100, Some(ImageError::Overlap)),
-    ("empty", 0x1021, 0, None),
+/// Records behind the forty, which lie from 0x1000 to 0x1050: the start, the bytes, and why the file
+/// is refused.
+static LASTS: [(&str, u64, &[u8], Option<ImageError>); 6] = [
+    ("up to the first", 0xFF0, &[7; 16], None),
+    ("into the first", 0xFF0, &[7; 17], Some(ImageError::Overlap)),
+    ("in the last", 0x104F, &[7], Some(ImageError::Overlap)),
+    ("from the last on", 0x1050, &[7; 100], None),
+    ("over all", 0xF80, &[7; 0x100], Some(ImageError::Overlap)),
+    ("empty", 0x1021, &[], None),
 ];
 
 #[test]
 fn compares_a_record_with_all_before_it(rt: HostRuntime) {
-    for (name, start, count, refused) in LASTS {
+    for (name, start, bytes, refused) in &LASTS {
         let mut file = forty();
-        put(
-            &mut file,
-            (start, count as u64, &[7; 0x100][..count.min(0x100)]),
-        );
-        check_file(&rt, rt.alloc(), name, file.bytes(), refused, &[]);
+        put(&mut file, (*start, bytes.len() as u64, bytes));
+        check_file(&rt, rt.alloc(), name, file.bytes(), *refused, &[]);
     }
 }
 
 /// How many of the fifteen lowest addresses lend a 7 and nothing behind it, for a file that is read
-/// in a heap.
+/// in a heap, some of which is used then.
 fn sevens_in(heap: &LocalHeap, file: &[u8]) -> Result<usize, ImageError> {
     let records = records_of(heap, file)?;
     let mut sevens = 0usize;
     for start in 0..15u64 {
-        if records.rest_at(start) == [7].as_slice() {
+        if heap.used() != 0 && records.rest_at(start) == [7].as_slice() {
             sevens = sevens.wrapping_add(1);
         }
     }
@@ -295,6 +291,9 @@ fn sevens_within(
     Some((sevens, heap.used()))
 }
 
+/// Memory is refused, and none of the heap is used afterwards.
+const REFUSED: Option<(Result<usize, ImageError>, usize)> = Some((Err(ImageError::OutOfMemory), 0));
+
 #[test]
 fn each_growth_refused_in_turn(rt: HostRuntime) {
     let mut file = Room::EMPTY;
@@ -307,27 +306,25 @@ fn each_growth_refused_in_turn(rt: HostRuntime) {
         if found == Some((Ok(14), 0)) {
             read = read.wrapping_add(1);
         } else {
-            check(
-                &rt,
-                "refused",
-                found,
-                Some((Err(ImageError::OutOfMemory), 0)),
-            );
+            check(&rt, "refused", found, REFUSED);
             refused = refused.wrapping_add(1);
         }
     }
     check(&rt, "both", refused > 1 && read > 1, true);
 }
 
+/// How many bytes a file has, and what is answered without memory.
+static FRONTS: [(usize, Result<usize, ImageError>); 3] = [
+    (127, Err(ImageError::OutOfMemory)),
+    (15, Err(ImageError::Truncated)),
+    (0, Ok(0)),
+];
+
 #[test]
 fn memory_is_asked_for_behind_the_checks(rt: HostRuntime) {
-    for (left, answer) in [
-        (127, Err(ImageError::OutOfMemory)),
-        (15, Err(ImageError::Truncated)),
-        (0, Ok(0)),
-    ] {
-        let file = file_of(&[ROOT, GRAPHIC], left);
+    for (left, answer) in &FRONTS {
+        let file = file_of(&[ROOT, GRAPHIC], *left);
         let found = sevens_within(rt.alloc(), 0, file.bytes());
-        check(&rt, "without memory", found, Some((answer, 0)));
+        check(&rt, "without memory", found, Some((*answer, 0)));
     }
 }

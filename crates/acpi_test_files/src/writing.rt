@@ -1,12 +1,13 @@
 //! Images that are written, and why others are not.
 
+mod heaps;
+
 use crate::bytes::Part;
-use crate::checks::{check, check_at, check_bytes};
+use crate::checks::{check, check_bytes};
 use acpi::bgrt::Bgrt;
-use acpi::{AcpiHandler, AcpiResult, AcpiTables};
-use acpi_image::write::write_in;
+use acpi::sdt::Signature;
+use acpi::{AcpiError, AcpiHandler, AcpiResult, AcpiTables};
 use acpi_image::{MemoryImage, PlacedTable, WriteError, write_image};
-use linked_list_allocator::LocalHeap;
 use std::alloc::Global;
 use std::process::Abort;
 
@@ -24,20 +25,28 @@ fn graphic_at(address: u64) -> PlacedTable<'static> {
     }
 }
 
-/// An image with an RSDP at 0x500, a root table at 0x1000 and so many of two boot graphics, from
-/// 0x2000 on: its length, and what it has at which offsets.
+/// What is read in an image: the revision, how many tables are listed, and where the boot graphic
+/// lies and how it is turned.
+type Graphic = AcpiResult<(u8, usize, u64, u16)>;
+
+/// An image with an RSDP at 0x500, a root table at 0x1000 and so many boot graphics, which begin at
+/// every 0x1000 bytes from an address on: its length, what it has at which offsets, and what is read
+/// in it.
 struct Written {
     name: &'static str,
     revision: u8,
+    first: u64,
     tables: usize,
     length: usize,
     parts: &'static [Part],
+    opened: Graphic,
 }
 
-static WRITTEN: [Written; 3] = [
+static WRITTEN: [Written; 5] = [
     Written {
         name: "an RSDT",
         revision: 0,
+        first: 0x2000,
         tables: 1,
         length: 180,
         parts: &[
@@ -53,10 +62,12 @@ static WRITTEN: [Written; 3] = [
             (147, &[0, 0, 0, 0, 0, 0, 0, 0, 0, 0, 0, 0, 0, 1, 0, 5]),
             (163, &[0, 0, 0, 0, 0, 0, 0, 0, 0, 0, 0, 0, 0, 0, 0, 0, 0]),
         ],
+        opened: Ok((0, 1, 0x2000, 180)),
     },
     Written {
         name: "an XSDT",
         revision: 2,
+        first: 0x2000,
         tables: 1,
         length: 184,
         parts: &[
@@ -65,31 +76,93 @@ static WRITTEN: [Written; 3] = [
             (68, b"XSDT\x2C\x00\x00\x00\x01\xB0              "),
             (104, &[0, 0x20, 0, 0, 0, 0, 0, 0]),
         ],
+        opened: Ok((2, 1, 0x2000, 180)),
     },
     Written {
         name: "no tables",
         revision: 0,
+        first: 0x2000,
         tables: 0,
         length: 104,
         parts: &[(68, b"RSDT\x24\x00\x00\x00\x01\xDE")],
+        opened: Err(AcpiError::TableMissing(Signature::BGRT)),
+    },
+    // The bytes of the pointers 0x10000, 0x11000 and so on up to 0x4bf000 sum to 160: those of 16
+    // in a row sum to 240 times 8 and 16 times one of 1 to 75.
+    Written {
+        name: "1,200 tables in an RSDT",
+        revision: 0,
+        first: 0x1_0000,
+        tables: 1200,
+        length: 91304,
+        parts: &[
+            (52, &[0, 0x10, 0, 0, 0, 0, 0, 0, 0xE4, 0x12, 0, 0]),
+            (68, b"RSDT\xE4\x12\x00\x00\x01\x6C              "),
+            (104, &[0, 0, 1, 0, 0, 0x10, 1, 0]),
+            (4896, &[0, 0xE0, 0x4B, 0, 0, 0xF0, 0x4B, 0]),
+            (4904, &[0, 0, 1, 0, 0, 0, 0, 0, 56, 0, 0, 0, 0, 0, 0, 0]),
+            (4920, &[b'B', b'G', b'R', b'T', 56, 0, 0, 0, 0, 0x93]),
+            (91232, &[0, 0xF0, 0x4B, 0, 0, 0, 0, 0, 56, 0, 0, 0]),
+            (91248, &[b'B', b'G', b'R', b'T', 56, 0, 0, 0, 0, 0x93]),
+            (91284, &[1, 0, 5, 0, 0, 0, 0, 0, 0, 0, 0, 0, 0, 0]),
+        ],
+        opened: Ok((0, 1200, 0x1_0000, 180)),
+    },
+    Written {
+        name: "1,200 tables in an XSDT",
+        revision: 2,
+        first: 0x1_0000,
+        tables: 1200,
+        length: 96104,
+        parts: &[
+            (52, &[0, 0x10, 0, 0, 0, 0, 0, 0, 0xA4, 0x25, 0, 0]),
+            (68, b"XSDT\xA4\x25\x00\x00\x01\x93              "),
+            (104, &[0, 0, 1, 0, 0, 0, 0, 0, 0, 0x10, 1, 0, 0, 0, 0, 0]),
+            (9696, &[0, 0xF0, 0x4B, 0, 0, 0, 0, 0]),
+            (9704, &[0, 0, 1, 0, 0, 0, 0, 0, 56, 0, 0, 0, 0, 0, 0, 0]),
+            (9720, &[b'B', b'G', b'R', b'T', 56, 0, 0, 0, 0, 0x93]),
+            (96032, &[0, 0xF0, 0x4B, 0, 0, 0, 0, 0, 56, 0, 0, 0]),
+            (96048, &[b'B', b'G', b'R', b'T', 56, 0, 0, 0, 0, 0x93]),
+            (96084, &[1, 0, 5, 0, 0, 0, 0, 0, 0, 0, 0, 0, 0, 0]),
+        ],
+        opened: Ok((2, 1200, 0x1_0000, 180)),
     },
 ];
 
+/// Checks what is read in a file.
+fn check_opened(rt: &impl Abort, alloc: Global, name: &str, file: &[u8], opened: Graphic) {
+    match MemoryImage::from_bytes(alloc, file) {
+        Ok(image) => check(rt, name, graphic_in(&image), opened),
+        Err(error) => check(rt, name, Some(error), None),
+    }
+}
+
+/// 1,200 boot graphics, which begin at every 0x1000 bytes from an address on.
+fn graphics_from(first: u64) -> [PlacedTable<'static>; 1200] {
+    let mut tables = [graphic_at(0); 1200];
+    for (index, table) in tables.iter_mut().enumerate() {
+        table.address = first.wrapping_add((index as u64).wrapping_mul(0x1000));
+    }
+    tables
+}
+
 #[test]
 fn each_image_has_what_its_row_says(rt: HostRuntime) {
-    let tables = [graphic_at(0x2000), graphic_at(0x3000)];
     for row in &WRITTEN {
-        let tables = &tables[..row.tables.min(2)];
+        let tables = graphics_from(row.first);
+        let tables = &tables[..row.tables.min(1200)];
         match write_image(rt.alloc(), 0x500, 0x1000, row.revision, tables) {
-            Ok(file) => check_bytes(&rt, row.name, &file, row.length, row.parts),
+            Ok(file) => {
+                check_bytes(&rt, row.name, &file, row.length, row.parts);
+                check_opened(&rt, rt.alloc(), row.name, &file, row.opened);
+            }
             Err(error) => check(&rt, row.name, Some(error), None),
         }
     }
 }
 
-/// The revision, how many tables are listed, and where the boot graphic's image lies and how it is
-/// turned, in an image whose RSDP lies at 0x500.
-fn graphic_in(image: &MemoryImage<'_>) -> AcpiResult<(u8, usize, u64, u16)> {
+/// What is read in an image whose RSDP lies at 0x500.
+fn graphic_in(image: &MemoryImage<'_>) -> Graphic {
     let tables = AcpiTables::from_rsdp(image, 0x500)?;
     let graphic = tables.find_table::<Bgrt>()?;
     Ok((
@@ -100,25 +173,15 @@ fn graphic_in(image: &MemoryImage<'_>) -> AcpiResult<(u8, usize, u64, u16)> {
     ))
 }
 
-/// Checks what is read in a file of two boot graphics.
-fn check_graphic(rt: &impl Abort, alloc: Global, file: &[u8], revision: u8) {
-    match MemoryImage::from_bytes(alloc, file) {
-        Ok(image) => check(
-            rt,
-            "opened",
-            graphic_in(&image),
-            Ok((revision, 2, 0x3000, 180)),
-        ),
-        Err(error) => check(rt, "opened", Some(error), None),
-    }
-}
-
 #[test]
 fn what_is_written_is_opened(rt: HostRuntime) {
     let tables = [graphic_at(0x3000), graphic_at(0x2000)];
-    for revision in [0u8, 1, 2, 255] {
-        match write_image(rt.alloc(), 0x500, 0x1000, revision, &tables) {
-            Ok(file) => check_graphic(&rt, rt.alloc(), &file, revision),
+    for revision in &[0u8, 1, 2, 255] {
+        match write_image(rt.alloc(), 0x500, 0x1000, *revision, &tables) {
+            Ok(file) => {
+                let opened = Ok((*revision, 2, 0x3000, 180));
+                check_opened(&rt, rt.alloc(), "opened", &file, opened);
+            }
             Err(error) => check(&rt, "written", Some(error), None),
         }
     }
@@ -226,95 +289,49 @@ fn each_plan_is_refused_as_its_row_says(rt: HostRuntime) {
     }
 }
 
-/// The graphic with a byte changed, or not, and whether it is refused as no table.
-static CHANGES: [(usize, u8, bool); 11] = [
-    (4, 55, true),
-    (7, 1, true),
-    (0, 0xFF, true),
-    (3, 0xC3, true),
-    (10, 0xFF, true),
-    (23, 0xFF, true),
-    (8, 0xFF, false),
-    (9, 0xFF, false),
-    (15, 0x7F, false),
-    (24, 0xFF, false),
-    (55, 0xFF, false),
+/// So many bytes of the graphic, of which one is another one or not, and whether they are refused as
+/// no table.
+static CHANGES: [(usize, usize, u8, bool); 13] = [
+    (56, 0, b'B', false),
+    (55, 0, b'B', true),
+    (56, 4, 55, true),
+    (56, 7, 1, true),
+    (56, 0, 0xFF, true),
+    (56, 3, 0xC3, true),
+    (56, 10, 0xFF, true),
+    (56, 23, 0xFF, true),
+    (56, 8, 0xFF, false),
+    (56, 9, 0xFF, false),
+    (56, 15, 0x7F, false),
+    (56, 24, 0xFF, false),
+    (56, 55, 0xFF, false),
 ];
 
-/// Checks whether bytes are refused as no table.
-fn check_table(rt: &impl Abort, alloc: Global, name: &str, bytes: &[u8], is_bad: bool) {
+/// The graphic with another byte at an offset.
+fn changed_graphic(offset: usize, byte: u8) -> [u8; 56] {
+    let mut bytes = GRAPHIC;
+    if let Some(there) = bytes.get_mut(offset) {
+        *there = byte;
+    }
+    bytes
+}
+
+/// Why bytes at 0x2000 are refused.
+fn table_refusal(alloc: Global, bytes: &[u8]) -> Option<WriteError> {
     let table = PlacedTable {
         address: 0x2000,
         bytes,
     };
-    let wanted = if is_bad {
-        Some(WriteError::BadTable(0))
-    } else {
-        None
-    };
-    let refused = refusal_of(alloc, 0x500, 0x1000, 0, &[table]);
-    check(rt, name, refused, wanted);
+    refusal_of(alloc, 0x500, 0x1000, 0, &[table])
 }
 
 #[test]
 fn refuses_bytes_that_are_no_table(rt: HostRuntime) {
-    check_table(&rt, rt.alloc(), "whole", &GRAPHIC, false);
-    check_table(&rt, rt.alloc(), "cut", &GRAPHIC[..55], true);
-    for (offset, byte, is_bad) in CHANGES {
-        let mut bytes = GRAPHIC;
-        if let Some(there) = bytes.get_mut(offset) {
-            *there = byte;
-        }
-        check_table(&rt, rt.alloc(), "changed", &bytes, is_bad);
-    }
-}
-
-/// How many bytes are written in a heap of so many bytes, or why none are, and how many of the heap
-/// are used afterwards. `None` if there is no such heap. The RSDP is to lie at 0x500.
-fn length_within(
-    alloc: Global,
-    room: usize,
-    root: u64,
-    revision: u8,
-    tables: &[PlacedTable<'_>],
-) -> Option<(Result<usize, WriteError>, usize)> {
-    let heap = LocalHeap::new(alloc, room).ok()?;
-    let length = match write_in(&heap, 0x500, root, revision, tables) {
-        Ok(file) => Ok(file.len()),
-        Err(error) => Err(error),
-    };
-    Some((length, heap.used()))
-}
-
-#[test]
-fn each_growth_refused_in_turn(rt: HostRuntime) {
-    let tables = [graphic_at(0x2000), graphic_at(0x3000)];
-    let (mut refused, mut written) = (0u32, 0u32);
-    for blocks in 0..64usize {
-        let found = length_within(rt.alloc(), 16 * blocks, 0x1000, 0, &tables);
-        if found == Some((Ok(256), 0)) {
-            written = written.wrapping_add(1);
-        } else {
-            check(
-                &rt,
-                "refused",
-                found,
-                Some((Err(WriteError::OutOfMemory), 0)),
-            );
-            refused = refused.wrapping_add(1);
-        }
-    }
-    check(&rt, "both", refused > 1 && written > 1, true);
-}
-
-#[test]
-fn memory_is_asked_for_behind_the_checks(rt: HostRuntime) {
-    for (root, answer) in [
-        (0x500, WriteError::Overlap),
-        (0x1000, WriteError::OutOfMemory),
-    ] {
-        let found = length_within(rt.alloc(), 0, root, 0, &[]);
-        check(&rt, "without memory", found, Some((Err(answer), 0)));
+    for (count, offset, byte, is_bad) in &CHANGES {
+        let bytes = changed_graphic(*offset, *byte);
+        let refused = table_refusal(rt.alloc(), &bytes[..(*count).min(56)]);
+        let wanted = is_bad.then_some(WriteError::BadTable(0));
+        check(&rt, "table", (*offset, refused), (*offset, wanted));
     }
 }
 
@@ -347,47 +364,10 @@ static LASTS: [(u64, bool); 12] = [
 
 #[test]
 fn compares_a_table_with_all_before_it(rt: HostRuntime) {
-    for (address, is_shared) in LASTS {
-        let tables = fifteen_with(address);
+    for (address, is_shared) in &LASTS {
+        let tables = fifteen_with(*address);
         let refused = refusal_of(rt.alloc(), 0x500, 0x1000, 2, &tables);
-        let wanted = if is_shared {
-            Some(WriteError::Overlap)
-        } else {
-            None
-        };
-        check_at(&rt, "the last", address, refused == wanted);
-    }
-}
-
-#[test]
-fn tables_are_compared_without_memory_too(rt: HostRuntime) {
-    for (address, answer) in [
-        (0x230F, WriteError::Overlap),
-        (0x2310, WriteError::OutOfMemory),
-    ] {
-        let tables = fifteen_with(address);
-        for blocks in 0..64usize {
-            let found = length_within(rt.alloc(), 16 * blocks, 0x1000, 2, &tables);
-            check(&rt, "fifteen", found, Some((Err(answer), 0)));
-        }
-    }
-}
-
-/// Whether a refusal prints this text.
-fn is_printed(alloc: Global, error: WriteError, text: &str) -> bool {
-    match format!(in alloc; "{error}") {
-        Ok(said) => said.as_str() == text,
-        Err(_) => false,
-    }
-}
-
-#[test]
-fn refusals_print_their_names(rt: HostRuntime) {
-    for (error, text) in [
-        (WriteError::ZeroRoot, "ZeroRoot"),
-        (WriteError::BadTable(12), "BadTable 12"),
-        (WriteError::OutOfMemory, "OutOfMemory"),
-    ] {
-        check(&rt, text, is_printed(rt.alloc(), error, text), true);
+        let wanted = is_shared.then_some(WriteError::Overlap);
+        check(&rt, "the last", (*address, refused), (*address, wanted));
     }
 }

@@ -1,10 +1,12 @@
 //! Images of tables, read as `acpi_view` reads them.
+ghost use Rattle.std.specs.Iterator.{IsFinite};
 
 use crate::checks::check;
 use acpi::madt::Madt;
-use acpi::{AcpiError, AcpiResult, AcpiTables};
+use acpi::{AcpiError, AcpiResult, AcpiTables, AmlTable, TableFault};
 use acpi_image::MemoryImage;
 use std::alloc::Global;
+use std::fmt::Debug;
 use std::process::Abort;
 
 /// What is read in an image: how many tables are listed, where the AML of the DSDT and of the SSDTs
@@ -24,22 +26,28 @@ fn dsdt_of(tables: &Tables<'_, '_>) -> AcpiResult<u64> {
     Ok(tables.dsdt()?.address)
 }
 
-/// Checks where the AML of the SSDTs lies.
-fn check_ssdts(rt: &impl Abort, name: &str, tables: &Tables<'_, '_>, wanted: &[u64]) {
+/// Checks which items an iterator gives.
+fn check_items<I: Iterator>(rt: &impl Abort, name: &str, items: I, wanted: &[I::Item])
+where
+    I::Item: Copy + Debug + PartialEq,
+    requires can { I.can_next items }
+    requires ends { IsFinite (I.remaining items) }
+{
     let mut wanted = wanted.iter().copied();
-    for stream in tables.ssdts() {
-        check(rt, name, Some(stream.address), wanted.next());
+    for item in items {
+        check(rt, name, Some(item), wanted.next());
     }
     check(rt, name, wanted.next(), None);
 }
 
-/// Checks which MADTs are passed over, and why.
-fn check_faults(rt: &impl Abort, name: &str, tables: &Tables<'_, '_>, wanted: &[(u64, AcpiError)]) {
-    let mut wanted = wanted.iter().copied();
-    for fault in tables.faults::<Madt>() {
-        check(rt, name, Some((fault.address, fault.error)), wanted.next());
-    }
-    check(rt, name, wanted.next(), None);
+/// Where AML lies.
+fn address_of(stream: AmlTable) -> u64 {
+    stream.address
+}
+
+/// Which table is passed over, and why.
+fn fault_of(fault: TableFault) -> (u64, AcpiError) {
+    (fault.address, fault.error)
 }
 
 /// Checks what is read in tables.
@@ -47,8 +55,9 @@ fn check_tables(rt: &impl Abort, name: &str, tables: &Tables<'_, '_>, wanted: Op
     check(rt, name, tables.revision(), 2);
     check(rt, name, tables.headers().count(), wanted.headers);
     check(rt, name, dsdt_of(tables), wanted.dsdt);
-    check_ssdts(rt, name, tables, wanted.ssdts);
-    check_faults(rt, name, tables, wanted.faults);
+    check_items(rt, name, tables.ssdts().map(address_of), wanted.ssdts);
+    let faults = tables.faults::<Madt>();
+    check_items(rt, name, faults.map(fault_of), wanted.faults);
 }
 
 /// Checks what is read in a memory whose RSDP lies at 0xe0000.
