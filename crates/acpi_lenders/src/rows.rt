@@ -23,7 +23,7 @@ mod regions;
 
 use crate::samples::placed::{Margins, add_record};
 use acpi_words::parse_address;
-pub use asked::{Answers, ask_rows, printed, shown};
+pub use asked::{Answers, ask_rows, named, printed, shown};
 pub use regions::Region;
 use std::alloc::{AllocError, Global};
 use std::mem;

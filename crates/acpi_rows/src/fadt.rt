@@ -1,10 +1,10 @@
 //! The fixed hardware: fields, blocks of registers and flags.
 
-use crate::named::{field_of, named, set_names};
+use crate::named::{field_of, set_names};
 use acpi::address::GenericAddress;
 use acpi::fadt::Fadt;
 use acpi::{AcpiResult, AcpiTable, PhysicalRecord};
-use acpi_lenders::rows::shown;
+use acpi_lenders::rows::{named, shown};
 use std::alloc::{AllocError, Global};
 
 /// What a FADT answers.

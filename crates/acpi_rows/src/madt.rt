@@ -80,11 +80,15 @@ fn interrupts(
     alloc: Global,
     madt: &PhysicalMapping<'_, Window<'_>, Madt>,
 ) -> Result<String, AllocError> {
-    let model = match madt.parse_interrupt_model_in(alloc) {
-        Ok(answer) => answer.0,
-        Err(refusal) => return shown(alloc, &refusal),
-    };
-    match &model {
+    match madt.parse_interrupt_model_in(alloc) {
+        Ok(answer) => interrupts_of(alloc, &answer.0),
+        Err(refusal) => shown(alloc, &refusal),
+    }
+}
+
+/// The same of a model.
+fn interrupts_of(alloc: Global, model: &InterruptModel<Global>) -> Result<String, AllocError> {
+    match model {
         InterruptModel::Unknown => String::from_str(alloc, "Unknown"),
         InterruptModel::Apic(apic) => {
             let (overrides, sources) = (&apic.interrupt_source_overrides, &apic.nmi_sources);

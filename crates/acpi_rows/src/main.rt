@@ -1,6 +1,6 @@
-//! Checks what tables' bytes and regions of memory answer against the rows on standard input, whose
-//! lines `acpi_lenders::rows` describes. Numbers in an answer are hexadecimal, but in the texts of
-//! signatures and refusals.
+//! Checks what tables' bytes and regions of memory answer, and what `acpi_view` prints of files, against
+//! the rows on standard input, whose lines `acpi_lenders::rows` describes. Numbers in an answer are
+//! hexadecimal, but in the texts of signatures and refusals, and in what is printed.
 #![tactic(auto)]
 
 mod bgrt;
@@ -13,6 +13,7 @@ mod memory;
 mod named;
 mod names;
 mod rsdp;
+mod runs;
 mod spcr;
 mod sums;
 
@@ -29,6 +30,9 @@ impl Answers for Library {
         let kind = row.kind.as_str();
         if kind == "signature" {
             return names::answer(alloc, row.table(), question);
+        }
+        if question.contains(" of run") {
+            return runs::answer(alloc, kind, row.table(), question);
         }
         let said = match kind {
             "" => memory::answer(alloc, row, question),

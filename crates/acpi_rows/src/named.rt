@@ -1,18 +1,8 @@
-//! Values by their names.
+//! Flags and fields by their names.
 
 use acpi_lenders::rows::shown;
 use std::alloc::{AllocError, Global};
 use std::fmt::Debug;
-
-/// The value of a name.
-pub(crate) fn named<T: Copy>(values: &[(&str, T)], name: &str) -> Option<T> {
-    for (other, value) in values {
-        if *other == name {
-            return Some(*value);
-        }
-    }
-    None
-}
 
 /// The names of the flags that are set, in order, or `none`.
 pub(crate) fn set_names(
@@ -23,12 +13,12 @@ pub(crate) fn set_names(
     let mut text = String::new(alloc);
     for (name, is_set) in names.iter().zip(flags) {
         if *is_set {
-            text.push_str(if text.is_empty() { "" } else { " " })?;
-            text.push_str(name)?;
+            let mark = if text.is_empty() { "" } else { " " };
+            write!(text, "{mark}{name}")?;
         }
     }
     if text.is_empty() {
-        text.push_str("none")?;
+        return String::from_str(alloc, "none");
     }
     Ok(text)
 }

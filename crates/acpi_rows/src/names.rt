@@ -1,9 +1,8 @@
 //! Signatures and refusals, and their texts.
 
-use crate::named::named;
 use acpi::sdt::Signature;
 use acpi::{AcpiError, MadtError};
-use acpi_lenders::rows::{printed, shown};
+use acpi_lenders::rows::{named, printed, shown};
 use std::alloc::{AllocError, Global};
 
 const SIGNATURES: [(&str, Signature); 65] = [

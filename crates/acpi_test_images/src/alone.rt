@@ -1,13 +1,12 @@
 //! Questions about a table by itself.
 
-use crate::platforms::model_text;
-use crate::texts::listed;
+use crate::texts::{listed, said};
 use acpi::fadt::Fadt;
 use acpi::madt::Madt;
 use acpi::mcfg::McfgEntryIter;
 use acpi::platform::PmTimer;
 use acpi::{PhysicalMapping, PhysicalRecord};
-use acpi_image::MemoryImage;
+use acpi_lenders::example::Window;
 use acpi_lenders::rows::shown;
 use linked_list_allocator::LocalHeap;
 use std::alloc::{AllocError, Allocator, Global};
@@ -51,14 +50,12 @@ fn model<A: Allocator + Clone>(
     allocator: A,
     table: &[u8],
 ) -> Result<String, AllocError> {
-    let Ok(handler) = MemoryImage::from_bytes(alloc, &[]) else {
-        return Err(AllocError);
-    };
     if table.len() < Madt::MIN_LENGTH {
         return Ok(String::new(alloc));
     }
-    let madt = PhysicalMapping::<_, Madt>::new(0, table, table.len(), &handler);
-    model_text(alloc, madt.parse_interrupt_model_in(allocator))
+    let window = Window::new(0, table);
+    let madt = PhysicalMapping::<_, Madt>::new(0, table, table.len(), &window);
+    said(alloc, madt.parse_interrupt_model_in(allocator))
 }
 
 /// The same in a heap of 16 bytes, which has to be free again.

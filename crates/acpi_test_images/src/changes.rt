@@ -12,9 +12,10 @@
 //!   and each other value.
 
 use crate::handlers;
+use crate::texts::Parts;
 use acpi_base::bytes::skip;
 use acpi_image::{ImageError, MemoryImage};
-use acpi_lenders::rows::{Region, Row, shown};
+use acpi_lenders::rows::{Region, Row, named, shown};
 use acpi_lenders::samples::front;
 use acpi_lenders::samples::placed::{Margins, add_record};
 use acpi_words::parse_address;
@@ -22,32 +23,102 @@ use std::alloc::{AllocError, Global};
 
 /// What is changed of a region.
 #[derive(Clone, Copy)]
-enum Change {
+struct Change {
     /// What lies around it.
-    Around(Margins),
+    margins: Margins,
     /// It ends after so many bytes.
-    Front(usize),
-    /// It is two regions, the first of which has so many bytes.
-    Cut(usize),
+    end: usize,
+    /// The bytes after these are a second region.
+    is_cut: bool,
     /// All bytes from an offset on and before another one are changed in these bits.
-    Bits(usize, usize, u8),
+    bits: (usize, usize, u8),
 }
 
+impl Change {
+    const NOTHING: Change = Change {
+        margins: Margins::NONE,
+        end: usize::MAX,
+        is_cut: false,
+        bits: (0, 0, 0),
+    };
+}
+
+/// How a question begins that is about changes.
+#[derive(Clone, Copy)]
+enum Kind {
+    Nothing,
+    Around,
+    After,
+    Front,
+    Body,
+    Cuts,
+    Bytes,
+}
+
+const KINDS: [(&str, Kind); 7] = [
+    ("", Kind::Nothing),
+    ("around", Kind::Around),
+    ("after", Kind::After),
+    ("front", Kind::Front),
+    ("body", Kind::Body),
+    ("cuts", Kind::Cuts),
+    ("bytes", Kind::Bytes),
+];
+
 /// Changes of the region at an address, or of each region. One is made at a time.
-#[derive(Drop)]
+#[derive(Clone, Copy)]
 struct Changes {
+    kind: Kind,
+    count: usize,
+    byte: u8,
     address: Option<u64>,
-    each: Vec<Change>,
+    /// How many bytes the region has.
+    length: usize,
 }
 
 /// The answer to a question about the memory of a row.
 pub(crate) fn answer(alloc: Global, row: &Row, question: &str) -> Result<String, AllocError> {
-    if question == "fronts of the file" {
-        return fronts(alloc, &row.file(alloc)?);
+    let (words, asked) = question.split_once(", ").unwrap_or(("", question));
+    match changes_of(row, words) {
+        None => Ok(String::new(alloc)),
+        Some(changes) => changed_answer(alloc, &row.regions, changes, asked),
     }
-    match question.split_once(", ") {
-        Some((change, asked)) => changed_answer(alloc, row, change, asked),
-        None => handlers::answer(alloc, &row.file(alloc)?, &row.regions, question),
+}
+
+/// The answer to a question about the memory with each change.
+fn changed_answer(
+    alloc: Global,
+    regions: &[Region],
+    changes: Changes,
+    asked: &str,
+) -> Result<String, AllocError> {
+    let mut parts = Parts::new(alloc);
+    let mut count = 0u32;
+    for number in 0..changes.most() {
+        if let Some(change) = changes.get(number) {
+            let file = changed_file(alloc, regions, changes.address, change)?;
+            parts.add_other(answer_over(alloc, &file, regions, asked));
+            count = count.wrapping_add(1);
+        }
+    }
+    let text = parts.text()?;
+    if count < 2 {
+        return Ok(text);
+    }
+    format!(in alloc; "{count} times {text}")
+}
+
+/// The answer over a file of memory.
+fn answer_over(
+    alloc: Global,
+    file: &[u8],
+    regions: &[Region],
+    asked: &str,
+) -> Result<String, AllocError> {
+    if asked == "fronts of the file" {
+        fronts(alloc, file)
+    } else {
+        handlers::answer(alloc, file, regions, asked)
     }
 }
 
@@ -64,52 +135,18 @@ fn fronts(alloc: Global, file: &[u8]) -> Result<String, AllocError> {
     shown(alloc, &whole)
 }
 
-/// The answer to a question about the memory with changes.
-fn changed_answer(
-    alloc: Global,
-    row: &Row,
-    change: &str,
-    asked: &str,
-) -> Result<String, AllocError> {
-    let changes = changes_of(alloc, row, change)?;
-    let mut said = String::new(alloc);
-    for (index, change) in changes.each.iter().enumerate() {
-        let file = changed_file(alloc, &row.regions, changes.address, *change)?;
-        let text = handlers::answer(alloc, &file, &row.regions, asked)?;
-        if index != 0 && said != text {
-            return Ok(text);
-        }
-        said = text;
-    }
-    match changes.each.len() {
-        0 | 1 => Ok(said),
-        count => format!(in alloc; "{count} times {said}"),
-    }
-}
-
 /// The changes that words name.
-fn changes_of(alloc: Global, row: &Row, words: &str) -> Result<Changes, AllocError> {
+fn changes_of(row: &Row, words: &str) -> Option<Changes> {
     let (kind, rest) = words.split_once(' ').unwrap_or((words, ""));
     let (first, last) = rest.split_once(' ').unwrap_or((rest, rest));
-    let count = first.parse::<u16>().unwrap_or(0) as usize;
-    let byte = u8::from_str_radix(last, 16).unwrap_or(0);
     let address = parse_address(last);
-    let length = length_at(&row.regions, address);
-    let mut each = Vec::new(alloc);
-    match kind {
-        "around" => each.push(Change::Around(margins(count, count, byte)))?,
-        "after" => each.push(Change::Around(margins(0, count, byte)))?,
-        "front" => each.push(Change::Front(count))?,
-        "body" => each.push(Change::Bits(36, length, 0xFF))?,
-        "cuts" => {
-            for count in 1..length {
-                each.push(Change::Cut(count))?;
-            }
-        }
-        "bytes" => add_bytes(&mut each, length)?,
-        _ => {}
-    }
-    Ok(Changes { address, each })
+    Some(Changes {
+        kind: named(&KINDS, kind)?,
+        count: first.parse::<u16>().unwrap_or(0) as usize,
+        byte: u8::from_str_radix(last, 16).unwrap_or(0),
+        address,
+        length: length_at(&row.regions, address),
+    })
 }
 
 /// How many bytes the region at an address has.
@@ -122,6 +159,46 @@ fn length_at(regions: &[Region], address: Option<u64>) -> usize {
     0
 }
 
+impl Changes {
+    /// No change has a number as great as this.
+    fn most(self) -> usize {
+        match self.kind {
+            Kind::Cuts => self.length,
+            Kind::Bytes => self.length.saturating_mul(256),
+            _ => 1,
+        }
+    }
+
+    /// The change with a number, if there is one. Of bytes it is 256 times the offset and what the
+    /// byte differs in, but for those of the length in a header.
+    fn get(self, number: usize) -> Option<Change> {
+        let mut change = Change::NOTHING;
+        match self.kind {
+            Kind::Nothing => {}
+            Kind::Around => change.margins = margins(self.count, self.count, self.byte),
+            Kind::After => change.margins = margins(0, self.count, self.byte),
+            Kind::Front => change.end = self.count,
+            Kind::Body => change.bits = (36, self.length, 0xFF),
+            Kind::Cuts => {
+                change.end = number;
+                change.is_cut = true;
+            }
+            Kind::Bytes => {
+                let (offset, bits) = (number / 256, (number % 256) as u8);
+                change.bits = (offset, offset + 1, bits);
+            }
+        }
+        let is_length = 4 <= change.bits.0 && change.bits.0 < 8;
+        let is_none = change.bits.2 == 0 && matches!(self.kind, Kind::Bytes);
+        let is_whole = change.is_cut && number == 0;
+        if is_length || is_none || is_whole {
+            None
+        } else {
+            Some(change)
+        }
+    }
+}
+
 /// So many bytes before each region and after it.
 fn margins(before: usize, behind: usize, byte: u8) -> Margins {
     Margins {
@@ -129,19 +206,6 @@ fn margins(before: usize, behind: usize, byte: u8) -> Margins {
         behind,
         byte,
     }
-}
-
-/// Adds each change of one byte among so many, but for those of the length in a header.
-fn add_bytes(each: &mut Vec<Change>, length: usize) -> Result<(), AllocError> {
-    for offset in 0..length {
-        if 4 <= offset && offset < 8 {
-            continue;
-        }
-        for bits in 1..=255u8 {
-            each.push(Change::Bits(offset, offset + 1, bits))?;
-        }
-    }
-    Ok(())
 }
 
 /// A file of these regions, of which the one at an address is changed, or each.
@@ -153,35 +217,36 @@ fn changed_file(
 ) -> Result<Vec<u8>, AllocError> {
     let mut file = Vec::new(alloc);
     for region in regions {
-        if address.is_none() || address == Some(region.address) {
-            add_changed(&mut file, region, change)?;
-        } else {
-            add_record(&mut file, region.address, &region.bytes, Margins::NONE)?;
-        }
+        let is_changed = address.is_none() || address == Some(region.address);
+        let change = if is_changed { change } else { Change::NOTHING };
+        add_changed(&mut file, region.address, &region.bytes, change)?;
     }
     Ok(file)
 }
 
 /// Adds a region with a change.
-fn add_changed(file: &mut Vec<u8>, region: &Region, change: Change) -> Result<(), AllocError> {
-    let (address, bytes) = (region.address, region.bytes.as_slice());
-    match change {
-        Change::Around(margins) => add_record(file, address, bytes, margins),
-        Change::Front(count) => add_record(file, address, front(bytes, count), Margins::NONE),
-        Change::Cut(count) => {
-            let second = address.wrapping_add(count as u64);
-            add_record(file, address, front(bytes, count), Margins::NONE)?;
-            add_record(file, second, skip(bytes, count), Margins::NONE)
-        }
-        Change::Bits(from, to, bits) => {
-            add_record(file, address, bytes, Margins::NONE)?;
-            let start = file.len().saturating_sub(bytes.len());
-            for (i, byte) in file.iter_mut().skip(start).enumerate() {
-                if from <= i && i < to {
-                    *byte ^= bits;
-                }
-            }
-            Ok(())
+fn add_changed(
+    file: &mut Vec<u8>,
+    address: u64,
+    bytes: &[u8],
+    change: Change,
+) -> Result<(), AllocError> {
+    let (first, second) = (front(bytes, change.end), skip(bytes, change.end));
+    add_record(file, address, first, change.margins)?;
+    change_bits(file, first.len(), change.bits);
+    if change.is_cut {
+        let place = address.wrapping_add(change.end as u64);
+        add_record(file, place, second, Margins::NONE)?;
+    }
+    Ok(())
+}
+
+/// Changes bits of the last bytes, so many.
+fn change_bits(file: &mut [u8], count: usize, (from, to, bits): (usize, usize, u8)) {
+    let start = file.len().saturating_sub(count);
+    for (i, byte) in file.iter_mut().skip(start).enumerate() {
+        if from <= i && i < to {
+            *byte ^= bits;
         }
     }
 }

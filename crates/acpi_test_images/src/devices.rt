@@ -1,11 +1,10 @@
-//! Questions about timers, the configuration space of PCI functions, processors and mailboxes.
+//! Questions about timers, the configuration space of PCI functions and mailboxes.
 
 use crate::texts::listed;
 use acpi::mcfg::PciConfigRegions;
 use acpi::platform::{ScriptedMailbox, wakeup_aps};
-use acpi::{AcpiHandler, AcpiResult, AcpiTables, HpetInfo, PlatformInfo};
+use acpi::{AcpiHandler, AcpiResult, AcpiTables, HpetInfo};
 use acpi_lenders::rows::shown;
-use hex::FromHex;
 use std::alloc::{AllocError, Allocator, Global};
 
 /// What the id of the block of timers says: the revision and the number of comparators, whether the
@@ -40,15 +39,26 @@ pub(crate) fn function<A: Allocator>(
     answer: AcpiResult<PciConfigRegions<A>>,
     digits: &str,
 ) -> Result<String, AllocError> {
-    let Ok(bytes) = <[u8; 5] as FromHex>::from_hex(digits) else {
-        return Ok(String::new(alloc));
-    };
-    let [high, low, bus, device, number] = bytes;
-    let segment = u16::from_be_bytes([high, low]);
-    match answer.map(|regions| regions.physical_address(segment, bus, device, number)) {
-        Ok(Some(address)) => format!(in alloc; "0x{address:x}"),
-        Ok(None) => String::from_str(alloc, "none"),
+    match answer {
+        Ok(regions) => place_in(alloc, &regions, digits),
         Err(refusal) => shown(alloc, &refusal),
+    }
+}
+
+/// The same in regions.
+fn place_in<A: Allocator>(
+    alloc: Global,
+    regions: &PciConfigRegions<A>,
+    digits: &str,
+) -> Result<String, AllocError> {
+    let mut bytes = [0; 5];
+    if hex::decode_to_slice(digits, &mut bytes).is_err() {
+        return Ok(String::new(alloc));
+    }
+    let [high, low, bus, device, number] = bytes;
+    match regions.physical_address(u16::from_be_bytes([high, low]), bus, device, number) {
+        Some(address) => format!(in alloc; "0x{address:x}"),
+        None => String::from_str(alloc, "none"),
     }
 }
 
@@ -60,25 +70,4 @@ pub(crate) fn mailbox<H: AcpiHandler>(
     let mut mailbox = ScriptedMailbox::new(&[0]);
     let refusal = wakeup_aps(tables, &mut mailbox, 7, 0x8000, 1).err();
     shown(alloc, &(refusal, mailbox.opened()))
-}
-
-/// How many application processors a platform has, and the one at an index among them.
-pub(crate) fn processor<H: AcpiHandler>(
-    alloc: Global,
-    tables: &AcpiTables<'_, H>,
-    index: &str,
-) -> Result<String, AllocError> {
-    let index = index.parse::<u32>().unwrap_or(u32::MAX) as usize;
-    match &tables.platform_info(alloc) {
-        Ok(
-            PlatformInfo {
-                processor_info: Some(processors),
-                ..
-            },
-        ) => {
-            let others = processors.application_processors.as_slice();
-            shown(alloc, &(others.len(), others.get(index)))
-        }
-        _ => Ok(String::new(alloc)),
-    }
 }

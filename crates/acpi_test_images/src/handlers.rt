@@ -1,7 +1,7 @@
 //! Questions over three handlers of a file of memory.
 
 use crate::tables;
-use crate::texts::agreed;
+use crate::texts::Parts;
 use acpi::AcpiHandler;
 use acpi_image::MemoryImage;
 use acpi_lenders::handlers::{Exact, Recording};
@@ -9,37 +9,41 @@ use acpi_lenders::history::Flaw;
 use acpi_lenders::rows::{Region, shown};
 use std::alloc::{AllocError, Global};
 
-/// What all three handlers answer, or what each does, or what is wrong with the loans.
+/// What the handlers of a file answer, or why there are none.
 pub(crate) fn answer(
     alloc: Global,
     file: &[u8],
     regions: &[Region],
     question: &str,
 ) -> Result<String, AllocError> {
-    let image = match MemoryImage::from_bytes(alloc, file) {
-        Ok(image) => image,
-        Err(refusal) => return shown(alloc, &refusal),
-    };
-    let exact = Exact::new(&image);
+    match MemoryImage::from_bytes(alloc, file) {
+        Ok(image) => over(alloc, &image, regions, question),
+        Err(refusal) => shown(alloc, &refusal),
+    }
+}
+
+/// What all three handlers answer, or what each does, or what is wrong with the loans.
+fn over(
+    alloc: Global,
+    image: &MemoryImage<'_>,
+    regions: &[Region],
+    question: &str,
+) -> Result<String, AllocError> {
+    let exact = Exact::new(image);
+    let mut parts = Parts::new(alloc);
     if let Some(asked) = question.strip_prefix("most requests for ") {
-        let answers = [
-            most_requests(alloc, &image, regions, asked),
-            most_requests(alloc, &exact, regions, asked),
-        ];
-        return agreed(alloc, answers);
+        parts.add_other(most_requests(alloc, image, regions, asked));
+        parts.add_other(most_requests(alloc, &exact, regions, asked));
+    } else if let Some(asked) = question.strip_suffix(" over the generous handler") {
+        parts.add_other(tables::answer(alloc, image, asked));
+    } else if let Some(asked) = question.strip_suffix(" over the exact handler") {
+        parts.add_other(tables::answer(alloc, &exact, asked));
+    } else {
+        parts.add_other(tables::answer(alloc, image, question));
+        parts.add_other(tables::answer(alloc, &exact, question));
+        parts.add_other(recorded(alloc, &Recording::new(image), question));
     }
-    if let Some(asked) = question.strip_suffix(" over the generous handler") {
-        return tables::answer(alloc, &image, asked);
-    }
-    if let Some(asked) = question.strip_suffix(" over the exact handler") {
-        return tables::answer(alloc, &exact, asked);
-    }
-    let answers = [
-        tables::answer(alloc, &image, question),
-        tables::answer(alloc, &exact, question),
-        recorded(alloc, &Recording::new(&image), question),
-    ];
-    agreed(alloc, answers)
+    parts.text()
 }
 
 /// What is answered over a recording handler, or what is wrong with its loans then. A question that

@@ -6,7 +6,8 @@
 //! whole blocks of 16 bytes.
 
 use crate::devices::{function, regions};
-use crate::platforms::{clone_text, model_text, platform_text};
+use crate::platforms::of_answer;
+use crate::texts::{Parts, said};
 use acpi::madt::Madt;
 use acpi::{AcpiHandler, AcpiResult, AcpiTables, ManagedSlice, PciConfigRegions};
 use acpi_lenders::rows::shown;
@@ -20,9 +21,7 @@ pub(crate) fn answer<H: AcpiHandler>(
     asked: &str,
     heap: &str,
 ) -> Result<String, AllocError> {
-    let Some((size, taken)) = heap.split_once(' ') else {
-        return Ok(String::new(alloc));
-    };
+    let (size, taken) = heap.split_once(' ').unwrap_or((heap, ""));
     match (size.parse::<u32>(), taken.parse::<u32>()) {
         (Ok(size), Ok(taken)) => over_heap(alloc, tables, asked, size as usize, taken as usize),
         _ => over_growing_heaps(alloc, tables, asked),
@@ -42,12 +41,12 @@ fn over_heap<H: AcpiHandler>(
     let _filled = ManagedSlice::new_in(taken, 0u8, &heap);
     let used = heap.used();
     let text = match asked {
-        "held by platform" => held(alloc, &heap, used, tables.platform_info_in(&heap))?,
-        "held by regions" => held(alloc, &heap, used, PciConfigRegions::new_in(tables, &heap))?,
-        _ => answer_in(alloc, tables, &heap, asked)?,
+        "held by platform" => held(alloc, &heap, used, tables.platform_info_in(&heap)),
+        "held by regions" => held(alloc, &heap, used, PciConfigRegions::new_in(tables, &heap)),
+        _ => answer_in(alloc, tables, &heap, asked),
     };
     if heap.used() == used {
-        Ok(text)
+        text
     } else {
         String::from_str(alloc, "left allocated")
     }
@@ -63,24 +62,20 @@ fn held<T: Drop>(
     shown(alloc, &heap.used().wrapping_sub(used))
 }
 
-/// The answer in memory of an allocator. A clone says nothing if there is none for the platform
-/// itself.
-fn answer_in<H: AcpiHandler, A: Allocator + Clone>(
+/// The answer in memory of a heap. A clone says nothing if there is none for the platform itself.
+fn answer_in<H: AcpiHandler>(
     alloc: Global,
     tables: &AcpiTables<'_, H>,
-    allocator: A,
+    heap: &LocalHeap,
     asked: &str,
 ) -> Result<String, AllocError> {
     match asked {
-        "platform" => platform_text(alloc, tables.platform_info_in(allocator)),
-        "model" => model(alloc, tables, allocator),
-        "regions" => regions(alloc, PciConfigRegions::new_in(tables, allocator)),
+        "platform" => said(alloc, tables.platform_info_in(heap)),
+        "model" => model(alloc, tables, heap),
+        "regions" => regions(alloc, PciConfigRegions::new_in(tables, heap)),
         _ => match asked.strip_prefix("function ") {
-            Some(digits) => function(alloc, PciConfigRegions::new_in(tables, allocator), digits),
-            None => match &tables.platform_info_in(allocator) {
-                Ok(platform) => clone_text(alloc, platform, asked),
-                Err(_) => Ok(String::new(alloc)),
-            },
+            Some(digits) => function(alloc, PciConfigRegions::new_in(tables, heap), digits),
+            None => of_answer(alloc, tables.platform_info_in(heap), asked),
         },
     }
 }
@@ -92,7 +87,7 @@ pub(crate) fn model<H: AcpiHandler, A: Allocator + Clone>(
     allocator: A,
 ) -> Result<String, AllocError> {
     match tables.find_table::<Madt>() {
-        Ok(madt) => model_text(alloc, madt.parse_interrupt_model_in(allocator)),
+        Ok(madt) => said(alloc, madt.parse_interrupt_model_in(allocator)),
         Err(refusal) => shown(alloc, &refusal),
     }
 }
@@ -105,15 +100,13 @@ fn over_growing_heaps<H: AcpiHandler>(
     asked: &str,
 ) -> Result<String, AllocError> {
     let mut refused = 0u32;
-    let mut said = String::new(alloc);
+    let mut parts = Parts::new(alloc);
     for blocks in 1..33usize {
         let text = over_heap(alloc, tables, asked, 16 * blocks, 16)?;
         if text.as_str() == "AllocError" {
             refused = refused.wrapping_add(1);
-        } else if said.is_empty() {
-            said = text;
-        } else if said != text {
-            return Ok(text);
+        } else {
+            parts.add_other(Ok(text));
         }
     }
     let times = match refused {
@@ -121,5 +114,6 @@ fn over_growing_heaps<H: AcpiHandler>(
         1 => "once",
         _ => "more than once",
     };
-    format!(in alloc; "{times} refused; {said}")
+    let text = parts.text()?;
+    format!(in alloc; "{times} refused; {text}")
 }

@@ -4,7 +4,7 @@
 //! ADDRESS`, or `bios`. A question that names none is about the tables below the RSDT at 0x1000.
 //! Questions with ` then ` between them are asked of the same tables, one after the other.
 
-use crate::platforms::platform;
+use crate::platforms::{of_answer, platform};
 use crate::texts::{Parts, listed};
 use crate::{devices, heaps};
 use acpi::bgrt::Bgrt;
@@ -16,7 +16,7 @@ use acpi::sdt::{SdtHeader, Signature};
 use acpi::spcr::Spcr;
 use acpi::{AcpiHandler, AcpiResult, AcpiTable, AcpiTables, HpetInfo, PciConfigRegions};
 use acpi_lenders::answers::place_of;
-use acpi_lenders::rows::shown;
+use acpi_lenders::rows::{named, shown};
 use acpi_words::{parse_address, parse_revision};
 use std::alloc::{AllocError, Global};
 
@@ -26,41 +26,78 @@ pub(crate) fn answer<H: AcpiHandler>(
     handler: &H,
     question: &str,
 ) -> Result<String, AllocError> {
-    let (asked, root) = match question.split_once(" below ") {
-        Some(parts) => parts,
-        None => (question, "rsdt 0 0x1000"),
-    };
+    let (asked, root) = question
+        .split_once(" below ")
+        .unwrap_or((question, "rsdt 0 0x1000"));
     match open(handler, root) {
-        None => Ok(String::new(alloc)),
-        Some(Err(refusal)) => shown(alloc, &refusal),
-        Some(Ok(tables)) => {
-            let mut parts = Parts::new(alloc);
-            for asked in asked.split(" then ") {
-                parts.add_text(answer_of(alloc, &tables, asked));
-            }
-            parts.text()
-        }
+        Ok(tables) => answers_of(alloc, &tables, asked),
+        Err(refusal) => shown(alloc, &refusal),
     }
 }
 
 /// The tables below a root.
-fn open<'h, H: AcpiHandler>(handler: &'h H, root: &str) -> Option<AcpiResult<AcpiTables<'h, H>>> {
-    if root == "bios" {
-        return Some(AcpiTables::search_for_rsdp_bios(handler));
-    }
-    let (kind, place) = root.split_once(' ')?;
-    match (kind, place.split_once(' ')) {
-        ("rsdp", None) => {
-            let address = parse_address(place)?;
-            Some(AcpiTables::from_rsdp(handler, address))
+fn open<'h, H: AcpiHandler>(handler: &'h H, root: &str) -> AcpiResult<AcpiTables<'h, H>> {
+    let (kind, address) = root.rsplit_once(' ').unwrap_or((root, ""));
+    let address = parse_address(address).unwrap_or(0);
+    match kind {
+        "bios" => AcpiTables::search_for_rsdp_bios(handler),
+        "rsdp" => AcpiTables::from_rsdp(handler, address),
+        _ => {
+            let revision = kind.strip_prefix("rsdt ").unwrap_or("");
+            AcpiTables::from_rsdt(handler, parse_revision(revision).unwrap_or(0), address)
         }
-        ("rsdt", Some((revision, address))) => {
-            let (revision, address) = (parse_revision(revision)?, parse_address(address)?);
-            Some(AcpiTables::from_rsdt(handler, revision, address))
-        }
-        _ => None,
     }
 }
+
+/// The answers of the tables below a root to questions, one after the other.
+fn answers_of<H: AcpiHandler>(
+    alloc: Global,
+    tables: &AcpiTables<'_, H>,
+    questions: &str,
+) -> Result<String, AllocError> {
+    let mut parts = Parts::new(alloc);
+    for asked in questions.split(" then ") {
+        parts.add_text(match asked.split_once(" in ") {
+            Some((asked, heap)) => heaps::answer(alloc, tables, asked, heap),
+            None => answer_of(alloc, tables, asked),
+        });
+    }
+    parts.text()
+}
+
+/// A question of one word, or of two that say the same of any table.
+#[derive(Clone, Copy)]
+enum Question {
+    Revision,
+    Headers,
+    WholeHeaders,
+    Dsdt,
+    Ssdts,
+    Hpet,
+    HpetId,
+    Mailbox,
+    Regions,
+    Platform,
+    Model,
+    Ends,
+    AfterTheLast,
+}
+
+const QUESTIONS: [(&str, Question); 13] = [
+    ("revision", Question::Revision),
+    ("headers", Question::Headers),
+    ("whole headers", Question::WholeHeaders),
+    ("dsdt", Question::Dsdt),
+    ("ssdts", Question::Ssdts),
+    ("hpet", Question::Hpet),
+    ("hpet id", Question::HpetId),
+    ("mailbox", Question::Mailbox),
+    ("regions", Question::Regions),
+    ("platform", Question::Platform),
+    ("model", Question::Model),
+    ("ends", Question::Ends),
+    ("after the last", Question::AfterTheLast),
+];
 
 /// The answer of the tables below a root.
 fn answer_of<H: AcpiHandler>(
@@ -68,31 +105,39 @@ fn answer_of<H: AcpiHandler>(
     tables: &AcpiTables<'_, H>,
     asked: &str,
 ) -> Result<String, AllocError> {
-    if let Some((asked, heap)) = asked.split_once(" in ") {
-        return heaps::answer(alloc, tables, asked, heap);
+    let Some(question) = named(&QUESTIONS, asked) else {
+        return about(alloc, tables, asked);
+    };
+    match question {
+        Question::Revision => shown(alloc, &tables.revision()),
+        Question::Headers => listed(alloc, tables.headers().map(front_of)),
+        Question::WholeHeaders => listed(alloc, tables.headers()),
+        Question::Dsdt => shown(alloc, &tables.dsdt()),
+        Question::Ssdts => listed(alloc, tables.ssdts()),
+        Question::Hpet => shown(alloc, &HpetInfo::new(tables)),
+        Question::HpetId => devices::hpet_id(alloc, tables),
+        Question::Mailbox => devices::mailbox(alloc, tables),
+        Question::Regions => devices::regions(alloc, PciConfigRegions::new(alloc, tables)),
+        Question::Platform => platform(alloc, tables),
+        Question::Model => heaps::model(alloc, tables, alloc),
+        Question::Ends => ends(alloc, tables),
+        Question::AfterTheLast => after_the_last(alloc, tables),
     }
-    match asked {
-        "revision" => shown(alloc, &tables.revision()),
-        "headers" => listed(alloc, tables.headers().map(front_of)),
-        "whole headers" => listed(alloc, tables.headers()),
-        "dsdt" => shown(alloc, &tables.dsdt()),
-        "ssdts" => listed(alloc, tables.ssdts()),
-        "hpet" => shown(alloc, &HpetInfo::new(tables)),
-        "hpet id" => devices::hpet_id(alloc, tables),
-        "mailbox" => devices::mailbox(alloc, tables),
-        "regions" => devices::regions(alloc, PciConfigRegions::new(alloc, tables)),
-        "platform" => platform(alloc, tables),
-        "model" => heaps::model(alloc, tables, alloc),
-        "ends" => ends(alloc, tables),
-        "after the last" => after_the_last(alloc, tables),
-        _ => match asked.split_once(' ') {
+}
+
+/// What is asked about something with a name: a function, a processor, or types of table.
+fn about<H: AcpiHandler>(
+    alloc: Global,
+    tables: &AcpiTables<'_, H>,
+    asked: &str,
+) -> Result<String, AllocError> {
+    let (word, name) = asked.split_once(' ').unwrap_or((asked, ""));
+    match word {
+        "function" => devices::function(alloc, PciConfigRegions::new(alloc, tables), name),
+        "processor" => of_answer(alloc, tables.platform_info(alloc), asked),
+        _ => match named(&FACTS, word) {
+            Some(fact) => of_types(alloc, tables, fact, name),
             None => Ok(String::new(alloc)),
-            Some((asked, "each")) => of_each(alloc, tables, asked),
-            Some(("function", numbers)) => {
-                devices::function(alloc, PciConfigRegions::new(alloc, tables), numbers)
-            }
-            Some(("processor", index)) => devices::processor(alloc, tables, index),
-            Some((asked, name)) => of_name(alloc, tables, asked, name),
         },
     }
 }
@@ -110,15 +155,25 @@ fn front_of(header: SdtHeader) -> (Signature, u32, u8, u8) {
 /// How many entries the MADT has and how many the MCFG, the addresses of the DSDT and the FACS, and
 /// the name of the console: what stands last in its table.
 fn ends<H: AcpiHandler>(alloc: Global, tables: &AcpiTables<'_, H>) -> Result<String, AllocError> {
-    let (Ok(madt), Ok(mcfg)) = (tables.find_table::<Madt>(), tables.find_table::<Mcfg>()) else {
-        return Ok(String::new(alloc));
+    let entries = match tables.find_table::<Madt>() {
+        Ok(madt) => madt.entries().count(),
+        Err(refusal) => return shown(alloc, &refusal),
     };
-    let (Ok(fadt), Ok(spcr)) = (tables.find_table::<Fadt>(), tables.find_table::<Spcr>()) else {
-        return Ok(String::new(alloc));
+    let regions = match tables.find_table::<Mcfg>() {
+        Ok(mcfg) => mcfg.entries().count(),
+        Err(refusal) => return shown(alloc, &refusal),
     };
-    let counts = (madt.entries().count(), mcfg.entries().count());
-    let addresses = (fadt.dsdt_address(), fadt.facs_address());
-    shown(alloc, &(counts, addresses, spcr.namespace_string()))
+    let addresses = match tables.find_table::<Fadt>() {
+        Ok(fadt) => (fadt.dsdt_address(), fadt.facs_address()),
+        Err(refusal) => return shown(alloc, &refusal),
+    };
+    match tables.find_table::<Spcr>() {
+        Ok(spcr) => shown(
+            alloc,
+            &((entries, regions), addresses, spcr.namespace_string()),
+        ),
+        Err(refusal) => shown(alloc, &refusal),
+    }
 }
 
 /// How many headers there are and how many SSDTs, and what comes if one more of each is asked for.
@@ -131,54 +186,91 @@ fn after_the_last<H: AcpiHandler>(
     shown(alloc, &(counts, headers.next(), ssdts.next()))
 }
 
-/// What is asked of each of the six types of table.
-fn of_each<H: AcpiHandler>(
+/// A type of table.
+#[derive(Clone, Copy)]
+enum Type {
+    Fadt,
+    Madt,
+    Hpet,
+    Mcfg,
+    Bgrt,
+    Spcr,
+}
+
+const TYPES: [(&str, Type); 6] = [
+    ("FACP", Type::Fadt),
+    ("APIC", Type::Madt),
+    ("HPET", Type::Hpet),
+    ("MCFG", Type::Mcfg),
+    ("BGRT", Type::Bgrt),
+    ("SPCR", Type::Spcr),
+];
+
+/// What is asked of a type of table.
+#[derive(Clone, Copy)]
+enum Fact {
+    Place,
+    Faults,
+    Bytes,
+    Lent,
+}
+
+const FACTS: [(&str, Fact); 4] = [
+    ("place", Fact::Place),
+    ("faults", Fact::Faults),
+    ("bytes", Fact::Bytes),
+    ("lent", Fact::Lent),
+];
+
+/// What is asked of the type of table that bears a signature, or of `each` of the six.
+fn of_types<H: AcpiHandler>(
     alloc: Global,
     tables: &AcpiTables<'_, H>,
-    asked: &str,
+    fact: Fact,
+    name: &str,
 ) -> Result<String, AllocError> {
     let mut parts = Parts::new(alloc);
-    for name in ["FACP", "APIC", "HPET", "MCFG", "BGRT", "SPCR"] {
-        parts.add_text(of_name(alloc, tables, asked, name));
+    for (signature, of) in &TYPES {
+        if name == "each" || name == *signature {
+            parts.add_text(of_one(alloc, tables, fact, *of));
+        }
     }
     parts.text()
 }
 
-/// What is asked of the type of table that bears a signature.
-fn of_name<H: AcpiHandler>(
+/// What is asked of one type of table.
+fn of_one<H: AcpiHandler>(
     alloc: Global,
     tables: &AcpiTables<'_, H>,
-    asked: &str,
-    name: &str,
+    fact: Fact,
+    of: Type,
 ) -> Result<String, AllocError> {
-    match name {
-        "FACP" => of_type::<Fadt, H>(alloc, tables, asked),
-        "APIC" => of_type::<Madt, H>(alloc, tables, asked),
-        "HPET" => of_type::<HpetTable, H>(alloc, tables, asked),
-        "MCFG" => of_type::<Mcfg, H>(alloc, tables, asked),
-        "BGRT" => of_type::<Bgrt, H>(alloc, tables, asked),
-        "SPCR" => of_type::<Spcr, H>(alloc, tables, asked),
-        _ => Ok(String::new(alloc)),
+    match of {
+        Type::Fadt => of_type::<Fadt, H>(alloc, tables, fact),
+        Type::Madt => of_type::<Madt, H>(alloc, tables, fact),
+        Type::Hpet => of_type::<HpetTable, H>(alloc, tables, fact),
+        Type::Mcfg => of_type::<Mcfg, H>(alloc, tables, fact),
+        Type::Bgrt => of_type::<Bgrt, H>(alloc, tables, fact),
+        Type::Spcr => of_type::<Spcr, H>(alloc, tables, fact),
     }
 }
 
-/// What is asked of a type of table.
+/// What is asked of a type.
 fn of_type<T: AcpiTable, H: AcpiHandler>(
     alloc: Global,
     tables: &AcpiTables<'_, H>,
-    asked: &str,
+    fact: Fact,
 ) -> Result<String, AllocError> {
-    match asked {
-        "place" => shown(alloc, &place_of::<T, H>(tables)),
-        "faults" => listed(alloc, tables.faults::<T>()),
-        "bytes" => match tables.find_table::<T>() {
+    match fact {
+        Fact::Place => shown(alloc, &place_of::<T, H>(tables)),
+        Fact::Faults => listed(alloc, tables.faults::<T>()),
+        Fact::Bytes => match tables.find_table::<T>() {
             Ok(table) => hex::encode(alloc, table.bytes()),
             Err(refusal) => shown(alloc, &refusal),
         },
-        "lent" => shown(
+        Fact::Lent => shown(
             alloc,
             &tables.find_table::<T>().map(|it| it.mapped_length()),
         ),
-        _ => Ok(String::new(alloc)),
     }
 }

@@ -19,12 +19,32 @@ where
     shown(alloc, &list)
 }
 
+/// What says its parts.
+pub(crate) trait Says {
+    /// Adds the parts.
+    fn add_to(&self, parts: &mut Parts);
+}
+
+/// What an answer says, or the refusal.
+pub(crate) fn said<T: Says + Drop, E: Debug + Drop>(
+    alloc: Global,
+    answer: Result<T, E>,
+) -> Result<String, AllocError> {
+    let mut parts = Parts::new(alloc);
+    match answer {
+        Ok(value) => value.add_to(&mut parts),
+        Err(refusal) => parts.add_text(shown(alloc, &refusal)),
+    }
+    parts.text()
+}
+
 /// Parts with their names, of which those that are empty are left out. If memory for one is refused,
 /// it is the text that is refused.
 #[derive(Drop)]
 pub(crate) struct Parts {
     alloc: Global,
-    text: Result<String, AllocError>,
+    text: String,
+    is_refused: bool,
 }
 
 impl Parts {
@@ -32,22 +52,34 @@ impl Parts {
     pub(crate) fn new(alloc: Global) -> Parts {
         Parts {
             alloc,
-            text: Ok(String::new(alloc)),
+            text: String::new(alloc),
+            is_refused: false,
         }
     }
 
     /// Adds a text, or what it is refused with.
     pub(crate) fn add_text(&mut self, text: Result<String, AllocError>) {
-        self.text = match (&self.text, &text) {
-            (Ok(earlier), Ok(text)) if earlier.is_empty() => text.clone(),
-            (Ok(earlier), Ok(text)) => format!(in self.alloc; "{earlier}; {text}"),
-            _ => Err(AllocError),
-        };
+        match text {
+            Ok(text) => self.add_words(text.as_str()),
+            Err(_) => self.is_refused = true,
+        }
+    }
+
+    /// Adds a text that differs from all the text so far. So texts that are all the same stand once.
+    /// An empty one is seen too.
+    pub(crate) fn add_other(&mut self, text: Result<String, AllocError>) {
+        match text {
+            Ok(text) if text.is_empty() => self.add_words("nothing"),
+            Ok(text) if text.as_str() == self.text.as_str() => {}
+            text => self.add_text(text),
+        }
     }
 
     /// Adds a word or two.
     pub(crate) fn add_words(&mut self, words: &str) {
-        self.add_text(String::from_str(self.alloc, words));
+        let mark = if self.text.is_empty() { "" } else { "; " };
+        let is_added = write!(self.text, "{mark}{words}").is_ok();
+        self.is_refused |= !is_added;
     }
 
     /// Adds a part.
@@ -69,23 +101,10 @@ impl Parts {
 
     /// The text of all parts.
     pub(crate) fn text(self) -> Result<String, AllocError> {
-        self.text
-    }
-}
-
-/// The one text of all, or each that differs from the one before it.
-pub(crate) fn agreed<const N: usize>(
-    alloc: Global,
-    texts: [Result<String, AllocError>; N],
-) -> Result<String, AllocError> {
-    let mut all = Parts::new(alloc);
-    let mut last = String::new(alloc);
-    for text in Vec::from_array(alloc, texts)? {
-        let text = text?;
-        if text != last {
-            all.add_words(text.as_str());
+        if self.is_refused {
+            Err(AllocError)
+        } else {
+            Ok(self.text)
         }
-        last = text;
     }
-    all.text()
 }

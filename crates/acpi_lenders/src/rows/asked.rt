@@ -21,6 +21,16 @@ pub fn printed<T: Display>(alloc: Global, value: &T) -> Result<String, AllocErro
     format!(in alloc; "{value}")
 }
 
+/// The value of a name.
+pub fn named<T: Copy>(values: &[(&str, T)], name: &str) -> Option<T> {
+    for (other, value) in values {
+        if *other == name {
+            return Some(*value);
+        }
+    }
+    None
+}
+
 /// Asks the questions of the rows on standard input.
 ///
 /// Prints each question with another answer than the row has, each line that is not understood,

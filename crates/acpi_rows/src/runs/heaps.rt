@@ -1,6 +1,6 @@
 //! What is printed where memory is refused.
 
-use crate::answers::Answers;
+use super::Chosen;
 use acpi::{AcpiHandler, AcpiTables, ManagedSlice};
 use acpi_image::{ImageError, MemoryImage};
 use acpi_report::lines::{print_pci, print_platform};
@@ -12,10 +12,10 @@ use std::io::Write;
 
 /// Adds the lines of the platform and of the PCI regions over a heap that is full, and over one with
 /// ample memory, where the file has an RSDT at 0x1000.
-pub(crate) fn over_heaps(
+pub(super) fn over_heaps(
     alloc: Global,
     file: Option<&[u8]>,
-    answers: &mut Answers<'_>,
+    lines: &mut Chosen<'_>,
 ) -> io::Result<()> {
     let Ok(image) = MemoryImage::from_bytes(alloc, file.unwrap_or(&[])) else {
         return Ok(());
@@ -25,10 +25,10 @@ pub(crate) fn over_heaps(
     };
     let full = LocalHeap::new(alloc, 16)?;
     let taken = ManagedSlice::new_in(16, 0u8, &full).ok();
-    answers.add("full", &printed_over(alloc, &full, &tables)?)?;
+    lines.add("full", &printed_over(alloc, &full, &tables)?)?;
     drop(taken);
     let ample = LocalHeap::new(alloc, 65536)?;
-    answers.add("ample", &printed_over(alloc, &ample, &tables)?)
+    lines.add("ample", &printed_over(alloc, &ample, &tables)?)
 }
 
 /// The lines of the platform and of the PCI regions over a heap.
@@ -44,7 +44,7 @@ fn printed_over<H: AcpiHandler>(
 }
 
 /// The status that a run ends with where memory for the image is refused, and the line.
-pub(crate) fn without_memory(alloc: Global) -> io::Result<Vec<u8>> {
+pub(super) fn without_memory(alloc: Global) -> io::Result<Vec<u8>> {
     let mut text = Vec::new(alloc);
     let status = refuse(ImageError::OutOfMemory, &mut text)?;
     writeln!(text, "{status}")?;

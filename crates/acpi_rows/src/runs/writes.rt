@@ -1,6 +1,6 @@
 //! What is written at a time, and writes that are refused.
 
-use crate::refusing::{Refused, Refusing};
+use super::refusing::{Refused, Refusing};
 use acpi_report::run::run_gathered;
 use acpi_report::words::parse_command;
 use std::alloc::Global;
@@ -26,7 +26,7 @@ fn run_over(
 /// The status of a run where nothing is refused, and after how many writes of standard output and of
 /// standard error, where a run ends with status 1 if any one write is refused, or the flush of
 /// either output alone, and each output then has a front of what it has otherwise. Else `wrong`.
-pub(crate) fn refused_writes(
+pub(super) fn refused_writes(
     alloc: Global,
     words: &[&str],
     image: Option<&[u8]>,

@@ -1,0 +1,150 @@
+//! What the program prints, and what it does where a write or memory is refused.
+//!
+//! `ASKED|ASKED of run|WORD|WORD` asks for lines of a run with these words. The row's bytes are its
+//! file (`file`), or the table that its file is an image of (`written-REVISION`); the file of a row of
+//! the kind `unreadable` is not read.
+
+mod heaps;
+mod refusing;
+mod writes;
+
+use acpi_image::{PlacedTable, write_image};
+use acpi_lenders::rows::shown;
+use acpi_report::run::run;
+use acpi_report::words::{Command, files_named, parse_command};
+use heaps::{over_heaps, without_memory};
+use std::alloc::{AllocError, Global};
+use std::io::Write;
+use std::{io, str};
+use writes::refused_writes;
+
+/// What a run answers, as it is debugged.
+pub(crate) fn answer(
+    alloc: Global,
+    kind: &str,
+    bytes: &[u8],
+    question: &str,
+) -> Result<String, AllocError> {
+    match kind {
+        "file" => shown_run(alloc, Some(bytes), question),
+        "unreadable" => shown_run(alloc, None, question),
+        _ => match written(alloc, bytes, kind) {
+            Some(file) => shown_run(alloc, Some(&file), question),
+            None => Ok(String::new(alloc)),
+        },
+    }
+}
+
+/// The image that `write_image` makes of a table at 0x2000, with an RSDP of this revision at 0x500
+/// and a root table at 0x1000.
+fn written(alloc: Global, table: &[u8], kind: &str) -> Option<Vec<u8>> {
+    let placed = PlacedTable {
+        address: 0x2000,
+        bytes: table,
+    };
+    let revision = kind.strip_prefix("written-")?.parse::<u8>().ok()?;
+    write_image(alloc, 0x500, 0x1000, revision, &[placed]).ok()
+}
+
+/// The lines of a run with words, each of them after a `|`.
+fn shown_run(alloc: Global, file: Option<&[u8]>, question: &str) -> Result<String, AllocError> {
+    let (asks, words) = question.split_once(" of run").unwrap_or((question, ""));
+    let mut split = Vec::new(alloc);
+    for word in words.split('|').skip(1) {
+        split.push(word)?;
+    }
+    match lines(alloc, &split, file, asks) {
+        Ok(text) => shown(alloc, &text),
+        Err(_) => Err(AllocError),
+    }
+}
+
+/// The lines of an answer that are asked for. Each is of the parts that it begins with: `out bgrt`
+/// has `out bgrt: TableMissing BGRT`.
+#[derive(Drop)]
+struct Chosen<'a> {
+    asks: &'a str,
+    text: String,
+}
+
+impl Chosen<'_> {
+    /// Whether a line of this kind is asked for.
+    fn is_asked(&self, kind: &str, line: &str) -> bool {
+        for part in self.asks.split('|') {
+            let (asked, front) = part.split_once(' ').unwrap_or((part, ""));
+            if asked == kind && is_of(line, front) {
+                return true;
+            }
+        }
+        false
+    }
+
+    /// Adds each line of a text, where it is asked for.
+    fn add(&mut self, kind: &str, text: &[u8]) -> io::Result<()> {
+        let text = str::from_utf8(text).unwrap_or("no text");
+        for line in text.split_inclusive('\n') {
+            if self.is_asked(kind, line) {
+                write!(self.text, "{kind} {line}")?;
+            }
+        }
+        Ok(())
+    }
+}
+
+/// Whether a line is one of a part: it begins with the part's name, and a space or a colon. Each is
+/// of the part with no name.
+fn is_of(line: &str, part: &str) -> bool {
+    match line.strip_prefix(part) {
+        Some(rest) => part.is_empty() || rest.starts_with(' ') || rest.starts_with(':'),
+        None => false,
+    }
+}
+
+/// What is answered to words and a file: `status`, then what is asked for, of `out` and `err` what a
+/// run prints, `file` and `command` how the words are taken, `writes` (`refused_writes`), `full` and
+/// `ample` (`over_heaps`) and `memory` (`without_memory`).
+fn lines(alloc: Global, words: &[&str], image: Option<&[u8]>, asks: &str) -> io::Result<String> {
+    let mut out = Vec::new(alloc);
+    let mut err = Vec::new(alloc);
+    let status = run(alloc, words, image, &mut out, &mut err);
+    let text = format!(in alloc; "status {status}\n")?;
+    let mut lines = Chosen { asks, text };
+    lines.add("out", &out)?;
+    lines.add("err", &err)?;
+    lines.add("file", &taken_file(alloc, words)?)?;
+    lines.add("command", &taken_command(alloc, words)?)?;
+    // Each of these takes several runs, or heaps.
+    if asks.contains("writes") {
+        lines.add("writes", &refused_writes(alloc, words, image)?)?;
+    }
+    if asks.contains("full") {
+        over_heaps(alloc, image, &mut lines)?;
+    }
+    lines.add("memory", &without_memory(alloc)?)?;
+    Ok(lines.text)
+}
+
+/// The file that words name.
+fn taken_file(alloc: Global, words: &[&str]) -> io::Result<Vec<u8>> {
+    let file = match files_named(parse_command(words), words) {
+        [file, ..] => *file,
+        [] => "none",
+    };
+    let mut text = Vec::new(alloc);
+    writeln!(text, "{file}")?;
+    Ok(text)
+}
+
+/// The command that words give.
+fn taken_command(alloc: Global, words: &[&str]) -> io::Result<Vec<u8>> {
+    let mut text = Vec::new(alloc);
+    match parse_command(words) {
+        Some(Command::Rsdt { revision, address }) => {
+            writeln!(text, "rsdt {revision} 0x{address:x}")
+        }
+        Some(Command::Rsdp { address }) => writeln!(text, "rsdp 0x{address:x}"),
+        Some(Command::Bios) => writeln!(text, "bios"),
+        None => writeln!(text, "none"),
+    }?;
+    Ok(text)
+}
