@@ -52,16 +52,24 @@ fn is_set(rt: &HostRuntime, name: &str, mode: u32) -> bool {
     fs::set_permissions(rt, name, fs::Permissions::from_mode(mode)).is_ok()
 }
 
+/// Makes a folder with nothing in it, also after an earlier run.
+fn is_made(rt: &HostRuntime, name: &str) -> bool {
+    let _ = fs::remove_dir_all(rt, name);
+    fs::create_dir(rt, name).is_ok()
+}
+
 #[test]
 fn replaces_a_file(rt: HostRuntime) {
+    check(&rt, "a folder", is_made(&rt, "replaced"), true);
     for (name, is_right) in [
-        ("first", is_saved(&rt, "made", b"an older one")),
-        ("for its owner", has_mode(&rt, "made", 0o600)),
-        ("for others too", is_set(&rt, "made", 0o644)),
-        ("second", is_saved(&rt, "made", b"one")),
-        ("read", is_read(&rt, "made", b"one")),
-        ("the mode kept", has_mode(&rt, "made", 0o644)),
-        ("nothing beside it", is_missing(&rt, "made.part")),
+        ("first", is_saved(&rt, "replaced/made", b"an older one")),
+        ("for its owner", has_mode(&rt, "replaced/made", 0o600)),
+        ("for others too", is_set(&rt, "replaced/made", 0o644)),
+        ("second", is_saved(&rt, "replaced/made", b"one")),
+        ("read", is_read(&rt, "replaced/made", b"one")),
+        ("the mode kept", has_mode(&rt, "replaced/made", 0o644)),
+        ("nothing beside it", is_missing(&rt, "replaced/made.part")),
+        ("removed", fs::remove_dir_all(&rt, "replaced").is_ok()),
     ] {
         check(&rt, name, is_right, true);
     }
@@ -70,26 +78,31 @@ fn replaces_a_file(rt: HostRuntime) {
 /// Makes a folder, files, links to one of them and to nothing, and a file beside one that is to be
 /// made.
 fn is_prepared(rt: &HostRuntime) -> bool {
-    fs::create_dir(rt, "folder").is_ok()
-        && fs::write(rt, "old", b"an old one").is_ok()
-        && fs::write(rt, "other", b"another").is_ok()
-        && symlink(rt, "old", "link").is_ok()
-        && symlink(rt, "nothing", "loose").is_ok()
-        && fs::write(rt, "kept.part", b"of another").is_ok()
+    is_made(rt, "refused")
+        && fs::create_dir(rt, "refused/folder").is_ok()
+        && fs::write(rt, "refused/old", b"an old one").is_ok()
+        && fs::write(rt, "refused/other", b"another").is_ok()
+        && symlink(rt, "old", "refused/link").is_ok()
+        && symlink(rt, "nothing", "refused/loose").is_ok()
+        && fs::write(rt, "refused/kept.part", b"of another").is_ok()
 }
 
 /// What is not saved: its name, the files that it is made of, and why.
 static REFUSED: [(&str, &[&str], SaveError); 12] = [
-    ("folder", &[], SaveError::NotAFile),
-    ("link", &["link"], SaveError::NotAFile),
-    ("loose", &[], SaveError::NotAFile),
-    ("old", &["other", "old"], SaveError::SameFile),
-    ("old", &["./old"], SaveError::SameFile),
-    ("old", &["link"], SaveError::SameFile),
-    ("kept", &["kept"], SaveError::SameFile),
-    ("kept", &["old"], SaveError::PartExists),
-    ("missing/new", &[], SaveError::Unwritable),
-    ("old/new", &[], SaveError::Unwritable),
+    ("refused/folder", &[], SaveError::NotAFile),
+    ("refused/link", &["refused/link"], SaveError::NotAFile),
+    ("refused/loose", &[], SaveError::NotAFile),
+    (
+        "refused/old",
+        &["refused/other", "refused/old"],
+        SaveError::SameFile,
+    ),
+    ("refused/old", &["./refused/old"], SaveError::SameFile),
+    ("refused/old", &["refused/link"], SaveError::SameFile),
+    ("refused/kept", &["refused/kept"], SaveError::SameFile),
+    ("refused/kept", &["refused/old"], SaveError::PartExists),
+    ("refused/missing/new", &[], SaveError::Unwritable),
+    ("refused/old/new", &[], SaveError::Unwritable),
     ("a name\0b", &[], SaveError::Unwritable),
     // only the renaming is refused
     ("", &[], SaveError::Unwritable),
@@ -107,19 +120,23 @@ fn leaves_all_as_it_was_where_it_refuses(rt: HostRuntime) {
         );
     }
     for (name, is_right) in [
-        ("the file", is_read(&rt, "old", b"an old one")),
-        ("nothing beside it", is_missing(&rt, "old.part")),
-        ("the link", is_link(&rt, "link")),
-        ("the loose link", is_link(&rt, "loose")),
-        ("what it leads to", is_missing(&rt, "nothing")),
-        ("nothing beside the folder", is_missing(&rt, "folder.part")),
+        ("the file", is_read(&rt, "refused/old", b"an old one")),
+        ("nothing beside it", is_missing(&rt, "refused/old.part")),
+        ("the link", is_link(&rt, "refused/link")),
+        ("the loose link", is_link(&rt, "refused/loose")),
+        ("what it leads to", is_missing(&rt, "refused/nothing")),
+        (
+            "nothing beside the folder",
+            is_missing(&rt, "refused/folder.part"),
+        ),
         ("nothing beside no name", is_missing(&rt, ".part")),
-        ("nothing made", is_missing(&rt, "kept")),
+        ("nothing made", is_missing(&rt, "refused/kept")),
         (
             "the file beside it",
-            is_read(&rt, "kept.part", b"of another"),
+            is_read(&rt, "refused/kept.part", b"of another"),
         ),
-        ("beside others", is_saved(&rt, "other", b"one")),
+        ("beside others", is_saved(&rt, "refused/other", b"one")),
+        ("removed", fs::remove_dir_all(&rt, "refused").is_ok()),
     ] {
         check(&rt, name, is_right, true);
     }
