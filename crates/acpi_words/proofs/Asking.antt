@@ -3,7 +3,7 @@ use Rattle.std.proofs.Common.{Bor, ◌-◌, take, ◌+◌, ◌<◌, ◌≤◌, d
 use Rattle.std.specs.Prelude.{Option, option_map, string_bytes}
 use Rattle.std.proofs.Math.ListN.{drop_of_length-le}
 use Rattle.std.proofs.lemmas.List.{drop-map, drop_more, take_rest, append_assoc, append-nil, map-append}
-use Rattle.acpi_words.specs.Reads.{Asks, AsksFront, AsksUntil, FileRead, names_of, read_of}
+use Rattle.acpi_words.specs.Reads.{Asks, AsksUntil, FileRead, read_of}
 use Rattle.acpi_words.specs.declared.files.Reading.{Reading}
 
 -- at first none was asked for
