@@ -65,7 +65,7 @@ fn answers_of<H: AcpiHandler>(
     parts.text()
 }
 
-/// A question of one word, or of two that say the same of any table.
+/// A question that names no table, function or processor.
 #[derive(Clone, Copy)]
 enum Question {
     Revision,
