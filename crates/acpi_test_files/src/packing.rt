@@ -67,7 +67,8 @@ fn outcome_of(alloc: Global, row: &Row, err: &mut Vec<u8>) -> io::Result<Outcome
 /// Checks what a run comes to.
 fn check_outcome(rt: &impl Abort, alloc: Global, row: &Row, outcome: &io::Result<Outcome>) {
     match (outcome, row.answer) {
-        (Ok(Outcome::NoCommand), Answer::NoCommand) | (Ok(Outcome::Refused(_)), Answer::Refused) => {}
+        (Ok(Outcome::NoCommand), Answer::NoCommand) | (Ok(Outcome::Refused(_)), Answer::Refused) =>
+            {}
         (Ok(Outcome::Image(image)), Answer::Image(length, parts)) => {
             check_bytes(rt, row.name, image, length, parts);
         }
