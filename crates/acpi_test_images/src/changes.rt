@@ -97,7 +97,13 @@ fn changed_answer(
     for number in 0..changes.most() {
         if let Some(change) = changes.get(number) {
             let file = changed_file(alloc, regions, changes.address, change)?;
-            parts.add_other(answer_over(alloc, &file, regions, asked));
+            let text = answer_over(alloc, &file, regions, asked)?;
+            // A memory that answers nothing would leave no text to differ from.
+            if text.is_empty() {
+                parts.add_words("nothing");
+            } else {
+                parts.add_other(Ok(text));
+            }
             count = count.wrapping_add(1);
         }
     }

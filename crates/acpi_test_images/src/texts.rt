@@ -66,10 +66,8 @@ impl Parts {
     }
 
     /// Adds a text that differs from all the text so far. So texts that are all the same stand once.
-    /// An empty one is seen too.
     pub(crate) fn add_other(&mut self, text: Result<String, AllocError>) {
         match text {
-            Ok(text) if text.is_empty() => self.add_words("nothing"),
             Ok(text) if text.as_str() == self.text.as_str() => {}
             text => self.add_text(text),
         }
