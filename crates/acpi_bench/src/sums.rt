@@ -33,7 +33,7 @@ pub(crate) fn time_sums(
     time_sums_of(stopwatch, handler, &bytes)
 }
 
-/// The same of these bytes.
+/// Times both sums of so many of these bytes each.
 fn time_sums_of(
     stopwatch: &mut Stopwatch<'_>,
     handler: &Counted<'_, '_>,

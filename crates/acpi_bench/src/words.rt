@@ -47,7 +47,7 @@ pub(crate) fn order_of<'w>(words: &[&'w str]) -> Option<Order<'w>> {
     })
 }
 
-/// What leads to the tables, and the words behind it.
+/// What leads to the tables, and the arguments after it.
 fn root_of<'a, 'w>(words: &'a [&'w str]) -> Option<(Root, &'a [&'w str])> {
     match words {
         ["rsdt", revision, address, rest @ ..] => {

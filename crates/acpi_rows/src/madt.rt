@@ -86,7 +86,7 @@ fn interrupts(
     }
 }
 
-/// The same of a model.
+/// The overrides, the NMI sources and the NMI lines of a model.
 fn interrupts_of(alloc: Global, model: &InterruptModel<Global>) -> Result<String, AllocError> {
     match model {
         InterruptModel::Unknown => String::from_str(alloc, "Unknown"),

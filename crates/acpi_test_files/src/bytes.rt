@@ -31,7 +31,7 @@ impl Room {
         }
     }
 
-    /// Puts bytes behind those that are there.
+    /// Puts bytes after those that are there.
     pub(crate) fn push(&mut self, bytes: &[u8]) {
         self.put_at(self.length, bytes);
         self.length = self.length.wrapping_add(bytes.len());

@@ -15,7 +15,7 @@ struct Row {
     said: &'static str,
 }
 
-/// A FACS with nothing behind its header.
+/// A FACS with nothing after its header.
 const FACS: Bytes = Bytes {
     length: 36,
     parts: &[(0, b"FACS\x24")],

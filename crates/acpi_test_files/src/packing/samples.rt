@@ -14,7 +14,7 @@ pub(crate) const BGRT: Bytes = Bytes {
     parts: &[(0, b"BGRT\x38\0\0\0\0\x93"), (36, &[1, 0, 5])],
 };
 
-/// A DSDT with nothing behind its header.
+/// A DSDT with nothing after its header.
 pub(crate) const DSDT: Bytes = Bytes {
     length: 36,
     parts: &[(0, b"DSDT\x24\0\0\0\0\xad")],
@@ -26,7 +26,7 @@ pub(crate) const LONG_DSDT: Bytes = Bytes {
     parts: &[(0, b"DSDT\0\x01")],
 };
 
-/// An SSDT with nothing behind its header.
+/// An SSDT with nothing after its header.
 pub(crate) const SSDT: Bytes = Bytes {
     length: 36,
     parts: &[(0, b"SSDT\x24\0\0\0\0\x9e")],
