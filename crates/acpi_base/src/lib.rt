@@ -24,7 +24,7 @@ mod sum;
 pub mod table;
 
 pub use error::{AcpiError, AcpiResult, MadtError};
-pub use handler::{AcpiHandler, PhysicalRecord};
+pub use handler::{AcpiHandler, Lender, PhysicalRecord};
 pub use mapping::PhysicalMapping;
 pub use signature::Signature;
 pub use table::AcpiTable;
