@@ -20,7 +20,7 @@ mod tables;
 
 pub use acpi_base::managed_slice::ManagedSlice;
 pub use acpi_base::{
-    AcpiError, AcpiHandler, AcpiResult, AcpiTable, MadtError, PhysicalMapping, PhysicalRecord,
+    AcpiError, AcpiHandler, AcpiResult, AcpiTable, Lender, MadtError, PhysicalMapping, PhysicalRecord,
     address, madt, sdt, spcr,
 };
 pub use acpi_fixed::fadt::PowerProfile;
