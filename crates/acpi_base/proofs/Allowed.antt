@@ -1,12 +1,14 @@
 -- Each of some ranges may be asked for: so may each part of them.
-use Rattle.std.proofs.Common.{◌≡◌, ℕ, List, [], ◌∷◌, ◌++◌, Bool, true, Ok, ap, sym}
+use Rattle.std.proofs.Common.{◌≡◌, ℕ, ◌==◌, ◌&&◌, List, [], ◌∷◌, ◌++◌, get_or, Bool, true, Ok, ap, refl, sym}
+use Rattle.std.proofs.lemmas.Bool.{eq-eqb}
+use Rattle.std.proofs.lemmas.List.Folds.{list_any_at}
 use Rattle.std.proofs.lemmas.List.Elements.{All-cons, All-head, All-nil, All-tail}
 use Rattle.acpi_base.specs.Bytes.{part}
 use Rattle.acpi_base.specs.Text.{letters_of}
 use Rattle.acpi_base.specs.declared.signature.Signature.{Signature}
 use Rattle.acpi_base.specs.Header.{header_at}
 use Rattle.acpi_base.specs.Memory.{Memory}
-use Rattle.acpi_base.specs.Ranges.{Allows, Ranges, own_table_ranges, table_ranges, whole_ranges}
+use Rattle.acpi_base.specs.Ranges.{Allows, Ranges, is_listed, own_table_ranges, table_ranges, whole_ranges}
 use Rattle.acpi_base.specs.Steps.{lent}
 use Rattle.acpi_base.specs.Table.{Kind, length_in}
 
@@ -16,6 +18,14 @@ the_signature letters = record { 0 = letters }
 own_signature : (s : Signature) (head : List ℕ) → letters_of s ≡ part head 0 4 → (header_at head).signature ≡ s
 unfolding header_at
 own_signature s head letters = ap the_signature (sym letters)
+
+same_range : (r : ℕ × ℕ) → (r.0 == r.0 && r.1 == r.1) ≡ true
+same_range r = rw (eq-eqb r.0 r.0 refl, eq-eqb r.1 r.1 refl) refl
+
+-- what is listed may be asked for
+pub allows_listed : (xs : Ranges) → Allows (is_listed xs) xs
+allows_listed xs = λ k d lt.
+    list_any_at (λ r. r.0 == (get_or xs k d).0 && r.1 == (get_or xs k d).1) xs k d lt (same_range (get_or xs k d))
 
 module _ (may : ℕ → ℕ → Bool) where
   abbrev may_at : ℕ × ℕ → Type 0

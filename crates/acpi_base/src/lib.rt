@@ -10,6 +10,7 @@ mod claim;
 pub mod entries;
 pub mod error;
 pub mod extended;
+pub mod guarded;
 pub mod handler;
 pub mod laws;
 pub mod madt;
@@ -24,6 +25,7 @@ mod sum;
 pub mod table;
 
 pub use error::{AcpiError, AcpiResult, MadtError};
+pub use guarded::Guarded;
 pub use handler::{AcpiHandler, Lender, PhysicalRecord};
 pub use mapping::PhysicalMapping;
 pub use signature::Signature;
