@@ -1,6 +1,7 @@
 -- What may be asked for below a root table: each part of the ranges of a definition.
-use Rattle.std.proofs.Common.{◌≡◌, ℕ, zero, suc, ◌+◌, ◌-◌, ◌*◌, ◌<◌, List, [], ◌∷◌, ◌++◌, Bool, true, false, subst, Option, Some, None, Result, Ok, Err, arith}
+use Rattle.std.proofs.Common.{refl, ap, sym, drop, slice_get, ◌≡◌, ℕ, zero, suc, ◌+◌, ◌-◌, ◌*◌, ◌<◌, List, [], ◌∷◌, ◌++◌, Bool, true, false, subst, Option, Some, None, Result, Ok, Err, arith}
 use Rattle.std.specs.Prelude.{MatchOption, flat_map, is_ok}
+use Rattle.std.proofs.lemmas.Option.{get_or_from_slice_get}
 use Rattle.acpi_base.proofs.Allowed.{all_back, all_front, all_here, all_rest}
 use Rattle.acpi_base.specs.declared.error.AcpiError.{AcpiError}
 use Rattle.acpi_base.specs.declared.signature.TheConstants.Signature.{DSDT}
@@ -11,13 +12,27 @@ use Rattle.acpi_base.specs.Steps.{Gives, lent}
 use Rattle.acpi_base.specs.Table.{Kind, plain_kind, table_at}
 use Rattle.acpi_fixed.specs.Fadt.{dsdt_address_of, fadt_at}
 use Rattle.acpi.specs.Footprint.{dsdt_ranges, lookup_ranges, platform_ranges}
-use Rattle.acpi.specs.Lists.{fadt_kind}
+use Rattle.acpi.specs.Lists.{fadt_kind, faults_of, unless_valid}
 use Rattle.acpi.specs.Lookup.{lookup}
 use Rattle.acpi.specs.OpenedRanges.{area_ranges, opened_by_rsdp_ranges, opened_by_search_ranges, opened_ranges, rsdp_ranges, search_ranges, walk_ranges}
 use Rattle.acpi.specs.Platform.{madt_kind}
 use Rattle.acpi.specs.Rsdp.{length_of, root_of_rsdp, rsdp_at}
 use Rattle.acpi.specs.Search.{count_of, first_area, found_in, found_rsdp, room_of, second_area, word_in}
 use Rattle.acpi.specs.declared.rsdp.area.Area.{Area}
+
+-- the pointer that is seen first, and those after it
+pub peeked : (all : List ℕ) (p : ℕ) → Some p ≡ slice_get all 0 → all ≡ p ∷ drop 1 all
+peeked [] p is = cc
+peeked (x ∷ all) p is = ap (λ y. y ∷ all) (get_or_from_slice_get (x ∷ all) 0 p 0 (sym is))
+
+-- its faults come first
+pub faults_peeked : (m : Memory) (k : Kind) (p : ℕ) (all left : List ℕ) → Some p ≡ slice_get all 0 → left ≡ drop 1 all
+    → faults_of m k all ≡ unless_valid p (table_at m k p) (faults_of m k left)
+faults_peeked m k p all left is moved = rw moved (ap (faults_of m k) (peeked all p is))
+
+pub no_faults : (m : Memory) (k : Kind) (all : List ℕ) → None ≡ slice_get all 0 → faults_of m k all ≡ []
+no_faults m k [] is = refl
+no_faults m k (x ∷ all) is = cc
 
 module _ (may : ℕ → ℕ → Bool) where
   -- what lies behind a step that passes
@@ -39,6 +54,16 @@ module _ (may : ℕ → ℕ → Bool) where
       → (lookup m k ps ≡ top) × Allows may (lookup_ranges m k ps)
   later_kept m k p all ps top (Ok x) view failed said is h = cc
   later_kept m k p all ps top (Err e) view failed said is h = (rw (is, said) at h.0, asked_later m k p all ps e is h.1 said)
+
+  -- ---- faults
+
+  pub asked_peeked : (m : Memory) (k : Kind) (p : ℕ) (all : List ℕ) → Some p ≡ slice_get all 0 → Allows may (lookup_ranges m k all)
+      → Allows may (table_ranges m k p)
+  asked_peeked m k p all is h = asked_member m k p all (drop 1 all) (peeked all p is) h
+
+  pub asked_passed : (m : Memory) (k : Kind) (p : ℕ) (all left : List ℕ) (e : AcpiError) → Some p ≡ slice_get all 0 → left ≡ drop 1 all
+      → table_at m k p ≡ Err e → Allows may (lookup_ranges m k all) → Allows may (lookup_ranges m k left)
+  asked_passed m k p all left e is moved refused h = rw moved (asked_later m k p all (drop 1 all) e (peeked all p is) h refused)
 
   -- ---- lists
 

@@ -27,10 +27,6 @@ lookup_ranges m k [] = []
 lookup_ranges m k (p ∷ ps) =
     table_ranges m k p ++ unless_found (table_at m k p) (lookup_ranges m k ps)
 
--- each member's, whether or not one before it is valid
-abbrev pub member_ranges : Memory → Kind → List ℕ → Ranges
-member_ranges m k ps = flat_map (table_ranges m k) ps
-
 -- those of `valid_headers` and of `valid_tables`: each member's, under its own signature
 abbrev pub header_ranges : Memory → List ℕ → Ranges
 header_ranges m ps = flat_map (own_table_ranges m) ps

@@ -2,7 +2,7 @@
 ghost use Rattle.std.proofs.Props.{props};
 ghost use Rattle.acpi_base.specs.Ranges.{Allows};
 ghost use Rattle.acpi_base.specs.Table.{kind};
-ghost use Rattle.acpi.specs.Footprint.{member_ranges};
+ghost use Rattle.acpi.specs.Footprint.{lookup_ranges};
 ghost use Rattle.acpi.specs.Pointers.{pointers_left};
 
 use crate::pointers::Pointers;
@@ -19,7 +19,7 @@ pub struct TableFaults<'t, 'h, H: Lender, T: AcpiTable> {
     handler: &'h H,
     pointers: Pointers<'t>,
     sought: PhantomData<T>,
-    ghost asked: { Allows (H.may handler.now) (member_ranges (H.memory handler.now)
+    ghost asked: { Allows (H.may handler.now) (lookup_ranges (H.memory handler.now)
         (kind T.SIGNATURE T.MIN_LENGTH T.verdict) (pointers_left pointers)) } by { Prim.hlevel props },
 }
 
@@ -29,7 +29,7 @@ impl<'t, 'h, H: Lender, T: AcpiTable> TableFaults<'t, 'h, H, T> {
     ghost use Rattle.acpi.specs.Walks.{faults_left};
 
     pub(crate) fn new(handler: &'h H, pointers: Pointers<'t>) -> Self
-        requires { Allows (H.may handler.now) (member_ranges (H.memory handler.now)
+        requires { Allows (H.may handler.now) (lookup_ranges (H.memory handler.now)
             (kind T.SIGNATURE T.MIN_LENGTH T.verdict) (pointers_left pointers)) }
         ensures { let k = kind T.SIGNATURE T.MIN_LENGTH T.verdict in
             faults_left H.memory k result
@@ -56,11 +56,19 @@ impl<H: Lender, T: AcpiTable> Iterator for TableFaults<'_, '_, H, T> {
         item_count (faults_left H.memory k) };
 
     fn next(&mut self) -> Option<TableFault> {
-        while let Some(address) = self.pointers.next() {
+        // A pointer is passed only once its table is looked at: of those after a valid one, none may
+        // be asked for.
+        while let Some(address) = self.pointers.peek() {
             match map_table::<H, T>(self.handler, address) {
-                Ok(_) => self.pointers.end(),
-                Err(AcpiError::SdtInvalidSignature(_)) => {}
-                Err(error) => return Some(TableFault { address, error }),
+                Ok(_) => {
+                    self.pointers.end();
+                    return None;
+                }
+                Err(AcpiError::SdtInvalidSignature(_)) => self.pointers.pass(),
+                Err(error) => {
+                    self.pointers.pass();
+                    return Some(TableFault { address, error });
+                }
             }
         }
         None

@@ -78,7 +78,7 @@ impl<A: Allocator + Clone> PlatformInfo<A> {
     }
 
     /// `new_in`, by the exact clause from which its laws follow.
-    #[tactic(auto, using(crate::proofs::Asked::asked_profile, crate::proofs::Asked::asked_model, crate::proofs::Brief::profile_of_brief, crate::proofs::Brief::timer_in_brief))]
+    #[tactic(auto, using(crate::proofs::Brief::profile_of_brief, crate::proofs::Brief::timer_in_brief))]
     fn found<H: Lender>(tables: &AcpiTables<'_, H>, allocator: A) -> AcpiResult<Self>
         requires { AllowsBelow tables.now platform_ranges }
         ensures { GivesOrFull (PlatformAsks (memory_of tables.now) (pointers_of tables.now)) result

@@ -40,7 +40,7 @@ impl<'h, H: Lender> AcpiTables<'h, H> {
     ghost use Rattle.acpi_base.specs.declared.error.AcpiError.TheVariants.{TableMissing};
     ghost use Rattle.acpi_base.specs.declared.signature.TheConstants.Signature.{DSDT};
     ghost use Rattle.acpi.specs.Footprint.{AllowsBelow, FootprintBelow, dsdt_ranges, header_ranges};
-    ghost use Rattle.acpi.specs.Footprint.{lookup_ranges, member_ranges, platform_ranges, ssdt_ranges};
+    ghost use Rattle.acpi.specs.Footprint.{lookup_ranges, platform_ranges, ssdt_ranges};
     ghost use Rattle.acpi.specs.Lists.{dsdt_stream, stream_at};
     ghost use Rattle.acpi.specs.Lists.{faults_of, ssdt_streams, valid_headers};
     ghost use Rattle.acpi.specs.Lookup.{IsFirstValid, NoneValid, lookup};
@@ -188,7 +188,7 @@ impl<'h, H: Lender> AcpiTables<'h, H> {
     }
 
     /// `dsdt`, by the exact clause from which its footprint follows.
-    #[tactic(auto, using(crate::proofs::Asked::asked_fadt, crate::proofs::Asked::asked_dsdt, crate::proofs::Brief::dsdt_of_brief))]
+    #[tactic(auto, using(crate::proofs::Brief::dsdt_of_brief))]
     fn find_dsdt(&self) -> AcpiResult<AmlTable>
         requires { AllowsBelow self.now dsdt_ranges }
         ensures { result ≡ dsdt_stream (memory_of self.now) (pointers_of self.now) }
@@ -216,7 +216,7 @@ impl<'h, H: Lender> AcpiTables<'h, H> {
     /// `SdtInvalidSignature`, in order. It gives at most one for each pointer.
     pub fn faults<T: AcpiTable>(&self) -> TableFaults<'_, 'h, H, T>
         requires { let k = kind T.SIGNATURE T.MIN_LENGTH T.verdict in
-            AllowsBelow self.now (λ m. member_ranges m k) }
+            AllowsBelow self.now (λ m. lookup_ranges m k) }
         ensures items { let k = kind T.SIGNATURE T.MIN_LENGTH T.verdict in
             faults_left H.memory k result
             ≡ faults_of (memory_of self.now) k (pointers_of self.now) }

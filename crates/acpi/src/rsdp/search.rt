@@ -88,7 +88,7 @@ fn area_word<H: Lender>(handler: &H) -> AcpiResult<u16>
 }
 
 /// The search, step by step.
-#[tactic(auto, using(crate::proofs::Asked::asked_word, crate::proofs::Asked::asked_first_area, crate::proofs::Asked::asked_second_area), unfolding(crate::specs::Search::found_rsdp))]
+#[tactic(auto, using(crate::proofs::Asked::asked_word), unfolding(crate::specs::Search::found_rsdp))]
 fn search_areas<'h, H: Lender>(handler: &'h H) -> AcpiResult<PhysicalMapping<'h, H, Rsdp>>
     requires { Allows (H.may handler.now) (search_ranges (H.memory handler.now)) }
     ensures handler { IfOk result (λ m. handler_of m ≡ handler.now) }

@@ -63,7 +63,6 @@ impl<'h, H: Lender> AcpiTables<'h, H> {
     }
 
     /// `from_rsdp`, by the exact clauses from which its footprint follows.
-    #[tactic(auto, using(crate::proofs::Asked::asked_first, crate::proofs::Asked::asked_root))]
     fn open_by_rsdp(handler: &'h H, address: u64) -> AcpiResult<Self>
         requires { Allows (H.may handler.now) (opened_by_rsdp_ranges (H.memory handler.now) address) }
         ensures handler { IfOk result (λ t. lender_of t ≡ handler.now) }
@@ -95,7 +94,6 @@ impl<'h, H: Lender> AcpiTables<'h, H> {
     }
 
     /// `search_for_rsdp_bios`, by the exact clauses from which its footprint follows.
-    #[tactic(auto, using(crate::proofs::Asked::asked_search, crate::proofs::Asked::asked_found))]
     fn open_by_search(handler: &'h H) -> AcpiResult<Self>
         requires { Allows (H.may handler.now) (opened_by_search_ranges (H.memory handler.now)) }
         ensures handler { IfOk result (λ t. lender_of t ≡ handler.now) }
@@ -132,7 +130,7 @@ impl<'h, H: Lender> AcpiTables<'h, H> {
     }
 
     /// `from_validated_rsdp`, by the exact clauses from which its footprint follows.
-    #[tactic(auto, using(crate::proofs::Asked::asked_root, crate::proofs::Led::valid_lent))]
+    #[tactic(auto, using(crate::proofs::Led::valid_lent))]
     fn open_validated(handler: &'h H, mapping: PhysicalMapping<'h, H, Rsdp>) -> AcpiResult<Self>
         requires valid { IsOk (rsdp_at (H.memory handler.now) (start_of mapping)) }
         requires asked { Allows (H.may handler.now)
