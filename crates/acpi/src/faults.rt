@@ -8,7 +8,7 @@ ghost use Rattle.acpi.specs.Pointers.{pointers_left};
 use crate::pointers::Pointers;
 use crate::records::TableFault;
 use acpi_base::sdt::map_table;
-use acpi_base::{AcpiError, Lender, AcpiTable};
+use acpi_base::{AcpiError, AcpiTable, Lender};
 use std::marker::PhantomData;
 
 /// The faults of the listed tables that a lookup of `T` passes over: of each one before the first

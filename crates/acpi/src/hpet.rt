@@ -6,7 +6,7 @@ ghost use Rattle.acpi.specs.Hpet.{protection_of};
 use crate::tables::AcpiTables;
 use acpi_base::bytes::{bits, field, has_bit};
 use acpi_base::sdt::SdtHeader;
-use acpi_base::{AcpiError, Lender, AcpiResult, AcpiTable, PhysicalRecord, Signature};
+use acpi_base::{AcpiError, AcpiResult, AcpiTable, Lender, PhysicalRecord, Signature};
 
 /// The HPET, whose signature section 5.2.6 reserves and whose layout is the IA-PC HPET
 /// Specification's. `HpetInfo` shows what it says.

@@ -7,7 +7,7 @@ ghost use Rattle.acpi_base.specs.declared.mcfg.McfgEntry.{McfgEntry};
 use crate::tables::AcpiTables;
 use acpi_base::managed_slice::ManagedSlice;
 pub use acpi_base::mcfg::{Mcfg, McfgEntry, McfgEntryIter};
-use acpi_base::{Lender, AcpiResult};
+use acpi_base::{AcpiResult, Lender};
 use std::alloc::{AllocError, Allocator, Global};
 use std::marker::Model;
 use std::ops::RangeInclusive;

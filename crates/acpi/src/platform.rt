@@ -14,7 +14,7 @@ mod wakeup;
 use crate::tables::AcpiTables;
 use acpi_base::madt::Madt;
 pub use acpi_base::model::{ModelAndProcessors, Processor, ProcessorInfo, ProcessorState};
-use acpi_base::{Lender, AcpiResult};
+use acpi_base::{AcpiResult, Lender};
 use acpi_fixed::fadt::{FadtBrief, PowerProfile};
 use interrupt::InterruptModel;
 pub use mailbox::{Mailbox, MailboxCall, MailboxWrite};

@@ -13,7 +13,7 @@ mod span;
 use self::span::Span;
 use crate::root::{RootKind, RootPlace};
 use acpi_base::bytes::{byte_sum, field, text_of};
-use acpi_base::{AcpiError, Lender, AcpiResult, PhysicalMapping, PhysicalRecord};
+use acpi_base::{AcpiError, AcpiResult, Lender, PhysicalMapping, PhysicalRecord};
 
 /// The RSDP's 36 bytes (section 5.2.5.3). Revision 0 has only the first 20 of them: the fields
 /// behind mean nothing there.

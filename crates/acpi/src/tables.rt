@@ -16,7 +16,7 @@ use crate::root::RootKind;
 use crate::ssdts::SsdtIterator;
 use acpi_base::bytes::skip;
 use acpi_base::sdt::{SdtHeader, map_sdt, map_table};
-use acpi_base::{AcpiError, Lender, AcpiResult, AcpiTable, PhysicalMapping, Signature};
+use acpi_base::{AcpiError, AcpiResult, AcpiTable, Lender, PhysicalMapping, Signature};
 use acpi_fixed::fadt::FadtBrief;
 use std::alloc::{Allocator, Global};
 

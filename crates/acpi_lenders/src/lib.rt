@@ -5,6 +5,7 @@
 pub mod answers;
 pub mod caller;
 pub mod example;
+pub mod guarded;
 pub mod handlers;
 pub mod history;
 pub mod rows;

@@ -13,7 +13,7 @@ ghost use Rattle.acpi.specs.declared.platform.mailbox.MailboxWrite.{MailboxWrite
 use super::mailbox::Mailbox;
 use crate::tables::AcpiTables;
 use acpi_base::madt::{Madt, MadtError, MpProtectedModeWakeupCommand};
-use acpi_base::{AcpiError, Lender, AcpiResult};
+use acpi_base::{AcpiError, AcpiResult, Lender};
 
 /// Wakes the processor with a local APIC id: it then begins to run at the vector, a physical
 /// address (section 5.2.12.19). The mailbox is that of the first wakeup entry of the first valid

@@ -14,7 +14,7 @@ use super::area::{Area, FIRST_AREA, second_area};
 use super::span::Span;
 use super::{Rsdp, map_rsdp};
 use acpi_base::bytes::field;
-use acpi_base::{AcpiError, Lender, AcpiResult, PhysicalMapping};
+use acpi_base::{AcpiError, AcpiResult, Lender, PhysicalMapping};
 
 /// Whether the signature of an RSDP stands at an offset.
 fn has_signature(bytes: &[u8], offset: usize) -> bool

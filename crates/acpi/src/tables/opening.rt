@@ -10,7 +10,7 @@ use super::AcpiTables;
 use crate::root::{RootKind, RootPlace};
 use crate::rsdp::{Rsdp, map_rsdp};
 use acpi_base::sdt::{SdtHeader, map_sdt};
-use acpi_base::{Lender, AcpiResult, PhysicalMapping, PhysicalRecord};
+use acpi_base::{AcpiResult, Lender, PhysicalMapping, PhysicalRecord};
 
 /// The root table of a kind at an address, where it is valid.
 fn map_root<'h, H: Lender>(

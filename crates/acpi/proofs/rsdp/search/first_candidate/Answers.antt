@@ -11,9 +11,10 @@ loop-k-preserved-then-not-has_signature g c =
     let memory = g.met.H.Lender.regions c.args.handler.now in
     let m = g.H.Lender.memory c.args.handler.now in
     let room : 16 * c.loop-k.k + 36 ≤ room_of c.args.area = omega arith in
-    let other = sym c.has_signature.ensures ∙ c.if-not-has_signature.true in
-    (walk_past _ _ _ _ _ c.loop-k.invariant.0 turn _ _ memory c.requires.lent room other,
-    asked_next (g.H.Lender.may c.args.handler.now) m _ _ _ _ turn c.loop-k.invariant.1 (unsigned_refused m _ _ _ _ memory c.requires.lent room other))
+    let other = sym c.has_signature.ensures ∙ c.if-not-has_signature.true in (
+      walk_past _ _ _ _ _ c.loop-k.invariant.0 turn _ _ memory c.requires.lent room other,
+      asked_next (g.H.Lender.may c.args.handler.now) m _ _ _ _ turn c.loop-k.invariant.1 (unsigned_refused m _ _ _ _ memory c.requires.lent room other),
+    )
 
 pub returns-in-Ok-clause-found : goal.returns-in-Ok-clause-found
 returns-in-Ok-clause-found g c =
@@ -22,9 +23,10 @@ returns-in-Ok-clause-found g c =
 
 pub loop-k-preserved : goal.loop-k-preserved
 loop-k-preserved g c =
-    let turn : c.loop-k.k < count_of c.args.area = omega arith in
-    (walk_later _ _ _ _ _ c.loop-k.invariant.0 turn _ c.in_default.ensures.rsdp,
-    asked_next (g.H.Lender.may c.args.handler.now) (g.H.Lender.memory c.args.handler.now) _ _ _ _ turn c.loop-k.invariant.1 c.in_default.ensures.rsdp)
+    let turn : c.loop-k.k < count_of c.args.area = omega arith in (
+      walk_later _ _ _ _ _ c.loop-k.invariant.0 turn _ c.in_default.ensures.rsdp,
+      asked_next (g.H.Lender.may c.args.handler.now) (g.H.Lender.memory c.args.handler.now) _ _ _ _ turn c.loop-k.invariant.1 c.in_default.ensures.rsdp,
+    )
 
 pub map_rsdp-requires : goal.map_rsdp-requires
 map_rsdp-requires g c =
