@@ -1,5 +1,5 @@
 -- Each of some ranges may be asked for: so may each part of them.
-use Rattle.std.proofs.Common.{◌≡◌, ℕ, ◌==◌, ◌&&◌, List, [], ◌∷◌, ◌++◌, get_or, Bool, true, Ok, ap, refl, sym}
+use Rattle.std.proofs.Common.{◌≡◌, ℕ, ◌==◌, ◌&&◌, List, [], ◌∷◌, ◌++◌, get_or, Bool, true, Ok, ap, refl, subst, sym}
 use Rattle.std.proofs.lemmas.Bool.{eq-eqb}
 use Rattle.std.proofs.lemmas.List.Folds.{list_any_at}
 use Rattle.std.proofs.lemmas.List.Elements.{All-cons, All-head, All-nil, All-tail}
@@ -26,6 +26,9 @@ same_range r = rw (eq-eqb r.0 r.0 refl, eq-eqb r.1 r.1 refl) refl
 pub allows_listed : (xs : Ranges) → Allows (is_listed xs) xs
 allows_listed xs = λ k d lt.
     list_any_at (λ r. r.0 == (get_or xs k d).0 && r.1 == (get_or xs k d).1) xs k d lt (same_range (get_or xs k d))
+
+pub allows_equal : (xs ys : Ranges) → xs ≡ ys → Allows (is_listed xs) ys
+allows_equal xs ys same = subst (λ zs. Allows (is_listed xs) zs) same (allows_listed xs)
 
 module _ (may : ℕ → ℕ → Bool) where
   abbrev may_at : ℕ × ℕ → Type 0
