@@ -1,5 +1,6 @@
 //! What tests stand on: handlers over another handler, the history of what one was asked for, and
-//! memory that is spelled out byte by byte. `caller`, `example` and `writer` are the README's callers.
+//! memory that is spelled out byte by byte. `caller`, `guarded`, `example` and `writer` are the
+//! README's callers.
 #![tactic(auto)]
 
 pub mod answers;
