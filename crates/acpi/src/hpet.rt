@@ -6,7 +6,7 @@ ghost use Rattle.acpi.specs.Hpet.{protection_of};
 use crate::tables::AcpiTables;
 use acpi_base::bytes::{bits, field, has_bit};
 use acpi_base::sdt::SdtHeader;
-use acpi_base::{AcpiError, AcpiHandler, AcpiResult, AcpiTable, PhysicalRecord, Signature};
+use acpi_base::{AcpiError, AcpiResult, AcpiTable, Lender, PhysicalRecord, Signature};
 
 /// The HPET, whose signature section 5.2.6 reserves and whose layout is the IA-PC HPET
 /// Specification's. `HpetInfo` shows what it says.
@@ -99,7 +99,7 @@ pub struct HpetInfo {
 impl HpetInfo {
     ghost use Rattle.std.specs.Prelude.{◌+◌};
     ghost use Rattle.acpi_base.specs.Bits.{has_bit};
-    ghost use Rattle.acpi.specs.Footprint.{FootprintBelow, lookup_ranges};
+    ghost use Rattle.acpi.specs.Footprint.{AllowsBelow, FootprintBelow, lookup_ranges};
     ghost use Rattle.acpi.specs.Hpet.{hpet_kind, hpet_of, info_of};
     ghost use Rattle.acpi.specs.Relocation.{Relocation};
     ghost use Rattle.acpi.specs.Tables.{memory_of, pointers_of};
@@ -109,7 +109,8 @@ impl HpetInfo {
     ///
     /// Refuses with `TableMissing` where no valid HPET is listed, and with `InvalidGenericAddress`
     /// where its registers don't lie in memory.
-    pub fn new<H: AcpiHandler>(tables: &AcpiTables<'_, H>) -> AcpiResult<HpetInfo>
+    pub fn new<H: Lender>(tables: &AcpiTables<'_, H>) -> AcpiResult<HpetInfo>
+        requires { AllowsBelow tables.now (λ m. lookup_ranges m hpet_kind) }
         ensures exact { result ≡ hpet_of (memory_of tables.now) (pointers_of tables.now) }
         // It depends on what the lookup of the HPET depends on.
         ensures footprint { FootprintBelow tables.now (λ m. lookup_ranges m hpet_kind) hpet_of
@@ -121,7 +122,8 @@ impl HpetInfo {
     }
 
     /// `new`, by the exact clause from which its laws follow.
-    fn found<H: AcpiHandler>(tables: &AcpiTables<'_, H>) -> AcpiResult<HpetInfo>
+    fn found<H: Lender>(tables: &AcpiTables<'_, H>) -> AcpiResult<HpetInfo>
+        requires { AllowsBelow tables.now (λ m. lookup_ranges m hpet_kind) }
         ensures { result ≡ hpet_of (memory_of tables.now) (pointers_of tables.now) }
     {
         let table = tables.find_table::<HpetTable>()?;

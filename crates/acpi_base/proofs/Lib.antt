@@ -1,3 +1,4 @@
+pub mod Allowed
 pub mod Agreement
 pub mod Clones
 pub mod Cuts

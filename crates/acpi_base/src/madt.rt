@@ -12,7 +12,7 @@ mod walk;
 use crate::bytes::{field, has_bit};
 pub use crate::error::MadtError;
 use crate::error::{AcpiError, AcpiResult};
-use crate::handler::{AcpiHandler, PhysicalRecord};
+use crate::handler::{Lender, PhysicalRecord};
 use crate::mapping::PhysicalMapping;
 use crate::model::{ModelAndProcessors, model_in};
 use crate::sdt::SdtHeader;
@@ -117,7 +117,7 @@ fn mailbox_address(table: &[u8]) -> AcpiResult<u64>
     Err(AcpiError::InvalidMadt(fault))
 }
 
-impl<'h, H: AcpiHandler> PhysicalMapping<'h, H, Madt> {
+impl<'h, H: Lender> PhysicalMapping<'h, H, Madt> {
     ghost use Rattle.std.specs.Prelude.{◌+◌, ◌*◌, ◌≤◌, length, false};
     ghost use Rattle.acpi_base.specs.Madt.{cut_of, entries_of};
     ghost use Rattle.acpi_base.specs.MadtWalk.{entries_left, has_ended, rest_left};

@@ -2,7 +2,7 @@
 
 use crate::bytes::{field, skip};
 use crate::error::AcpiResult;
-use crate::handler::{AcpiHandler, PhysicalRecord};
+use crate::handler::{Lender, PhysicalRecord};
 use crate::mapping::PhysicalMapping;
 use crate::sdt::SdtHeader;
 use crate::signature::Signature;
@@ -140,7 +140,7 @@ impl ExactSizeIterator for McfgEntryIter<'_> {
     }
 }
 
-impl<'h, H: AcpiHandler> PhysicalMapping<'h, H, Mcfg> {
+impl<'h, H: Lender> PhysicalMapping<'h, H, Mcfg> {
     ghost use Rattle.std.specs.Prelude.{◌≡◌, ◌-◌, ◌/◌, length};
     ghost use Rattle.acpi_base.specs.Mapping.{bytes_of};
     ghost use Rattle.acpi_base.specs.Mcfg.{regions_left, regions_of};

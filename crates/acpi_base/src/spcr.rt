@@ -9,7 +9,7 @@ mod interface;
 use crate::address::{GenericAddress, RawAddress};
 use crate::bytes::{bits, field, filled, has_bit, text_of};
 use crate::error::{AcpiError, AcpiResult};
-use crate::handler::{AcpiHandler, PhysicalRecord};
+use crate::handler::{Lender, PhysicalRecord};
 use crate::mapping::PhysicalMapping;
 use crate::sdt::SdtHeader;
 use crate::signature::Signature;
@@ -282,7 +282,7 @@ fn name_of(bytes: &[u8]) -> AcpiResult<&str>
     }
 }
 
-impl<'h, H: AcpiHandler> PhysicalMapping<'h, H, Spcr> {
+impl<'h, H: Lender> PhysicalMapping<'h, H, Spcr> {
     ghost use Rattle.acpi_base.specs.Mapping.{bytes_of};
     ghost use Rattle.acpi_base.specs.Spcr.{namespace_of};
 

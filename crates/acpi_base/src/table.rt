@@ -1,8 +1,9 @@
 //! Types of tables, and the table at an address.
-ghost use Rattle.std.specs.Prelude.{◌≡◌, ℕ, ◌+◌, ◌^◌, ◌<◌, ◌≤◌, List, length, Result, IfErr, IfOk, Ok, Err};
+ghost use Rattle.std.specs.Prelude.{◌≡◌, ℕ, true, ◌+◌, ◌^◌, ◌<◌, ◌≤◌, List, length, Result, IfErr, IfOk, Ok, Err};
 ghost use Rattle.acpi_base.specs.Claim.{IsLentOf, claimed_at, claimed_from, shown_by};
 ghost use Rattle.acpi_base.specs.Header.{header_at};
 ghost use Rattle.acpi_base.specs.Mapping.{IsOfMemory, start_of, bytes_of, handler_of};
+ghost use Rattle.acpi_base.specs.Ranges.{Allows, own_table_ranges, table_ranges, whole_ranges};
 ghost use Rattle.acpi_base.specs.Steps.{Gives, lent};
 ghost use Rattle.acpi_base.specs.Table.{Kind, kind, own_table_at, plain_kind, table_at, table_of};
 ghost use Rattle.acpi_base.specs.Table.{whole_of};
@@ -12,7 +13,7 @@ ghost use Rattle.acpi_base.specs.declared.signature.Signature.{Signature};
 use crate::bytes::byte_sum;
 use crate::claim::Claim;
 use crate::error::{AcpiError, AcpiResult};
-use crate::handler::{AcpiHandler, PhysicalRecord};
+use crate::handler::{Lender, PhysicalRecord};
 use crate::mapping::PhysicalMapping;
 use crate::sdt::SdtHeader;
 use crate::signature::Signature;
@@ -48,11 +49,12 @@ pub trait AcpiTable: PhysicalRecord {
 /// lookup passes over bear another one: so that is compared before anything else is made of them.
 #[inline(always)]
 #[tactic(auto, using(crate::proofs::Plain::no_header, crate::proofs::Plain::another_signature))]
-fn claim_named<'h, H: AcpiHandler>(
+fn claim_named<'h, H: Lender>(
     handler: &'h H,
     address: u64,
     signature: Signature,
 ) -> AcpiResult<Claim<'h, H>>
+    requires { H.may handler.now address 36 ≡ true }
     ensures start { IfOk result (λ c. claimed_at c ≡ address) }
     ensures handler { IfOk result (λ c. claimed_from c ≡ handler.now) }
     ensures size { IfOk result (λ c. length (shown_by c) ≡ 36) }
@@ -73,8 +75,8 @@ fn claim_named<'h, H: AcpiHandler>(
 /// the least length. The sum is still to be checked. Where the bytes lent for the header hold all
 /// of it, they are shown; else the header's claim ends before the request.
 #[inline(always)]
-#[tactic(auto, unfolding(crate::specs::Table::whole_of))]
-fn claim_whole<'h, H: AcpiHandler>(
+#[tactic(auto, using(crate::proofs::Allowed::asked_length), unfolding(crate::specs::Table::whole_of))]
+fn claim_whole<'h, H: Lender>(
     head: Claim<'h, H>,
     signature: Signature,
     least: usize,
@@ -82,6 +84,8 @@ fn claim_whole<'h, H: AcpiHandler>(
     requires header { length (shown_by head) ≡ 36 }
     requires lent { IsLentOf (H.memory (claimed_from head)) head }
     requires some { 0 < least }
+    requires asked { Allows (H.may (claimed_from head))
+        (whole_ranges signature least (claimed_at head) (shown_by head)) }
     ensures start { IfOk result (λ c. claimed_at c ≡ claimed_at head.entry) }
     ensures handler { IfOk result (λ c. claimed_from c ≡ claimed_from head.entry) }
     ensures long { IfOk result (λ c. least ≤ length (shown_by c)) }
@@ -103,11 +107,13 @@ fn claim_whole<'h, H: AcpiHandler>(
 /// The table whose header is claimed, where it is valid for `T`.
 #[inline(never)]
 #[tactic(auto, unfolding(crate::specs::Table::table_of))]
-fn map_named<'h, H: AcpiHandler, T: AcpiTable>(
+fn map_named<'h, H: Lender, T: AcpiTable>(
     head: Claim<'h, H>,
 ) -> AcpiResult<PhysicalMapping<'h, H, T>>
     requires header { length (shown_by head) ≡ 36 }
     requires lent { IsLentOf (H.memory (claimed_from head)) head }
+    requires asked { Allows (H.may (claimed_from head))
+        (whole_ranges T.SIGNATURE T.MIN_LENGTH (claimed_at head) (shown_by head)) }
     ensures place { IfOk result (λ m. start_of m ≡ claimed_at head.entry) }
     ensures handler { IfOk result (λ m. handler_of m ≡ claimed_from head.entry) }
     ensures lent { IfOk result (λ m. IsOfMemory (H.memory (claimed_from head.entry)) m) }
@@ -128,11 +134,13 @@ fn map_named<'h, H: AcpiHandler, T: AcpiTable>(
 /// under `T::MIN_LENGTH`, `MapFailed` where `length` bytes aren't lent, and with what
 /// `T::validate` refuses these bytes with.
 #[inline(always)]
-#[tactic(auto, unfolding(crate::specs::Table::table_at))]
-pub fn map_table<'h, H: AcpiHandler, T: AcpiTable>(
+#[tactic(auto, using(crate::proofs::Allowed::asked_header, crate::proofs::Allowed::asked_whole), unfolding(crate::specs::Table::table_at))]
+pub fn map_table<'h, H: Lender, T: AcpiTable>(
     handler: &'h H,
     address: u64,
 ) -> AcpiResult<PhysicalMapping<'h, H, T>>
+    requires { Allows (H.may handler.now) (table_ranges (H.memory handler.now)
+        (kind T.SIGNATURE T.MIN_LENGTH T.verdict) address) }
     ensures place { IfOk result (λ m. start_of m ≡ address) }
     ensures handler { IfOk result (λ m. handler_of m ≡ handler.now) }
     // However many bytes were lent, all of them are the memory's.
@@ -148,13 +156,15 @@ pub fn map_table<'h, H: AcpiHandler, T: AcpiTable>(
 /// the header and the sum matter.
 #[inline(never)]
 #[tactic(auto, using(crate::proofs::Plain::bad_sum, crate::proofs::Plain::good_sum), unfolding(crate::specs::Table::table_of))]
-fn map_plain<'h, H: AcpiHandler>(
+fn map_plain<'h, H: Lender>(
     head: Claim<'h, H>,
     signature: Signature,
 ) -> AcpiResult<PhysicalMapping<'h, H, SdtHeader>>
     requires header { length (shown_by head) ≡ 36 }
     requires lent { IsLentOf (H.memory (claimed_from head)) head }
     requires shown { lent (H.memory (claimed_from head)) (claimed_at head) 36 ≡ Ok (shown_by head) }
+    requires asked { Allows (H.may (claimed_from head))
+        (whole_ranges signature 36 (claimed_at head) (shown_by head)) }
     ensures place { IfOk result (λ m. start_of m ≡ claimed_at head.entry) }
     ensures handler { IfOk result (λ m. handler_of m ≡ claimed_from head.entry) }
     ensures lent { IfOk result (λ m. IsOfMemory (H.memory (claimed_from head.entry)) m) }
@@ -177,12 +187,14 @@ fn map_plain<'h, H: AcpiHandler>(
 ///
 /// Refuses as `map_table` does for such a type.
 #[inline(always)]
-#[tactic(auto, unfolding(crate::specs::Table::table_at))]
-pub fn map_sdt<'h, H: AcpiHandler>(
+#[tactic(auto, using(crate::proofs::Allowed::asked_header, crate::proofs::Allowed::asked_whole), unfolding(crate::specs::Table::table_at))]
+pub fn map_sdt<'h, H: Lender>(
     handler: &'h H,
     address: u64,
     signature: Signature,
 ) -> AcpiResult<PhysicalMapping<'h, H, SdtHeader>>
+    requires { Allows (H.may handler.now) (table_ranges (H.memory handler.now)
+        (plain_kind signature) address) }
     ensures place { IfOk result (λ m. start_of m ≡ address) }
     ensures handler { IfOk result (λ m. handler_of m ≡ handler.now) }
     // However many bytes were lent, all of them are the memory's.
@@ -200,11 +212,12 @@ pub fn map_sdt<'h, H: AcpiHandler>(
 /// its header.
 ///
 /// Refuses as `map_sdt` does for that signature.
-#[tactic(auto, using(crate::proofs::Plain::own_table), unfolding(crate::specs::Table::own_table_at))]
-pub fn map_own_sdt<'h, H: AcpiHandler>(
+#[tactic(auto, using(crate::proofs::Plain::own_table, crate::proofs::Allowed::asked_own_header, crate::proofs::Allowed::asked_own), unfolding(crate::specs::Table::own_table_at))]
+pub fn map_own_sdt<'h, H: Lender>(
     handler: &'h H,
     address: u64,
 ) -> AcpiResult<PhysicalMapping<'h, H, SdtHeader>>
+    requires { Allows (H.may handler.now) (own_table_ranges (H.memory handler.now) address) }
     ensures place { IfOk result (λ m. start_of m ≡ address) }
     ensures handler { IfOk result (λ m. handler_of m ≡ handler.now) }
     // However many bytes were lent, all of them are the memory's.

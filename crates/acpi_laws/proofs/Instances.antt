@@ -13,7 +13,7 @@ use Rattle.acpi_base.specs.Table.{length_in, own_table_at, table_at, table_of, w
 use Rattle.acpi_fixed.specs.Registers.{registers_in}
 use Rattle.acpi_fixed.specs.Fadt.{fadt_at}
 use Rattle.acpi_laws.specs.Examples.{AreMemories, TheyDiffer, TheyList, bios, bios_here, bios_there, damaged, dsdt, fadt, here, madt, mcfg, memory, moved, rsdp, rsdt, ssdt, there, xsdt}
-use Rattle.acpi_laws.specs.ExampleLaws.{DsdtInstance, FaultsInstance, HeadersInstance, HeadersMoved, HpetInstance, HpetMoved, LookupInstance, LookupMoved, MailboxInstance}
+use Rattle.acpi_laws.specs.ExampleLaws.{AskedInstance, DsdtInstance, FaultsInstance, HeadersInstance, HeadersMoved, HpetInstance, HpetMoved, LookupInstance, LookupMoved, MailboxInstance}
 use Rattle.acpi_laws.specs.ExampleLaws.{OpenedByRsdpInstance, OpenedInstance, PlatformInstance, PlatformMoved, RegionsInstance, RegionsMoved, RsdpInstance, SsdtsInstance}
 use Rattle.acpi.specs.Hpet.{hpet_at}
 use Rattle.acpi.specs.Lists.{own_header_at, stream_at}
@@ -79,6 +79,10 @@ rsdp_instance = ((refl, tt), refl)
 pub opened_instance : OpenedInstance
 unfolding at rest_from length_in whole_of table_of table_at header_at check_names check_table field_of sum_of is_utf8 chars lib.Utf8.encode memory rsdp rsdt fadt hpet madt mcfg ssdt dsdt unnamed damaged
 opened_instance = ((refl, (refl, tt)), refl)
+
+pub asked_instance : AskedInstance
+unfolding at rest_from length_in whole_of table_of table_at header_at check_names check_table field_of sum_of is_utf8 chars lib.Utf8.encode pointers memory rsdp rsdt fadt hpet madt mcfg ssdt dsdt unnamed damaged
+asked_instance = refl
 
 pub opened_by_rsdp_instance : OpenedByRsdpInstance
 unfolding at rest_from length_in whole_of table_of table_at header_at check_names check_table field_of sum_of is_utf8 chars lib.Utf8.encode rsdp_at rsdp_of length_of check_first check_sum memory rsdp rsdt fadt hpet madt mcfg ssdt dsdt unnamed damaged
