@@ -16,7 +16,7 @@ pub use brief::FadtBrief;
 use extended::extended_number_in;
 pub use flags::{ArmBootArchFlags, FixedFeatureFlags, IaPcBootArchFlags};
 use front::{Front, number_in};
-use registers::{RegisterBytes, Registers, address_from, register_from};
+use registers::{RegisterBytes, address_from, register_from};
 
 /// What the machine is for (section 5.2.9).
 #[derive(Clone, Copy, Debug, PartialEq, Eq)]
@@ -195,14 +195,6 @@ impl Fadt {
     ghost use Rattle.acpi_fixed.specs.Fadt.{pm_timer_of, registers_of};
     ghost use Rattle.acpi_fixed.specs.Registers.{block_of, optional_block_of, register_of};
 
-    /// Where the registers lie.
-    #[inline(always)]
-    fn registers(&self) -> Registers
-        ensures { result ≡ registers_of self.now }
-    {
-        self.registers.registers()
-    }
-
     /// What the machine is for.
     pub fn power_profile(&self) -> PowerProfile
         ensures { result ≡ profile_of self.now }
@@ -240,7 +232,7 @@ impl Fadt {
     pub fn pm1a_event_block(&self) -> AcpiResult<GenericAddress>
         ensures { result ≡ block_of (registers_of self.now).pm1a_event }
     {
-        self.registers().pm1a_event.block()
+        self.registers.pm1a_event().block()
     }
 
     /// The second block of event registers, or `None` where neither field gives an address.
@@ -249,7 +241,7 @@ impl Fadt {
     pub fn pm1b_event_block(&self) -> AcpiResult<Option<GenericAddress>>
         ensures { result ≡ optional_block_of (registers_of self.now).pm1b_event }
     {
-        self.registers().pm1b_event.optional_block()
+        self.registers.pm1b_event().optional_block()
     }
 
     /// The control registers of the fixed hardware: the extended block where its address isn't 0,
@@ -259,7 +251,7 @@ impl Fadt {
     pub fn pm1a_control_block(&self) -> AcpiResult<GenericAddress>
         ensures { result ≡ block_of (registers_of self.now).pm1a_control }
     {
-        self.registers().pm1a_control.block()
+        self.registers.pm1a_control().block()
     }
 
     /// The second block of control registers, or `None` where neither field gives an address.
@@ -268,7 +260,7 @@ impl Fadt {
     pub fn pm1b_control_block(&self) -> AcpiResult<Option<GenericAddress>>
         ensures { result ≡ optional_block_of (registers_of self.now).pm1b_control }
     {
-        self.registers().pm1b_control.optional_block()
+        self.registers.pm1b_control().optional_block()
     }
 
     /// The second control register, or `None` where neither field gives an address.
@@ -277,7 +269,7 @@ impl Fadt {
     pub fn pm2_control_block(&self) -> AcpiResult<Option<GenericAddress>>
         ensures { result ≡ optional_block_of (registers_of self.now).pm2_control }
     {
-        self.registers().pm2_control.optional_block()
+        self.registers.pm2_control().optional_block()
     }
 
     /// The power management timer, or `None` where its length isn't 4 or neither field gives an
@@ -287,7 +279,7 @@ impl Fadt {
     pub fn pm_timer_block(&self) -> AcpiResult<Option<GenericAddress>>
         ensures { result ≡ pm_timer_of self.now }
     {
-        self.registers().pm_timer.timer_block()
+        self.registers.pm_timer().timer_block()
     }
 
     /// The registers of the first general purpose events, or `None` where neither field gives an
@@ -297,7 +289,7 @@ impl Fadt {
     pub fn gpe0_block(&self) -> AcpiResult<Option<GenericAddress>>
         ensures { result ≡ optional_block_of (registers_of self.now).gpe0 }
     {
-        self.registers().gpe0.optional_block()
+        self.registers.gpe0().optional_block()
     }
 
     /// The registers of further general purpose events, or `None` where neither field gives an
@@ -307,7 +299,7 @@ impl Fadt {
     pub fn gpe1_block(&self) -> AcpiResult<Option<GenericAddress>>
         ensures { result ≡ optional_block_of (registers_of self.now).gpe1 }
     {
-        self.registers().gpe1.optional_block()
+        self.registers.gpe1().optional_block()
     }
 
     /// The register that resets the machine, where the flags say that there is one.
@@ -316,7 +308,7 @@ impl Fadt {
     pub fn reset_register(&self) -> AcpiResult<GenericAddress>
         ensures { result ≡ generic_address_of (registers_of self.now).reset }
     {
-        GenericAddress::from_raw(self.registers().reset)
+        GenericAddress::from_raw(self.registers.reset())
     }
 
     /// The register that puts a machine of reduced hardware to sleep, or `None` where the table has
@@ -326,7 +318,7 @@ impl Fadt {
     pub fn sleep_control_register(&self) -> AcpiResult<Option<GenericAddress>>
         ensures { result ≡ register_of (registers_of self.now).sleep_control }
     {
-        register_from(self.registers().sleep_control)
+        register_from(self.registers.sleep_control())
     }
 
     /// The register that says how a machine of reduced hardware woke, or `None` where the table has
@@ -336,6 +328,6 @@ impl Fadt {
     pub fn sleep_status_register(&self) -> AcpiResult<Option<GenericAddress>>
         ensures { result ≡ register_of (registers_of self.now).sleep_status }
     {
-        register_from(self.registers().sleep_status)
+        register_from(self.registers.sleep_status())
     }
 }

@@ -219,6 +219,94 @@ impl RegisterBytes {
     {
         Registers::read(self.table())
     }
+
+    #[inline(always)]
+    #[tactic(auto, unfolding(crate::specs::Registers::registers_in))]
+    pub(crate) fn pm1a_event(&self) -> RegisterBlock
+        ensures { result ≡ (registers_in self.now).pm1a_event }
+    {
+        RegisterBlock::read(self.table(), 56, 88, 148)
+    }
+
+    #[inline(always)]
+    #[tactic(auto, unfolding(crate::specs::Registers::registers_in))]
+    pub(crate) fn pm1b_event(&self) -> RegisterBlock
+        ensures { result ≡ (registers_in self.now).pm1b_event }
+    {
+        RegisterBlock::read(self.table(), 60, 88, 160)
+    }
+
+    #[inline(always)]
+    #[tactic(auto, unfolding(crate::specs::Registers::registers_in))]
+    pub(crate) fn pm1a_control(&self) -> RegisterBlock
+        ensures { result ≡ (registers_in self.now).pm1a_control }
+    {
+        RegisterBlock::read(self.table(), 64, 89, 172)
+    }
+
+    #[inline(always)]
+    #[tactic(auto, unfolding(crate::specs::Registers::registers_in))]
+    pub(crate) fn pm1b_control(&self) -> RegisterBlock
+        ensures { result ≡ (registers_in self.now).pm1b_control }
+    {
+        RegisterBlock::read(self.table(), 68, 89, 184)
+    }
+
+    #[inline(always)]
+    #[tactic(auto, unfolding(crate::specs::Registers::registers_in))]
+    pub(crate) fn pm2_control(&self) -> RegisterBlock
+        ensures { result ≡ (registers_in self.now).pm2_control }
+    {
+        RegisterBlock::read(self.table(), 72, 90, 196)
+    }
+
+    #[inline(always)]
+    #[tactic(auto, unfolding(crate::specs::Registers::registers_in))]
+    pub(crate) fn pm_timer(&self) -> RegisterBlock
+        ensures { result ≡ (registers_in self.now).pm_timer }
+    {
+        RegisterBlock::read(self.table(), 76, 91, 208)
+    }
+
+    #[inline(always)]
+    #[tactic(auto, unfolding(crate::specs::Registers::registers_in))]
+    pub(crate) fn gpe0(&self) -> RegisterBlock
+        ensures { result ≡ (registers_in self.now).gpe0 }
+    {
+        RegisterBlock::read(self.table(), 80, 92, 220)
+    }
+
+    #[inline(always)]
+    #[tactic(auto, unfolding(crate::specs::Registers::registers_in))]
+    pub(crate) fn gpe1(&self) -> RegisterBlock
+        ensures { result ≡ (registers_in self.now).gpe1 }
+    {
+        RegisterBlock::read(self.table(), 84, 93, 232)
+    }
+
+    #[inline(always)]
+    #[tactic(auto, unfolding(crate::specs::Registers::registers_in))]
+    pub(crate) fn reset(&self) -> RawAddress
+        ensures { result ≡ (registers_in self.now).reset }
+    {
+        filled(self.table(), 116)
+    }
+
+    #[inline(always)]
+    #[tactic(auto, unfolding(crate::specs::Registers::registers_in))]
+    pub(crate) fn sleep_control(&self) -> Option<RawAddress>
+        ensures { result ≡ (registers_in self.now).sleep_control }
+    {
+        extended_address_in(self.table(), 244)
+    }
+
+    #[inline(always)]
+    #[tactic(auto, unfolding(crate::specs::Registers::registers_in))]
+    pub(crate) fn sleep_status(&self) -> Option<RawAddress>
+        ensures { result ≡ (registers_in self.now).sleep_status }
+    {
+        extended_address_in(self.table(), 256)
+    }
 }
 
 impl Debug for RegisterBytes {
