@@ -60,6 +60,19 @@ pub fn field(bytes: &[u8], offset: usize, n: usize) -> u64
     }
 }
 
+/// The same of bytes that are all there: nothing is tested.
+#[inline(always)]
+#[tactic(auto, unfolding(crate::specs::Bytes::field_of))]
+pub fn field_in(bytes: &[u8], offset: usize, n: usize) -> u64
+    requires few { n ≤ 8 }
+    requires there { offset + n ≤ length bytes.now }
+    ensures value { result ≡ field_of bytes.now offset n }
+    ensures fits { result < 2 ^ (8 * n) }
+{
+    let rest = &bytes[offset..];
+    number_of(&rest[..n])
+}
+
 /// The text that the bytes encode in UTF-8, or `None` where they encode none.
 pub fn text_of(bytes: &[u8]) -> Option<&str>
     ensures { IsTextOf result bytes.now }

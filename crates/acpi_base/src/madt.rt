@@ -9,7 +9,7 @@ mod sapic;
 mod wakeup;
 mod walk;
 
-use crate::bytes::{field, has_bit};
+use crate::bytes::{field_in, has_bit};
 pub use crate::error::MadtError;
 use crate::error::{AcpiError, AcpiResult};
 use crate::handler::{AcpiHandler, PhysicalRecord};
@@ -58,8 +58,8 @@ impl PhysicalRecord for Madt {
     fn read(bytes: &[u8]) -> Self {
         Madt {
             header: SdtHeader::read(bytes),
-            local_apic_address: field(bytes, 36, 4) as u32,
-            flags: field(bytes, 40, 4) as u32,
+            local_apic_address: field_in(bytes, 36, 4) as u32,
+            flags: field_in(bytes, 40, 4) as u32,
         }
     }
 }

@@ -1,6 +1,6 @@
 //! Where the configuration space of PCI devices lies in memory.
 
-use crate::bytes::{field, skip};
+use crate::bytes::{field_in, skip};
 use crate::error::AcpiResult;
 use crate::handler::{AcpiHandler, PhysicalRecord};
 use crate::mapping::PhysicalMapping;
@@ -81,10 +81,10 @@ impl PhysicalRecord for McfgEntry {
 
     fn read(bytes: &[u8]) -> Self {
         McfgEntry {
-            base_address: field(bytes, 0, 8),
-            pci_segment_group: field(bytes, 8, 2) as u16,
-            bus_number_start: field(bytes, 10, 1) as u8,
-            bus_number_end: field(bytes, 11, 1) as u8,
+            base_address: field_in(bytes, 0, 8),
+            pci_segment_group: field_in(bytes, 8, 2) as u16,
+            bus_number_start: field_in(bytes, 10, 1) as u8,
+            bus_number_end: field_in(bytes, 11, 1) as u8,
         }
     }
 }
