@@ -15,7 +15,8 @@ use crate::records::{AmlTable, aml_behind};
 use crate::root::RootKind;
 use crate::ssdts::SsdtIterator;
 use acpi_base::bytes::skip;
-use acpi_base::sdt::{SdtHeader, map_sdt, map_table};
+use acpi_base::sdt::{SdtHeader, map_sdt};
+use acpi_base::table::{map_found, named_at};
 use acpi_base::{AcpiError, AcpiHandler, AcpiResult, AcpiTable, PhysicalMapping, Signature};
 use acpi_fixed::fadt::FadtBrief;
 use std::alloc::{Allocator, Global};
@@ -63,18 +64,6 @@ impl<'h, H: AcpiHandler> AcpiTables<'h, H> {
         Pointers::new(self.kind.width(), skip(self.root.bytes(), 36))
     }
 
-    /// The table at an address, where it is valid for `T`.
-    #[inline(always)]
-    fn member<T: AcpiTable>(&self, address: u64) -> AcpiResult<PhysicalMapping<'h, H, T>>
-        ensures place { IfOk result (λ m. start_of m ≡ address) }
-        ensures handler { IfOk result (λ m. handler_of m ≡ lender_of self.now) }
-        ensures lent { IfOk result (λ m. IsOfMemory (memory_of self.now) m) }
-        ensures table { Gives (λ m. bytes_of m) result
-            (table_at (memory_of self.now) (kind T.SIGNATURE T.MIN_LENGTH T.verdict) address) }
-    {
-        map_table(self.root.handler(), address)
-    }
-
     /// The first member of the root list that is valid for `T`.
     #[inline(always)]
     pub(crate) fn first_member<T: AcpiTable>(&self) -> AcpiResult<PhysicalMapping<'h, H, T>>
@@ -85,8 +74,11 @@ impl<'h, H: AcpiHandler> AcpiTables<'h, H> {
             (lookup (memory_of self.now) k (pointers_of self.now)) }
     {
         for address in self.pointers() {
-            // It is handed on as it is, since a table's record may be long.
-            let found = self.member::<T>(address);
+            // A table's record may be long: nothing is made of a member with another signature.
+            let Ok(named) = named_at(self.root.handler(), address, T::SIGNATURE) else {
+                continue;
+            };
+            let found = map_found::<H, T>(named);
             if found.is_ok() {
                 return found;
             }

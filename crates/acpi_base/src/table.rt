@@ -4,6 +4,7 @@ ghost use Rattle.acpi_base.specs.Claim.{IsLentOf, claimed_at, claimed_from, show
 ghost use Rattle.acpi_base.specs.Header.{header_at};
 ghost use Rattle.acpi_base.specs.Mapping.{IsOfMemory, start_of, bytes_of, handler_of};
 ghost use Rattle.acpi_base.specs.Steps.{Gives, lent};
+ghost use Rattle.std.proofs.Props.{props};
 ghost use Rattle.acpi_base.specs.Table.{Kind, kind, own_table_at, plain_kind, table_at, table_of};
 ghost use Rattle.acpi_base.specs.Table.{whole_of};
 ghost use Rattle.acpi_base.specs.declared.error.AcpiError.{AcpiError};
@@ -116,9 +117,57 @@ fn map_named<'h, H: AcpiHandler, T: AcpiTable>(
         (claimed_at head.entry) (shown_by head.entry)) }
 {
     let whole = claim_whole(head, T::SIGNATURE, T::MIN_LENGTH)?;
-    let table: PhysicalMapping<'h, H, T> = PhysicalMapping::of_claim(whole);
-    table.get().validate(table.bytes())?;
-    Ok(table)
+    let value = T::read(whole.shown());
+    match value.validate(whole.shown()) {
+        Ok(()) => Ok(PhysicalMapping::holding(whole, value)),
+        Err(error) => {
+            whole.end();
+            Err(error)
+        }
+    }
+}
+
+/// What lies at an address, with a header.
+pub struct Named<'h, H: AcpiHandler> {
+    head: Claim<'h, H>,
+    ghost header: { length (shown_by head) ≡ 36 },
+    ghost shown: { lent (H.memory (claimed_from head)) (claimed_at head) 36 ≡ Ok (shown_by head) } by { Prim.hlevel props },
+    ghost lent: { IsLentOf (H.memory (claimed_from head)) head } by { Prim.hlevel props },
+}
+
+/// What lies at an address, where its header bears this signature, or why no table of any kind with
+/// this signature lies there. What it answers is small, so that a walk along many addresses makes
+/// nothing of those that bear another one.
+#[inline(always)]
+pub fn named_at<'h, H: AcpiHandler>(
+    handler: &'h H,
+    address: u64,
+    signature: Signature,
+) -> AcpiResult<Named<'h, H>>
+    ensures start { IfOk result (λ n. claimed_at n.head ≡ address) }
+    ensures handler { IfOk result (λ n. claimed_from n.head ≡ handler.now) }
+    ensures refused { IfErr result (λ e. (k : Kind) → k.signature ≡ signature
+        → table_at (H.memory handler.now) k address ≡ Err e) }
+{
+    let head = claim_named(handler, address, signature)?;
+    Ok(Named { head })
+}
+
+/// The table there, where it is valid for `T`.
+#[inline(always)]
+#[tactic(auto, unfolding(crate::specs::Table::table_at))]
+pub fn map_found<'h, H: AcpiHandler, T: AcpiTable>(
+    named: Named<'h, H>,
+) -> AcpiResult<PhysicalMapping<'h, H, T>>
+    ensures place { IfOk result (λ m. start_of m ≡ claimed_at named.entry.head) }
+    ensures handler { IfOk result (λ m. handler_of m ≡ claimed_from named.entry.head) }
+    // However many bytes were lent, all of them are the memory's.
+    ensures lent { IfOk result (λ m. IsOfMemory (H.memory (claimed_from named.entry.head)) m) }
+    ensures table { let m = H.memory (claimed_from named.entry.head) in Gives (λ x. bytes_of x) result
+        (table_at m (kind T.SIGNATURE T.MIN_LENGTH T.verdict) (claimed_at named.entry.head)) }
+{
+    let Named { head } = named;
+    map_named(head)
 }
 
 /// The table at an address, where it is valid for `T` (sections 5.2.5 and 5.2.6).
