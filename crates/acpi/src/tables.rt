@@ -2,6 +2,7 @@
 ghost use Rattle.std.specs.Prelude.{◌≡◌, ◌^◌, ◌<◌, length, Some};
 ghost use Rattle.std.specs.Result.{result_ok};
 ghost use Rattle.std.proofs.Props.{props};
+ghost use Rattle.acpi_base.specs.Claim.{IsLentOf, claimed_at, claimed_from, shown_by};
 ghost use Rattle.acpi_base.specs.Mapping.{IsOfMemory, start_of, bytes_of, handler_of};
 ghost use Rattle.acpi.specs.Root.{root_at};
 
@@ -16,7 +17,7 @@ use crate::root::RootKind;
 use crate::ssdts::SsdtIterator;
 use acpi_base::bytes::skip;
 use acpi_base::sdt::{SdtHeader, map_sdt};
-use acpi_base::table::{map_found, named_at};
+use acpi_base::table::{ValidTable, valid_at};
 use acpi_base::{AcpiError, AcpiHandler, AcpiResult, AcpiTable, PhysicalMapping, Signature};
 use acpi_fixed::fadt::FadtBrief;
 use std::alloc::{Allocator, Global};
@@ -64,6 +65,24 @@ impl<'h, H: AcpiHandler> AcpiTables<'h, H> {
         Pointers::new(self.kind.width(), skip(self.root.bytes(), 36))
     }
 
+    /// The bytes of the first member of the root list that is valid for `T`.
+    #[inline(always)]
+    fn first_valid<T: AcpiTable>(&self) -> AcpiResult<ValidTable<'h, H>>
+        ensures handler { IfOk result (λ v. claimed_from v.claim ≡ lender_of self.now) }
+        ensures lent { IfOk result (λ v. IsLentOf (memory_of self.now) v.claim) }
+        ensures least { IfOk result (λ v. T.MIN_LENGTH ≤ length (shown_by v.claim)) }
+        ensures found { let k = kind T.SIGNATURE T.MIN_LENGTH T.verdict in
+            Gives (λ v. (claimed_at v.claim, shown_by v.claim)) result
+            (lookup (memory_of self.now) k (pointers_of self.now)) }
+    {
+        for address in self.pointers() {
+            if let Ok(found) = valid_at::<H, T>(self.root.handler(), address) {
+                return Ok(found);
+            }
+        }
+        Err(AcpiError::TableMissing(T::SIGNATURE))
+    }
+
     /// The first member of the root list that is valid for `T`.
     #[inline(always)]
     pub(crate) fn first_member<T: AcpiTable>(&self) -> AcpiResult<PhysicalMapping<'h, H, T>>
@@ -73,17 +92,8 @@ impl<'h, H: AcpiHandler> AcpiTables<'h, H> {
             Gives (λ m. (start_of m, bytes_of m)) result
             (lookup (memory_of self.now) k (pointers_of self.now)) }
     {
-        for address in self.pointers() {
-            // A table's record may be long: nothing is made of a member with another signature.
-            let Ok(named) = named_at(self.root.handler(), address, T::SIGNATURE) else {
-                continue;
-            };
-            let found = map_found::<H, T>(named);
-            if found.is_ok() {
-                return found;
-            }
-        }
-        Err(AcpiError::TableMissing(T::SIGNATURE))
+        let found = self.first_valid::<T>()?;
+        Ok(found.mapping())
     }
 
     /// The first member of the root list that is valid for `T`: its address is the mapping's

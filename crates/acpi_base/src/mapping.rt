@@ -50,19 +50,6 @@ impl<'h, H: AcpiHandler, T: PhysicalRecord> PhysicalMapping<'h, H, T> {
         PhysicalMapping { claim, value }
     }
 
-    /// The record that a claim shows, where it is read already.
-    #[inline(always)]
-    pub(crate) fn holding(claim: Claim<'h, H>, value: T) -> Self
-        requires least { T.MIN_LENGTH ≤ length (shown_by claim) }
-        requires read { value ≡ T.reading (shown_by claim) }
-        ensures start { start_of result ≡ claimed_at claim.entry }
-        ensures bytes { bytes_of result ≡ shown_by claim.entry }
-        ensures lent { lent_of result ≡ all_of claim.entry }
-        ensures handler { handler_of result ≡ claimed_from claim.entry }
-    {
-        PhysicalMapping { claim, value }
-    }
-
     /// The mapping of the `size` bytes at an address, as the handler lends them.
     ///
     /// Refuses with `MapFailed` where they don't lie whole inside one region.

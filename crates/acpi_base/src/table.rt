@@ -4,7 +4,6 @@ ghost use Rattle.acpi_base.specs.Claim.{IsLentOf, claimed_at, claimed_from, show
 ghost use Rattle.acpi_base.specs.Header.{header_at};
 ghost use Rattle.acpi_base.specs.Mapping.{IsOfMemory, start_of, bytes_of, handler_of};
 ghost use Rattle.acpi_base.specs.Steps.{Gives, lent};
-ghost use Rattle.std.proofs.Props.{props};
 ghost use Rattle.acpi_base.specs.Table.{Kind, kind, own_table_at, plain_kind, table_at, table_of};
 ghost use Rattle.acpi_base.specs.Table.{whole_of};
 ghost use Rattle.acpi_base.specs.declared.error.AcpiError.{AcpiError};
@@ -101,25 +100,25 @@ fn claim_whole<'h, H: AcpiHandler>(
     }
 }
 
-/// The table whose header is claimed, where it is valid for `T`.
+/// What lies where a header is claimed, where it is a table that is valid for `T`. Of the record
+/// that is read for the check only what the check looks at is made, where the compiler reads it in
+/// line: the record that is handed on is read once the table is found, where it is to lie.
 #[inline(never)]
 #[tactic(auto, unfolding(crate::specs::Table::table_of))]
-fn map_named<'h, H: AcpiHandler, T: AcpiTable>(
-    head: Claim<'h, H>,
-) -> AcpiResult<PhysicalMapping<'h, H, T>>
+fn claim_valid<'h, H: AcpiHandler, T: AcpiTable>(head: Claim<'h, H>) -> AcpiResult<Claim<'h, H>>
     requires header { length (shown_by head) ≡ 36 }
     requires lent { IsLentOf (H.memory (claimed_from head)) head }
-    ensures place { IfOk result (λ m. start_of m ≡ claimed_at head.entry) }
-    ensures handler { IfOk result (λ m. handler_of m ≡ claimed_from head.entry) }
-    ensures lent { IfOk result (λ m. IsOfMemory (H.memory (claimed_from head.entry)) m) }
-    ensures table { let m = H.memory (claimed_from head.entry) in Gives (λ x. bytes_of x) result
+    ensures start { IfOk result (λ c. claimed_at c ≡ claimed_at head.entry) }
+    ensures handler { IfOk result (λ c. claimed_from c ≡ claimed_from head.entry) }
+    ensures least { IfOk result (λ c. T.MIN_LENGTH ≤ length (shown_by c)) }
+    ensures all { IfOk result (λ c. IsLentOf (H.memory (claimed_from head.entry)) c) }
+    ensures shown { let m = H.memory (claimed_from head.entry) in Gives (λ c. shown_by c) result
         (table_of m (kind T.SIGNATURE T.MIN_LENGTH T.verdict)
         (claimed_at head.entry) (shown_by head.entry)) }
 {
     let whole = claim_whole(head, T::SIGNATURE, T::MIN_LENGTH)?;
-    let value = T::read(whole.shown());
-    match value.validate(whole.shown()) {
-        Ok(()) => Ok(PhysicalMapping::holding(whole, value)),
+    match T::read(whole.shown()).validate(whole.shown()) {
+        Ok(()) => Ok(whole),
         Err(error) => {
             whole.end();
             Err(error)
@@ -127,47 +126,50 @@ fn map_named<'h, H: AcpiHandler, T: AcpiTable>(
     }
 }
 
-/// What lies at an address, with a header.
-pub struct Named<'h, H: AcpiHandler> {
-    head: Claim<'h, H>,
-    ghost header: { length (shown_by head) ≡ 36 },
-    ghost shown: { lent (H.memory (claimed_from head)) (claimed_at head) 36 ≡ Ok (shown_by head) } by { Prim.hlevel props },
-    ghost lent: { IsLentOf (H.memory (claimed_from head)) head } by { Prim.hlevel props },
+/// The bytes of a table that is valid for some type, as they are lent: small, so that a walk along
+/// many addresses makes nothing as big as a record of those that it passes over.
+pub struct ValidTable<'h, H: AcpiHandler> {
+    claim: Claim<'h, H>,
 }
 
-/// What lies at an address, where its header bears this signature, or why no table of any kind with
-/// this signature lies there. What it answers is small, so that a walk along many addresses makes
-/// nothing of those that bear another one.
-#[inline(always)]
-pub fn named_at<'h, H: AcpiHandler>(
-    handler: &'h H,
-    address: u64,
-    signature: Signature,
-) -> AcpiResult<Named<'h, H>>
-    ensures start { IfOk result (λ n. claimed_at n.head ≡ address) }
-    ensures handler { IfOk result (λ n. claimed_from n.head ≡ handler.now) }
-    ensures refused { IfErr result (λ e. (k : Kind) → k.signature ≡ signature
-        → table_at (H.memory handler.now) k address ≡ Err e) }
-{
-    let head = claim_named(handler, address, signature)?;
-    Ok(Named { head })
+impl<'h, H: AcpiHandler> ValidTable<'h, H> {
+    ghost use Rattle.acpi_base.specs.Claim.{all_of};
+    ghost use Rattle.acpi_base.specs.Mapping.{lent_of};
+
+    /// The table's record, and its bytes.
+    #[inline(always)]
+    pub fn mapping<T: PhysicalRecord>(self) -> PhysicalMapping<'h, H, T>
+        requires { T.MIN_LENGTH ≤ length (shown_by self.claim) }
+        ensures start { start_of result ≡ claimed_at self.entry.claim }
+        ensures bytes { bytes_of result ≡ shown_by self.entry.claim }
+        ensures lent { lent_of result ≡ all_of self.entry.claim }
+        ensures handler { handler_of result ≡ claimed_from self.entry.claim }
+    {
+        let ValidTable { claim } = self;
+        PhysicalMapping::of_claim(claim)
+    }
 }
 
-/// The table there, where it is valid for `T`.
+/// The bytes of the table at an address, where it is valid for `T`.
+///
+/// Refuses as `map_table` does.
 #[inline(always)]
 #[tactic(auto, unfolding(crate::specs::Table::table_at))]
-pub fn map_found<'h, H: AcpiHandler, T: AcpiTable>(
-    named: Named<'h, H>,
-) -> AcpiResult<PhysicalMapping<'h, H, T>>
-    ensures place { IfOk result (λ m. start_of m ≡ claimed_at named.entry.head) }
-    ensures handler { IfOk result (λ m. handler_of m ≡ claimed_from named.entry.head) }
+pub fn valid_at<'h, H: AcpiHandler, T: AcpiTable>(
+    handler: &'h H,
+    address: u64,
+) -> AcpiResult<ValidTable<'h, H>>
+    ensures place { IfOk result (λ v. claimed_at v.claim ≡ address) }
+    ensures handler { IfOk result (λ v. claimed_from v.claim ≡ handler.now) }
+    ensures least { IfOk result (λ v. T.MIN_LENGTH ≤ length (shown_by v.claim)) }
     // However many bytes were lent, all of them are the memory's.
-    ensures lent { IfOk result (λ m. IsOfMemory (H.memory (claimed_from named.entry.head)) m) }
-    ensures table { let m = H.memory (claimed_from named.entry.head) in Gives (λ x. bytes_of x) result
-        (table_at m (kind T.SIGNATURE T.MIN_LENGTH T.verdict) (claimed_at named.entry.head)) }
+    ensures lent { IfOk result (λ v. IsLentOf (H.memory handler.now) v.claim) }
+    ensures table { Gives (λ v. shown_by v.claim) result
+        (table_at (H.memory handler.now) (kind T.SIGNATURE T.MIN_LENGTH T.verdict) address) }
 {
-    let Named { head } = named;
-    map_named(head)
+    let head = claim_named(handler, address, T::SIGNATURE)?;
+    let claim = claim_valid::<H, T>(head)?;
+    Ok(ValidTable { claim })
 }
 
 /// The table at an address, where it is valid for `T` (sections 5.2.5 and 5.2.6).
@@ -177,7 +179,6 @@ pub fn map_found<'h, H: AcpiHandler, T: AcpiTable>(
 /// under `T::MIN_LENGTH`, `MapFailed` where `length` bytes aren't lent, and with what
 /// `T::validate` refuses these bytes with.
 #[inline(always)]
-#[tactic(auto, unfolding(crate::specs::Table::table_at))]
 pub fn map_table<'h, H: AcpiHandler, T: AcpiTable>(
     handler: &'h H,
     address: u64,
@@ -189,8 +190,8 @@ pub fn map_table<'h, H: AcpiHandler, T: AcpiTable>(
     ensures table { Gives (λ m. bytes_of m) result
         (table_at (H.memory handler.now) (kind T.SIGNATURE T.MIN_LENGTH T.verdict) address) }
 {
-    let head = claim_named(handler, address, T::SIGNATURE)?;
-    map_named(head)
+    let valid = valid_at::<H, T>(handler, address)?;
+    Ok(valid.mapping())
 }
 
 /// The table whose header is claimed, where it is valid under this signature as one of which only
