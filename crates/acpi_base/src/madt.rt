@@ -22,6 +22,7 @@ pub use apic::{
     InterruptSourceOverrideEntry, IoApicEntry, LocalApicAddressOverrideEntry, LocalApicEntry,
     LocalApicNmiEntry, LocalX2ApicEntry, NmiSourceEntry, X2ApicNmiEntry,
 };
+pub(crate) use entry::LEAST_LENGTHS;
 pub use entry::{EntryHeader, MadtEntry};
 pub use gic::{
     GicInterruptTranslationServiceEntry, GicMsiFrameEntry, GicRedistributorEntry, GiccEntry,

@@ -54,7 +54,6 @@ impl PhysicalRecord for GiccEntry {
 
     ghost reading = { gicc_at };
 
-    #[inline(always)]
     fn read(bytes: &[u8]) -> Self {
         GiccEntry {
             header: EntryHeader::read(bytes),
@@ -101,7 +100,6 @@ impl PhysicalRecord for GicdEntry {
 
     ghost reading = { gicd_at };
 
-    #[inline(always)]
     fn read(bytes: &[u8]) -> Self {
         GicdEntry {
             header: EntryHeader::read(bytes),
@@ -139,7 +137,6 @@ impl PhysicalRecord for GicMsiFrameEntry {
 
     ghost reading = { gic_msi_frame_at };
 
-    #[inline(always)]
     fn read(bytes: &[u8]) -> Self {
         GicMsiFrameEntry {
             header: EntryHeader::read(bytes),
@@ -172,7 +169,6 @@ impl PhysicalRecord for GicRedistributorEntry {
 
     ghost reading = { gic_redistributor_at };
 
-    #[inline(always)]
     fn read(bytes: &[u8]) -> Self {
         GicRedistributorEntry {
             header: EntryHeader::read(bytes),
@@ -202,7 +198,6 @@ impl PhysicalRecord for GicInterruptTranslationServiceEntry {
 
     ghost reading = { gic_translation_service_at };
 
-    #[inline(always)]
     fn read(bytes: &[u8]) -> Self {
         GicInterruptTranslationServiceEntry {
             header: EntryHeader::read(bytes),

@@ -26,7 +26,6 @@ impl PhysicalRecord for IoSapicEntry {
 
     ghost reading = { io_sapic_at };
 
-    #[inline(always)]
     fn read(bytes: &[u8]) -> Self {
         IoSapicEntry {
             header: EntryHeader::read(bytes),
@@ -63,7 +62,6 @@ impl PhysicalRecord for LocalSapicEntry {
 
     ghost reading = { local_sapic_at };
 
-    #[inline(always)]
     fn read(bytes: &[u8]) -> Self {
         LocalSapicEntry {
             header: EntryHeader::read(bytes),
@@ -106,7 +104,6 @@ impl PhysicalRecord for PlatformInterruptSourceEntry {
 
     ghost reading = { platform_interrupt_source_at };
 
-    #[inline(always)]
     fn read(bytes: &[u8]) -> Self {
         PlatformInterruptSourceEntry {
             header: EntryHeader::read(bytes),
