@@ -17,7 +17,7 @@ use crate::mapping::PhysicalMapping;
 use crate::model::{ModelAndProcessors, model_in};
 use crate::sdt::SdtHeader;
 use crate::signature::Signature;
-use crate::table::AcpiTable;
+use crate::table::{AcpiTable, sum_refusal};
 pub use apic::{
     InterruptSourceOverrideEntry, IoApicEntry, LocalApicAddressOverrideEntry, LocalApicEntry,
     LocalApicNmiEntry, LocalX2ApicEntry, NmiSourceEntry, X2ApicNmiEntry,
@@ -83,6 +83,10 @@ impl AcpiTable for Madt {
 
     fn validate(&self, bytes: &[u8]) -> AcpiResult<()> {
         self.header().validate(Self::SIGNATURE, bytes)
+    }
+
+    fn validate_rest(bytes: &[u8]) -> AcpiResult<()> {
+        sum_refusal(Self::SIGNATURE, bytes)
     }
 
     ghost least = { lit≤ tt };

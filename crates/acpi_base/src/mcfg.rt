@@ -6,7 +6,7 @@ use crate::handler::{AcpiHandler, PhysicalRecord};
 use crate::mapping::PhysicalMapping;
 use crate::sdt::SdtHeader;
 use crate::signature::Signature;
-use crate::table::AcpiTable;
+use crate::table::{AcpiTable, sum_refusal};
 
 /// The MCFG, whose signature section 5.2.6 reserves and whose layout is the PCI Firmware
 /// Specification's: regions of memory, each with the configuration space of some buses. Its entries
@@ -51,6 +51,10 @@ impl AcpiTable for Mcfg {
 
     fn validate(&self, bytes: &[u8]) -> AcpiResult<()> {
         self.header().validate(Self::SIGNATURE, bytes)
+    }
+
+    fn validate_rest(bytes: &[u8]) -> AcpiResult<()> {
+        sum_refusal(Self::SIGNATURE, bytes)
     }
 
     ghost least = { lit≤ tt };

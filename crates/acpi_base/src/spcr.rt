@@ -13,7 +13,7 @@ use crate::handler::{AcpiHandler, PhysicalRecord};
 use crate::mapping::PhysicalMapping;
 use crate::sdt::SdtHeader;
 use crate::signature::Signature;
-use crate::table::AcpiTable;
+use crate::table::{AcpiTable, sum_refusal};
 use bitflags::Flags;
 pub use flags::{SpcrFlowControl, SpcrInterruptType, SpcrTerminalType};
 pub use interface::SpcrInterfaceType;
@@ -110,6 +110,10 @@ impl AcpiTable for Spcr {
 
     fn validate(&self, bytes: &[u8]) -> AcpiResult<()> {
         self.header().validate(Self::SIGNATURE, bytes)
+    }
+
+    fn validate_rest(bytes: &[u8]) -> AcpiResult<()> {
+        sum_refusal(Self::SIGNATURE, bytes)
     }
 
     ghost least = { lit≤ tt };

@@ -1,7 +1,7 @@
 //! Types of tables, and the table at an address.
 ghost use Rattle.std.specs.Prelude.{◌≡◌, ℕ, ◌+◌, ◌^◌, ◌<◌, ◌≤◌, List, length, Result, IfErr, IfOk, Ok, Err};
 ghost use Rattle.acpi_base.specs.Claim.{IsLentOf, claimed_at, claimed_from, shown_by};
-ghost use Rattle.acpi_base.specs.Header.{header_at};
+ghost use Rattle.acpi_base.specs.Header.{check_names, check_table, header_at};
 ghost use Rattle.acpi_base.specs.Mapping.{IsOfMemory, start_of, bytes_of, handler_of};
 ghost use Rattle.acpi_base.specs.Steps.{Gives, lent};
 ghost use Rattle.acpi_base.specs.Table.{Kind, kind, own_table_at, plain_kind, table_at, table_of};
@@ -41,7 +41,37 @@ pub trait AcpiTable: PhysicalRecord {
         requires read { self.now ≡ Self.reading bytes.now }
         ensures { result ≡ verdict bytes.now };
 
+    /// What `validate` answers for the record that these bytes mean, where their header is known to
+    /// have the names that a table of this type bears, and to give as long a table as they are. A
+    /// lookup asks it of each member that has such a header. A type whose verdict is `check_table`
+    /// need only look at the sum: `sum_refusal` does.
+    #[inline(always)]
+    fn validate_rest(bytes: &[u8]) -> AcpiResult<()>
+        requires least { Self.MIN_LENGTH ≤ length bytes.now }
+        requires names { check_names SIGNATURE (header_at bytes.now) ≡ Ok tt }
+        requires length { (header_at bytes.now).length ≡ length bytes.now }
+        ensures { result ≡ verdict bytes.now }
+    {
+        Self::read(bytes).validate(bytes)
+    }
+
     ghost least: { 36 ≤ Self.MIN_LENGTH };
+}
+
+/// What is left to check of a table whose header has the names and gives the length: that its bytes
+/// sum to 0 modulo 256.
+#[inline(always)]
+#[tactic(auto, using(crate::proofs::Plain::bad_rest, crate::proofs::Plain::good_rest))]
+pub fn sum_refusal(signature: Signature, bytes: &[u8]) -> AcpiResult<()>
+    requires least { 36 ≤ length bytes.now }
+    requires names { check_names signature (header_at bytes.now) ≡ Ok tt }
+    requires length { (header_at bytes.now).length ≡ length bytes.now }
+    ensures { result ≡ check_table signature bytes.now }
+{
+    if byte_sum(bytes) != 0 {
+        return Err(AcpiError::SdtInvalidChecksum(signature));
+    }
+    Ok(())
 }
 
 /// The header's bytes at an address, where they begin with this signature. Most members that a
@@ -100,14 +130,14 @@ fn claim_whole<'h, H: AcpiHandler>(
     }
 }
 
-/// What lies where a header is claimed, where it is a table that is valid for `T`. Of the record
-/// that is read for the check only what the check looks at is made, where the compiler reads it in
-/// line: the record that is handed on is read once the table is found, where it is to lie.
+/// What lies where a header is claimed, where it is a table that is valid for `T`. No record is made
+/// of it here: it is small to hand on, and the record is read where it is to lie.
 #[inline(never)]
-#[tactic(auto, unfolding(crate::specs::Table::table_of))]
+#[tactic(auto, using(crate::proofs::Plain::names_there, crate::proofs::Plain::length_there), unfolding(crate::specs::Table::table_of))]
 fn claim_valid<'h, H: AcpiHandler, T: AcpiTable>(head: Claim<'h, H>) -> AcpiResult<Claim<'h, H>>
     requires header { length (shown_by head) ≡ 36 }
     requires lent { IsLentOf (H.memory (claimed_from head)) head }
+    requires shown { lent (H.memory (claimed_from head)) (claimed_at head) 36 ≡ Ok (shown_by head) }
     ensures start { IfOk result (λ c. claimed_at c ≡ claimed_at head.entry) }
     ensures handler { IfOk result (λ c. claimed_from c ≡ claimed_from head.entry) }
     ensures least { IfOk result (λ c. T.MIN_LENGTH ≤ length (shown_by c)) }
@@ -117,7 +147,7 @@ fn claim_valid<'h, H: AcpiHandler, T: AcpiTable>(head: Claim<'h, H>) -> AcpiResu
         (claimed_at head.entry) (shown_by head.entry)) }
 {
     let whole = claim_whole(head, T::SIGNATURE, T::MIN_LENGTH)?;
-    match T::read(whole.shown()).validate(whole.shown()) {
+    match T::validate_rest(whole.shown()) {
         Ok(()) => Ok(whole),
         Err(error) => {
             whole.end();
