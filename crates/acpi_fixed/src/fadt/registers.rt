@@ -1,15 +1,11 @@
 //! What the FADT gives in two ways: by a field of its first versions, and by an extended one.
 ghost use Rattle.std.specs.Prelude.{◌≡◌, ◌+◌, ◌≤◌};
-ghost use Rattle.acpi_base.specs.Bytes.{filled_part};
 ghost use Rattle.acpi_fixed.specs.Registers.{address_or, register_of};
 
 use super::extended::extended_address_in;
-use super::front::Front;
 use acpi_base::address::{AccessSize, AddressSpace, GenericAddress, RawAddress};
-use acpi_base::bytes::{field, filled};
+use acpi_base::bytes::{field, field_in, filled};
 use acpi_base::{AcpiError, AcpiResult};
-use std::fmt;
-use std::fmt::{Debug, Formatter, Write};
 
 /// The 64-bit address where it is there and not 0, else the 32-bit one.
 ///
@@ -70,7 +66,7 @@ impl RegisterBlock {
         ensures { result ≡ usable_extended self.now.extended }
     {
         match self.extended {
-            Some(raw) if field(&raw, 4, 8) != 0 => Some(raw),
+            Some(raw) if field_in(&raw, 4, 8) != 0 => Some(raw),
             _ => None,
         }
     }
@@ -154,7 +150,7 @@ impl Registers {
     /// The registers that a table says: each block by the offsets of its address, of its length and
     /// of its extended field.
     #[inline(always)]
-    fn read(table: &[u8]) -> Registers
+    pub(crate) fn read(table: &[u8]) -> Registers
         ensures { result ≡ registers_at table.now }
     {
         Registers {
@@ -170,147 +166,5 @@ impl Registers {
             sleep_control: extended_address_in(table, 244),
             sleep_status: extended_address_in(table, 256),
         }
-    }
-}
-
-/// The first bytes of a table, which say where the registers lie. They are read when a register is
-/// asked for: most who look a FADT up ask for few.
-#[derive(Clone, Copy)]
-pub(crate) struct RegisterBytes {
-    /// The table's bytes, with zeros behind the end of a shorter table.
-    front: Front,
-    /// How many of these the table has.
-    count: usize,
-}
-
-impl RegisterBytes {
-    ghost use Rattle.std.specs.Prelude.{take};
-    ghost use Rattle.acpi_fixed.specs.Registers.{bytes_kept, kept_of, registers_in};
-
-    /// What is kept of a table.
-    #[inline(always)]
-    #[tactic(auto, using(crate::proofs::Front::count_kept))]
-    pub(crate) fn new(front: &Front, table: &[u8]) -> RegisterBytes
-        requires { front.now ≡ filled_part table.now 0 276 }
-        ensures { result ≡ kept_of table.now }
-    {
-        RegisterBytes {
-            front: *front,
-            count: table.len().min(276),
-        }
-    }
-
-    /// Those of these bytes that the table has.
-    #[inline(always)]
-    fn table(&self) -> &[u8]
-        ensures { result.now ≡ bytes_kept self.now }
-    {
-        match self.front.get(..self.count) {
-            Some(table) => table,
-            None => &self.front,
-        }
-    }
-
-    /// The registers that these bytes say.
-    #[inline(always)]
-    #[tactic(auto, unfolding(crate::specs::Registers::registers_in))]
-    pub(crate) fn registers(&self) -> Registers
-        ensures { result ≡ registers_in self.now }
-    {
-        Registers::read(self.table())
-    }
-
-    #[inline(always)]
-    #[tactic(auto, unfolding(crate::specs::Registers::registers_in))]
-    pub(crate) fn pm1a_event(&self) -> RegisterBlock
-        ensures { result ≡ (registers_in self.now).pm1a_event }
-    {
-        RegisterBlock::read(self.table(), 56, 88, 148)
-    }
-
-    #[inline(always)]
-    #[tactic(auto, unfolding(crate::specs::Registers::registers_in))]
-    pub(crate) fn pm1b_event(&self) -> RegisterBlock
-        ensures { result ≡ (registers_in self.now).pm1b_event }
-    {
-        RegisterBlock::read(self.table(), 60, 88, 160)
-    }
-
-    #[inline(always)]
-    #[tactic(auto, unfolding(crate::specs::Registers::registers_in))]
-    pub(crate) fn pm1a_control(&self) -> RegisterBlock
-        ensures { result ≡ (registers_in self.now).pm1a_control }
-    {
-        RegisterBlock::read(self.table(), 64, 89, 172)
-    }
-
-    #[inline(always)]
-    #[tactic(auto, unfolding(crate::specs::Registers::registers_in))]
-    pub(crate) fn pm1b_control(&self) -> RegisterBlock
-        ensures { result ≡ (registers_in self.now).pm1b_control }
-    {
-        RegisterBlock::read(self.table(), 68, 89, 184)
-    }
-
-    #[inline(always)]
-    #[tactic(auto, unfolding(crate::specs::Registers::registers_in))]
-    pub(crate) fn pm2_control(&self) -> RegisterBlock
-        ensures { result ≡ (registers_in self.now).pm2_control }
-    {
-        RegisterBlock::read(self.table(), 72, 90, 196)
-    }
-
-    #[inline(always)]
-    #[tactic(auto, unfolding(crate::specs::Registers::registers_in))]
-    pub(crate) fn pm_timer(&self) -> RegisterBlock
-        ensures { result ≡ (registers_in self.now).pm_timer }
-    {
-        RegisterBlock::read(self.table(), 76, 91, 208)
-    }
-
-    #[inline(always)]
-    #[tactic(auto, unfolding(crate::specs::Registers::registers_in))]
-    pub(crate) fn gpe0(&self) -> RegisterBlock
-        ensures { result ≡ (registers_in self.now).gpe0 }
-    {
-        RegisterBlock::read(self.table(), 80, 92, 220)
-    }
-
-    #[inline(always)]
-    #[tactic(auto, unfolding(crate::specs::Registers::registers_in))]
-    pub(crate) fn gpe1(&self) -> RegisterBlock
-        ensures { result ≡ (registers_in self.now).gpe1 }
-    {
-        RegisterBlock::read(self.table(), 84, 93, 232)
-    }
-
-    #[inline(always)]
-    #[tactic(auto, unfolding(crate::specs::Registers::registers_in))]
-    pub(crate) fn reset(&self) -> RawAddress
-        ensures { result ≡ (registers_in self.now).reset }
-    {
-        filled(self.table(), 116)
-    }
-
-    #[inline(always)]
-    #[tactic(auto, unfolding(crate::specs::Registers::registers_in))]
-    pub(crate) fn sleep_control(&self) -> Option<RawAddress>
-        ensures { result ≡ (registers_in self.now).sleep_control }
-    {
-        extended_address_in(self.table(), 244)
-    }
-
-    #[inline(always)]
-    #[tactic(auto, unfolding(crate::specs::Registers::registers_in))]
-    pub(crate) fn sleep_status(&self) -> Option<RawAddress>
-        ensures { result ≡ (registers_in self.now).sleep_status }
-    {
-        extended_address_in(self.table(), 256)
-    }
-}
-
-impl Debug for RegisterBytes {
-    fn fmt<W: Write>(&self, f: &mut Formatter<W>) -> fmt::Result {
-        self.registers().fmt(f)
     }
 }
