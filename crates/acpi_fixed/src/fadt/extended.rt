@@ -4,7 +4,7 @@ ghost use Rattle.acpi_base.specs.Bytes.{field_of};
 ghost use Rattle.acpi_fixed.specs.Registers.{extended_address, extended_number};
 
 use acpi_base::address::RawAddress;
-use acpi_base::bytes::{field, filled};
+use acpi_base::bytes::{field, field_in, filled_in};
 
 /// Whether the table has revision 2 or above, and the `n` bytes at an offset.
 #[inline(always)]
@@ -25,7 +25,7 @@ pub(super) fn extended_number_in(table: &[u8], offset: usize) -> Option<u64>
     ensures { result ≡ extended_number table.now offset }
 {
     if is_extended(table, offset, 8) {
-        Some(field(table, offset, 8))
+        Some(field_in(table, offset, 8))
     } else {
         None
     }
@@ -39,7 +39,7 @@ pub(super) fn extended_address_in(table: &[u8], offset: usize) -> Option<RawAddr
     ensures { result ≡ extended_address table.now offset }
 {
     if is_extended(table, offset, 12) {
-        Some(filled(table, offset))
+        Some(filled_in(table, offset))
     } else {
         None
     }

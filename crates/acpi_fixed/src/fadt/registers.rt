@@ -1,10 +1,10 @@
 //! What the FADT gives in two ways: by a field of its first versions, and by an extended one.
-ghost use Rattle.std.specs.Prelude.{◌≡◌, ◌+◌, ◌≤◌};
+ghost use Rattle.std.specs.Prelude.{◌≡◌, ◌+◌, ◌≤◌, length};
 ghost use Rattle.acpi_fixed.specs.Registers.{address_or, register_of};
 
 use super::extended::extended_address_in;
 use acpi_base::address::{AccessSize, AddressSpace, GenericAddress, RawAddress};
-use acpi_base::bytes::{field, field_in, filled};
+use acpi_base::bytes::{field_in, filled};
 use acpi_base::{AcpiError, AcpiResult};
 
 /// The 64-bit address where it is there and not 0, else the 32-bit one.
@@ -51,12 +51,15 @@ impl RegisterBlock {
     /// The block whose address, length and extended field a table has at these offsets.
     #[inline(always)]
     pub(super) fn read(table: &[u8], address: usize, size: usize, extended: usize) -> RegisterBlock
-        requires { extended + 12 ≤ 276 }
+        requires table { 116 ≤ length table.now }
+        requires address { address + 4 ≤ 116 }
+        requires size { size + 1 ≤ 116 }
+        requires extended { extended + 12 ≤ 276 }
         ensures { result ≡ block_at table.now address size extended }
     {
         RegisterBlock {
-            address: field(table, address, 4) as u32,
-            size: field(table, size, 1) as u8,
+            address: field_in(table, address, 4) as u32,
+            size: field_in(table, size, 1) as u8,
             extended: extended_address_in(table, extended),
         }
     }
@@ -151,6 +154,7 @@ impl Registers {
     /// of its extended field.
     #[inline(always)]
     pub(crate) fn read(table: &[u8]) -> Registers
+        requires { 116 ≤ length table.now }
         ensures { result ≡ registers_at table.now }
     {
         Registers {
