@@ -105,27 +105,9 @@ impl MadtEntry {
     ghost use Rattle.acpi_base.specs.Entries.{IsEntry};
     ghost use Rattle.acpi_base.specs.Madt.{entry_of, madt_lengths};
 
-    /// `read_any`, with the kinds that there are most of read in line.
+    /// What an entry says, or `None` where its kind is reserved or the maker's.
     #[inline(always)]
     pub(crate) fn read(entry: &[u8]) -> Option<MadtEntry>
-        requires { IsEntry madt_lengths entry.now }
-        ensures { result ≡ entry_of entry.now }
-    {
-        match entry[0] {
-            0x00 => Some(MadtEntry::LocalApic(LocalApicEntry::read(entry))),
-            0x01 => Some(MadtEntry::IoApic(IoApicEntry::read(entry))),
-            0x02 => Some(MadtEntry::InterruptSourceOverride(InterruptSourceOverrideEntry::read(
-                entry,
-            ))),
-            0x04 => Some(MadtEntry::LocalApicNmi(LocalApicNmiEntry::read(entry))),
-            0x09 => Some(MadtEntry::LocalX2Apic(LocalX2ApicEntry::read(entry))),
-            _ => MadtEntry::read_any(entry),
-        }
-    }
-
-    /// What an entry says, or `None` where its kind is reserved or the maker's.
-    #[inline(never)]
-    fn read_any(entry: &[u8]) -> Option<MadtEntry>
         requires { IsEntry madt_lengths entry.now }
         ensures { result ≡ entry_of entry.now }
     {
