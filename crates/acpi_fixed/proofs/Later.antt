@@ -1,6 +1,7 @@
 -- Fields that came with revision 2 are there exactly where the revision and the length say so.
-use Rattle.std.proofs.Common.{◌≡◌, ℕ, ◌+◌, ◌-◌, ◌&&◌, Bool, true, false, List, None, Some, length, take, drop, ◌++◌, refl, ap, ◌∙◌, arith}
+use Rattle.std.proofs.Common.{◌≡◌, ℕ, ◌+◌, ◌-◌, ◌≤◌, ◌&&◌, Bool, true, false, List, None, Some, length, take, drop, ◌++◌, refl, ap, ◌∙◌, arith}
 use Rattle.std.specs.Prelude.{nat_le, replicate}
+use Rattle.std.proofs.lemmas.Bool.{and_from, le-leb}
 use Rattle.std.proofs.lemmas.List.{take-take}
 use Rattle.acpi_base.specs.Bytes.{field_of, filled_part, number, part}
 use Rattle.acpi_fixed.specs.Registers.{extended_address, extended_in, extended_number}
@@ -35,3 +36,7 @@ address_there b o e = since (λ p. filled_part p 0 12) b o 12 _ _ refl refl e �
 
 pub no_address : (b : List ℕ) (o : ℕ) → is_there b o 12 ≡ false → extended_address b o ≡ None
 no_address b o e = none_since (λ p. filled_part p 0 12) b o 12 _ _ refl refl e
+
+-- a table of revision 2 that is long enough has the field
+pub address_known : (b : List ℕ) (o : ℕ) → 2 ≤ field_of b 8 1 → o + 12 ≤ length b → extended_address b o ≡ Some (filled_part b o 12)
+address_known b o late long = address_there b o (and_from _ _ (le-leb 2 (field_of b 8 1) late) (le-leb (o + 12) (length b) long))

@@ -1,6 +1,6 @@
 //! The fixed hardware: where its registers lie, and what it can do.
-ghost use Rattle.std.specs.Prelude.{◌≡◌, ◌≤◌, length};
-ghost use Rattle.acpi_fixed.specs.Fadt.{fadt_at, profile_for};
+ghost use Rattle.std.specs.Prelude.{◌≡◌};
+ghost use Rattle.acpi_fixed.specs.Fadt.{profile_for};
 
 mod brief;
 mod extended;
@@ -121,68 +121,47 @@ fn profile_from(code: u8) -> PowerProfile
 }
 
 impl PhysicalRecord for Fadt {
+    ghost use Rattle.acpi_fixed.specs.Fadt.{fadt_at};
+
     const MIN_LENGTH: usize = 116;
 
     ghost MIN_LENGTH = { 116 };
 
     ghost reading = { fadt_at };
 
+    #[tactic(auto, unfolding(crate::specs::Fadt::fadt_at))]
     fn read(bytes: &[u8]) -> Self {
-        if bytes.len() < 244 || bytes[8] < 2 {
-            fields_of_short(bytes)
-        } else {
-            fields_of(bytes)
+        Fadt {
+            header: SdtHeader::read(bytes),
+            firmware_ctrl: field_in(bytes, 36, 4) as u32,
+            dsdt_address: field_in(bytes, 40, 4) as u32,
+            preferred_pm_profile: field_in(bytes, 45, 1) as u8,
+            sci_interrupt: field_in(bytes, 46, 2) as u16,
+            smi_cmd_port: field_in(bytes, 48, 4) as u32,
+            acpi_enable: field_in(bytes, 52, 1) as u8,
+            acpi_disable: field_in(bytes, 53, 1) as u8,
+            s4bios_req: field_in(bytes, 54, 1) as u8,
+            pstate_control: field_in(bytes, 55, 1) as u8,
+            registers: Registers::read(bytes),
+            gpe1_base: field_in(bytes, 94, 1) as u8,
+            c_state_control: field_in(bytes, 95, 1) as u8,
+            worst_c2_latency: field_in(bytes, 96, 2) as u16,
+            worst_c3_latency: field_in(bytes, 98, 2) as u16,
+            flush_size: field_in(bytes, 100, 2) as u16,
+            flush_stride: field_in(bytes, 102, 2) as u16,
+            duty_offset: field_in(bytes, 104, 1) as u8,
+            duty_width: field_in(bytes, 105, 1) as u8,
+            day_alarm: field_in(bytes, 106, 1) as u8,
+            month_alarm: field_in(bytes, 107, 1) as u8,
+            century: field_in(bytes, 108, 1) as u8,
+            iapc_boot_arch: IaPcBootArchFlags::new(field_in(bytes, 109, 2) as u16),
+            flags: FixedFeatureFlags::new(field_in(bytes, 112, 4) as u32),
+            reset_value: field(bytes, 128, 1) as u8,
+            arm_boot_arch: ArmBootArchFlags::new(field(bytes, 129, 2) as u16),
+            x_firmware_ctrl: extended_number_in(bytes, 132),
+            x_dsdt_address: extended_number_in(bytes, 140),
         }
     }
-}
-
-/// The fields of a table's bytes. Where the length and the revision are known to have all blocks of
-/// registers, none of these is tested for lying in the table.
-#[inline(always)]
-#[tactic(auto, unfolding(crate::specs::Fadt::fadt_at))]
-fn fields_of(bytes: &[u8]) -> Fadt
-    requires { 116 ≤ length bytes.now }
-    ensures { result ≡ fadt_at bytes.now }
-{
-    Fadt {
-        header: SdtHeader::read(bytes),
-        firmware_ctrl: field_in(bytes, 36, 4) as u32,
-        dsdt_address: field_in(bytes, 40, 4) as u32,
-        preferred_pm_profile: field_in(bytes, 45, 1) as u8,
-        sci_interrupt: field_in(bytes, 46, 2) as u16,
-        smi_cmd_port: field_in(bytes, 48, 4) as u32,
-        acpi_enable: field_in(bytes, 52, 1) as u8,
-        acpi_disable: field_in(bytes, 53, 1) as u8,
-        s4bios_req: field_in(bytes, 54, 1) as u8,
-        pstate_control: field_in(bytes, 55, 1) as u8,
-        registers: Registers::read(bytes),
-        gpe1_base: field_in(bytes, 94, 1) as u8,
-        c_state_control: field_in(bytes, 95, 1) as u8,
-        worst_c2_latency: field_in(bytes, 96, 2) as u16,
-        worst_c3_latency: field_in(bytes, 98, 2) as u16,
-        flush_size: field_in(bytes, 100, 2) as u16,
-        flush_stride: field_in(bytes, 102, 2) as u16,
-        duty_offset: field_in(bytes, 104, 1) as u8,
-        duty_width: field_in(bytes, 105, 1) as u8,
-        day_alarm: field_in(bytes, 106, 1) as u8,
-        month_alarm: field_in(bytes, 107, 1) as u8,
-        century: field_in(bytes, 108, 1) as u8,
-        iapc_boot_arch: IaPcBootArchFlags::new(field_in(bytes, 109, 2) as u16),
-        flags: FixedFeatureFlags::new(field_in(bytes, 112, 4) as u32),
-        reset_value: field(bytes, 128, 1) as u8,
-        arm_boot_arch: ArmBootArchFlags::new(field(bytes, 129, 2) as u16),
-        x_firmware_ctrl: extended_number_in(bytes, 132),
-        x_dsdt_address: extended_number_in(bytes, 140),
-    }
-}
-
-/// The same, out of line: few tables are of the first revision or end before the blocks do.
-#[inline(never)]
-fn fields_of_short(bytes: &[u8]) -> Fadt
-    requires { 116 ≤ length bytes.now }
-    ensures { result ≡ fadt_at bytes.now }
-{
-    fields_of(bytes)
 }
 
 impl AcpiTable for Fadt {

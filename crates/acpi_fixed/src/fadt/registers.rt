@@ -4,7 +4,7 @@ ghost use Rattle.acpi_fixed.specs.Registers.{address_or, register_of};
 
 use super::extended::extended_address_in;
 use acpi_base::address::{AccessSize, AddressSpace, GenericAddress, RawAddress};
-use acpi_base::bytes::{field_in, filled};
+use acpi_base::bytes::{field_in, filled, filled_in};
 use acpi_base::{AcpiError, AcpiResult};
 
 /// The 64-bit address where it is there and not 0, else the 32-bit one.
@@ -45,6 +45,7 @@ pub(crate) struct RegisterBlock {
 }
 
 impl RegisterBlock {
+    ghost use Rattle.acpi_base.specs.Bytes.{field_of};
     ghost use Rattle.acpi_fixed.specs.Registers.{block_at, block_of, usable_extended};
     ghost use Rattle.acpi_fixed.specs.Registers.{optional_block_of, ports_at, timer_block_of};
 
@@ -61,6 +62,24 @@ impl RegisterBlock {
             address: field_in(table, address, 4) as u32,
             size: field_in(table, size, 1) as u8,
             extended: extended_address_in(table, extended),
+        }
+    }
+
+    /// The same of a table that is known to have the extended field.
+    #[inline(always)]
+    #[tactic(auto, using(crate::proofs::Later::address_known))]
+    fn read_there(table: &[u8], address: usize, size: usize, extended: usize) -> RegisterBlock
+        requires table { 116 ≤ length table.now }
+        requires late { 2 ≤ field_of table.now 8 1 }
+        requires address { address + 4 ≤ 116 }
+        requires size { size + 1 ≤ 116 }
+        requires extended { extended + 12 ≤ length table.now }
+        ensures { result ≡ block_at table.now address size extended }
+    {
+        RegisterBlock {
+            address: field_in(table, address, 4) as u32,
+            size: field_in(table, size, 1) as u8,
+            extended: Some(filled_in(table, extended)),
         }
     }
 
@@ -148,12 +167,26 @@ pub(crate) struct Registers {
 }
 
 impl Registers {
+    ghost use Rattle.acpi_base.specs.Bytes.{field_of};
     ghost use Rattle.acpi_fixed.specs.Registers.{registers_at};
 
-    /// The registers that a table says: each block by the offsets of its address, of its length and
-    /// of its extended field.
+    /// The registers that a table says.
     #[inline(always)]
     pub(crate) fn read(table: &[u8]) -> Registers
+        requires { 116 ≤ length table.now }
+        ensures { result ≡ registers_at table.now }
+    {
+        if table.len() >= 244 && field_in(table, 8, 1) >= 2 {
+            Registers::read_there(table)
+        } else {
+            Registers::read_short(table)
+        }
+    }
+
+    /// The same of any table: each block by the offsets of its address, of its length and of its
+    /// extended field. It is out of line, since most tables have all the blocks.
+    #[inline(never)]
+    fn read_short(table: &[u8]) -> Registers
         requires { 116 ≤ length table.now }
         ensures { result ≡ registers_at table.now }
     {
@@ -167,6 +200,28 @@ impl Registers {
             gpe0: RegisterBlock::read(table, 80, 92, 220),
             gpe1: RegisterBlock::read(table, 84, 93, 232),
             reset: filled(table, 116),
+            sleep_control: extended_address_in(table, 244),
+            sleep_status: extended_address_in(table, 256),
+        }
+    }
+
+    /// The same of a table that is known to have all the blocks: none is tested for it.
+    #[inline(always)]
+    fn read_there(table: &[u8]) -> Registers
+        requires long { 244 ≤ length table.now }
+        requires late { 2 ≤ field_of table.now 8 1 }
+        ensures { result ≡ registers_at table.now }
+    {
+        Registers {
+            pm1a_event: RegisterBlock::read_there(table, 56, 88, 148),
+            pm1b_event: RegisterBlock::read_there(table, 60, 88, 160),
+            pm1a_control: RegisterBlock::read_there(table, 64, 89, 172),
+            pm1b_control: RegisterBlock::read_there(table, 68, 89, 184),
+            pm2_control: RegisterBlock::read_there(table, 72, 90, 196),
+            pm_timer: RegisterBlock::read_there(table, 76, 91, 208),
+            gpe0: RegisterBlock::read_there(table, 80, 92, 220),
+            gpe1: RegisterBlock::read_there(table, 84, 93, 232),
+            reset: filled_in(table, 116),
             sleep_control: extended_address_in(table, 244),
             sleep_status: extended_address_in(table, 256),
         }
