@@ -129,6 +129,8 @@ impl PhysicalRecord for Fadt {
 
     ghost reading = { fadt_at };
 
+    // Out of line, since a call writes the record where it is wanted, and code in line copies it there.
+    #[inline(never)]
     #[tactic(auto, unfolding(crate::specs::Fadt::fadt_at))]
     fn read(bytes: &[u8]) -> Self {
         Fadt {
