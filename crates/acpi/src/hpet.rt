@@ -4,8 +4,9 @@ ghost use Rattle.acpi_base.specs.Bits.{bits_of};
 ghost use Rattle.acpi.specs.Hpet.{protection_of};
 
 use crate::tables::AcpiTables;
-use acpi_base::bytes::{bits, field, has_bit};
+use acpi_base::bytes::{bits, field_in, has_bit};
 use acpi_base::sdt::SdtHeader;
+use acpi_base::table::sum_refusal;
 use acpi_base::{AcpiError, AcpiResult, AcpiTable, Lender, PhysicalRecord, Signature};
 
 /// The HPET, whose signature section 5.2.6 reserves and whose layout is the IA-PC HPET
@@ -34,12 +35,12 @@ impl PhysicalRecord for HpetTable {
     fn read(bytes: &[u8]) -> Self {
         HpetTable {
             header: SdtHeader::read(bytes),
-            event_timer_block_id: field(bytes, 36, 4) as u32,
-            address_space: field(bytes, 40, 1) as u8,
-            address: field(bytes, 44, 8),
-            hpet_number: field(bytes, 52, 1) as u8,
-            clock_tick_unit: field(bytes, 53, 2) as u16,
-            page_protection_and_oem: field(bytes, 55, 1) as u8,
+            event_timer_block_id: field_in(bytes, 36, 4) as u32,
+            address_space: field_in(bytes, 40, 1) as u8,
+            address: field_in(bytes, 44, 8),
+            hpet_number: field_in(bytes, 52, 1) as u8,
+            clock_tick_unit: field_in(bytes, 53, 2) as u16,
+            page_protection_and_oem: field_in(bytes, 55, 1) as u8,
         }
     }
 }
@@ -62,6 +63,10 @@ impl AcpiTable for HpetTable {
 
     fn validate(&self, bytes: &[u8]) -> AcpiResult<()> {
         self.header().validate(Self::SIGNATURE, bytes)
+    }
+
+    fn validate_rest(bytes: &[u8]) -> AcpiResult<()> {
+        sum_refusal(Self::SIGNATURE, bytes)
     }
 
     ghost least = { lit≤ tt };

@@ -2,6 +2,7 @@
 ghost use Rattle.std.specs.Prelude.{◌≡◌, ◌^◌, ◌<◌, length, Some};
 ghost use Rattle.std.specs.Result.{result_ok};
 ghost use Rattle.std.proofs.Props.{props};
+ghost use Rattle.acpi_base.specs.Claim.{IsLentOf, claimed_at, claimed_from, shown_by};
 ghost use Rattle.acpi_base.specs.Mapping.{IsOfMemory, start_of, bytes_of, handler_of};
 ghost use Rattle.acpi.specs.Root.{root_at};
 
@@ -15,7 +16,8 @@ use crate::records::{AmlTable, aml_behind};
 use crate::root::RootKind;
 use crate::ssdts::SsdtIterator;
 use acpi_base::bytes::skip;
-use acpi_base::sdt::{SdtHeader, map_sdt, map_table};
+use acpi_base::sdt::{SdtHeader, map_sdt};
+use acpi_base::table::{ValidTable, valid_at};
 use acpi_base::{AcpiError, AcpiResult, AcpiTable, Lender, PhysicalMapping, Signature};
 use acpi_fixed::fadt::FadtBrief;
 use std::alloc::{Allocator, Global};
@@ -64,18 +66,24 @@ impl<'h, H: Lender> AcpiTables<'h, H> {
         Pointers::new(self.kind.width(), skip(self.root.bytes(), 36))
     }
 
-    /// The table at an address, where it is valid for `T`.
+    /// The bytes of the first member of the root list that is valid for `T`.
     #[inline(always)]
-    fn member<T: AcpiTable>(&self, address: u64) -> AcpiResult<PhysicalMapping<'h, H, T>>
-        requires { Allows (may_of self.now) (table_ranges (memory_of self.now)
-            (kind T.SIGNATURE T.MIN_LENGTH T.verdict) address) }
-        ensures place { IfOk result (λ m. start_of m ≡ address) }
-        ensures handler { IfOk result (λ m. handler_of m ≡ lender_of self.now) }
-        ensures lent { IfOk result (λ m. IsOfMemory (memory_of self.now) m) }
-        ensures table { Gives (λ m. bytes_of m) result
-            (table_at (memory_of self.now) (kind T.SIGNATURE T.MIN_LENGTH T.verdict) address) }
+    fn first_valid<T: AcpiTable>(&self) -> AcpiResult<ValidTable<'h, H>>
+        requires { let k = kind T.SIGNATURE T.MIN_LENGTH T.verdict in
+            AllowsBelow self.now (λ m. lookup_ranges m k) }
+        ensures handler { IfOk result (λ v. claimed_from v.claim ≡ lender_of self.now) }
+        ensures lent { IfOk result (λ v. IsLentOf (memory_of self.now) v.claim) }
+        ensures least { IfOk result (λ v. T.MIN_LENGTH ≤ length (shown_by v.claim)) }
+        ensures found { let k = kind T.SIGNATURE T.MIN_LENGTH T.verdict in
+            Gives (λ v. (claimed_at v.claim, shown_by v.claim)) result
+            (lookup (memory_of self.now) k (pointers_of self.now)) }
     {
-        map_table(self.root.handler(), address)
+        for address in self.pointers() {
+            if let Ok(found) = valid_at::<H, T>(self.root.handler(), address) {
+                return Ok(found);
+            }
+        }
+        Err(AcpiError::TableMissing(T::SIGNATURE))
     }
 
     /// The first member of the root list that is valid for `T`.
@@ -89,14 +97,8 @@ impl<'h, H: Lender> AcpiTables<'h, H> {
             Gives (λ m. (start_of m, bytes_of m)) result
             (lookup (memory_of self.now) k (pointers_of self.now)) }
     {
-        for address in self.pointers() {
-            // It is handed on as it is, since a table's record may be long.
-            let found = self.member::<T>(address);
-            if found.is_ok() {
-                return found;
-            }
-        }
-        Err(AcpiError::TableMissing(T::SIGNATURE))
+        let found = self.first_valid::<T>()?;
+        Ok(found.mapping())
     }
 
     /// The first member of the root list that is valid for `T`: its address is the mapping's

@@ -14,6 +14,7 @@ pub mod Orders
 pub mod Own
 pub mod Plain
 pub mod Regions
+pub mod Said
 pub mod Spelling
 pub mod Steps
 pub mod Sums

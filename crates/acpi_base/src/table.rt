@@ -1,7 +1,7 @@
 //! Types of tables, and the table at an address.
 ghost use Rattle.std.specs.Prelude.{◌≡◌, ℕ, true, ◌+◌, ◌^◌, ◌<◌, ◌≤◌, List, length, Result, IfErr, IfOk, Ok, Err};
 ghost use Rattle.acpi_base.specs.Claim.{IsLentOf, claimed_at, claimed_from, shown_by};
-ghost use Rattle.acpi_base.specs.Header.{header_at};
+ghost use Rattle.acpi_base.specs.Header.{check_names, check_table, header_at};
 ghost use Rattle.acpi_base.specs.Mapping.{IsOfMemory, start_of, bytes_of, handler_of};
 ghost use Rattle.acpi_base.specs.Ranges.{Allows, own_table_ranges, table_ranges, whole_ranges};
 ghost use Rattle.acpi_base.specs.Steps.{Gives, lent};
@@ -42,7 +42,37 @@ pub trait AcpiTable: PhysicalRecord {
         requires read { self.now ≡ Self.reading bytes.now }
         ensures { result ≡ verdict bytes.now };
 
+    /// What `validate` answers for the record that these bytes mean, where their header is known to
+    /// have the names that a table of this type bears, and to give as long a table as they are. A
+    /// lookup asks it of each member that has such a header. A type whose verdict is `check_table`
+    /// need only look at the sum: `sum_refusal` does.
+    #[inline(always)]
+    fn validate_rest(bytes: &[u8]) -> AcpiResult<()>
+        requires least { Self.MIN_LENGTH ≤ length bytes.now }
+        requires names { check_names SIGNATURE (header_at bytes.now) ≡ Ok tt }
+        requires length { (header_at bytes.now).length ≡ length bytes.now }
+        ensures { result ≡ verdict bytes.now }
+    {
+        Self::read(bytes).validate(bytes)
+    }
+
     ghost least: { 36 ≤ Self.MIN_LENGTH };
+}
+
+/// What is left to check of a table whose header has the names and gives the length: that its bytes
+/// sum to 0 modulo 256.
+#[inline(always)]
+#[tactic(auto, using(crate::proofs::Plain::bad_rest, crate::proofs::Plain::good_rest))]
+pub fn sum_refusal(signature: Signature, bytes: &[u8]) -> AcpiResult<()>
+    requires least { 36 ≤ length bytes.now }
+    requires names { check_names signature (header_at bytes.now) ≡ Ok tt }
+    requires length { (header_at bytes.now).length ≡ length bytes.now }
+    ensures { result ≡ check_table signature bytes.now }
+{
+    if byte_sum(bytes) != 0 {
+        return Err(AcpiError::SdtInvalidChecksum(signature));
+    }
+    Ok(())
 }
 
 /// The header's bytes at an address, where they begin with this signature. Most members that a
@@ -104,27 +134,80 @@ fn claim_whole<'h, H: Lender>(
     }
 }
 
-/// The table whose header is claimed, where it is valid for `T`.
+/// What lies where a header is claimed, where it is a table that is valid for `T`. No record is made
+/// of it here: it is small to hand on, and the record is read where it is to lie.
 #[inline(never)]
-#[tactic(auto, unfolding(crate::specs::Table::table_of))]
-fn map_named<'h, H: Lender, T: AcpiTable>(
-    head: Claim<'h, H>,
-) -> AcpiResult<PhysicalMapping<'h, H, T>>
+#[tactic(auto, using(crate::proofs::Plain::names_there, crate::proofs::Plain::length_there), unfolding(crate::specs::Table::table_of))]
+fn claim_valid<'h, H: Lender, T: AcpiTable>(head: Claim<'h, H>) -> AcpiResult<Claim<'h, H>>
     requires header { length (shown_by head) ≡ 36 }
     requires lent { IsLentOf (H.memory (claimed_from head)) head }
+    requires shown { lent (H.memory (claimed_from head)) (claimed_at head) 36 ≡ Ok (shown_by head) }
     requires asked { Allows (H.may (claimed_from head))
         (whole_ranges T.SIGNATURE T.MIN_LENGTH (claimed_at head) (shown_by head)) }
-    ensures place { IfOk result (λ m. start_of m ≡ claimed_at head.entry) }
-    ensures handler { IfOk result (λ m. handler_of m ≡ claimed_from head.entry) }
-    ensures lent { IfOk result (λ m. IsOfMemory (H.memory (claimed_from head.entry)) m) }
-    ensures table { let m = H.memory (claimed_from head.entry) in Gives (λ x. bytes_of x) result
+    ensures start { IfOk result (λ c. claimed_at c ≡ claimed_at head.entry) }
+    ensures handler { IfOk result (λ c. claimed_from c ≡ claimed_from head.entry) }
+    ensures least { IfOk result (λ c. T.MIN_LENGTH ≤ length (shown_by c)) }
+    ensures all { IfOk result (λ c. IsLentOf (H.memory (claimed_from head.entry)) c) }
+    ensures shown { let m = H.memory (claimed_from head.entry) in Gives (λ c. shown_by c) result
         (table_of m (kind T.SIGNATURE T.MIN_LENGTH T.verdict)
         (claimed_at head.entry) (shown_by head.entry)) }
 {
     let whole = claim_whole(head, T::SIGNATURE, T::MIN_LENGTH)?;
-    let table: PhysicalMapping<'h, H, T> = PhysicalMapping::of_claim(whole);
-    table.get().validate(table.bytes())?;
-    Ok(table)
+    match T::validate_rest(whole.shown()) {
+        Ok(()) => Ok(whole),
+        Err(error) => {
+            whole.end();
+            Err(error)
+        }
+    }
+}
+
+/// The bytes of a table that is valid for some type, as they are lent: small, so that a walk along
+/// many addresses makes nothing as big as a record of those that it passes over.
+pub struct ValidTable<'h, H: Lender> {
+    claim: Claim<'h, H>,
+}
+
+impl<'h, H: Lender> ValidTable<'h, H> {
+    ghost use Rattle.acpi_base.specs.Claim.{all_of};
+    ghost use Rattle.acpi_base.specs.Mapping.{lent_of};
+
+    /// The table's record, and its bytes.
+    #[inline(always)]
+    pub fn mapping<T: PhysicalRecord>(self) -> PhysicalMapping<'h, H, T>
+        requires { T.MIN_LENGTH ≤ length (shown_by self.claim) }
+        ensures start { start_of result ≡ claimed_at self.entry.claim }
+        ensures bytes { bytes_of result ≡ shown_by self.entry.claim }
+        ensures lent { lent_of result ≡ all_of self.entry.claim }
+        ensures handler { handler_of result ≡ claimed_from self.entry.claim }
+    {
+        let ValidTable { claim } = self;
+        PhysicalMapping::of_claim(claim)
+    }
+}
+
+/// The bytes of the table at an address, where it is valid for `T`.
+///
+/// Refuses as `map_table` does.
+#[inline(always)]
+#[tactic(auto, using(crate::proofs::Allowed::asked_header, crate::proofs::Allowed::asked_whole), unfolding(crate::specs::Table::table_at))]
+pub fn valid_at<'h, H: Lender, T: AcpiTable>(
+    handler: &'h H,
+    address: u64,
+) -> AcpiResult<ValidTable<'h, H>>
+    requires { Allows (H.may handler.now) (table_ranges (H.memory handler.now)
+        (kind T.SIGNATURE T.MIN_LENGTH T.verdict) address) }
+    ensures place { IfOk result (λ v. claimed_at v.claim ≡ address) }
+    ensures handler { IfOk result (λ v. claimed_from v.claim ≡ handler.now) }
+    ensures least { IfOk result (λ v. T.MIN_LENGTH ≤ length (shown_by v.claim)) }
+    // However many bytes were lent, all of them are the memory's.
+    ensures lent { IfOk result (λ v. IsLentOf (H.memory handler.now) v.claim) }
+    ensures table { Gives (λ v. shown_by v.claim) result
+        (table_at (H.memory handler.now) (kind T.SIGNATURE T.MIN_LENGTH T.verdict) address) }
+{
+    let head = claim_named(handler, address, T::SIGNATURE)?;
+    let claim = claim_valid::<H, T>(head)?;
+    Ok(ValidTable { claim })
 }
 
 /// The table at an address, where it is valid for `T` (sections 5.2.5 and 5.2.6).
@@ -134,7 +217,6 @@ fn map_named<'h, H: Lender, T: AcpiTable>(
 /// under `T::MIN_LENGTH`, `MapFailed` where `length` bytes aren't lent, and with what
 /// `T::validate` refuses these bytes with.
 #[inline(always)]
-#[tactic(auto, using(crate::proofs::Allowed::asked_header, crate::proofs::Allowed::asked_whole), unfolding(crate::specs::Table::table_at))]
 pub fn map_table<'h, H: Lender, T: AcpiTable>(
     handler: &'h H,
     address: u64,
@@ -148,8 +230,8 @@ pub fn map_table<'h, H: Lender, T: AcpiTable>(
     ensures table { Gives (λ m. bytes_of m) result
         (table_at (H.memory handler.now) (kind T.SIGNATURE T.MIN_LENGTH T.verdict) address) }
 {
-    let head = claim_named(handler, address, T::SIGNATURE)?;
-    map_named(head)
+    let valid = valid_at::<H, T>(handler, address)?;
+    Ok(valid.mapping())
 }
 
 /// The table whose header is claimed, where it is valid under this signature as one of which only

@@ -3,7 +3,7 @@ use Rattle.acpi_base.specs.Mapping.{bytes_of}
 use Rattle.acpi_base.specs.Table.{kind}
 use Rattle.acpi.proofs.Asked.{asked_member, later_kept}
 use Rattle.acpi.specs.Tables.{may_of, memory_of}
-use Rattle.acpi.proofs.tables.AcpiTables.first_member.Goals as goal
+use Rattle.acpi.proofs.tables.AcpiTables.first_valid.Goals as goal
 
 pub member-found-requires : goal.member-found-requires
 member-found-requires g c =
