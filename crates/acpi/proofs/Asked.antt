@@ -1,6 +1,6 @@
 -- What may be asked for below a root table: each part of the ranges of a definition.
-use Rattle.std.proofs.Common.{refl, ap, sym, drop, slice_get, ◌≡◌, ℕ, zero, suc, ◌+◌, ◌-◌, ◌*◌, ◌<◌, List, [], ◌∷◌, ◌++◌, Bool, true, false, subst, Option, Some, None, Result, Ok, Err, arith}
-use Rattle.std.specs.Prelude.{MatchOption, flat_map, is_ok}
+use Rattle.std.proofs.Common.{refl, ap, sym, drop, slice_get, ◌≡◌, ℕ, zero, suc, ◌+◌, ◌-◌, ◌*◌, ◌<◌, List, [], ◌∷◌, ◌++◌, Bool, true, subst, Option, Some, None, Result, Ok, Err, arith}
+use Rattle.std.specs.Prelude.{MatchOption, flat_map}
 use Rattle.std.proofs.lemmas.Option.{get_or_from_slice_get}
 use Rattle.acpi_base.proofs.Allowed.{all_back, all_front, all_here, all_rest}
 use Rattle.acpi_base.specs.declared.error.AcpiError.{AcpiError}
@@ -8,7 +8,7 @@ use Rattle.acpi_base.specs.declared.signature.TheConstants.Signature.{DSDT}
 use Rattle.acpi_base.specs.Memory.{Memory}
 use Rattle.acpi_base.specs.Ranges as ranges
 use Rattle.acpi_base.specs.Ranges.{Allows, Ranges, table_ranges, unless_found}
-use Rattle.acpi_base.specs.Steps.{Gives, lent}
+use Rattle.acpi_base.specs.Steps.{lent}
 use Rattle.acpi_base.specs.Table.{Kind, plain_kind, table_at}
 use Rattle.acpi_fixed.specs.Fadt.{dsdt_address_of, fadt_at}
 use Rattle.acpi.specs.Footprint.{dsdt_ranges, lookup_ranges, platform_ranges}
@@ -52,11 +52,10 @@ module _ (may : ℕ → ℕ → Bool) where
   asked_later m k p all ps e is h refused = rw refused at (all_back may (table_ranges m k p) _ (rw is at h))
 
   -- a member that isn't valid is passed over
-  pub later_kept : {X : Type 0} (m : Memory) (k : Kind) (p : ℕ) (all ps : List ℕ) (top : Result (ℕ × List ℕ) AcpiError) (r : Result X AcpiError) (view : X → List ℕ)
-      → is_ok r ≡ false → Gives view r (table_at m k p) → all ≡ p ∷ ps → (lookup m k all ≡ top) × Allows may (lookup_ranges m k all)
+  pub later_kept : (m : Memory) (k : Kind) (p : ℕ) (all ps : List ℕ) (top : Result (ℕ × List ℕ) AcpiError) (e : AcpiError)
+      → table_at m k p ≡ Err e → all ≡ p ∷ ps → (lookup m k all ≡ top) × Allows may (lookup_ranges m k all)
       → (lookup m k ps ≡ top) × Allows may (lookup_ranges m k ps)
-  later_kept m k p all ps top (Ok x) view failed said is h = cc
-  later_kept m k p all ps top (Err e) view failed said is h = (rw (is, said) at h.0, asked_later m k p all ps e is h.1 said)
+  later_kept m k p all ps top e refused is h = (rw (is, refused) at h.0, asked_later m k p all ps e is h.1 refused)
 
   -- ---- faults
 
