@@ -1,5 +1,5 @@
 -- Timers and faults compare as equal exactly where they are one.
-use Rattle.std.proofs.Common.{rules, ◌≡◌, ℕ, Bool, true, false, refl}
+use Rattle.std.proofs.Common.{rules, ℕ, Bool, true, false, refl}
 use mathlib.Core.Bool.{beq}
 use Rattle.acpi_base.proofs.Equalities.{addresses_are, errors_are, made, numbers_are, pairs}
 use Rattle.acpi_base.specs.declared.address.GenericAddress.{GenericAddress}

@@ -1,7 +1,7 @@
 -- What is read of a FADT to go on from it is what its whole record says.
 use Rattle.std.proofs.Common.{◌≡◌, ℕ, List, refl, sym, ap}
 use Rattle.acpi_fixed.proofs.Front.{registers_kept}
-use Rattle.acpi_fixed.specs.Brief.{BriefIsBrief, IsBriefOf, brief_at, brief_dsdt_address, brief_profile, brief_flags, brief_timer_block}
+use Rattle.acpi_fixed.specs.Brief.{BriefIsBrief, brief_at, brief_dsdt_address, brief_profile, brief_flags, brief_timer_block}
 use Rattle.acpi_fixed.specs.Fadt.{dsdt_address_of, fadt_at, pm_timer_of, profile_of}
 use Rattle.acpi_fixed.specs.Registers.{timer_block_of}
 
