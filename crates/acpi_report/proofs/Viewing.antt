@@ -1,5 +1,5 @@
 -- What is read is what is viewed.
-use Rattle.std.proofs.Common.{◌≡◌, ◌∙◌, ℕ, List, IfOk, ap, drop, length, subst, sym}
+use Rattle.std.proofs.Common.{◌≡◌, ◌∙◌, ℕ, List, IfOk, ap, drop, length, subst}
 use Rattle.std.proofs.Math.Seq.{drop-append_seam}
 use Rattle.std.specs.Prelude.{Option, Result, Ok, Err}
 use Rattle.acpi_words.specs.Reads.{Asks, FileRead, contents_of}
