@@ -1,3 +1,4 @@
+pub mod Asked
 pub mod Brief
 pub mod Agreed
 pub mod AgreedOpened

@@ -26,3 +26,9 @@ pub pointers_none : (w : ℕ) (bs : List ℕ) → length bs ≡ 0 → pointers w
 unfolding pointers
 pointers_none w [] h = refl
 pointers_none w (b ∷ bs) h = absurd (omega arith)
+
+pub pointers_after : (w : ℕ) (bs : List ℕ) → 1 ≤ w → pointers w (drop w bs) ≡ drop 1 (pointers w bs)
+pointers_after w [] some =
+    let len : length (drop w []) ≡ 0 = omega (arith, length-drop {A = ℕ} w []) in
+    rw (pointers_none w (drop w []) len, pointers_none w [] refl) refl
+pointers_after w (b ∷ bs) some = rw (pointers_step w (b ∷ bs) some (omega arith)) refl

@@ -4,7 +4,7 @@ use Rattle.std.specs.Prelude.{ℕ, List, [], ◌∷◌, ◌++◌, drop, flat_map
 use Rattle.acpi_base.specs.declared.error.AcpiError.{AcpiError}
 use Rattle.acpi_base.specs.declared.signature.TheConstants.Signature.{DSDT, SSDT}
 use Rattle.acpi_base.specs.Memory.{Memory}
-use Rattle.acpi_base.specs.Ranges.{◌>>=◌, Footprint, Ranges}
+use Rattle.acpi_base.specs.Ranges.{◌>>=◌, Allows, Footprint, Ranges}
 use Rattle.acpi_base.specs.Ranges.{own_table_ranges, table_ranges, unless_found}
 use Rattle.acpi_base.specs.Steps as steps
 use Rattle.acpi_base.specs.Table.{Kind, plain_kind, table_at}
@@ -13,7 +13,7 @@ use Rattle.acpi.specs.Lists.{fadt_kind}
 use Rattle.acpi.specs.Lookup.{lookup}
 use Rattle.acpi.specs.Platform.{madt_kind}
 use Rattle.acpi.specs.Root.{pointers, root_at, root_kind, width_of}
-use Rattle.acpi.specs.Tables.{kind_of, memory_of, pointers_of, root_address_of}
+use Rattle.acpi.specs.Tables.{kind_of, may_of, memory_of, pointers_of, root_address_of}
 use Rattle.acpi.specs.declared.root.RootKind.{RootKind}
 use Rattle.acpi.specs.declared.tables.AcpiTables.{AcpiTables}
 
@@ -55,6 +55,10 @@ abbrev pub below : {A : Type 0} → Memory → RootKind → ℕ → (List ℕ �
     → Result A AcpiError
 below m kind address defined =
     steps.◌>>=◌ (root_at m kind address) (λ root. defined (pointers (width_of kind) (drop 36 root)))
+
+-- the handler of tables may be asked for these ranges of their pointers
+abbrev pub AllowsBelow : {H h : _} → AcpiTables H h → (Memory → List ℕ → Ranges) → Type 0
+AllowsBelow t ranges = Allows (may_of t) (ranges (memory_of t) (pointers_of t))
 
 -- what a call says of tables by a definition over their pointers, it says by that definition over
 -- every memory that agrees with theirs at the root table's ranges and at these

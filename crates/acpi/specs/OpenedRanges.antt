@@ -1,9 +1,11 @@
 -- The ranges of a memory that the RSDP, the search for it and what they lead to depend on.
-use Rattle.std.specs.Prelude.{ℕ, zero, suc, ◌+◌, [], ◌∷◌, ◌++◌, Option, Some, None}
+use Rattle.std.specs.Prelude.{ℕ, zero, suc, ◌+◌, List, [], ◌∷◌, ◌++◌, drop, Option, Some, None}
 use Rattle.acpi_base.specs.Memory.{Memory}
 use Rattle.acpi_base.specs.Ranges.{◌>>=◌, Ranges, unless_found}
 use Rattle.acpi_base.specs.Steps.{lent}
 use Rattle.acpi.specs.Footprint.{root_ranges}
+use Rattle.acpi.specs.Opened.{opened_from}
+use Rattle.acpi.specs.Root.{pointers, width_of}
 use Rattle.acpi.specs.Rsdp.{length_of, root_of_rsdp, rsdp_at}
 use Rattle.acpi.specs.Search.{count_of, first_area, found_in, found_rsdp, room_of, second_area}
 use Rattle.acpi.specs.Search.{word_in}
@@ -55,6 +57,12 @@ search_ranges m = (0x40e, 2) ∷ do
 -- those of `opened_from`
 abbrev pub opened_ranges : Memory → RootPlace → Ranges
 opened_ranges m place = root_ranges m place.kind place.address
+
+-- those of a root table and, where it is opened, of a call below it
+abbrev pub root_and_ranges : Memory → RootPlace → (Memory → List ℕ → Ranges) → Ranges
+root_and_ranges m place ranges = opened_ranges m place ++ do
+  opened ← opened_from m place
+  ranges m (pointers (width_of opened.kind) (drop 36 opened.root))
 
 -- those of `opened_by_rsdp`: the RSDP's, and where it is valid, those of the root it leads to
 abbrev pub opened_by_rsdp_ranges : Memory → ℕ → Ranges

@@ -1,5 +1,5 @@
 -- What a value of `AcpiTables` shows.
-use Rattle.std.specs.Prelude.{◌≡◌, ◌↔◌, ℕ, List, drop}
+use Rattle.std.specs.Prelude.{◌≡◌, ◌↔◌, ℕ, Bool, List, drop}
 use Rattle.acpi_base.specs.Mapping as mapping
 use Rattle.acpi_base.specs.Memory.{Memory}
 use Rattle.acpi.specs.Root.{IsPointers, pointers, width_of}
@@ -13,6 +13,10 @@ lender_of t = mapping.handler_of t.root
 -- the memory that it lends
 abbrev pub memory_of : {H h : _} → AcpiTables H h → Memory
 memory_of {h = h} t = h.memory (lender_of t)
+
+-- which ranges it may be asked for
+abbrev pub may_of : {H h : _} → AcpiTables H h → ℕ → ℕ → Bool
+may_of {h = h} t = h.may (lender_of t)
 
 abbrev pub revision_of : {H h : _} → AcpiTables H h → ℕ
 revision_of t = t.revision

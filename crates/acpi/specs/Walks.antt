@@ -11,11 +11,11 @@ use Rattle.acpi.specs.declared.headers.SdtHeaderIterator.{SdtHeaderIterator}
 use Rattle.acpi.specs.declared.ssdts.SsdtIterator.{SsdtIterator}
 use Rattle.acpi.specs.declared.faults.TableFaults.{TableFaults}
 
-abbrev pub headers_left : {H : Type 0} → (H → Memory) → SdtHeaderIterator H → List SdtHeader
+abbrev pub headers_left : {H : Type 0} {h : _} → (H → Memory) → SdtHeaderIterator H h → List SdtHeader
 headers_left memory s = valid_headers (memory s.handler.now) (pointers_left s.pointers)
 
-abbrev pub ssdts_left : {H : Type 0} → (H → Memory) → SsdtIterator H → List AmlTable
+abbrev pub ssdts_left : {H : Type 0} {h : _} → (H → Memory) → SsdtIterator H h → List AmlTable
 ssdts_left memory s = ssdt_streams (memory s.handler.now) (pointers_left s.pointers)
 
-abbrev pub faults_left : {H T : Type 0} → (H → Memory) → Kind → TableFaults H T → List TableFault
+abbrev pub faults_left : {H T : Type 0} {h t u : _} → (H → Memory) → Kind → TableFaults H T h t u → List TableFault
 faults_left memory k s = faults_of (memory s.handler.now) k (pointers_left s.pointers)

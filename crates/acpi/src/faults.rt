@@ -1,28 +1,36 @@
 //! Why listed tables of a type were passed over.
+ghost use Rattle.std.proofs.Props.{props};
+ghost use Rattle.acpi_base.specs.Ranges.{Allows};
+ghost use Rattle.acpi_base.specs.Table.{kind};
+ghost use Rattle.acpi.specs.Footprint.{lookup_ranges};
+ghost use Rattle.acpi.specs.Pointers.{pointers_left};
+
 use crate::pointers::Pointers;
 use crate::records::TableFault;
 use acpi_base::sdt::map_table;
-use acpi_base::{AcpiError, AcpiHandler, AcpiTable};
+use acpi_base::{AcpiError, AcpiTable, Lender};
 use std::marker::PhantomData;
 
 /// The faults of the listed tables that a lookup of `T` passes over: of each one before the first
 /// that is valid for `T`, or of all where none is, in the order of the root table. A table of
 /// another signature is no fault.
 #[derive(Drop)]
-pub struct TableFaults<'t, 'h, H: AcpiHandler, T: AcpiTable> {
+pub struct TableFaults<'t, 'h, H: Lender, T: AcpiTable> {
     handler: &'h H,
     pointers: Pointers<'t>,
     sought: PhantomData<T>,
+    ghost asked: { Allows (H.may handler.now) (lookup_ranges (H.memory handler.now)
+        (kind T.SIGNATURE T.MIN_LENGTH T.verdict) (pointers_left pointers)) } by { Prim.hlevel props },
 }
 
-impl<'t, 'h, H: AcpiHandler, T: AcpiTable> TableFaults<'t, 'h, H, T> {
+impl<'t, 'h, H: Lender, T: AcpiTable> TableFaults<'t, 'h, H, T> {
     ghost use Rattle.std.specs.Prelude.{◌≡◌};
-    ghost use Rattle.acpi_base.specs.Table.{kind};
     ghost use Rattle.acpi.specs.Lists.{faults_of};
-    ghost use Rattle.acpi.specs.Pointers.{pointers_left};
     ghost use Rattle.acpi.specs.Walks.{faults_left};
 
     pub(crate) fn new(handler: &'h H, pointers: Pointers<'t>) -> Self
+        requires { Allows (H.may handler.now) (lookup_ranges (H.memory handler.now)
+            (kind T.SIGNATURE T.MIN_LENGTH T.verdict) (pointers_left pointers)) }
         ensures { let k = kind T.SIGNATURE T.MIN_LENGTH T.verdict in
             faults_left H.memory k result
             ≡ faults_of (H.memory handler.now) k (pointers_left pointers.entry) }
@@ -35,9 +43,8 @@ impl<'t, 'h, H: AcpiHandler, T: AcpiTable> TableFaults<'t, 'h, H, T> {
     }
 }
 
-impl<H: AcpiHandler, T: AcpiTable> Iterator for TableFaults<'_, '_, H, T> {
+impl<H: Lender, T: AcpiTable> Iterator for TableFaults<'_, '_, H, T> {
     ghost use Rattle.std.specs.Iterator.{YieldsFirst, item_count};
-    ghost use Rattle.acpi_base.specs.Table.{kind};
     ghost use Rattle.acpi.specs.Walks.{faults_left};
 
     type Item = TableFault;
@@ -49,11 +56,19 @@ impl<H: AcpiHandler, T: AcpiTable> Iterator for TableFaults<'_, '_, H, T> {
         item_count (faults_left H.memory k) };
 
     fn next(&mut self) -> Option<TableFault> {
-        while let Some(address) = self.pointers.next() {
+        // A pointer is passed only once its table is looked at: of those after a valid one, none may
+        // be asked for.
+        while let Some(address) = self.pointers.peek() {
             match map_table::<H, T>(self.handler, address) {
-                Ok(_) => self.pointers.end(),
-                Err(AcpiError::SdtInvalidSignature(_)) => {}
-                Err(error) => return Some(TableFault { address, error }),
+                Ok(_) => {
+                    self.pointers.end();
+                    return None;
+                }
+                Err(AcpiError::SdtInvalidSignature(_)) => self.pointers.pass(),
+                Err(error) => {
+                    self.pointers.pass();
+                    return Some(TableFault { address, error });
+                }
             }
         }
         None

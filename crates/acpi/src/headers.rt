@@ -1,23 +1,31 @@
 //! The headers of all valid tables.
+ghost use Rattle.std.proofs.Props.{props};
+ghost use Rattle.acpi_base.specs.Ranges.{Allows};
+ghost use Rattle.acpi.specs.Footprint.{header_ranges};
+ghost use Rattle.acpi.specs.Pointers.{pointers_left};
+
 use crate::pointers::Pointers;
-use acpi_base::AcpiHandler;
+use acpi_base::Lender;
 use acpi_base::sdt::{SdtHeader, map_own_sdt};
 
 /// The headers of all listed tables that are valid under the signatures that they bear, in the
 /// order of the root table. A table that is listed twice comes twice.
 #[derive(Drop)]
-pub struct SdtHeaderIterator<'t, 'h, H: AcpiHandler> {
+pub struct SdtHeaderIterator<'t, 'h, H: Lender> {
     handler: &'h H,
     pointers: Pointers<'t>,
+    ghost asked: { Allows (H.may handler.now)
+        (header_ranges (H.memory handler.now) (pointers_left pointers)) } by { Prim.hlevel props },
 }
 
-impl<'t, 'h, H: AcpiHandler> SdtHeaderIterator<'t, 'h, H> {
+impl<'t, 'h, H: Lender> SdtHeaderIterator<'t, 'h, H> {
     ghost use Rattle.std.specs.Prelude.{◌≡◌};
     ghost use Rattle.acpi.specs.Lists.{valid_headers};
-    ghost use Rattle.acpi.specs.Pointers.{pointers_left};
     ghost use Rattle.acpi.specs.Walks.{headers_left};
 
     pub(crate) fn new(handler: &'h H, pointers: Pointers<'t>) -> Self
+        requires { Allows (H.may handler.now)
+            (header_ranges (H.memory handler.now) (pointers_left pointers)) }
         ensures { headers_left H.memory result
             ≡ valid_headers (H.memory handler.now) (pointers_left pointers.entry) }
     {
@@ -25,7 +33,7 @@ impl<'t, 'h, H: AcpiHandler> SdtHeaderIterator<'t, 'h, H> {
     }
 }
 
-impl<H: AcpiHandler> Iterator for SdtHeaderIterator<'_, '_, H> {
+impl<H: Lender> Iterator for SdtHeaderIterator<'_, '_, H> {
     ghost use Rattle.std.specs.Iterator.{YieldsFirst, item_count};
     ghost use Rattle.acpi.specs.Walks.{headers_left};
 

@@ -4,9 +4,10 @@ ghost use Rattle.acpi_base.specs.Bits.{bits_of};
 ghost use Rattle.acpi.specs.Hpet.{protection_of};
 
 use crate::tables::AcpiTables;
-use acpi_base::bytes::{bits, field, has_bit};
+use acpi_base::bytes::{bits, field_in, has_bit};
 use acpi_base::sdt::SdtHeader;
-use acpi_base::{AcpiError, AcpiHandler, AcpiResult, AcpiTable, PhysicalRecord, Signature};
+use acpi_base::table::sum_refusal;
+use acpi_base::{AcpiError, AcpiResult, AcpiTable, Lender, PhysicalRecord, Signature};
 
 /// The HPET, whose signature section 5.2.6 reserves and whose layout is the IA-PC HPET
 /// Specification's. `HpetInfo` shows what it says.
@@ -34,12 +35,12 @@ impl PhysicalRecord for HpetTable {
     fn read(bytes: &[u8]) -> Self {
         HpetTable {
             header: SdtHeader::read(bytes),
-            event_timer_block_id: field(bytes, 36, 4) as u32,
-            address_space: field(bytes, 40, 1) as u8,
-            address: field(bytes, 44, 8),
-            hpet_number: field(bytes, 52, 1) as u8,
-            clock_tick_unit: field(bytes, 53, 2) as u16,
-            page_protection_and_oem: field(bytes, 55, 1) as u8,
+            event_timer_block_id: field_in(bytes, 36, 4) as u32,
+            address_space: field_in(bytes, 40, 1) as u8,
+            address: field_in(bytes, 44, 8),
+            hpet_number: field_in(bytes, 52, 1) as u8,
+            clock_tick_unit: field_in(bytes, 53, 2) as u16,
+            page_protection_and_oem: field_in(bytes, 55, 1) as u8,
         }
     }
 }
@@ -62,6 +63,10 @@ impl AcpiTable for HpetTable {
 
     fn validate(&self, bytes: &[u8]) -> AcpiResult<()> {
         self.header().validate(Self::SIGNATURE, bytes)
+    }
+
+    fn validate_rest(bytes: &[u8]) -> AcpiResult<()> {
+        sum_refusal(Self::SIGNATURE, bytes)
     }
 
     ghost least = { lit≤ tt };
@@ -99,7 +104,7 @@ pub struct HpetInfo {
 impl HpetInfo {
     ghost use Rattle.std.specs.Prelude.{◌+◌};
     ghost use Rattle.acpi_base.specs.Bits.{has_bit};
-    ghost use Rattle.acpi.specs.Footprint.{FootprintBelow, lookup_ranges};
+    ghost use Rattle.acpi.specs.Footprint.{AllowsBelow, FootprintBelow, lookup_ranges};
     ghost use Rattle.acpi.specs.Hpet.{hpet_kind, hpet_of, info_of};
     ghost use Rattle.acpi.specs.Relocation.{Relocation};
     ghost use Rattle.acpi.specs.Tables.{memory_of, pointers_of};
@@ -109,7 +114,8 @@ impl HpetInfo {
     ///
     /// Refuses with `TableMissing` where no valid HPET is listed, and with `InvalidGenericAddress`
     /// where its registers don't lie in memory.
-    pub fn new<H: AcpiHandler>(tables: &AcpiTables<'_, H>) -> AcpiResult<HpetInfo>
+    pub fn new<H: Lender>(tables: &AcpiTables<'_, H>) -> AcpiResult<HpetInfo>
+        requires { AllowsBelow tables.now (λ m. lookup_ranges m hpet_kind) }
         ensures exact { result ≡ hpet_of (memory_of tables.now) (pointers_of tables.now) }
         // It depends on what the lookup of the HPET depends on.
         ensures footprint { FootprintBelow tables.now (λ m. lookup_ranges m hpet_kind) hpet_of
@@ -121,7 +127,8 @@ impl HpetInfo {
     }
 
     /// `new`, by the exact clause from which its laws follow.
-    fn found<H: AcpiHandler>(tables: &AcpiTables<'_, H>) -> AcpiResult<HpetInfo>
+    fn found<H: Lender>(tables: &AcpiTables<'_, H>) -> AcpiResult<HpetInfo>
+        requires { AllowsBelow tables.now (λ m. lookup_ranges m hpet_kind) }
         ensures { result ≡ hpet_of (memory_of tables.now) (pointers_of tables.now) }
     {
         let table = tables.find_table::<HpetTable>()?;

@@ -7,7 +7,7 @@ ghost use Rattle.acpi_base.specs.declared.mcfg.McfgEntry.{McfgEntry};
 use crate::tables::AcpiTables;
 use acpi_base::managed_slice::ManagedSlice;
 pub use acpi_base::mcfg::{Mcfg, McfgEntry, McfgEntryIter};
-use acpi_base::{AcpiHandler, AcpiResult};
+use acpi_base::{AcpiResult, Lender};
 use std::alloc::{AllocError, Allocator, Global};
 use std::marker::Model;
 use std::ops::RangeInclusive;
@@ -28,13 +28,14 @@ impl<A: Allocator> Model for PciConfigRegions<A> {
 
 impl PciConfigRegions<Global> {
     ghost use Rattle.acpi_base.specs.Steps.{GivesOrFull};
-    ghost use Rattle.acpi.specs.Footprint.{FootprintBelow, lookup_ranges};
+    ghost use Rattle.acpi.specs.Footprint.{AllowsBelow, FootprintBelow, lookup_ranges};
     ghost use Rattle.acpi.specs.Pci.{RegionsAsk, found_regions, mcfg_kind};
     ghost use Rattle.acpi.specs.Relocation.{Relocation};
     ghost use Rattle.acpi.specs.Tables.{memory_of, pointers_of};
 
     /// `new_in` over the global allocator.
-    pub fn new<H: AcpiHandler>(alloc: Global, tables: &AcpiTables<'_, H>) -> AcpiResult<Self>
+    pub fn new<H: Lender>(alloc: Global, tables: &AcpiTables<'_, H>) -> AcpiResult<Self>
+        requires { AllowsBelow tables.now (λ m. lookup_ranges m mcfg_kind) }
         ensures exact { GivesOrFull (RegionsAsk (memory_of tables.now) (pointers_of tables.now))
             result (found_regions (memory_of tables.now) (pointers_of tables.now)) }
         // It depends on what the lookup of the MCFG depends on.
@@ -50,7 +51,7 @@ impl PciConfigRegions<Global> {
 
 impl<A: Allocator> PciConfigRegions<A> {
     ghost use Rattle.acpi_base.specs.Steps.{GivesOrFull};
-    ghost use Rattle.acpi.specs.Footprint.{FootprintBelow, lookup_ranges};
+    ghost use Rattle.acpi.specs.Footprint.{AllowsBelow, FootprintBelow, lookup_ranges};
     ghost use Rattle.acpi.specs.Pci.{RegionsAsk, IsApart, entries_left, found_regions, mcfg_kind};
     ghost use Rattle.acpi.specs.Pci.{pci_address};
     ghost use Rattle.acpi.specs.Relocation.{Relocation};
@@ -60,7 +61,8 @@ impl<A: Allocator> PciConfigRegions<A> {
     ///
     /// Refuses with `TableMissing` where no valid MCFG is listed, and with `AllocError` where a growth
     /// is refused.
-    pub fn new_in<H: AcpiHandler>(tables: &AcpiTables<'_, H>, allocator: A) -> AcpiResult<Self>
+    pub fn new_in<H: Lender>(tables: &AcpiTables<'_, H>, allocator: A) -> AcpiResult<Self>
+        requires { AllowsBelow tables.now (λ m. lookup_ranges m mcfg_kind) }
         ensures exact { GivesOrFull (RegionsAsk (memory_of tables.now) (pointers_of tables.now))
             result (found_regions (memory_of tables.now) (pointers_of tables.now)) }
         // It depends on what the lookup of the MCFG depends on.
@@ -74,7 +76,8 @@ impl<A: Allocator> PciConfigRegions<A> {
     }
 
     /// `new_in`, by the exact clause from which its laws follow.
-    fn found<H: AcpiHandler>(tables: &AcpiTables<'_, H>, allocator: A) -> AcpiResult<Self>
+    fn found<H: Lender>(tables: &AcpiTables<'_, H>, allocator: A) -> AcpiResult<Self>
+        requires { AllowsBelow tables.now (λ m. lookup_ranges m mcfg_kind) }
         ensures { GivesOrFull (RegionsAsk (memory_of tables.now) (pointers_of tables.now)) result
             (found_regions (memory_of tables.now) (pointers_of tables.now)) }
     {

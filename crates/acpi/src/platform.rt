@@ -1,7 +1,7 @@
 //! What the platform has, as the tables say together.
 ghost use Rattle.acpi_base.specs.Steps.{GivesOrFull};
-ghost use Rattle.acpi.specs.Footprint.{FootprintBelow, platform_ranges};
-ghost use Rattle.acpi.specs.Platform.{PlatformAsks, ModelAsks, model_in, platform_beside, platform_of};
+ghost use Rattle.acpi.specs.Footprint.{AllowsBelow, FootprintBelow, lookup_ranges, platform_ranges};
+ghost use Rattle.acpi.specs.Platform.{PlatformAsks, ModelAsks, madt_kind, model_in, platform_beside, platform_of};
 ghost use Rattle.acpi.specs.Relocation.{Relocation};
 ghost use Rattle.acpi.specs.Tables.{memory_of, pointers_of};
 
@@ -14,7 +14,7 @@ mod wakeup;
 use crate::tables::AcpiTables;
 use acpi_base::madt::Madt;
 pub use acpi_base::model::{ModelAndProcessors, Processor, ProcessorInfo, ProcessorState};
-use acpi_base::{AcpiHandler, AcpiResult};
+use acpi_base::{AcpiResult, Lender};
 use acpi_fixed::fadt::{FadtBrief, PowerProfile};
 use interrupt::InterruptModel;
 pub use mailbox::{Mailbox, MailboxCall, MailboxWrite};
@@ -38,7 +38,8 @@ pub struct PlatformInfo<A: Allocator> {
 
 impl PlatformInfo<Global> {
     /// `new_in` over the global allocator.
-    pub fn new<H: AcpiHandler>(alloc: Global, tables: &AcpiTables<'_, H>) -> AcpiResult<Self>
+    pub fn new<H: Lender>(alloc: Global, tables: &AcpiTables<'_, H>) -> AcpiResult<Self>
+        requires { AllowsBelow tables.now platform_ranges }
         ensures exact { GivesOrFull (PlatformAsks (memory_of tables.now) (pointers_of tables.now))
             result (platform_of (memory_of tables.now) (pointers_of tables.now)) }
         // It depends on what the lookup of the FADT depends on, and where one is found, on what that
@@ -62,7 +63,8 @@ impl<A: Allocator + Clone> PlatformInfo<A> {
     /// `parse_interrupt_model_in` refuses of the MADT, and with what `PmTimer::new` refuses. Memory is
     /// asked for only where the MADT describes APICs; `AllocError` then comes before the timer is looked
     /// at.
-    pub fn new_in<H: AcpiHandler>(tables: &AcpiTables<'_, H>, allocator: A) -> AcpiResult<Self>
+    pub fn new_in<H: Lender>(tables: &AcpiTables<'_, H>, allocator: A) -> AcpiResult<Self>
+        requires { AllowsBelow tables.now platform_ranges }
         ensures exact { GivesOrFull (PlatformAsks (memory_of tables.now) (pointers_of tables.now))
             result (platform_of (memory_of tables.now) (pointers_of tables.now)) }
         // It depends on what the lookup of the FADT depends on, and where one is found, on what that
@@ -78,7 +80,8 @@ impl<A: Allocator + Clone> PlatformInfo<A> {
 
     /// `new_in`, by the exact clause from which its laws follow.
     #[tactic(auto, using(crate::proofs::Brief::profile_of_brief, crate::proofs::Brief::timer_in_brief))]
-    fn found<H: AcpiHandler>(tables: &AcpiTables<'_, H>, allocator: A) -> AcpiResult<Self>
+    fn found<H: Lender>(tables: &AcpiTables<'_, H>, allocator: A) -> AcpiResult<Self>
+        requires { AllowsBelow tables.now platform_ranges }
         ensures { GivesOrFull (PlatformAsks (memory_of tables.now) (pointers_of tables.now)) result
             (platform_of (memory_of tables.now) (pointers_of tables.now)) }
     {
@@ -94,12 +97,13 @@ impl<A: Allocator + Clone> PlatformInfo<A> {
 
     /// What the first valid MADT says, beside what the FADT says: a profile, and a timer or why
     /// that is refused.
-    fn beside<H: AcpiHandler>(
+    fn beside<H: Lender>(
         power_profile: PowerProfile,
         timer: AcpiResult<Option<PmTimer>>,
         tables: &AcpiTables<'_, H>,
         allocator: A,
     ) -> AcpiResult<Self>
+        requires { AllowsBelow tables.now (λ m. lookup_ranges m madt_kind) }
         ensures { GivesOrFull (ModelAsks (memory_of tables.now) (pointers_of tables.now)) result
             (platform_beside (memory_of tables.now) (pointers_of tables.now) power_profile timer) }
     {
@@ -115,10 +119,11 @@ impl<A: Allocator + Clone> PlatformInfo<A> {
 }
 
 /// What the first valid MADT says, or nothing where none is valid.
-fn found_model<H: AcpiHandler, A: Allocator + Clone>(
+fn found_model<H: Lender, A: Allocator + Clone>(
     tables: &AcpiTables<'_, H>,
     allocator: A,
 ) -> AcpiResult<ModelAndProcessors<A>>
+    requires { AllowsBelow tables.now (λ m. lookup_ranges m madt_kind) }
     ensures { GivesOrFull (ModelAsks (memory_of tables.now) (pointers_of tables.now)) result
         (model_in (memory_of tables.now) (pointers_of tables.now)) }
 {

@@ -13,7 +13,7 @@ pub(crate) struct Pointers<'t> {
 }
 
 impl<'t> Pointers<'t> {
-    ghost use Rattle.std.specs.Prelude.{◌≡◌, []};
+    ghost use Rattle.std.specs.Prelude.{◌≡◌, [], drop, slice_get};
     ghost use Rattle.acpi_base.specs.Bytes.{field_of};
     ghost use Rattle.acpi.specs.Pointers.{pointers_left};
     ghost use Rattle.acpi.specs.Root.{pointers};
@@ -37,6 +37,25 @@ impl<'t> Pointers<'t> {
             4 => field(self.rest, 0, 4),
             width => field(self.rest, 0, width),
         }
+    }
+
+    /// The pointer that comes next, if one does. It stays to come.
+    #[tactic(auto, using(crate::proofs::Pieces::pointers_step, crate::proofs::Pieces::pointers_none))]
+    pub(crate) fn peek(&self) -> Option<u64>
+        ensures { result ≡ slice_get (pointers_left self.now) 0 }
+    {
+        if self.rest.is_empty() {
+            return None;
+        }
+        Some(self.first())
+    }
+
+    /// Leaves those after the one that comes next.
+    #[tactic(auto, using(crate::proofs::Pieces::pointers_after))]
+    pub(crate) fn pass(&mut self)
+        ensures { pointers_left self.new ≡ drop 1 (pointers_left self.old) }
+    {
+        self.rest = skip(self.rest, self.width);
     }
 
     /// Leaves no pointer to come.

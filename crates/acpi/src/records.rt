@@ -4,7 +4,7 @@ ghost use Rattle.acpi_base.specs.Mapping.{bytes_of, start_of};
 ghost use Rattle.acpi.specs.Lists.{stream_of};
 
 use acpi_base::sdt::SdtHeader;
-use acpi_base::{AcpiError, AcpiHandler, PhysicalMapping, PhysicalRecord};
+use acpi_base::{AcpiError, Lender, PhysicalMapping, PhysicalRecord};
 
 /// A stream of AML, as it stands behind a table's header.
 #[derive(Clone, Copy, Debug, PartialEq, Eq)]
@@ -36,7 +36,7 @@ pub struct Sdt {
 }
 
 /// The AML behind the header of a table.
-pub(crate) fn aml_behind<H: AcpiHandler>(table: &PhysicalMapping<'_, H, SdtHeader>) -> AmlTable
+pub(crate) fn aml_behind<H: Lender>(table: &PhysicalMapping<'_, H, SdtHeader>) -> AmlTable
     requires short { length (bytes_of table.now) < 2 ^ 32 }
     requires ends { start_of table.now + length (bytes_of table.now) < 2 ^ 64 }
     ensures { result ≡ stream_of (start_of table.now) (bytes_of table.now) }

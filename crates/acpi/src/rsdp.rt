@@ -1,7 +1,9 @@
 //! The Root System Description Pointer (RSDP), which leads to the root table.
-ghost use Rattle.std.specs.Prelude.{◌≡◌, ◌<◌, IfOk};
+ghost use Rattle.std.specs.Prelude.{◌≡◌, ◌<◌, true, IfOk};
 ghost use Rattle.acpi_base.specs.Mapping.{IsOfMemory, start_of, bytes_of, handler_of};
+ghost use Rattle.acpi_base.specs.Ranges.{Allows};
 ghost use Rattle.acpi_base.specs.Steps.{Gives};
+ghost use Rattle.acpi.specs.OpenedRanges.{rsdp_ranges};
 ghost use Rattle.acpi.specs.Rsdp.{check_sum, check_whole_at, rsdp_at};
 
 mod area;
@@ -11,7 +13,7 @@ mod span;
 use self::span::Span;
 use crate::root::{RootKind, RootPlace};
 use acpi_base::bytes::{byte_sum, field, text_of};
-use acpi_base::{AcpiError, AcpiHandler, AcpiResult, PhysicalMapping, PhysicalRecord};
+use acpi_base::{AcpiError, AcpiResult, Lender, PhysicalMapping, PhysicalRecord};
 
 /// The RSDP's 36 bytes (section 5.2.5.3). Revision 0 has only the first 20 of them: the fields
 /// behind mean nothing there.
@@ -231,8 +233,9 @@ fn check_sum(bytes: &[u8]) -> AcpiResult<()>
 }
 
 /// The sum over the whole of an RSDP, whose length says that it has so many bytes.
-fn check_whole<H: AcpiHandler>(handler: &H, address: u64, length: usize) -> AcpiResult<()>
-    requires { 0 < length }
+fn check_whole<H: Lender>(handler: &H, address: u64, length: usize) -> AcpiResult<()>
+    requires some { 0 < length }
+    requires asked { H.may handler.now address length ≡ true }
     ensures { result ≡ check_whole_at (H.memory handler.now) address (Some length) }
 {
     let whole = PhysicalMapping::<'_, H, Span>::map(handler, address, length)?;
@@ -247,10 +250,11 @@ fn check_whole<H: AcpiHandler>(handler: &H, address: u64, length: usize) -> Acpi
 /// 0 it goes on with `RsdpInvalidChecksum` where the length is under 36, `MapFailed` where that
 /// many bytes aren't lent, and `RsdpInvalidChecksum` where they do not sum to 0.
 #[tactic(auto, unfolding(crate::specs::Rsdp::rsdp_at))]
-pub(crate) fn map_rsdp<'h, H: AcpiHandler>(
+pub(crate) fn map_rsdp<'h, H: Lender>(
     handler: &'h H,
     address: u64,
 ) -> AcpiResult<PhysicalMapping<'h, H, Rsdp>>
+    requires { Allows (H.may handler.now) (rsdp_ranges (H.memory handler.now) address) }
     ensures place { IfOk result (λ m. start_of m ≡ address) }
     ensures handler { IfOk result (λ m. handler_of m ≡ handler.now) }
     ensures lent { IfOk result (λ m. IsOfMemory (H.memory handler.now) m) }

@@ -1,24 +1,32 @@
 //! The AML of all valid SSDTs.
+ghost use Rattle.std.proofs.Props.{props};
+ghost use Rattle.acpi_base.specs.Ranges.{Allows};
+ghost use Rattle.acpi.specs.Footprint.{ssdt_ranges};
+ghost use Rattle.acpi.specs.Pointers.{pointers_left};
+
 use crate::pointers::Pointers;
 use crate::records::{AmlTable, aml_behind};
-use acpi_base::AcpiHandler;
+use acpi_base::Lender;
 use acpi_base::sdt::{Signature, map_sdt};
 
 /// The AML of all listed tables that are valid SSDTs (section 5.2.11.2), in the order of the root
 /// table. A table that is listed twice comes twice.
 #[derive(Drop)]
-pub struct SsdtIterator<'t, 'h, H: AcpiHandler> {
+pub struct SsdtIterator<'t, 'h, H: Lender> {
     handler: &'h H,
     pointers: Pointers<'t>,
+    ghost asked: { Allows (H.may handler.now)
+        (ssdt_ranges (H.memory handler.now) (pointers_left pointers)) } by { Prim.hlevel props },
 }
 
-impl<'t, 'h, H: AcpiHandler> SsdtIterator<'t, 'h, H> {
+impl<'t, 'h, H: Lender> SsdtIterator<'t, 'h, H> {
     ghost use Rattle.std.specs.Prelude.{◌≡◌};
     ghost use Rattle.acpi.specs.Lists.{ssdt_streams};
-    ghost use Rattle.acpi.specs.Pointers.{pointers_left};
     ghost use Rattle.acpi.specs.Walks.{ssdts_left};
 
     pub(crate) fn new(handler: &'h H, pointers: Pointers<'t>) -> Self
+        requires { Allows (H.may handler.now)
+            (ssdt_ranges (H.memory handler.now) (pointers_left pointers)) }
         ensures { ssdts_left H.memory result
             ≡ ssdt_streams (H.memory handler.now) (pointers_left pointers.entry) }
     {
@@ -26,7 +34,7 @@ impl<'t, 'h, H: AcpiHandler> SsdtIterator<'t, 'h, H> {
     }
 }
 
-impl<H: AcpiHandler> Iterator for SsdtIterator<'_, '_, H> {
+impl<H: Lender> Iterator for SsdtIterator<'_, '_, H> {
     ghost use Rattle.std.specs.Iterator.{YieldsFirst, item_count};
     ghost use Rattle.acpi.specs.Walks.{ssdts_left};
 

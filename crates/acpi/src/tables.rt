@@ -2,6 +2,7 @@
 ghost use Rattle.std.specs.Prelude.{◌≡◌, ◌^◌, ◌<◌, length, Some};
 ghost use Rattle.std.specs.Result.{result_ok};
 ghost use Rattle.std.proofs.Props.{props};
+ghost use Rattle.acpi_base.specs.Claim.{IsLentOf, claimed_at, claimed_from, shown_by};
 ghost use Rattle.acpi_base.specs.Mapping.{IsOfMemory, start_of, bytes_of, handler_of};
 ghost use Rattle.acpi.specs.Root.{root_at};
 
@@ -15,14 +16,15 @@ use crate::records::{AmlTable, aml_behind};
 use crate::root::RootKind;
 use crate::ssdts::SsdtIterator;
 use acpi_base::bytes::skip;
-use acpi_base::sdt::{SdtHeader, map_sdt, map_table};
-use acpi_base::{AcpiError, AcpiHandler, AcpiResult, AcpiTable, PhysicalMapping, Signature};
+use acpi_base::sdt::{SdtHeader, map_sdt};
+use acpi_base::table::{ValidTable, valid_at};
+use acpi_base::{AcpiError, AcpiResult, AcpiTable, Lender, PhysicalMapping, Signature};
 use acpi_fixed::fadt::FadtBrief;
 use std::alloc::{Allocator, Global};
 
 /// The tables that a root table leads to. The root table stays mapped until this is dropped.
 #[derive(Drop)]
-pub struct AcpiTables<'h, H: AcpiHandler> {
+pub struct AcpiTables<'h, H: Lender> {
     revision: u8,
     kind: RootKind,
     root: PhysicalMapping<'h, H, SdtHeader>,
@@ -31,14 +33,15 @@ pub struct AcpiTables<'h, H: AcpiHandler> {
     ghost short: { length (bytes_of root) < 2 ^ 32 },
 }
 
-impl<'h, H: AcpiHandler> AcpiTables<'h, H> {
+impl<'h, H: Lender> AcpiTables<'h, H> {
     ghost use Rattle.std.specs.Prelude.{◌≤◌, ◌∷◌, ◌++◌, ℕ, List};
     ghost use Rattle.std.specs.Prelude.{IfErr, IsErr, IfOk, Ok, Err};
+    ghost use Rattle.acpi_base.specs.Ranges.{Allows, table_ranges};
     ghost use Rattle.acpi_base.specs.Steps.{Gives, GivesOrFull};
-    ghost use Rattle.acpi_base.specs.Table.{kind, table_at};
+    ghost use Rattle.acpi_base.specs.Table.{kind, plain_kind, table_at};
     ghost use Rattle.acpi_base.specs.declared.error.AcpiError.TheVariants.{TableMissing};
     ghost use Rattle.acpi_base.specs.declared.signature.TheConstants.Signature.{DSDT};
-    ghost use Rattle.acpi.specs.Footprint.{FootprintBelow, dsdt_ranges, header_ranges};
+    ghost use Rattle.acpi.specs.Footprint.{AllowsBelow, FootprintBelow, dsdt_ranges, header_ranges};
     ghost use Rattle.acpi.specs.Footprint.{lookup_ranges, platform_ranges, ssdt_ranges};
     ghost use Rattle.acpi.specs.Lists.{dsdt_stream, stream_at};
     ghost use Rattle.acpi.specs.Lists.{faults_of, ssdt_streams, valid_headers};
@@ -46,7 +49,7 @@ impl<'h, H: AcpiHandler> AcpiTables<'h, H> {
     ghost use Rattle.acpi.specs.Platform.{PlatformAsks, platform_of};
     ghost use Rattle.acpi.specs.Pointers.{pointers_left};
     ghost use Rattle.acpi.specs.Relocation.{Relocation};
-    ghost use Rattle.acpi.specs.Tables.{lender_of, memory_of, pointers_of, revision_of};
+    ghost use Rattle.acpi.specs.Tables.{lender_of, may_of, memory_of, pointers_of, revision_of};
     ghost use Rattle.acpi.specs.Walks.{faults_left, headers_left, ssdts_left};
 
     /// The revision that the tables were opened with.
@@ -63,35 +66,39 @@ impl<'h, H: AcpiHandler> AcpiTables<'h, H> {
         Pointers::new(self.kind.width(), skip(self.root.bytes(), 36))
     }
 
-    /// The table at an address, where it is valid for `T`.
+    /// The bytes of the first member of the root list that is valid for `T`.
     #[inline(always)]
-    fn member<T: AcpiTable>(&self, address: u64) -> AcpiResult<PhysicalMapping<'h, H, T>>
-        ensures place { IfOk result (λ m. start_of m ≡ address) }
-        ensures handler { IfOk result (λ m. handler_of m ≡ lender_of self.now) }
-        ensures lent { IfOk result (λ m. IsOfMemory (memory_of self.now) m) }
-        ensures table { Gives (λ m. bytes_of m) result
-            (table_at (memory_of self.now) (kind T.SIGNATURE T.MIN_LENGTH T.verdict) address) }
+    fn first_valid<T: AcpiTable>(&self) -> AcpiResult<ValidTable<'h, H>>
+        requires { let k = kind T.SIGNATURE T.MIN_LENGTH T.verdict in
+            AllowsBelow self.now (λ m. lookup_ranges m k) }
+        ensures handler { IfOk result (λ v. claimed_from v.claim ≡ lender_of self.now) }
+        ensures lent { IfOk result (λ v. IsLentOf (memory_of self.now) v.claim) }
+        ensures least { IfOk result (λ v. T.MIN_LENGTH ≤ length (shown_by v.claim)) }
+        ensures found { let k = kind T.SIGNATURE T.MIN_LENGTH T.verdict in
+            Gives (λ v. (claimed_at v.claim, shown_by v.claim)) result
+            (lookup (memory_of self.now) k (pointers_of self.now)) }
     {
-        map_table(self.root.handler(), address)
+        for address in self.pointers() {
+            if let Ok(found) = valid_at::<H, T>(self.root.handler(), address) {
+                return Ok(found);
+            }
+        }
+        Err(AcpiError::TableMissing(T::SIGNATURE))
     }
 
     /// The first member of the root list that is valid for `T`.
     #[inline(always)]
     pub(crate) fn first_member<T: AcpiTable>(&self) -> AcpiResult<PhysicalMapping<'h, H, T>>
+        requires { let k = kind T.SIGNATURE T.MIN_LENGTH T.verdict in
+            AllowsBelow self.now (λ m. lookup_ranges m k) }
         ensures handler { IfOk result (λ m. handler_of m ≡ lender_of self.now) }
         ensures lent { IfOk result (λ m. IsOfMemory (memory_of self.now) m) }
         ensures found { let k = kind T.SIGNATURE T.MIN_LENGTH T.verdict in
             Gives (λ m. (start_of m, bytes_of m)) result
             (lookup (memory_of self.now) k (pointers_of self.now)) }
     {
-        for address in self.pointers() {
-            // It is handed on as it is, since a table's record may be long.
-            let found = self.member::<T>(address);
-            if found.is_ok() {
-                return found;
-            }
-        }
-        Err(AcpiError::TableMissing(T::SIGNATURE))
+        let found = self.first_valid::<T>()?;
+        Ok(found.mapping())
     }
 
     /// The first member of the root list that is valid for `T`: its address is the mapping's
@@ -100,6 +107,8 @@ impl<'h, H: AcpiHandler> AcpiTables<'h, H> {
     /// Refuses with `TableMissing`, carrying `T::SIGNATURE`, where no member is valid for `T`. A
     /// member that isn't lent, or fails another check, is passed over.
     pub fn find_table<T: AcpiTable>(&self) -> AcpiResult<PhysicalMapping<'h, H, T>>
+        requires { let k = kind T.SIGNATURE T.MIN_LENGTH T.verdict in
+            AllowsBelow self.now (λ m. lookup_ranges m k) }
         ensures handler { IfOk result (λ m. handler_of m ≡ lender_of self.now) }
         // However many bytes were lent, all of them are the memory's.
         ensures lent { IfOk result (λ m. IsOfMemory (memory_of self.now) m) }
@@ -134,6 +143,7 @@ impl<'h, H: AcpiHandler> AcpiTables<'h, H> {
     /// The headers of all members that are valid under the signatures that they bear, in order. It
     /// gives at most one for each pointer.
     pub fn headers(&self) -> SdtHeaderIterator<'_, 'h, H>
+        requires { AllowsBelow self.now header_ranges }
         ensures items { headers_left H.memory result
             ≡ valid_headers (memory_of self.now) (pointers_of self.now) }
         ensures few { length (headers_left H.memory result) ≤ length (pointers_of self.now) }
@@ -151,6 +161,7 @@ impl<'h, H: AcpiHandler> AcpiTables<'h, H> {
     /// The AML of all members that are valid SSDTs, in order (section 5.2.11.2). It gives at most
     /// one for each pointer.
     pub fn ssdts(&self) -> SsdtIterator<'_, 'h, H>
+        requires { AllowsBelow self.now ssdt_ranges }
         ensures items { ssdts_left H.memory result
             ≡ ssdt_streams (memory_of self.now) (pointers_of self.now) }
         ensures few { length (ssdts_left H.memory result) ≤ length (pointers_of self.now) }
@@ -169,6 +180,7 @@ impl<'h, H: AcpiHandler> AcpiTables<'h, H> {
     /// `InvalidDsdtAddress` where that gives no address, and with what the table there is refused
     /// with: `MapFailed`, `SdtInvalidSignature` and so on, carrying the DSDT's signature.
     pub fn dsdt(&self) -> AcpiResult<AmlTable>
+        requires { AllowsBelow self.now dsdt_ranges }
         ensures exact { result ≡ dsdt_stream (memory_of self.now) (pointers_of self.now) }
         // It depends on what the lookup of the FADT depends on, and on the table led to.
         ensures footprint { FootprintBelow self.now dsdt_ranges dsdt_stream
@@ -180,6 +192,7 @@ impl<'h, H: AcpiHandler> AcpiTables<'h, H> {
     /// `dsdt`, by the exact clause from which its footprint follows.
     #[tactic(auto, using(crate::proofs::Brief::dsdt_of_brief))]
     fn find_dsdt(&self) -> AcpiResult<AmlTable>
+        requires { AllowsBelow self.now dsdt_ranges }
         ensures { result ≡ dsdt_stream (memory_of self.now) (pointers_of self.now) }
     {
         // It is looked at where it lies, so that it isn't copied.
@@ -193,6 +206,7 @@ impl<'h, H: AcpiHandler> AcpiTables<'h, H> {
     /// The AML of the DSDT at an address.
     #[tactic(auto, unfolding(crate::specs::Lists::stream_at))]
     fn dsdt_at(&self, address: u64) -> AcpiResult<AmlTable>
+        requires { Allows (may_of self.now) (table_ranges (memory_of self.now) (plain_kind DSDT) address) }
         ensures { result ≡ stream_at (memory_of self.now) DSDT address }
     {
         let dsdt = map_sdt(self.root.handler(), address, Signature::DSDT)?;
@@ -203,6 +217,8 @@ impl<'h, H: AcpiHandler> AcpiTables<'h, H> {
     /// before the first valid one (of all where none is valid) whose refusal isn't
     /// `SdtInvalidSignature`, in order. It gives at most one for each pointer.
     pub fn faults<T: AcpiTable>(&self) -> TableFaults<'_, 'h, H, T>
+        requires { let k = kind T.SIGNATURE T.MIN_LENGTH T.verdict in
+            AllowsBelow self.now (λ m. lookup_ranges m k) }
         ensures items { let k = kind T.SIGNATURE T.MIN_LENGTH T.verdict in
             faults_left H.memory k result
             ≡ faults_of (memory_of self.now) k (pointers_of self.now) }
@@ -220,6 +236,7 @@ impl<'h, H: AcpiHandler> AcpiTables<'h, H> {
 
     /// `PlatformInfo::new` over these tables.
     pub fn platform_info(&self, alloc: Global) -> AcpiResult<PlatformInfo<Global>>
+        requires { AllowsBelow self.now platform_ranges }
         ensures exact { GivesOrFull (PlatformAsks (memory_of self.now) (pointers_of self.now))
             result (platform_of (memory_of self.now) (pointers_of self.now)) }
         ensures footprint { FootprintBelow self.now platform_ranges platform_of
@@ -235,6 +252,7 @@ impl<'h, H: AcpiHandler> AcpiTables<'h, H> {
         &self,
         allocator: A,
     ) -> AcpiResult<PlatformInfo<A>>
+        requires { AllowsBelow self.now platform_ranges }
         ensures exact { GivesOrFull (PlatformAsks (memory_of self.now) (pointers_of self.now))
             result (platform_of (memory_of self.now) (pointers_of self.now)) }
         ensures footprint { FootprintBelow self.now platform_ranges platform_of

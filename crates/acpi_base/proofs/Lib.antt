@@ -1,3 +1,4 @@
+pub mod Allowed
 pub mod Agreement
 pub mod Clones
 pub mod Cuts
@@ -13,6 +14,7 @@ pub mod Orders
 pub mod Own
 pub mod Plain
 pub mod Regions
+pub mod Said
 pub mod Spelling
 pub mod Steps
 pub mod Sums

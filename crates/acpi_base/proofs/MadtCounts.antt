@@ -3,6 +3,7 @@ use Rattle.std.proofs.Common.{◌≡◌, ℕ, suc, ◌*◌, ◌-◌, ◌≤◌, 
 use Rattle.std.specs.List.{concat, AllByRecursion, filter_map, cons_option}
 use Rattle.acpi_base.specs.Entries.{IsEntry, cut}
 use Rattle.acpi_base.specs.Madt.{cut_of, entries_of, entry_of, madt_lengths}
+use Rattle.acpi_base.specs.Parts.{said_of}
 use Rattle.acpi_base.proofs.Cuts.{cut_is_cut}
 
 two_each : (kinds : List ℕ) (es : List (List ℕ)) → AllByRecursion (IsEntry kinds) es → 2 * length es ≤ length (concat es)
@@ -29,3 +30,6 @@ cut_of_few table = omega (arith, cut_few madt_lengths (drop 44 table), length-dr
 
 pub entries_few : (table : List ℕ) → 2 * length (entries_of table) ≤ length table - 44
 entries_few table = omega (arith, length-filter_map entry_of (cut madt_lengths (drop 44 table)).0, cut_few madt_lengths (drop 44 table), length-drop 44 table)
+
+pub said_few : (table : List ℕ) → 2 * length (filter_map said_of (cut_of table).0) ≤ length table - 44
+said_few table = omega (arith, length-filter_map said_of (cut madt_lengths (drop 44 table)).0, cut_few madt_lengths (drop 44 table), length-drop 44 table)

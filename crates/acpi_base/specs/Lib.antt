@@ -8,6 +8,7 @@ pub mod EntryLaws
 pub mod Equality
 pub mod ErrorText
 pub mod Extended
+pub mod Guarded
 pub mod Header
 pub mod Interrupts
 pub mod Laws

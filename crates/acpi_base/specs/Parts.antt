@@ -1,16 +1,22 @@
 -- What a walk along the MADT's entries shows of what they say.
-use Rattle.std.specs.Prelude.{ℕ, ◌+◌, ◌||◌, List, length, false, true, None, Some, Result, Ok, Err}
+use Rattle.std.specs.Prelude.{ℕ, ◌+◌, ◌||◌, List, length, false, true, Option, None, Some, Result, Ok, Err}
 use Rattle.std.specs.List.{filter_map, list_any}
-use Rattle.acpi_base.specs.MadtWalk.{entries_left}
-use Rattle.acpi_base.specs.Model.{fault_of, io_apic_in, is_of_apic, nmi_line_in, nmi_source_in, override_in, part_in, parts_of, processor_in}
+use Rattle.std.specs.Option.{option_map}
+use Rattle.acpi_base.specs.Entries.{cut}
+use Rattle.acpi_base.specs.Interrupts.{part_of}
+use Rattle.acpi_base.specs.Madt.{entry_of, madt_lengths}
+use Rattle.acpi_base.specs.Model.{fault_of, io_apic_in, is_of_apic, nmi_line_in, nmi_source_in, override_in, parts_of, processor_in}
 use Rattle.acpi_base.specs.declared.error.MadtError.{MadtError}
-use Rattle.acpi_base.specs.declared.madt.walk.MadtEntryIter.{MadtEntryIter}
 use Rattle.acpi_base.specs.declared.model.counts.Counts.{Counts}
 use Rattle.acpi_base.specs.declared.model.part.Part.{Part}
 
--- what the entries still to come say
-abbrev pub parts_left : MadtEntryIter → List Part
-parts_left s = filter_map part_in (entries_left s)
+-- what an entry's bytes say, or why it is refused; nothing where its kind isn't defined
+unfoldable pub said_of : List ℕ → Option (Result Part MadtError)
+said_of e = option_map part_of (entry_of e)
+
+-- what the entries in which these bytes are cut say, and the refusals
+abbrev pub said_in : List ℕ → List (Result Part MadtError)
+said_in bytes = filter_map said_of (cut madt_lengths bytes).0
 
 -- how many there are of each, where so many are counted and these are behind them
 abbrev pub counted_behind : Counts → List Part → Counts

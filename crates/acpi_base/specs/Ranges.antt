@@ -1,6 +1,6 @@
 -- The ranges of a memory that an answer depends on.
-use Rattle.std.specs.Prelude.{◌≡◌, ℕ, List, [], ◌∷◌, Result, Ok, Err}
-use Rattle.std.specs.List.{AllByRecursion}
+use Rattle.std.specs.Prelude.{◌≡◌, ℕ, ◌==◌, ◌&&◌, Bool, true, List, [], ◌∷◌, All, Result, Ok, Err}
+use Rattle.std.specs.List.{AllByRecursion, list_any}
 use Rattle.acpi_base.specs.declared.signature.Signature.{Signature}
 use Rattle.acpi_base.specs.Header.{header_at}
 use Rattle.acpi_base.specs.Memory.{Memory, at}
@@ -10,6 +10,14 @@ use Rattle.acpi_base.specs.Table.{Kind, length_in, own_table_at, table_at}
 -- each an address and a number of bytes
 abbrev pub Ranges : Type 0
 Ranges = List (ℕ × ℕ)
+
+-- each of these ranges may be asked for
+abbrev pub Allows : (ℕ → ℕ → Bool) → Ranges → Type 0
+Allows may ranges = All (λ r. may r.0 r.1 ≡ true) ranges
+
+-- whether so many bytes at an address are one of these ranges
+abbrev pub is_listed : Ranges → ℕ → ℕ → Bool
+is_listed ranges a n = list_any (λ r. r.0 == a && r.1 == n) ranges
 
 -- two memories lend the same at each of these ranges, or both nothing
 abbrev pub AgreesOn : Memory → Memory → Ranges → Type 0

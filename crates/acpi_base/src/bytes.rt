@@ -19,6 +19,19 @@ pub fn filled<const N: usize>(bytes: &[u8], offset: usize) -> [u8; N]
     filled
 }
 
+/// The same of bytes that are all there: nothing is tested.
+#[inline(always)]
+pub fn filled_in<const N: usize>(bytes: &[u8], offset: usize) -> [u8; N]
+    requires { offset + N ≤ length bytes.now }
+    ensures { result ≡ filled_part bytes.now offset N }
+{
+    let rest = &bytes[offset..];
+    let present = &rest[..N];
+    let mut filled = [0; N];
+    filled[..present.len()].copy_from_slice(present);
+    filled
+}
+
 /// The number that at most eight bytes spell, the lowest byte first.
 #[inline(always)]
 fn number_of(bytes: &[u8]) -> u64
@@ -58,6 +71,19 @@ pub fn field(bytes: &[u8], offset: usize, n: usize) -> u64
     } else {
         rest_of(rest)
     }
+}
+
+/// The same of bytes that are all there: nothing is tested.
+#[inline(always)]
+#[tactic(auto, unfolding(crate::specs::Bytes::field_of))]
+pub fn field_in(bytes: &[u8], offset: usize, n: usize) -> u64
+    requires few { n ≤ 8 }
+    requires there { offset + n ≤ length bytes.now }
+    ensures value { result ≡ field_of bytes.now offset n }
+    ensures fits { result < 2 ^ (8 * n) }
+{
+    let rest = &bytes[offset..];
+    number_of(&rest[..n])
 }
 
 /// The text that the bytes encode in UTF-8, or `None` where they encode none.
@@ -126,6 +152,14 @@ pub(crate) fn is_text(bytes: &[u8]) -> bool
     if are_plain(bytes) {
         return true;
     }
+    is_other_text(bytes)
+}
+
+/// The same, out of line: few names have other bytes than plain ones.
+#[inline(never)]
+fn is_other_text(bytes: &[u8]) -> bool
+    ensures { result ≡ is_utf8 bytes.now }
+{
     match text_of(bytes) {
         Some(_) => true,
         None => false,

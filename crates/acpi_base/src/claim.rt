@@ -2,12 +2,12 @@
 ghost use Rattle.std.specs.Prelude.{◌≤◌, length};
 
 use crate::error::AcpiResult;
-use crate::handler::AcpiHandler;
+use crate::handler::Lender;
 
 /// What was lent, and how many bytes of it are shown. It is no `Drop`, and only `end` takes it
 /// apart: so the compiler refuses a path that lets one go out of scope or ends one twice, and the
 /// notice names the range that was granted.
-pub(crate) struct Claim<'h, H: AcpiHandler> {
+pub(crate) struct Claim<'h, H: Lender> {
     start: u64,
     lent: &'h [u8],
     region_length: usize,
@@ -15,8 +15,8 @@ pub(crate) struct Claim<'h, H: AcpiHandler> {
     ghost fits: { region_length ≤ length lent.now },
 }
 
-impl<'h, H: AcpiHandler> Claim<'h, H> {
-    ghost use Rattle.std.specs.Prelude.{◌≡◌, ◌<◌, take, IfOk, IsOk};
+impl<'h, H: Lender> Claim<'h, H> {
+    ghost use Rattle.std.specs.Prelude.{◌≡◌, ◌<◌, true, take, IfOk, IsOk};
     ghost use Rattle.acpi_base.specs.Claim.{IsLentOf, all_of, claimed_at, claimed_from, shown_by};
     ghost use Rattle.acpi_base.specs.Steps.{Gives, lent};
 
@@ -39,14 +39,15 @@ impl<'h, H: AcpiHandler> Claim<'h, H> {
     /// The `size` bytes at an address, shown of what the handler lends there.
     #[tactic(auto, using(crate::proofs::Lent::lent_front, crate::proofs::Lent::lent_none))]
     pub(crate) fn request(handler: &'h H, address: u64, size: usize) -> AcpiResult<Self>
-        requires { 0 < size }
+        requires some { 0 < size }
+        requires asked { H.may handler.now address size ≡ true }
         ensures start { IfOk result (λ c. claimed_at c ≡ address) }
         ensures handler { IfOk result (λ c. claimed_from c ≡ handler.now) }
         ensures size { IfOk result (λ c. length (shown_by c) ≡ size) }
         ensures shown { Gives (λ c. shown_by c) result (lent (H.memory handler.now) address size) }
         ensures all { IfOk result (λ c. IsLentOf (H.memory handler.now) c) }
     {
-        let granted = handler.map_physical_region(address, size)?;
+        let granted = handler.lend(address, size)?;
         Ok(Claim::new(address, granted, size, handler))
     }
 
@@ -56,6 +57,7 @@ impl<'h, H: AcpiHandler> Claim<'h, H> {
     pub(crate) fn widen(self, size: usize) -> AcpiResult<Self>
         requires some { 0 < size }
         requires lent { IsLentOf (H.memory (claimed_from self)) self }
+        requires asked { H.may (claimed_from self) (claimed_at self) size ≡ true }
         ensures start { IfOk result (λ c. claimed_at c ≡ claimed_at self.entry) }
         ensures handler { IfOk result (λ c. claimed_from c ≡ claimed_from self.entry) }
         ensures size { IfOk result (λ c. length (shown_by c) ≡ size) }
@@ -116,6 +118,6 @@ impl<'h, H: AcpiHandler> Claim<'h, H> {
             region_length,
             handler,
         } = self;
-        handler.unmap_physical_region(start, region_length, lent.len());
+        handler.end_loan(start, region_length, lent.len());
     }
 }

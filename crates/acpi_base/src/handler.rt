@@ -1,5 +1,5 @@
 //! What lends physical memory, and what is read from it.
-ghost use Rattle.std.specs.Prelude.{◌≡◌, ℕ, ◌<◌, ◌≤◌, List, length, Some, None, IfOk, IfErr};
+ghost use Rattle.std.specs.Prelude.{◌≡◌, ℕ, ◌<◌, ◌≤◌, Bool, true, List, length, Some, None, IfOk, IfErr};
 ghost use Rattle.acpi_base.specs.Memory.{Memory, IsMemory, at};
 ghost use Rattle.acpi_base.specs.declared.error.AcpiError.TheVariants.{MapFailed};
 
@@ -34,6 +34,46 @@ pub trait AcpiHandler {
         requires { region_length ≤ mapped_length };
 
     ghost regions: { (h : Self) → IsMemory (memory h) };
+}
+
+/// Lends physical memory, as `AcpiHandler` does, where `may` says which ranges it may be asked for.
+/// Each `AcpiHandler` is one that may be asked for any.
+pub trait Lender {
+    ghost memory: { Self → Memory };
+
+    // Whether it may be asked for so many bytes at an address.
+    ghost may: { Self → ℕ → ℕ → Bool };
+
+    /// As `AcpiHandler::map_physical_region`.
+    fn lend(&self, address: u64, size: usize) -> AcpiResult<&[u8]>
+        requires some { 0 < size }
+        requires asked { may self.now address size ≡ true }
+        ensures enough { IfOk result (λ s. size ≤ length s.now) }
+        ensures lent { IfOk result (λ s. at (memory self.now) address (length s.now) ≡ Some s.now) }
+        ensures refused { IfErr result (λ e. at (memory self.now) address size ≡ None) }
+        ensures name { IfErr result (λ e. e ≡ MapFailed) };
+
+    /// As `AcpiHandler::unmap_physical_region`.
+    fn end_loan(&self, address: u64, region_length: usize, mapped_length: usize)
+        requires { region_length ≤ mapped_length };
+
+    ghost regions: { (h : Self) → IsMemory (memory h) };
+}
+
+impl<H: AcpiHandler> Lender for H {
+    ghost memory = { λ h. H.memory h };
+
+    ghost may = { λ _ _ _. true };
+
+    fn lend(&self, address: u64, size: usize) -> AcpiResult<&[u8]> {
+        self.map_physical_region(address, size)
+    }
+
+    fn end_loan(&self, address: u64, region_length: usize, mapped_length: usize) {
+        self.unmap_physical_region(address, region_length, mapped_length);
+    }
+
+    ghost regions = { λ h. H.regions h };
 }
 
 /// A record that is read from bytes.

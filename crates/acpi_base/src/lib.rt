@@ -10,6 +10,7 @@ mod claim;
 mod entries;
 pub mod error;
 pub mod extended;
+pub mod guarded;
 pub mod handler;
 pub mod laws;
 pub mod madt;
@@ -24,7 +25,8 @@ mod sum;
 pub mod table;
 
 pub use error::{AcpiError, AcpiResult, MadtError};
-pub use handler::{AcpiHandler, PhysicalRecord};
+pub use guarded::Guarded;
+pub use handler::{AcpiHandler, Lender, PhysicalRecord};
 pub use mapping::PhysicalMapping;
 pub use signature::Signature;
 pub use table::AcpiTable;

@@ -9,19 +9,20 @@ mod sapic;
 mod wakeup;
 mod walk;
 
-use crate::bytes::{field, has_bit};
+use crate::bytes::{field_in, has_bit};
 pub use crate::error::MadtError;
 use crate::error::{AcpiError, AcpiResult};
-use crate::handler::{AcpiHandler, PhysicalRecord};
+use crate::handler::{Lender, PhysicalRecord};
 use crate::mapping::PhysicalMapping;
 use crate::model::{ModelAndProcessors, model_in};
 use crate::sdt::SdtHeader;
 use crate::signature::Signature;
-use crate::table::AcpiTable;
+use crate::table::{AcpiTable, sum_refusal};
 pub use apic::{
     InterruptSourceOverrideEntry, IoApicEntry, LocalApicAddressOverrideEntry, LocalApicEntry,
     LocalApicNmiEntry, LocalX2ApicEntry, NmiSourceEntry, X2ApicNmiEntry,
 };
+pub(crate) use entry::LEAST_LENGTHS;
 pub use entry::{EntryHeader, MadtEntry};
 pub use gic::{
     GicInterruptTranslationServiceEntry, GicMsiFrameEntry, GicRedistributorEntry, GiccEntry,
@@ -58,8 +59,8 @@ impl PhysicalRecord for Madt {
     fn read(bytes: &[u8]) -> Self {
         Madt {
             header: SdtHeader::read(bytes),
-            local_apic_address: field(bytes, 36, 4) as u32,
-            flags: field(bytes, 40, 4) as u32,
+            local_apic_address: field_in(bytes, 36, 4) as u32,
+            flags: field_in(bytes, 40, 4) as u32,
         }
     }
 }
@@ -82,6 +83,10 @@ impl AcpiTable for Madt {
 
     fn validate(&self, bytes: &[u8]) -> AcpiResult<()> {
         self.header().validate(Self::SIGNATURE, bytes)
+    }
+
+    fn validate_rest(bytes: &[u8]) -> AcpiResult<()> {
+        sum_refusal(Self::SIGNATURE, bytes)
     }
 
     ghost least = { lit≤ tt };
@@ -117,7 +122,7 @@ fn mailbox_address(table: &[u8]) -> AcpiResult<u64>
     Err(AcpiError::InvalidMadt(fault))
 }
 
-impl<'h, H: AcpiHandler> PhysicalMapping<'h, H, Madt> {
+impl<'h, H: Lender> PhysicalMapping<'h, H, Madt> {
     ghost use Rattle.std.specs.Prelude.{◌+◌, ◌*◌, ◌≤◌, length, false};
     ghost use Rattle.acpi_base.specs.Madt.{cut_of, entries_of};
     ghost use Rattle.acpi_base.specs.MadtWalk.{entries_left, has_ended, rest_left};

@@ -5,20 +5,20 @@ ghost use Rattle.acpi_base.specs.Claim.{shown_by};
 
 use crate::claim::Claim;
 use crate::error::AcpiResult;
-use crate::handler::{AcpiHandler, PhysicalRecord};
+use crate::handler::{Lender, PhysicalRecord};
 use std::ops::Deref;
 
 /// A record in lent memory: its bytes, and the value that they mean. While it lives the bytes stay
 /// lent; dropping it tells the handler by `unmap_physical_region`.
-pub struct PhysicalMapping<'h, H: AcpiHandler, T: PhysicalRecord> {
+pub struct PhysicalMapping<'h, H: Lender, T: PhysicalRecord> {
     claim: Claim<'h, H>,
     value: T,
     ghost least: { T.MIN_LENGTH ≤ length (shown_by claim) },
     ghost read: { value ≡ T.reading (shown_by claim) } by { Coded-set T.code _ _ },
 }
 
-impl<'h, H: AcpiHandler, T: PhysicalRecord> PhysicalMapping<'h, H, T> {
-    ghost use Rattle.std.specs.Prelude.{◌+◌, ◌^◌, ◌<◌, take, IfOk, Some};
+impl<'h, H: Lender, T: PhysicalRecord> PhysicalMapping<'h, H, T> {
+    ghost use Rattle.std.specs.Prelude.{◌+◌, ◌^◌, ◌<◌, true, take, IfOk, Some};
     ghost use Rattle.acpi_base.specs.Claim.{all_of, claimed_at, claimed_from};
     ghost use Rattle.acpi_base.specs.Mapping.{start_of, bytes_of, lent_of, mapped_of, handler_of};
     ghost use Rattle.acpi_base.specs.Memory.{at};
@@ -55,6 +55,7 @@ impl<'h, H: AcpiHandler, T: PhysicalRecord> PhysicalMapping<'h, H, T> {
     /// Refuses with `MapFailed` where they don't lie whole inside one region.
     pub fn map(handler: &'h H, address: u64, size: usize) -> AcpiResult<Self>
         requires some { 0 < size }
+        requires asked { H.may handler.now address size ≡ true }
         requires least { T.MIN_LENGTH ≤ size }
         ensures start { IfOk result (λ m. start_of m ≡ address) }
         ensures handler { IfOk result (λ m. handler_of m ≡ handler.now) }
@@ -114,7 +115,7 @@ impl<'h, H: AcpiHandler, T: PhysicalRecord> PhysicalMapping<'h, H, T> {
 }
 
 /// The record that the mapped bytes mean.
-impl<'h, H: AcpiHandler, T: PhysicalRecord> Deref for PhysicalMapping<'h, H, T> {
+impl<'h, H: Lender, T: PhysicalRecord> Deref for PhysicalMapping<'h, H, T> {
     ghost use Rattle.acpi_base.specs.Mapping.{bytes_of};
 
     type Target = T;
@@ -126,7 +127,7 @@ impl<'h, H: AcpiHandler, T: PhysicalRecord> Deref for PhysicalMapping<'h, H, T> 
     }
 }
 
-impl<'h, H: AcpiHandler, T: PhysicalRecord> Drop for PhysicalMapping<'h, H, T> {
+impl<'h, H: Lender, T: PhysicalRecord> Drop for PhysicalMapping<'h, H, T> {
     fn drop(self) {
         let PhysicalMapping { claim, value: _ } = self;
         claim.end();

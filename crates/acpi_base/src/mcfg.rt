@@ -1,12 +1,12 @@
 //! Where the configuration space of PCI devices lies in memory.
 
-use crate::bytes::{field, skip};
+use crate::bytes::{field_in, skip};
 use crate::error::AcpiResult;
-use crate::handler::{AcpiHandler, PhysicalRecord};
+use crate::handler::{Lender, PhysicalRecord};
 use crate::mapping::PhysicalMapping;
 use crate::sdt::SdtHeader;
 use crate::signature::Signature;
-use crate::table::AcpiTable;
+use crate::table::{AcpiTable, sum_refusal};
 
 /// The MCFG, whose signature section 5.2.6 reserves and whose layout is the PCI Firmware
 /// Specification's: regions of memory, each with the configuration space of some buses. Its entries
@@ -53,6 +53,10 @@ impl AcpiTable for Mcfg {
         self.header().validate(Self::SIGNATURE, bytes)
     }
 
+    fn validate_rest(bytes: &[u8]) -> AcpiResult<()> {
+        sum_refusal(Self::SIGNATURE, bytes)
+    }
+
     ghost least = { lit≤ tt };
 }
 
@@ -81,10 +85,10 @@ impl PhysicalRecord for McfgEntry {
 
     fn read(bytes: &[u8]) -> Self {
         McfgEntry {
-            base_address: field(bytes, 0, 8),
-            pci_segment_group: field(bytes, 8, 2) as u16,
-            bus_number_start: field(bytes, 10, 1) as u8,
-            bus_number_end: field(bytes, 11, 1) as u8,
+            base_address: field_in(bytes, 0, 8),
+            pci_segment_group: field_in(bytes, 8, 2) as u16,
+            bus_number_start: field_in(bytes, 10, 1) as u8,
+            bus_number_end: field_in(bytes, 11, 1) as u8,
         }
     }
 }
@@ -140,7 +144,7 @@ impl ExactSizeIterator for McfgEntryIter<'_> {
     }
 }
 
-impl<'h, H: AcpiHandler> PhysicalMapping<'h, H, Mcfg> {
+impl<'h, H: Lender> PhysicalMapping<'h, H, Mcfg> {
     ghost use Rattle.std.specs.Prelude.{◌≡◌, ◌-◌, ◌/◌, length};
     ghost use Rattle.acpi_base.specs.Mapping.{bytes_of};
     ghost use Rattle.acpi_base.specs.Mcfg.{regions_left, regions_of};

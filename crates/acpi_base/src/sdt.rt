@@ -6,7 +6,7 @@ ghost use Rattle.acpi_base.specs.Steps.{Gives};
 ghost use Rattle.acpi_base.specs.Table.{length_in};
 ghost use Rattle.acpi_base.specs.Text.{IsTextOf};
 
-use crate::bytes::{is_text, text_of};
+use crate::bytes::{field_in, is_text, text_of};
 pub use crate::bytes::{byte_sum, field};
 use crate::error::{AcpiError, AcpiResult};
 pub use crate::extended::ExtendedField;
@@ -48,9 +48,9 @@ impl PhysicalRecord for SdtHeader {
     fn read(bytes: &[u8]) -> Self {
         SdtHeader {
             signature: Signature::leading(bytes),
-            length: field(bytes, 4, 4) as u32,
-            revision: field(bytes, 8, 1) as u8,
-            checksum: field(bytes, 9, 1) as u8,
+            length: field_in(bytes, 4, 4) as u32,
+            revision: field_in(bytes, 8, 1) as u8,
+            checksum: field_in(bytes, 9, 1) as u8,
             oem_id: [
                 bytes[10], bytes[11], bytes[12], bytes[13], bytes[14], bytes[15],
             ],
@@ -58,9 +58,9 @@ impl PhysicalRecord for SdtHeader {
                 bytes[16], bytes[17], bytes[18], bytes[19], bytes[20], bytes[21], bytes[22],
                 bytes[23],
             ],
-            oem_revision: field(bytes, 24, 4) as u32,
-            creator_id: field(bytes, 28, 4) as u32,
-            creator_revision: field(bytes, 32, 4) as u32,
+            oem_revision: field_in(bytes, 24, 4) as u32,
+            creator_id: field_in(bytes, 28, 4) as u32,
+            creator_revision: field_in(bytes, 32, 4) as u32,
         }
     }
 }

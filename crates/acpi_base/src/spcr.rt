@@ -7,13 +7,13 @@ mod flags;
 mod interface;
 
 use crate::address::{GenericAddress, RawAddress};
-use crate::bytes::{bits, field, filled, has_bit, text_of};
+use crate::bytes::{bits, field, field_in, filled, has_bit, text_of};
 use crate::error::{AcpiError, AcpiResult};
-use crate::handler::{AcpiHandler, PhysicalRecord};
+use crate::handler::{Lender, PhysicalRecord};
 use crate::mapping::PhysicalMapping;
 use crate::sdt::SdtHeader;
 use crate::signature::Signature;
-use crate::table::AcpiTable;
+use crate::table::{AcpiTable, sum_refusal};
 use bitflags::Flags;
 pub use flags::{SpcrFlowControl, SpcrInterruptType, SpcrTerminalType};
 pub use interface::SpcrInterfaceType;
@@ -66,25 +66,25 @@ impl PhysicalRecord for Spcr {
     fn read(bytes: &[u8]) -> Self {
         Spcr {
             header: SdtHeader::read(bytes),
-            interface_type: field(bytes, 36, 1) as u8,
+            interface_type: field_in(bytes, 36, 1) as u8,
             base_address: filled(bytes, 40),
-            interrupt_type: field(bytes, 52, 1) as u8,
-            irq: field(bytes, 53, 1) as u8,
-            global_system_interrupt: field(bytes, 54, 4) as u32,
-            configured_baud_rate: field(bytes, 58, 1) as u8,
-            parity: field(bytes, 59, 1) as u8,
-            stop_bits: field(bytes, 60, 1) as u8,
-            flow_control: field(bytes, 61, 1) as u8,
-            terminal_type: field(bytes, 62, 1) as u8,
-            language: field(bytes, 63, 1) as u8,
-            pci_device_id: field(bytes, 64, 2) as u16,
-            pci_vendor_id: field(bytes, 66, 2) as u16,
-            pci_bus_number: field(bytes, 68, 1) as u8,
-            pci_device_number: field(bytes, 69, 1) as u8,
-            pci_function_number: field(bytes, 70, 1) as u8,
-            pci_flags: field(bytes, 71, 4) as u32,
-            pci_segment: field(bytes, 75, 1) as u8,
-            uart_clock_frequency: field(bytes, 76, 4) as u32,
+            interrupt_type: field_in(bytes, 52, 1) as u8,
+            irq: field_in(bytes, 53, 1) as u8,
+            global_system_interrupt: field_in(bytes, 54, 4) as u32,
+            configured_baud_rate: field_in(bytes, 58, 1) as u8,
+            parity: field_in(bytes, 59, 1) as u8,
+            stop_bits: field_in(bytes, 60, 1) as u8,
+            flow_control: field_in(bytes, 61, 1) as u8,
+            terminal_type: field_in(bytes, 62, 1) as u8,
+            language: field_in(bytes, 63, 1) as u8,
+            pci_device_id: field_in(bytes, 64, 2) as u16,
+            pci_vendor_id: field_in(bytes, 66, 2) as u16,
+            pci_bus_number: field_in(bytes, 68, 1) as u8,
+            pci_device_number: field_in(bytes, 69, 1) as u8,
+            pci_function_number: field_in(bytes, 70, 1) as u8,
+            pci_flags: field_in(bytes, 71, 4) as u32,
+            pci_segment: field_in(bytes, 75, 1) as u8,
+            uart_clock_frequency: field_in(bytes, 76, 4) as u32,
             precise_baud_rate: field(bytes, 80, 4) as u32,
             namespace_length: field(bytes, 84, 2) as u16,
             namespace_offset: field(bytes, 86, 2) as u16,
@@ -110,6 +110,10 @@ impl AcpiTable for Spcr {
 
     fn validate(&self, bytes: &[u8]) -> AcpiResult<()> {
         self.header().validate(Self::SIGNATURE, bytes)
+    }
+
+    fn validate_rest(bytes: &[u8]) -> AcpiResult<()> {
+        sum_refusal(Self::SIGNATURE, bytes)
     }
 
     ghost least = { lit≤ tt };
@@ -282,7 +286,7 @@ fn name_of(bytes: &[u8]) -> AcpiResult<&str>
     }
 }
 
-impl<'h, H: AcpiHandler> PhysicalMapping<'h, H, Spcr> {
+impl<'h, H: Lender> PhysicalMapping<'h, H, Spcr> {
     ghost use Rattle.acpi_base.specs.Mapping.{bytes_of};
     ghost use Rattle.acpi_base.specs.Spcr.{namespace_of};
 

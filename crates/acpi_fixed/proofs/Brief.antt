@@ -1,9 +1,7 @@
 -- What is read of a FADT to go on from it is what its whole record says.
-use Rattle.std.proofs.Common.{◌≡◌, ℕ, List, refl, sym, ap}
-use Rattle.acpi_fixed.proofs.Front.{registers_kept}
+use Rattle.std.proofs.Common.{◌≡◌, ℕ, List, refl}
 use Rattle.acpi_fixed.specs.Brief.{BriefIsBrief, brief_at, brief_dsdt_address, brief_profile, brief_flags, brief_timer_block}
 use Rattle.acpi_fixed.specs.Fadt.{dsdt_address_of, fadt_at, pm_timer_of, profile_of}
-use Rattle.acpi_fixed.specs.Registers.{timer_block_of}
 
 pub dsdt_of_brief : (b : List ℕ) → brief_dsdt_address (brief_at b) ≡ dsdt_address_of (fadt_at b)
 unfolding brief_at fadt_at
@@ -19,7 +17,7 @@ flags_of_brief b = refl
 
 pub timer_of_brief : (b : List ℕ) → brief_timer_block (brief_at b) ≡ pm_timer_of (fadt_at b)
 unfolding brief_at fadt_at
-timer_of_brief b = ap (λ r. timer_block_of r.pm_timer) (sym (registers_kept b))
+timer_of_brief b = refl
 
 pub brief_is_brief : BriefIsBrief
 brief_is_brief b = (dsdt_of_brief b, (profile_of_brief b, (flags_of_brief b, timer_of_brief b)))

@@ -1,2 +1,2 @@
 pub mod Brief
-pub mod Front
+pub mod Later

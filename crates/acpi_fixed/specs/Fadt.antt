@@ -9,7 +9,7 @@ use Rattle.acpi_fixed.specs.declared.fadt.Fadt.{Fadt}
 use Rattle.acpi_fixed.specs.declared.fadt.PowerProfile.{PowerProfile}
 use Rattle.acpi_fixed.specs.declared.fadt.PowerProfile.TheVariants as profiles
 use Rattle.acpi_fixed.specs.declared.fadt.registers.Registers.{Registers}
-use Rattle.acpi_fixed.specs.Registers.{address_or, extended_number, kept_of, registers_in, timer_block_of}
+use Rattle.acpi_fixed.specs.Registers.{address_or, extended_number, registers_at, timer_block_of}
 
 -- what a table's bytes mean, in the order in which they lie
 unfoldable pub fadt_at : List ℕ → Fadt
@@ -24,7 +24,7 @@ fadt_at b = record {
   acpi_disable = field_of b 53 1;
   s4bios_req = field_of b 54 1;
   pstate_control = field_of b 55 1;
-  registers = kept_of b;
+  registers = registers_at b;
   gpe1_base = field_of b 94 1;
   c_state_control = field_of b 95 1;
   worst_c2_latency = field_of b 96 2;
@@ -71,7 +71,7 @@ abbrev pub dsdt_address_of : Fadt → Result ℕ AcpiError
 dsdt_address_of f = address_or refusal.InvalidDsdtAddress f.x_dsdt_address f.dsdt_address
 
 abbrev pub registers_of : Fadt → Registers
-registers_of f = registers_in f.registers
+registers_of f = f.registers
 
 abbrev pub pm_timer_of : Fadt → Result (Option GenericAddress) AcpiError
 pm_timer_of f = timer_block_of (registers_of f).pm_timer

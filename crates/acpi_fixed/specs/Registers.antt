@@ -1,7 +1,7 @@
 -- Blocks of registers and addresses that the FADT gives in two ways: by a field of its first
 -- versions, and by an extended one (ACPI 6.4, section 5.2.9).
 use Rattle.std.specs.Prelude.{ℕ, ◌*◌, ◌&&◌, ◌==◌, nat_lt, if◌then◌else◌}
-use Rattle.std.specs.Prelude.{List, length, take, Option, Some, None, is_none, Result, Ok, Err}
+use Rattle.std.specs.Prelude.{List, Option, Some, None, is_none, Result, Ok, Err}
 use Rattle.std.specs.Option.{option_map, option_map_or}
 use Rattle.acpi_base.specs.declared.address.AccessSize.TheVariants.{Undefined}
 use Rattle.acpi_base.specs.declared.address.AddressSpace.TheVariants.{SystemIo}
@@ -13,7 +13,6 @@ use Rattle.acpi_base.specs.Bytes.{field_of, filled_part}
 use Rattle.acpi_base.specs.Extended.{field_since, whole_part}
 use Rattle.acpi_base.specs.Steps.{◌>>=◌, holds}
 use Rattle.acpi_fixed.specs.declared.fadt.registers.RegisterBlock.{RegisterBlock}
-use Rattle.acpi_fixed.specs.declared.fadt.registers.RegisterBytes.{RegisterBytes}
 use Rattle.acpi_fixed.specs.declared.fadt.registers.Registers.{Registers}
 
 -- what the n bytes at an offset mean, in a table of revision 2 and above that has all of them
@@ -50,17 +49,6 @@ registers_at b = record {
   sleep_control = extended_address b 244;
   sleep_status = extended_address b 256;
 }
-
--- what is kept of a table, from which its registers are read: its first bytes, with zeros behind the
--- end of a shorter table, and how many of them it has
-abbrev pub kept_of : List ℕ → RegisterBytes
-kept_of b = record { front = filled_part b 0 276; count = length (take 276 b) }
-
-abbrev pub bytes_kept : RegisterBytes → List ℕ
-bytes_kept kept = take kept.count kept.front
-
-unfoldable pub registers_in : RegisterBytes → Registers
-registers_in kept = registers_at (bytes_kept kept)
 
 -- the extended field, where its address is not 0
 abbrev pub usable_extended : Option (List ℕ) → Option (List ℕ)

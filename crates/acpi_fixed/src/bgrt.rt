@@ -1,8 +1,9 @@
 //! The image that the firmware showed while it started the machine.
 ghost use Rattle.std.specs.Prelude.{◌≡◌, ◌*◌};
 
-use acpi_base::bytes::{bits, field, has_bit};
+use acpi_base::bytes::{bits, field_in, has_bit};
 use acpi_base::sdt::SdtHeader;
+use acpi_base::table::sum_refusal;
 use acpi_base::{AcpiResult, AcpiTable, PhysicalRecord, Signature};
 
 /// The Boot Graphics Resource Table (section 5.2.22): an image in memory, and where on the screen
@@ -33,12 +34,12 @@ impl PhysicalRecord for Bgrt {
     fn read(bytes: &[u8]) -> Self {
         Bgrt {
             header: SdtHeader::read(bytes),
-            version: field(bytes, 36, 2) as u16,
-            status: field(bytes, 38, 1) as u8,
-            image_type: field(bytes, 39, 1) as u8,
-            image_address: field(bytes, 40, 8),
-            x: field(bytes, 48, 4) as u32,
-            y: field(bytes, 52, 4) as u32,
+            version: field_in(bytes, 36, 2) as u16,
+            status: field_in(bytes, 38, 1) as u8,
+            image_type: field_in(bytes, 39, 1) as u8,
+            image_address: field_in(bytes, 40, 8),
+            x: field_in(bytes, 48, 4) as u32,
+            y: field_in(bytes, 52, 4) as u32,
         }
     }
 }
@@ -61,6 +62,10 @@ impl AcpiTable for Bgrt {
 
     fn validate(&self, bytes: &[u8]) -> AcpiResult<()> {
         self.header().validate(Self::SIGNATURE, bytes)
+    }
+
+    fn validate_rest(bytes: &[u8]) -> AcpiResult<()> {
+        sum_refusal(Self::SIGNATURE, bytes)
     }
 
     ghost least = { lit≤ tt };

@@ -5,18 +5,17 @@ ghost use Rattle.acpi_fixed.specs.Fadt.{profile_for};
 mod brief;
 mod extended;
 mod flags;
-mod front;
 mod registers;
 
 use acpi_base::address::GenericAddress;
-use acpi_base::bytes::filled;
+use acpi_base::bytes::{field, field_in};
 use acpi_base::sdt::SdtHeader;
+use acpi_base::table::sum_refusal;
 use acpi_base::{AcpiError, AcpiResult, AcpiTable, PhysicalRecord, Signature};
 pub use brief::FadtBrief;
 use extended::extended_number_in;
 pub use flags::{ArmBootArchFlags, FixedFeatureFlags, IaPcBootArchFlags};
-use front::{Front, number_in};
-use registers::{RegisterBytes, Registers, address_from, register_from};
+use registers::{Registers, address_from, register_from};
 
 /// What the machine is for (section 5.2.9).
 #[derive(Clone, Copy, Debug, PartialEq, Eq)]
@@ -68,7 +67,7 @@ pub struct Fadt {
     pub s4bios_req: u8,
     /// The command that takes over the processors' performance states. 0: there is none.
     pub pstate_control: u8,
-    registers: RegisterBytes,
+    registers: Registers,
     /// The number of the first event of the second block of general purpose events.
     pub gpe1_base: u8,
     /// The command that says that the system follows changes of C states.
@@ -130,36 +129,37 @@ impl PhysicalRecord for Fadt {
 
     ghost reading = { fadt_at };
 
+    // Out of line, since a call writes the record where it is wanted, and code in line copies it there.
+    #[inline(never)]
     #[tactic(auto, unfolding(crate::specs::Fadt::fadt_at))]
     fn read(bytes: &[u8]) -> Self {
-        let front: &Front = &filled(bytes, 0);
         Fadt {
             header: SdtHeader::read(bytes),
-            firmware_ctrl: number_in(front, bytes, 36, 4) as u32,
-            dsdt_address: number_in(front, bytes, 40, 4) as u32,
-            preferred_pm_profile: number_in(front, bytes, 45, 1) as u8,
-            sci_interrupt: number_in(front, bytes, 46, 2) as u16,
-            smi_cmd_port: number_in(front, bytes, 48, 4) as u32,
-            acpi_enable: number_in(front, bytes, 52, 1) as u8,
-            acpi_disable: number_in(front, bytes, 53, 1) as u8,
-            s4bios_req: number_in(front, bytes, 54, 1) as u8,
-            pstate_control: number_in(front, bytes, 55, 1) as u8,
-            registers: RegisterBytes::new(front, bytes),
-            gpe1_base: number_in(front, bytes, 94, 1) as u8,
-            c_state_control: number_in(front, bytes, 95, 1) as u8,
-            worst_c2_latency: number_in(front, bytes, 96, 2) as u16,
-            worst_c3_latency: number_in(front, bytes, 98, 2) as u16,
-            flush_size: number_in(front, bytes, 100, 2) as u16,
-            flush_stride: number_in(front, bytes, 102, 2) as u16,
-            duty_offset: number_in(front, bytes, 104, 1) as u8,
-            duty_width: number_in(front, bytes, 105, 1) as u8,
-            day_alarm: number_in(front, bytes, 106, 1) as u8,
-            month_alarm: number_in(front, bytes, 107, 1) as u8,
-            century: number_in(front, bytes, 108, 1) as u8,
-            iapc_boot_arch: IaPcBootArchFlags::new(number_in(front, bytes, 109, 2) as u16),
-            flags: FixedFeatureFlags::new(number_in(front, bytes, 112, 4) as u32),
-            reset_value: number_in(front, bytes, 128, 1) as u8,
-            arm_boot_arch: ArmBootArchFlags::new(number_in(front, bytes, 129, 2) as u16),
+            firmware_ctrl: field_in(bytes, 36, 4) as u32,
+            dsdt_address: field_in(bytes, 40, 4) as u32,
+            preferred_pm_profile: field_in(bytes, 45, 1) as u8,
+            sci_interrupt: field_in(bytes, 46, 2) as u16,
+            smi_cmd_port: field_in(bytes, 48, 4) as u32,
+            acpi_enable: field_in(bytes, 52, 1) as u8,
+            acpi_disable: field_in(bytes, 53, 1) as u8,
+            s4bios_req: field_in(bytes, 54, 1) as u8,
+            pstate_control: field_in(bytes, 55, 1) as u8,
+            registers: Registers::read(bytes),
+            gpe1_base: field_in(bytes, 94, 1) as u8,
+            c_state_control: field_in(bytes, 95, 1) as u8,
+            worst_c2_latency: field_in(bytes, 96, 2) as u16,
+            worst_c3_latency: field_in(bytes, 98, 2) as u16,
+            flush_size: field_in(bytes, 100, 2) as u16,
+            flush_stride: field_in(bytes, 102, 2) as u16,
+            duty_offset: field_in(bytes, 104, 1) as u8,
+            duty_width: field_in(bytes, 105, 1) as u8,
+            day_alarm: field_in(bytes, 106, 1) as u8,
+            month_alarm: field_in(bytes, 107, 1) as u8,
+            century: field_in(bytes, 108, 1) as u8,
+            iapc_boot_arch: IaPcBootArchFlags::new(field_in(bytes, 109, 2) as u16),
+            flags: FixedFeatureFlags::new(field_in(bytes, 112, 4) as u32),
+            reset_value: field(bytes, 128, 1) as u8,
+            arm_boot_arch: ArmBootArchFlags::new(field(bytes, 129, 2) as u16),
             x_firmware_ctrl: extended_number_in(bytes, 132),
             x_dsdt_address: extended_number_in(bytes, 140),
         }
@@ -186,6 +186,10 @@ impl AcpiTable for Fadt {
         self.header().validate(Self::SIGNATURE, bytes)
     }
 
+    fn validate_rest(bytes: &[u8]) -> AcpiResult<()> {
+        sum_refusal(Self::SIGNATURE, bytes)
+    }
+
     ghost least = { lit≤ tt };
 }
 
@@ -194,14 +198,6 @@ impl Fadt {
     ghost use Rattle.acpi_fixed.specs.Fadt.{dsdt_address_of, facs_address_of, profile_of};
     ghost use Rattle.acpi_fixed.specs.Fadt.{pm_timer_of, registers_of};
     ghost use Rattle.acpi_fixed.specs.Registers.{block_of, optional_block_of, register_of};
-
-    /// Where the registers lie.
-    #[inline(always)]
-    fn registers(&self) -> Registers
-        ensures { result ≡ registers_of self.now }
-    {
-        self.registers.registers()
-    }
 
     /// What the machine is for.
     pub fn power_profile(&self) -> PowerProfile
@@ -240,7 +236,7 @@ impl Fadt {
     pub fn pm1a_event_block(&self) -> AcpiResult<GenericAddress>
         ensures { result ≡ block_of (registers_of self.now).pm1a_event }
     {
-        self.registers().pm1a_event.block()
+        self.registers.pm1a_event.block()
     }
 
     /// The second block of event registers, or `None` where neither field gives an address.
@@ -249,7 +245,7 @@ impl Fadt {
     pub fn pm1b_event_block(&self) -> AcpiResult<Option<GenericAddress>>
         ensures { result ≡ optional_block_of (registers_of self.now).pm1b_event }
     {
-        self.registers().pm1b_event.optional_block()
+        self.registers.pm1b_event.optional_block()
     }
 
     /// The control registers of the fixed hardware: the extended block where its address isn't 0,
@@ -259,7 +255,7 @@ impl Fadt {
     pub fn pm1a_control_block(&self) -> AcpiResult<GenericAddress>
         ensures { result ≡ block_of (registers_of self.now).pm1a_control }
     {
-        self.registers().pm1a_control.block()
+        self.registers.pm1a_control.block()
     }
 
     /// The second block of control registers, or `None` where neither field gives an address.
@@ -268,7 +264,7 @@ impl Fadt {
     pub fn pm1b_control_block(&self) -> AcpiResult<Option<GenericAddress>>
         ensures { result ≡ optional_block_of (registers_of self.now).pm1b_control }
     {
-        self.registers().pm1b_control.optional_block()
+        self.registers.pm1b_control.optional_block()
     }
 
     /// The second control register, or `None` where neither field gives an address.
@@ -277,7 +273,7 @@ impl Fadt {
     pub fn pm2_control_block(&self) -> AcpiResult<Option<GenericAddress>>
         ensures { result ≡ optional_block_of (registers_of self.now).pm2_control }
     {
-        self.registers().pm2_control.optional_block()
+        self.registers.pm2_control.optional_block()
     }
 
     /// The power management timer, or `None` where its length isn't 4 or neither field gives an
@@ -287,7 +283,7 @@ impl Fadt {
     pub fn pm_timer_block(&self) -> AcpiResult<Option<GenericAddress>>
         ensures { result ≡ pm_timer_of self.now }
     {
-        self.registers().pm_timer.timer_block()
+        self.registers.pm_timer.timer_block()
     }
 
     /// The registers of the first general purpose events, or `None` if neither field gives an
@@ -298,7 +294,7 @@ impl Fadt {
     pub fn gpe0_block(&self) -> AcpiResult<Option<GenericAddress>>
         ensures { result ≡ optional_block_of (registers_of self.now).gpe0 }
     {
-        self.registers().gpe0.optional_block()
+        self.registers.gpe0.optional_block()
     }
 
     /// The registers of further general purpose events, or `None` if neither field gives an address
@@ -309,7 +305,7 @@ impl Fadt {
     pub fn gpe1_block(&self) -> AcpiResult<Option<GenericAddress>>
         ensures { result ≡ optional_block_of (registers_of self.now).gpe1 }
     {
-        self.registers().gpe1.optional_block()
+        self.registers.gpe1.optional_block()
     }
 
     /// The register that resets the machine, where the flags say that there is one.
@@ -318,7 +314,7 @@ impl Fadt {
     pub fn reset_register(&self) -> AcpiResult<GenericAddress>
         ensures { result ≡ generic_address_of (registers_of self.now).reset }
     {
-        GenericAddress::from_raw(self.registers().reset)
+        GenericAddress::from_raw(self.registers.reset)
     }
 
     /// The register that puts a machine of reduced hardware to sleep, or `None` where the table has
@@ -328,7 +324,7 @@ impl Fadt {
     pub fn sleep_control_register(&self) -> AcpiResult<Option<GenericAddress>>
         ensures { result ≡ register_of (registers_of self.now).sleep_control }
     {
-        register_from(self.registers().sleep_control)
+        register_from(self.registers.sleep_control)
     }
 
     /// The register that says how a machine of reduced hardware woke, or `None` where the table has
@@ -338,6 +334,6 @@ impl Fadt {
     pub fn sleep_status_register(&self) -> AcpiResult<Option<GenericAddress>>
         ensures { result ≡ register_of (registers_of self.now).sleep_status }
     {
-        register_from(self.registers().sleep_status)
+        register_from(self.registers.sleep_status)
     }
 }

@@ -10,10 +10,9 @@ use Rattle.acpi_base.specs.Interrupts.{part_of}
 use Rattle.acpi_base.specs.Madt.{madt_at}
 use Rattle.acpi_base.specs.Memory.{at, rest_from}
 use Rattle.acpi_base.specs.Table.{length_in, own_table_at, table_at, table_of, whole_of}
-use Rattle.acpi_fixed.specs.Registers.{registers_in}
 use Rattle.acpi_fixed.specs.Fadt.{fadt_at}
 use Rattle.acpi_laws.specs.Examples.{AreMemories, TheyDiffer, TheyList, bios, bios_here, bios_there, damaged, dsdt, fadt, here, madt, mcfg, memory, moved, rsdp, rsdt, ssdt, there, xsdt}
-use Rattle.acpi_laws.specs.ExampleLaws.{DsdtInstance, FaultsInstance, HeadersInstance, HeadersMoved, HpetInstance, HpetMoved, LookupInstance, LookupMoved, MailboxInstance}
+use Rattle.acpi_laws.specs.ExampleLaws.{AskedInstance, DsdtInstance, FaultsInstance, HeadersInstance, HeadersMoved, HpetInstance, HpetMoved, LookupInstance, LookupMoved, MailboxInstance}
 use Rattle.acpi_laws.specs.ExampleLaws.{OpenedByRsdpInstance, OpenedInstance, PlatformInstance, PlatformMoved, RegionsInstance, RegionsMoved, RsdpInstance, SsdtsInstance}
 use Rattle.acpi.specs.Hpet.{hpet_at}
 use Rattle.acpi.specs.Lists.{own_header_at, stream_at}
@@ -55,7 +54,7 @@ unfolding at rest_from length_in whole_of table_of table_at header_at check_name
 dsdt_instance = ((refl, (refl, (refl, (refl, (refl, tt))))), refl)
 
 pub platform_instance : {A : Type 0} → PlatformInstance A
-unfolding at rest_from length_in whole_of table_of table_at header_at check_names check_table field_of sum_of is_utf8 chars lib.Utf8.encode fadt_at registers_in madt_at front cut part_of memory rsdp rsdt fadt hpet madt mcfg ssdt dsdt unnamed damaged
+unfolding at rest_from length_in whole_of table_of table_at header_at check_names check_table field_of sum_of is_utf8 chars lib.Utf8.encode fadt_at madt_at front cut part_of memory rsdp rsdt fadt hpet madt mcfg ssdt dsdt unnamed damaged
 platform_instance = ((refl, (refl, (refl, (refl, (refl, (refl, (refl, (refl, tt)))))))), refl)
 
 pub hpet_instance : HpetInstance
@@ -80,6 +79,10 @@ pub opened_instance : OpenedInstance
 unfolding at rest_from length_in whole_of table_of table_at header_at check_names check_table field_of sum_of is_utf8 chars lib.Utf8.encode memory rsdp rsdt fadt hpet madt mcfg ssdt dsdt unnamed damaged
 opened_instance = ((refl, (refl, tt)), refl)
 
+pub asked_instance : AskedInstance
+unfolding at rest_from length_in whole_of table_of table_at header_at check_names check_table field_of sum_of is_utf8 chars lib.Utf8.encode pointers memory rsdp rsdt fadt hpet madt mcfg ssdt dsdt unnamed damaged
+asked_instance = refl
+
 pub opened_by_rsdp_instance : OpenedByRsdpInstance
 unfolding at rest_from length_in whole_of table_of table_at header_at check_names check_table field_of sum_of is_utf8 chars lib.Utf8.encode rsdp_at rsdp_of length_of check_first check_sum memory rsdp rsdt fadt hpet madt mcfg ssdt dsdt unnamed damaged
 opened_by_rsdp_instance = ((refl, (refl, (refl, tt))), refl)
@@ -95,7 +98,7 @@ unfolding at rest_from length_in whole_of table_of table_at header_at check_name
 headers_moved = (refl, refl, refl)
 
 pub platform_moved : {A : Type 0} → PlatformMoved A
-unfolding at rest_from length_in whole_of table_of table_at header_at check_names check_table field_of sum_of is_utf8 chars lib.Utf8.encode own_table_at fadt_at registers_in madt_at front cut part_of memory rsdp rsdt fadt hpet madt mcfg ssdt dsdt unnamed damaged moved xsdt
+unfolding at rest_from length_in whole_of table_of table_at header_at check_names check_table field_of sum_of is_utf8 chars lib.Utf8.encode own_table_at fadt_at madt_at front cut part_of memory rsdp rsdt fadt hpet madt mcfg ssdt dsdt unnamed damaged moved xsdt
 platform_moved = (refl, refl, refl)
 
 pub hpet_moved : HpetMoved

@@ -21,7 +21,7 @@ use Rattle.acpi.specs.Lists.{dsdt_stream, faults_of, ssdt_streams, valid_headers
 use Rattle.acpi.specs.Lookup.{lookup}
 use Rattle.acpi.specs.Opened.{Opened, opened_by_rsdp, opened_by_search, opened_from}
 use Rattle.acpi.specs.OpenedRanges.{opened_by_rsdp_ranges, opened_by_search_ranges, opened_ranges}
-use Rattle.acpi.specs.OpenedRanges.{rsdp_ranges, search_ranges}
+use Rattle.acpi.specs.OpenedRanges.{root_and_ranges, rsdp_ranges, search_ranges}
 use Rattle.acpi.specs.Pci.{found_regions, mcfg_kind}
 use Rattle.acpi.specs.Platform.{madt_kind, platform_of}
 use Rattle.acpi.specs.Relocation.{bytes_found}
@@ -135,6 +135,13 @@ RsdpInstance = Instance here there rsdp_ranges rsdp_at 0x500 (Ok rsdp)
 abbrev pub OpenedInstance : Type 0
 OpenedInstance =
     Instance here there opened_ranges opened_from (place 0 Rsdt 0x1000) (Ok opened)
+
+-- what may be asked for to open the RSDT and to look the HPET up: of the table whose id is refused
+-- and of the FADT the header, and nothing behind the HPET
+abbrev pub AskedInstance : Type 0
+AskedInstance =
+    root_and_ranges here (place 0 Rsdt 0x1000) (λ m. lookup_ranges m hpet_kind)
+    ≡ (0x1000, 36) ∷ (0x1000, 60) ∷ (0x2000, 36) ∷ (0x3000, 36) ∷ (0x4000, 36) ∷ (0x4000, 56) ∷ []
 
 abbrev pub OpenedByRsdpInstance : Type 0
 OpenedByRsdpInstance = Instance here there opened_by_rsdp_ranges opened_by_rsdp 0x500 (Ok opened)

@@ -1,7 +1,7 @@
 //! The laws at memories that are written out: two memories that differ after every table, and one that
 //! has the same tables elsewhere.
 ghost use Rattle.acpi_laws.specs.Examples.{AreMemories, TheyDiffer, TheyList};
-ghost use Rattle.acpi_laws.specs.ExampleLaws.{DsdtInstance, FaultsInstance, HeadersInstance};
+ghost use Rattle.acpi_laws.specs.ExampleLaws.{AskedInstance, DsdtInstance, FaultsInstance, HeadersInstance};
 ghost use Rattle.acpi_laws.specs.ExampleLaws.{HpetInstance, LookupInstance, MailboxInstance};
 ghost use Rattle.acpi_laws.specs.ExampleLaws.{OpenedByRsdpInstance, OpenedInstance, PlatformInstance};
 ghost use Rattle.acpi_laws.specs.ExampleLaws.{RegionsInstance, RsdpInstance, SsdtsInstance};
@@ -93,6 +93,12 @@ pub fn rsdp_instance()
 #[tactic(auto, using(crate::proofs::Instances::opened_instance))]
 pub fn opened_instance()
     ensures { OpenedInstance }
+{}
+
+/// To open the RSDT and to look the HPET up, six ranges may be asked for.
+#[tactic(auto, using(crate::proofs::Instances::asked_instance))]
+pub fn asked_instance()
+    ensures { AskedInstance }
 {}
 
 /// The two memories that differ agree on the ranges of the root table that the RSDP leads to.

@@ -1,10 +1,12 @@
 //! What tests stand on: handlers over another handler, the history of what one was asked for, and
-//! memory that is spelled out byte by byte. `caller`, `example` and `writer` are the README's callers.
+//! memory that is spelled out byte by byte. `caller`, `guarded`, `example` and `writer` are the
+//! README's callers.
 #![tactic(auto)]
 
 pub mod answers;
 pub mod caller;
 pub mod example;
+pub mod guarded;
 pub mod handlers;
 pub mod history;
 pub mod rows;

@@ -5,12 +5,12 @@ use crate::step::{Step, signature_of};
 use crate::verb::Verb;
 use acpi::bgrt::Bgrt;
 use acpi::sdt::{SdtHeader, map_own_sdt, map_sdt, map_table};
-use acpi::{AcpiHandler, AcpiResult, PhysicalMapping};
+use acpi::{AcpiHandler, AcpiResult, Lender, PhysicalMapping};
 use std::fmt::{self, Display};
 
 /// A mapping that a scene keeps.
 #[derive(Drop)]
-pub(crate) enum Kept<'h, H: AcpiHandler> {
+pub(crate) enum Kept<'h, H: Lender> {
     Graphic(PhysicalMapping<'h, H, Bgrt>),
     Header(PhysicalMapping<'h, H, SdtHeader>),
 }

@@ -7,14 +7,14 @@ use crate::step::Step;
 use crate::transcript::Transcript;
 use crate::verb::Verb;
 use acpi::rsdp::Rsdp;
-use acpi::{AcpiHandler, AcpiResult, AcpiTables};
+use acpi::{AcpiHandler, AcpiResult, AcpiTables, Lender};
 use acpi_lenders::history::History;
 use std::alloc::{AllocError, Global};
 use std::cell::Cell;
 
 /// What the steps so far have opened and kept.
 #[derive(Drop)]
-struct Scene<'r, H: AcpiHandler> {
+struct Scene<'r, H: Lender> {
     handler: &'r H,
     transcript: Transcript<'r>,
     tables: Option<AcpiTables<'r, H>>,

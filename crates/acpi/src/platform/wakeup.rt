@@ -3,7 +3,7 @@ ghost use Rattle.std.specs.Prelude.{◌≡◌, ℕ, ◌++◌, [], ◌∷◌, OnO
 ghost use Rattle.acpi_base.specs.declared.error.AcpiError.{AcpiError};
 ghost use Rattle.acpi_base.specs.declared.error.AcpiError.TheVariants.{InvalidMadt};
 ghost use Rattle.acpi_base.specs.declared.error.MadtError.TheVariants.{WakeupApsTimeout};
-ghost use Rattle.acpi.specs.Footprint.{FootprintBelow, lookup_ranges};
+ghost use Rattle.acpi.specs.Footprint.{AllowsBelow, FootprintBelow, lookup_ranges};
 ghost use Rattle.acpi.specs.Platform.{madt_kind};
 ghost use Rattle.acpi.specs.Tables.{memory_of, pointers_of};
 ghost use Rattle.acpi.specs.Wake.{IsUntouched, Makes, MakesUntilWoken, Waits, Wakes};
@@ -13,7 +13,7 @@ ghost use Rattle.acpi.specs.declared.platform.mailbox.MailboxWrite.{MailboxWrite
 use super::mailbox::Mailbox;
 use crate::tables::AcpiTables;
 use acpi_base::madt::{Madt, MadtError, MpProtectedModeWakeupCommand};
-use acpi_base::{AcpiError, AcpiHandler, AcpiResult};
+use acpi_base::{AcpiError, AcpiResult, Lender};
 
 /// Wakes the processor with a local APIC id: it then begins to run at the vector, a physical
 /// address (section 5.2.12.19). The mailbox is that of the first wakeup entry of the first valid
@@ -24,13 +24,14 @@ use acpi_base::{AcpiError, AcpiHandler, AcpiResult};
 /// `get_mpwk_mailbox_addr` refuses, with what the mailbox's `open` refuses, each without a write or
 /// a read, and with `InvalidMadt(WakeupApsTimeout)` where no read is 0.
 #[tactic(auto, using(crate::proofs::Agreed::mailbox_from_tables))]
-pub fn wakeup_aps<H: AcpiHandler, M: Mailbox>(
+pub fn wakeup_aps<H: Lender, M: Mailbox>(
     tables: &AcpiTables<'_, H>,
     mailbox: &mut M,
     apic_id: u32,
     wakeup_vector: u64,
     timeout_loops: u64,
 ) -> AcpiResult<()>
+    requires { AllowsBelow tables.now (λ m. lookup_ranges m madt_kind) }
     ensures refused { (e : AcpiError)
         → opening (M.open_answer mailbox.old) (mailbox_found (memory_of tables.now)
         (pointers_of tables.now)) ≡ Err e
@@ -70,7 +71,8 @@ pub fn wakeup_aps<H: AcpiHandler, M: Mailbox>(
 ///
 /// Refuses with `TableMissing` if no valid MADT is listed, and then with what
 /// `get_mpwk_mailbox_addr` refuses.
-fn mailbox_address<H: AcpiHandler>(tables: &AcpiTables<'_, H>) -> AcpiResult<u64>
+fn mailbox_address<H: Lender>(tables: &AcpiTables<'_, H>) -> AcpiResult<u64>
+    requires { AllowsBelow tables.now (λ m. lookup_ranges m madt_kind) }
     ensures { result ≡ mailbox_found (memory_of tables.now) (pointers_of tables.now) }
 {
     tables.find_table::<Madt>()?.get_mpwk_mailbox_addr()

@@ -1,10 +1,12 @@
 //! The search for the RSDP in the firmware's areas, on systems that boot by a BIOS.
-ghost use Rattle.std.specs.Prelude.{◌≡◌, ◌<◌, ◌≤◌, ◌^◌, ◌+◌, length, Ok, IfOk, IfSome};
+ghost use Rattle.std.specs.Prelude.{◌≡◌, true, ◌<◌, ◌≤◌, ◌^◌, ◌+◌, length, Ok, IfOk, IfSome};
 ghost use Rattle.std.specs.Option.{option_map};
 ghost use Rattle.std.specs.Str.{bytes_eq};
 ghost use Rattle.acpi_base.specs.Bytes.{part};
 ghost use Rattle.acpi_base.specs.Mapping.{IsOfMemory, handler_of};
 ghost use Rattle.acpi_base.specs.Steps.{Gives, lent};
+ghost use Rattle.acpi_base.specs.Ranges.{Allows};
+ghost use Rattle.acpi.specs.OpenedRanges.{area_ranges, search_ranges, walk_ranges};
 ghost use Rattle.acpi.specs.Rsdp.{rsd_ptr};
 ghost use Rattle.acpi.specs.Search.{count_of, found_in, found_rsdp, placed, room_of, walk, word_in};
 
@@ -12,7 +14,7 @@ use super::area::{Area, FIRST_AREA, second_area};
 use super::span::Span;
 use super::{Rsdp, map_rsdp};
 use acpi_base::bytes::field;
-use acpi_base::{AcpiError, AcpiHandler, AcpiResult, PhysicalMapping};
+use acpi_base::{AcpiError, AcpiResult, Lender, PhysicalMapping};
 
 /// Whether the signature of an RSDP stands at an offset.
 fn has_signature(bytes: &[u8], offset: usize) -> bool
@@ -26,7 +28,7 @@ fn has_signature(bytes: &[u8], offset: usize) -> bool
 
 /// The least valid candidate of an area that is lent, with the 16 bytes behind it, as these bytes.
 #[tactic(auto, using(crate::proofs::Within::length_lent))]
-fn first_candidate<'h, H: AcpiHandler>(
+fn first_candidate<'h, H: Lender>(
     handler: &'h H,
     area: Area,
     bytes: &[u8],
@@ -34,6 +36,8 @@ fn first_candidate<'h, H: AcpiHandler>(
     requires some { area.start + 20 ≤ area.end }
     requires low { area.end < 2 ^ 32 }
     requires lent { lent (H.memory handler.now) area.start (room_of area) ≡ Ok bytes.now }
+    requires asked { Allows (H.may handler.now)
+        (walk_ranges (H.memory handler.now) (count_of area) area.start) }
     ensures handler { IfSome result (λ m. handler_of m ≡ handler.now) }
     ensures lent { IfSome result (λ m. IsOfMemory (H.memory handler.now) m) }
     ensures found { option_map placed result
@@ -56,13 +60,14 @@ fn first_candidate<'h, H: AcpiHandler>(
 /// The least valid candidate of an area, if it has one.
 ///
 /// Refuses with `MapFailed` where the area isn't lent with the 16 bytes behind it.
-#[tactic(auto, unfolding(crate::specs::Search::found_in))]
-fn search_area<'h, H: AcpiHandler>(
+#[tactic(auto, using(crate::proofs::Asked::asked_area, crate::proofs::Asked::asked_walk), unfolding(crate::specs::Search::found_in))]
+fn search_area<'h, H: Lender>(
     handler: &'h H,
     area: Area,
 ) -> AcpiResult<Option<PhysicalMapping<'h, H, Rsdp>>>
     requires some { area.start + 20 ≤ area.end }
     requires low { area.end < 2 ^ 32 }
+    requires asked { Allows (H.may handler.now) (area_ranges (H.memory handler.now) area) }
     ensures handler { IfOk result (λ o. IfSome o (λ m. handler_of m ≡ handler.now)) }
     ensures lent { IfOk result (λ o. IfSome o (λ m. IsOfMemory (H.memory handler.now) m)) }
     ensures found { Gives (option_map placed) result (found_in (H.memory handler.now) area) }
@@ -74,7 +79,8 @@ fn search_area<'h, H: AcpiHandler>(
 
 /// The word that names the second area.
 #[tactic(auto, unfolding(crate::specs::Search::word_in))]
-fn area_word<H: AcpiHandler>(handler: &H) -> AcpiResult<u16>
+fn area_word<H: Lender>(handler: &H) -> AcpiResult<u16>
+    requires { H.may handler.now 0x40e 2 ≡ true }
     ensures { Gives (λ w. w) result (word_in (H.memory handler.now)) }
 {
     let word = PhysicalMapping::<'_, H, Span>::map(handler, 0x40e, 2)?;
@@ -82,8 +88,9 @@ fn area_word<H: AcpiHandler>(handler: &H) -> AcpiResult<u16>
 }
 
 /// The search, step by step.
-#[tactic(auto, unfolding(crate::specs::Search::found_rsdp))]
-fn search_areas<'h, H: AcpiHandler>(handler: &'h H) -> AcpiResult<PhysicalMapping<'h, H, Rsdp>>
+#[tactic(auto, using(crate::proofs::Asked::asked_word), unfolding(crate::specs::Search::found_rsdp))]
+fn search_areas<'h, H: Lender>(handler: &'h H) -> AcpiResult<PhysicalMapping<'h, H, Rsdp>>
+    requires { Allows (H.may handler.now) (search_ranges (H.memory handler.now)) }
     ensures handler { IfOk result (λ m. handler_of m ≡ handler.now) }
     ensures lent { IfOk result (λ m. IsOfMemory (H.memory handler.now) m) }
     ensures found { Gives placed result (found_rsdp (H.memory handler.now)) }
@@ -99,7 +106,6 @@ impl Rsdp {
     ghost use Rattle.std.specs.Prelude.{IsOk};
     ghost use Rattle.acpi_base.specs.Mapping.{start_of};
     ghost use Rattle.acpi_base.specs.Ranges.{Footprint};
-    ghost use Rattle.acpi.specs.OpenedRanges.{search_ranges};
     ghost use Rattle.acpi.specs.Rsdp.{rsdp_at};
     ghost use Rattle.acpi.specs.Search.{IsSearched};
 
@@ -121,9 +127,10 @@ impl Rsdp {
     /// Refuses with `MapFailed` if the word or an area that is asked for isn't lent, and with
     /// `NoValidRsdp` if no candidate is left.
     #[tactic(auto, using(crate::proofs::Least::searched, crate::proofs::Led::found_valid))]
-    pub fn search_for_on_bios<'h, H: AcpiHandler>(
+    pub fn search_for_on_bios<'h, H: Lender>(
         handler: &'h H,
     ) -> AcpiResult<PhysicalMapping<'h, H, Rsdp>>
+        requires { Allows (H.may handler.now) (search_ranges (H.memory handler.now)) }
         ensures handler { IfOk result (λ m. handler_of m ≡ handler.now) }
         // However many bytes were lent, all of them are the memory's.
         ensures lent { IfOk result (λ m. IsOfMemory (H.memory handler.now) m) }

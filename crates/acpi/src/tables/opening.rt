@@ -2,20 +2,23 @@
 ghost use Rattle.std.specs.Prelude.{◌≡◌, ◌^◌, ◌<◌, length, IfOk};
 ghost use Rattle.acpi_base.specs.Mapping.{start_of, bytes_of, handler_of};
 ghost use Rattle.acpi_base.specs.Steps.{Gives};
+ghost use Rattle.acpi_base.specs.Ranges.{Allows};
+ghost use Rattle.acpi.specs.Footprint.{root_ranges};
 ghost use Rattle.acpi.specs.Root.{root_at};
 
 use super::AcpiTables;
 use crate::root::{RootKind, RootPlace};
 use crate::rsdp::{Rsdp, map_rsdp};
 use acpi_base::sdt::{SdtHeader, map_sdt};
-use acpi_base::{AcpiHandler, AcpiResult, PhysicalMapping, PhysicalRecord};
+use acpi_base::{AcpiResult, Lender, PhysicalMapping, PhysicalRecord};
 
 /// The root table of a kind at an address, where it is valid.
-fn map_root<'h, H: AcpiHandler>(
+fn map_root<'h, H: Lender>(
     handler: &'h H,
     kind: RootKind,
     address: u64,
 ) -> AcpiResult<PhysicalMapping<'h, H, SdtHeader>>
+    requires { Allows (H.may handler.now) (root_ranges (H.memory handler.now) kind address) }
     ensures place { IfOk result (λ m. start_of m ≡ address) }
     ensures handler { IfOk result (λ m. handler_of m ≡ handler.now) }
     ensures short { IfOk result (λ m. length (bytes_of m) < 2 ^ 32) }
@@ -24,7 +27,7 @@ fn map_root<'h, H: AcpiHandler>(
     map_sdt(handler, address, kind.signature())
 }
 
-impl<'h, H: AcpiHandler> AcpiTables<'h, H> {
+impl<'h, H: Lender> AcpiTables<'h, H> {
     ghost use Rattle.std.specs.Prelude.{◌≡◌, IfOk, IsOk};
     ghost use Rattle.acpi_base.specs.Mapping.{start_of, bytes_of};
     ghost use Rattle.acpi_base.specs.Ranges.{Footprint};
@@ -45,6 +48,7 @@ impl<'h, H: AcpiHandler> AcpiTables<'h, H> {
     /// don't sum to 0 or, above revision 0, the length is under 36, `MapFailed` where that many
     /// bytes aren't lent, and `RsdpInvalidChecksum` where they don't sum to 0. Then as `from_rsdt`.
     pub fn from_rsdp(handler: &'h H, address: u64) -> AcpiResult<Self>
+        requires { Allows (H.may handler.now) (opened_by_rsdp_ranges (H.memory handler.now) address) }
         ensures handler { IfOk result (λ t. lender_of t ≡ handler.now) }
         ensures exact { Gives (λ t. opened_of t) result
             (opened_by_rsdp (H.memory handler.now) address) }
@@ -60,6 +64,7 @@ impl<'h, H: AcpiHandler> AcpiTables<'h, H> {
 
     /// `from_rsdp`, by the exact clauses from which its footprint follows.
     fn open_by_rsdp(handler: &'h H, address: u64) -> AcpiResult<Self>
+        requires { Allows (H.may handler.now) (opened_by_rsdp_ranges (H.memory handler.now) address) }
         ensures handler { IfOk result (λ t. lender_of t ≡ handler.now) }
         ensures exact { Gives (λ t. opened_of t) result
             (opened_by_rsdp (H.memory handler.now) address) }
@@ -75,6 +80,7 @@ impl<'h, H: AcpiHandler> AcpiTables<'h, H> {
     /// Refuses first as that search does, with `MapFailed` or `NoValidRsdp`, and then as
     /// `from_rsdt`.
     pub fn search_for_rsdp_bios(handler: &'h H) -> AcpiResult<Self>
+        requires { Allows (H.may handler.now) (opened_by_search_ranges (H.memory handler.now)) }
         ensures handler { IfOk result (λ t. lender_of t ≡ handler.now) }
         ensures exact { Gives (λ t. opened_of t) result (opened_by_search (H.memory handler.now)) }
         // In the reader's words: the root table's bytes spell these pointers and no others.
@@ -89,6 +95,7 @@ impl<'h, H: AcpiHandler> AcpiTables<'h, H> {
 
     /// `search_for_rsdp_bios`, by the exact clauses from which its footprint follows.
     fn open_by_search(handler: &'h H) -> AcpiResult<Self>
+        requires { Allows (H.may handler.now) (opened_by_search_ranges (H.memory handler.now)) }
         ensures handler { IfOk result (λ t. lender_of t ≡ handler.now) }
         ensures exact { Gives (λ t. opened_of t) result (opened_by_search (H.memory handler.now)) }
         ensures pointers { IfOk result (λ t. SpellsPointers t) }
@@ -106,7 +113,9 @@ impl<'h, H: AcpiHandler> AcpiTables<'h, H> {
         handler: &'h H,
         mapping: PhysicalMapping<'h, H, Rsdp>,
     ) -> AcpiResult<Self>
-        requires { IsOk (rsdp_at (H.memory handler.now) (start_of mapping)) }
+        requires valid { IsOk (rsdp_at (H.memory handler.now) (start_of mapping)) }
+        requires asked { Allows (H.may handler.now)
+            (opened_by_rsdp_ranges (H.memory handler.now) (start_of mapping)) }
         ensures handler { IfOk result (λ t. lender_of t ≡ handler.now) }
         ensures exact { Gives (λ t. opened_of t) result
             (opened_by_rsdp (H.memory handler.now) (start_of mapping.entry)) }
@@ -123,7 +132,9 @@ impl<'h, H: AcpiHandler> AcpiTables<'h, H> {
     /// `from_validated_rsdp`, by the exact clauses from which its footprint follows.
     #[tactic(auto, using(crate::proofs::Led::valid_lent))]
     fn open_validated(handler: &'h H, mapping: PhysicalMapping<'h, H, Rsdp>) -> AcpiResult<Self>
-        requires { IsOk (rsdp_at (H.memory handler.now) (start_of mapping)) }
+        requires valid { IsOk (rsdp_at (H.memory handler.now) (start_of mapping)) }
+        requires asked { Allows (H.may handler.now)
+            (opened_by_rsdp_ranges (H.memory handler.now) (start_of mapping)) }
         ensures handler { IfOk result (λ t. lender_of t ≡ handler.now) }
         ensures exact { Gives (λ t. opened_of t) result
             (opened_by_rsdp (H.memory handler.now) (start_of mapping.entry)) }
@@ -137,6 +148,8 @@ impl<'h, H: AcpiHandler> AcpiTables<'h, H> {
 
     /// The tables below the root table that an RSDP leads to, which is unmapped first.
     fn from_root(handler: &'h H, rsdp: PhysicalMapping<'h, H, Rsdp>) -> AcpiResult<Self>
+        requires { Allows (H.may handler.now)
+            (opened_ranges (H.memory handler.now) (root_of_rsdp (bytes_of rsdp))) }
         ensures handler { IfOk result (λ t. lender_of t ≡ handler.now) }
         ensures exact { Gives (λ t. opened_of t) result
             (opened_from (H.memory handler.now) (root_of_rsdp (bytes_of rsdp.entry))) }
@@ -154,6 +167,8 @@ impl<'h, H: AcpiHandler> AcpiTables<'h, H> {
     /// `SdtInvalidSignature`, `SdtInvalidOemId`, `SdtInvalidTableId`, `SdtInvalidLength` where the
     /// length is under 36, `MapFailed` where `length` bytes aren't lent, and `SdtInvalidChecksum`.
     pub fn from_rsdt(handler: &'h H, revision: u8, address: u64) -> AcpiResult<Self>
+        requires { Allows (H.may handler.now)
+            (opened_ranges (H.memory handler.now) (root_of_revision revision address)) }
         ensures handler { IfOk result (λ t. lender_of t ≡ handler.now) }
         ensures exact { Gives (λ t. opened_of t) result
             (opened_at (H.memory handler.now) (revision, address)) }
@@ -169,6 +184,8 @@ impl<'h, H: AcpiHandler> AcpiTables<'h, H> {
 
     /// `from_rsdt`, by the exact clauses from which its footprint follows.
     fn open_at(handler: &'h H, revision: u8, address: u64) -> AcpiResult<Self>
+        requires { Allows (H.may handler.now)
+            (opened_ranges (H.memory handler.now) (root_of_revision revision address)) }
         ensures handler { IfOk result (λ t. lender_of t ≡ handler.now) }
         ensures exact { Gives (λ t. opened_of t) result
             (opened_at (H.memory handler.now) (revision, address)) }
@@ -179,6 +196,7 @@ impl<'h, H: AcpiHandler> AcpiTables<'h, H> {
 
     /// The tables below a root table.
     fn open(handler: &'h H, place: RootPlace) -> AcpiResult<Self>
+        requires { Allows (H.may handler.now) (opened_ranges (H.memory handler.now) place) }
         ensures handler { IfOk result (λ t. lender_of t ≡ handler.now) }
         ensures exact { Gives (λ t. opened_of t) result (opened_from (H.memory handler.now) place) }
         ensures pointers { IfOk result (λ t. SpellsPointers t) }

@@ -1,7 +1,7 @@
 //! Entries of the APIC model.
 
 use super::entry::EntryHeader;
-use crate::bytes::field;
+use crate::bytes::field_in;
 use crate::handler::PhysicalRecord;
 
 /// A processor and its local APIC (section 5.2.12.2).
@@ -29,9 +29,9 @@ impl PhysicalRecord for LocalApicEntry {
     fn read(bytes: &[u8]) -> Self {
         LocalApicEntry {
             header: EntryHeader::read(bytes),
-            processor_id: field(bytes, 2, 1) as u8,
-            apic_id: field(bytes, 3, 1) as u8,
-            flags: field(bytes, 4, 4) as u32,
+            processor_id: field_in(bytes, 2, 1) as u8,
+            apic_id: field_in(bytes, 3, 1) as u8,
+            flags: field_in(bytes, 4, 4) as u32,
         }
     }
 }
@@ -61,9 +61,9 @@ impl PhysicalRecord for IoApicEntry {
     fn read(bytes: &[u8]) -> Self {
         IoApicEntry {
             header: EntryHeader::read(bytes),
-            io_apic_id: field(bytes, 2, 1) as u8,
-            io_apic_address: field(bytes, 4, 4) as u32,
-            global_system_interrupt_base: field(bytes, 8, 4) as u32,
+            io_apic_id: field_in(bytes, 2, 1) as u8,
+            io_apic_address: field_in(bytes, 4, 4) as u32,
+            global_system_interrupt_base: field_in(bytes, 8, 4) as u32,
         }
     }
 }
@@ -95,10 +95,10 @@ impl PhysicalRecord for InterruptSourceOverrideEntry {
     fn read(bytes: &[u8]) -> Self {
         InterruptSourceOverrideEntry {
             header: EntryHeader::read(bytes),
-            bus: field(bytes, 2, 1) as u8,
-            irq: field(bytes, 3, 1) as u8,
-            global_system_interrupt: field(bytes, 4, 4) as u32,
-            flags: field(bytes, 8, 2) as u16,
+            bus: field_in(bytes, 2, 1) as u8,
+            irq: field_in(bytes, 3, 1) as u8,
+            global_system_interrupt: field_in(bytes, 4, 4) as u32,
+            flags: field_in(bytes, 8, 2) as u16,
         }
     }
 }
@@ -126,8 +126,8 @@ impl PhysicalRecord for NmiSourceEntry {
     fn read(bytes: &[u8]) -> Self {
         NmiSourceEntry {
             header: EntryHeader::read(bytes),
-            flags: field(bytes, 2, 2) as u16,
-            global_system_interrupt: field(bytes, 4, 4) as u32,
+            flags: field_in(bytes, 2, 2) as u16,
+            global_system_interrupt: field_in(bytes, 4, 4) as u32,
         }
     }
 }
@@ -157,9 +157,9 @@ impl PhysicalRecord for LocalApicNmiEntry {
     fn read(bytes: &[u8]) -> Self {
         LocalApicNmiEntry {
             header: EntryHeader::read(bytes),
-            processor_id: field(bytes, 2, 1) as u8,
-            flags: field(bytes, 3, 2) as u16,
-            nmi_line: field(bytes, 5, 1) as u8,
+            processor_id: field_in(bytes, 2, 1) as u8,
+            flags: field_in(bytes, 3, 2) as u16,
+            nmi_line: field_in(bytes, 5, 1) as u8,
         }
     }
 }
@@ -186,7 +186,7 @@ impl PhysicalRecord for LocalApicAddressOverrideEntry {
     fn read(bytes: &[u8]) -> Self {
         LocalApicAddressOverrideEntry {
             header: EntryHeader::read(bytes),
-            local_apic_address: field(bytes, 4, 8),
+            local_apic_address: field_in(bytes, 4, 8),
         }
     }
 }
@@ -216,9 +216,9 @@ impl PhysicalRecord for LocalX2ApicEntry {
     fn read(bytes: &[u8]) -> Self {
         LocalX2ApicEntry {
             header: EntryHeader::read(bytes),
-            x2apic_id: field(bytes, 4, 4) as u32,
-            flags: field(bytes, 8, 4) as u32,
-            processor_uid: field(bytes, 12, 4) as u32,
+            x2apic_id: field_in(bytes, 4, 4) as u32,
+            flags: field_in(bytes, 8, 4) as u32,
+            processor_uid: field_in(bytes, 12, 4) as u32,
         }
     }
 }
@@ -248,9 +248,9 @@ impl PhysicalRecord for X2ApicNmiEntry {
     fn read(bytes: &[u8]) -> Self {
         X2ApicNmiEntry {
             header: EntryHeader::read(bytes),
-            flags: field(bytes, 2, 2) as u16,
-            processor_uid: field(bytes, 4, 4) as u32,
-            nmi_line: field(bytes, 8, 1) as u8,
+            flags: field_in(bytes, 2, 2) as u16,
+            processor_uid: field_in(bytes, 4, 4) as u32,
+            nmi_line: field_in(bytes, 8, 1) as u8,
         }
     }
 }

@@ -10,7 +10,7 @@ use super::gic::{
 };
 use super::sapic::{IoSapicEntry, LocalSapicEntry, PlatformInterruptSourceEntry};
 use super::wakeup::MultiprocessorWakeupEntry;
-use crate::bytes::field;
+use crate::bytes::field_in;
 use crate::handler::PhysicalRecord;
 
 /// What each entry begins with (section 5.2.12).
@@ -31,10 +31,11 @@ impl PhysicalRecord for EntryHeader {
 
     ghost reading = { entry_header_at };
 
+    #[inline(always)]
     fn read(bytes: &[u8]) -> Self {
         EntryHeader {
-            entry_type: field(bytes, 0, 1) as u8,
-            length: field(bytes, 1, 1) as u8,
+            entry_type: field_in(bytes, 0, 1) as u8,
+            length: field_in(bytes, 1, 1) as u8,
         }
     }
 }

@@ -1,7 +1,7 @@
 //! Entries of the GIC model.
 
 use super::entry::EntryHeader;
-use crate::bytes::field;
+use crate::bytes::{field, field_in};
 use crate::extended::ExtendedField;
 use crate::handler::PhysicalRecord;
 
@@ -57,18 +57,18 @@ impl PhysicalRecord for GiccEntry {
     fn read(bytes: &[u8]) -> Self {
         GiccEntry {
             header: EntryHeader::read(bytes),
-            cpu_interface_number: field(bytes, 4, 4) as u32,
-            processor_uid: field(bytes, 8, 4) as u32,
-            flags: field(bytes, 12, 4) as u32,
-            parking_protocol_version: field(bytes, 16, 4) as u32,
-            performance_interrupt_gsiv: field(bytes, 20, 4) as u32,
-            parked_address: field(bytes, 24, 8),
-            gic_registers_address: field(bytes, 32, 8),
-            gic_virtual_registers_address: field(bytes, 40, 8),
-            gic_hypervisor_registers_address: field(bytes, 48, 8),
-            vgic_maintenance_interrupt: field(bytes, 56, 4) as u32,
-            gicr_base_address: field(bytes, 60, 8),
-            mpidr: field(bytes, 68, 8),
+            cpu_interface_number: field_in(bytes, 4, 4) as u32,
+            processor_uid: field_in(bytes, 8, 4) as u32,
+            flags: field_in(bytes, 12, 4) as u32,
+            parking_protocol_version: field_in(bytes, 16, 4) as u32,
+            performance_interrupt_gsiv: field_in(bytes, 20, 4) as u32,
+            parked_address: field_in(bytes, 24, 8),
+            gic_registers_address: field_in(bytes, 32, 8),
+            gic_virtual_registers_address: field_in(bytes, 40, 8),
+            gic_hypervisor_registers_address: field_in(bytes, 48, 8),
+            vgic_maintenance_interrupt: field_in(bytes, 56, 4) as u32,
+            gicr_base_address: field_in(bytes, 60, 8),
+            mpidr: field_in(bytes, 68, 8),
             processor_power_efficiency_class: field(bytes, 76, 1) as u8,
             spe_overflow_interrupt: field(bytes, 78, 2) as u16,
             trbe_interrupt: ExtendedField::read(bytes, 80),
@@ -103,10 +103,10 @@ impl PhysicalRecord for GicdEntry {
     fn read(bytes: &[u8]) -> Self {
         GicdEntry {
             header: EntryHeader::read(bytes),
-            gic_id: field(bytes, 4, 4) as u32,
-            physical_base_address: field(bytes, 8, 8),
-            system_vector_base: field(bytes, 16, 4) as u32,
-            gic_version: field(bytes, 20, 1) as u8,
+            gic_id: field_in(bytes, 4, 4) as u32,
+            physical_base_address: field_in(bytes, 8, 8),
+            system_vector_base: field_in(bytes, 16, 4) as u32,
+            gic_version: field_in(bytes, 20, 1) as u8,
         }
     }
 }
@@ -140,11 +140,11 @@ impl PhysicalRecord for GicMsiFrameEntry {
     fn read(bytes: &[u8]) -> Self {
         GicMsiFrameEntry {
             header: EntryHeader::read(bytes),
-            frame_id: field(bytes, 4, 4) as u32,
-            physical_base_address: field(bytes, 8, 8),
-            flags: field(bytes, 16, 4) as u32,
-            spi_count: field(bytes, 20, 2) as u16,
-            spi_base: field(bytes, 22, 2) as u16,
+            frame_id: field_in(bytes, 4, 4) as u32,
+            physical_base_address: field_in(bytes, 8, 8),
+            flags: field_in(bytes, 16, 4) as u32,
+            spi_count: field_in(bytes, 20, 2) as u16,
+            spi_base: field_in(bytes, 22, 2) as u16,
         }
     }
 }
@@ -172,8 +172,8 @@ impl PhysicalRecord for GicRedistributorEntry {
     fn read(bytes: &[u8]) -> Self {
         GicRedistributorEntry {
             header: EntryHeader::read(bytes),
-            discovery_range_base_address: field(bytes, 4, 8),
-            discovery_range_length: field(bytes, 12, 4) as u32,
+            discovery_range_base_address: field_in(bytes, 4, 8),
+            discovery_range_length: field_in(bytes, 12, 4) as u32,
         }
     }
 }
@@ -201,8 +201,8 @@ impl PhysicalRecord for GicInterruptTranslationServiceEntry {
     fn read(bytes: &[u8]) -> Self {
         GicInterruptTranslationServiceEntry {
             header: EntryHeader::read(bytes),
-            id: field(bytes, 4, 4) as u32,
-            physical_base_address: field(bytes, 8, 8),
+            id: field_in(bytes, 4, 4) as u32,
+            physical_base_address: field_in(bytes, 8, 8),
         }
     }
 }

@@ -1,7 +1,7 @@
 //! Entries of the SAPIC model.
 
 use super::entry::EntryHeader;
-use crate::bytes::field;
+use crate::bytes::field_in;
 use crate::handler::PhysicalRecord;
 
 /// An I/O SAPIC, which is used in place of the I/O APIC of the same id (section 5.2.12.9).
@@ -29,9 +29,9 @@ impl PhysicalRecord for IoSapicEntry {
     fn read(bytes: &[u8]) -> Self {
         IoSapicEntry {
             header: EntryHeader::read(bytes),
-            io_apic_id: field(bytes, 2, 1) as u8,
-            global_system_interrupt_base: field(bytes, 4, 4) as u32,
-            io_sapic_address: field(bytes, 8, 8),
+            io_apic_id: field_in(bytes, 2, 1) as u8,
+            global_system_interrupt_base: field_in(bytes, 4, 4) as u32,
+            io_sapic_address: field_in(bytes, 8, 8),
         }
     }
 }
@@ -65,11 +65,11 @@ impl PhysicalRecord for LocalSapicEntry {
     fn read(bytes: &[u8]) -> Self {
         LocalSapicEntry {
             header: EntryHeader::read(bytes),
-            processor_id: field(bytes, 2, 1) as u8,
-            local_sapic_id: field(bytes, 3, 1) as u8,
-            local_sapic_eid: field(bytes, 4, 1) as u8,
-            flags: field(bytes, 8, 4) as u32,
-            processor_uid: field(bytes, 12, 4) as u32,
+            processor_id: field_in(bytes, 2, 1) as u8,
+            local_sapic_id: field_in(bytes, 3, 1) as u8,
+            local_sapic_eid: field_in(bytes, 4, 1) as u8,
+            flags: field_in(bytes, 8, 4) as u32,
+            processor_uid: field_in(bytes, 12, 4) as u32,
         }
     }
 }
@@ -107,13 +107,13 @@ impl PhysicalRecord for PlatformInterruptSourceEntry {
     fn read(bytes: &[u8]) -> Self {
         PlatformInterruptSourceEntry {
             header: EntryHeader::read(bytes),
-            flags: field(bytes, 2, 2) as u16,
-            interrupt_type: field(bytes, 4, 1) as u8,
-            processor_id: field(bytes, 5, 1) as u8,
-            processor_eid: field(bytes, 6, 1) as u8,
-            io_sapic_vector: field(bytes, 7, 1) as u8,
-            global_system_interrupt: field(bytes, 8, 4) as u32,
-            platform_interrupt_source_flags: field(bytes, 12, 4) as u32,
+            flags: field_in(bytes, 2, 2) as u16,
+            interrupt_type: field_in(bytes, 4, 1) as u8,
+            processor_id: field_in(bytes, 5, 1) as u8,
+            processor_eid: field_in(bytes, 6, 1) as u8,
+            io_sapic_vector: field_in(bytes, 7, 1) as u8,
+            global_system_interrupt: field_in(bytes, 8, 4) as u32,
+            platform_interrupt_source_flags: field_in(bytes, 12, 4) as u32,
         }
     }
 }

@@ -1,7 +1,7 @@
 //! The entry and the mailbox by which the processors of a virtual machine are woken.
 
 use super::entry::EntryHeader;
-use crate::bytes::field;
+use crate::bytes::field_in;
 use crate::handler::PhysicalRecord;
 
 /// Where the firmware takes the command that wakes a processor (section 5.2.12.19).
@@ -27,8 +27,8 @@ impl PhysicalRecord for MultiprocessorWakeupEntry {
     fn read(bytes: &[u8]) -> Self {
         MultiprocessorWakeupEntry {
             header: EntryHeader::read(bytes),
-            mailbox_version: field(bytes, 2, 2) as u16,
-            mailbox_address: field(bytes, 8, 8),
+            mailbox_version: field_in(bytes, 2, 2) as u16,
+            mailbox_address: field_in(bytes, 8, 8),
         }
     }
 }

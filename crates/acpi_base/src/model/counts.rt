@@ -3,8 +3,11 @@ ghost use Rattle.std.specs.Prelude.{◌≡◌};
 ghost use Rattle.acpi_base.specs.Parts.{counted};
 
 use super::part::Part;
+use crate::bytes::skip;
+use crate::entries::split_front;
 use crate::error::MadtError;
-use crate::madt::MadtEntryIter;
+use crate::handler::PhysicalRecord;
+use crate::madt::{LEAST_LENGTHS, Madt};
 
 /// How many there are of each, and whether any entry is of a model of APICs.
 #[derive(Clone, Copy)]
@@ -20,7 +23,6 @@ pub(super) struct Counts {
 impl Counts {
     /// The counts of what a MADT's bytes say, or their first fault: that of an entry, or
     /// `InvalidEntryLength` where no entry begins and the bytes aren't at their end.
-    #[tactic(auto, using(crate::proofs::MadtCounts::entries_few))]
     pub(super) fn of(table: &[u8]) -> Result<Counts, MadtError>
         ensures { result ≡ counted table.now }
     {
@@ -32,9 +34,13 @@ impl Counts {
             nmi_lines: 0,
             is_of_apic: false,
         };
-        let mut entries = MadtEntryIter::over(table);
-        while let Some(entry) = entries.next() {
-            match Part::of(&entry)? {
+        let mut rest = skip(table, Madt::MIN_LENGTH);
+        while let Some((entry, others)) = split_front(&LEAST_LENGTHS, rest) {
+            rest = others;
+            let Some(said) = Part::said(entry) else {
+                continue;
+            };
+            match said? {
                 Part::Processor { .. } => counts.processors += 1,
                 Part::IoApic(_) => counts.io_apics += 1,
                 Part::Override(_) => counts.overrides += 1,
@@ -45,9 +51,9 @@ impl Counts {
             }
             counts.is_of_apic = true;
         }
-        if entries.ended_malformed() {
-            return Err(MadtError::InvalidEntryLength);
+        match rest {
+            [] => Ok(counts),
+            [_, ..] => Err(MadtError::InvalidEntryLength),
         }
-        Ok(counts)
     }
 }

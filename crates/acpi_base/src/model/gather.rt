@@ -10,13 +10,17 @@ use super::counts::Counts;
 use super::draft::Draft;
 use super::interrupt::InterruptModel;
 use super::part::Part;
+use crate::bytes::skip;
+use crate::entries::split_front;
 use crate::error::{AcpiError, AcpiResult};
-use crate::madt::{Madt, MadtEntryIter};
+use crate::handler::PhysicalRecord;
+use crate::madt::{LEAST_LENGTHS, Madt};
 use std::alloc::Allocator;
 
 /// The model of APICs, with room for just what is counted.
 ///
 /// Refuses with `AllocError` where a growth is refused, or a clone of the allocator.
+#[tactic(auto, using(crate::proofs::Said::said_parts))]
 fn gather<A: Allocator + Clone>(
     madt: &Madt,
     table: &[u8],
@@ -28,8 +32,10 @@ fn gather<A: Allocator + Clone>(
     ensures refused { IfErr result (λ e. e ≡ NoMemory) }
 {
     let mut draft = Draft::with_room(madt, counts, allocator)?;
-    for entry in MadtEntryIter::over(table) {
-        if let Ok(part) = Part::of(&entry) {
+    let mut rest = skip(table, Madt::MIN_LENGTH);
+    while let Some((entry, others)) = split_front(&LEAST_LENGTHS, rest) {
+        rest = others;
+        if let Some(Ok(part)) = Part::said(entry) {
             draft.add(part);
         }
     }

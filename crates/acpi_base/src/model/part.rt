@@ -1,6 +1,10 @@
 //! What one entry says of the interrupt model.
-ghost use Rattle.std.specs.Prelude.{◌≡◌};
+ghost use Rattle.std.specs.Prelude.{◌≡◌, Ok};
+ghost use Rattle.acpi_base.specs.Entries.{IsEntry};
 ghost use Rattle.acpi_base.specs.Interrupts.{io_apic_of, nmi_line_of, nmi_source_of, override_of, part_of, polarity_of, processor_for, trigger_mode_of};
+ghost use Rattle.acpi_base.specs.Madt.{madt_lengths};
+ghost use Rattle.acpi_base.specs.Parts.{said_of};
+ghost use Rattle.acpi_base.specs.declared.madt.entry.MadtEntry.TheVariants as kinds;
 
 use super::interrupt::{
     InterruptSourceOverride, IoApic, LocalInterruptLine, NmiLine, NmiProcessor, NmiSource,
@@ -8,7 +12,11 @@ use super::interrupt::{
 };
 use crate::bytes::{bits, has_bit};
 use crate::error::MadtError;
-use crate::madt::{InterruptSourceOverrideEntry, IoApicEntry, MadtEntry, NmiSourceEntry};
+use crate::handler::PhysicalRecord;
+use crate::madt::{
+    InterruptSourceOverrideEntry, IoApicEntry, LocalApicAddressOverrideEntry, LocalApicEntry,
+    LocalApicNmiEntry, LocalX2ApicEntry, NmiSourceEntry, X2ApicNmiEntry,
+};
 
 /// What an entry that isn't refused says.
 #[derive(Clone, Copy)]
@@ -34,46 +42,100 @@ pub(super) enum Part {
 }
 
 impl Part {
-    /// What an entry says.
+    /// What an entry's bytes say, or `None` where its kind is reserved or the maker's. Only what the
+    /// model has is read of them, and no `MadtEntry` is made.
     ///
     /// Refuses the kinds of SAPICs and of the GIC with `UnexpectedEntry`, an override of another
     /// bus than ISA with `InterruptOverrideEntryHasInvalidBus`, reserved flags with
     /// `MpsIntiInvalidPolarity` or else `MpsIntiInvalidTriggerMode`, and other inputs than LINT0 and
     /// LINT1 with `InvalidLocalNmiLine`.
     #[inline(always)]
-    #[tactic(auto, unfolding(crate::specs::Interrupts::part_of))]
-    pub(super) fn of(entry: &MadtEntry) -> Result<Part, MadtError>
-        ensures { result ≡ part_of entry.now }
+    #[tactic(auto, unfolding(crate::specs::Interrupts::part_of, crate::specs::Parts::said_of))]
+    pub(super) fn said(entry: &[u8]) -> Option<Result<Part, MadtError>>
+        requires { IsEntry madt_lengths entry.now }
+        ensures { result ≡ said_of entry.now }
     {
-        match entry {
-            MadtEntry::LocalApic(e) => Ok(Part::Processor {
-                processor_uid: e.processor_id as u32,
-                local_apic_id: e.apic_id as u32,
-                is_enabled: has_bit(e.flags as u64, 0),
-            }),
-            MadtEntry::LocalX2Apic(e) => Ok(Part::Processor {
-                processor_uid: e.processor_uid,
-                local_apic_id: e.x2apic_id,
-                is_enabled: has_bit(e.flags as u64, 0),
-            }),
-            MadtEntry::IoApic(e) => Ok(Part::IoApic(io_apic_of(e))),
-            MadtEntry::InterruptSourceOverride(e) => Ok(Part::Override(override_of(e)?)),
-            MadtEntry::NmiSource(e) => Ok(Part::NmiSource(nmi_source_of(e)?)),
-            MadtEntry::LocalApicNmi(e) => {
-                let processor = processor_for(0xff, e.processor_id as u32);
-                Ok(Part::NmiLine(nmi_line_of(processor, e.nmi_line)?))
+        match entry[0] {
+            0x00 => Some(Ok(processor_of(&LocalApicEntry::read(entry)))),
+            0x01 => Some(Ok(Part::IoApic(io_apic_of(&IoApicEntry::read(entry))))),
+            0x02 => Some(override_part(&InterruptSourceOverrideEntry::read(entry))),
+            0x03 => Some(nmi_source_part(&NmiSourceEntry::read(entry))),
+            0x04 => Some(nmi_line_part(&LocalApicNmiEntry::read(entry))),
+            0x05 => {
+                let e = LocalApicAddressOverrideEntry::read(entry);
+                Some(Ok(Part::LocalApicAddress(e.local_apic_address)))
             }
-            MadtEntry::X2ApicNmi(e) => {
-                let processor = processor_for(0xffffffff, e.processor_uid);
-                Ok(Part::NmiLine(nmi_line_of(processor, e.nmi_line)?))
-            }
-            MadtEntry::LocalApicAddressOverride(e) => {
-                Ok(Part::LocalApicAddress(e.local_apic_address))
-            }
-            MadtEntry::MultiprocessorWakeup(_) => Ok(Part::Wakeup),
-            _ => Err(MadtError::UnexpectedEntry),
+            0x09 => Some(Ok(x2apic_processor_of(&LocalX2ApicEntry::read(entry)))),
+            0x0a => Some(x2apic_nmi_line_part(&X2ApicNmiEntry::read(entry))),
+            0x10 => Some(Ok(Part::Wakeup)),
+            kind if kind < 0x10 => Some(Err(MadtError::UnexpectedEntry)),
+            _ => None,
         }
     }
+}
+
+/// The processor of a local APIC.
+#[inline(always)]
+#[tactic(auto, unfolding(crate::specs::Interrupts::part_of))]
+fn processor_of(entry: &LocalApicEntry) -> Part
+    ensures { Ok result ≡ part_of (kinds.LocalApic entry.now) }
+{
+    Part::Processor {
+        processor_uid: entry.processor_id as u32,
+        local_apic_id: entry.apic_id as u32,
+        is_enabled: has_bit(entry.flags as u64, 0),
+    }
+}
+
+/// The processor of a local x2APIC.
+#[inline(always)]
+#[tactic(auto, unfolding(crate::specs::Interrupts::part_of))]
+fn x2apic_processor_of(entry: &LocalX2ApicEntry) -> Part
+    ensures { Ok result ≡ part_of (kinds.LocalX2Apic entry.now) }
+{
+    Part::Processor {
+        processor_uid: entry.processor_uid,
+        local_apic_id: entry.x2apic_id,
+        is_enabled: has_bit(entry.flags as u64, 0),
+    }
+}
+
+/// The wiring that an override gives.
+#[inline(always)]
+#[tactic(auto, unfolding(crate::specs::Interrupts::part_of))]
+fn override_part(entry: &InterruptSourceOverrideEntry) -> Result<Part, MadtError>
+    ensures { result ≡ part_of (kinds.InterruptSourceOverride entry.now) }
+{
+    Ok(Part::Override(override_of(entry)?))
+}
+
+/// The interrupt that is non-maskable.
+#[inline(always)]
+#[tactic(auto, unfolding(crate::specs::Interrupts::part_of))]
+fn nmi_source_part(entry: &NmiSourceEntry) -> Result<Part, MadtError>
+    ensures { result ≡ part_of (kinds.NmiSource entry.now) }
+{
+    Ok(Part::NmiSource(nmi_source_of(entry)?))
+}
+
+/// The input of a local APIC that NMIs come to.
+#[inline(always)]
+#[tactic(auto, unfolding(crate::specs::Interrupts::part_of))]
+fn nmi_line_part(entry: &LocalApicNmiEntry) -> Result<Part, MadtError>
+    ensures { result ≡ part_of (kinds.LocalApicNmi entry.now) }
+{
+    let processor = processor_for(0xff, entry.processor_id as u32);
+    Ok(Part::NmiLine(nmi_line_of(processor, entry.nmi_line)?))
+}
+
+/// The same of a local x2APIC.
+#[inline(always)]
+#[tactic(auto, unfolding(crate::specs::Interrupts::part_of))]
+fn x2apic_nmi_line_part(entry: &X2ApicNmiEntry) -> Result<Part, MadtError>
+    ensures { result ≡ part_of (kinds.X2ApicNmi entry.now) }
+{
+    let processor = processor_for(0xffffffff, entry.processor_uid);
+    Ok(Part::NmiLine(nmi_line_of(processor, entry.nmi_line)?))
 }
 
 /// The fields of an I/O APIC.

@@ -5,8 +5,9 @@ use super::extended::extended_number_in;
 use super::registers::{RegisterBlock, address_from};
 use super::{FixedFeatureFlags, PowerProfile, profile_from};
 use acpi_base::address::GenericAddress;
-use acpi_base::bytes::field;
+use acpi_base::bytes::field_in;
 use acpi_base::sdt::SdtHeader;
+use acpi_base::table::sum_refusal;
 use acpi_base::{AcpiError, AcpiResult, AcpiTable, PhysicalRecord, Signature};
 
 /// The fields of a FADT (section 5.2.9) by which the DSDT, the profile and the timer are found: a
@@ -35,9 +36,9 @@ impl PhysicalRecord for FadtBrief {
     fn read(bytes: &[u8]) -> Self {
         FadtBrief {
             header: SdtHeader::read(bytes),
-            dsdt_address: field(bytes, 40, 4) as u32,
-            preferred_pm_profile: field(bytes, 45, 1) as u8,
-            flags: FixedFeatureFlags::new(field(bytes, 112, 4) as u32),
+            dsdt_address: field_in(bytes, 40, 4) as u32,
+            preferred_pm_profile: field_in(bytes, 45, 1) as u8,
+            flags: FixedFeatureFlags::new(field_in(bytes, 112, 4) as u32),
             x_dsdt_address: extended_number_in(bytes, 140),
             pm_timer: RegisterBlock::read(bytes, 76, 91, 208),
         }
@@ -62,6 +63,10 @@ impl AcpiTable for FadtBrief {
 
     fn validate(&self, bytes: &[u8]) -> AcpiResult<()> {
         self.header().validate(Self::SIGNATURE, bytes)
+    }
+
+    fn validate_rest(bytes: &[u8]) -> AcpiResult<()> {
+        sum_refusal(Self::SIGNATURE, bytes)
     }
 
     ghost least = { lit≤ tt };

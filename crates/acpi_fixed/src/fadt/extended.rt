@@ -4,7 +4,7 @@ ghost use Rattle.acpi_base.specs.Bytes.{field_of};
 ghost use Rattle.acpi_fixed.specs.Registers.{extended_address, extended_number};
 
 use acpi_base::address::RawAddress;
-use acpi_base::bytes::{field, filled};
+use acpi_base::bytes::{field, field_in, filled_in};
 
 /// Whether the table has revision 2 or above, and the `n` bytes at an offset.
 #[inline(always)]
@@ -19,13 +19,13 @@ fn is_extended(table: &[u8], offset: usize, n: usize) -> bool
 /// The number of eight bytes at an offset, which tables of revision 2 and above have, where they
 /// have all of these bytes.
 #[inline(always)]
-#[tactic(auto, using(crate::proofs::Front::number_there, crate::proofs::Front::no_number))]
+#[tactic(auto, using(crate::proofs::Later::number_there, crate::proofs::Later::no_number))]
 pub(super) fn extended_number_in(table: &[u8], offset: usize) -> Option<u64>
     requires { offset + 8 ≤ 276 }
     ensures { result ≡ extended_number table.now offset }
 {
     if is_extended(table, offset, 8) {
-        Some(field(table, offset, 8))
+        Some(field_in(table, offset, 8))
     } else {
         None
     }
@@ -33,13 +33,13 @@ pub(super) fn extended_number_in(table: &[u8], offset: usize) -> Option<u64>
 
 /// The same of the twelve bytes of a generic address.
 #[inline(always)]
-#[tactic(auto, using(crate::proofs::Front::address_there, crate::proofs::Front::no_address))]
+#[tactic(auto, using(crate::proofs::Later::address_there, crate::proofs::Later::no_address))]
 pub(super) fn extended_address_in(table: &[u8], offset: usize) -> Option<RawAddress>
     requires { offset + 12 ≤ 276 }
     ensures { result ≡ extended_address table.now offset }
 {
     if is_extended(table, offset, 12) {
-        Some(filled(table, offset))
+        Some(filled_in(table, offset))
     } else {
         None
     }

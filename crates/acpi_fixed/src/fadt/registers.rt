@@ -1,15 +1,11 @@
 //! What the FADT gives in two ways: by a field of its first versions, and by an extended one.
-ghost use Rattle.std.specs.Prelude.{◌≡◌, ◌+◌, ◌≤◌};
-ghost use Rattle.acpi_base.specs.Bytes.{filled_part};
+ghost use Rattle.std.specs.Prelude.{◌≡◌, ◌+◌, ◌≤◌, length};
 ghost use Rattle.acpi_fixed.specs.Registers.{address_or, register_of};
 
 use super::extended::extended_address_in;
-use super::front::Front;
 use acpi_base::address::{AccessSize, AddressSpace, GenericAddress, RawAddress};
-use acpi_base::bytes::{field, filled};
+use acpi_base::bytes::{field_in, filled, filled_in};
 use acpi_base::{AcpiError, AcpiResult};
-use std::fmt;
-use std::fmt::{Debug, Formatter, Write};
 
 /// The 64-bit address where it is there and not 0, else the 32-bit one.
 ///
@@ -49,19 +45,41 @@ pub(crate) struct RegisterBlock {
 }
 
 impl RegisterBlock {
+    ghost use Rattle.acpi_base.specs.Bytes.{field_of};
     ghost use Rattle.acpi_fixed.specs.Registers.{block_at, block_of, usable_extended};
     ghost use Rattle.acpi_fixed.specs.Registers.{optional_block_of, ports_at, timer_block_of};
 
     /// The block whose address, length and extended field a table has at these offsets.
     #[inline(always)]
     pub(super) fn read(table: &[u8], address: usize, size: usize, extended: usize) -> RegisterBlock
-        requires { extended + 12 ≤ 276 }
+        requires table { 116 ≤ length table.now }
+        requires address { address + 4 ≤ 116 }
+        requires size { size + 1 ≤ 116 }
+        requires extended { extended + 12 ≤ 276 }
         ensures { result ≡ block_at table.now address size extended }
     {
         RegisterBlock {
-            address: field(table, address, 4) as u32,
-            size: field(table, size, 1) as u8,
+            address: field_in(table, address, 4) as u32,
+            size: field_in(table, size, 1) as u8,
             extended: extended_address_in(table, extended),
+        }
+    }
+
+    /// The same of a table that is known to have the extended field.
+    #[inline(always)]
+    #[tactic(auto, using(crate::proofs::Later::address_known))]
+    fn read_there(table: &[u8], address: usize, size: usize, extended: usize) -> RegisterBlock
+        requires table { 116 ≤ length table.now }
+        requires late { 2 ≤ field_of table.now 8 1 }
+        requires address { address + 4 ≤ 116 }
+        requires size { size + 1 ≤ 116 }
+        requires extended { extended + 12 ≤ length table.now }
+        ensures { result ≡ block_at table.now address size extended }
+    {
+        RegisterBlock {
+            address: field_in(table, address, 4) as u32,
+            size: field_in(table, size, 1) as u8,
+            extended: Some(filled_in(table, extended)),
         }
     }
 
@@ -70,7 +88,7 @@ impl RegisterBlock {
         ensures { result ≡ usable_extended self.now.extended }
     {
         match self.extended {
-            Some(raw) if field(&raw, 4, 8) != 0 => Some(raw),
+            Some(raw) if field_in(&raw, 4, 8) != 0 => Some(raw),
             _ => None,
         }
     }
@@ -149,12 +167,27 @@ pub(crate) struct Registers {
 }
 
 impl Registers {
+    ghost use Rattle.acpi_base.specs.Bytes.{field_of};
     ghost use Rattle.acpi_fixed.specs.Registers.{registers_at};
 
-    /// The registers that a table says: each block by the offsets of its address, of its length and
-    /// of its extended field.
+    /// The registers that a table says.
     #[inline(always)]
-    fn read(table: &[u8]) -> Registers
+    pub(crate) fn read(table: &[u8]) -> Registers
+        requires { 116 ≤ length table.now }
+        ensures { result ≡ registers_at table.now }
+    {
+        if table.len() >= 244 && field_in(table, 8, 1) >= 2 {
+            Registers::read_there(table)
+        } else {
+            Registers::read_short(table)
+        }
+    }
+
+    /// The same of any table: each block by the offsets of its address, of its length and of its
+    /// extended field. It is out of line, since most tables have all the blocks.
+    #[inline(never)]
+    fn read_short(table: &[u8]) -> Registers
+        requires { 116 ≤ length table.now }
         ensures { result ≡ registers_at table.now }
     {
         Registers {
@@ -171,58 +204,26 @@ impl Registers {
             sleep_status: extended_address_in(table, 256),
         }
     }
-}
 
-/// The first bytes of a table, which say where the registers lie. They are read when a register is
-/// asked for: most who look a FADT up ask for few.
-#[derive(Clone, Copy)]
-pub(crate) struct RegisterBytes {
-    /// The table's bytes, with zeros behind the end of a shorter table.
-    front: Front,
-    /// How many of these the table has.
-    count: usize,
-}
-
-impl RegisterBytes {
-    ghost use Rattle.std.specs.Prelude.{take};
-    ghost use Rattle.acpi_fixed.specs.Registers.{bytes_kept, kept_of, registers_in};
-
-    /// What is kept of a table.
+    /// The same of a table that is known to have all the blocks: none is tested for it.
     #[inline(always)]
-    #[tactic(auto, using(crate::proofs::Front::count_kept))]
-    pub(crate) fn new(front: &Front, table: &[u8]) -> RegisterBytes
-        requires { front.now ≡ filled_part table.now 0 276 }
-        ensures { result ≡ kept_of table.now }
+    fn read_there(table: &[u8]) -> Registers
+        requires long { 244 ≤ length table.now }
+        requires late { 2 ≤ field_of table.now 8 1 }
+        ensures { result ≡ registers_at table.now }
     {
-        RegisterBytes {
-            front: *front,
-            count: table.len().min(276),
+        Registers {
+            pm1a_event: RegisterBlock::read_there(table, 56, 88, 148),
+            pm1b_event: RegisterBlock::read_there(table, 60, 88, 160),
+            pm1a_control: RegisterBlock::read_there(table, 64, 89, 172),
+            pm1b_control: RegisterBlock::read_there(table, 68, 89, 184),
+            pm2_control: RegisterBlock::read_there(table, 72, 90, 196),
+            pm_timer: RegisterBlock::read_there(table, 76, 91, 208),
+            gpe0: RegisterBlock::read_there(table, 80, 92, 220),
+            gpe1: RegisterBlock::read_there(table, 84, 93, 232),
+            reset: filled_in(table, 116),
+            sleep_control: extended_address_in(table, 244),
+            sleep_status: extended_address_in(table, 256),
         }
-    }
-
-    /// Those of these bytes that the table has.
-    #[inline(always)]
-    fn table(&self) -> &[u8]
-        ensures { result.now ≡ bytes_kept self.now }
-    {
-        match self.front.get(..self.count) {
-            Some(table) => table,
-            None => &self.front,
-        }
-    }
-
-    /// The registers that these bytes say.
-    #[inline(always)]
-    #[tactic(auto, unfolding(crate::specs::Registers::registers_in))]
-    pub(crate) fn registers(&self) -> Registers
-        ensures { result ≡ registers_in self.now }
-    {
-        Registers::read(self.table())
-    }
-}
-
-impl Debug for RegisterBytes {
-    fn fmt<W: Write>(&self, f: &mut Formatter<W>) -> fmt::Result {
-        self.registers().fmt(f)
     }
 }

@@ -15,4 +15,4 @@ ends (Err e) m a n h some start shown = tt
 pub returns-in-Ok-clause-ends : goal.returns-in-Ok-clause-ends
 returns-in-Ok-clause-ends g c =
     let some : 0 < c.in-Ok.length = omega (arith, c.requires.some, c.in-Ok.ensures.long) in
-    ends c.widen.result _ _ _ (g.met.H.AcpiHandler.regions _) some c.widen.ensures.start c.widen.ensures.shown
+    ends c.widen.result _ _ _ (g.met.H.Lender.regions _) some c.widen.ensures.start c.widen.ensures.shown

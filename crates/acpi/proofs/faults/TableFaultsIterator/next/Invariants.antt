@@ -7,7 +7,7 @@ use Rattle.acpi.proofs.faults.TableFaultsIterator.next.Given as goal
 -- what was passed over gives no item
 abbrev pub invariant-loop-address : goal.invariant-loop-address
 invariant-loop-address g l =
-    let m = g.H.AcpiHandler.memory in
+    let m = g.H.Lender.memory in
     let k = kind g.T.AcpiTable.SIGNATURE g.T.PhysicalRecord.MIN_LENGTH g.T.AcpiTable.verdict in
     faults_left m k l.self ≡ faults_left m k l.fn.self
 

@@ -5,7 +5,7 @@ use Rattle.acpi.proofs.headers.SdtHeaderIteratorIterator.next.Given as goal
 
 -- what was passed over gives no item
 abbrev pub invariant-loop-address : goal.invariant-loop-address
-invariant-loop-address g l = headers_left g.H.AcpiHandler.memory l.self ≡ headers_left g.H.AcpiHandler.memory l.fn.self
+invariant-loop-address g l = headers_left g.H.Lender.memory l.self ≡ headers_left g.H.Lender.memory l.fn.self
 
 abbrev pub decreases-loop-address : goal.decreases-loop-address
 decreases-loop-address g l = length (pointers_left l.self.pointers)

@@ -1,8 +1,11 @@
 use Rattle.std.proofs.Common.{◌≡◌, ◌+◌, ◌-◌, ◌*◌}
+use Rattle.acpi_base.specs.Ranges.{Allows}
+use Rattle.acpi.specs.OpenedRanges.{walk_ranges}
 use Rattle.acpi.specs.Search.{count_of, walk}
 use Rattle.acpi.proofs.rsdp.search.first_candidate.Given as goal
 
 abbrev pub invariant-loop-k : goal.invariant-loop-k
 invariant-loop-k g l =
-    let m = g.H.AcpiHandler.memory l.handler in
-    walk m (count_of l.area - l.k) (l.area.start + 16 * l.k) ≡ walk m (count_of l.area) l.area.start
+    let m = g.H.Lender.memory l.handler in
+    (walk m (count_of l.area - l.k) (l.area.start + 16 * l.k) ≡ walk m (count_of l.area) l.area.start)
+    × Allows (g.H.Lender.may l.handler) (walk_ranges m (count_of l.area - l.k) (l.area.start + 16 * l.k))

@@ -1,9 +1,10 @@
 use Rattle.std.proofs.Common.{◌≡◌, ℕ, ◌+◌, ◌≤◌, length}
 use Rattle.std.specs.List.{filter_map}
-use Rattle.acpi_base.specs.Madt.{cut_of, entries_of}
-use Rattle.acpi_base.specs.MadtWalk.{entries_left, rest_left}
+use Rattle.std.specs.Result.{result_err, result_ok}
+use Rattle.acpi_base.specs.Entries.{cut}
+use Rattle.acpi_base.specs.Madt.{cut_of, entries_of, madt_lengths}
 use Rattle.acpi_base.specs.Model.{fault_in, parts_of}
-use Rattle.acpi_base.specs.Parts.{counted_behind, counts_of, parts_left}
+use Rattle.acpi_base.specs.Parts.{counted_behind, counts_of, said_in}
 use Rattle.acpi_base.specs.declared.model.counts.Counts.{Counts}
 use Rattle.acpi_base.proofs.model.counts.Counts.of.Given as goal
 
@@ -15,11 +16,11 @@ has_room c left most =
 -- no entry so far is refused, what is counted and what is left are the whole, and the rest is the same
 abbrev pub invariant-loop-entry : goal.invariant-loop-entry
 invariant-loop-entry l = record {
-  passed : filter_map fault_in (entries_left l.entries) ≡ filter_map fault_in (entries_of l.table);
-  counted : counted_behind l.counts (parts_left l.entries) ≡ counts_of (parts_of l.table);
-  room : has_room l.counts (length (entries_left l.entries)) (length l.table);
-  rest : rest_left l.entries ≡ (cut_of l.table).1;
+  passed : filter_map result_err (said_in l.rest) ≡ filter_map fault_in (entries_of l.table);
+  counted : counted_behind l.counts (filter_map result_ok (said_in l.rest)) ≡ counts_of (parts_of l.table);
+  room : has_room l.counts (length (said_in l.rest)) (length l.table);
+  rest : (cut madt_lengths l.rest).1 ≡ (cut_of l.table).1;
 }
 
 abbrev pub decreases-loop-entry : goal.decreases-loop-entry
-decreases-loop-entry l = length (entries_left l.entries)
+decreases-loop-entry l = length l.rest

@@ -1,0 +1,172 @@
+-- What may be asked for below a root table: each part of the ranges of a definition.
+use Rattle.std.proofs.Common.{refl, ap, sym, drop, slice_get, ◌≡◌, ℕ, zero, suc, ◌+◌, ◌-◌, ◌*◌, ◌<◌, List, [], ◌∷◌, ◌++◌, Bool, true, subst, Option, Some, None, Result, Ok, Err, arith}
+use Rattle.std.specs.Prelude.{MatchOption, flat_map}
+use Rattle.std.proofs.lemmas.Option.{get_or_from_slice_get}
+use Rattle.acpi_base.proofs.Allowed.{all_back, all_front, all_here, all_rest}
+use Rattle.acpi_base.specs.declared.error.AcpiError.{AcpiError}
+use Rattle.acpi_base.specs.declared.signature.TheConstants.Signature.{DSDT}
+use Rattle.acpi_base.specs.Memory.{Memory}
+use Rattle.acpi_base.specs.Ranges as ranges
+use Rattle.acpi_base.specs.Ranges.{Allows, Ranges, table_ranges, unless_found}
+use Rattle.acpi_base.specs.Steps.{lent}
+use Rattle.acpi_base.specs.Table.{Kind, plain_kind, table_at}
+use Rattle.acpi_fixed.specs.Fadt.{dsdt_address_of, fadt_at}
+use Rattle.acpi.specs.Footprint.{dsdt_ranges, lookup_ranges, platform_ranges}
+use Rattle.acpi.specs.Lists.{fadt_kind, faults_of, unless_valid}
+use Rattle.acpi.specs.Lookup.{lookup}
+use Rattle.acpi.specs.Opened.{Opened, opened_from}
+use Rattle.acpi.specs.Root.{pointers, width_of}
+use Rattle.acpi.specs.declared.root.RootPlace.{RootPlace}
+use Rattle.acpi.specs.OpenedRanges.{root_and_ranges, area_ranges, opened_by_rsdp_ranges, opened_by_search_ranges, opened_ranges, rsdp_ranges, search_ranges, walk_ranges}
+use Rattle.acpi.specs.Platform.{madt_kind}
+use Rattle.acpi.specs.Rsdp.{length_of, root_of_rsdp, rsdp_at}
+use Rattle.acpi.specs.Search.{count_of, first_area, found_in, found_rsdp, room_of, second_area, word_in}
+use Rattle.acpi.specs.declared.rsdp.area.Area.{Area}
+
+-- the pointer that is seen first, and those after it
+pub peeked : (all : List ℕ) (p : ℕ) → Some p ≡ slice_get all 0 → all ≡ p ∷ drop 1 all
+peeked [] p is = cc
+peeked (x ∷ all) p is = ap (λ y. y ∷ all) (get_or_from_slice_get (x ∷ all) 0 p 0 (sym is))
+
+-- its faults come first
+pub faults_peeked : (m : Memory) (k : Kind) (p : ℕ) (all left : List ℕ) → Some p ≡ slice_get all 0 → left ≡ drop 1 all
+    → faults_of m k all ≡ unless_valid p (table_at m k p) (faults_of m k left)
+faults_peeked m k p all left is moved = rw moved (ap (faults_of m k) (peeked all p is))
+
+pub no_faults : (m : Memory) (k : Kind) (all : List ℕ) → None ≡ slice_get all 0 → faults_of m k all ≡ []
+no_faults m k [] is = refl
+no_faults m k (x ∷ all) is = cc
+
+module _ (may : ℕ → ℕ → Bool) where
+  -- what lies behind a step that passes
+  pub behind : {A E : Type 0} (r : Result A E) (of : A → Ranges) (x : A) → r ≡ Ok x → Allows may (ranges.◌>>=◌ r of) → Allows may (of x)
+  behind r of x is h = rw is at h
+
+  -- ---- lookups
+
+  pub asked_member : (m : Memory) (k : Kind) (p : ℕ) (all ps : List ℕ) → all ≡ p ∷ ps → Allows may (lookup_ranges m k all) → Allows may (table_ranges m k p)
+  asked_member m k p all ps is h = all_front may (table_ranges m k p) _ (rw is at h)
+
+  pub asked_later : (m : Memory) (k : Kind) (p : ℕ) (all ps : List ℕ) (e : AcpiError) → all ≡ p ∷ ps → Allows may (lookup_ranges m k all)
+      → table_at m k p ≡ Err e → Allows may (lookup_ranges m k ps)
+  asked_later m k p all ps e is h refused = rw refused at (all_back may (table_ranges m k p) _ (rw is at h))
+
+  -- a member that isn't valid is passed over
+  pub later_kept : (m : Memory) (k : Kind) (p : ℕ) (all ps : List ℕ) (top : Result (ℕ × List ℕ) AcpiError) (e : AcpiError)
+      → table_at m k p ≡ Err e → all ≡ p ∷ ps → (lookup m k all ≡ top) × Allows may (lookup_ranges m k all)
+      → (lookup m k ps ≡ top) × Allows may (lookup_ranges m k ps)
+  later_kept m k p all ps top e refused is h = (rw (is, refused) at h.0, asked_later m k p all ps e is h.1 refused)
+
+  -- ---- faults
+
+  pub asked_peeked : (m : Memory) (k : Kind) (p : ℕ) (all : List ℕ) → Some p ≡ slice_get all 0 → Allows may (lookup_ranges m k all)
+      → Allows may (table_ranges m k p)
+  asked_peeked m k p all is h = asked_member m k p all (drop 1 all) (peeked all p is) h
+
+  pub asked_passed : (m : Memory) (k : Kind) (p : ℕ) (all left : List ℕ) (e : AcpiError) → Some p ≡ slice_get all 0 → left ≡ drop 1 all
+      → table_at m k p ≡ Err e → Allows may (lookup_ranges m k all) → Allows may (lookup_ranges m k left)
+  asked_passed m k p all left e is moved refused h = rw moved (asked_later m k p all (drop 1 all) e (peeked all p is) h refused)
+
+  -- ---- lists
+
+  pub asked_each : (of : ℕ → Ranges) (p : ℕ) (all ps : List ℕ) → all ≡ p ∷ ps → Allows may (flat_map of all) → Allows may (of p)
+  asked_each of p all ps is h = all_front may (of p) _ (rw is at h)
+
+  pub asked_others : (of : ℕ → Ranges) (p : ℕ) (all ps : List ℕ) → all ≡ p ∷ ps → Allows may (flat_map of all) → Allows may (flat_map of ps)
+  asked_others of p all ps is h = all_back may (of p) _ (rw is at h)
+
+  pub asked_kept : (of : ℕ → Ranges) (all ps : List ℕ) (r : Option ℕ) → MatchOption r ((all ≡ []) × (ps ≡ [])) (λ p. all ≡ p ∷ ps)
+      → Allows may (flat_map of all) → Allows may (flat_map of ps)
+  asked_kept of all ps None is h = rw is.1 (rw is.0 at h)
+  asked_kept of all ps (Some p) is h = asked_others of p all ps is h
+
+  -- ---- the DSDT and the platform
+
+  pub asked_fadt : (m : Memory) (ps : List ℕ) → Allows may (dsdt_ranges m ps) → Allows may (lookup_ranges m fadt_kind ps)
+  asked_fadt m ps h = all_front may (lookup_ranges m fadt_kind ps) _ h
+
+  pub asked_dsdt : (m : Memory) (ps : List ℕ) (found : ℕ × List ℕ) (a : ℕ) → Allows may (dsdt_ranges m ps) → lookup m fadt_kind ps ≡ Ok found
+      → dsdt_address_of (fadt_at found.1) ≡ Ok a → Allows may (table_ranges m (plain_kind DSDT) a)
+  asked_dsdt m ps found a h there address = rw (there, address) at (all_back may (lookup_ranges m fadt_kind ps) _ h)
+
+  pub asked_profile : (m : Memory) (ps : List ℕ) → Allows may (platform_ranges m ps) → Allows may (lookup_ranges m fadt_kind ps)
+  asked_profile m ps h = all_front may (lookup_ranges m fadt_kind ps) _ h
+
+  pub asked_model : (m : Memory) (ps : List ℕ) (found : ℕ × List ℕ) → Allows may (platform_ranges m ps) → lookup m fadt_kind ps ≡ Ok found
+      → Allows may (lookup_ranges m madt_kind ps)
+  asked_model m ps found h there = rw there at (all_back may (lookup_ranges m fadt_kind ps) _ h)
+
+  -- ---- the RSDP
+
+  pub asked_rsdp : (m : Memory) (a : ℕ) → Allows may (rsdp_ranges m a) → may a 36 ≡ true
+  asked_rsdp m a h = all_here may (a, 36) _ h
+
+  pub asked_sum : (m : Memory) (a n : ℕ) (b : List ℕ) → Allows may (rsdp_ranges m a) → lent m a 36 ≡ Ok b → length_of b ≡ Ok (Some n) → may a n ≡ true
+  asked_sum m a n b h there long = all_here may (a, n) [] (rw (there, long) at (all_rest may (a, 36) _ h))
+
+  pub asked_first : (m : Memory) (a : ℕ) → Allows may (opened_by_rsdp_ranges m a) → Allows may (rsdp_ranges m a)
+  asked_first m a h = all_front may (rsdp_ranges m a) _ h
+
+  pub asked_root : (m : Memory) (a : ℕ) (b : List ℕ) → Allows may (opened_by_rsdp_ranges m a) → rsdp_at m a ≡ Ok b
+      → Allows may (opened_ranges m (root_of_rsdp b))
+  asked_root m a b h there = rw there at (all_back may (rsdp_ranges m a) _ h)
+
+  pub asked_search : (m : Memory) → Allows may (opened_by_search_ranges m) → Allows may (search_ranges m)
+  asked_search m h = all_front may (search_ranges m) _ h
+
+  pub asked_found : (m : Memory) (found : ℕ × List ℕ) → Allows may (opened_by_search_ranges m) → found_rsdp m ≡ Ok found
+      → Allows may (opened_ranges m (root_of_rsdp found.1))
+  asked_found m found h there = rw there at (all_back may (search_ranges m) _ h)
+
+  -- ---- the search
+
+  pub asked_area : (m : Memory) (s : Area) → Allows may (area_ranges m s) → may s.start (room_of s) ≡ true
+  asked_area m s h = all_here may (s.start, room_of s) _ h
+
+  pub asked_walk : (m : Memory) (s : Area) (b : List ℕ) → Allows may (area_ranges m s) → lent m s.start (room_of s) ≡ Ok b
+      → Allows may (walk_ranges m (count_of s) s.start)
+  asked_walk m s b h there = rw there at (all_rest may (s.start, room_of s) _ h)
+
+  pub asked_word : (m : Memory) → Allows may (search_ranges m) → may 0x40e 2 ≡ true
+  asked_word m h = all_here may (0x40e, 2) _ h
+
+  pub asked_first_area : (m : Memory) (w : ℕ) → Allows may (search_ranges m) → word_in m ≡ Ok w → Allows may (area_ranges m first_area)
+  asked_first_area m w h word =
+      all_front may (area_ranges m first_area) _ (behind (word_in m) _ w word (all_rest may (0x40e, 2) _ h))
+
+  pub asked_second_area : (m : Memory) (w : ℕ) → Allows may (search_ranges m) → word_in m ≡ Ok w → found_in m first_area ≡ Ok None
+      → Allows may (area_ranges m (second_area w))
+  asked_second_area m w h word none =
+      behind (found_in m first_area) _ None none (all_back may (area_ranges m first_area) _ (behind (word_in m) _ w word (all_rest may (0x40e, 2) _ h)))
+
+  of_pred : (n n' : ℕ) (m : Memory) (a : ℕ) → n ≡ n' → Allows may (rsdp_ranges m a ++ unless_found (rsdp_at m a) (walk_ranges m n (a + 16)))
+      → Allows may (rsdp_ranges m a ++ unless_found (rsdp_at m a) (walk_ranges m n' (a + 16)))
+  of_pred n n' m a same h = subst (λ x. Allows may (rsdp_ranges m a ++ unless_found (rsdp_at m a) (walk_ranges m x (a + 16)))) same h
+
+  asked_step : (m : Memory) (n a : ℕ) → 0 < n → Allows may (walk_ranges m n a)
+      → Allows may (rsdp_ranges m a ++ unless_found (rsdp_at m a) (walk_ranges m (n - 1) (a + 16)))
+  asked_step m zero a some h = absurd (omega arith)
+  asked_step m (suc n) a some h = of_pred n (suc n - 1) m a (omega arith) h
+
+  pub asked_candidate : (m : Memory) (n k start : ℕ) → k < n → Allows may (walk_ranges m (n - k) (start + 16 * k)) → Allows may (rsdp_ranges m (start + 16 * k))
+  asked_candidate m n k start turn h = all_front may (rsdp_ranges m (start + 16 * k)) _ (asked_step m (n - k) (start + 16 * k) (omega arith) h)
+
+  -- behind a candidate that is refused
+  after_refused : (m : Memory) (r : Result (List ℕ) AcpiError) (e : AcpiError) (xs : Ranges) → r ≡ Err e → Allows may (unless_found r xs) → Allows may xs
+  after_refused m r e xs is h = rw is at h
+
+  moved_walk : (m : Memory) (n n' a a' : ℕ) → n ≡ n' → a ≡ a' → Allows may (walk_ranges m n a) → Allows may (walk_ranges m n' a')
+  moved_walk m n n' a a' same_n same_a h = rw (same_n, same_a) at h
+
+  pub asked_next : (m : Memory) (n k start : ℕ) (e : AcpiError) → k < n → Allows may (walk_ranges m (n - k) (start + 16 * k)) → rsdp_at m (start + 16 * k) ≡ Err e
+      → Allows may (walk_ranges m (n - (k + 1)) (start + 16 * (k + 1)))
+  asked_next m n k start e turn h refused =
+      let rest = all_back may (rsdp_ranges m (start + 16 * k)) _ (asked_step m (n - k) (start + 16 * k) (omega arith) h) in
+      moved_walk m (n - k - 1) (n - (k + 1)) (start + 16 * k + 16) (start + 16 * (k + 1)) (omega arith) (omega arith) (after_refused m _ e _ refused rest)
+
+-- a call below a root table that was opened
+pub asked_below : {L : Type 0} (memory : L → Memory) (may : L → ℕ → ℕ → Bool) (ranges : Memory → List ℕ → Ranges) (handler lender : L) (place : RootPlace) (o : Opened)
+    → lender ≡ handler → opened_from (memory handler) place ≡ Ok o → Allows (may handler) (root_and_ranges (memory handler) place ranges)
+    → Allows (may lender) (ranges (memory lender) (pointers (width_of o.kind) (drop 36 o.root)))
+asked_below memory may ranges handler lender place o same opened h =
+    rw same (rw opened at (all_back (may handler) (opened_ranges (memory handler) place) _ h))

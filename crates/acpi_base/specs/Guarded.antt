@@ -1,0 +1,11 @@
+-- What a guarded handler shows.
+use Rattle.acpi_base.specs.Ranges.{Ranges}
+use Rattle.acpi_base.specs.declared.guarded.Guarded.{Guarded}
+
+-- the handler that is asked
+abbrev pub guarded_by : {H : Type 0} → Guarded H → H
+guarded_by g = g.handler.now
+
+-- the ranges that it may be asked for
+abbrev pub listed_by : {H : Type 0} → Guarded H → Ranges
+listed_by g = g.ranges.now
