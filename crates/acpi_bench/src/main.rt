@@ -13,8 +13,8 @@ mod stopwatch;
 mod sums;
 mod words;
 
+use acpi_cli::{texts_of, texts_or_none};
 use acpi_image_reader::MemoryImage;
-use acpi_words::{texts_of, texts_or_none};
 use calls::time_calls;
 use counted::Counted;
 use std::fmt::Display;

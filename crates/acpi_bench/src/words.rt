@@ -1,7 +1,7 @@
 //! What the words of a command line ask for.
 
 use acpi::{AcpiHandler, AcpiResult, AcpiTables};
-use acpi_words::{parse_address, parse_revision};
+use acpi_cli::{parse_address, parse_revision};
 
 /// How many batches are timed where the words don't say.
 const BATCHES: u64 = 1000;

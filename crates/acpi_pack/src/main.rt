@@ -5,10 +5,10 @@
 //! are.
 #![tactic(auto)]
 
+use acpi_cli::files::HostFiles;
+use acpi_cli::{borrowed, texts_of, texts_or_none};
 use acpi_packing::program::pack;
 use acpi_packing::storage::HostStorage;
-use acpi_words::files::HostFiles;
-use acpi_words::{borrowed, texts_of, texts_or_none};
 use std::io;
 use std::process::ExitCode;
 

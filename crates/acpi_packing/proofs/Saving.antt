@@ -3,7 +3,7 @@ use Rattle.std.proofs.Common.{◌≡◌, ◌∙◌, ℕ, List, [], ◌∷◌, �
 use Rattle.std.proofs.Math.Seq.{drop-append_seam}
 use Rattle.std.proofs.lemmas.List.{map-append}
 use Rattle.std.specs.Prelude.{Option, Result, Ok, Err, string_bytes}
-use Rattle.acpi_words.specs.Reads.{Asks, FileRead, contents_of}
+use Rattle.acpi_cli.specs.Reads.{Asks, FileRead, contents_of}
 use Rattle.acpi_packing.specs.Program.{Follows, Packs, files_for}
 use Rattle.acpi_packing.specs.Run.{Ends}
 use Rattle.acpi_packing.specs.Saves.{FileSaved, saved_of}

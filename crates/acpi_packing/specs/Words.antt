@@ -4,7 +4,7 @@ use Rattle.std.specs.Str.{bytes_eq}
 use Rattle.acpi_packing.specs.declared.words.Command.{Command}
 use Rattle.acpi_packing.specs.declared.words.Form.{Form}
 use Rattle.acpi_packing.specs.declared.words.Form.TheVariants.{Memory, Tables}
-use Rattle.acpi_words.specs.Numbers.{address_of}
+use Rattle.acpi_cli.specs.Numbers.{address_of}
 
 -- the file that is to be made, the files that it is made from, and the addresses of these, or none
 -- where they are tables

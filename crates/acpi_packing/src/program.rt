@@ -1,6 +1,6 @@
 //! The program over any files, any storage and any writers.
 ghost use Rattle.std.specs.Prelude.{◌≡◌, IfOk, OnErr, map, option_map};
-ghost use Rattle.acpi_words.specs.Reads.{AsksFront};
+ghost use Rattle.acpi_cli.specs.Reads.{AsksFront};
 ghost use Rattle.acpi_packing.specs.Held.{contents};
 ghost use Rattle.acpi_packing.specs.Program.{Follows, Packs, Saves, files_for};
 ghost use Rattle.acpi_packing.specs.Words.{request_in, request_of};
@@ -10,7 +10,7 @@ use crate::run::{Outcome, run_command};
 use crate::sources::Source;
 use crate::storage::Storage;
 use crate::words::{Command, parse_command};
-use acpi_words::files::{Files, contents_from, count, read_all};
+use acpi_cli::files::{Files, contents_from, count, read_all};
 use std::alloc::{AllocError, Global};
 use std::io;
 use std::io::Write;

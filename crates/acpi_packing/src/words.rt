@@ -2,7 +2,7 @@
 ghost use Rattle.std.specs.Prelude.{◌≡◌, IfOk, map, option_map};
 ghost use Rattle.acpi_packing.specs.Words.{form_request, memory_request, request_in, request_of, tables_request};
 
-use acpi_words::parse_address;
+use acpi_cli::parse_address;
 use std::alloc::{AllocError, Global};
 
 /// What the files that are packed are.

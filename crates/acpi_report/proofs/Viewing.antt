@@ -2,7 +2,7 @@
 use Rattle.std.proofs.Common.{◌≡◌, ◌∙◌, ℕ, List, IfOk, ap, drop, length, subst}
 use Rattle.std.proofs.Math.Seq.{drop-append_seam}
 use Rattle.std.specs.Prelude.{Option, Result, Ok, Err}
-use Rattle.acpi_words.specs.Reads.{Asks, FileRead, contents_of}
+use Rattle.acpi_cli.specs.Reads.{Asks, FileRead, contents_of}
 use Rattle.acpi_report.specs.Command.{command_of, files_for}
 use Rattle.acpi_report.specs.Output.{EndsWith}
 use Rattle.acpi_report.specs.View.{Views, first_of}

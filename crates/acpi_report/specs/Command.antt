@@ -1,7 +1,7 @@
 -- What the words of a command line ask for.
 use Rattle.std.specs.Prelude.{ℕ, List, [], ◌∷◌, Option, Some, None, if◌then◌else◌, codes}
 use Rattle.std.specs.Str.{bytes_eq}
-use Rattle.acpi_words.specs.Numbers.{address_of, revision_of}
+use Rattle.acpi_cli.specs.Numbers.{address_of, revision_of}
 use Rattle.acpi_report.specs.declared.words.Command.{Command}
 use Rattle.acpi_report.specs.declared.words.Command.TheVariants.{Rsdt, Rsdp, Bios}
 

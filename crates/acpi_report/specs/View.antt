@@ -1,6 +1,6 @@
 -- What the program does with its arguments, its files and its outputs.
 use Rattle.std.specs.Prelude.{ℕ, List, [], ◌∷◌, Option, None}
-use Rattle.acpi_words.specs.Reads.{Asks, FileRead, contents_of}
+use Rattle.acpi_cli.specs.Reads.{Asks, FileRead, contents_of}
 use Rattle.acpi_report.specs.Command.{files_of}
 use Rattle.acpi_report.specs.Output.{Ends}
 

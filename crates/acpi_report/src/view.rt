@@ -1,13 +1,13 @@
 //! The program over any files and any writers.
 ghost use Rattle.std.specs.Prelude.{◌≡◌, IfOk, OnErr, map};
 ghost use Rattle.std.specs.Option.{option_copied};
-ghost use Rattle.acpi_words.specs.Reads.{AsksFront};
+ghost use Rattle.acpi_cli.specs.Reads.{AsksFront};
 ghost use Rattle.acpi_report.specs.Command.{files_of};
 ghost use Rattle.acpi_report.specs.View.{Views, first_of};
 
 use crate::run::run_gathered;
 use crate::words::{files_named, parse_command};
-use acpi_words::files::{Files, contents_from, count, read_all};
+use acpi_cli::files::{Files, contents_from, count, read_all};
 use std::alloc::Global;
 use std::io;
 use std::io::Write;

@@ -3,7 +3,7 @@ ghost use Rattle.std.specs.Prelude.{◌≡◌, map};
 ghost use Rattle.acpi_base.specs.Equality.{IsEquality};
 ghost use Rattle.acpi_report.specs.Command.{bios_command, command_of, files_for, form_command, rsdp_command, rsdt_command};
 
-use acpi_words::{parse_address, parse_revision};
+use acpi_cli::{parse_address, parse_revision};
 
 /// What the words of a command line ask for.
 #[derive(Clone, Copy, PartialEq, Eq)]

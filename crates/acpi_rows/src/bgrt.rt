@@ -3,7 +3,7 @@
 use crate::named::field_of;
 use acpi::bgrt::Bgrt;
 use acpi::{AcpiTable, PhysicalRecord};
-use acpi_lenders::rows::shown;
+use acpi_testkit::rows::shown;
 use std::alloc::{AllocError, Global};
 
 /// What a boot graphic answers.

@@ -2,7 +2,7 @@
 
 use acpi::address::{AccessSize, AddressSpace, GenericAddress};
 use acpi_base::madt::MpProtectedModeWakeupCommand;
-use acpi_lenders::rows::shown;
+use acpi_testkit::rows::shown;
 use std::alloc::{AllocError, Global};
 
 /// What the twelve bytes of a generic address answer.

@@ -4,7 +4,7 @@ use crate::named::{field_of, set_names};
 use acpi::address::GenericAddress;
 use acpi::fadt::Fadt;
 use acpi::{AcpiResult, AcpiTable, PhysicalRecord};
-use acpi_lenders::rows::{named, shown};
+use acpi_testkit::rows::{named, shown};
 use std::alloc::{AllocError, Global};
 
 /// What a FADT answers.

@@ -4,8 +4,8 @@ use crate::named::field_of;
 use acpi::PhysicalMapping;
 use acpi::platform::interrupt::InterruptModel;
 use acpi_base::madt::{Madt, MadtEntry, MadtEntryIter};
-use acpi_lenders::example::Window;
-use acpi_lenders::rows::shown;
+use acpi_testkit::example::Window;
+use acpi_testkit::rows::shown;
 use std::alloc::{AllocError, Global};
 
 /// What a MADT answers.

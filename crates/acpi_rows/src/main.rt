@@ -1,5 +1,5 @@
 //! Checks what tables' bytes and regions of memory answer, and what `acpi_view` prints of files, against
-//! the rows on standard input, whose lines `acpi_lenders::rows` describes. Numbers in an answer are
+//! the rows on standard input, whose lines `acpi_testkit::rows` describes. Numbers in an answer are
 //! hexadecimal, but in the texts of signatures and refusals, and in what is printed.
 #![tactic(auto)]
 
@@ -17,7 +17,7 @@ mod runs;
 mod spcr;
 mod sums;
 
-use acpi_lenders::rows::{Answers, Row, ask_rows};
+use acpi_testkit::rows::{Answers, Row, ask_rows};
 use hex_text::in_hex;
 use std::alloc::{AllocError, Global};
 use std::io;

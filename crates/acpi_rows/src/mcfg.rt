@@ -1,7 +1,7 @@
 //! The regions of PCI configuration space.
 
 use acpi::mcfg::McfgEntryIter;
-use acpi_lenders::rows::shown;
+use acpi_testkit::rows::shown;
 use std::alloc::{AllocError, Global};
 
 /// What an MCFG answers.

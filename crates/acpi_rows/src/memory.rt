@@ -5,11 +5,11 @@ use acpi::rsdp::Rsdp;
 use acpi::spcr::Spcr;
 use acpi::{AcpiHandler, AcpiResult, AcpiTables};
 use acpi_base::madt::Madt;
+use acpi_cli::{parse_address, parse_revision};
 use acpi_image::MemoryImage;
-use acpi_lenders::answers::place_of;
-use acpi_lenders::handlers::{Exact, Recording};
-use acpi_lenders::rows::{Row, shown};
-use acpi_words::{parse_address, parse_revision};
+use acpi_testkit::answers::place_of;
+use acpi_testkit::handlers::{Exact, Recording};
+use acpi_testkit::rows::{Row, shown};
 use std::alloc::{AllocError, Global};
 
 /// What a row's regions answer over an image, over a handler that lends just what is asked for, and

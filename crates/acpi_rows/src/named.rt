@@ -1,6 +1,6 @@
 //! Flags and fields by their names.
 
-use acpi_lenders::rows::shown;
+use acpi_testkit::rows::shown;
 use std::alloc::{AllocError, Global};
 use std::fmt::Debug;
 

@@ -2,7 +2,7 @@
 
 use acpi::sdt::Signature;
 use acpi::{AcpiError, MadtError};
-use acpi_lenders::rows::{named, printed, shown};
+use acpi_testkit::rows::{named, printed, shown};
 use std::alloc::{AllocError, Global};
 
 const SIGNATURES: [(&str, Signature); 65] = [

@@ -2,7 +2,7 @@
 
 use acpi::PhysicalRecord;
 use acpi::rsdp::Rsdp;
-use acpi_lenders::rows::shown;
+use acpi_testkit::rows::shown;
 use std::alloc::{AllocError, Global};
 
 /// What an RSDP answers.

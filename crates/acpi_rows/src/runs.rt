@@ -9,9 +9,9 @@ mod refusing;
 mod writes;
 
 use acpi_image::{PlacedTable, write_image};
-use acpi_lenders::rows::shown;
 use acpi_report::run::run;
 use acpi_report::words::{Command, files_named, parse_command};
+use acpi_testkit::rows::shown;
 use heaps::{over_heaps, without_memory};
 use std::alloc::{AllocError, Global};
 use std::io::Write;

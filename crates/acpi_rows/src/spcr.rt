@@ -5,8 +5,8 @@ mod sets;
 
 use acpi::spcr::Spcr;
 use acpi::{AcpiTable, PhysicalMapping, PhysicalRecord};
-use acpi_lenders::example::Window;
-use acpi_lenders::rows::shown;
+use acpi_testkit::example::Window;
+use acpi_testkit::rows::shown;
 use std::alloc::{AllocError, Global};
 
 /// What the table of a serial console answers.

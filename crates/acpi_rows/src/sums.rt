@@ -1,8 +1,8 @@
 //! The byte sum.
 
 use acpi::sdt::byte_sum;
-use acpi_lenders::rows::shown;
-use acpi_lenders::samples::front;
+use acpi_testkit::rows::shown;
+use acpi_testkit::samples::front;
 use std::alloc::{AllocError, Global};
 
 /// What bytes answer: the sum of the first of them, or the sums of the first 0 to 131 of those

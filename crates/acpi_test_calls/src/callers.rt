@@ -4,12 +4,12 @@ use crate::checks::check;
 use acpi::sdt::Signature;
 use acpi::{AcpiError, AcpiHandler, AcpiResult};
 use acpi_image::{MemoryImage, PlacedTable, WriteError};
-use acpi_lenders::caller::graphic_address;
-use acpi_lenders::example::{Window, find_both};
-use acpi_lenders::samples::graphics::two_tables;
-use acpi_lenders::samples::rsdps::two_roots;
-use acpi_lenders::samples::{front, put_graphic};
-use acpi_lenders::writer::{GuestError, tables_of_guest};
+use acpi_testkit::caller::graphic_address;
+use acpi_testkit::example::{Window, find_both};
+use acpi_testkit::samples::graphics::two_tables;
+use acpi_testkit::samples::rsdps::two_roots;
+use acpi_testkit::samples::{front, put_graphic};
+use acpi_testkit::writer::{GuestError, tables_of_guest};
 use std::alloc::Global;
 use std::process::Abort;
 

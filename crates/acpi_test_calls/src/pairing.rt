@@ -1,7 +1,7 @@
 //! What a history with a wrong notice is refused for.
 
 use crate::checks::check;
-use acpi_lenders::history::{Event, Flaw, History, Shown, places};
+use acpi_testkit::history::{Event, Flaw, History, Shown, places};
 use std::process::Abort;
 
 /// 64 bytes are lent at 0x2000 for the 56 that were asked for.

@@ -3,7 +3,7 @@ ghost use Rattle.std.specs.Prelude.{◌≡◌};
 
 use crate::checks::check;
 use acpi::{AcpiError, AcpiResult, ManagedSlice};
-use acpi_lenders::samples::front;
+use acpi_testkit::samples::front;
 use linked_list_allocator::LocalHeap;
 use std::alloc::{AllocError, Global};
 use std::cell::Cell;

@@ -5,9 +5,9 @@ use acpi::platform::{Mailbox, MailboxCall, MailboxWrite, ScriptedMailbox, wakeup
 use acpi::sdt::Signature;
 use acpi::{AcpiError, AcpiResult, AcpiTables, MadtError};
 use acpi_image::MemoryImage;
-use acpi_lenders::samples::front;
-use acpi_lenders::samples::graphics::empty_root;
-use acpi_lenders::samples::madts::with_madt;
+use acpi_testkit::samples::front;
+use acpi_testkit::samples::graphics::empty_root;
+use acpi_testkit::samples::madts::with_madt;
 use std::alloc::Global;
 use std::process::Abort;
 

@@ -1,7 +1,7 @@
 //! Words that can't be had.
 
 use crate::checks::check;
-use acpi_words::texts_or_none;
+use acpi_cli::texts_or_none;
 use std::alloc::Global;
 use std::io;
 use std::io::ErrorKind;

@@ -6,8 +6,8 @@ use acpi::madt::Madt;
 use acpi::mcfg::McfgEntryIter;
 use acpi::platform::PmTimer;
 use acpi::{PhysicalMapping, PhysicalRecord};
-use acpi_lenders::example::Window;
-use acpi_lenders::rows::shown;
+use acpi_testkit::example::Window;
+use acpi_testkit::rows::shown;
 use linked_list_allocator::LocalHeap;
 use std::alloc::{AllocError, Allocator, Global};
 

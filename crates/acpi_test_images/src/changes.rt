@@ -14,11 +14,11 @@
 use crate::handlers;
 use crate::texts::Parts;
 use acpi_base::bytes::skip;
+use acpi_cli::parse_address;
 use acpi_image::{ImageError, MemoryImage};
-use acpi_lenders::rows::{Region, Row, named, shown};
-use acpi_lenders::samples::front;
-use acpi_lenders::samples::placed::{Margins, add_record};
-use acpi_words::parse_address;
+use acpi_testkit::rows::{Region, Row, named, shown};
+use acpi_testkit::samples::front;
+use acpi_testkit::samples::placed::{Margins, add_record};
 use std::alloc::{AllocError, Global};
 
 /// What is changed of a region.

@@ -4,7 +4,7 @@ use crate::texts::listed;
 use acpi::mcfg::PciConfigRegions;
 use acpi::platform::{ScriptedMailbox, wakeup_aps};
 use acpi::{AcpiHandler, AcpiResult, AcpiTables, HpetInfo};
-use acpi_lenders::rows::shown;
+use acpi_testkit::rows::shown;
 use std::alloc::{AllocError, Allocator, Global};
 
 /// What the id of the block of timers says: the revision and the number of comparators, whether the

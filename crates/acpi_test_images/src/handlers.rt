@@ -4,9 +4,9 @@ use crate::tables;
 use crate::texts::Parts;
 use acpi::AcpiHandler;
 use acpi_image::MemoryImage;
-use acpi_lenders::handlers::{Exact, Recording};
-use acpi_lenders::history::Flaw;
-use acpi_lenders::rows::{Region, shown};
+use acpi_testkit::handlers::{Exact, Recording};
+use acpi_testkit::history::Flaw;
+use acpi_testkit::rows::{Region, shown};
 use std::alloc::{AllocError, Global};
 
 /// What the handlers of a file answer, or why there are none.

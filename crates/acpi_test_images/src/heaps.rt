@@ -10,7 +10,7 @@ use crate::platforms::of_answer;
 use crate::texts::{Parts, said};
 use acpi::madt::Madt;
 use acpi::{AcpiHandler, AcpiResult, AcpiTables, ManagedSlice, PciConfigRegions};
-use acpi_lenders::rows::shown;
+use acpi_testkit::rows::shown;
 use linked_list_allocator::LocalHeap;
 use std::alloc::{AllocError, Allocator, Global};
 

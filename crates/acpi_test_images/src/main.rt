@@ -15,7 +15,7 @@ mod platforms;
 mod tables;
 mod texts;
 
-use acpi_lenders::rows::{Answers, Row, ask_rows};
+use acpi_testkit::rows::{Answers, Row, ask_rows};
 use std::alloc::{AllocError, Global};
 use std::io;
 

@@ -4,7 +4,7 @@ use crate::texts::{Parts, Says, said};
 use acpi::platform::interrupt::{Apic, InterruptModel};
 use acpi::platform::{ModelAndProcessors, PlatformInfo, ProcessorInfo};
 use acpi::{AcpiHandler, AcpiResult, AcpiTables};
-use acpi_lenders::rows::shown;
+use acpi_testkit::rows::shown;
 use std::alloc::{AllocError, Allocator, Global};
 
 /// What each of the four calls answers, if all say the same.

@@ -15,9 +15,9 @@ use acpi::mcfg::Mcfg;
 use acpi::sdt::{SdtHeader, Signature};
 use acpi::spcr::Spcr;
 use acpi::{AcpiHandler, AcpiResult, AcpiTable, AcpiTables, HpetInfo, PciConfigRegions};
-use acpi_lenders::answers::place_of;
-use acpi_lenders::rows::{named, shown};
-use acpi_words::{parse_address, parse_revision};
+use acpi_cli::{parse_address, parse_revision};
+use acpi_testkit::answers::place_of;
+use acpi_testkit::rows::{named, shown};
 use std::alloc::{AllocError, Global};
 
 /// The answer to a question over a handler.

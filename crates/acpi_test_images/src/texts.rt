@@ -1,7 +1,7 @@
 //! Texts of answers.
 ghost use Rattle.std.specs.Iterator.{IsFinite};
 
-use acpi_lenders::rows::shown;
+use acpi_testkit::rows::shown;
 use std::alloc::{AllocError, Global};
 use std::fmt::Debug;
 

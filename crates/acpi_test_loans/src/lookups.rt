@@ -12,8 +12,8 @@ use acpi::madt::Madt;
 use acpi::mcfg::Mcfg;
 use acpi::spcr::Spcr;
 use acpi::{AcpiHandler, AcpiTable, AcpiTables};
-use acpi_lenders::example::Wsmt;
-use acpi_lenders::watched::Watched;
+use acpi_testkit::example::Wsmt;
+use acpi_testkit::watched::Watched;
 use std::alloc::Global;
 
 /// Asks the tables what a step says.

@@ -1,5 +1,5 @@
 //! Checks what a handler is asked for and told against the rows on standard input, which are
-//! written as `acpi_lenders::rows` says.
+//! written as `acpi_testkit::rows` says.
 //!
 //! A question is a step of a scene over the memory of its row, and its answer tells what happens
 //! meanwhile. The first step begins with the handler's name: `exact` lends what is asked for, and
@@ -34,7 +34,7 @@ mod summaries;
 mod transcript;
 mod verb;
 
-use acpi_lenders::rows::ask_rows;
+use acpi_testkit::rows::ask_rows;
 use scenes::Scenes;
 use std::io;
 

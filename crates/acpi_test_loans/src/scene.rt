@@ -8,7 +8,7 @@ use crate::transcript::Transcript;
 use crate::verb::Verb;
 use acpi::rsdp::Rsdp;
 use acpi::{AcpiHandler, AcpiResult, AcpiTables, Lender};
-use acpi_lenders::history::History;
+use acpi_testkit::history::History;
 use std::alloc::{AllocError, Global};
 use std::cell::Cell;
 

@@ -5,8 +5,8 @@ use crate::step::signature_of;
 use acpi::sdt::SdtHeader;
 use acpi::{AcpiHandler, PhysicalRecord};
 use acpi_image::MemoryImage;
-use acpi_lenders::handlers::{Exact, Recording};
-use acpi_lenders::rows::{Answers, Row, shown};
+use acpi_testkit::handlers::{Exact, Recording};
+use acpi_testkit::rows::{Answers, Row, shown};
 use std::alloc::{AllocError, Global};
 use std::cell::RefCell;
 

@@ -2,7 +2,7 @@
 
 use crate::verb::Verb;
 use acpi::sdt::Signature;
-use acpi_words::parse_address;
+use acpi_cli::parse_address;
 
 /// What a step is made of: a verb, and a name, a number and an address if it has them, in any
 /// order.

@@ -2,7 +2,7 @@
 
 use crate::said::Place;
 use acpi::{AcpiHandler, AcpiResult, PhysicalMapping, PhysicalRecord};
-use acpi_lenders::history::{Event, History};
+use acpi_testkit::history::{Event, History};
 use std::alloc::{AllocError, Global};
 use std::cell::Cell;
 use std::fmt::Display;

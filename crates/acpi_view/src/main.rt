@@ -5,9 +5,9 @@
 //! `acpi_view IMAGE bios` the one that the RSDP leads to which the BIOS areas hold.
 #![tactic(auto)]
 
+use acpi_cli::files::HostFiles;
+use acpi_cli::{borrowed, texts_of, texts_or_none};
 use acpi_report::view::view;
-use acpi_words::files::HostFiles;
-use acpi_words::{borrowed, texts_of, texts_or_none};
 use std::io;
 use std::process::ExitCode;
 

@@ -2,8 +2,8 @@
 
 use crate::named::field_of;
 use acpi::spcr::{Spcr, SpcrFlowControl, SpcrInterruptType, SpcrTerminalType};
-use acpi_lenders::rows::shown;
-use acpi_words::parse_address;
+use acpi_cli::parse_address;
+use acpi_testkit::rows::shown;
 use bitflags::Flags;
 use bitflags::parser::to_writer;
 use std::alloc::{AllocError, Global};

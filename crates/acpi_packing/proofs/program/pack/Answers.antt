@@ -1,6 +1,6 @@
 use Rattle.std.proofs.Common.{ap}
 use Rattle.std.specs.Prelude.{option_map}
-use Rattle.acpi_words.proofs.Asking.{none_asked}
+use Rattle.acpi_cli.proofs.Asking.{none_asked}
 use Rattle.acpi_packing.proofs.Saving.{on_err, packed}
 use Rattle.acpi_packing.specs.Held.{contents}
 use Rattle.acpi_packing.specs.Words.{request_of}

@@ -1,0 +1,145 @@
+//! Files as a program asks for them: each name that it asks for is listed, with what was read.
+ghost use Rattle.std.specs.Prelude.{◌≡◌, ◌++◌, ◌∷◌, ℕ, List, [], IfOk, OnErr, OnOk, Option, drop, length, map};
+ghost use Rattle.std.specs.Option.{option_copied};
+ghost use Rattle.acpi_cli.specs.Reads.{Asks, AsksFront, FileRead, contents_of, read_of};
+
+use std::alloc::{AllocError, Global};
+use std::fs;
+
+/// A file that was asked for.
+#[derive(Drop)]
+pub struct Reading {
+    name: String,
+    content: Option<Vec<u8>>,
+}
+
+impl Reading {
+    /// The bytes of the file, or `None` if it can't be read.
+    pub fn content(&self) -> Option<&[u8]>
+        ensures { option_copied result ≡ (read_of self.now).content }
+    {
+        match &self.content {
+            Some(bytes) => Some(bytes.as_slice()),
+            None => None,
+        }
+    }
+}
+
+/// Files, as a program or a test reaches them. It means one thing: the list of all files that were
+/// asked for, in order, each by its name, with what was read of it.
+pub trait Files {
+    ghost asked: { Self → List FileRead };
+
+    /// Asks for the file of a name, and keeps what is read of it.
+    ///
+    /// Refuses if memory for the list is refused, and then asks for no file.
+    fn read(&mut self, name: &str) -> Result<(), AllocError>
+        ensures asked { OnOk result ((content : Option (List ℕ)) × (asked self.new
+            ≡ asked self.old ++ record { name = name.now; content = content } ∷ [])) }
+        ensures refused { OnErr result (asked self.new ≡ asked self.old) };
+
+    /// All files that were asked for, in order.
+    fn readings(&self) -> &[Reading]
+        ensures { map read_of result.now ≡ asked self.now };
+}
+
+/// The files of the system that the program runs on.
+#[derive(Drop)]
+pub struct HostFiles<'r> {
+    rt: &'r HostRuntime,
+    readings: Vec<Reading>,
+}
+
+impl<'r> HostFiles<'r> {
+    ghost use Rattle.std.specs.Prelude.{◌≡◌, []};
+
+    /// The files of this system, of which none was asked for.
+    pub fn new(rt: &'r HostRuntime) -> HostFiles<'r>
+        ensures { ⟦<HostFiles<'r> as Files>⟧.asked result ≡ [] }
+    {
+        HostFiles {
+            rt,
+            readings: Vec::new(rt.alloc()),
+        }
+    }
+}
+
+/// The list is what is kept: the name, and the bytes that the system gave for it.
+impl Files for HostFiles<'_> {
+    ghost use Rattle.std.specs.Prelude.{map};
+    ghost use Rattle.acpi_cli.specs.Reads.{read_of};
+
+    ghost asked = { λ f. map read_of f.readings.items };
+
+    fn read(&mut self, name: &str) -> Result<(), AllocError> {
+        let kept = String::from_str(self.rt.alloc(), name)?;
+        self.readings.reserve(1)?;
+        let content = fs::read(self.rt, name).ok();
+        let reading = Reading {
+            name: kept,
+            content,
+        };
+        let Ok(()) = self.readings.push(reading) else {
+            unreachable!()
+        };
+        Ok(())
+    }
+
+    fn readings(&self) -> &[Reading] {
+        &self.readings
+    }
+}
+
+/// How many files were asked for.
+pub fn count<F: Files>(files: &F) -> usize
+    ensures { result ≡ length (F.asked files.now) }
+{
+    files.readings().len()
+}
+
+/// Asks for the files of these names, in order.
+///
+/// Refuses if memory for the list is refused, and then asks for no further file.
+#[tactic(auto, using(crate::proofs::Asking::next_name, crate::proofs::Asking::all_names, crate::proofs::Asking::none_asked))]
+pub fn read_all<F: Files>(files: &mut F, names: &[&str]) -> Result<(), AllocError>
+    ensures asked { OnOk result (Asks (map (λ n. n.now) names.now) (F.asked files.old) (F.asked files.new)) }
+    ensures refused { OnErr result (AsksFront (map (λ n. n.now) names.now) (F.asked files.old) (F.asked files.new)) }
+{
+    for name in names {
+        files.read(name)?;
+    }
+    Ok(())
+}
+
+/// What was read of the files that were asked for, in order, after the first `start` of them.
+///
+/// Refuses if memory is refused.
+pub fn contents_from<F: Files>(
+    alloc: Global,
+    files: &F,
+    start: usize,
+) -> Result<Vec<Option<&[u8]>>, AllocError>
+    ensures { IfOk result (λ v.
+        map option_copied v.items ≡ contents_of (drop start (F.asked files.now))) }
+{
+    let readings = files.readings();
+    if start < readings.len() {
+        contents(alloc, &readings[start..])
+    } else {
+        Ok(Vec::new(alloc))
+    }
+}
+
+/// What was read of these files.
+///
+/// Refuses if memory is refused.
+fn contents(alloc: Global, readings: &[Reading]) -> Result<Vec<Option<&[u8]>>, AllocError>
+    ensures { IfOk result (λ v.
+        map option_copied v.items ≡ contents_of (map read_of readings.now)) }
+{
+    let mut contents = Vec::new(alloc);
+    for reading in readings {
+        contents.push(reading.content())?;
+    }
+    Ok(contents)
+}

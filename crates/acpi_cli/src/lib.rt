@@ -1,0 +1,99 @@
+//! What programs are made of: arguments, the numbers that they spell, and files that are read.
+#![tactic(auto)]
+
+pub mod files;
+
+ghost use Rattle.std.specs.Prelude.{◌≡◌, ◌≢◌, ◌^◌, ◌≤◌, [], IfErr, IfOk, IsOkAnd, drop, map, string_bytes};
+ghost use Rattle.std.specs.Char.{is_digit};
+ghost use Rattle.std.specs.IoError.{error_kind};
+ghost use Rattle.std.specs.List.{list_all};
+ghost use Rattle.acpi_cli.specs.Numbers.{address_of, numeral, revision_of};
+
+use std::alloc::{AllocError, Global};
+use std::io::ErrorKind;
+use std::{env, io};
+
+/// Whether each character is a digit of a base. A sign is none.
+fn are_digits(text: &str, base: u32) -> bool
+    requires low { 2 ≤ base }
+    requires high { base ≤ 36 }
+    ensures { result ≡ list_all (λ c. is_digit c base) text.now }
+{
+    text.bytes().all(|byte| (byte as char).is_digit(base))
+}
+
+/// The number that digits of a base spell, the highest first, or `None` where there are none, more
+/// than `most`, or something else among them.
+fn number_of(digits: &str, base: u32, most: usize) -> Option<u64>
+    requires low { 2 ≤ base }
+    requires high { base ≤ 36 }
+    requires fits { base ^ most ≤ 2 ^ 64 }
+    ensures { result ≡ numeral base most digits.now }
+{
+    if digits.len() > most || !are_digits(digits, base) {
+        return None;
+    }
+    u64::from_str_radix(digits, base).ok()
+}
+
+/// The revision that a word spells: one to three decimal digits, at most 255.
+pub fn parse_revision(word: &str) -> Option<u8>
+    ensures { result ≡ revision_of word.now }
+{
+    u8::try_from(number_of(word, 10, 3)?).ok()
+}
+
+/// The address that a word spells: `0x`, and one to sixteen hexadecimal digits of either case.
+pub fn parse_address(word: &str) -> Option<u64>
+    ensures { result ≡ address_of word.now }
+{
+    number_of(word.strip_prefix("0x")?, 16, 16)
+}
+
+/// The words as they were had, or none where they can't be had, as words that are no text.
+///
+/// Refuses where memory for them is refused.
+pub fn texts_or_none(alloc: Global, texts: io::Result<Vec<String>>) -> io::Result<Vec<String>>
+    ensures had { IfOk texts (λ t. result ≡ Ok t) }
+    // Memory that is refused doesn't make the words wrong.
+    ensures memory { IfErr texts (λ e. error_kind e ≡ ErrorKind.OutOfMemory → result ≡ Err e) }
+    ensures other { IfErr texts (λ e. error_kind e ≢ ErrorKind.OutOfMemory →
+        IsOkAnd result (λ t. t.items ≡ [])) }
+{
+    match texts {
+        Err(refusal) if refusal.kind() != ErrorKind::OutOfMemory => Ok(Vec::new(alloc)),
+        texts => texts,
+    }
+}
+
+/// The arguments without the first, the program's name: all others, in order.
+fn after_name(mut texts: Vec<String>) -> Vec<String>
+    ensures { result.items ≡ drop 1 texts.items }
+{
+    if texts.is_empty() {
+        return texts;
+    }
+    texts.remove(0);
+    texts
+}
+
+/// The arguments after the program's name: all that the system gives, in order.
+///
+/// Refuses if they can't be had.
+pub fn texts_of(rt: &HostRuntime) -> io::Result<Vec<String>> {
+    let texts = env::args(rt)?.collect(rt.alloc())?;
+    Ok(after_name(texts))
+}
+
+/// The same texts, borrowed.
+///
+/// Refuses if memory is refused.
+pub fn borrowed(alloc: Global, texts: &[String]) -> Result<Vec<&str>, AllocError>
+    ensures { IfOk result (λ v. map (λ w. w.now) v.items ≡ map string_bytes texts.now) }
+{
+    let mut borrowed = Vec::new(alloc);
+    for text in texts {
+        borrowed.push(text.as_str())?;
+    }
+    Ok(borrowed)
+}

@@ -1,0 +1,211 @@
+//! Rows, each of them bytes and questions about these, read from lines of text. `ask_rows` asks the
+//! questions on standard input.
+//!
+//! A line is blank, or one of these. An address is `0x` and hexadecimal digits, and all other
+//! numbers are decimal.
+//!
+//! - `# COMMENT`
+//! - `= NAME` begins a row that has no bytes. No two rows have the same name.
+//! - `like NAME` gives it the bytes of an earlier row.
+//! - `KIND LENGTH` begins a table by itself: so many zeros, and what kind of table they are.
+//! - `@ ADDRESS LENGTH` begins a region of memory: so many zeros.
+//! - `@ ADDRESS` goes back to the region at an address.
+//! - `drop ADDRESS` takes the region at an address away.
+//! - `OFFSET HEX` puts bytes into the table or region that was begun last or gone back to. Blanks
+//!   may part them, and with `*COUNT` at its end a part is put so many times.
+//! - `OFFSET "TEXT"` puts the bytes of a text there.
+//! - `sum` changes its byte 9 so that all its bytes sum to 0, and `sum LENGTH` so that its first
+//!   bytes do, so many.
+//! - `QUESTION: ANSWER` asks about the bytes as the lines before made them.
+
+mod asked;
+mod regions;
+
+use crate::samples::placed::{Margins, add_record};
+use acpi_cli::parse_address;
+pub use asked::{Answers, ask_rows, named, printed, shown};
+pub use regions::Region;
+use std::alloc::{AllocError, Global};
+use std::mem;
+
+/// What is asked about.
+#[derive(Drop)]
+pub struct Row {
+    pub name: String,
+    /// What kind of table the bytes are. It is empty if they are memory.
+    pub kind: String,
+    /// The table, or the regions of memory. The last is the one that bytes are put into.
+    pub regions: Vec<Region>,
+}
+
+impl Row {
+    /// A row that has no bytes.
+    fn named(alloc: Global, name: String) -> Row {
+        Row {
+            name,
+            kind: String::new(alloc),
+            regions: Vec::new(alloc),
+        }
+    }
+
+    /// The bytes of the table.
+    pub fn table(&self) -> &[u8] {
+        match self.regions.last() {
+            None => &[],
+            Some(region) => &region.bytes,
+        }
+    }
+
+    /// A file of the regions, as an image of memory has it.
+    pub fn file(&self, alloc: Global) -> Result<Vec<u8>, AllocError> {
+        let mut file = Vec::new(alloc);
+        for region in &self.regions {
+            add_record(&mut file, region.address, &region.bytes, Margins::NONE)?;
+        }
+        Ok(file)
+    }
+
+    /// Becomes of a kind, and has no bytes.
+    fn begin(&mut self, kind: &str) -> Result<(), AllocError> {
+        self.regions.clear();
+        self.kind.clear();
+        self.kind.push_str(kind)
+    }
+
+    /// Takes the kind and the bytes of another row.
+    fn copy(&mut self, other: &Row) -> Result<bool, AllocError> {
+        self.begin(other.kind.as_str())?;
+        for region in &other.regions {
+            let bytes = region.bytes.clone()?;
+            self.regions.push(Region {
+                address: region.address,
+                bytes,
+            })?;
+        }
+        Ok(true)
+    }
+
+    /// Begins a region of zeros, or goes back to one.
+    fn go_to(&mut self, alloc: Global, place: &str) -> Result<bool, AllocError> {
+        match place.split_once(' ') {
+            None => match self.take_out(place) {
+                None => Ok(false),
+                Some(region) => self.add(region),
+            },
+            Some((address, count)) => match (parse_address(address), count.parse::<u32>()) {
+                (Some(address), Ok(count)) => self.add_zeros(alloc, address, count),
+                _ => Ok(false),
+            },
+        }
+    }
+
+    /// Begins a table by itself.
+    fn begin_table(&mut self, alloc: Global, kind: &str, count: &str) -> Result<bool, AllocError> {
+        match count.parse::<u32>() {
+            Ok(count) if !kind.ends_with(':') => {
+                self.begin(kind)?;
+                self.add_zeros(alloc, 0, count)
+            }
+            _ => Ok(false),
+        }
+    }
+
+    /// Adds so many zeros at an address.
+    fn add_zeros(&mut self, alloc: Global, address: u64, count: u32) -> Result<bool, AllocError> {
+        let mut bytes = Vec::new(alloc);
+        bytes.resize(count as usize, 0)?;
+        self.add(Region { address, bytes })
+    }
+
+    fn add(&mut self, region: Region) -> Result<bool, AllocError> {
+        self.regions.push(region)?;
+        Ok(true)
+    }
+
+    /// Takes the region at an address out.
+    fn take_out(&mut self, address: &str) -> Option<Region> {
+        let address = parse_address(address)?;
+        let mut regions = self.regions.iter();
+        let index = regions.position(|region| region.address == address)?;
+        Some(self.regions.remove(index))
+    }
+
+    /// Puts what a text spells.
+    fn put(&mut self, offset: usize, text: &str) -> bool {
+        match self.regions.last_mut() {
+            None => false,
+            Some(region) => region.put(offset, text),
+        }
+    }
+
+    /// Changes a checksum.
+    fn sum(&mut self, count: &str) -> bool {
+        match self.regions.last_mut() {
+            None => false,
+            Some(region) => region.sum(count),
+        }
+    }
+}
+
+/// The rows that were read so far.
+#[derive(Drop)]
+pub struct Rows {
+    alloc: Global,
+    earlier: Vec<Row>,
+    /// The row that was begun last.
+    pub row: Row,
+}
+
+impl Rows {
+    /// No rows, before the first line.
+    pub fn new(alloc: Global) -> Rows {
+        Rows {
+            alloc,
+            earlier: Vec::new(alloc),
+            row: Row::named(alloc, String::new(alloc)),
+        }
+    }
+
+    /// Does what a line says that asks nothing, and answers whether it is understood.
+    pub fn take(&mut self, line: &str) -> Result<bool, AllocError> {
+        let (first, rest) = line.split_once(' ').unwrap_or((line, ""));
+        match first {
+            "" => Ok(rest.is_empty()),
+            "#" => Ok(true),
+            "=" => self.begin(rest),
+            "like" => self.copy(rest),
+            "@" => self.row.go_to(self.alloc, rest),
+            "drop" => Ok(self.row.take_out(rest).is_some()),
+            "sum" => Ok(self.row.sum(rest)),
+            _ => match first.parse::<u32>() {
+                Ok(offset) => Ok(self.row.put(offset as usize, rest)),
+                Err(_) => self.row.begin_table(self.alloc, first, rest),
+            },
+        }
+    }
+
+    /// Begins a row, unless there is one of this name.
+    fn begin(&mut self, name: &str) -> Result<bool, AllocError> {
+        let row = Row::named(self.alloc, String::from_str(self.alloc, name)?);
+        self.earlier.push(mem::replace(&mut self.row, row))?;
+        Ok(row_of(&self.earlier, name).is_none())
+    }
+
+    /// Gives the row the bytes of an earlier one.
+    fn copy(&mut self, name: &str) -> Result<bool, AllocError> {
+        match row_of(&self.earlier, name) {
+            None => Ok(false),
+            Some(like) => self.row.copy(like),
+        }
+    }
+}
+
+/// The row of a name.
+fn row_of<'r>(rows: &'r [Row], name: &str) -> Option<&'r Row> {
+    for row in rows {
+        if row.name.as_str() == name {
+            return Some(row);
+        }
+    }
+    None
+}
