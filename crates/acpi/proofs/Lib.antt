@@ -11,6 +11,7 @@ pub mod Moved
 pub mod Passed
 pub mod Pieces
 pub mod Places
+pub mod Placing
 pub mod Rooted
 pub mod Spelled
 pub mod Texts

@@ -5,9 +5,12 @@ pub mod Later
 pub mod Laws
 pub mod Lists
 pub mod Lookup
+pub mod Members
 pub mod Opened
 pub mod OpenedRanges
 pub mod Pci
+pub mod Placed
+pub mod Places
 pub mod Platform
 pub mod Pointers
 pub mod Relocation

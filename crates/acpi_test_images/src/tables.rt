@@ -6,7 +6,7 @@
 
 use crate::platforms::{of_answer, platform};
 use crate::texts::{Parts, listed};
-use crate::{devices, heaps};
+use crate::{devices, heaps, places};
 use acpi::bgrt::Bgrt;
 use acpi::fadt::Fadt;
 use acpi::hpet::HpetTable;
@@ -135,6 +135,7 @@ fn about<H: AcpiHandler>(
     match word {
         "function" => devices::function(alloc, PciConfigRegions::new(alloc, tables), name),
         "processor" => of_answer(alloc, tables.platform_info(alloc), asked),
+        "places" => places::answer(alloc, tables, name),
         _ => match named(&FACTS, word) {
             Some(fact) => of_types(alloc, tables, fact, name),
             None => Ok(String::new(alloc)),
