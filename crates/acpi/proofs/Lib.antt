@@ -3,6 +3,7 @@ pub mod Brief
 pub mod Agreed
 pub mod AgreedOpened
 pub mod Calls
+pub mod Ecam
 pub mod Equalities
 pub mod First
 pub mod Least

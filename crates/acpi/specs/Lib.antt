@@ -1,3 +1,4 @@
+pub mod Ecam
 pub mod Footprint
 pub mod FootprintLaws
 pub mod Hpet
