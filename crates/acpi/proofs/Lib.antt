@@ -1,6 +1,8 @@
+pub mod Among
 pub mod Asked
 pub mod Brief
 pub mod Agreed
+pub mod AgreedAreas
 pub mod AgreedOpened
 pub mod Calls
 pub mod Ecam

@@ -1,3 +1,4 @@
+pub mod Areas
 pub mod Ecam
 pub mod Footprint
 pub mod FootprintLaws
