@@ -1,8 +1,11 @@
+pub mod Among
 pub mod Asked
 pub mod Brief
 pub mod Agreed
+pub mod AgreedAreas
 pub mod AgreedOpened
 pub mod Calls
+pub mod Ecam
 pub mod Equalities
 pub mod First
 pub mod Least

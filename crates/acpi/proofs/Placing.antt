@@ -24,7 +24,7 @@ use Rattle.acpi.specs.Lookup.{lookup}
 use Rattle.acpi.specs.Members.{found_at, kind_ranges, members_of, tables_found}
 use Rattle.acpi.specs.Places.{dsdt_place, dsdt_place_ranges, facs_at, facs_length, facs_place, facs_place_ranges, facs_ranges, led_by, led_ranges, place_at, place_ranges, places_of, range}
 use Rattle.acpi.specs.Root.{pointers}
-use Rattle.acpi.specs.declared.ranges.AddressRange.{AddressRange}
+use Rattle.acpi_base.specs.declared.range.AddressRange.{AddressRange}
 
 -- ---- members, and all tables of a kind
 

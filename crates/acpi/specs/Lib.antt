@@ -1,3 +1,5 @@
+pub mod Areas
+pub mod Ecam
 pub mod Footprint
 pub mod FootprintLaws
 pub mod Hpet

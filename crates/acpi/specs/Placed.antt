@@ -11,7 +11,7 @@ use Rattle.acpi.specs.Tables.{root_address_of, root_of}
 use Rattle.acpi.specs.declared.members.TableMember.{TableMember}
 use Rattle.acpi.specs.declared.members.TableMembers.{TableMembers}
 use Rattle.acpi.specs.declared.found.FoundTables.{FoundTables}
-use Rattle.acpi.specs.declared.ranges.AddressRange.{AddressRange}
+use Rattle.acpi_base.specs.declared.range.AddressRange.{AddressRange}
 use Rattle.acpi.specs.declared.ranges.TableRanges.{TableRanges}
 use Rattle.acpi.specs.declared.tables.AcpiTables.{AcpiTables}
 

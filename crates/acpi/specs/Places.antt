@@ -18,7 +18,7 @@ use Rattle.acpi_fixed.specs.declared.fadt.Fadt.{Fadt}
 use Rattle.acpi.specs.Footprint.{header_ranges, lookup_ranges}
 use Rattle.acpi.specs.Lists.{fadt_kind}
 use Rattle.acpi.specs.Lookup.{lookup}
-use Rattle.acpi.specs.declared.ranges.AddressRange.{AddressRange}
+use Rattle.acpi_base.specs.declared.range.AddressRange.{AddressRange}
 
 -- so many bytes from an address
 abbrev pub range : ℕ → ℕ → AddressRange

@@ -23,8 +23,8 @@ mod tables;
 
 pub use acpi_base::managed_slice::ManagedSlice;
 pub use acpi_base::{
-    AcpiError, AcpiHandler, AcpiResult, AcpiTable, Guarded, Lender, MadtError, PhysicalMapping,
-    PhysicalRecord, address, madt, sdt, spcr,
+    AcpiError, AcpiHandler, AcpiResult, AcpiTable, AddressRange, Guarded, Lender, MadtError,
+    PhysicalMapping, PhysicalRecord, address, madt, sdt, spcr,
 };
 pub use acpi_fixed::fadt::PowerProfile;
 pub use acpi_fixed::{bgrt, fadt};
@@ -36,7 +36,7 @@ pub use mcfg::PciConfigRegions;
 pub use members::{TableMember, TableMembers};
 pub use platform::PlatformInfo;
 pub use platform::interrupt::InterruptModel;
-pub use ranges::{AddressRange, TableRanges};
+pub use ranges::TableRanges;
 pub use records::{AmlTable, Sdt, TableFault};
 pub use ssdts::SsdtIterator;
 pub use tables::AcpiTables;

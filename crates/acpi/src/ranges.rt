@@ -10,16 +10,7 @@ ghost use Rattle.acpi.specs.Pointers.{pointers_left};
 
 use crate::pointers::Pointers;
 use acpi_base::sdt::{SdtHeader, map_own_sdt};
-use acpi_base::{AcpiError, AcpiResult, Lender, PhysicalMapping, PhysicalRecord, Signature};
-
-/// A range of physical memory.
-#[derive(Clone, Copy, Debug, PartialEq, Eq)]
-pub struct AddressRange {
-    /// The physical address of its first byte.
-    pub address: u64,
-    /// How many bytes it has.
-    pub length: u64,
-}
+use acpi_base::{AcpiError, AcpiResult, AddressRange, Lender, PhysicalMapping, PhysicalRecord, Signature};
 
 /// Where the root table lies, then each valid member in the order of the root table, then the DSDT
 /// and the FACS. A table that is listed twice comes twice.

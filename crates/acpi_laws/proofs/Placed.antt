@@ -23,7 +23,7 @@ use Rattle.acpi.specs.Members.{found_at, tables_found}
 use Rattle.acpi.specs.Places.{dsdt_place, led_by, place_at, places_of, range}
 use Rattle.acpi.specs.Platform.{madt_kind}
 use Rattle.acpi.specs.Root.{root_kind, signature_of}
-use Rattle.acpi.specs.declared.ranges.AddressRange.{AddressRange}
+use Rattle.acpi_base.specs.declared.range.AddressRange.{AddressRange}
 use Rattle.acpi_laws.specs.PlaceLaws.{AreReserved, BeginsNoDsdt, BeginsRefused, FirstIsFound, FoundBySignature, HeadersOfMembers, LiesIn, LiesInOne, RootLiesInRange, TablesLieInRanges}
 
 -- ---- members

@@ -14,7 +14,7 @@ use Rattle.acpi.specs.Lookup.{lookup}
 use Rattle.acpi.specs.Members.{kind_ranges, members_of, tables_found}
 use Rattle.acpi.specs.Places.{places_of, range}
 use Rattle.acpi.specs.Root.{root_at}
-use Rattle.acpi.specs.declared.ranges.AddressRange.{AddressRange}
+use Rattle.acpi_base.specs.declared.range.AddressRange.{AddressRange}
 use Rattle.acpi.specs.declared.root.RootKind.{RootKind}
 
 -- there is exactly one member for each pointer: their addresses are the pointers

@@ -3,9 +3,9 @@
 use super::AcpiTables;
 use crate::found::FoundTables;
 use crate::members::TableMembers;
-use crate::ranges::{AddressRange, TableRanges, facs_at};
+use crate::ranges::{TableRanges, facs_at};
 use acpi_base::sdt::{SdtHeader, map_sdt};
-use acpi_base::{AcpiError, AcpiResult, AcpiTable, Lender, PhysicalMapping, Signature};
+use acpi_base::{AcpiError, AcpiResult, AcpiTable, AddressRange, Lender, PhysicalMapping, Signature};
 use acpi_fixed::fadt::Fadt;
 
 impl<'h, H: Lender> AcpiTables<'h, H> {
