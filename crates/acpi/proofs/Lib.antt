@@ -1,3 +1,4 @@
+pub mod Ascending
 pub mod Asked
 pub mod Brief
 pub mod Agreed

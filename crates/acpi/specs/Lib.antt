@@ -5,11 +5,13 @@ pub mod Later
 pub mod Laws
 pub mod Lists
 pub mod Lookup
+pub mod Mapped
 pub mod Opened
 pub mod OpenedRanges
 pub mod Pci
 pub mod Platform
 pub mod Pointers
+pub mod Regions
 pub mod Relocation
 pub mod Root
 pub mod Rsdp

@@ -1,48 +1,18 @@
 //! The README's callers.
 
 use crate::checks::check;
+use acpi::handler::{MappedRegion, RegionError};
 use acpi::sdt::Signature;
-use acpi::{AcpiError, AcpiHandler, AcpiResult};
+use acpi::{AcpiError, AcpiResult};
 use acpi_image::{MemoryImage, PlacedTable, WriteError};
 use acpi_testkit::caller::graphic_address;
-use acpi_testkit::example::{Window, find_both};
+use acpi_testkit::example::find_both;
 use acpi_testkit::samples::graphics::two_tables;
 use acpi_testkit::samples::rsdps::two_roots;
 use acpi_testkit::samples::{front, put_graphic, seal_table};
 use acpi_testkit::writer::{GuestError, tables_of_guest};
 use std::alloc::Global;
 use std::process::Abort;
-
-/// Requests for memory that lies from 0x1000 to 0x1004, and how many bytes are lent.
-static LENT: [(u64, usize, Option<usize>); 7] = [
-    (0x1000, 1, Some(4)),
-    (0x1003, 1, Some(1)),
-    (0xFFF, 1, None),
-    (0x1000, 5, None),
-    (0x1003, 2, None),
-    (0x1004, 1, None),
-    (u64::MAX, 1, None),
-];
-
-/// How many bytes a window lends from an address on, where so many are asked for.
-fn lent(window: &Window<'_>, address: u64, size: usize) -> Option<usize> {
-    if size == 0 {
-        return None;
-    }
-    match window.map_physical_region(address, size) {
-        Ok(region) => Some(region.len()),
-        Err(_) => None,
-    }
-}
-
-#[test]
-fn a_window_lends_what_lies_inside_it(rt: HostRuntime) {
-    let memory = [1, 2, 3, 4];
-    let window = Window::new(0x1000, &memory);
-    for (address, size, wanted) in &LENT {
-        check(&rt, "lent", lent(&window, *address, *size), *wanted);
-    }
-}
 
 /// How many bytes a kernel maps from 0x1000 on, where it looks for the root table, and what it finds.
 static KERNELS: [(usize, u64, AcpiResult<(u64, u32)>); 3] = [
@@ -55,12 +25,18 @@ static KERNELS: [(usize, u64, AcpiResult<(u64, u32)>); 3] = [
     (128, 0x1000, Err(AcpiError::TableMissing(Signature::WSMT))),
 ];
 
+/// What a kernel finds whose memory lies from 0x1000 on.
+fn found(memory: &[u8], root: u64) -> Result<AcpiResult<(u64, u32)>, RegionError> {
+    let region = MappedRegion::new(0x1000, memory)?;
+    Ok(find_both(&region, root))
+}
+
 #[test]
 fn a_kernel_finds_a_table_of_its_own(rt: HostRuntime) {
     let memory = two_tables();
     for (count, root, wanted) in &KERNELS {
-        let window = Window::new(0x1000, front(&memory, (*count).min(168)));
-        check(&rt, "kernel", find_both(&window, *root), *wanted);
+        let mapped = front(&memory, (*count).min(168));
+        check(&rt, "kernel", found(mapped, *root), Ok(*wanted));
     }
 }
 

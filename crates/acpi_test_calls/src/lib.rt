@@ -9,6 +9,8 @@ mod checks;
 #[cfg(test)]
 mod pairing;
 #[cfg(test)]
+mod regions;
+#[cfg(test)]
 mod slices;
 #[cfg(test)]
 mod wakeup;

@@ -1,48 +1,8 @@
-//! A kernel's own memory, and a type of table of its own.
-ghost use Rattle.std.specs.Prelude.{◌+◌, ◌^◌, ◌<◌, length};
-ghost use Rattle.acpi_base.specs.Memory.{IsMemory, IsMemory-prop};
-ghost use Rattle.acpi_base.specs.OneRegion.{one_region};
+//! A type of table of the kernel's own, and what a kernel finds.
 
 use acpi::bgrt::Bgrt;
 use acpi::sdt::{SdtHeader, Signature, field};
-use acpi::{AcpiError, AcpiHandler, AcpiResult, AcpiTable, AcpiTables, PhysicalRecord};
-
-/// Physical memory from an address on, as the kernel has it mapped.
-#[derive(Drop)]
-pub struct Window<'k> {
-    start: u64,
-    bytes: &'k [u8],
-    ghost regions: { IsMemory (one_region start bytes.now) } by { IsMemory-prop (one_region start bytes.now) },
-}
-
-impl<'k> Window<'k> {
-    /// These bytes, from this address on.
-    pub fn new(start: u64, bytes: &'k [u8]) -> Self
-        requires { start + length bytes.now < 2 ^ 64 }
-    {
-        Window { start, bytes }
-    }
-}
-
-impl AcpiHandler for Window<'_> {
-    ghost memory = { λ w. one_region w.start w.bytes.now };
-
-    #[tactic(auto, using(acpi_base::proofs::OneRegion::one_region_lends))]
-    fn map_physical_region(&self, address: u64, size: usize) -> AcpiResult<&[u8]> {
-        if address < self.start {
-            return Err(AcpiError::MapFailed);
-        }
-        let skipped = (address - self.start) as usize;
-        if skipped > self.bytes.len() || size > self.bytes.len() - skipped {
-            return Err(AcpiError::MapFailed);
-        }
-        Ok(&self.bytes[skipped..])
-    }
-
-    fn unmap_physical_region(&self, _address: u64, _region_length: usize, _mapped_length: usize) {}
-
-    ghost regions = { λ w. w.regions };
-}
+use acpi::{AcpiHandler, AcpiResult, AcpiTable, AcpiTables, PhysicalRecord};
 
 /// The Windows security mitigations table: what the firmware protects in system management mode.
 #[derive(Clone, Copy)]
