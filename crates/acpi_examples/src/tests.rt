@@ -1,18 +1,26 @@
-//! The README's callers.
+//! What the callers find and write.
 
-use crate::checks::check;
+use crate::caller::graphic_address;
+use crate::table_type::find_both;
+use crate::writer::{GuestError, tables_of_guest};
 use acpi::handler::{MappedRegion, RegionError};
 use acpi::sdt::Signature;
 use acpi::{AcpiError, AcpiResult};
 use acpi_image::{MemoryImage, PlacedTable, WriteError};
-use acpi_testkit::caller::graphic_address;
-use acpi_testkit::example::find_both;
 use acpi_testkit::samples::graphics::two_tables;
 use acpi_testkit::samples::rsdps::two_roots;
 use acpi_testkit::samples::{front, put_graphic, seal_table};
-use acpi_testkit::writer::{GuestError, tables_of_guest};
 use std::alloc::Global;
+use std::fmt::Debug;
 use std::process::Abort;
+
+/// Checks what was found against what is wanted.
+fn check<T: Copy + Debug + PartialEq>(rt: &impl Abort, name: &str, found: T, wanted: T) {
+    assert!(rt;
+        found == wanted,
+        "{name}: {found:?}, but {wanted:?} is wanted"
+    );
+}
 
 /// How many bytes a kernel maps from 0x1000 on, where it looks for the root table, and what it finds.
 static KERNELS: [(usize, u64, AcpiResult<(u64, u32)>); 3] = [

@@ -1,9 +1,9 @@
 use Rattle.std.proofs.Common.{◌∙◌, length, ap, refl}
 use Rattle.std.proofs.lemmas.Iterator.Consumers.{YieldsList-from_first, count_from_yields_List}
 use Rattle.std.proofs.lemmas.List.{length-map}
-use Rattle.acpi_testkit.proofs.Guest.{guest_count, same_memory}
+use Rattle.acpi_examples.proofs.Guest.{guest_count, same_memory}
 use Rattle.acpi_image.specs.Written.{placed_region, plan}
-use Rattle.acpi_testkit.proofs.writer.tables_of_guest.Goals as goal
+use Rattle.acpi_examples.proofs.writer.tables_of_guest.Goals as goal
 
 pub returns : goal.returns
 returns c =

@@ -1,5 +1,5 @@
-use Rattle.acpi_testkit.proofs.Listed.{listed_allowed}
-use Rattle.acpi_testkit.proofs.guarded.graphic_within.Goals as goal
+use Rattle.acpi_examples.proofs.Listed.{listed_allowed}
+use Rattle.acpi_examples.proofs.guarded.graphic_within.Goals as goal
 
 pub graphic_of-requires : goal.graphic_of-requires
 graphic_of-requires g c =

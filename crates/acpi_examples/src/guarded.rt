@@ -1,7 +1,7 @@
 //! A caller over a handler that may be asked for named ranges alone.
 ghost use Rattle.std.specs.Prelude.{◌≡◌};
 ghost use Rattle.acpi_base.specs.Ranges.{Allows};
-ghost use Rattle.acpi_testkit.specs.Guarded.{graphic_ranges};
+ghost use Rattle.acpi_examples.specs.Guarded.{graphic_ranges};
 
 use acpi::bgrt::Bgrt;
 use acpi::{AcpiHandler, AcpiResult, AcpiTables, Guarded, Lender};

@@ -3,7 +3,7 @@ use Rattle.std.proofs.Common.{◌≡◌, ℕ, ap, sym, ◌∙◌}
 use Rattle.acpi_base.proofs.Allowed.{allows_equal}
 use Rattle.acpi_base.specs.Memory.{Memory}
 use Rattle.acpi_base.specs.Ranges.{Allows, Ranges, is_listed}
-use Rattle.acpi_testkit.specs.Guarded.{graphic_ranges}
+use Rattle.acpi_examples.specs.Guarded.{graphic_ranges}
 
 pub listed_allowed : {H : Type 0} (memory : H → Memory) (asked guarded : H) (ranges listed : Ranges) (rsdt : ℕ) → guarded ≡ asked → listed ≡ ranges
     → ranges ≡ graphic_ranges (memory asked) rsdt → Allows (is_listed listed) (graphic_ranges (memory guarded) rsdt)

@@ -6,7 +6,7 @@ use Rattle.acpi.proofs.Asked.{asked_below}
 use Rattle.acpi.specs.Footprint.{lookup_ranges}
 use Rattle.acpi.specs.OpenedRanges.{opened_ranges}
 use Rattle.acpi.specs.Root.{root_of_revision}
-use Rattle.acpi_testkit.proofs.guarded.graphic_of.Goals as goal
+use Rattle.acpi_examples.proofs.guarded.graphic_of.Goals as goal
 
 pub from_rsdt-requires : goal.from_rsdt-requires
 from_rsdt-requires g c =
