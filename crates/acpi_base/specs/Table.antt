@@ -17,9 +17,13 @@ pub record Kind : Type 0 where
 abbrev pub kind : Signature → ℕ → (List ℕ → Result (Unit {0}) AcpiError) → Kind
 kind s n c = record { signature = s; least = n; check = c }
 
+-- a table of this signature and least length that has nothing to pass but the checks of each table
+abbrev pub sdt_kind : Signature → ℕ → Kind
+sdt_kind s least = kind s least (check_table s)
+
 -- a table of this signature of which only the header and the sum matter
 abbrev pub plain_kind : Signature → Kind
-plain_kind s = kind s 36 (check_table s)
+plain_kind s = sdt_kind s 36
 
 -- the length that a header gives, where it has the names and the least length
 unfoldable pub length_in : Signature → ℕ → SdtHeader → Result ℕ AcpiError

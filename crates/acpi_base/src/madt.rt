@@ -66,15 +66,15 @@ impl PhysicalRecord for Madt {
 }
 
 impl AcpiTable for Madt {
-    ghost use Rattle.std.proofs.Common.{lit≤};
-    ghost use Rattle.acpi_base.specs.Header.{check_table};
+    ghost use Rattle.std.proofs.Common.{lit≤, refl};
+    ghost use Rattle.acpi_base.specs.Table.{sdt_kind};
     ghost use Rattle.acpi_base.specs.declared.signature.TheConstants.Signature.{MADT};
 
     const SIGNATURE: Signature = Signature::MADT;
 
     ghost SIGNATURE = { MADT };
 
-    ghost verdict = { check_table MADT };
+    ghost kind = { sdt_kind MADT 44 };
 
     #[tactic(auto, unfolding(crate::specs::Madt::madt_at))]
     fn header(&self) -> &SdtHeader {
@@ -90,6 +90,8 @@ impl AcpiTable for Madt {
     }
 
     ghost least = { lit≤ tt };
+
+    ghost agrees = { (refl, refl) };
 }
 
 impl Madt {

@@ -34,15 +34,15 @@ impl PhysicalRecord for Mcfg {
 }
 
 impl AcpiTable for Mcfg {
-    ghost use Rattle.std.proofs.Common.{lit≤};
-    ghost use Rattle.acpi_base.specs.Header.{check_table};
+    ghost use Rattle.std.proofs.Common.{lit≤, refl};
+    ghost use Rattle.acpi_base.specs.Table.{sdt_kind};
     ghost use Rattle.acpi_base.specs.declared.signature.TheConstants.Signature.{MCFG};
 
     const SIGNATURE: Signature = Signature::MCFG;
 
     ghost SIGNATURE = { MCFG };
 
-    ghost verdict = { check_table MCFG };
+    ghost kind = { sdt_kind MCFG 44 };
 
     #[tactic(auto, unfolding(crate::specs::Mcfg::mcfg_at))]
     fn header(&self) -> &SdtHeader {
@@ -58,6 +58,8 @@ impl AcpiTable for Mcfg {
     }
 
     ghost least = { lit≤ tt };
+
+    ghost agrees = { (refl, refl) };
 }
 
 /// A region with the configuration space of the buses of one segment group, from the first to the

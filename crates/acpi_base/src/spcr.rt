@@ -93,15 +93,15 @@ impl PhysicalRecord for Spcr {
 }
 
 impl AcpiTable for Spcr {
-    ghost use Rattle.std.proofs.Common.{lit≤};
-    ghost use Rattle.acpi_base.specs.Header.{check_table};
+    ghost use Rattle.std.proofs.Common.{lit≤, refl};
+    ghost use Rattle.acpi_base.specs.Table.{sdt_kind};
     ghost use Rattle.acpi_base.specs.declared.signature.TheConstants.Signature.{SPCR};
 
     const SIGNATURE: Signature = Signature::SPCR;
 
     ghost SIGNATURE = { SPCR };
 
-    ghost verdict = { check_table SPCR };
+    ghost kind = { sdt_kind SPCR 80 };
 
     #[tactic(auto, unfolding(crate::specs::Spcr::spcr_at))]
     fn header(&self) -> &SdtHeader {
@@ -117,6 +117,8 @@ impl AcpiTable for Spcr {
     }
 
     ghost least = { lit≤ tt };
+
+    ghost agrees = { (refl, refl) };
 }
 
 impl Spcr {

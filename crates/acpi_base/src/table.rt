@@ -1,11 +1,11 @@
 //! Types of tables, and the table at an address.
-ghost use Rattle.std.specs.Prelude.{◌≡◌, ℕ, true, ◌+◌, ◌^◌, ◌<◌, ◌≤◌, List, length, Result, IfErr, IfOk, Ok, Err};
+ghost use Rattle.std.specs.Prelude.{◌≡◌, ℕ, true, ◌+◌, ◌^◌, ◌<◌, ◌≤◌, List, length, IfErr, IfOk, Ok, Err};
 ghost use Rattle.acpi_base.specs.Claim.{IsLentOf, claimed_at, claimed_from, shown_by};
 ghost use Rattle.acpi_base.specs.Header.{check_names, check_table, header_at};
 ghost use Rattle.acpi_base.specs.Mapping.{IsOfMemory, start_of, bytes_of, handler_of};
 ghost use Rattle.acpi_base.specs.Ranges.{Allows, own_table_ranges, table_ranges, whole_ranges};
 ghost use Rattle.acpi_base.specs.Steps.{Gives, lent};
-ghost use Rattle.acpi_base.specs.Table.{Kind, kind, own_table_at, plain_kind, table_at, table_of};
+ghost use Rattle.acpi_base.specs.Table.{Kind, own_table_at, plain_kind, table_at, table_of};
 ghost use Rattle.acpi_base.specs.Table.{whole_of};
 ghost use Rattle.acpi_base.specs.declared.error.AcpiError.{AcpiError};
 ghost use Rattle.acpi_base.specs.declared.signature.Signature.{Signature};
@@ -18,16 +18,15 @@ use crate::mapping::PhysicalMapping;
 use crate::sdt::SdtHeader;
 use crate::signature::Signature;
 
-/// A type of table, as a kernel may add its own. `verdict` is what `validate` means: a function of
-/// the table's bytes alone.
+/// A type of table, as a kernel may add its own. `kind` is what a lookup asks for: the signature, the
+/// least length, and what `validate` means, which is a function of the table's bytes alone.
 pub trait AcpiTable: PhysicalRecord {
     /// The signature that names the table.
     const SIGNATURE: Signature;
 
     ghost SIGNATURE: { Signature };
 
-    // What `validate` answers for a table's bytes.
-    ghost verdict: { List ℕ → Result (Unit {0}) AcpiError };
+    ghost kind: { Kind };
 
     /// The header that the table begins with: that of any bytes that this value was read from.
     fn header(&self) -> &SdtHeader
@@ -35,28 +34,31 @@ pub trait AcpiTable: PhysicalRecord {
             → result.now ≡ header_at b };
 
     /// Checks the table that this value was read from, whose bytes these are. Most types answer
-    /// `self.header().validate(Self::SIGNATURE, bytes)`, and have as their verdict `check_table` of
-    /// that signature.
+    /// `self.header().validate(Self::SIGNATURE, bytes)`, and have an `sdt_kind` of that
+    /// signature as their kind.
     fn validate(&self, bytes: &[u8]) -> AcpiResult<()>
         requires least { Self.MIN_LENGTH ≤ length bytes.now }
         requires read { self.now ≡ Self.reading bytes.now }
-        ensures { result ≡ verdict bytes.now };
+        ensures { result ≡ kind.check bytes.now };
 
     /// What `validate` answers for the record that these bytes mean, where their header is known to
     /// have the names that a table of this type bears, and to give as long a table as they are. A
-    /// lookup asks it of each member that has such a header. A type whose verdict is `check_table`
+    /// lookup asks it of each member that has such a header. A type whose kind is an `sdt_kind`
     /// need only look at the sum: `sum_refusal` does.
     #[inline(always)]
     fn validate_rest(bytes: &[u8]) -> AcpiResult<()>
         requires least { Self.MIN_LENGTH ≤ length bytes.now }
         requires names { check_names SIGNATURE (header_at bytes.now) ≡ Ok tt }
         requires length { (header_at bytes.now).length ≡ length bytes.now }
-        ensures { result ≡ verdict bytes.now }
+        ensures { result ≡ kind.check bytes.now }
     {
         Self::read(bytes).validate(bytes)
     }
 
     ghost least: { 36 ≤ Self.MIN_LENGTH };
+
+    // The constants are those of the kind.
+    ghost agrees: { (kind.signature ≡ SIGNATURE) × (kind.least ≡ Self.MIN_LENGTH) };
 }
 
 /// What is left to check of a table whose header has the names and gives the length: that its bytes
@@ -143,14 +145,13 @@ fn claim_valid<'h, H: Lender, T: AcpiTable>(head: Claim<'h, H>) -> AcpiResult<Cl
     requires lent { IsLentOf (H.memory (claimed_from head)) head }
     requires shown { lent (H.memory (claimed_from head)) (claimed_at head) 36 ≡ Ok (shown_by head) }
     requires asked { Allows (H.may (claimed_from head))
-        (whole_ranges T.SIGNATURE T.MIN_LENGTH (claimed_at head) (shown_by head)) }
+        (whole_ranges T.kind.signature T.kind.least (claimed_at head) (shown_by head)) }
     ensures start { IfOk result (λ c. claimed_at c ≡ claimed_at head.entry) }
     ensures handler { IfOk result (λ c. claimed_from c ≡ claimed_from head.entry) }
     ensures least { IfOk result (λ c. T.MIN_LENGTH ≤ length (shown_by c)) }
     ensures all { IfOk result (λ c. IsLentOf (H.memory (claimed_from head.entry)) c) }
     ensures shown { let m = H.memory (claimed_from head.entry) in Gives (λ c. shown_by c) result
-        (table_of m (kind T.SIGNATURE T.MIN_LENGTH T.verdict)
-        (claimed_at head.entry) (shown_by head.entry)) }
+        (table_of m T.kind (claimed_at head.entry) (shown_by head.entry)) }
 {
     let whole = claim_whole(head, T::SIGNATURE, T::MIN_LENGTH)?;
     match T::validate_rest(whole.shown()) {
@@ -195,15 +196,14 @@ pub fn valid_at<'h, H: Lender, T: AcpiTable>(
     handler: &'h H,
     address: u64,
 ) -> AcpiResult<ValidTable<'h, H>>
-    requires { Allows (H.may handler.now) (table_ranges (H.memory handler.now)
-        (kind T.SIGNATURE T.MIN_LENGTH T.verdict) address) }
+    requires { Allows (H.may handler.now) (table_ranges (H.memory handler.now) T.kind address) }
     ensures place { IfOk result (λ v. claimed_at v.claim ≡ address) }
     ensures handler { IfOk result (λ v. claimed_from v.claim ≡ handler.now) }
     ensures least { IfOk result (λ v. T.MIN_LENGTH ≤ length (shown_by v.claim)) }
     // However many bytes were lent, all of them are the memory's.
     ensures lent { IfOk result (λ v. IsLentOf (H.memory handler.now) v.claim) }
     ensures table { Gives (λ v. shown_by v.claim) result
-        (table_at (H.memory handler.now) (kind T.SIGNATURE T.MIN_LENGTH T.verdict) address) }
+        (table_at (H.memory handler.now) T.kind address) }
 {
     let head = claim_named(handler, address, T::SIGNATURE)?;
     let claim = claim_valid::<H, T>(head)?;
@@ -221,14 +221,13 @@ pub fn map_table<'h, H: Lender, T: AcpiTable>(
     handler: &'h H,
     address: u64,
 ) -> AcpiResult<PhysicalMapping<'h, H, T>>
-    requires { Allows (H.may handler.now) (table_ranges (H.memory handler.now)
-        (kind T.SIGNATURE T.MIN_LENGTH T.verdict) address) }
+    requires { Allows (H.may handler.now) (table_ranges (H.memory handler.now) T.kind address) }
     ensures place { IfOk result (λ m. start_of m ≡ address) }
     ensures handler { IfOk result (λ m. handler_of m ≡ handler.now) }
     // However many bytes were lent, all of them are the memory's.
     ensures lent { IfOk result (λ m. IsOfMemory (H.memory handler.now) m) }
     ensures table { Gives (λ m. bytes_of m) result
-        (table_at (H.memory handler.now) (kind T.SIGNATURE T.MIN_LENGTH T.verdict) address) }
+        (table_at (H.memory handler.now) T.kind address) }
 {
     let valid = valid_at::<H, T>(handler, address)?;
     Ok(valid.mapping())

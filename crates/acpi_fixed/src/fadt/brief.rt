@@ -46,15 +46,15 @@ impl PhysicalRecord for FadtBrief {
 }
 
 impl AcpiTable for FadtBrief {
-    ghost use Rattle.std.proofs.Common.{lit≤};
-    ghost use Rattle.acpi_base.specs.Header.{check_table};
+    ghost use Rattle.std.proofs.Common.{lit≤, refl};
+    ghost use Rattle.acpi_base.specs.Table.{sdt_kind};
     ghost use Rattle.acpi_base.specs.declared.signature.TheConstants.Signature.{FADT};
 
     const SIGNATURE: Signature = Signature::FADT;
 
     ghost SIGNATURE = { FADT };
 
-    ghost verdict = { check_table FADT };
+    ghost kind = { sdt_kind FADT 116 };
 
     #[tactic(auto, unfolding(crate::specs::Brief::brief_at))]
     fn header(&self) -> &SdtHeader {
@@ -70,6 +70,8 @@ impl AcpiTable for FadtBrief {
     }
 
     ghost least = { lit≤ tt };
+
+    ghost agrees = { (refl, refl) };
 }
 
 impl FadtBrief {
