@@ -5,7 +5,7 @@ ghost use Rattle.acpi_base.specs.Bits.{bits_of, has_bit};
 ghost use Rattle.acpi_base.specs.Bytes.{field_of, filled_part, number};
 ghost use Rattle.acpi_base.specs.Text.{IsTextOf};
 
-pub use crate::sum::byte_sum;
+pub use crate::table::sum::byte_sum;
 
 /// The `N` bytes at an offset, filled up with zeros where the bytes end before.
 #[inline(always)]

@@ -74,7 +74,7 @@ impl PhysicalRecord for Wsmt {
 impl AcpiTable for Wsmt {
     ghost use Rattle.std.proofs.Common.{lit≤};
     ghost use Rattle.acpi_base.specs.Header.{check_table};
-    ghost use Rattle.acpi_base.specs.declared.signature.TheConstants.Signature.{WSMT};
+    ghost use Rattle.acpi_base.specs.declared.table.signature.TheConstants.Signature.{WSMT};
 
     const SIGNATURE: Signature = Signature::WSMT;
 

@@ -48,7 +48,7 @@ impl PhysicalRecord for FadtBrief {
 impl AcpiTable for FadtBrief {
     ghost use Rattle.std.proofs.Common.{lit≤, refl};
     ghost use Rattle.acpi_base.specs.Table.{sdt_kind};
-    ghost use Rattle.acpi_base.specs.declared.signature.TheConstants.Signature.{FADT};
+    ghost use Rattle.acpi_base.specs.declared.table.signature.TheConstants.Signature.{FADT};
 
     const SIGNATURE: Signature = Signature::FADT;
 
