@@ -27,8 +27,8 @@ rest_bytes (r ∷ m) a h = one_of (lies_in r a) _ _ (IsBytes-drop (a - r.start) 
 at_bytes : (m : Memory) (a n : ℕ) (bytes : List ℕ) → IsMemory m → at m a n ≡ Some bytes → IsBytes bytes
 unfolding at
 at_bytes m a n bytes h e =
-    let parts = cond_some _ _ _ e in
-    subst (λ (b : List ℕ). IsBytes b) parts.1 (IsBytes-take n (rest_from m a) (rest_bytes m a h))
+    let both = cond_some _ _ _ e in
+    subst (λ (b : List ℕ). IsBytes b) both.1 (IsBytes-take n (rest_from m a) (rest_bytes m a h))
 
 pub lent_bytes : (m : Memory) (a n : ℕ) (bytes : List ℕ) → IsMemory m → lent m a n ≡ Ok bytes → IsBytes bytes
 lent_bytes m a n bytes h e = at_bytes m a n bytes h (some_lent _ _ e)

@@ -89,10 +89,10 @@ holds_range m a n bytes fits same f =
 pub lent_inside : (m : Memory) (a n : ℕ) (bytes : List ℕ) → 0 < n → at m a n ≡ Some bytes → (r : Region) × Contains m r × HoldsRange r a n bytes
 unfolding at
 lent_inside m a n bytes some e =
-    let parts = cond_some _ _ _ e in
-    let fits : n ≤ length (rest_from m a) = leb-true _ _ parts.0 in
+    let both = cond_some _ _ _ e in
+    let fits : n ≤ length (rest_from m a) = leb-true _ _ both.0 in
     let f = some_region m a (omega arith) in
-    (f.region, f.listed, holds_range m a n bytes fits parts.1 f)
+    (f.region, f.listed, holds_range m a n bytes fits both.1 f)
 
 inside_lent : (m : Memory) (a n : ℕ) (bytes : List ℕ) → IsMemory m → 0 < n → (r : Region) → Contains m r → HoldsRange r a n bytes → at m a n ≡ Some bytes
 unfolding at

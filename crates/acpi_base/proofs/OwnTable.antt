@@ -132,8 +132,8 @@ same_some e = cc
 at_length : (m : Memory) (p n : ℕ) (b : List ℕ) → at m p n ≡ Some b → length b ≡ n
 unfolding at
 at_length m p n b e =
-    let parts = cond_some _ _ _ e in
-    ap length (sym parts.1) ∙ length-take-le n (rest_from m p) (leb-true _ _ parts.0)
+    let both = cond_some _ _ _ e in
+    ap length (sym both.1) ∙ length-take-le n (rest_from m p) (leb-true _ _ both.0)
 
 pub at_header : (m : Memory) (p n : ℕ) (b head : List ℕ) → at m p n ≡ Some b → at m p 36 ≡ Some head → 36 ≤ n
     → (header_at b ≡ header_at head) × (length b ≡ n)

@@ -65,17 +65,17 @@ unfolding header_at
 header_length b = refl
 
 -- the sum is all that is left of the check
-rest_left : (s : Signature) (b : List ℕ) → 36 ≤ length b → check_names s (header_at b) ≡ Ok tt → (header_at b).length ≡ length b
+only_sum_left : (s : Signature) (b : List ℕ) → 36 ≤ length b → check_names s (header_at b) ≡ Ok tt → (header_at b).length ≡ length b
     → check_table s b ≡ holds (sum_of b == 0) (SdtInvalidChecksum s)
-rest_left s b long names same = sum_left s b names (le-leb 36 (length b) long) (sym (header_length b) ∙ same)
+only_sum_left s b long names same = sum_left s b names (le-leb 36 (length b) long) (sym (header_length b) ∙ same)
 
 pub bad_rest : (s : Signature) (b : List ℕ) → 36 ≤ length b → check_names s (header_at b) ≡ Ok tt → (header_at b).length ≡ length b
     → (sum_of b ≡ 0 → ⊥) → check_table s b ≡ Err (SdtInvalidChecksum s)
-bad_rest s b long names same bad = rw (rest_left s b long names same, ne_eqb _ _ bad) refl
+bad_rest s b long names same bad = rw (only_sum_left s b long names same, ne_eqb _ _ bad) refl
 
 pub good_rest : (s : Signature) (b : List ℕ) → 36 ≤ length b → check_names s (header_at b) ≡ Ok tt → (header_at b).length ≡ length b
     → sum_of b ≡ 0 → check_table s b ≡ Ok tt
-good_rest s b long names same good = rw (rest_left s b long names same, good) refl
+good_rest s b long names same good = rw (only_sum_left s b long names same, good) refl
 
 -- it is as long as is asked for
 whole_long : (m : Memory) (s : Signature) (least p : ℕ) (head table : List ℕ) → 36 ≤ least → lent m p 36 ≡ Ok head → whole_of m s least p head ≡ Ok table → 36 ≤ length table
@@ -91,7 +91,7 @@ only_the_sum : (m : Memory) (s : Signature) (p : ℕ) (head table : List ℕ) �
     → check_table s table ≡ holds (sum_of table == 0) (SdtInvalidChecksum s)
 only_the_sum m s p head table front e =
     let steps = names_and_length m s 36 p head table (omega arith) front e in
-    rest_left s table (whole_long m s 36 p head table (omega arith) front e) steps.0 steps.1
+    only_sum_left s table (whole_long m s 36 p head table (omega arith) front e) steps.0 steps.1
 
 plain_table : (m : Memory) (s : Signature) (p : ℕ) (head table : List ℕ) → lent m p 36 ≡ Ok head → whole_of m s 36 p head ≡ Ok table
     → table_of m (plain_kind s) p head ≡ (holds (sum_of table == 0) (SdtInvalidChecksum s) >>= λ _. Ok table)

@@ -1,9 +1,9 @@
 -- How a table's bytes are cut into entries, each of which begins with its type and its length, one
--- byte each. What tables differ in is handed in: the least length of each type, from type 0 on.
+-- byte each. What tables differ in is passed: the least length of each type, from type 0 on.
 use Rattle.std.specs.Prelude.{◌≡◌, ℕ, zero, suc, ◌+◌, ◌≤◌, ◌&&◌, List, [], ◌∷◌, ◌++◌, length, take, drop, Option, Some, None, nat_le, if◌then◌else◌, slice_index, slice_index_or}
 use Rattle.std.specs.List.{concat, AllByRecursion}
 
--- the least length of an entry of a type; one of a type behind the last has its type and its length
+-- the least length of an entry of a type; one of a type after the last has its type and its length
 abbrev pub least_length : List ℕ → ℕ → ℕ
 least_length least_lengths entry_type = slice_index_or least_lengths entry_type 2
 
@@ -13,7 +13,7 @@ pub record IsEntry (least_lengths e : List ℕ) : Type 0 where
   pub size : slice_index e 1 ≡ length e
   pub least : least_length least_lengths (slice_index e 0) ≤ length e
 
--- the bytes are the entries one behind the other, and a rest that begins with no entry
+-- the bytes are the entries one after the other, and a rest that begins with no entry
 pub record IsCut (least_lengths bytes : List ℕ) (es : List (List ℕ)) (rest : List ℕ) : Type 0 where
   pub whole : bytes ≡ concat es ++ rest
   pub entries : AllByRecursion (IsEntry least_lengths) es
@@ -29,11 +29,11 @@ front least_lengths (entry_type ∷ n ∷ bytes) =
     if nat_le 2 n && nat_le (least_length least_lengths entry_type) n && nat_le n (length bytes + 2) then Some n
     else None
 
--- an entry before those behind it
+-- an entry, and those after it
 abbrev pub with_entry : List ℕ → List (List ℕ) × List ℕ → List (List ℕ) × List ℕ
 with_entry e behind = (e ∷ behind.0, behind.1)
 
--- at most so many entries, and the bytes behind them
+-- at most so many entries, and the bytes after them
 abbrev pub cut_within : List ℕ → ℕ → List ℕ → List (List ℕ) × List ℕ
 cut_within least_lengths zero bytes = ([], bytes)
 cut_within least_lengths (suc most) bytes = elim (front least_lengths bytes) [

@@ -18,7 +18,7 @@ said_of e = option_map item_of (entry_of e)
 abbrev pub said_in : List ℕ → List (Result MadtItem MadtError)
 said_in bytes = filter_map said_of (cut madt_lengths bytes).0
 
--- how many there are of each, where so many are counted and these are behind them
+-- how many there are of each, where so many are counted and these are after them
 abbrev pub counted_behind : Counts → List MadtItem → Counts
 counted_behind c items = record {
   processors = c.processors + length (filter_map (processor_in true) items);

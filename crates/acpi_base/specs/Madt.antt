@@ -39,11 +39,11 @@ entry_types =
 abbrev pub madt_lengths : List ℕ
 madt_lengths = map (λ k. k.0) entry_types
 
--- what an entry says; nothing where its type is behind the last one
+-- what an entry says; nothing where its type is after the last one
 abbrev pub entry_of : List ℕ → Option MadtEntry
 entry_of e = option_map (λ k. k.1 e) (slice_get entry_types (slice_index e 0))
 
--- the entries of the bytes behind a table's 44 fixed ones, and the rest in which no entry begins
+-- the entries of the bytes after a table's 44 fixed ones, and the rest in which no entry begins
 abbrev pub cut_of : List ℕ → List (List ℕ) × List ℕ
 cut_of table = cut madt_lengths (drop 44 table)
 

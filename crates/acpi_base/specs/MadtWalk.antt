@@ -10,7 +10,7 @@ use Rattle.acpi_base.specs.declared.tables.madt.walk.MadtEntryIter.{MadtEntryIte
 abbrev pub entries_left : MadtEntryIter → List MadtEntry
 entries_left s = filter_map entry_of (cut madt_lengths s.rest.now).0
 
--- the rest behind them, in which no entry begins
+-- the rest after them, in which no entry begins
 abbrev pub rest_left : MadtEntryIter → List ℕ
 rest_left s = (cut madt_lengths s.rest.now).1
 

@@ -19,7 +19,7 @@ mcfg_entry_at b = record {
   bus_number_end = field_of b 11 1;
 }
 
--- so many entries of 16 bytes, one behind the other
+-- so many entries of 16 bytes, one after the other
 abbrev pub mcfg_entries_in : ℕ → List ℕ → List McfgEntry
 mcfg_entries_in zero bytes = []
 mcfg_entries_in (suc n) bytes = mcfg_entry_at bytes ∷ mcfg_entries_in n (drop 16 bytes)
@@ -28,7 +28,7 @@ mcfg_entries_in (suc n) bytes = mcfg_entry_at bytes ∷ mcfg_entries_in n (drop 
 abbrev pub whole_mcfg_entries : List ℕ → List McfgEntry
 whole_mcfg_entries bytes = mcfg_entries_in (length bytes / 16) bytes
 
--- the entries behind a table's 44 fixed bytes
+-- the entries after a table's 44 fixed bytes
 abbrev pub mcfg_entries_of : List ℕ → List McfgEntry
 mcfg_entries_of table = whole_mcfg_entries (drop 44 table)
 

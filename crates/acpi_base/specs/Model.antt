@@ -108,7 +108,7 @@ apic_of madt items = record {
   also_has_legacy_pics = has_bit madt.flags 0;
 }
 
--- the first processor is the boot processor, and all behind it are application processors
+-- the first processor is the boot processor, and all after it are application processors
 abbrev pub processors_of : {A : Type 0} → List MadtItem → Option (ProcessorInfo A)
 processors_of items =
     option_map (λ boot. record {
@@ -140,7 +140,7 @@ model_with madt table = elim (fault_of table) [
 abbrev pub model_of : {A : Type 0} → List ℕ → Result (Model A) AcpiError
 model_of table = model_with (madt_at table) table
 
--- ---- want of memory
+-- ---- out of memory
 
 -- memory is asked for only where no entry is refused, and one is of a model of APICs
 abbrev pub AsksMemory : List ℕ → Type 0

@@ -23,7 +23,7 @@ processors_behind None others items =
       application_processors = others ++ drop 1 (filter_map (processor_in true) items);
     }) (slice_get (filter_map (processor_in false) items) 0)
 
--- the model, where the entries behind those gathered say this
+-- the model, where the entries after those gathered say this
 abbrev pub model_behind : {A : Type 0} → ModelBuilder A → List MadtItem → Model A
 model_behind d items = (
   model.Apic (record {

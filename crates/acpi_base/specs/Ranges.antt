@@ -33,7 +33,7 @@ DependsOn ranges defined = (m n : Memory) (x : _) → AgreesOn m n (ranges m x)
 abbrev pub Footprint : {A : Type 0} → Memory → Ranges → (Memory → A) → (A → Type 0) → Type 0
 Footprint m ranges defined Says = (n : Memory) → AgreesOn m n ranges → Says (defined n)
 
--- in a `do` of ranges: those behind a step that passes
+-- in a `do` of ranges: those after a step that passes
 infixl 10 ◌>>=◌
 abbrev pub ◌>>=◌ : {A E : Type 0} → Result A E → (A → Ranges) → Ranges
 (Ok x) >>= ranges = ranges x

@@ -52,7 +52,7 @@ table_at m k p = do
   head ← lent m p 36
   table_of m k p head
 
--- the table at an address under the signature that it bears itself, or the first refusal
+-- the table at an address under the signature that it has itself, or the first refusal
 unfoldable pub own_table_at : Memory → ℕ → Result (List ℕ) AcpiError
 own_table_at m p = do
   head ← lent m p 36

@@ -8,6 +8,6 @@ use Rattle.acpi_base.specs.declared.tables.madt.wakeup.MpProtectedModeWakeupComm
 abbrev pub commands : List MpProtectedModeWakeupCommand
 commands = Noop ∷ Wakeup ∷ Sleep ∷ AcceptPages ∷ []
 
--- the command of a number; a number that none has is handed back
+-- the command of a number; a number that none has is returned
 abbrev pub command_of : ℕ → Result MpProtectedModeWakeupCommand ℕ
 command_of number = ok_or (slice_get commands number) number

@@ -96,7 +96,7 @@ pub fn text_of(bytes: &[u8]) -> Option<&str>
     }
 }
 
-/// The bytes behind the first `n`, or none where there are no more.
+/// The bytes after the first `n`, or none where there are no more.
 pub fn skip(bytes: &[u8], n: usize) -> &[u8]
     ensures { result.now ≡ drop n bytes.now }
 {

@@ -31,7 +31,7 @@ fn front_length(least_lengths: &[usize], bytes: &[u8]) -> Option<usize>
     }
 }
 
-/// The entry that the bytes begin with, and the bytes behind it, or `None` where they begin with
+/// The entry that the bytes begin with, and the bytes after it, or `None` where they begin with
 /// none.
 pub(crate) fn split_front<'a>(
     least_lengths: &[usize],

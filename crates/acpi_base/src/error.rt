@@ -58,7 +58,7 @@ impl From<AllocError> for AcpiError {
     }
 }
 
-/// The variant's name; behind a space, the signature or the error that it carries.
+/// The variant's name; after a space, the signature or the error that it carries.
 impl fmt::Display for AcpiError {
     ghost use Rattle.std.specs.Prelude.{Some};
     ghost use Rattle.acpi_base.specs.ErrorText.{error_text};

@@ -40,7 +40,7 @@ pub trait AcpiTable: PhysicalRecord {
         ensures { result ≡ kind.check bytes.now };
 
     /// What `validate` answers for the record that these bytes mean, where their header is known to
-    /// have the names that a table of this type bears, and to give as long a table as they are. A
+    /// have the names that a table of this type has, and to give as long a table as they are. A
     /// lookup asks it of each member that has such a header. A type whose kind is an `sdt_kind`
     /// need only look at the sum: `sum_refusal` does.
     #[inline(always)]

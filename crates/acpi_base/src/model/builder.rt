@@ -65,7 +65,7 @@ impl<A: Allocator> ModelBuilder<A> {
     ghost use Rattle.acpi_base.specs.ModelBuilder.{HasRoom, model_behind};
     ghost use Rattle.acpi_base.specs.declared.model.item.MadtItem.{MadtItem};
 
-    /// What one more entry says, behind the others. There is room for it.
+    /// What one more entry says, after the others. There is room for it.
     pub(super) fn add(&mut self, item: MadtItem)
         requires { HasRoom self.old (item ∷ []) }
         ensures added { (items : List MadtItem)

@@ -68,7 +68,7 @@ impl PhysicalRecord for SdtHeader {
 impl SdtHeader {
     /// Checks the table that this header was read from, whose bytes these are: the signature is the
     /// one given, the ids are texts, the length fits, and that many bytes sum to 0 modulo 256.
-    /// Bytes behind the length are not looked at.
+    /// Bytes after the length are not looked at.
     ///
     /// Refuses, in this order, with `SdtInvalidSignature` where the signature is another or no
     /// UTF-8, `SdtInvalidOemId` and `SdtInvalidTableId` where that id is no UTF-8,

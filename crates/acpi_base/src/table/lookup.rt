@@ -17,7 +17,7 @@ use crate::memory::handler::{Lender, PhysicalRecord};
 use crate::memory::mapping::PhysicalMapping;
 
 /// The header's bytes at an address, where they begin with this signature. Most members that a
-/// lookup passes over bear another one: so that is compared before anything else is made of them.
+/// lookup passes over have another one: so that is compared before anything else is made of them.
 #[inline(always)]
 #[tactic(auto, using(crate::proofs::TableByHeader::no_header, crate::proofs::TableByHeader::another_signature))]
 fn claim_header<'h, H: Lender>(
@@ -228,7 +228,7 @@ pub fn map_sdt<'h, H: Lender>(
     map_by_header_and_sum(head, signature)
 }
 
-/// The table at an address under the signature that it bears itself, whatever that is, mapped as
+/// The table at an address under the signature that it has itself, whatever that is, mapped as
 /// its header.
 ///
 /// Refuses as `map_sdt` does for that signature.

@@ -77,7 +77,7 @@ fn summed_blocks(bytes: &[u8]) -> (u8x16, usize)
 }
 
 /// The sum of all bytes, where lanes hold that of the bytes before a place and less than a block
-/// stands behind it.
+/// stands after it.
 #[inline(always)]
 fn finished(begun: u8x16, bytes: &[u8], begin: usize) -> u8
     requires long { LANES ≤ length bytes.now }
@@ -86,7 +86,7 @@ fn finished(begun: u8x16, bytes: &[u8], begin: usize) -> u8
     requires sums { AddsUp begun (take begin bytes.now) }
     ensures { result ≡ sum_of bytes.now }
 {
-    // At most three vectors stand behind the blocks.
+    // At most three vectors stand after the blocks.
     let (lanes, at) = one_more(begun, bytes, begin);
     let (lanes, at) = one_more(lanes, bytes, at);
     let (lanes, at) = one_more(lanes, bytes, at);

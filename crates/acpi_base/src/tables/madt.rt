@@ -35,7 +35,7 @@ pub use wakeup::{
 };
 pub use walk::MadtEntryIter;
 
-/// The MADT (section 5.2.12). Its entries stand behind these fields; a mapping of it gives them.
+/// The MADT (section 5.2.12). Its entries stand after these fields; a mapping of it gives them.
 #[derive(Debug, Drop)]
 pub struct Madt {
     /// The header that every table begins with.
@@ -132,7 +132,7 @@ impl<'h, H: Lender> PhysicalMapping<'h, H, Madt> {
     ghost use Rattle.acpi_base.specs.Model.{AsksMemory, model_of};
     ghost use Rattle.acpi_base.specs.Steps.{GivesOrFull};
 
-    /// The table's entries, in order: at most half as many as it has bytes behind the 44 fixed ones.
+    /// The table's entries, in order: at most half as many as it has bytes after the 44 fixed ones.
     pub fn entries(&self) -> MadtEntryIter<'_>
         ensures items { entries_left result ≡ entries_of (bytes_of self.now) }
         ensures rest { rest_left result ≡ (cut_of (bytes_of self.now)).1 }

@@ -10,7 +10,7 @@ use crate::table::{AcpiTable, sum_refusal};
 
 /// The MCFG, whose signature section 5.2.6 reserves and whose layout is the PCI Firmware
 /// Specification's: regions of memory, each with the configuration space of some buses. Its entries
-/// stand behind 44 fixed bytes; a mapping of it gives them.
+/// stand after 44 fixed bytes; a mapping of it gives them.
 #[derive(Drop)]
 pub struct Mcfg {
     header: SdtHeader,
@@ -105,7 +105,7 @@ impl<'a> McfgEntryIter<'a> {
     ghost use Rattle.std.specs.Prelude.{◌≡◌, ◌-◌, ◌/◌, length};
     ghost use Rattle.acpi_base.specs.Mcfg.{mcfg_entries_left, mcfg_entries_of};
 
-    /// The entries of an MCFG's bytes: those behind its 44 fixed ones. It knows no memory and no
+    /// The entries of an MCFG's bytes: those after its 44 fixed ones. It knows no memory and no
     /// handler.
     #[tactic(auto, using(crate::proofs::McfgEntries::length_entries_of))]
     pub fn over(table: &'a [u8]) -> Self
@@ -151,7 +151,7 @@ impl<'h, H: Lender> PhysicalMapping<'h, H, Mcfg> {
     ghost use Rattle.acpi_base.specs.Mapping.{bytes_of};
     ghost use Rattle.acpi_base.specs.Mcfg.{mcfg_entries_left, mcfg_entries_of};
 
-    /// The table's entries, in order: as many as there are whole ones behind the 44 fixed bytes.
+    /// The table's entries, in order: as many as there are whole ones after the 44 fixed bytes.
     pub fn entries(&self) -> McfgEntryIter<'_>
         ensures items { mcfg_entries_left result ≡ mcfg_entries_of (bytes_of self.now) }
         ensures count { length (mcfg_entries_left result) ≡ (length (bytes_of self.now) - 44) / 16 }

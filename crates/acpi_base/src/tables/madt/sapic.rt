@@ -36,7 +36,7 @@ impl PhysicalRecord for IoSapicEntry {
     }
 }
 
-/// A processor and its local SAPIC. The text behind the number is not read (section 5.2.12.10).
+/// A processor and its local SAPIC. The text after the number is not read (section 5.2.12.10).
 #[derive(Clone, Copy, Debug)]
 pub struct LocalSapicEntry {
     /// Its type and its length.

@@ -20,7 +20,7 @@ impl<'a> MadtEntryIter<'a> {
     ghost use Rattle.acpi_base.specs.Madt.{cut_of, entries_of};
     ghost use Rattle.acpi_base.specs.MadtWalk.{entries_left, has_ended, is_malformed, rest_left};
 
-    /// The entries of a MADT's bytes: those behind its 44 fixed ones. It knows no memory and no
+    /// The entries of a MADT's bytes: those after its 44 fixed ones. It knows no memory and no
     /// handler.
     #[tactic(auto, using(crate::proofs::EntryCounts::entries_few, crate::proofs::EntryCounts::cut_of_few))]
     pub fn over(table: &'a [u8]) -> Self
