@@ -2,9 +2,9 @@
 use Rattle.std.proofs.Common.{refl, ap, sym, drop, slice_get, ◌≡◌, ℕ, zero, suc, ◌+◌, ◌-◌, ◌*◌, ◌<◌, List, [], ◌∷◌, ◌++◌, Bool, true, subst, Option, Some, None, Result, Ok, Err, arith}
 use Rattle.std.specs.Prelude.{MatchOption, flat_map}
 use Rattle.std.proofs.lemmas.Option.{get_or_from_slice_get}
-use Rattle.acpi_base.proofs.Allowed.{all_back, all_front, all_here, all_rest}
+use Rattle.acpi_base.proofs.AllowedRanges.{all_back, all_front, all_here, all_rest}
 use Rattle.acpi_base.specs.declared.error.AcpiError.{AcpiError}
-use Rattle.acpi_base.specs.declared.signature.TheConstants.Signature.{DSDT}
+use Rattle.acpi_base.specs.declared.table.signature.TheConstants.Signature.{DSDT}
 use Rattle.acpi_base.specs.Memory.{Memory}
 use Rattle.acpi_base.specs.Ranges as ranges
 use Rattle.acpi_base.specs.Ranges.{Allows, Ranges, table_ranges, unless_found}

@@ -8,7 +8,7 @@ use Rattle.acpi_base.specs.Steps.{◌>>=◌, holds}
 use Rattle.acpi_base.specs.Table.{Kind, kind}
 use Rattle.acpi_base.specs.declared.error.AcpiError.{AcpiError}
 use Rattle.acpi_base.specs.declared.error.AcpiError.TheVariants.{InvalidGenericAddress}
-use Rattle.acpi_base.specs.declared.signature.TheConstants.Signature.{HPET}
+use Rattle.acpi_base.specs.declared.table.signature.TheConstants.Signature.{HPET}
 use Rattle.acpi.specs.Lookup.{lookup}
 use Rattle.acpi.specs.declared.hpet.HpetInfo.{HpetInfo}
 use Rattle.acpi.specs.declared.hpet.HpetTable.{HpetTable}

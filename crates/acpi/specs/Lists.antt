@@ -3,9 +3,9 @@ use Rattle.std.specs.Prelude.{ℕ, ◌+◌, ◌-◌, List, [], ◌∷◌, length
 use Rattle.std.specs.Result.{result_ok}
 use Rattle.acpi_base.specs.declared.error.AcpiError.{AcpiError}
 use Rattle.acpi_base.specs.declared.error.AcpiError.TheVariants as refusal
-use Rattle.acpi_base.specs.declared.sdt.SdtHeader.{SdtHeader}
-use Rattle.acpi_base.specs.declared.signature.Signature.{Signature}
-use Rattle.acpi_base.specs.declared.signature.TheConstants.Signature.{DSDT, FADT, SSDT}
+use Rattle.acpi_base.specs.declared.table.header.SdtHeader.{SdtHeader}
+use Rattle.acpi_base.specs.declared.table.signature.Signature.{Signature}
+use Rattle.acpi_base.specs.declared.table.signature.TheConstants.Signature.{DSDT, FADT, SSDT}
 use Rattle.acpi_base.specs.Header.{check_table, header_at}
 use Rattle.acpi_base.specs.Memory.{Memory}
 use Rattle.acpi_base.specs.Steps.{◌>>=◌}

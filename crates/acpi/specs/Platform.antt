@@ -7,7 +7,7 @@ use Rattle.acpi_base.specs.Steps.{◌>>=◌}
 use Rattle.acpi_base.specs.Table.{Kind, kind}
 use Rattle.acpi_base.specs.declared.error.AcpiError.{AcpiError}
 use Rattle.acpi_base.specs.declared.model.interrupt.InterruptModel.TheVariants.{Unknown}
-use Rattle.acpi_base.specs.declared.signature.TheConstants.Signature.{MADT}
+use Rattle.acpi_base.specs.declared.table.signature.TheConstants.Signature.{MADT}
 use Rattle.acpi_fixed.specs.Fadt.{fadt_at, profile_of}
 use Rattle.acpi_fixed.specs.declared.fadt.PowerProfile.{PowerProfile}
 use Rattle.acpi.specs.Lists.{fadt_kind}

@@ -48,7 +48,7 @@ impl PhysicalRecord for HpetTable {
 impl AcpiTable for HpetTable {
     ghost use Rattle.std.proofs.Common.{lit≤};
     ghost use Rattle.acpi_base.specs.Header.{check_table};
-    ghost use Rattle.acpi_base.specs.declared.signature.TheConstants.Signature.{HPET};
+    ghost use Rattle.acpi_base.specs.declared.table.signature.TheConstants.Signature.{HPET};
 
     const SIGNATURE: Signature = Signature::HPET;
 

@@ -1,8 +1,8 @@
 //! Where the configuration space of a PCI function lies.
 ghost use Rattle.std.specs.Prelude.{◌≡◌, ◌<◌, ◌≤◌, List, [], vec_capacity, vec_len, IfOk, IfSome, IsOk};
-ghost use Rattle.acpi_base.specs.Mcfg.{regions_left};
+ghost use Rattle.acpi_base.specs.Mcfg.{mcfg_entries_left};
 ghost use Rattle.acpi.specs.Pci.{address_in, is_of, region_of};
-ghost use Rattle.acpi_base.specs.declared.mcfg.McfgEntry.{McfgEntry};
+ghost use Rattle.acpi_base.specs.declared.tables.mcfg.McfgEntry.{McfgEntry};
 
 use crate::tables::AcpiTables;
 use acpi_base::managed_slice::ManagedSlice;
@@ -139,9 +139,9 @@ fn collected<A: Allocator>(
     entries: McfgEntryIter<'_>,
     allocator: A,
 ) -> Result<Vec<McfgEntry, A>, AllocError>
-    ensures items { IfOk result (λ v. v.items ≡ regions_left entries.entry) }
+    ensures items { IfOk result (λ v. v.items ≡ mcfg_entries_left entries.entry) }
     ensures room { IfOk result (λ v. vec_capacity v ≡ vec_len v) }
-    ensures none { regions_left entries.entry ≡ [] → IsOk result }
+    ensures none { mcfg_entries_left entries.entry ≡ [] → IsOk result }
 {
     let mut regions = Vec::with_capacity(allocator, entries.len())?;
     for entry in entries {

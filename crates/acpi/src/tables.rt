@@ -40,7 +40,7 @@ impl<'h, H: Lender> AcpiTables<'h, H> {
     ghost use Rattle.acpi_base.specs.Steps.{Gives, GivesOrFull};
     ghost use Rattle.acpi_base.specs.Table.{kind, plain_kind, table_at};
     ghost use Rattle.acpi_base.specs.declared.error.AcpiError.TheVariants.{TableMissing};
-    ghost use Rattle.acpi_base.specs.declared.signature.TheConstants.Signature.{DSDT};
+    ghost use Rattle.acpi_base.specs.declared.table.signature.TheConstants.Signature.{DSDT};
     ghost use Rattle.acpi.specs.Footprint.{AllowsBelow, FootprintBelow, dsdt_ranges, header_ranges};
     ghost use Rattle.acpi.specs.Footprint.{lookup_ranges, platform_ranges, ssdt_ranges};
     ghost use Rattle.acpi.specs.Lists.{dsdt_stream, stream_at};

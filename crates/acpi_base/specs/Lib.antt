@@ -2,7 +2,7 @@ pub mod Address
 pub mod Bits
 pub mod Bytes
 pub mod Claim
-pub mod Draft
+pub mod ModelBuilder
 pub mod Entries
 pub mod EntryLaws
 pub mod Equality
@@ -22,7 +22,7 @@ pub mod Memory
 pub mod Model
 pub mod Names
 pub mod OneRegion
-pub mod Parts
+pub mod Items
 pub mod Ranges
 pub mod Spcr
 pub mod SpcrFlags

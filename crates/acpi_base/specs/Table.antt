@@ -2,8 +2,8 @@
 use Rattle.std.specs.Prelude.{ℕ, List, nat_le, Result, Ok}
 use Rattle.acpi_base.specs.declared.error.AcpiError.{AcpiError}
 use Rattle.acpi_base.specs.declared.error.AcpiError.TheVariants.{SdtInvalidLength}
-use Rattle.acpi_base.specs.declared.signature.Signature.{Signature}
-use Rattle.acpi_base.specs.declared.sdt.SdtHeader.{SdtHeader}
+use Rattle.acpi_base.specs.declared.table.signature.Signature.{Signature}
+use Rattle.acpi_base.specs.declared.table.header.SdtHeader.{SdtHeader}
 use Rattle.acpi_base.specs.Header.{header_at, check_names, check_table}
 use Rattle.acpi_base.specs.Memory.{Memory}
 use Rattle.acpi_base.specs.Steps.{◌>>=◌, holds, lent}
@@ -52,7 +52,7 @@ table_at m k p = do
   head ← lent m p 36
   table_of m k p head
 
--- the table at an address under the signature that it bears itself, or the first refusal
+-- the table at an address under the signature that it has itself, or the first refusal
 unfoldable pub own_table_at : Memory → ℕ → Result (List ℕ) AcpiError
 own_table_at m p = do
   head ← lent m p 36

@@ -3,12 +3,12 @@
 //! The first entry that is refused decides. Without one, what the entries say is gathered, each sort
 //! into a list of its own.
 
+mod builder;
 mod counts;
-mod draft;
 mod gather;
 mod interrupt;
+mod item;
 pub mod laws;
-mod part;
 mod processor;
 
 pub(crate) use gather::model_in;

@@ -8,7 +8,7 @@ use Rattle.acpi_base.specs.Memory.{Memory}
 use Rattle.acpi_base.specs.Steps.{◌>>=◌}
 use Rattle.acpi_base.specs.Table.{own_table_at}
 use Rattle.acpi_base.specs.declared.error.AcpiError.{AcpiError}
-use Rattle.acpi_base.specs.declared.sdt.SdtHeader.{SdtHeader}
+use Rattle.acpi_base.specs.declared.table.header.SdtHeader.{SdtHeader}
 use Rattle.acpi.specs.Lists.{own_header_at, valid_headers, valid_tables}
 use Rattle.acpi.specs.Opened.{Opened, opened_by_rsdp}
 use Rattle.acpi.specs.Root.{pointers, width_of}

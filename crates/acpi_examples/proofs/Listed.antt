@@ -1,6 +1,6 @@
 -- A handler may be asked for the ranges that it lists.
 use Rattle.std.proofs.Common.{◌≡◌, ℕ, ap, sym, ◌∙◌}
-use Rattle.acpi_base.proofs.Allowed.{allows_equal}
+use Rattle.acpi_base.proofs.AllowedRanges.{allows_equal}
 use Rattle.acpi_base.specs.Memory.{Memory}
 use Rattle.acpi_base.specs.Ranges.{Allows, Ranges, is_listed}
 use Rattle.acpi_examples.specs.Guarded.{graphic_ranges}

@@ -1,6 +1,6 @@
 -- The ranges that the guarded caller asks for.
 use Rattle.std.specs.Prelude.{ℕ}
-use Rattle.acpi_base.specs.declared.signature.TheConstants.Signature.{BGRT}
+use Rattle.acpi_base.specs.declared.table.signature.TheConstants.Signature.{BGRT}
 use Rattle.acpi_base.specs.Header.{check_table}
 use Rattle.acpi_base.specs.Memory.{Memory}
 use Rattle.acpi_base.specs.Ranges.{Ranges}

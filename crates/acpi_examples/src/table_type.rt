@@ -34,7 +34,7 @@ impl PhysicalRecord for Wsmt {
 impl AcpiTable for Wsmt {
     ghost use Rattle.std.proofs.Common.{lit≤, refl};
     ghost use Rattle.acpi_base.specs.Table.{sdt_kind};
-    ghost use Rattle.acpi_base.specs.declared.signature.TheConstants.Signature.{WSMT};
+    ghost use Rattle.acpi_base.specs.declared.table.signature.TheConstants.Signature.{WSMT};
 
     const SIGNATURE: Signature = Signature::WSMT;
 

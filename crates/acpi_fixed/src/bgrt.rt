@@ -47,7 +47,7 @@ impl PhysicalRecord for Bgrt {
 impl AcpiTable for Bgrt {
     ghost use Rattle.std.proofs.Common.{lit≤, refl};
     ghost use Rattle.acpi_base.specs.Table.{sdt_kind};
-    ghost use Rattle.acpi_base.specs.declared.signature.TheConstants.Signature.{BGRT};
+    ghost use Rattle.acpi_base.specs.declared.table.signature.TheConstants.Signature.{BGRT};
 
     const SIGNATURE: Signature = Signature::BGRT;
 

@@ -169,7 +169,7 @@ impl PhysicalRecord for Fadt {
 impl AcpiTable for Fadt {
     ghost use Rattle.std.proofs.Common.{lit≤, refl};
     ghost use Rattle.acpi_base.specs.Table.{sdt_kind};
-    ghost use Rattle.acpi_base.specs.declared.signature.TheConstants.Signature.{FADT};
+    ghost use Rattle.acpi_base.specs.declared.table.signature.TheConstants.Signature.{FADT};
 
     const SIGNATURE: Signature = Signature::FADT;
 

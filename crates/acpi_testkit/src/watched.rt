@@ -39,7 +39,7 @@ impl PhysicalRecord for Watched {
 impl AcpiTable for Watched {
     ghost use Rattle.std.proofs.Common.{lit≤, refl};
     ghost use Rattle.acpi_base.specs.Table.{sdt_kind};
-    ghost use Rattle.acpi_base.specs.declared.signature.TheConstants.Signature.{BGRT};
+    ghost use Rattle.acpi_base.specs.declared.table.signature.TheConstants.Signature.{BGRT};
 
     const SIGNATURE: Signature = Signature::BGRT;
 

@@ -11,7 +11,7 @@ use acpi_base::table::sum_refusal;
 use acpi_base::{AcpiError, AcpiResult, AcpiTable, PhysicalRecord, Signature};
 
 /// The fields of a FADT (section 5.2.9) by which the DSDT, the profile and the timer are found: a
-/// short record, since what a lookup finds is handed on by copying. It is valid exactly where the
+/// short record, since what a lookup finds is passed on by copying. It is valid exactly where the
 /// whole `Fadt` is.
 #[derive(Clone, Copy)]
 pub struct FadtBrief {
@@ -48,7 +48,7 @@ impl PhysicalRecord for FadtBrief {
 impl AcpiTable for FadtBrief {
     ghost use Rattle.std.proofs.Common.{lit≤, refl};
     ghost use Rattle.acpi_base.specs.Table.{sdt_kind};
-    ghost use Rattle.acpi_base.specs.declared.signature.TheConstants.Signature.{FADT};
+    ghost use Rattle.acpi_base.specs.declared.table.signature.TheConstants.Signature.{FADT};
 
     const SIGNATURE: Signature = Signature::FADT;
 

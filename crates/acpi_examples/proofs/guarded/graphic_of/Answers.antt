@@ -1,5 +1,5 @@
-use Rattle.acpi_base.proofs.Allowed.{all_front}
-use Rattle.acpi_base.specs.declared.signature.TheConstants.Signature.{BGRT}
+use Rattle.acpi_base.proofs.AllowedRanges.{all_front}
+use Rattle.acpi_base.specs.declared.table.signature.TheConstants.Signature.{BGRT}
 use Rattle.acpi_base.specs.Header.{check_table}
 use Rattle.acpi_base.specs.Table.{kind}
 use Rattle.acpi.proofs.Asked.{asked_below}
