@@ -2,11 +2,11 @@
 use Rattle.std.proofs.Common.{◌≡◌, ℕ, List, [], ◌∷◌, ◌++◌, Option, Some, Result, Ok, Err, refl, ap, ◌∙◌}
 use Rattle.std.specs.Prelude.{filter_map, flat_map}
 use Rattle.std.specs.Result.{result_ok}
-use Rattle.acpi_base.proofs.Agreement.{all_back, all_front, same_own_table, same_table}
+use Rattle.acpi_base.proofs.TableFootprints.{each_back, each_front, same_own_table, same_table}
 use Rattle.acpi_base.specs.declared.error.AcpiError.{AcpiError}
-use Rattle.acpi_base.specs.declared.signature.TheConstants.Signature.{DSDT, SSDT}
+use Rattle.acpi_base.specs.declared.table.signature.TheConstants.Signature.{DSDT, SSDT}
 use Rattle.acpi_base.specs.Madt.{mailbox_of}
-use Rattle.acpi_base.specs.Mcfg.{regions_of}
+use Rattle.acpi_base.specs.Mcfg.{mcfg_entries_of}
 use Rattle.acpi_base.specs.Memory.{Memory}
 use Rattle.acpi_base.specs.Ranges as ranges
 use Rattle.acpi_base.specs.Ranges.{AgreesOn, DependsOn, Footprint, Ranges, own_table_ranges, table_ranges, unless_found}
@@ -40,8 +40,8 @@ same_later m n k p ps (Err e) later h = later h
 pub same_lookup : LookupDependsOn
 same_lookup k m n [] h = refl
 same_lookup k m n (p ∷ ps) h =
-    let front = same_table k m n p (all_front _ (table_ranges m k p) _ h) in
-    let after = all_back _ (table_ranges m k p) _ h in
+    let front = same_table k m n p (each_front _ (table_ranges m k p) _ h) in
+    let after = each_back _ (table_ranges m k p) _ h in
     rw front (same_later m n k p ps (table_at m k p) (same_lookup k m n ps) after)
 
 same_faults_later : (m n : Memory) (k : Kind) (p : ℕ) (ps : List ℕ) (r : Result (List ℕ) AcpiError)
@@ -54,8 +54,8 @@ same_faults_later m n k p ps (Err e) later h = rw (later h) refl
 pub same_faults : FaultsDependOn
 same_faults k m n [] h = refl
 same_faults k m n (p ∷ ps) h =
-    let front = same_table k m n p (all_front _ (table_ranges m k p) _ h) in
-    let after = all_back _ (table_ranges m k p) _ h in
+    let front = same_table k m n p (each_front _ (table_ranges m k p) _ h) in
+    let after = each_back _ (table_ranges m k p) _ h in
     rw front (same_faults_later m n k p ps (table_at m k p) (same_faults k m n ps) after)
 
 -- ---- lists
@@ -66,8 +66,8 @@ pub same_each : {Y : Type 0} (m n : Memory) (ranges_of : ℕ → Ranges) (f g : 
     → (ps : List ℕ) → AgreesOn m n (flat_map ranges_of ps) → filter_map f ps ≡ filter_map g ps
 same_each m n ranges_of f g each [] h = refl
 same_each m n ranges_of f g each (p ∷ ps) h =
-    let front = each p (all_front _ (ranges_of p) _ h) in
-    let after = same_each m n ranges_of f g each ps (all_back _ (ranges_of p) _ h) in
+    let front = each p (each_front _ (ranges_of p) _ h) in
+    let after = same_each m n ranges_of f g each ps (each_back _ (ranges_of p) _ h) in
     rw (front, after) refl
 
 same_header : (m n : Memory) (p : ℕ) → AgreesOn m n (own_table_ranges m p) → result_ok (own_header_at n p) ≡ result_ok (own_header_at m p)
@@ -101,8 +101,8 @@ same_led m n (Err e) h = refl
 
 pub same_dsdt : DsdtDependsOn
 same_dsdt m n ps h =
-    let front = same_lookup fadt_kind m n ps (all_front _ (lookup_ranges m fadt_kind ps) _ h) in
-    rw front (same_led m n (lookup m fadt_kind ps) (all_back _ (lookup_ranges m fadt_kind ps) _ h))
+    let front = same_lookup fadt_kind m n ps (each_front _ (lookup_ranges m fadt_kind ps) _ h) in
+    rw front (same_led m n (lookup m fadt_kind ps) (each_back _ (lookup_ranges m fadt_kind ps) _ h))
 
 -- ---- summaries
 
@@ -115,7 +115,7 @@ pub same_hpet : HpetDependsOn
 same_hpet m n ps h = same_said hpet_kind m n ps (λ r. r >>= λ f. info_of (hpet_at f.1)) h
 
 pub same_regions : RegionsDependOn
-same_regions m n ps h = same_said mcfg_kind m n ps (λ r. r >>= λ f. Ok (regions_of f.1)) h
+same_regions m n ps h = same_said mcfg_kind m n ps (λ r. r >>= λ f. Ok (mcfg_entries_of f.1)) h
 
 pub same_mailbox : MailboxDependsOn
 same_mailbox m n ps h = same_said madt_kind m n ps (λ r. r >>= λ f. mailbox_of f.1) h
@@ -128,8 +128,8 @@ same_model m n ps (Err e) rest h = refl
 
 pub same_platform : {A : Type 0} → PlatformDependsOn A
 same_platform m n ps h =
-    let front = same_lookup fadt_kind m n ps (all_front _ (lookup_ranges m fadt_kind ps) _ h) in
-    rw front (same_model m n ps (lookup m fadt_kind ps) _ (all_back _ (lookup_ranges m fadt_kind ps) _ h))
+    let front = same_lookup fadt_kind m n ps (each_front _ (lookup_ranges m fadt_kind ps) _ h) in
+    rw front (same_model m n ps (lookup m fadt_kind ps) _ (each_back _ (lookup_ranges m fadt_kind ps) _ h))
 
 -- ---- from a root table
 
@@ -145,8 +145,8 @@ pub from_tables : {H A : Type 0} {h : _} (t : AcpiTables H h) (ranges_of : Memor
 from_tables t ranges_of defined same valid n h =
     let m = memory_of t in
     let front : root_at n (kind_of t) (root_address_of t) ≡ Ok (root_of t) =
-    same_table (root_kind (kind_of t)) m n (root_address_of t) (all_front _ (root_ranges m (kind_of t) (root_address_of t)) _ h) ∙ is_ok_of _ _ valid in
-    rw front (same m n (pointers_of t) (all_back _ (root_ranges m (kind_of t) (root_address_of t)) _ h))
+    same_table (root_kind (kind_of t)) m n (root_address_of t) (each_front _ (root_ranges m (kind_of t) (root_address_of t)) _ h) ∙ is_ok_of _ _ valid in
+    rw front (same m n (pointers_of t) (each_back _ (root_ranges m (kind_of t) (root_address_of t)) _ h))
 
 abbrev pub done : {A : Type 0} → A → Result A AcpiError
 done x = Ok x

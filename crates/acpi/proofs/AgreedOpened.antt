@@ -1,6 +1,6 @@
 -- Memories that agree on the ranges of what leads to a root table open the same one.
 use Rattle.std.proofs.Common.{◌≡◌, ℕ, zero, suc, ◌+◌, List, ◌++◌, Option, Some, None, Result, Ok, Err, refl}
-use Rattle.acpi_base.proofs.Agreement.{all_back, all_front, same_table}
+use Rattle.acpi_base.proofs.TableFootprints.{each_back, each_front, same_table}
 use Rattle.acpi_base.specs.Memory.{Memory, at}
 use Rattle.acpi_base.specs.Ranges as ranges
 use Rattle.acpi_base.specs.Ranges.{AgreesOn, Ranges, unless_found}
@@ -48,8 +48,8 @@ same_later m n c a (Err e) later h = later h
 pub same_walk : (m n : Memory) (c a : ℕ) → AgreesOn m n (walk_ranges m c a) → walk n c a ≡ walk m c a
 same_walk m n zero a h = refl
 same_walk m n (suc c) a h =
-    let front = same_rsdp m n a (all_front _ (rsdp_ranges m a) _ h) in
-    let after = all_back _ (rsdp_ranges m a) _ h in
+    let front = same_rsdp m n a (each_front _ (rsdp_ranges m a) _ h) in
+    let after = each_back _ (rsdp_ranges m a) _ h in
     rw front (same_later m n c a (rsdp_at m a) (same_walk m n c (a + 16)) after)
 
 same_there : (m n : Memory) (s : Area) (r : Result (List ℕ) AcpiError) → AgreesOn m n (ranges.◌>>=◌ r (λ _. walk_ranges m (count_of s) s.start))
@@ -73,8 +73,8 @@ same_areas : (m n : Memory) (r : Result ℕ AcpiError)
     → (r >>= λ word. found_in n first_area >>= λ first. or_else first (found_in n (second_area word) >>= λ second. or_else second (Err NoValidRsdp)))
     ≡ (r >>= λ word. found_in m first_area >>= λ first. or_else first (found_in m (second_area word) >>= λ second. or_else second (Err NoValidRsdp)))
 same_areas m n (Ok word) h =
-    let front = same_area m n first_area (all_front _ (area_ranges m first_area) _ h) in
-    rw front (same_second m n (second_area word) (found_in m first_area) (all_back _ (area_ranges m first_area) _ h))
+    let front = same_area m n first_area (each_front _ (area_ranges m first_area) _ h) in
+    rw front (same_second m n (second_area word) (found_in m first_area) (each_back _ (area_ranges m first_area) _ h))
 same_areas m n (Err e) h = refl
 
 same_word : (m n : Memory) → at m 0x40e 2 ≡ at n 0x40e 2 → word_in n ≡ word_in m
@@ -97,8 +97,8 @@ same_by_rsdp m n (Err e) h = refl
 
 pub same_opened_by_rsdp : OpenedByRsdpDependsOn
 same_opened_by_rsdp m n a h =
-    let front = same_rsdp m n a (all_front _ (rsdp_ranges m a) _ h) in
-    rw front (same_by_rsdp m n (rsdp_at m a) (all_back _ (rsdp_ranges m a) _ h))
+    let front = same_rsdp m n a (each_front _ (rsdp_ranges m a) _ h) in
+    rw front (same_by_rsdp m n (rsdp_at m a) (each_back _ (rsdp_ranges m a) _ h))
 
 pub same_by_search : (m n : Memory) (r : Result (ℕ × List ℕ) AcpiError) → AgreesOn m n (ranges.◌>>=◌ r (λ f. opened_ranges m (root_of_rsdp f.1)))
     → (r >>= λ f. opened_from n (root_of_rsdp f.1)) ≡ (r >>= λ f. opened_from m (root_of_rsdp f.1))
@@ -107,5 +107,5 @@ same_by_search m n (Err e) h = refl
 
 pub same_opened_by_search : OpenedBySearchDependsOn
 same_opened_by_search m n h =
-    let front = same_search m n (all_front _ (search_ranges m) _ h) in
-    rw front (same_by_search m n (found_rsdp m) (all_back _ (search_ranges m) _ h))
+    let front = same_search m n (each_front _ (search_ranges m) _ h) in
+    rw front (same_by_search m n (found_rsdp m) (each_back _ (search_ranges m) _ h))

@@ -1,6 +1,6 @@
 -- What is read of a FADT to go on from it is what its whole record says.
 use Rattle.std.proofs.Common.{◌≡◌, ℕ, List, ◌∙◌, ap}
-use Rattle.acpi_fixed.proofs.Brief as brief
+use Rattle.acpi_fixed.proofs.FadtBrief as brief
 use Rattle.acpi_fixed.specs.Brief.{brief_at, brief_dsdt_address, brief_flags, brief_profile, brief_timer_block}
 use Rattle.acpi_fixed.specs.Fadt.{dsdt_address_of, fadt_at, pm_timer_of, profile_of}
 use Rattle.acpi.specs.Timer.{timer_from, timer_of}

@@ -1,4 +1,5 @@
 pub mod Among
+pub mod Ascending
 pub mod Asked
 pub mod Brief
 pub mod Agreed

@@ -2,9 +2,9 @@
 use Rattle.std.proofs.Common.{◌≡◌, ℕ, ◌≤◌, Bool, true, false, List, [], ◌∷◌, drop, map, Option, Some, None, Result, Ok, Err, refl, ap, sym, ◌∙◌, if◌then◌else◌, lit≤}
 use Rattle.std.specs.List.{cons_option}
 use Rattle.std.specs.Result.{result_ok}
-use Rattle.acpi_base.proofs.Own.{own_table_is, served, serves}
+use Rattle.acpi_base.proofs.OwnTable.{own_table_is, served, serves}
 use Rattle.acpi_base.specs.Header.{check_table, header_at}
-use Rattle.acpi_base.specs.Mcfg.{regions_of}
+use Rattle.acpi_base.specs.Mcfg.{mcfg_entries_of}
 use Rattle.acpi_base.specs.Memory.{Memory}
 use Rattle.acpi_base.specs.Model as model
 use Rattle.acpi_base.specs.Steps.{◌>>=◌, GivesOrFull}
@@ -12,9 +12,9 @@ use Rattle.acpi_base.specs.Table.{kind, own_table_at, table_at}
 use Rattle.acpi_base.specs.declared.error.AcpiError.{AcpiError}
 use Rattle.acpi_base.specs.declared.error.AcpiError.TheVariants.{TableMissing}
 use Rattle.acpi_base.specs.declared.model.interrupt.InterruptModel.TheVariants.{Unknown}
-use Rattle.acpi_base.specs.declared.sdt.SdtHeader.{SdtHeader}
-use Rattle.acpi_base.specs.declared.signature.Signature.{Signature}
-use Rattle.acpi_base.specs.declared.signature.TheConstants.Signature.{FADT, HPET, MADT, MCFG}
+use Rattle.acpi_base.specs.declared.table.header.SdtHeader.{SdtHeader}
+use Rattle.acpi_base.specs.declared.table.signature.Signature.{Signature}
+use Rattle.acpi_base.specs.declared.table.signature.TheConstants.Signature.{FADT, HPET, MADT, MCFG}
 use Rattle.acpi.proofs.First.{here}
 use Rattle.acpi.specs.Footprint.{below}
 use Rattle.acpi.specs.Hpet.{hpet_at, info_of}
@@ -99,7 +99,7 @@ pub hpet_follows : HpetFollows
 hpet_follows = said_follows HPET 56 (λ b. info_of (hpet_at b)) (lit≤ tt)
 
 pub regions_follow : RegionsFollow
-regions_follow = said_follows MCFG 44 (λ b. Ok (regions_of b)) (lit≤ tt)
+regions_follow = said_follows MCFG 44 (λ b. Ok (mcfg_entries_of b)) (lit≤ tt)
 
 model_of_bytes : {A : Type 0} → Result (List ℕ) AcpiError → Result (model.Model A) AcpiError
 model_of_bytes (Ok b) = model.model_of b

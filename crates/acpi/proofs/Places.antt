@@ -2,7 +2,7 @@
 use Rattle.std.proofs.Common.{◌≡◌, ℕ, ◌+◌, ◌-◌, ◌*◌, ◌^◌, ◌≤◌, ◌<◌, List, [], ◌∷◌, Bool, true, false, sym, refl, arith}
 use Rattle.std.specs.Prelude.{find, Option, Some, None, IfSome, if◌then◌else◌, nat_lt, ◌&&◌, option_and_then}
 use Rattle.std.proofs.lemmas.Bool.Decides.{nat_tests}
-use Rattle.acpi_base.specs.declared.mcfg.McfgEntry.{McfgEntry}
+use Rattle.acpi_base.specs.declared.tables.mcfg.McfgEntry.{McfgEntry}
 use Rattle.acpi.specs.Pci.{IsApart, address_in, is_of, pci_address, place_in, region_of}
 
 -- what was found passes the test

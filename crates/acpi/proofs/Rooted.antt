@@ -1,6 +1,6 @@
 -- The bytes of a root table spell its pointers, and no others.
 use Rattle.std.proofs.Common.{◌≡◌, ℕ, ◌<◌, List, drop, Ok, arith, ◌↔◌}
-use Rattle.acpi_base.proofs.Held.{table_bytes}
+use Rattle.acpi_base.proofs.LentBytes.{table_bytes}
 use Rattle.acpi_base.proofs.Spelling.{IsBytes-drop}
 use Rattle.acpi_base.specs.Memory.{Memory, IsMemory}
 use Rattle.acpi.proofs.Spelled.{one_pointers}

@@ -3,8 +3,8 @@ use Rattle.std.proofs.Common.{◌≡◌, ℕ, ◌≤◌, List, length, take, lit
 use Rattle.std.specs.Prelude.{IfOk, IsOk, nat_le}
 use Rattle.std.proofs.lemmas.Bool.{leb-true}
 use Rattle.std.proofs.lemmas.List.{take-take}
-use Rattle.acpi_base.proofs.Lent.{lent_front}
-use Rattle.acpi_base.proofs.Own.{part_within}
+use Rattle.acpi_base.proofs.LentFronts.{lent_front}
+use Rattle.acpi_base.proofs.OwnTable.{part_within}
 use Rattle.acpi_base.proofs.Steps.{bind_ok, holds_ok}
 use Rattle.acpi_base.specs.Bytes.{field_of}
 use Rattle.acpi_base.specs.Memory.{Memory, at}

@@ -9,7 +9,7 @@ use Rattle.acpi_base.specs.Memory.{Memory, Region, HoldsRange, IsMemory, at, res
 use Rattle.acpi_base.specs.Steps.{lent}
 use Rattle.std.specs.Option.{ok_or}
 use Rattle.acpi_base.specs.declared.error.AcpiError.TheVariants.{RsdpIncorrectSignature}
-use Rattle.acpi_base.proofs.Inside.{lent_is_inside}
+use Rattle.acpi_base.proofs.LentRanges.{lent_is_inside}
 use Rattle.acpi.specs.Rsdp.{check_first, length_of, rsd_ptr, rsdp_at, rsdp_of}
 
 there_is : {A E : Type 0} (o : Option A) (e : E) (x : A) → ok_or o e ≡ Ok x → o ≡ Some x

@@ -2,7 +2,7 @@
 -- that it comes to, in its own shape.
 use Rattle.std.specs.Prelude.{ℕ, List, [], ◌∷◌, ◌++◌, drop, flat_map, Result}
 use Rattle.acpi_base.specs.declared.error.AcpiError.{AcpiError}
-use Rattle.acpi_base.specs.declared.signature.TheConstants.Signature.{DSDT, SSDT}
+use Rattle.acpi_base.specs.declared.table.signature.TheConstants.Signature.{DSDT, SSDT}
 use Rattle.acpi_base.specs.Memory.{Memory}
 use Rattle.acpi_base.specs.Ranges.{◌>>=◌, Allows, Footprint, Ranges}
 use Rattle.acpi_base.specs.Ranges.{own_table_ranges, table_ranges, unless_found}

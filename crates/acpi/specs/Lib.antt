@@ -8,13 +8,16 @@ pub mod Laws
 pub mod Lists
 pub mod Lookup
 pub mod Members
+pub mod Mapped
 pub mod Opened
 pub mod OpenedRanges
 pub mod Pci
 pub mod Placed
 pub mod Places
 pub mod Platform
+pub mod PlatformAnswer
 pub mod Pointers
+pub mod Regions
 pub mod Relocation
 pub mod Root
 pub mod Rsdp

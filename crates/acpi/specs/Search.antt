@@ -4,7 +4,7 @@ use Rattle.std.specs.Prelude.{◌&&◌, nat_le, nat_lt, if◌then◌else◌}
 use Rattle.std.specs.Prelude.{List, Option, Some, None, Result, Ok, Err}
 use Rattle.acpi_base.specs.declared.error.AcpiError.{AcpiError}
 use Rattle.acpi_base.specs.declared.error.AcpiError.TheVariants.{MapFailed, NoValidRsdp}
-use Rattle.acpi_base.specs.declared.mapping.PhysicalMapping.{PhysicalMapping}
+use Rattle.acpi_base.specs.declared.memory.mapping.PhysicalMapping.{PhysicalMapping}
 use Rattle.acpi_base.specs.Bytes.{field_of}
 use Rattle.acpi_base.specs.Mapping.{start_of, bytes_of}
 use Rattle.acpi_base.specs.Memory.{Memory, at}

@@ -1,6 +1,6 @@
 -- What a walk along the members shows: the items that are still to come.
 use Rattle.std.specs.Prelude.{List}
-use Rattle.acpi_base.specs.declared.sdt.SdtHeader.{SdtHeader}
+use Rattle.acpi_base.specs.declared.table.header.SdtHeader.{SdtHeader}
 use Rattle.acpi_base.specs.Memory.{Memory}
 use Rattle.acpi_base.specs.Table.{Kind}
 use Rattle.acpi.specs.Lists.{faults_of, ssdt_streams, valid_headers}

@@ -3,6 +3,7 @@ ghost use Rattle.std.specs.Prelude.{◌≡◌, IfOk, IsOk, Ok, None};
 ghost use Rattle.acpi_base.specs.Equality.{IsEquality};
 ghost use Rattle.acpi_base.specs.declared.model.interrupt.InterruptModel.TheVariants.{Unknown};
 
+use crate::handler::RegionError;
 use crate::hpet::PageProtection;
 use crate::platform::{MailboxCall, MailboxWrite, PlatformInfo, PmTimer};
 use crate::records::{AmlTable, Sdt, TableFault};
@@ -38,6 +39,13 @@ pub fn pm_timer_equality(a: &PmTimer, b: &PmTimer) -> bool
 
 /// Page protections compare as equal exactly where they are one.
 pub fn protection_equality(a: &PageProtection, b: &PageProtection) -> bool
+    ensures { IsEquality result a.now b.now }
+{
+    a == b
+}
+
+/// Refusals of regions compare as equal exactly where they are one.
+pub fn region_error_equality(a: &RegionError, b: &RegionError) -> bool
     ensures { IsEquality result a.now b.now }
 {
     a == b

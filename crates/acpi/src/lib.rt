@@ -16,7 +16,7 @@ pub mod platform;
 mod pointers;
 mod ranges;
 mod records;
-mod root;
+pub mod root;
 pub mod rsdp;
 mod ssdts;
 mod tables;

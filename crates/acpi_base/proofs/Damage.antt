@@ -10,7 +10,7 @@ use Rattle.acpi_base.specs.Header.{check_names, check_table, header_at}
 use Rattle.acpi_base.specs.Laws.{DamageShows}
 use Rattle.acpi_base.specs.Steps.{holds}
 use Rattle.acpi_base.specs.declared.error.AcpiError.{AcpiError}
-use Rattle.acpi_base.specs.declared.signature.Signature.{Signature}
+use Rattle.acpi_base.specs.declared.table.signature.Signature.{Signature}
 
 last_holds : (b : Bool) (d : AcpiError) (x : Unit {0}) → holds b d ≡ Ok x → b ≡ true
 last_holds true d x e = refl

@@ -14,18 +14,18 @@ use Rattle.acpi_base.specs.contracts.error.AcpiErrorPartialEq.TheImpl as errors
 use Rattle.acpi_base.specs.contracts.address.AddressSpace as space
 use Rattle.acpi_base.specs.contracts.address.AddressSpacePartialEq.TheImpl as spaces
 use Rattle.acpi_base.specs.contracts.address.AccessSizePartialEq.TheImpl as sizes
-use Rattle.acpi_base.specs.contracts.signature.SignaturePartialEq.TheImpl as signatures
+use Rattle.acpi_base.specs.contracts.table.signature.SignaturePartialEq.TheImpl as signatures
 use Rattle.acpi_base.specs.contracts.address.GenericAddressPartialEq.TheImpl as addresses
 use Rattle.acpi_base.specs.contracts.error.MadtErrorPartialEq.TheImpl as madt_errors
-use Rattle.acpi_base.specs.contracts.spcr.interface.SpcrInterfaceType as interface
-use Rattle.acpi_base.specs.contracts.spcr.interface.SpcrInterfaceTypePartialEq.TheImpl as interfaces
+use Rattle.acpi_base.specs.contracts.tables.spcr.interface.SpcrInterfaceType as interface
+use Rattle.acpi_base.specs.contracts.tables.spcr.interface.SpcrInterfaceTypePartialEq.TheImpl as interfaces
 use Rattle.acpi_base.specs.declared.address.AccessSize.{AccessSize}
 use Rattle.acpi_base.specs.declared.error.AcpiError.{AcpiError}
 use Rattle.acpi_base.specs.declared.address.AddressSpace.{AddressSpace}
 use Rattle.acpi_base.specs.declared.address.GenericAddress.{GenericAddress}
 use Rattle.acpi_base.specs.declared.error.MadtError.{MadtError}
-use Rattle.acpi_base.specs.declared.signature.Signature.{Signature}
-use Rattle.acpi_base.specs.declared.spcr.interface.SpcrInterfaceType.{SpcrInterfaceType}
+use Rattle.acpi_base.specs.declared.table.signature.Signature.{Signature}
+use Rattle.acpi_base.specs.declared.tables.spcr.interface.SpcrInterfaceType.{SpcrInterfaceType}
 
 -- the test at each variant is that of equal fields
 abbrev pub Exact : (parts : List (List Field)) → Each Bool parts → Type 0

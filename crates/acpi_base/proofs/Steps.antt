@@ -16,7 +16,7 @@ pub some_lent : (o : Option (List ℕ)) (bytes : List ℕ) → ok_or o MapFailed
 some_lent None bytes e = absurd cc
 some_lent (Some s) bytes e = cc
 
--- ---- the steps behind it
+-- ---- the steps after it
 
 pub bind_ok : {A B E : Type 0} (r : Result A E) (f : A → Result B E) (y : B) → (r >>= f) ≡ Ok y → (x : A) × (r ≡ Ok x) × (f x ≡ Ok y)
 bind_ok (Ok x) f y e = (x, refl, e)

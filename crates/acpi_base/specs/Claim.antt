@@ -1,7 +1,7 @@
 -- What a claim shows.
 use Rattle.std.specs.Prelude.{◌≡◌, ℕ, List, length, take, Some}
 use Rattle.acpi_base.specs.Memory.{Memory, at}
-use Rattle.acpi_base.specs.declared.claim.Claim.{Claim}
+use Rattle.acpi_base.specs.declared.memory.claim.Claim.{Claim}
 
 -- where the lent bytes start
 abbrev pub claimed_at : {H h : _} → Claim H h → ℕ

@@ -17,7 +17,7 @@ madt_error_text madt.MpsIntiInvalidTriggerMode = codes "MpsIntiInvalidTriggerMod
 madt_error_text madt.WakeupApsTimeout = codes "WakeupApsTimeout"
 madt_error_text madt.InvalidEntryLength = codes "InvalidEntryLength"
 
--- the variant's name, and behind a space what it carries
+-- the variant's name, and after a space what it carries
 abbrev pub error_text : AcpiError → List ℕ
 error_text refusal.NoValidRsdp = codes "NoValidRsdp"
 error_text refusal.RsdpIncorrectSignature = codes "RsdpIncorrectSignature"

@@ -1,6 +1,6 @@
 -- What a guarded handler shows.
 use Rattle.acpi_base.specs.Ranges.{Ranges}
-use Rattle.acpi_base.specs.declared.guarded.Guarded.{Guarded}
+use Rattle.acpi_base.specs.declared.memory.guarded.Guarded.{Guarded}
 
 -- the handler that is asked
 abbrev pub guarded_by : {H : Type 0} → Guarded H → H

@@ -5,11 +5,11 @@ use Rattle.acpi_base.specs.Bits.{bits_of, has_bit}
 use Rattle.acpi_base.specs.Steps.{◌>>=◌, holds}
 use Rattle.acpi_base.specs.declared.error.MadtError.{MadtError}
 use Rattle.acpi_base.specs.declared.error.MadtError.TheVariants.{InterruptOverrideEntryHasInvalidBus, InvalidLocalNmiLine, MpsIntiInvalidPolarity, MpsIntiInvalidTriggerMode, UnexpectedEntry}
-use Rattle.acpi_base.specs.declared.madt.apic.InterruptSourceOverrideEntry.{InterruptSourceOverrideEntry}
-use Rattle.acpi_base.specs.declared.madt.apic.IoApicEntry.{IoApicEntry}
-use Rattle.acpi_base.specs.declared.madt.apic.NmiSourceEntry.{NmiSourceEntry}
-use Rattle.acpi_base.specs.declared.madt.entry.MadtEntry.{MadtEntry}
-use Rattle.acpi_base.specs.declared.madt.entry.MadtEntry.TheVariants as kinds
+use Rattle.acpi_base.specs.declared.tables.madt.apic.InterruptSourceOverrideEntry.{InterruptSourceOverrideEntry}
+use Rattle.acpi_base.specs.declared.tables.madt.apic.IoApicEntry.{IoApicEntry}
+use Rattle.acpi_base.specs.declared.tables.madt.apic.NmiSourceEntry.{NmiSourceEntry}
+use Rattle.acpi_base.specs.declared.tables.madt.entry.MadtEntry.{MadtEntry}
+use Rattle.acpi_base.specs.declared.tables.madt.entry.MadtEntry.TheVariants as variants
 use Rattle.acpi_base.specs.declared.model.interrupt.InterruptSourceOverride.{InterruptSourceOverride}
 use Rattle.acpi_base.specs.declared.model.interrupt.IoApic.{IoApic}
 use Rattle.acpi_base.specs.declared.model.interrupt.LocalInterruptLine.{LocalInterruptLine}
@@ -22,8 +22,8 @@ use Rattle.acpi_base.specs.declared.model.interrupt.Polarity.{Polarity}
 use Rattle.acpi_base.specs.declared.model.interrupt.Polarity.TheVariants as polarity
 use Rattle.acpi_base.specs.declared.model.interrupt.TriggerMode.{TriggerMode}
 use Rattle.acpi_base.specs.declared.model.interrupt.TriggerMode.TheVariants as trigger
-use Rattle.acpi_base.specs.declared.model.part.Part.{Part}
-use Rattle.acpi_base.specs.declared.model.part.Part.TheVariants as part
+use Rattle.acpi_base.specs.declared.model.item.MadtItem.{MadtItem}
+use Rattle.acpi_base.specs.declared.model.item.MadtItem.TheVariants as item
 
 -- the code of each polarity; 2 is reserved
 abbrev pub polarity_code : Polarity → ℕ
@@ -104,23 +104,23 @@ io_apic_of e = record {
   global_system_interrupt_base = e.global_system_interrupt_base;
 }
 
--- what an entry says, or why it is refused: the kinds of SAPICs and of the GIC always are
-unfoldable pub part_of : MadtEntry → Result Part MadtError
-part_of (kinds.LocalApic e) = Ok (part.Processor e.processor_id e.apic_id (has_bit e.flags 0))
-part_of (kinds.LocalX2Apic e) = Ok (part.Processor e.processor_uid e.x2apic_id (has_bit e.flags 0))
-part_of (kinds.IoApic e) = Ok (part.IoApic (io_apic_of e))
-part_of (kinds.InterruptSourceOverride e) = do
+-- what an entry says, or why it is refused: the types of SAPICs and of the GIC always are
+unfoldable pub item_of : MadtEntry → Result MadtItem MadtError
+item_of (variants.LocalApic e) = Ok (item.Processor e.processor_id e.apic_id (has_bit e.flags 0))
+item_of (variants.LocalX2Apic e) = Ok (item.Processor e.processor_uid e.x2apic_id (has_bit e.flags 0))
+item_of (variants.IoApic e) = Ok (item.IoApic (io_apic_of e))
+item_of (variants.InterruptSourceOverride e) = do
   override ← override_of e
-  Ok (part.Override override)
-part_of (kinds.NmiSource e) = do
+  Ok (item.Override override)
+item_of (variants.NmiSource e) = do
   source ← nmi_source_of e
-  Ok (part.NmiSource source)
-part_of (kinds.LocalApicNmi e) = do
+  Ok (item.NmiSource source)
+item_of (variants.LocalApicNmi e) = do
   line ← nmi_line_of (processor_for 0xff e.processor_id) e.nmi_line
-  Ok (part.NmiLine line)
-part_of (kinds.X2ApicNmi e) = do
+  Ok (item.NmiLine line)
+item_of (variants.X2ApicNmi e) = do
   line ← nmi_line_of (processor_for 0xffffffff e.processor_uid) e.nmi_line
-  Ok (part.NmiLine line)
-part_of (kinds.LocalApicAddressOverride e) = Ok (part.LocalApicAddress e.local_apic_address)
-part_of (kinds.MultiprocessorWakeup e) = Ok part.Wakeup
-part_of _ = Err UnexpectedEntry
+  Ok (item.NmiLine line)
+item_of (variants.LocalApicAddressOverride e) = Ok (item.LocalApicAddress e.local_apic_address)
+item_of (variants.MultiprocessorWakeup e) = Ok item.Wakeup
+item_of _ = Err UnexpectedEntry

@@ -2,8 +2,8 @@ pub mod Address
 pub mod Bits
 pub mod Bytes
 pub mod Claim
-pub mod Draft
 pub mod Ecam
+pub mod ModelBuilder
 pub mod Entries
 pub mod EntryLaws
 pub mod Equality
@@ -25,7 +25,7 @@ pub mod Model
 pub mod Names
 pub mod NmiLines
 pub mod OneRegion
-pub mod Parts
+pub mod Items
 pub mod Pin
 pub mod Ranges
 pub mod Spcr

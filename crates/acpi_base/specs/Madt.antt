@@ -8,46 +8,46 @@ use Rattle.acpi_base.specs.declared.error.AcpiError.{AcpiError}
 use Rattle.acpi_base.specs.declared.error.AcpiError.TheVariants.{InvalidMadt}
 use Rattle.acpi_base.specs.declared.error.MadtError.{MadtError}
 use Rattle.acpi_base.specs.declared.error.MadtError.TheVariants.{InvalidEntryLength, UnexpectedEntry}
-use Rattle.acpi_base.specs.declared.madt.Madt.{Madt}
+use Rattle.acpi_base.specs.declared.tables.madt.Madt.{Madt}
 use Rattle.acpi_base.specs.Entries.{cut}
 use Rattle.acpi_base.specs.MadtEntries as entries
-use Rattle.acpi_base.specs.declared.madt.entry.MadtEntry.{MadtEntry}
-use Rattle.acpi_base.specs.declared.madt.entry.MadtEntry.TheVariants as kinds
+use Rattle.acpi_base.specs.declared.tables.madt.entry.MadtEntry.{MadtEntry}
+use Rattle.acpi_base.specs.declared.tables.madt.entry.MadtEntry.TheVariants as variants
 
--- the kinds in order, from kind 0 on: the least length of an entry, and what its bytes mean
-abbrev pub madt_kinds : List (ℕ × (List ℕ → MadtEntry))
-madt_kinds =
-    (8, λ e. kinds.LocalApic (entries.local_apic_at e)) ∷
-    (12, λ e. kinds.IoApic (entries.io_apic_at e)) ∷
-    (10, λ e. kinds.InterruptSourceOverride (entries.interrupt_source_override_at e)) ∷
-    (8, λ e. kinds.NmiSource (entries.nmi_source_at e)) ∷
-    (6, λ e. kinds.LocalApicNmi (entries.local_apic_nmi_at e)) ∷
-    (12, λ e. kinds.LocalApicAddressOverride (entries.local_apic_address_override_at e)) ∷
-    (16, λ e. kinds.IoSapic (entries.io_sapic_at e)) ∷
-    (16, λ e. kinds.LocalSapic (entries.local_sapic_at e)) ∷
-    (16, λ e. kinds.PlatformInterruptSource (entries.platform_interrupt_source_at e)) ∷
-    (16, λ e. kinds.LocalX2Apic (entries.local_x2apic_at e)) ∷
-    (12, λ e. kinds.X2ApicNmi (entries.x2apic_nmi_at e)) ∷
-    (76, λ e. kinds.Gicc (entries.gicc_at e)) ∷
-    (24, λ e. kinds.Gicd (entries.gicd_at e)) ∷
-    (24, λ e. kinds.GicMsiFrame (entries.gic_msi_frame_at e)) ∷
-    (16, λ e. kinds.GicRedistributor (entries.gic_redistributor_at e)) ∷
-    (20, λ e. kinds.GicInterruptTranslationService (entries.gic_translation_service_at e)) ∷
-    (16, λ e. kinds.MultiprocessorWakeup (entries.multiprocessor_wakeup_at e)) ∷ []
+-- the types in order, from type 0 on: the least length of an entry, and what its bytes mean
+abbrev pub entry_types : List (ℕ × (List ℕ → MadtEntry))
+entry_types =
+    (8, λ e. variants.LocalApic (entries.local_apic_at e)) ∷
+    (12, λ e. variants.IoApic (entries.io_apic_at e)) ∷
+    (10, λ e. variants.InterruptSourceOverride (entries.interrupt_source_override_at e)) ∷
+    (8, λ e. variants.NmiSource (entries.nmi_source_at e)) ∷
+    (6, λ e. variants.LocalApicNmi (entries.local_apic_nmi_at e)) ∷
+    (12, λ e. variants.LocalApicAddressOverride (entries.local_apic_address_override_at e)) ∷
+    (16, λ e. variants.IoSapic (entries.io_sapic_at e)) ∷
+    (16, λ e. variants.LocalSapic (entries.local_sapic_at e)) ∷
+    (16, λ e. variants.PlatformInterruptSource (entries.platform_interrupt_source_at e)) ∷
+    (16, λ e. variants.LocalX2Apic (entries.local_x2apic_at e)) ∷
+    (12, λ e. variants.X2ApicNmi (entries.x2apic_nmi_at e)) ∷
+    (76, λ e. variants.Gicc (entries.gicc_at e)) ∷
+    (24, λ e. variants.Gicd (entries.gicd_at e)) ∷
+    (24, λ e. variants.GicMsiFrame (entries.gic_msi_frame_at e)) ∷
+    (16, λ e. variants.GicRedistributor (entries.gic_redistributor_at e)) ∷
+    (20, λ e. variants.GicInterruptTranslationService (entries.gic_translation_service_at e)) ∷
+    (16, λ e. variants.MultiprocessorWakeup (entries.multiprocessor_wakeup_at e)) ∷ []
 
 -- the least lengths alone
 abbrev pub madt_lengths : List ℕ
-madt_lengths = map (λ k. k.0) madt_kinds
+madt_lengths = map (λ k. k.0) entry_types
 
--- what an entry says; nothing where its kind is behind the last one
+-- what an entry says; nothing where its type is after the last one
 abbrev pub entry_of : List ℕ → Option MadtEntry
-entry_of e = option_map (λ k. k.1 e) (slice_get madt_kinds (slice_index e 0))
+entry_of e = option_map (λ k. k.1 e) (slice_get entry_types (slice_index e 0))
 
--- the entries of the bytes behind a table's 44 fixed ones, and the rest in which no entry begins
+-- the entries of the bytes after a table's 44 fixed ones, and the rest in which no entry begins
 abbrev pub cut_of : List ℕ → List (List ℕ) × List ℕ
 cut_of table = cut madt_lengths (drop 44 table)
 
--- the entries of known kinds, in order
+-- the entries of known types, in order
 abbrev pub entries_of : List ℕ → List MadtEntry
 entries_of table = filter_map entry_of (cut_of table).0
 
@@ -65,7 +65,7 @@ madt_at b = record {
 
 -- the address of a mailbox, where an entry gives one
 abbrev pub mailbox_in : MadtEntry → Option ℕ
-mailbox_in (kinds.MultiprocessorWakeup wakeup) = Some wakeup.mailbox_address
+mailbox_in (variants.MultiprocessorWakeup wakeup) = Some wakeup.mailbox_address
 mailbox_in _ = None
 
 -- why the entries gave no mailbox: they ended before the table did, or there is none

@@ -2,26 +2,26 @@
 use Rattle.std.specs.Prelude.{ℕ, List}
 use Rattle.acpi_base.specs.Bytes.{field_of}
 use Rattle.acpi_base.specs.Extended.{extended_at}
-use Rattle.acpi_base.specs.declared.madt.entry.EntryHeader.{EntryHeader}
-use Rattle.acpi_base.specs.declared.madt.apic.LocalApicEntry.{LocalApicEntry}
-use Rattle.acpi_base.specs.declared.madt.apic.IoApicEntry.{IoApicEntry}
-use Rattle.acpi_base.specs.declared.madt.apic.InterruptSourceOverrideEntry.{InterruptSourceOverrideEntry}
-use Rattle.acpi_base.specs.declared.madt.apic.NmiSourceEntry.{NmiSourceEntry}
-use Rattle.acpi_base.specs.declared.madt.apic.LocalApicNmiEntry.{LocalApicNmiEntry}
-use Rattle.acpi_base.specs.declared.madt.apic.LocalApicAddressOverrideEntry.{LocalApicAddressOverrideEntry}
-use Rattle.acpi_base.specs.declared.madt.apic.LocalX2ApicEntry.{LocalX2ApicEntry}
-use Rattle.acpi_base.specs.declared.madt.apic.X2ApicNmiEntry.{X2ApicNmiEntry}
-use Rattle.acpi_base.specs.declared.madt.sapic.IoSapicEntry.{IoSapicEntry}
-use Rattle.acpi_base.specs.declared.madt.sapic.LocalSapicEntry.{LocalSapicEntry}
-use Rattle.acpi_base.specs.declared.madt.sapic.PlatformInterruptSourceEntry.{PlatformInterruptSourceEntry}
-use Rattle.acpi_base.specs.declared.madt.gic.GiccEntry.{GiccEntry}
-use Rattle.acpi_base.specs.declared.madt.gic.GicdEntry.{GicdEntry}
-use Rattle.acpi_base.specs.declared.madt.gic.GicMsiFrameEntry.{GicMsiFrameEntry}
-use Rattle.acpi_base.specs.declared.madt.gic.GicRedistributorEntry.{GicRedistributorEntry}
-use Rattle.acpi_base.specs.declared.madt.gic.GicInterruptTranslationServiceEntry.{GicInterruptTranslationServiceEntry}
-use Rattle.acpi_base.specs.declared.madt.wakeup.MultiprocessorWakeupEntry.{MultiprocessorWakeupEntry}
+use Rattle.acpi_base.specs.declared.tables.madt.entry.EntryHeader.{EntryHeader}
+use Rattle.acpi_base.specs.declared.tables.madt.apic.LocalApicEntry.{LocalApicEntry}
+use Rattle.acpi_base.specs.declared.tables.madt.apic.IoApicEntry.{IoApicEntry}
+use Rattle.acpi_base.specs.declared.tables.madt.apic.InterruptSourceOverrideEntry.{InterruptSourceOverrideEntry}
+use Rattle.acpi_base.specs.declared.tables.madt.apic.NmiSourceEntry.{NmiSourceEntry}
+use Rattle.acpi_base.specs.declared.tables.madt.apic.LocalApicNmiEntry.{LocalApicNmiEntry}
+use Rattle.acpi_base.specs.declared.tables.madt.apic.LocalApicAddressOverrideEntry.{LocalApicAddressOverrideEntry}
+use Rattle.acpi_base.specs.declared.tables.madt.apic.LocalX2ApicEntry.{LocalX2ApicEntry}
+use Rattle.acpi_base.specs.declared.tables.madt.apic.X2ApicNmiEntry.{X2ApicNmiEntry}
+use Rattle.acpi_base.specs.declared.tables.madt.sapic.IoSapicEntry.{IoSapicEntry}
+use Rattle.acpi_base.specs.declared.tables.madt.sapic.LocalSapicEntry.{LocalSapicEntry}
+use Rattle.acpi_base.specs.declared.tables.madt.sapic.PlatformInterruptSourceEntry.{PlatformInterruptSourceEntry}
+use Rattle.acpi_base.specs.declared.tables.madt.gic.GiccEntry.{GiccEntry}
+use Rattle.acpi_base.specs.declared.tables.madt.gic.GicdEntry.{GicdEntry}
+use Rattle.acpi_base.specs.declared.tables.madt.gic.GicMsiFrameEntry.{GicMsiFrameEntry}
+use Rattle.acpi_base.specs.declared.tables.madt.gic.GicRedistributorEntry.{GicRedistributorEntry}
+use Rattle.acpi_base.specs.declared.tables.madt.gic.GicInterruptTranslationServiceEntry.{GicInterruptTranslationServiceEntry}
+use Rattle.acpi_base.specs.declared.tables.madt.wakeup.MultiprocessorWakeupEntry.{MultiprocessorWakeupEntry}
 
--- what each entry begins with: its kind and its length
+-- what each entry begins with: its type and its length
 abbrev pub entry_header_at : List ℕ → EntryHeader
 entry_header_at b = record { entry_type = field_of b 0 1; length = field_of b 1 1 }
 

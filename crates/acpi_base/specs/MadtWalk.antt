@@ -3,14 +3,14 @@ use Rattle.std.specs.Prelude.{◌≡◌, ◌&&◌, Bool, true, false, ℕ, List,
 use Rattle.std.specs.List.{filter_map}
 use Rattle.acpi_base.specs.Entries.{cut}
 use Rattle.acpi_base.specs.Madt.{entry_of, madt_lengths}
-use Rattle.acpi_base.specs.declared.madt.entry.MadtEntry.{MadtEntry}
-use Rattle.acpi_base.specs.declared.madt.walk.MadtEntryIter.{MadtEntryIter}
+use Rattle.acpi_base.specs.declared.tables.madt.entry.MadtEntry.{MadtEntry}
+use Rattle.acpi_base.specs.declared.tables.madt.walk.MadtEntryIter.{MadtEntryIter}
 
 -- the entries that are still to come
 abbrev pub entries_left : MadtEntryIter → List MadtEntry
 entries_left s = filter_map entry_of (cut madt_lengths s.rest.now).0
 
--- the rest behind them, in which no entry begins
+-- the rest after them, in which no entry begins
 abbrev pub rest_left : MadtEntryIter → List ℕ
 rest_left s = (cut madt_lengths s.rest.now).1
 

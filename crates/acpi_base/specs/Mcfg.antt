@@ -2,9 +2,9 @@
 use Rattle.std.specs.Prelude.{ℕ, ◌/◌, zero, suc, List, [], ◌∷◌, length, drop}
 use Rattle.acpi_base.specs.Bytes.{field_of}
 use Rattle.acpi_base.specs.Header.{header_at}
-use Rattle.acpi_base.specs.declared.mcfg.Mcfg.{Mcfg}
-use Rattle.acpi_base.specs.declared.mcfg.McfgEntry.{McfgEntry}
-use Rattle.acpi_base.specs.declared.mcfg.McfgEntryIter.{McfgEntryIter}
+use Rattle.acpi_base.specs.declared.tables.mcfg.Mcfg.{Mcfg}
+use Rattle.acpi_base.specs.declared.tables.mcfg.McfgEntry.{McfgEntry}
+use Rattle.acpi_base.specs.declared.tables.mcfg.McfgEntryIter.{McfgEntryIter}
 
 -- what a table's first bytes mean
 unfoldable pub mcfg_at : List ℕ → Mcfg
@@ -19,19 +19,19 @@ mcfg_entry_at b = record {
   bus_number_end = field_of b 11 1;
 }
 
--- so many entries of 16 bytes, one behind the other
-abbrev pub regions_in : ℕ → List ℕ → List McfgEntry
-regions_in zero bytes = []
-regions_in (suc n) bytes = mcfg_entry_at bytes ∷ regions_in n (drop 16 bytes)
+-- so many entries of 16 bytes, one after the other
+abbrev pub mcfg_entries_in : ℕ → List ℕ → List McfgEntry
+mcfg_entries_in zero bytes = []
+mcfg_entries_in (suc n) bytes = mcfg_entry_at bytes ∷ mcfg_entries_in n (drop 16 bytes)
 
 -- as many as there are whole ones
-abbrev pub whole_regions : List ℕ → List McfgEntry
-whole_regions bytes = regions_in (length bytes / 16) bytes
+abbrev pub whole_mcfg_entries : List ℕ → List McfgEntry
+whole_mcfg_entries bytes = mcfg_entries_in (length bytes / 16) bytes
 
--- the entries behind a table's 44 fixed bytes
-abbrev pub regions_of : List ℕ → List McfgEntry
-regions_of table = whole_regions (drop 44 table)
+-- the entries after a table's 44 fixed bytes
+abbrev pub mcfg_entries_of : List ℕ → List McfgEntry
+mcfg_entries_of table = whole_mcfg_entries (drop 44 table)
 
 -- the entries that are still to come
-abbrev pub regions_left : McfgEntryIter → List McfgEntry
-regions_left s = whole_regions s.rest.now
+abbrev pub mcfg_entries_left : McfgEntryIter → List McfgEntry
+mcfg_entries_left s = whole_mcfg_entries s.rest.now

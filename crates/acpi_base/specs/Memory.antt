@@ -12,7 +12,7 @@ pub record Region : Type 0 where
 abbrev pub Memory : Type 0
 Memory = List Region
 
--- the address behind a region
+-- the address after a region
 abbrev pub end_of : Region → ℕ
 end_of r = r.start + length r.bytes
 

@@ -4,14 +4,14 @@ use Rattle.std.specs.List.{filter_map, list_any}
 use Rattle.std.specs.Option.{option_map}
 use Rattle.std.specs.Result.{result_err, result_ok}
 use Rattle.acpi_base.specs.Bits.{has_bit}
-use Rattle.acpi_base.specs.Interrupts.{part_of}
+use Rattle.acpi_base.specs.Interrupts.{item_of}
 use Rattle.acpi_base.specs.Madt.{cut_of, entries_of, madt_at}
 use Rattle.acpi_base.specs.declared.error.AcpiError.{AcpiError}
 use Rattle.acpi_base.specs.declared.error.AcpiError.TheVariants.{InvalidMadt}
 use Rattle.acpi_base.specs.declared.error.MadtError.{MadtError}
 use Rattle.acpi_base.specs.declared.error.MadtError.TheVariants.{InvalidEntryLength}
-use Rattle.acpi_base.specs.declared.madt.Madt.{Madt}
-use Rattle.acpi_base.specs.declared.madt.entry.MadtEntry.{MadtEntry}
+use Rattle.acpi_base.specs.declared.tables.madt.Madt.{Madt}
+use Rattle.acpi_base.specs.declared.tables.madt.entry.MadtEntry.{MadtEntry}
 use Rattle.acpi_base.specs.declared.model.interrupt.Apic.{Apic}
 use Rattle.acpi_base.specs.declared.model.interrupt.InterruptModel.{InterruptModel}
 use Rattle.acpi_base.specs.declared.model.interrupt.InterruptModel.TheVariants as model
@@ -19,8 +19,8 @@ use Rattle.acpi_base.specs.declared.model.interrupt.InterruptSourceOverride.{Int
 use Rattle.acpi_base.specs.declared.model.interrupt.IoApic.{IoApic}
 use Rattle.acpi_base.specs.declared.model.interrupt.NmiLine.{NmiLine}
 use Rattle.acpi_base.specs.declared.model.interrupt.NmiSource.{NmiSource}
-use Rattle.acpi_base.specs.declared.model.part.Part.{Part}
-use Rattle.acpi_base.specs.declared.model.part.Part.TheVariants as part
+use Rattle.acpi_base.specs.declared.model.item.MadtItem.{MadtItem}
+use Rattle.acpi_base.specs.declared.model.item.MadtItem.TheVariants as item
 use Rattle.acpi_base.specs.declared.model.processor.Processor.{Processor}
 use Rattle.acpi_base.specs.declared.model.processor.ProcessorInfo.{ProcessorInfo}
 use Rattle.acpi_base.specs.declared.model.processor.ProcessorState.{ProcessorState}
@@ -30,7 +30,7 @@ use Rattle.acpi_base.specs.declared.model.processor.ProcessorState.TheVariants.{
 
 -- why an entry is refused, where it is
 abbrev pub fault_in : MadtEntry → Option MadtError
-fault_in e = result_err (part_of e)
+fault_in e = result_err (item_of e)
 
 -- the first refusal: of an entry, or of the rest in which none begins
 abbrev pub first_fault : List MadtError → List ℕ → Option MadtError
@@ -44,31 +44,31 @@ fault_of table = first_fault (filter_map fault_in (entries_of table)) (cut_of ta
 -- ---- what the entries say
 
 -- what an entry says, where it isn't refused
-abbrev pub part_in : MadtEntry → Option Part
-part_in e = result_ok (part_of e)
+abbrev pub item_in : MadtEntry → Option MadtItem
+item_in e = result_ok (item_of e)
 
-abbrev pub parts_of : List ℕ → List Part
-parts_of table = filter_map part_in (entries_of table)
+abbrev pub items_of : List ℕ → List MadtItem
+items_of table = filter_map item_in (entries_of table)
 
-abbrev pub io_apic_in : Part → Option IoApic
-io_apic_in (part.IoApic x) = Some x
+abbrev pub io_apic_in : MadtItem → Option IoApic
+io_apic_in (item.IoApic x) = Some x
 io_apic_in _ = None
 
-abbrev pub override_in : Part → Option InterruptSourceOverride
-override_in (part.Override x) = Some x
+abbrev pub override_in : MadtItem → Option InterruptSourceOverride
+override_in (item.Override x) = Some x
 override_in _ = None
 
-abbrev pub nmi_source_in : Part → Option NmiSource
-nmi_source_in (part.NmiSource x) = Some x
+abbrev pub nmi_source_in : MadtItem → Option NmiSource
+nmi_source_in (item.NmiSource x) = Some x
 nmi_source_in _ = None
 
-abbrev pub nmi_line_in : Part → Option NmiLine
-nmi_line_in (part.NmiLine x) = Some x
+abbrev pub nmi_line_in : MadtItem → Option NmiLine
+nmi_line_in (item.NmiLine x) = Some x
 nmi_line_in _ = None
 
-abbrev pub address_in : Part → Option ℕ
-address_in (part.LocalApicAddress x) = Some x
-address_in _ = None
+abbrev pub local_apic_address_in : MadtItem → Option ℕ
+local_apic_address_in (item.LocalApicAddress x) = Some x
+local_apic_address_in _ = None
 
 -- what a processor does: an application processor waits, the boot processor runs
 abbrev pub state_of : Bool → Bool → ProcessorState
@@ -76,8 +76,8 @@ state_of is_ap is_enabled =
     if is_enabled then (if is_ap then WaitingForSipi else Running) else Disabled
 
 -- a processor, as an application processor or as the boot processor
-abbrev pub processor_in : Bool → Part → Option Processor
-processor_in is_ap (part.Processor uid id is_enabled) = Some (record {
+abbrev pub processor_in : Bool → MadtItem → Option Processor
+processor_in is_ap (item.Processor uid id is_enabled) = Some (record {
   processor_uid = uid;
   local_apic_id = id;
   state = state_of is_ap is_enabled;
@@ -86,8 +86,8 @@ processor_in is_ap (part.Processor uid id is_enabled) = Some (record {
 processor_in is_ap _ = None
 
 -- whether it belongs to a model of APICs
-abbrev pub is_of_apic : Part → Bool
-is_of_apic part.Wakeup = false
+abbrev pub is_of_apic : MadtItem → Bool
+is_of_apic item.Wakeup = false
 is_of_apic _ = true
 
 -- ---- the model
@@ -98,50 +98,50 @@ last_address address [] = address
 last_address address (x ∷ more) = last_address x more
 
 -- what the table and its entries say of APICs
-abbrev pub apic_of : {A : Type 0} → Madt → List Part → Apic A
-apic_of madt parts = record {
-  local_apic_address = last_address madt.local_apic_address (filter_map address_in parts);
-  io_apics = filter_map io_apic_in parts;
-  local_apic_nmi_lines = filter_map nmi_line_in parts;
-  interrupt_source_overrides = filter_map override_in parts;
-  nmi_sources = filter_map nmi_source_in parts;
+abbrev pub apic_of : {A : Type 0} → Madt → List MadtItem → Apic A
+apic_of madt items = record {
+  local_apic_address = last_address madt.local_apic_address (filter_map local_apic_address_in items);
+  io_apics = filter_map io_apic_in items;
+  local_apic_nmi_lines = filter_map nmi_line_in items;
+  interrupt_source_overrides = filter_map override_in items;
+  nmi_sources = filter_map nmi_source_in items;
   also_has_legacy_pics = has_bit madt.flags 0;
 }
 
--- the first processor is the boot processor, and all behind it are application processors
-abbrev pub processors_of : {A : Type 0} → List Part → Option (ProcessorInfo A)
-processors_of parts =
+-- the first processor is the boot processor, and all after it are application processors
+abbrev pub processors_of : {A : Type 0} → List MadtItem → Option (ProcessorInfo A)
+processors_of items =
     option_map (λ boot. record {
       boot_processor = boot;
-      application_processors = drop 1 (filter_map (processor_in true) parts);
-    }) (slice_get (filter_map (processor_in false) parts) 0)
+      application_processors = drop 1 (filter_map (processor_in true) items);
+    }) (slice_get (filter_map (processor_in false) items) 0)
 
 -- the model, and the processors; A is the allocator, of which neither says anything
 abbrev pub Model : Type 0 → Type 0
 Model A = InterruptModel A × Option (ProcessorInfo A)
 
 -- what a table of a model of APICs says
-abbrev pub gathered : {A : Type 0} → Madt → List Part → Model A
-gathered madt parts = (model.Apic (apic_of madt parts), processors_of parts)
+abbrev pub gathered : {A : Type 0} → Madt → List MadtItem → Model A
+gathered madt items = (model.Apic (apic_of madt items), processors_of items)
 
 -- APICs where an entry is of them, else nothing is known
-abbrev pub model_from : {A : Type 0} → Madt → List Part → Model A
-model_from madt parts =
-    if list_any is_of_apic parts then gathered madt parts else (model.Unknown, None)
+abbrev pub model_from : {A : Type 0} → Madt → List MadtItem → Model A
+model_from madt items =
+    if list_any is_of_apic items then gathered madt items else (model.Unknown, None)
 
 -- the model of a table whose first fields mean this, or the first refusal
 abbrev pub model_with : {A : Type 0} → Madt → List ℕ → Result (Model A) AcpiError
 model_with madt table = elim (fault_of table) [
   | Some fault ↦ Err (InvalidMadt fault)
-  | None ↦ Ok (model_from madt (parts_of table))
+  | None ↦ Ok (model_from madt (items_of table))
 ]
 
 -- the model of a table, or the first refusal
 abbrev pub model_of : {A : Type 0} → List ℕ → Result (Model A) AcpiError
 model_of table = model_with (madt_at table) table
 
--- ---- want of memory
+-- ---- out of memory
 
 -- memory is asked for only where no entry is refused, and one is of a model of APICs
 abbrev pub AsksMemory : List ℕ → Type 0
-AsksMemory table = (fault_of table ≡ None) × IsTrue (list_any is_of_apic (parts_of table))
+AsksMemory table = (fault_of table ≡ None) × IsTrue (list_any is_of_apic (items_of table))

@@ -2,20 +2,20 @@
 use Rattle.std.specs.Prelude.{◌≡◌, ℕ, List, [], ◌∷◌, codes}
 use Rattle.std.specs.List.{AllByRecursion}
 use Rattle.acpi_base.specs.Text.{letters_of}
-use Rattle.acpi_base.specs.declared.signature.Signature.{Signature}
-use Rattle.acpi_base.specs.declared.signature.TheConstants.Signature.{RSDT, XSDT, FADT, HPET, MADT}
-use Rattle.acpi_base.specs.declared.signature.TheConstants.Signature.{MCFG, SSDT, BERT, BGRT, CPEP}
-use Rattle.acpi_base.specs.declared.signature.TheConstants.Signature.{DSDT, ECDT, EINJ, ERST, FACS}
-use Rattle.acpi_base.specs.declared.signature.TheConstants.Signature.{FPDT, GTDT, HEST, MSCT, MPST}
-use Rattle.acpi_base.specs.declared.signature.TheConstants.Signature.{NFIT, PCCT, PHAT, PMTT, PSDT}
-use Rattle.acpi_base.specs.declared.signature.TheConstants.Signature.{RASF, SBST, SDEV, SLIT, SRAT}
-use Rattle.acpi_base.specs.declared.signature.TheConstants.Signature.{AEST, BDAT, CDIT, CEDT, CRAT}
-use Rattle.acpi_base.specs.declared.signature.TheConstants.Signature.{CSRT, DBGP, DBG2, DMAR, DRTM}
-use Rattle.acpi_base.specs.declared.signature.TheConstants.Signature.{ETDT, IBFT, IORT, IVRS, LPIT}
-use Rattle.acpi_base.specs.declared.signature.TheConstants.Signature.{MCHI, MPAM, MSDM, PRMT, RGRT}
-use Rattle.acpi_base.specs.declared.signature.TheConstants.Signature.{SDEI, SLIC, SPCR, SPMI, STAO}
-use Rattle.acpi_base.specs.declared.signature.TheConstants.Signature.{SVKL, TCPA, TPM2, UEFI, WAET}
-use Rattle.acpi_base.specs.declared.signature.TheConstants.Signature.{WDAT, WDRT, WPBT, WSMT, XENV}
+use Rattle.acpi_base.specs.declared.table.signature.Signature.{Signature}
+use Rattle.acpi_base.specs.declared.table.signature.TheConstants.Signature.{RSDT, XSDT, FADT, HPET, MADT}
+use Rattle.acpi_base.specs.declared.table.signature.TheConstants.Signature.{MCFG, SSDT, BERT, BGRT, CPEP}
+use Rattle.acpi_base.specs.declared.table.signature.TheConstants.Signature.{DSDT, ECDT, EINJ, ERST, FACS}
+use Rattle.acpi_base.specs.declared.table.signature.TheConstants.Signature.{FPDT, GTDT, HEST, MSCT, MPST}
+use Rattle.acpi_base.specs.declared.table.signature.TheConstants.Signature.{NFIT, PCCT, PHAT, PMTT, PSDT}
+use Rattle.acpi_base.specs.declared.table.signature.TheConstants.Signature.{RASF, SBST, SDEV, SLIT, SRAT}
+use Rattle.acpi_base.specs.declared.table.signature.TheConstants.Signature.{AEST, BDAT, CDIT, CEDT, CRAT}
+use Rattle.acpi_base.specs.declared.table.signature.TheConstants.Signature.{CSRT, DBGP, DBG2, DMAR, DRTM}
+use Rattle.acpi_base.specs.declared.table.signature.TheConstants.Signature.{ETDT, IBFT, IORT, IVRS, LPIT}
+use Rattle.acpi_base.specs.declared.table.signature.TheConstants.Signature.{MCHI, MPAM, MSDM, PRMT, RGRT}
+use Rattle.acpi_base.specs.declared.table.signature.TheConstants.Signature.{SDEI, SLIC, SPCR, SPMI, STAO}
+use Rattle.acpi_base.specs.declared.table.signature.TheConstants.Signature.{SVKL, TCPA, TPM2, UEFI, WAET}
+use Rattle.acpi_base.specs.declared.table.signature.TheConstants.Signature.{WDAT, WDRT, WPBT, WSMT, XENV}
 
 -- each constant, and the four letters that it is to have
 abbrev pub named_tables : List (Signature × List ℕ)

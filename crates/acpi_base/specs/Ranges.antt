@@ -1,7 +1,7 @@
 -- The ranges of a memory that an answer depends on.
 use Rattle.std.specs.Prelude.{◌≡◌, ℕ, ◌==◌, ◌&&◌, Bool, true, List, [], ◌∷◌, All, Result, Ok, Err}
 use Rattle.std.specs.List.{AllByRecursion, list_any}
-use Rattle.acpi_base.specs.declared.signature.Signature.{Signature}
+use Rattle.acpi_base.specs.declared.table.signature.Signature.{Signature}
 use Rattle.acpi_base.specs.Header.{header_at}
 use Rattle.acpi_base.specs.Memory.{Memory, at}
 use Rattle.acpi_base.specs.Steps.{lent}
@@ -33,7 +33,7 @@ DependsOn ranges defined = (m n : Memory) (x : _) → AgreesOn m n (ranges m x)
 abbrev pub Footprint : {A : Type 0} → Memory → Ranges → (Memory → A) → (A → Type 0) → Type 0
 Footprint m ranges defined Says = (n : Memory) → AgreesOn m n ranges → Says (defined n)
 
--- in a `do` of ranges: those behind a step that passes
+-- in a `do` of ranges: those after a step that passes
 infixl 10 ◌>>=◌
 abbrev pub ◌>>=◌ : {A E : Type 0} → Result A E → (A → Ranges) → Ranges
 (Ok x) >>= ranges = ranges x

@@ -10,9 +10,9 @@ use Rattle.acpi_base.specs.Steps.{◌>>=◌, holds}
 use Rattle.acpi_base.specs.declared.address.GenericAddress.{GenericAddress}
 use Rattle.acpi_base.specs.declared.error.AcpiError.{AcpiError}
 use Rattle.acpi_base.specs.declared.error.AcpiError.TheVariants.{InvalidNamespaceString}
-use Rattle.acpi_base.specs.declared.spcr.Spcr.{Spcr}
-use Rattle.acpi_base.specs.declared.spcr.interface.SpcrInterfaceType.{SpcrInterfaceType}
-use Rattle.acpi_base.specs.declared.spcr.interface.SpcrInterfaceType.TheVariants as interface
+use Rattle.acpi_base.specs.declared.tables.spcr.Spcr.{Spcr}
+use Rattle.acpi_base.specs.declared.tables.spcr.interface.SpcrInterfaceType.{SpcrInterfaceType}
+use Rattle.acpi_base.specs.declared.tables.spcr.interface.SpcrInterfaceType.TheVariants as interface
 
 -- what a table's bytes mean
 unfoldable pub spcr_at : List ℕ → Spcr

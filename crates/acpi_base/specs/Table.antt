@@ -2,8 +2,8 @@
 use Rattle.std.specs.Prelude.{ℕ, List, nat_le, Result, Ok}
 use Rattle.acpi_base.specs.declared.error.AcpiError.{AcpiError}
 use Rattle.acpi_base.specs.declared.error.AcpiError.TheVariants.{SdtInvalidLength}
-use Rattle.acpi_base.specs.declared.signature.Signature.{Signature}
-use Rattle.acpi_base.specs.declared.sdt.SdtHeader.{SdtHeader}
+use Rattle.acpi_base.specs.declared.table.signature.Signature.{Signature}
+use Rattle.acpi_base.specs.declared.table.header.SdtHeader.{SdtHeader}
 use Rattle.acpi_base.specs.Header.{header_at, check_names, check_table}
 use Rattle.acpi_base.specs.Memory.{Memory}
 use Rattle.acpi_base.specs.Steps.{◌>>=◌, holds, lent}
@@ -17,9 +17,13 @@ pub record Kind : Type 0 where
 abbrev pub kind : Signature → ℕ → (List ℕ → Result (Unit {0}) AcpiError) → Kind
 kind s n c = record { signature = s; least = n; check = c }
 
+-- a table of this signature and least length that has nothing to pass but the checks of each table
+abbrev pub sdt_kind : Signature → ℕ → Kind
+sdt_kind s least = kind s least (check_table s)
+
 -- a table of this signature of which only the header and the sum matter
 abbrev pub plain_kind : Signature → Kind
-plain_kind s = kind s 36 (check_table s)
+plain_kind s = sdt_kind s 36
 
 -- the length that a header gives, where it has the names and the least length
 unfoldable pub length_in : Signature → ℕ → SdtHeader → Result ℕ AcpiError
@@ -48,7 +52,7 @@ table_at m k p = do
   head ← lent m p 36
   table_of m k p head
 
--- the table at an address under the signature that it bears itself, or the first refusal
+-- the table at an address under the signature that it has itself, or the first refusal
 unfoldable pub own_table_at : Memory → ℕ → Result (List ℕ) AcpiError
 own_table_at m p = do
   head ← lent m p 36

@@ -2,7 +2,7 @@
 use Rattle.std.specs.Prelude.{◌≡◌, Result, Ok, Err, IsUtf8, MatchOption, Option, ℕ, List, [], ◌∷◌, ◌+◌, ◌/◌, ◌%◌, if◌then◌else◌, nat_lt}
 use Rattle.std.specs.Borrow.{Bor}
 use Rattle.std.specs.Str.{is_utf8}
-use Rattle.acpi_base.specs.declared.signature.Signature.{Signature}
+use Rattle.acpi_base.specs.declared.table.signature.Signature.{Signature}
 
 -- the answer is the text that the bytes encode in UTF-8, or none where they encode none
 abbrev pub IsTextOf : Option (Bor (List ℕ)) → List ℕ → Type 0

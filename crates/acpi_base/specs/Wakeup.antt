@@ -1,13 +1,13 @@
 -- The commands of the wakeup mailbox (ACPI 6.4, section 5.2.12.19).
 use Rattle.std.specs.Prelude.{ℕ, List, [], ◌∷◌, slice_get, Result}
 use Rattle.std.specs.Option.{ok_or}
-use Rattle.acpi_base.specs.declared.madt.wakeup.MpProtectedModeWakeupCommand.{MpProtectedModeWakeupCommand}
-use Rattle.acpi_base.specs.declared.madt.wakeup.MpProtectedModeWakeupCommand.TheVariants.{Noop, Wakeup, Sleep, AcceptPages}
+use Rattle.acpi_base.specs.declared.tables.madt.wakeup.MpProtectedModeWakeupCommand.{MpProtectedModeWakeupCommand}
+use Rattle.acpi_base.specs.declared.tables.madt.wakeup.MpProtectedModeWakeupCommand.TheVariants.{Noop, Wakeup, Sleep, AcceptPages}
 
 -- the commands, from number 0 on
 abbrev pub commands : List MpProtectedModeWakeupCommand
 commands = Noop ∷ Wakeup ∷ Sleep ∷ AcceptPages ∷ []
 
--- the command of a number; a number that none has is handed back
+-- the command of a number; a number that none has is returned
 abbrev pub command_of : ℕ → Result MpProtectedModeWakeupCommand ℕ
 command_of number = ok_or (slice_get commands number) number

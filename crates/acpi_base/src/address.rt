@@ -4,7 +4,7 @@ ghost use Rattle.acpi_base.specs.Address.{generic_address_of};
 
 use crate::bytes::{field, filled};
 use crate::error::{AcpiError, AcpiResult};
-use crate::handler::PhysicalRecord;
+use crate::memory::handler::PhysicalRecord;
 
 /// What the number of a generic address counts (section 5.2.3.2).
 #[derive(Clone, Copy, Debug, PartialEq, Eq)]

@@ -5,7 +5,7 @@ ghost use Rattle.acpi_base.specs.Bits.{bits_of, has_bit};
 ghost use Rattle.acpi_base.specs.Bytes.{field_of, filled_part, number};
 ghost use Rattle.acpi_base.specs.Text.{IsTextOf};
 
-pub use crate::sum::byte_sum;
+pub use crate::table::sum::byte_sum;
 
 /// The `N` bytes at an offset, filled up with zeros where the bytes end before.
 #[inline(always)]
@@ -96,7 +96,7 @@ pub fn text_of(bytes: &[u8]) -> Option<&str>
     }
 }
 
-/// The bytes behind the first `n`, or none where there are no more.
+/// The bytes after the first `n`, or none where there are no more.
 pub fn skip(bytes: &[u8], n: usize) -> &[u8]
     ensures { result.now ≡ drop n bytes.now }
 {

@@ -1,6 +1,6 @@
 //! The refusals of this library.
 
-use crate::signature::Signature;
+use crate::table::signature::Signature;
 use std::alloc::AllocError;
 use std::fmt;
 
@@ -58,7 +58,7 @@ impl From<AllocError> for AcpiError {
     }
 }
 
-/// The variant's name; behind a space, the signature or the error that it carries.
+/// The variant's name; after a space, the signature or the error that it carries.
 impl fmt::Display for AcpiError {
     ghost use Rattle.std.specs.Prelude.{Some};
     ghost use Rattle.acpi_base.specs.ErrorText.{error_text};
@@ -102,7 +102,7 @@ impl fmt::Display for AcpiError {
 /// Why what a valid MADT lists is refused (section 5.2.12).
 #[derive(Clone, Copy, Debug, PartialEq, Eq)]
 pub enum MadtError {
-    /// An entry of a kind that the model has no place for, or none of the kind asked for.
+    /// An entry of a type that the model has no place for, or none of the type asked for.
     UnexpectedEntry,
     /// An interrupt source override is for another bus than ISA.
     InterruptOverrideEntryHasInvalidBus,
@@ -114,7 +114,7 @@ pub enum MadtError {
     MpsIntiInvalidTriggerMode,
     /// The firmware did not take the wakeup command in time.
     WakeupApsTimeout,
-    /// An entry is shorter than its kind, or reaches past the table.
+    /// An entry is shorter than its type, or reaches past the table.
     InvalidEntryLength,
 }
 

@@ -2,7 +2,7 @@
 ghost use Rattle.std.specs.Prelude.{◌≡◌};
 
 use crate::bytes::has_part;
-use crate::handler::PhysicalRecord;
+use crate::memory::handler::PhysicalRecord;
 
 /// A field that a table or an entry has from a revision on, and only where it is long enough: from
 /// `MIN_REVISION` on, the value that its bytes spell, if all of them lie in the table that it was

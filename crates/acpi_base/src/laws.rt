@@ -10,10 +10,10 @@ ghost use Rattle.acpi_base.specs.Text.{letters_of};
 
 use crate::address::{AccessSize, AddressSpace, GenericAddress};
 use crate::error::{AcpiError, MadtError};
-use crate::madt::MpProtectedModeWakeupCommand;
 use crate::range::AddressRange;
-use crate::signature::Signature;
-use crate::spcr::SpcrInterfaceType;
+use crate::table::signature::Signature;
+use crate::tables::madt::MpProtectedModeWakeupCommand;
+use crate::tables::spcr::SpcrInterfaceType;
 use std::cmp::Ordering;
 
 /// Each constant of `Signature` has the four letters of its table.
@@ -23,7 +23,7 @@ pub fn names_are_spelled()
 
 /// Signatures are ordered as their four bytes are, the first byte first, and the order agrees with
 /// equality.
-#[tactic(auto, using(crate::proofs::Orders::equal_is))]
+#[tactic(auto, using(crate::proofs::SignatureOrder::equal_is))]
 pub fn signature_order(a: &Signature, b: &Signature) -> Ordering
     ensures bytes { result ≡ slice_cmp nat_cmp (letters_of a.now) (letters_of b.now) }
     ensures equality { (result ≡ Equal) ↔ (a.now ≡ b.now) }

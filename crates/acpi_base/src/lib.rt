@@ -1,34 +1,33 @@
 //! The lowest layer of a reader of static ACPI tables: memory that a handler lends, mappings of
 //! records in it, and the headers and checks that every table has.
 //!
+//! The MADT, the MCFG and the SPCR stand here too, and the interrupt model that a MADT leads to:
+//! some of their calls are methods of a table's mapping, since they read entries or a text of the
+//! mapped bytes after the record, and a mapping gets methods in its own crate alone. The records of
+//! the FADT and of the BGRT say all that their calls answer, so they stand in `acpi_fixed`.
+//!
 //! Section numbers are those of the ACPI Specification, version 6.4.
 #![tactic(auto)]
 
 pub mod address;
 pub mod bytes;
-mod claim;
 mod entries;
 pub mod error;
 pub mod extended;
-pub mod guarded;
-pub mod handler;
 pub mod laws;
-pub mod madt;
 pub mod managed_slice;
-pub mod mapping;
-pub mod mcfg;
+pub mod memory;
 pub mod model;
 pub mod range;
-pub mod sdt;
-pub mod signature;
-pub mod spcr;
-mod sum;
 pub mod table;
+pub mod tables;
 
 pub use error::{AcpiError, AcpiResult, MadtError};
-pub use guarded::Guarded;
-pub use handler::{AcpiHandler, Lender, PhysicalRecord};
-pub use mapping::PhysicalMapping;
+pub use memory::guarded::Guarded;
+pub use memory::handler::{AcpiHandler, Lender, PhysicalRecord};
+pub use memory::mapping::PhysicalMapping;
+pub use memory::{guarded, handler, mapping};
 pub use range::AddressRange;
-pub use signature::Signature;
-pub use table::AcpiTable;
+pub use table::signature::Signature;
+pub use table::{AcpiTable, header as sdt, signature};
+pub use tables::{madt, mcfg, spcr};

@@ -3,15 +3,15 @@
 //! The first entry that is refused decides. Without one, what the entries say is gathered, each sort
 //! into a list of its own.
 
+mod builder;
 mod counts;
-mod draft;
 mod entry_flags;
 mod gather;
 mod interrupt;
 mod isa;
+mod item;
 pub mod laws;
 mod nmi_lines;
-mod part;
 mod pin;
 mod processor;
 

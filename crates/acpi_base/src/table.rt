@@ -1,33 +1,30 @@
-//! Types of tables, and the table at an address.
-ghost use Rattle.std.specs.Prelude.{◌≡◌, ℕ, true, ◌+◌, ◌^◌, ◌<◌, ◌≤◌, List, length, Result, IfErr, IfOk, Ok, Err};
-ghost use Rattle.acpi_base.specs.Claim.{IsLentOf, claimed_at, claimed_from, shown_by};
+//! Types of tables: what each asks for, and how it is checked.
+ghost use Rattle.std.specs.Prelude.{◌≡◌, ℕ, ◌≤◌, List, length, Ok};
 ghost use Rattle.acpi_base.specs.Header.{check_names, check_table, header_at};
-ghost use Rattle.acpi_base.specs.Mapping.{IsOfMemory, start_of, bytes_of, handler_of};
-ghost use Rattle.acpi_base.specs.Ranges.{Allows, own_table_ranges, table_ranges, whole_ranges};
-ghost use Rattle.acpi_base.specs.Steps.{Gives, lent};
-ghost use Rattle.acpi_base.specs.Table.{Kind, kind, own_table_at, plain_kind, table_at, table_of};
-ghost use Rattle.acpi_base.specs.Table.{whole_of};
-ghost use Rattle.acpi_base.specs.declared.error.AcpiError.{AcpiError};
-ghost use Rattle.acpi_base.specs.declared.signature.Signature.{Signature};
+ghost use Rattle.acpi_base.specs.Table.{Kind};
+ghost use Rattle.acpi_base.specs.declared.table.signature.Signature.{Signature};
+
+pub mod header;
+mod lookup;
+pub mod signature;
+pub(crate) mod sum;
 
 use crate::bytes::byte_sum;
-use crate::claim::Claim;
 use crate::error::{AcpiError, AcpiResult};
-use crate::handler::{Lender, PhysicalRecord};
-use crate::mapping::PhysicalMapping;
-use crate::sdt::SdtHeader;
-use crate::signature::Signature;
+use crate::memory::handler::PhysicalRecord;
+use header::SdtHeader;
+pub use lookup::{ValidTable, map_own_sdt, map_sdt, map_table, valid_at};
+use signature::Signature;
 
-/// A type of table, as a kernel may add its own. `verdict` is what `validate` means: a function of
-/// the table's bytes alone.
+/// A type of table, as a kernel may add its own. `kind` is what a lookup asks for: the signature, the
+/// least length, and what `validate` means, which is a function of the table's bytes alone.
 pub trait AcpiTable: PhysicalRecord {
     /// The signature that names the table.
     const SIGNATURE: Signature;
 
     ghost SIGNATURE: { Signature };
 
-    // What `validate` answers for a table's bytes.
-    ghost verdict: { List ℕ → Result (Unit {0}) AcpiError };
+    ghost kind: { Kind };
 
     /// The header that the table begins with: that of any bytes that this value was read from.
     fn header(&self) -> &SdtHeader
@@ -35,34 +32,37 @@ pub trait AcpiTable: PhysicalRecord {
             → result.now ≡ header_at b };
 
     /// Checks the table that this value was read from, whose bytes these are. Most types answer
-    /// `self.header().validate(Self::SIGNATURE, bytes)`, and have as their verdict `check_table` of
-    /// that signature.
+    /// `self.header().validate(Self::SIGNATURE, bytes)`, and have an `sdt_kind` of that
+    /// signature as their kind.
     fn validate(&self, bytes: &[u8]) -> AcpiResult<()>
         requires least { Self.MIN_LENGTH ≤ length bytes.now }
         requires read { self.now ≡ Self.reading bytes.now }
-        ensures { result ≡ verdict bytes.now };
+        ensures { result ≡ kind.check bytes.now };
 
     /// What `validate` answers for the record that these bytes mean, where their header is known to
-    /// have the names that a table of this type bears, and to give as long a table as they are. A
-    /// lookup asks it of each member that has such a header. A type whose verdict is `check_table`
+    /// have the names that a table of this type has, and to give as long a table as they are. A
+    /// lookup asks it of each member that has such a header. A type whose kind is an `sdt_kind`
     /// need only look at the sum: `sum_refusal` does.
     #[inline(always)]
     fn validate_rest(bytes: &[u8]) -> AcpiResult<()>
         requires least { Self.MIN_LENGTH ≤ length bytes.now }
         requires names { check_names SIGNATURE (header_at bytes.now) ≡ Ok tt }
         requires length { (header_at bytes.now).length ≡ length bytes.now }
-        ensures { result ≡ verdict bytes.now }
+        ensures { result ≡ kind.check bytes.now }
     {
         Self::read(bytes).validate(bytes)
     }
 
     ghost least: { 36 ≤ Self.MIN_LENGTH };
+
+    // The constants are those of the kind.
+    ghost agrees: { (kind.signature ≡ SIGNATURE) × (kind.least ≡ Self.MIN_LENGTH) };
 }
 
 /// What is left to check of a table whose header has the names and gives the length: that its bytes
 /// sum to 0 modulo 256.
 #[inline(always)]
-#[tactic(auto, using(crate::proofs::Plain::bad_rest, crate::proofs::Plain::good_rest))]
+#[tactic(auto, using(crate::proofs::TableByHeader::bad_rest, crate::proofs::TableByHeader::good_rest))]
 pub fn sum_refusal(signature: Signature, bytes: &[u8]) -> AcpiResult<()>
     requires least { 36 ≤ length bytes.now }
     requires names { check_names signature (header_at bytes.now) ≡ Ok tt }
@@ -73,240 +73,4 @@ pub fn sum_refusal(signature: Signature, bytes: &[u8]) -> AcpiResult<()>
         return Err(AcpiError::SdtInvalidChecksum(signature));
     }
     Ok(())
-}
-
-/// The header's bytes at an address, where they begin with this signature. Most members that a
-/// lookup passes over bear another one: so that is compared before anything else is made of them.
-#[inline(always)]
-#[tactic(auto, using(crate::proofs::Plain::no_header, crate::proofs::Plain::another_signature))]
-fn claim_named<'h, H: Lender>(
-    handler: &'h H,
-    address: u64,
-    signature: Signature,
-) -> AcpiResult<Claim<'h, H>>
-    requires { H.may handler.now address 36 ≡ true }
-    ensures start { IfOk result (λ c. claimed_at c ≡ address) }
-    ensures handler { IfOk result (λ c. claimed_from c ≡ handler.now) }
-    ensures size { IfOk result (λ c. length (shown_by c) ≡ 36) }
-    ensures shown { IfOk result (λ c. lent (H.memory handler.now) address 36 ≡ Ok (shown_by c)) }
-    ensures all { IfOk result (λ c. IsLentOf (H.memory handler.now) c) }
-    ensures refused { IfErr result (λ e. (k : Kind) → k.signature ≡ signature
-        → table_at (H.memory handler.now) k address ≡ Err e) }
-{
-    let head = Claim::request(handler, address, SdtHeader::MIN_LENGTH)?;
-    if !Signature::leading(head.shown()).is(signature) {
-        head.end();
-        return Err(AcpiError::SdtInvalidSignature(signature));
-    }
-    Ok(head)
-}
-
-/// What lies where a header is claimed, as long as that header says, where it has these names and
-/// the least length. The sum is still to be checked. Where the bytes lent for the header hold all
-/// of it, they are shown; else the header's claim ends before the request.
-#[inline(always)]
-#[tactic(auto, using(crate::proofs::Allowed::asked_length), unfolding(crate::specs::Table::whole_of))]
-fn claim_whole<'h, H: Lender>(
-    head: Claim<'h, H>,
-    signature: Signature,
-    least: usize,
-) -> AcpiResult<Claim<'h, H>>
-    requires header { length (shown_by head) ≡ 36 }
-    requires lent { IsLentOf (H.memory (claimed_from head)) head }
-    requires some { 0 < least }
-    requires asked { Allows (H.may (claimed_from head))
-        (whole_ranges signature least (claimed_at head) (shown_by head)) }
-    ensures start { IfOk result (λ c. claimed_at c ≡ claimed_at head.entry) }
-    ensures handler { IfOk result (λ c. claimed_from c ≡ claimed_from head.entry) }
-    ensures long { IfOk result (λ c. least ≤ length (shown_by c)) }
-    ensures short { IfOk result (λ c. length (shown_by c) < 2 ^ 32) }
-    ensures ends { IfOk result (λ c. claimed_at c + length (shown_by c) < 2 ^ 64) }
-    ensures all { IfOk result (λ c. IsLentOf (H.memory (claimed_from head.entry)) c) }
-    ensures shown { let m = H.memory (claimed_from head.entry) in Gives (λ c. shown_by c) result
-        (whole_of m signature least (claimed_at head.entry) (shown_by head.entry)) }
-{
-    match SdtHeader::read(head.shown()).table_length(signature, least) {
-        Ok(length) => head.widen(length),
-        Err(error) => {
-            head.end();
-            Err(error)
-        }
-    }
-}
-
-/// What lies where a header is claimed, where it is a table that is valid for `T`. No record is made
-/// of it here: it is small to hand on, and the record is read where it is to lie.
-#[inline(never)]
-#[tactic(auto, using(crate::proofs::Plain::names_there, crate::proofs::Plain::length_there), unfolding(crate::specs::Table::table_of))]
-fn claim_valid<'h, H: Lender, T: AcpiTable>(head: Claim<'h, H>) -> AcpiResult<Claim<'h, H>>
-    requires header { length (shown_by head) ≡ 36 }
-    requires lent { IsLentOf (H.memory (claimed_from head)) head }
-    requires shown { lent (H.memory (claimed_from head)) (claimed_at head) 36 ≡ Ok (shown_by head) }
-    requires asked { Allows (H.may (claimed_from head))
-        (whole_ranges T.SIGNATURE T.MIN_LENGTH (claimed_at head) (shown_by head)) }
-    ensures start { IfOk result (λ c. claimed_at c ≡ claimed_at head.entry) }
-    ensures handler { IfOk result (λ c. claimed_from c ≡ claimed_from head.entry) }
-    ensures least { IfOk result (λ c. T.MIN_LENGTH ≤ length (shown_by c)) }
-    ensures all { IfOk result (λ c. IsLentOf (H.memory (claimed_from head.entry)) c) }
-    ensures shown { let m = H.memory (claimed_from head.entry) in Gives (λ c. shown_by c) result
-        (table_of m (kind T.SIGNATURE T.MIN_LENGTH T.verdict)
-        (claimed_at head.entry) (shown_by head.entry)) }
-{
-    let whole = claim_whole(head, T::SIGNATURE, T::MIN_LENGTH)?;
-    match T::validate_rest(whole.shown()) {
-        Ok(()) => Ok(whole),
-        Err(error) => {
-            whole.end();
-            Err(error)
-        }
-    }
-}
-
-/// The bytes of a table that is valid for some type, as they are lent: small, so that a walk along
-/// many addresses makes nothing as big as a record of those that it passes over.
-pub struct ValidTable<'h, H: Lender> {
-    claim: Claim<'h, H>,
-}
-
-impl<'h, H: Lender> ValidTable<'h, H> {
-    ghost use Rattle.acpi_base.specs.Claim.{all_of};
-    ghost use Rattle.acpi_base.specs.Mapping.{lent_of};
-
-    /// The table's record, and its bytes.
-    #[inline(always)]
-    pub fn mapping<T: PhysicalRecord>(self) -> PhysicalMapping<'h, H, T>
-        requires { T.MIN_LENGTH ≤ length (shown_by self.claim) }
-        ensures start { start_of result ≡ claimed_at self.entry.claim }
-        ensures bytes { bytes_of result ≡ shown_by self.entry.claim }
-        ensures lent { lent_of result ≡ all_of self.entry.claim }
-        ensures handler { handler_of result ≡ claimed_from self.entry.claim }
-    {
-        let ValidTable { claim } = self;
-        PhysicalMapping::of_claim(claim)
-    }
-}
-
-/// The bytes of the table at an address, where it is valid for `T`.
-///
-/// Refuses as `map_table` does.
-#[inline(always)]
-#[tactic(auto, using(crate::proofs::Allowed::asked_header, crate::proofs::Allowed::asked_whole), unfolding(crate::specs::Table::table_at))]
-pub fn valid_at<'h, H: Lender, T: AcpiTable>(
-    handler: &'h H,
-    address: u64,
-) -> AcpiResult<ValidTable<'h, H>>
-    requires { Allows (H.may handler.now) (table_ranges (H.memory handler.now)
-        (kind T.SIGNATURE T.MIN_LENGTH T.verdict) address) }
-    ensures place { IfOk result (λ v. claimed_at v.claim ≡ address) }
-    ensures handler { IfOk result (λ v. claimed_from v.claim ≡ handler.now) }
-    ensures least { IfOk result (λ v. T.MIN_LENGTH ≤ length (shown_by v.claim)) }
-    // However many bytes were lent, all of them are the memory's.
-    ensures lent { IfOk result (λ v. IsLentOf (H.memory handler.now) v.claim) }
-    ensures table { Gives (λ v. shown_by v.claim) result
-        (table_at (H.memory handler.now) (kind T.SIGNATURE T.MIN_LENGTH T.verdict) address) }
-{
-    let head = claim_named(handler, address, T::SIGNATURE)?;
-    let claim = claim_valid::<H, T>(head)?;
-    Ok(ValidTable { claim })
-}
-
-/// The table at an address, where it is valid for `T` (sections 5.2.5 and 5.2.6).
-///
-/// Refuses, in this order, with `MapFailed` where 36 bytes aren't lent, `SdtInvalidSignature`,
-/// `SdtInvalidOemId`, `SdtInvalidTableId`, `SdtInvalidLength` where the length in the header is
-/// under `T::MIN_LENGTH`, `MapFailed` where `length` bytes aren't lent, and with what
-/// `T::validate` refuses these bytes with.
-#[inline(always)]
-pub fn map_table<'h, H: Lender, T: AcpiTable>(
-    handler: &'h H,
-    address: u64,
-) -> AcpiResult<PhysicalMapping<'h, H, T>>
-    requires { Allows (H.may handler.now) (table_ranges (H.memory handler.now)
-        (kind T.SIGNATURE T.MIN_LENGTH T.verdict) address) }
-    ensures place { IfOk result (λ m. start_of m ≡ address) }
-    ensures handler { IfOk result (λ m. handler_of m ≡ handler.now) }
-    // However many bytes were lent, all of them are the memory's.
-    ensures lent { IfOk result (λ m. IsOfMemory (H.memory handler.now) m) }
-    ensures table { Gives (λ m. bytes_of m) result
-        (table_at (H.memory handler.now) (kind T.SIGNATURE T.MIN_LENGTH T.verdict) address) }
-{
-    let valid = valid_at::<H, T>(handler, address)?;
-    Ok(valid.mapping())
-}
-
-/// The table whose header is claimed, where it is valid under this signature as one of which only
-/// the header and the sum matter.
-#[inline(never)]
-#[tactic(auto, using(crate::proofs::Plain::bad_sum, crate::proofs::Plain::good_sum), unfolding(crate::specs::Table::table_of))]
-fn map_plain<'h, H: Lender>(
-    head: Claim<'h, H>,
-    signature: Signature,
-) -> AcpiResult<PhysicalMapping<'h, H, SdtHeader>>
-    requires header { length (shown_by head) ≡ 36 }
-    requires lent { IsLentOf (H.memory (claimed_from head)) head }
-    requires shown { lent (H.memory (claimed_from head)) (claimed_at head) 36 ≡ Ok (shown_by head) }
-    requires asked { Allows (H.may (claimed_from head))
-        (whole_ranges signature 36 (claimed_at head) (shown_by head)) }
-    ensures place { IfOk result (λ m. start_of m ≡ claimed_at head.entry) }
-    ensures handler { IfOk result (λ m. handler_of m ≡ claimed_from head.entry) }
-    ensures lent { IfOk result (λ m. IsOfMemory (H.memory (claimed_from head.entry)) m) }
-    ensures short { IfOk result (λ m. length (bytes_of m) < 2 ^ 32) }
-    ensures ends { IfOk result (λ m. start_of m + length (bytes_of m) < 2 ^ 64) }
-    ensures table { let m = H.memory (claimed_from head.entry) in Gives (λ x. bytes_of x) result
-        (table_of m (plain_kind signature) (claimed_at head.entry) (shown_by head.entry)) }
-{
-    let whole = claim_whole(head, signature, SdtHeader::MIN_LENGTH)?;
-    // The names and the length are those of the header, which is the table's own.
-    if byte_sum(whole.shown()) != 0 {
-        whole.end();
-        return Err(AcpiError::SdtInvalidChecksum(signature));
-    }
-    Ok(PhysicalMapping::of_claim(whole))
-}
-
-/// The table at an address under a signature that is known only at run time, mapped as its header:
-/// of least length 36, and with nothing but `SdtHeader::validate` to pass.
-///
-/// Refuses as `map_table` does for such a type.
-#[inline(always)]
-#[tactic(auto, using(crate::proofs::Allowed::asked_header, crate::proofs::Allowed::asked_whole), unfolding(crate::specs::Table::table_at))]
-pub fn map_sdt<'h, H: Lender>(
-    handler: &'h H,
-    address: u64,
-    signature: Signature,
-) -> AcpiResult<PhysicalMapping<'h, H, SdtHeader>>
-    requires { Allows (H.may handler.now) (table_ranges (H.memory handler.now)
-        (plain_kind signature) address) }
-    ensures place { IfOk result (λ m. start_of m ≡ address) }
-    ensures handler { IfOk result (λ m. handler_of m ≡ handler.now) }
-    // However many bytes were lent, all of them are the memory's.
-    ensures lent { IfOk result (λ m. IsOfMemory (H.memory handler.now) m) }
-    ensures short { IfOk result (λ m. length (bytes_of m) < 2 ^ 32) }
-    ensures ends { IfOk result (λ m. start_of m + length (bytes_of m) < 2 ^ 64) }
-    ensures table { Gives (λ m. bytes_of m) result
-        (table_at (H.memory handler.now) (plain_kind signature) address) }
-{
-    let head = claim_named(handler, address, signature)?;
-    map_plain(head, signature)
-}
-
-/// The table at an address under the signature that it bears itself, whatever that is, mapped as
-/// its header.
-///
-/// Refuses as `map_sdt` does for that signature.
-#[tactic(auto, using(crate::proofs::Plain::own_table, crate::proofs::Allowed::asked_own_header, crate::proofs::Allowed::asked_own), unfolding(crate::specs::Table::own_table_at))]
-pub fn map_own_sdt<'h, H: Lender>(
-    handler: &'h H,
-    address: u64,
-) -> AcpiResult<PhysicalMapping<'h, H, SdtHeader>>
-    requires { Allows (H.may handler.now) (own_table_ranges (H.memory handler.now) address) }
-    ensures place { IfOk result (λ m. start_of m ≡ address) }
-    ensures handler { IfOk result (λ m. handler_of m ≡ handler.now) }
-    // However many bytes were lent, all of them are the memory's.
-    ensures lent { IfOk result (λ m. IsOfMemory (H.memory handler.now) m) }
-    ensures table { Gives (λ m. bytes_of m) result (own_table_at (H.memory handler.now) address) }
-{
-    let head = Claim::request(handler, address, SdtHeader::MIN_LENGTH)?;
-    let signature = Signature::leading(head.shown());
-    map_plain(head, signature)
 }

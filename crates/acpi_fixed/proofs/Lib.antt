@@ -1,2 +1,2 @@
-pub mod Brief
-pub mod Later
+pub mod FadtBrief
+pub mod ExtendedFields

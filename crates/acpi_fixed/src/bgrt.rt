@@ -45,15 +45,15 @@ impl PhysicalRecord for Bgrt {
 }
 
 impl AcpiTable for Bgrt {
-    ghost use Rattle.std.proofs.Common.{lit≤};
-    ghost use Rattle.acpi_base.specs.Header.{check_table};
-    ghost use Rattle.acpi_base.specs.declared.signature.TheConstants.Signature.{BGRT};
+    ghost use Rattle.std.proofs.Common.{lit≤, refl};
+    ghost use Rattle.acpi_base.specs.Table.{sdt_kind};
+    ghost use Rattle.acpi_base.specs.declared.table.signature.TheConstants.Signature.{BGRT};
 
     const SIGNATURE: Signature = Signature::BGRT;
 
     ghost SIGNATURE = { BGRT };
 
-    ghost verdict = { check_table BGRT };
+    ghost kind = { sdt_kind BGRT 56 };
 
     #[tactic(auto, unfolding(crate::specs::Bgrt::bgrt_at))]
     fn header(&self) -> &SdtHeader {
@@ -69,6 +69,8 @@ impl AcpiTable for Bgrt {
     }
 
     ghost least = { lit≤ tt };
+
+    ghost agrees = { (refl, refl) };
 }
 
 impl Bgrt {

@@ -168,15 +168,15 @@ impl PhysicalRecord for Fadt {
 }
 
 impl AcpiTable for Fadt {
-    ghost use Rattle.std.proofs.Common.{lit≤};
-    ghost use Rattle.acpi_base.specs.Header.{check_table};
-    ghost use Rattle.acpi_base.specs.declared.signature.TheConstants.Signature.{FADT};
+    ghost use Rattle.std.proofs.Common.{lit≤, refl};
+    ghost use Rattle.acpi_base.specs.Table.{sdt_kind};
+    ghost use Rattle.acpi_base.specs.declared.table.signature.TheConstants.Signature.{FADT};
 
     const SIGNATURE: Signature = Signature::FADT;
 
     ghost SIGNATURE = { FADT };
 
-    ghost verdict = { check_table FADT };
+    ghost kind = { sdt_kind FADT 116 };
 
     #[tactic(auto, unfolding(crate::specs::Fadt::fadt_at))]
     fn header(&self) -> &SdtHeader {
@@ -192,6 +192,8 @@ impl AcpiTable for Fadt {
     }
 
     ghost least = { lit≤ tt };
+
+    ghost agrees = { (refl, refl) };
 }
 
 impl Fadt {

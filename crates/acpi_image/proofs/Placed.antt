@@ -3,14 +3,14 @@ use Rattle.std.proofs.Common.{◌≡◌, ℕ, suc, ◌-◌, ◌<◌, ◌≤◌, 
 use Rattle.std.specs.List.{AllByRecursion, Contains}
 use Rattle.std.proofs.lemmas.Bool.{le-leb}
 use Rattle.std.proofs.lemmas.List.{take_all}
-use Rattle.acpi_base.proofs.Inside.{lent_is_inside}
-use Rattle.acpi_base.proofs.Own.{header_front}
+use Rattle.acpi_base.proofs.LentRanges.{lent_is_inside}
+use Rattle.acpi_base.proofs.OwnTable.{header_front}
 use Rattle.acpi_base.specs.Bytes.{field_of, sum_of}
 use Rattle.acpi_base.specs.Header.{check_names, check_table, header_at}
 use Rattle.acpi_base.specs.Memory.{Memory, Region, IsMemory, at}
 use Rattle.acpi_base.specs.Steps.{lent}
 use Rattle.acpi_base.specs.Table.{length_in, own_table_at, plain_kind, table_at, table_of, whole_of}
-use Rattle.acpi_base.specs.declared.signature.Signature.{Signature}
+use Rattle.acpi_base.specs.declared.table.signature.Signature.{Signature}
 
 -- ---- members of a memory
 

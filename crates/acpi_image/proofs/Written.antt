@@ -8,7 +8,7 @@ use Rattle.std.proofs.lemmas.Nat.{le_bytes_8}
 use Rattle.std.proofs.lemmas.List.{length-append, length-set, append_assoc, append-nil, take-append-drop, take_all}
 use Rattle.acpi_base.specs.Bytes.{IsBytes, filled_part, spelling}
 use Rattle.acpi_base.specs.Text.{letters_of}
-use Rattle.acpi_base.specs.declared.signature.Signature.{Signature}
+use Rattle.acpi_base.specs.declared.table.signature.Signature.{Signature}
 use Rattle.acpi_base.proofs.Numbers.{number_filled}
 use Rattle.acpi_base.proofs.Spelling.{length-spelling, number-spelling}
 use Rattle.acpi.specs.Root.{signature_of, width_of}

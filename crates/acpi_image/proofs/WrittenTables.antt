@@ -7,7 +7,7 @@ use Rattle.acpi_base.specs.Bytes.{field_of, number, part, sum_of}
 use Rattle.acpi_base.specs.Header.{check_names, header_at}
 use Rattle.acpi_base.specs.Memory.{Memory, IsMemory}
 use Rattle.acpi_base.specs.Table.{own_table_at}
-use Rattle.acpi_base.specs.declared.sdt.SdtHeader.{SdtHeader}
+use Rattle.acpi_base.specs.declared.table.header.SdtHeader.{SdtHeader}
 use Rattle.acpi.specs.Lists.{valid_tables}
 use Rattle.acpi_image.proofs.Placed.{own_table_there}
 use Rattle.acpi_image.proofs.Summed.{part_before, part_behind, part_front, sum_is_set}

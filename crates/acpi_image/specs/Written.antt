@@ -6,7 +6,7 @@ use Rattle.std.specs.Prelude.{replicate, slice_set}
 use Rattle.acpi_base.specs.Bytes.{spelling, sum_of}
 use Rattle.acpi_base.specs.Memory.{Memory, Region}
 use Rattle.acpi_base.specs.Text.{letters_of}
-use Rattle.acpi_base.specs.declared.signature.Signature.{Signature}
+use Rattle.acpi_base.specs.declared.table.signature.Signature.{Signature}
 use Rattle.acpi.specs.Root.{kind_of_revision, signature_of, width_of}
 use Rattle.acpi.specs.Rsdp.{rsd_ptr}
 use Rattle.acpi.specs.declared.root.RootKind.{RootKind}

@@ -6,7 +6,7 @@ use Rattle.acpi_base.specs.Bytes.{field_of, sum_of}
 use Rattle.acpi_base.specs.Entries.{cut, front}
 use Rattle.acpi_laws.specs.TableExamples.{hpet, unnamed}
 use Rattle.acpi_base.specs.Header.{check_names, check_table, header_at}
-use Rattle.acpi_base.specs.Interrupts.{part_of}
+use Rattle.acpi_base.specs.Interrupts.{item_of}
 use Rattle.acpi_base.specs.Madt.{madt_at}
 use Rattle.acpi_base.specs.Memory.{at, rest_from}
 use Rattle.acpi_base.specs.Table.{length_in, own_table_at, table_at, table_of, whole_of}
@@ -54,7 +54,7 @@ unfolding at rest_from length_in whole_of table_of table_at header_at check_name
 dsdt_instance = ((refl, (refl, (refl, (refl, (refl, tt))))), refl)
 
 pub platform_instance : {A : Type 0} → PlatformInstance A
-unfolding at rest_from length_in whole_of table_of table_at header_at check_names check_table field_of sum_of is_utf8 chars lib.Utf8.encode fadt_at madt_at front cut part_of memory rsdp rsdt fadt hpet madt mcfg ssdt dsdt unnamed damaged
+unfolding at rest_from length_in whole_of table_of table_at header_at check_names check_table field_of sum_of is_utf8 chars lib.Utf8.encode fadt_at madt_at front cut item_of memory rsdp rsdt fadt hpet madt mcfg ssdt dsdt unnamed damaged
 platform_instance = ((refl, (refl, (refl, (refl, (refl, (refl, (refl, (refl, tt)))))))), refl)
 
 pub hpet_instance : HpetInstance
@@ -98,7 +98,7 @@ unfolding at rest_from length_in whole_of table_of table_at header_at check_name
 headers_moved = (refl, refl, refl)
 
 pub platform_moved : {A : Type 0} → PlatformMoved A
-unfolding at rest_from length_in whole_of table_of table_at header_at check_names check_table field_of sum_of is_utf8 chars lib.Utf8.encode own_table_at fadt_at madt_at front cut part_of memory rsdp rsdt fadt hpet madt mcfg ssdt dsdt unnamed damaged moved xsdt
+unfolding at rest_from length_in whole_of table_of table_at header_at check_names check_table field_of sum_of is_utf8 chars lib.Utf8.encode own_table_at fadt_at madt_at front cut item_of memory rsdp rsdt fadt hpet madt mcfg ssdt dsdt unnamed damaged moved xsdt
 platform_moved = (refl, refl, refl)
 
 pub hpet_moved : HpetMoved

@@ -3,10 +3,10 @@ use Rattle.std.specs.Prelude.{◌≡◌, ℕ, true, false, List, [], ◌∷◌, 
 use Rattle.acpi_base.specs.declared.address.AccessSize.TheVariants.{Undefined}
 use Rattle.acpi_base.specs.declared.address.AddressSpace.TheVariants.{SystemIo}
 use Rattle.acpi_base.specs.declared.error.AcpiError.TheVariants.{SdtInvalidOemId}
-use Rattle.acpi_base.specs.declared.mcfg.McfgEntry.{McfgEntry}
+use Rattle.acpi_base.specs.declared.tables.mcfg.McfgEntry.{McfgEntry}
 use Rattle.acpi_base.specs.declared.model.interrupt.InterruptModel.TheVariants.{Apic}
 use Rattle.acpi_base.specs.declared.model.processor.ProcessorState.TheVariants.{Running}
-use Rattle.acpi_base.specs.declared.signature.TheConstants.Signature.{HPET}
+use Rattle.acpi_base.specs.declared.table.signature.TheConstants.Signature.{HPET}
 use Rattle.acpi_laws.specs.TableExamples.{Instance, hpet}
 use Rattle.acpi_base.specs.Header.{header_at}
 use Rattle.acpi_base.specs.Memory.{Memory}

@@ -4,8 +4,8 @@ use Rattle.std.specs.List.{AllByRecursion}
 use Rattle.acpi_base.specs.declared.error.AcpiError.{AcpiError}
 use Rattle.acpi_base.specs.declared.error.AcpiError.TheVariants.{SdtInvalidOemId}
 use Rattle.acpi_base.specs.declared.error.AcpiError.TheVariants.{SdtInvalidSignature}
-use Rattle.acpi_base.specs.declared.signature.Signature.{Signature}
-use Rattle.acpi_base.specs.declared.signature.TheConstants.Signature.{FADT, HPET}
+use Rattle.acpi_base.specs.declared.table.signature.Signature.{Signature}
+use Rattle.acpi_base.specs.declared.table.signature.TheConstants.Signature.{FADT, HPET}
 use Rattle.acpi_base.specs.Memory.{IsMemory, Memory, Region, at}
 use Rattle.acpi_base.specs.Ranges.{AgreesOn, Ranges, own_table_ranges, table_ranges}
 use Rattle.acpi_base.specs.Table.{own_table_at, plain_kind, table_at}

@@ -1,7 +1,7 @@
 -- The lines of the regions that an iterator shows.
 use Rattle.std.proofs.Common.{◌≡◌, ℕ, Bool, false, List, [], ◌∷◌, ◌++◌, ap, refl}
 use Rattle.std.specs.Prelude.{flat_map, map}
-use Rattle.acpi_base.specs.declared.mcfg.McfgEntry.{McfgEntry}
+use Rattle.acpi_base.specs.declared.tables.mcfg.McfgEntry.{McfgEntry}
 use Rattle.acpi_report.specs.Lines.{region_line, region_lines}
 
 abbrev pub shown_line : McfgEntry × Bool → List ℕ

@@ -10,11 +10,11 @@ use Rattle.acpi_base.specs.Table.{Kind, kind}
 use Rattle.acpi_base.specs.Text.{signature_text}
 use Rattle.acpi_base.specs.declared.error.AcpiError.{AcpiError}
 use Rattle.acpi_base.specs.declared.error.AcpiError.TheVariants.{AllocError}
-use Rattle.acpi_base.specs.declared.mcfg.McfgEntry.{McfgEntry}
-use Rattle.acpi_base.specs.declared.sdt.SdtHeader.{SdtHeader}
-use Rattle.acpi_base.specs.declared.signature.Signature.{Signature}
-use Rattle.acpi_base.specs.declared.signature.TheConstants.Signature.{BGRT, SPCR}
-use Rattle.acpi_base.specs.declared.spcr.Spcr.{Spcr}
+use Rattle.acpi_base.specs.declared.tables.mcfg.McfgEntry.{McfgEntry}
+use Rattle.acpi_base.specs.declared.table.header.SdtHeader.{SdtHeader}
+use Rattle.acpi_base.specs.declared.table.signature.Signature.{Signature}
+use Rattle.acpi_base.specs.declared.table.signature.TheConstants.Signature.{BGRT, SPCR}
+use Rattle.acpi_base.specs.declared.tables.spcr.Spcr.{Spcr}
 use Rattle.acpi_fixed.specs.Bgrt.{bgrt_at, offset_of, status_of}
 use Rattle.acpi_fixed.specs.declared.bgrt.Bgrt.{Bgrt}
 use Rattle.acpi.specs.Hpet.{hpet_of}

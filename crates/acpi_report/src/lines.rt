@@ -81,7 +81,7 @@ fn print_skipped<H: AcpiHandler, T: AcpiTable, E: Write>(
 ) -> io::Result<()>
     ensures { OnOk result (Appends (E.contents err.old) (E.contents err.new)
         (skipped_lines (memory_of tables.now)
-        (kind T.SIGNATURE T.MIN_LENGTH T.verdict) (pointers_of tables.now))) }
+        T.kind (pointers_of tables.now))) }
 {
     for fault in tables.faults::<T>() {
         print_fault(T::SIGNATURE, fault, err)?;

@@ -3,9 +3,9 @@
 use crate::interrupts;
 use crate::named::field_of;
 use acpi::PhysicalMapping;
+use acpi::handler::MappedRegion;
 use acpi::platform::interrupt::InterruptModel;
 use acpi_base::madt::{Madt, MadtEntry, MadtEntryIter};
-use acpi_testkit::example::Window;
 use acpi_testkit::rows::shown;
 use std::alloc::{AllocError, Global};
 
@@ -59,12 +59,14 @@ fn of_mapping(alloc: Global, bytes: &[u8], question: &str) -> Result<String, All
     if bytes.len() < 44 {
         return Ok(String::new(alloc));
     }
-    let window = Window::new(0, bytes);
-    let madt: PhysicalMapping<Window<'_>, Madt> = PhysicalMapping::new(
+    let Ok(region) = MappedRegion::new(0, bytes) else {
+        return Ok(String::new(alloc));
+    };
+    let madt: PhysicalMapping<MappedRegion<'_>, Madt> = PhysicalMapping::new(
         0,
         bytes,
         bytes.len(),
-        &window,
+        &region,
     );
     match question {
         "mapped" => shown(
@@ -83,7 +85,7 @@ fn of_mapping(alloc: Global, bytes: &[u8], question: &str) -> Result<String, All
 /// What the interrupt model answers.
 fn of_model(
     alloc: Global,
-    madt: &PhysicalMapping<'_, Window<'_>, Madt>,
+    madt: &PhysicalMapping<'_, MappedRegion<'_>, Madt>,
     question: &str,
 ) -> Result<String, AllocError> {
     match madt.parse_interrupt_model_in(alloc) {

@@ -3,9 +3,9 @@ ghost use Rattle.std.specs.Prelude.{◌≤◌, length};
 
 mod sets;
 
+use acpi::handler::MappedRegion;
 use acpi::spcr::Spcr;
 use acpi::{AcpiTable, PhysicalMapping, PhysicalRecord};
-use acpi_testkit::example::Window;
 use acpi_testkit::rows::shown;
 use std::alloc::{AllocError, Global};
 
@@ -44,12 +44,14 @@ fn pci_of(
 fn shown_name(alloc: Global, bytes: &[u8]) -> Result<String, AllocError>
     requires { 80 ≤ length bytes.now }
 {
-    let window = Window::new(0, bytes);
-    let console: PhysicalMapping<Window<'_>, Spcr> = PhysicalMapping::new(
+    let Ok(region) = MappedRegion::new(0, bytes) else {
+        return Ok(String::new(alloc));
+    };
+    let console: PhysicalMapping<MappedRegion<'_>, Spcr> = PhysicalMapping::new(
         0,
         bytes,
         bytes.len(),
-        &window,
+        &region,
     );
     shown(alloc, &console.namespace_string())
 }

@@ -2,11 +2,11 @@
 
 use crate::texts::{listed, said};
 use acpi::fadt::Fadt;
+use acpi::handler::MappedRegion;
 use acpi::madt::Madt;
 use acpi::mcfg::McfgEntryIter;
 use acpi::platform::PmTimer;
 use acpi::{PhysicalMapping, PhysicalRecord};
-use acpi_testkit::example::Window;
 use acpi_testkit::rows::shown;
 use linked_list_allocator::LocalHeap;
 use std::alloc::{AllocError, Allocator, Global};
@@ -53,8 +53,10 @@ fn model<A: Allocator + Clone>(
     if table.len() < Madt::MIN_LENGTH {
         return Ok(String::new(alloc));
     }
-    let window = Window::new(0, table);
-    let madt = PhysicalMapping::<_, Madt>::new(0, table, table.len(), &window);
+    let Ok(region) = MappedRegion::new(0, table) else {
+        return Ok(String::new(alloc));
+    };
+    let madt = PhysicalMapping::<_, Madt>::new(0, table, table.len(), &region);
     said(alloc, madt.parse_interrupt_model_in(allocator))
 }
 

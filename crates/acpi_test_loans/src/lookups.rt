@@ -12,7 +12,7 @@ use acpi::madt::Madt;
 use acpi::mcfg::Mcfg;
 use acpi::spcr::Spcr;
 use acpi::{AcpiHandler, AcpiTable, AcpiTables};
-use acpi_testkit::example::Wsmt;
+use acpi_examples::table_type::Wsmt;
 use acpi_testkit::watched::Watched;
 use std::alloc::Global;
 

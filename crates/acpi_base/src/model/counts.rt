@@ -1,13 +1,13 @@
 //! How much there is to gather, or why there is nothing.
 ghost use Rattle.std.specs.Prelude.{◌≡◌};
-ghost use Rattle.acpi_base.specs.Parts.{counted};
+ghost use Rattle.acpi_base.specs.Items.{counted};
 
-use super::part::Part;
+use super::item::MadtItem;
 use crate::bytes::skip;
 use crate::entries::split_front;
 use crate::error::MadtError;
-use crate::handler::PhysicalRecord;
-use crate::madt::{LEAST_LENGTHS, Madt};
+use crate::memory::handler::PhysicalRecord;
+use crate::tables::madt::{LEAST_LENGTHS, Madt};
 
 /// How many there are of each, and whether any entry is of a model of APICs.
 #[derive(Clone, Copy)]
@@ -37,17 +37,17 @@ impl Counts {
         let mut rest = skip(table, Madt::MIN_LENGTH);
         while let Some((entry, others)) = split_front(&LEAST_LENGTHS, rest) {
             rest = others;
-            let Some(said) = Part::said(entry) else {
+            let Some(said) = MadtItem::said(entry) else {
                 continue;
             };
             match said? {
-                Part::Processor { .. } => counts.processors += 1,
-                Part::IoApic(_) => counts.io_apics += 1,
-                Part::Override(_) => counts.overrides += 1,
-                Part::NmiSource(_) => counts.nmi_sources += 1,
-                Part::NmiLine(_) => counts.nmi_lines += 1,
-                Part::LocalApicAddress(_) => {}
-                Part::Wakeup => continue,
+                MadtItem::Processor { .. } => counts.processors += 1,
+                MadtItem::IoApic(_) => counts.io_apics += 1,
+                MadtItem::Override(_) => counts.overrides += 1,
+                MadtItem::NmiSource(_) => counts.nmi_sources += 1,
+                MadtItem::NmiLine(_) => counts.nmi_lines += 1,
+                MadtItem::LocalApicAddress(_) => {}
+                MadtItem::Wakeup => continue,
             }
             counts.is_of_apic = true;
         }

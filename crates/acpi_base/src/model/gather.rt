@@ -1,45 +1,45 @@
 //! The walks along the entries: the first one counts, or finds a fault, and the second one gathers.
 ghost use Rattle.std.specs.Prelude.{◌≡◌, IfOk, IfErr};
-ghost use Rattle.acpi_base.specs.Model.{AsksMemory, gathered, model_with, parts_of};
+ghost use Rattle.acpi_base.specs.Model.{AsksMemory, gathered, model_with, items_of};
 ghost use Rattle.acpi_base.specs.Steps.{GivesOrFull};
-ghost use Rattle.acpi_base.specs.Parts.{counts_of};
+ghost use Rattle.acpi_base.specs.Items.{counts_of};
 ghost use Rattle.acpi_base.specs.declared.error.AcpiError.TheVariants.{AllocError as NoMemory};
 
 use super::ModelAndProcessors;
+use super::builder::ModelBuilder;
 use super::counts::Counts;
-use super::draft::Draft;
 use super::interrupt::InterruptModel;
-use super::part::Part;
+use super::item::MadtItem;
 use crate::bytes::skip;
 use crate::entries::split_front;
 use crate::error::{AcpiError, AcpiResult};
-use crate::handler::PhysicalRecord;
-use crate::madt::{LEAST_LENGTHS, Madt};
+use crate::memory::handler::PhysicalRecord;
+use crate::tables::madt::{LEAST_LENGTHS, Madt};
 use std::alloc::Allocator;
 
 /// The model of APICs, with room for just what is counted.
 ///
 /// Refuses with `AllocError` where a growth is refused, or a clone of the allocator.
-#[tactic(auto, using(crate::proofs::Said::said_parts))]
+#[tactic(auto, using(crate::proofs::MadtItems::said_items))]
 fn gather<A: Allocator + Clone>(
     madt: &Madt,
     table: &[u8],
     counts: Counts,
     allocator: A,
 ) -> AcpiResult<ModelAndProcessors<A>>
-    requires { counts ≡ counts_of (parts_of table.now) }
-    ensures gathered { IfOk result (λ m. m ≡ gathered madt.now (parts_of table.now)) }
+    requires { counts ≡ counts_of (items_of table.now) }
+    ensures gathered { IfOk result (λ m. m ≡ gathered madt.now (items_of table.now)) }
     ensures refused { IfErr result (λ e. e ≡ NoMemory) }
 {
-    let mut draft = Draft::with_room(madt, counts, allocator)?;
+    let mut builder = ModelBuilder::with_room(madt, counts, allocator)?;
     let mut rest = skip(table, Madt::MIN_LENGTH);
     while let Some((entry, others)) = split_front(&LEAST_LENGTHS, rest) {
         rest = others;
-        if let Some(Ok(part)) = Part::said(entry) {
-            draft.add(part);
+        if let Some(Ok(item)) = MadtItem::said(entry) {
+            builder.add(item);
         }
     }
-    Ok(draft.finish())
+    Ok(builder.finish())
 }
 
 /// The interrupt model and the processors of a MADT, out of its bytes.

@@ -11,7 +11,7 @@ use acpi_base::table::sum_refusal;
 use acpi_base::{AcpiError, AcpiResult, AcpiTable, PhysicalRecord, Signature};
 
 /// The fields of a FADT (section 5.2.9) by which the DSDT, the profile and the timer are found: a
-/// short record, since what a lookup finds is handed on by copying. It is valid exactly where the
+/// short record, since what a lookup finds is passed on by copying. It is valid exactly where the
 /// whole `Fadt` is.
 #[derive(Clone, Copy)]
 pub struct FadtBrief {
@@ -46,15 +46,15 @@ impl PhysicalRecord for FadtBrief {
 }
 
 impl AcpiTable for FadtBrief {
-    ghost use Rattle.std.proofs.Common.{lit≤};
-    ghost use Rattle.acpi_base.specs.Header.{check_table};
-    ghost use Rattle.acpi_base.specs.declared.signature.TheConstants.Signature.{FADT};
+    ghost use Rattle.std.proofs.Common.{lit≤, refl};
+    ghost use Rattle.acpi_base.specs.Table.{sdt_kind};
+    ghost use Rattle.acpi_base.specs.declared.table.signature.TheConstants.Signature.{FADT};
 
     const SIGNATURE: Signature = Signature::FADT;
 
     ghost SIGNATURE = { FADT };
 
-    ghost verdict = { check_table FADT };
+    ghost kind = { sdt_kind FADT 116 };
 
     #[tactic(auto, unfolding(crate::specs::Brief::brief_at))]
     fn header(&self) -> &SdtHeader {
@@ -70,6 +70,8 @@ impl AcpiTable for FadtBrief {
     }
 
     ghost least = { lit≤ tt };
+
+    ghost agrees = { (refl, refl) };
 }
 
 impl FadtBrief {

@@ -19,7 +19,7 @@ fn is_extended(table: &[u8], offset: usize, n: usize) -> bool
 /// The number of eight bytes at an offset, which tables of revision 2 and above have, where they
 /// have all of these bytes.
 #[inline(always)]
-#[tactic(auto, using(crate::proofs::Later::number_there, crate::proofs::Later::no_number))]
+#[tactic(auto, using(crate::proofs::ExtendedFields::number_there, crate::proofs::ExtendedFields::no_number))]
 pub(super) fn extended_number_in(table: &[u8], offset: usize) -> Option<u64>
     requires { offset + 8 ≤ 276 }
     ensures { result ≡ extended_number table.now offset }
@@ -33,7 +33,7 @@ pub(super) fn extended_number_in(table: &[u8], offset: usize) -> Option<u64>
 
 /// The same of the twelve bytes of a generic address.
 #[inline(always)]
-#[tactic(auto, using(crate::proofs::Later::address_there, crate::proofs::Later::no_address))]
+#[tactic(auto, using(crate::proofs::ExtendedFields::address_there, crate::proofs::ExtendedFields::no_address))]
 pub(super) fn extended_address_in(table: &[u8], offset: usize) -> Option<RawAddress>
     requires { offset + 12 ≤ 276 }
     ensures { result ≡ extended_address table.now offset }

@@ -70,7 +70,7 @@ impl RegisterBlock {
 
     /// The same of a table that is known to have the extended field.
     #[inline(always)]
-    #[tactic(auto, using(crate::proofs::Later::address_known))]
+    #[tactic(auto, using(crate::proofs::ExtendedFields::address_known))]
     fn read_there(table: &[u8], address: usize, size: usize, extended: usize) -> RegisterBlock
         requires table { 116 ≤ length table.now }
         requires late { 2 ≤ field_of table.now 8 1 }

@@ -1,4 +1,4 @@
-use Rattle.acpi_fixed.proofs.Brief.{brief_is_brief}
+use Rattle.acpi_fixed.proofs.FadtBrief.{brief_is_brief}
 use Rattle.acpi_fixed.proofs.laws.a_brief_is_of_its_table.Goals as goal
 
 pub returns : goal.returns

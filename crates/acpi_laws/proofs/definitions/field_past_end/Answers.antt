@@ -1,4 +1,4 @@
-use Rattle.acpi_base.proofs.Zeros.{field_past_end}
+use Rattle.acpi_base.proofs.FieldPastEnd.{field_past_end}
 use Rattle.acpi_laws.proofs.definitions.field_past_end.Goals as goal
 
 pub returns : goal.returns

@@ -8,7 +8,7 @@ use Rattle.acpi_report.proofs.lines.print_skipped.Given as goal
 -- what is left are the lines of the faults still to come
 abbrev pub invariant-loop-fault : goal.invariant-loop-fault
 invariant-loop-fault g l =
-    let k = kind g.T.AcpiTable.SIGNATURE g.T.PhysicalRecord.MIN_LENGTH g.T.AcpiTable.verdict in
+    let k = g.T.AcpiTable.kind in
     let memory = g.H.AcpiHandler.memory in
     let lines = flat_map (skipped_line g.T.AcpiTable.SIGNATURE) in
     Still (g.E.Write.contents l.initial.err) (g.E.Write.contents l.err)

@@ -1,6 +1,6 @@
 use Rattle.acpi_base.specs.Ranges.{table_ranges}
 use Rattle.acpi_base.specs.Table.{plain_kind}
-use Rattle.acpi_base.specs.declared.signature.TheConstants.Signature.{SSDT}
+use Rattle.acpi_base.specs.declared.table.signature.TheConstants.Signature.{SSDT}
 use Rattle.acpi.proofs.Asked.{asked_each, asked_kept}
 use Rattle.acpi.specs.Pointers.{pointers_left}
 use Rattle.acpi.proofs.ssdts.SsdtIteratorIterator.next.Goals as goal

@@ -1,16 +1,16 @@
 use Rattle.std.proofs.Common.{◌≡◌, length}
 use Rattle.std.specs.List.{filter_map}
 use Rattle.std.specs.Result.{result_ok}
-use Rattle.acpi_base.specs.Draft.{HasRoom, model_behind}
-use Rattle.acpi_base.specs.Model.{gathered, parts_of}
-use Rattle.acpi_base.specs.Parts.{said_in}
+use Rattle.acpi_base.specs.ModelBuilder.{HasRoom, model_behind}
+use Rattle.acpi_base.specs.Model.{gathered, items_of}
+use Rattle.acpi_base.specs.Items.{said_in}
 use Rattle.acpi_base.proofs.model.gather.gather.Given as goal
 
 -- what is gathered and what is left are the whole, and there is room for what is left
 abbrev pub invariant-loop-entry : goal.invariant-loop-entry
 invariant-loop-entry g l =
     let left = filter_map result_ok (said_in l.rest) in
-    (model_behind l.draft left ≡ gathered l.madt (parts_of l.table)) × HasRoom l.draft left
+    (model_behind l.builder left ≡ gathered l.madt (items_of l.table)) × HasRoom l.builder left
 
 abbrev pub decreases-loop-entry : goal.decreases-loop-entry
 decreases-loop-entry g l = length l.rest

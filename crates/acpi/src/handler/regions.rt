@@ -1,0 +1,101 @@
+//! Several regions of physical memory, as they are mapped.
+ghost use Rattle.std.specs.Prelude.{◌≡◌, [], IfOk, IfNone, IfSome};
+ghost use Rattle.acpi_base.specs.Memory.{IsMemory, IsMemory-prop, rest_from};
+ghost use Rattle.acpi.specs.Regions.{IsAscending, IsAscending-prop, check_regions, region_memory, regions_of};
+
+use super::region::{MappedRegion, RegionError};
+use acpi_base::{AcpiError, AcpiHandler, AcpiResult};
+
+/// Several regions of physical memory, as a kernel or a boot loader has them mapped: a handler that
+/// lends their bytes. Two regions that adjoin are still two: a range across their border is not lent.
+///
+/// The caller keeps for each region what `MappedRegion` says.
+#[derive(Clone, Copy, Drop)]
+pub struct MappedRegions<'k> {
+    regions: &'k [MappedRegion<'k>],
+    ghost ascending: { IsAscending (regions_of regions.now) } by { IsAscending-prop _ },
+    ghost disjoint: { IsMemory (regions_of regions.now) } by { IsMemory-prop _ },
+}
+
+impl<'k> MappedRegions<'k> {
+    ghost use Rattle.acpi_base.specs.Steps.{Gives};
+    ghost use Rattle.acpi.specs.Mapped.{regions_memory};
+    ghost use Rattle.acpi.specs.Regions.{several_memory};
+
+    /// These regions, which stand in the order of their addresses, each of them after the end of the
+    /// one before it. There is no heap to sort them in: a kernel sorts its list once.
+    ///
+    /// Refuses, regions in order, and for each in this order, with `NotAscending` where it starts
+    /// below the start of the one before it, and `Overlap` where it starts below that one's end.
+    /// Regions that only touch are taken.
+    #[tactic(auto, using(crate::proofs::Ascending::is_memory))]
+    pub fn new(regions: &'k [MappedRegion<'k>]) -> Result<Self, RegionError>
+        ensures exact { Gives (λ r. regions_memory r) result (several_memory (regions_of regions.now)) }
+    {
+        check(regions)?;
+        Ok(MappedRegions { regions })
+    }
+}
+
+/// Checks that each region starts at the end of the one before it or above that.
+fn check(regions: &[MappedRegion<'_>]) -> Result<(), RegionError>
+    ensures exact { result ≡ check_regions (regions_of regions.now) }
+    ensures ascending { IfOk result (λ _. IsAscending (regions_of regions.now)) }
+{
+    let mut start = 0;
+    let mut end = 0;
+    for region in regions {
+        if region.start < start {
+            return Err(RegionError::NotAscending);
+        }
+        if region.start < end {
+            return Err(RegionError::Overlap);
+        }
+        start = region.start;
+        end = region.start + region.bytes.len() as u64;
+    }
+    Ok(())
+}
+
+/// The one region that an address can lie in: the last one that starts at it or below it, or else
+/// the first one. It halves the list, and so takes as many steps as the logarithm of its length.
+fn region_for<'k>(regions: &'k [MappedRegion<'k>], address: u64) -> Option<&'k MappedRegion<'k>>
+    requires { IsAscending (regions_of regions.now) }
+    ensures found { IfSome result (λ r. rest_from (regions_of regions.now) address
+        ≡ rest_from (region_memory r.now) address) }
+    ensures none { IfNone result (regions_of regions.now ≡ []) }
+{
+    if regions.len() < 2 {
+        return regions.first();
+    }
+    let (low, high) = regions.split_at(regions.len() / 2);
+    if address < high[0].start {
+        region_for(low, address)
+    } else {
+        region_for(high, address)
+    }
+}
+
+/// Lends the regions' bytes.
+impl AcpiHandler for MappedRegions<'_> {
+    ghost use Rattle.acpi.specs.Mapped.{regions_memory};
+
+    ghost memory = { λ r. regions_memory r };
+
+    /// All bytes from an address to the end of the region that it lies in, where these are `size` or
+    /// more.
+    ///
+    /// Refuses with `MapFailed` otherwise.
+    #[tactic(auto, using(crate::proofs::Ascending::at_same, crate::proofs::Ascending::at_none))]
+    fn map_physical_region(&self, address: u64, size: usize) -> AcpiResult<&[u8]> {
+        match region_for(self.regions, address) {
+            Some(region) => region.map_physical_region(address, size),
+            None => Err(AcpiError::MapFailed),
+        }
+    }
+
+    /// Does nothing: what is mapped stays mapped.
+    fn unmap_physical_region(&self, _address: u64, _region_length: usize, _mapped_length: usize) {}
+
+    ghost regions = { λ r. r.disjoint };
+}

@@ -1,0 +1,70 @@
+-- Each of some ranges may be asked for: so may each part of them.
+use Rattle.std.proofs.Common.{◌≡◌, ℕ, ◌==◌, ◌&&◌, List, [], ◌∷◌, ◌++◌, get_or, Bool, true, Ok, ap, refl, subst, sym}
+use Rattle.std.proofs.lemmas.Bool.{eq-eqb}
+use Rattle.std.proofs.lemmas.List.Folds.{list_any_at}
+use Rattle.std.proofs.lemmas.List.Elements.{All-cons, All-head, All-nil, All-tail}
+use Rattle.acpi_base.specs.Bytes.{part}
+use Rattle.acpi_base.specs.Text.{letters_of}
+use Rattle.acpi_base.specs.declared.table.signature.Signature.{Signature}
+use Rattle.acpi_base.specs.Header.{header_at}
+use Rattle.acpi_base.specs.Memory.{Memory}
+use Rattle.acpi_base.specs.Ranges.{Allows, Ranges, is_listed, own_table_ranges, table_ranges, whole_ranges}
+use Rattle.acpi_base.specs.Steps.{lent}
+use Rattle.acpi_base.specs.Table.{Kind, length_in}
+
+abbrev the_signature : List ℕ → Signature
+the_signature letters = record { 0 = letters }
+
+own_signature : (s : Signature) (head : List ℕ) → letters_of s ≡ part head 0 4 → (header_at head).signature ≡ s
+unfolding header_at
+own_signature s head letters = ap the_signature (sym letters)
+
+same_range : (r : ℕ × ℕ) → (r.0 == r.0 && r.1 == r.1) ≡ true
+same_range r = rw (eq-eqb r.0 r.0 refl, eq-eqb r.1 r.1 refl) refl
+
+-- what is listed may be asked for
+pub allows_listed : (xs : Ranges) → Allows (is_listed xs) xs
+allows_listed xs = λ k d lt.
+    list_any_at (λ r. r.0 == (get_or xs k d).0 && r.1 == (get_or xs k d).1) xs k d lt (same_range (get_or xs k d))
+
+pub allows_equal : (xs ys : Ranges) → xs ≡ ys → Allows (is_listed xs) ys
+allows_equal xs ys same = subst (λ zs. Allows (is_listed xs) zs) same (allows_listed xs)
+
+module _ (may : ℕ → ℕ → Bool) where
+  abbrev may_at : ℕ × ℕ → Type 0
+  may_at r = may r.0 r.1 ≡ true
+
+  pub all_here : (r : ℕ × ℕ) (xs : Ranges) → Allows may (r ∷ xs) → may r.0 r.1 ≡ true
+  all_here r xs h = All-head may_at r xs h
+
+  pub all_rest : (r : ℕ × ℕ) (xs : Ranges) → Allows may (r ∷ xs) → Allows may xs
+  all_rest r xs h = All-tail may_at r xs h
+
+  pub all_front : (xs ys : Ranges) → Allows may (xs ++ ys) → Allows may xs
+  all_front [] ys h = All-nil may_at
+  all_front (x ∷ xs) ys h = All-cons may_at x xs (all_here x (xs ++ ys) h) (all_front xs ys (all_rest x (xs ++ ys) h))
+
+  pub all_back : (xs ys : Ranges) → Allows may (xs ++ ys) → Allows may ys
+  all_back [] ys h = h
+  all_back (x ∷ xs) ys h = all_back xs ys (all_rest x (xs ++ ys) h)
+
+  pub asked_header : (m : Memory) (k : Kind) (p : ℕ) → Allows may (table_ranges m k p) → may p 36 ≡ true
+  asked_header m k p h = all_here (p, 36) _ h
+
+  pub asked_whole : (m : Memory) (k : Kind) (p : ℕ) (head : List ℕ) → Allows may (table_ranges m k p) → lent m p 36 ≡ Ok head
+      → Allows may (whole_ranges k.signature k.least p head)
+  asked_whole m k p head h there = rw there at (all_rest (p, 36) _ h)
+
+  pub asked_own_header : (m : Memory) (p : ℕ) → Allows may (own_table_ranges m p) → may p 36 ≡ true
+  asked_own_header m p h = all_here (p, 36) _ h
+
+  of_equal : (s t : Signature) (p : ℕ) (head : List ℕ) → t ≡ s → Allows may (whole_ranges t 36 p head) → Allows may (whole_ranges s 36 p head)
+  of_equal s t p head same h = rw same at h
+
+  pub asked_own : (m : Memory) (s : Signature) (p : ℕ) (head : List ℕ) → Allows may (own_table_ranges m p) → lent m p 36 ≡ Ok head
+      → letters_of s ≡ part head 0 4 → Allows may (whole_ranges s 36 p head)
+  asked_own m s p head h there letters = of_equal s (header_at head).signature p head (own_signature s head letters) (rw there at (all_rest (p, 36) _ h))
+
+  pub asked_length : (s : Signature) (least p n : ℕ) (head : List ℕ) → Allows may (whole_ranges s least p head)
+      → length_in s least (header_at head) ≡ Ok n → may p n ≡ true
+  asked_length s least p n head h is = all_here (p, n) [] (rw is at h)

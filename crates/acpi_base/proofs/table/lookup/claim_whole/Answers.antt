@@ -1,0 +1,18 @@
+use Rattle.std.proofs.Common.{◌≡◌, ℕ, ◌+◌, ◌^◌, ◌<◌, length, IfOk, Result, Ok, Err, arith}
+use Rattle.acpi_base.proofs.LentBytes.{lent_ends}
+use Rattle.acpi_base.specs.Claim.{claimed_at, shown_by}
+use Rattle.acpi_base.specs.Memory.{Memory, IsMemory}
+use Rattle.acpi_base.specs.Steps.{Gives, lent}
+use Rattle.acpi_base.specs.declared.memory.claim.Claim.{Claim}
+use Rattle.acpi_base.specs.declared.error.AcpiError.{AcpiError}
+use Rattle.acpi_base.proofs.table.lookup.claim_whole.Goals as goal
+
+ends : {H h : _} (r : Result (Claim H h) AcpiError) (m : Memory) (a n : ℕ) → IsMemory m → 0 < n → IfOk r (λ c. claimed_at c ≡ a)
+    → Gives (λ c. shown_by c) r (lent m a n) → IfOk r (λ c. claimed_at c + length (shown_by c) < 2 ^ 64)
+ends (Ok c) m a n h some start shown = rw start (lent_ends m a n _ h some shown)
+ends (Err e) m a n h some start shown = tt
+
+pub returns-in-Ok-clause-ends : goal.returns-in-Ok-clause-ends
+returns-in-Ok-clause-ends g c =
+    let some : 0 < c.in-Ok.length = omega (arith, c.requires.some, c.in-Ok.ensures.long) in
+    ends c.widen.result _ _ _ (g.met.H.Lender.regions _) some c.widen.ensures.start c.widen.ensures.shown

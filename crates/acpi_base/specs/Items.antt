@@ -1,0 +1,50 @@
+-- What a walk along the MADT's entries shows of what they say.
+use Rattle.std.specs.Prelude.{ℕ, ◌+◌, ◌||◌, List, length, false, true, Option, None, Some, Result, Ok, Err}
+use Rattle.std.specs.List.{filter_map, list_any}
+use Rattle.std.specs.Option.{option_map}
+use Rattle.acpi_base.specs.Entries.{cut}
+use Rattle.acpi_base.specs.Interrupts.{item_of}
+use Rattle.acpi_base.specs.Madt.{entry_of, madt_lengths}
+use Rattle.acpi_base.specs.Model.{fault_of, io_apic_in, is_of_apic, nmi_line_in, nmi_source_in, override_in, items_of, processor_in}
+use Rattle.acpi_base.specs.declared.error.MadtError.{MadtError}
+use Rattle.acpi_base.specs.declared.model.counts.Counts.{Counts}
+use Rattle.acpi_base.specs.declared.model.item.MadtItem.{MadtItem}
+
+-- what an entry's bytes say, or why it is refused; nothing where its type isn't defined
+unfoldable pub said_of : List ℕ → Option (Result MadtItem MadtError)
+said_of e = option_map item_of (entry_of e)
+
+-- what the entries in which these bytes are cut say, and the refusals
+abbrev pub said_in : List ℕ → List (Result MadtItem MadtError)
+said_in bytes = filter_map said_of (cut madt_lengths bytes).0
+
+-- how many there are of each, where so many are counted and these are after them
+abbrev pub counted_behind : Counts → List MadtItem → Counts
+counted_behind c items = record {
+  processors = c.processors + length (filter_map (processor_in true) items);
+  io_apics = c.io_apics + length (filter_map io_apic_in items);
+  overrides = c.overrides + length (filter_map override_in items);
+  nmi_sources = c.nmi_sources + length (filter_map nmi_source_in items);
+  nmi_lines = c.nmi_lines + length (filter_map nmi_line_in items);
+  is_of_apic = c.is_of_apic || list_any is_of_apic items;
+}
+
+abbrev pub no_counts : Counts
+no_counts = record {
+  processors = 0;
+  io_apics = 0;
+  overrides = 0;
+  nmi_sources = 0;
+  nmi_lines = 0;
+  is_of_apic = false;
+}
+
+abbrev pub counts_of : List MadtItem → Counts
+counts_of items = counted_behind no_counts items
+
+-- all counts, or the first refusal
+abbrev pub counted : List ℕ → Result Counts MadtError
+counted table = elim (fault_of table) [
+  | Some fault ↦ Err fault
+  | None ↦ Ok (counts_of (items_of table))
+]

@@ -1,0 +1,123 @@
+//! What a handler lent, until it is told that this ends.
+ghost use Rattle.std.specs.Prelude.{◌≤◌, length};
+
+use crate::error::AcpiResult;
+use crate::memory::handler::Lender;
+
+/// What was lent, and how many bytes of it are shown. It is no `Drop`, and only `end` takes it
+/// apart: so the compiler refuses a path that lets one go out of scope or ends one twice, and the
+/// notice names the range that was granted.
+pub(crate) struct Claim<'h, H: Lender> {
+    start: u64,
+    lent: &'h [u8],
+    region_length: usize,
+    handler: &'h H,
+    ghost fits: { region_length ≤ length lent.now },
+}
+
+impl<'h, H: Lender> Claim<'h, H> {
+    ghost use Rattle.std.specs.Prelude.{◌≡◌, ◌<◌, true, take, IfOk, IsOk};
+    ghost use Rattle.acpi_base.specs.Claim.{IsLentOf, all_of, claimed_at, claimed_from, shown_by};
+    ghost use Rattle.acpi_base.specs.Steps.{Gives, lent};
+
+    /// What was lent already, of which the first `region_length` bytes are shown.
+    pub(crate) fn new(start: u64, lent: &'h [u8], region_length: usize, handler: &'h H) -> Self
+        requires { region_length ≤ length lent.now }
+        ensures start { claimed_at result ≡ start }
+        ensures lent { all_of result ≡ lent.now }
+        ensures shown { shown_by result ≡ take region_length lent.now }
+        ensures handler { claimed_from result ≡ handler.now }
+    {
+        Claim {
+            start,
+            lent,
+            region_length,
+            handler,
+        }
+    }
+
+    /// The `size` bytes at an address, shown of what the handler lends there.
+    #[tactic(auto, using(crate::proofs::LentFronts::lent_front, crate::proofs::LentFronts::lent_none))]
+    pub(crate) fn request(handler: &'h H, address: u64, size: usize) -> AcpiResult<Self>
+        requires some { 0 < size }
+        requires asked { H.may handler.now address size ≡ true }
+        ensures start { IfOk result (λ c. claimed_at c ≡ address) }
+        ensures handler { IfOk result (λ c. claimed_from c ≡ handler.now) }
+        ensures size { IfOk result (λ c. length (shown_by c) ≡ size) }
+        ensures shown { Gives (λ c. shown_by c) result (lent (H.memory handler.now) address size) }
+        ensures all { IfOk result (λ c. IsLentOf (H.memory handler.now) c) }
+    {
+        let granted = handler.lend(address, size)?;
+        Ok(Claim::new(address, granted, size, handler))
+    }
+
+    /// The `size` bytes where a claim starts: of the bytes that are lent already, if these are as
+    /// many, or else asked for anew, after the notice for what was lent.
+    #[tactic(auto, using(crate::proofs::LentFronts::lent_front))]
+    pub(crate) fn widen(self, size: usize) -> AcpiResult<Self>
+        requires some { 0 < size }
+        requires lent { IsLentOf (H.memory (claimed_from self)) self }
+        requires asked { H.may (claimed_from self) (claimed_at self) size ≡ true }
+        ensures start { IfOk result (λ c. claimed_at c ≡ claimed_at self.entry) }
+        ensures handler { IfOk result (λ c. claimed_from c ≡ claimed_from self.entry) }
+        ensures size { IfOk result (λ c. length (shown_by c) ≡ size) }
+        ensures shown { let m = H.memory (claimed_from self.entry) in
+            Gives (λ c. shown_by c) result (lent m (claimed_at self.entry) size) }
+        ensures all { IfOk result (λ c. IsLentOf (H.memory (claimed_from self.entry)) c) }
+        // A loan that is long enough is kept as it is.
+        ensures enough { size ≤ length (all_of self.entry) → IsOk result }
+        ensures kept { size ≤ length (all_of self.entry)
+            → IfOk result (λ c. all_of c ≡ all_of self.entry) }
+    {
+        if size <= self.lent.len() {
+            let Claim {
+                start,
+                lent,
+                region_length: _,
+                handler,
+            } = self;
+            return Ok(Claim::new(start, lent, size, handler));
+        }
+        let handler = self.handler;
+        let start = self.start;
+        self.end();
+        Claim::request(handler, start, size)
+    }
+
+    pub(crate) fn start(&self) -> u64
+        ensures { result ≡ claimed_at self.now }
+    {
+        self.start
+    }
+
+    /// All the bytes that were lent.
+    pub(crate) fn lent(&self) -> &[u8]
+        ensures { result.now ≡ all_of self.now }
+    {
+        self.lent
+    }
+
+    /// The bytes that are shown: the first `region_length` of them.
+    pub(crate) fn shown(&self) -> &[u8]
+        ensures { result.now ≡ shown_by self.now }
+    {
+        &self.lent[..self.region_length]
+    }
+
+    pub(crate) fn handler(&self) -> &'h H
+        ensures { result.now ≡ claimed_from self.now }
+    {
+        self.handler
+    }
+
+    /// Tells the handler that this ends.
+    pub(crate) fn end(self) {
+        let Claim {
+            start,
+            lent,
+            region_length,
+            handler,
+        } = self;
+        handler.end_loan(start, region_length, lent.len());
+    }
+}

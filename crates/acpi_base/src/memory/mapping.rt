@@ -1,0 +1,137 @@
+//! Records in lent memory.
+ghost use Rattle.std.specs.Prelude.{◌≡◌, ◌≤◌, length};
+ghost use Rattle.std.specs.Coded.{Coded-set};
+ghost use Rattle.acpi_base.specs.Claim.{shown_by};
+
+mod loan;
+
+use crate::error::AcpiResult;
+use crate::memory::claim::Claim;
+use crate::memory::handler::{Lender, PhysicalRecord};
+use std::ops::Deref;
+
+/// A record in lent memory: its bytes, and the value that they mean. While it lives the bytes stay
+/// lent; dropping it tells the handler by `unmap_physical_region`.
+pub struct PhysicalMapping<'h, H: Lender, T: PhysicalRecord> {
+    claim: Claim<'h, H>,
+    value: T,
+    ghost least: { T.MIN_LENGTH ≤ length (shown_by claim) },
+    ghost read: { value ≡ T.reading (shown_by claim) } by { Coded-set T.code _ _ },
+}
+
+impl<'h, H: Lender, T: PhysicalRecord> PhysicalMapping<'h, H, T> {
+    ghost use Rattle.std.specs.Prelude.{◌+◌, ◌^◌, ◌<◌, true, take, IfOk, Some};
+    ghost use Rattle.acpi_base.specs.Claim.{all_of, claimed_at, claimed_from};
+    ghost use Rattle.acpi_base.specs.Mapping.{start_of, bytes_of, lent_of, mapped_of, handler_of};
+    ghost use Rattle.acpi_base.specs.Memory.{at};
+    ghost use Rattle.acpi_base.specs.Steps.{Gives, lent};
+
+    /// The mapping of the first `region_length` of bytes that lie from `physical_start` on. It
+    /// reads the record from them. The bytes may come from anywhere; when it is dropped, the
+    /// handler gets the notice.
+    pub fn new(physical_start: u64, bytes: &'h [u8], region_length: usize, handler: &'h H) -> Self
+        requires fits { region_length ≤ length bytes.now }
+        requires least { T.MIN_LENGTH ≤ region_length }
+        ensures start { start_of result ≡ physical_start }
+        ensures bytes { bytes_of result ≡ take region_length bytes.now }
+        ensures lent { lent_of result ≡ bytes.now }
+        ensures handler { handler_of result ≡ handler.now }
+    {
+        PhysicalMapping::of_claim(Claim::new(physical_start, bytes, region_length, handler))
+    }
+
+    /// The record that a claim shows.
+    pub(crate) fn of_claim(claim: Claim<'h, H>) -> Self
+        requires { T.MIN_LENGTH ≤ length (shown_by claim) }
+        ensures start { start_of result ≡ claimed_at claim.entry }
+        ensures bytes { bytes_of result ≡ shown_by claim.entry }
+        ensures lent { lent_of result ≡ all_of claim.entry }
+        ensures handler { handler_of result ≡ claimed_from claim.entry }
+    {
+        let value = T::read(claim.shown());
+        PhysicalMapping { claim, value }
+    }
+
+    /// The mapping of the `size` bytes at an address, as the handler lends them.
+    ///
+    /// Refuses with `MapFailed` where they don't lie whole inside one region.
+    pub fn map(handler: &'h H, address: u64, size: usize) -> AcpiResult<Self>
+        requires some { 0 < size }
+        requires asked { H.may handler.now address size ≡ true }
+        requires least { T.MIN_LENGTH ≤ size }
+        ensures start { IfOk result (λ m. start_of m ≡ address) }
+        ensures handler { IfOk result (λ m. handler_of m ≡ handler.now) }
+        ensures length { IfOk result (λ m. length (bytes_of m) ≡ size) }
+        ensures ends { IfOk result (λ m. start_of m + length (bytes_of m) < 2 ^ 64) }
+        ensures bytes { Gives (λ m. bytes_of m) result (lent (H.memory handler.now) address size) }
+        // However many bytes were lent, all of them are the memory's.
+        ensures lent { IfOk result (λ m. at (H.memory handler.now) address (mapped_of m)
+            ≡ Some (lent_of m)) }
+    {
+        let claim = Claim::request(handler, address, size)?;
+        Ok(PhysicalMapping::of_claim(claim))
+    }
+
+    /// The physical address of the first byte.
+    pub fn physical_start(&self) -> u64
+        ensures { result ≡ start_of self.now }
+    {
+        self.claim.start()
+    }
+
+    /// How many bytes are mapped as the record's.
+    pub fn region_length(&self) -> usize
+        ensures { result ≡ length (bytes_of self.now) }
+    {
+        self.claim.shown().len()
+    }
+
+    /// How many bytes were lent: at least `region_length`, and more as the handler chose.
+    pub fn mapped_length(&self) -> usize
+        ensures { result ≡ mapped_of self.now }
+    {
+        self.claim.lent().len()
+    }
+
+    /// The mapped bytes: the first `region_length` of those lent.
+    pub fn bytes(&self) -> &[u8]
+        ensures value { result.now ≡ bytes_of self.now }
+        ensures least { T.MIN_LENGTH ≤ length result.now }
+    {
+        self.claim.shown()
+    }
+
+    /// The handler that gets the notice.
+    pub fn handler(&self) -> &'h H
+        ensures { result.now ≡ handler_of self.now }
+    {
+        self.claim.handler()
+    }
+
+    /// The record that the mapped bytes mean.
+    pub fn get(&self) -> &T
+        ensures { result.now ≡ T.reading (bytes_of self.now) }
+    {
+        &self.value
+    }
+}
+
+/// The record that the mapped bytes mean.
+impl<'h, H: Lender, T: PhysicalRecord> Deref for PhysicalMapping<'h, H, T> {
+    ghost use Rattle.acpi_base.specs.Mapping.{bytes_of};
+
+    type Target = T;
+
+    ghost deref_gives = { λ m r. r ≡ T.reading (bytes_of m) };
+
+    fn deref(&self) -> &T {
+        &self.value
+    }
+}
+
+impl<'h, H: Lender, T: PhysicalRecord> Drop for PhysicalMapping<'h, H, T> {
+    fn drop(self) {
+        let PhysicalMapping { claim, value: _ } = self;
+        claim.end();
+    }
+}

@@ -1,0 +1,160 @@
+//! A model that is being gathered.
+ghost use Rattle.std.specs.Prelude.{◌≡◌, [], vec_capacity, vec_len, IfOk};
+ghost use Rattle.acpi_base.specs.Model.{state_of};
+ghost use Rattle.acpi_base.specs.declared.error.AcpiError.TheVariants.{AllocError as NoMemory};
+
+use super::ModelAndProcessors;
+use super::counts::Counts;
+use super::interrupt::{Apic, InterruptModel, InterruptSourceOverride, IoApic, NmiLine, NmiSource};
+use super::item::MadtItem;
+use super::processor::{Processor, ProcessorInfo, ProcessorState};
+use crate::error::AcpiResult;
+use crate::managed_slice::ManagedSlice;
+use crate::tables::madt::Madt;
+use std::alloc::{AllocError, Allocator};
+
+/// What the entries so far say.
+#[derive(Drop)]
+pub(super) struct ModelBuilder<A: Allocator> {
+    local_apic_address: u64,
+    has_legacy_pics: bool,
+    io_apics: Vec<IoApic, A>,
+    nmi_lines: Vec<NmiLine, A>,
+    overrides: Vec<InterruptSourceOverride, A>,
+    nmi_sources: Vec<NmiSource, A>,
+    boot_processor: Option<Processor>,
+    application_processors: Vec<Processor, A>,
+}
+
+impl<A: Allocator + Clone> ModelBuilder<A> {
+    ghost use Rattle.std.specs.Prelude.{IfOk, IfErr, List};
+    ghost use Rattle.acpi_base.specs.ModelBuilder.{HasRoom, HoldsRoom, model_behind};
+    ghost use Rattle.acpi_base.specs.Model.{gathered};
+    ghost use Rattle.acpi_base.specs.Items.{counts_of};
+    ghost use Rattle.acpi_base.specs.declared.model.item.MadtItem.{MadtItem};
+
+    /// Nothing yet, with room for exactly as many as are counted.
+    ///
+    /// Refuses with `AllocError` where a growth is refused, or a clone of the allocator.
+    pub(super) fn with_room(madt: &Madt, counts: Counts, allocator: A) -> AcpiResult<Self>
+        ensures room { IfOk result (λ d. (items : List MadtItem) → counts_of items ≡ counts
+            → HasRoom d items) }
+        ensures exact { IfOk result (λ d. HoldsRoom d counts) }
+        ensures begun { IfOk result (λ d. (items : List MadtItem)
+            → model_behind d items ≡ gathered madt.now items) }
+        ensures refused { IfErr result (λ e. e ≡ NoMemory) }
+    {
+        Ok(ModelBuilder {
+            local_apic_address: madt.local_apic_address as u64,
+            has_legacy_pics: madt.supports_8259(),
+            io_apics: room(&allocator, counts.io_apics)?,
+            nmi_lines: room(&allocator, counts.nmi_lines)?,
+            overrides: room(&allocator, counts.overrides)?,
+            nmi_sources: room(&allocator, counts.nmi_sources)?,
+            boot_processor: None,
+            application_processors: Vec::with_capacity(
+                allocator,
+                counts.processors.saturating_sub(1),
+            )?,
+        })
+    }
+}
+
+impl<A: Allocator> ModelBuilder<A> {
+    ghost use Rattle.std.specs.Prelude.{◌∷◌, [], List};
+    ghost use Rattle.acpi_base.specs.ModelBuilder.{HasRoom, model_behind};
+    ghost use Rattle.acpi_base.specs.declared.model.item.MadtItem.{MadtItem};
+
+    /// What one more entry says, after the others. There is room for it.
+    pub(super) fn add(&mut self, item: MadtItem)
+        requires { HasRoom self.old (item ∷ []) }
+        ensures added { (items : List MadtItem)
+            → model_behind self.new items ≡ model_behind self.old (item ∷ items) }
+        ensures room { (items : List MadtItem)
+            → HasRoom self.old (item ∷ items) → HasRoom self.new items }
+    {
+        match item {
+            MadtItem::Processor {
+                processor_uid,
+                local_apic_id,
+                is_enabled,
+            } => {
+                let is_ap = self.boot_processor.is_some();
+                let processor = Processor {
+                    processor_uid,
+                    local_apic_id,
+                    state: state_of(is_ap, is_enabled),
+                    is_ap,
+                };
+                if is_ap {
+                    self.application_processors.push_reserved(processor);
+                } else {
+                    self.boot_processor = Some(processor);
+                }
+            }
+            MadtItem::IoApic(io_apic) => self.io_apics.push_reserved(io_apic),
+            MadtItem::Override(wiring) => self.overrides.push_reserved(wiring),
+            MadtItem::NmiSource(source) => self.nmi_sources.push_reserved(source),
+            MadtItem::NmiLine(line) => self.nmi_lines.push_reserved(line),
+            MadtItem::LocalApicAddress(address) => {
+                self.local_apic_address = address;
+            }
+            MadtItem::Wakeup => {}
+        }
+    }
+
+    /// The model, and the processors.
+    pub(super) fn finish(self) -> ModelAndProcessors<A>
+        ensures { result ≡ model_behind self [] }
+    {
+        let ModelBuilder {
+            local_apic_address,
+            has_legacy_pics,
+            io_apics,
+            nmi_lines,
+            overrides,
+            nmi_sources,
+            boot_processor,
+            application_processors,
+        } = self;
+        let application_processors = ManagedSlice::from_vec(application_processors);
+        let processors = match boot_processor {
+            Some(boot_processor) => Some(ProcessorInfo {
+                boot_processor,
+                application_processors,
+            }),
+            None => None,
+        };
+        let apic = Apic {
+            local_apic_address,
+            io_apics: ManagedSlice::from_vec(io_apics),
+            local_apic_nmi_lines: ManagedSlice::from_vec(nmi_lines),
+            interrupt_source_overrides: ManagedSlice::from_vec(overrides),
+            nmi_sources: ManagedSlice::from_vec(nmi_sources),
+            also_has_legacy_pics: has_legacy_pics,
+        };
+        (InterruptModel::Apic(apic), processors)
+    }
+}
+
+/// An empty list with room for just so many items.
+///
+/// Refuses where a growth is refused, or the clone of the allocator.
+fn room<T, A: Allocator + Clone>(allocator: &A, count: usize) -> Result<Vec<T, A>, AllocError>
+    ensures items { IfOk result (λ v. v.items ≡ []) }
+    ensures len { IfOk result (λ v. vec_len v ≡ 0) }
+    ensures capacity { IfOk result (λ v. vec_capacity v ≡ count) }
+{
+    Vec::with_capacity(allocator.clone()?, count)
+}
+
+/// What a processor does, by what it is and by whether it can be used.
+fn state_of(is_ap: bool, is_enabled: bool) -> ProcessorState
+    ensures { result ≡ state_of is_ap is_enabled }
+{
+    match (is_ap, is_enabled) {
+        (_, false) => ProcessorState::Disabled,
+        (true, true) => ProcessorState::WaitingForSipi,
+        (false, true) => ProcessorState::Running,
+    }
+}

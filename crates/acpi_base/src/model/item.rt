@@ -1,0 +1,227 @@
+//! What one entry says of the interrupt model.
+ghost use Rattle.std.specs.Prelude.{◌≡◌, Ok};
+ghost use Rattle.acpi_base.specs.Entries.{IsEntry};
+ghost use Rattle.acpi_base.specs.Interrupts.{io_apic_of, nmi_line_of, nmi_source_of, override_of, item_of, polarity_of, processor_for, trigger_mode_of};
+ghost use Rattle.acpi_base.specs.Madt.{madt_lengths};
+ghost use Rattle.acpi_base.specs.Items.{said_of};
+ghost use Rattle.acpi_base.specs.declared.tables.madt.entry.MadtEntry.TheVariants as variants;
+
+use super::interrupt::{
+    InterruptSourceOverride, IoApic, LocalInterruptLine, NmiLine, NmiProcessor, NmiSource,
+    Polarity, TriggerMode,
+};
+use crate::bytes::{bits, has_bit};
+use crate::error::MadtError;
+use crate::memory::handler::PhysicalRecord;
+use crate::tables::madt::{
+    InterruptSourceOverrideEntry, IoApicEntry, LocalApicAddressOverrideEntry, LocalApicEntry,
+    LocalApicNmiEntry, LocalX2ApicEntry, NmiSourceEntry, X2ApicNmiEntry,
+};
+
+/// What an entry that isn't refused says.
+#[derive(Clone, Copy)]
+pub(super) enum MadtItem {
+    /// There is a processor.
+    Processor {
+        processor_uid: u32,
+        local_apic_id: u32,
+        is_enabled: bool,
+    },
+    /// There is an I/O APIC.
+    IoApic(IoApic),
+    /// An ISA interrupt is wired otherwise.
+    Override(InterruptSourceOverride),
+    /// An interrupt is non-maskable.
+    NmiSource(NmiSource),
+    /// NMIs come to an input.
+    NmiLine(NmiLine),
+    /// The local APICs have this address.
+    LocalApicAddress(u64),
+    /// How processors are woken, of which the model says nothing.
+    Wakeup,
+}
+
+impl MadtItem {
+    /// What an entry's bytes say, or `None` where its type is reserved or the maker's. Only what the
+    /// model has is read of them, and no `MadtEntry` is made.
+    ///
+    /// Refuses the types of SAPICs and of the GIC with `UnexpectedEntry`, an override of another
+    /// bus than ISA with `InterruptOverrideEntryHasInvalidBus`, reserved flags with
+    /// `MpsIntiInvalidPolarity` or else `MpsIntiInvalidTriggerMode`, and other inputs than LINT0 and
+    /// LINT1 with `InvalidLocalNmiLine`.
+    #[inline(always)]
+    #[tactic(auto, unfolding(crate::specs::Interrupts::item_of, crate::specs::Items::said_of))]
+    pub(super) fn said(entry: &[u8]) -> Option<Result<MadtItem, MadtError>>
+        requires { IsEntry madt_lengths entry.now }
+        ensures { result ≡ said_of entry.now }
+    {
+        match entry[0] {
+            0x00 => Some(Ok(processor_of(&LocalApicEntry::read(entry)))),
+            0x01 => Some(Ok(MadtItem::IoApic(io_apic_of(&IoApicEntry::read(entry))))),
+            0x02 => Some(override_item(&InterruptSourceOverrideEntry::read(entry))),
+            0x03 => Some(nmi_source_item(&NmiSourceEntry::read(entry))),
+            0x04 => Some(nmi_line_item(&LocalApicNmiEntry::read(entry))),
+            0x05 => {
+                let e = LocalApicAddressOverrideEntry::read(entry);
+                Some(Ok(MadtItem::LocalApicAddress(e.local_apic_address)))
+            }
+            0x09 => Some(Ok(x2apic_processor_of(&LocalX2ApicEntry::read(entry)))),
+            0x0a => Some(x2apic_nmi_line_item(&X2ApicNmiEntry::read(entry))),
+            0x10 => Some(Ok(MadtItem::Wakeup)),
+            kind if kind < 0x10 => Some(Err(MadtError::UnexpectedEntry)),
+            _ => None,
+        }
+    }
+}
+
+/// The processor of a local APIC.
+#[inline(always)]
+#[tactic(auto, unfolding(crate::specs::Interrupts::item_of))]
+fn processor_of(entry: &LocalApicEntry) -> MadtItem
+    ensures { Ok result ≡ item_of (variants.LocalApic entry.now) }
+{
+    MadtItem::Processor {
+        processor_uid: entry.processor_id as u32,
+        local_apic_id: entry.apic_id as u32,
+        is_enabled: has_bit(entry.flags as u64, 0),
+    }
+}
+
+/// The processor of a local x2APIC.
+#[inline(always)]
+#[tactic(auto, unfolding(crate::specs::Interrupts::item_of))]
+fn x2apic_processor_of(entry: &LocalX2ApicEntry) -> MadtItem
+    ensures { Ok result ≡ item_of (variants.LocalX2Apic entry.now) }
+{
+    MadtItem::Processor {
+        processor_uid: entry.processor_uid,
+        local_apic_id: entry.x2apic_id,
+        is_enabled: has_bit(entry.flags as u64, 0),
+    }
+}
+
+/// The wiring that an override gives.
+#[inline(always)]
+#[tactic(auto, unfolding(crate::specs::Interrupts::item_of))]
+fn override_item(entry: &InterruptSourceOverrideEntry) -> Result<MadtItem, MadtError>
+    ensures { result ≡ item_of (variants.InterruptSourceOverride entry.now) }
+{
+    Ok(MadtItem::Override(override_of(entry)?))
+}
+
+/// The interrupt that is non-maskable.
+#[inline(always)]
+#[tactic(auto, unfolding(crate::specs::Interrupts::item_of))]
+fn nmi_source_item(entry: &NmiSourceEntry) -> Result<MadtItem, MadtError>
+    ensures { result ≡ item_of (variants.NmiSource entry.now) }
+{
+    Ok(MadtItem::NmiSource(nmi_source_of(entry)?))
+}
+
+/// The input of a local APIC that NMIs come to.
+#[inline(always)]
+#[tactic(auto, unfolding(crate::specs::Interrupts::item_of))]
+fn nmi_line_item(entry: &LocalApicNmiEntry) -> Result<MadtItem, MadtError>
+    ensures { result ≡ item_of (variants.LocalApicNmi entry.now) }
+{
+    let processor = processor_for(0xff, entry.processor_id as u32);
+    Ok(MadtItem::NmiLine(nmi_line_of(processor, entry.nmi_line)?))
+}
+
+/// The same of a local x2APIC.
+#[inline(always)]
+#[tactic(auto, unfolding(crate::specs::Interrupts::item_of))]
+fn x2apic_nmi_line_item(entry: &X2ApicNmiEntry) -> Result<MadtItem, MadtError>
+    ensures { result ≡ item_of (variants.X2ApicNmi entry.now) }
+{
+    let processor = processor_for(0xffffffff, entry.processor_uid);
+    Ok(MadtItem::NmiLine(nmi_line_of(processor, entry.nmi_line)?))
+}
+
+/// The fields of an I/O APIC.
+fn io_apic_of(entry: &IoApicEntry) -> IoApic
+    ensures { result ≡ io_apic_of entry.now }
+{
+    IoApic {
+        id: entry.io_apic_id,
+        address: entry.io_apic_address,
+        global_system_interrupt_base: entry.global_system_interrupt_base,
+    }
+}
+
+/// The wiring that an override gives (section 5.2.12.5). The bus is tested before the flags.
+fn override_of(entry: &InterruptSourceOverrideEntry) -> Result<InterruptSourceOverride, MadtError>
+    ensures { result ≡ override_of entry.now }
+{
+    if entry.bus != 0 {
+        return Err(MadtError::InterruptOverrideEntryHasInvalidBus);
+    }
+    let polarity = polarity_of(entry.flags)?;
+    let trigger_mode = trigger_mode_of(entry.flags)?;
+    Ok(InterruptSourceOverride {
+        isa_source: entry.irq,
+        global_system_interrupt: entry.global_system_interrupt,
+        polarity,
+        trigger_mode,
+    })
+}
+
+/// The interrupt that is non-maskable (section 5.2.12.6).
+fn nmi_source_of(entry: &NmiSourceEntry) -> Result<NmiSource, MadtError>
+    ensures { result ≡ nmi_source_of entry.now }
+{
+    let polarity = polarity_of(entry.flags)?;
+    let trigger_mode = trigger_mode_of(entry.flags)?;
+    Ok(NmiSource {
+        global_system_interrupt: entry.global_system_interrupt,
+        polarity,
+        trigger_mode,
+    })
+}
+
+/// The polarity in bits 0 and 1 of an interrupt's flags.
+pub(super) fn polarity_of(flags: u16) -> Result<Polarity, MadtError>
+    ensures { result ≡ polarity_of flags }
+{
+    match bits(flags as u64, 0, 2) {
+        0 => Ok(Polarity::SameAsBus),
+        1 => Ok(Polarity::ActiveHigh),
+        3 => Ok(Polarity::ActiveLow),
+        _ => Err(MadtError::MpsIntiInvalidPolarity),
+    }
+}
+
+/// The trigger mode in bits 2 and 3.
+pub(super) fn trigger_mode_of(flags: u16) -> Result<TriggerMode, MadtError>
+    ensures { result ≡ trigger_mode_of flags }
+{
+    match bits(flags as u64, 2, 2) {
+        0 => Ok(TriggerMode::SameAsBus),
+        1 => Ok(TriggerMode::Edge),
+        3 => Ok(TriggerMode::Level),
+        _ => Err(MadtError::MpsIntiInvalidTriggerMode),
+    }
+}
+
+/// Whose local APIC an id means, where one id stands for all.
+fn processor_for(all: u32, processor_uid: u32) -> NmiProcessor
+    ensures { result ≡ processor_for all processor_uid }
+{
+    if processor_uid == all {
+        NmiProcessor::All
+    } else {
+        NmiProcessor::ProcessorUid(processor_uid)
+    }
+}
+
+/// The input of a local APIC that NMIs come to.
+fn nmi_line_of(processor: NmiProcessor, number: u8) -> Result<NmiLine, MadtError>
+    ensures { result ≡ nmi_line_of processor number }
+{
+    let line = match number {
+        0 => LocalInterruptLine::Lint0,
+        1 => LocalInterruptLine::Lint1,
+        _ => return Err(MadtError::InvalidLocalNmiLine),
+    };
+    Ok(NmiLine { processor, line })
+}

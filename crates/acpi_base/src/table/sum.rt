@@ -1,0 +1,130 @@
+//! The sum of bytes, in lanes: sixteen bytes are added at once, each to a sum of its own.
+ghost use Rattle.std.specs.Prelude.{◌≡◌, ◌⊎◌, ◌-◌, ◌+◌, ◌<◌, ◌≤◌, length, take, drop};
+ghost use Rattle.std.specs.Simd.Lanes.{chunk};
+ghost use Rattle.acpi_base.specs.Bytes.{sum_of};
+ghost use Rattle.acpi_base.specs.Sums.{AddsUp};
+
+use std::simd::prelude::*;
+
+const LANES: usize = 16;
+
+/// Four vectors, each added to lanes of its own, so that no addition waits for the one before.
+const BLOCK: usize = 4 * LANES;
+
+/// From place `n` on, these are the lanes that keep the last `n` of sixteen.
+static TAIL_MASKS: [u8; 32] = [
+    0, 0, 0, 0, 0, 0, 0, 0, 0, 0, 0, 0, 0, 0, 0, 0, 255, 255, 255, 255, 255, 255, 255, 255, 255,
+    255, 255, 255, 255, 255, 255, 255,
+];
+
+/// The sum of the bytes modulo 256, which is 0 over a whole table (section 5.2.6).
+#[inline]
+pub fn byte_sum(bytes: &[u8]) -> u8
+    ensures { result ≡ sum_of bytes.now }
+{
+    if bytes.len() < LANES {
+        plain_sum(bytes)
+    } else if bytes.len() < BLOCK {
+        finished(u8x16::splat(0), bytes, 0)
+    } else {
+        long_sum(bytes)
+    }
+}
+
+/// The same of few bytes, one at a time.
+#[inline(always)]
+#[tactic(auto, unfolding(crate::specs::Bytes::sum_of))]
+fn plain_sum(bytes: &[u8]) -> u8
+    ensures { result ≡ sum_of bytes.now }
+{
+    let mut total: u8 = 0;
+    for byte in bytes {
+        total = total.wrapping_add(*byte);
+    }
+    total
+}
+
+/// The same of many bytes, out of line, so that callers hold the code for few alone.
+#[inline(never)]
+fn long_sum(bytes: &[u8]) -> u8
+    requires { BLOCK ≤ length bytes.now }
+    ensures { result ≡ sum_of bytes.now }
+{
+    let (lanes, at) = summed_blocks(bytes);
+    finished(lanes, bytes, at)
+}
+
+/// The lanes' sums over the whole blocks, and where these end.
+#[inline(always)]
+fn summed_blocks(bytes: &[u8]) -> (u8x16, usize)
+    ensures within { result.1 ≤ length bytes.now }
+    ensures whole { length bytes.now - result.1 < BLOCK }
+    ensures sums { AddsUp result.0 (take result.1 bytes.now) }
+{
+    let mut first = u8x16::splat(0);
+    let mut second = u8x16::splat(0);
+    let mut third = u8x16::splat(0);
+    let mut fourth = u8x16::splat(0);
+    let mut at = 0;
+    while bytes.len() - at >= BLOCK {
+        first += vector_at(bytes, at);
+        second += vector_at(bytes, at + LANES);
+        third += vector_at(bytes, at + 2 * LANES);
+        fourth += vector_at(bytes, at + 3 * LANES);
+        at += BLOCK;
+    }
+    ((first + second) + (third + fourth), at)
+}
+
+/// The sum of all bytes, where lanes hold that of the bytes before a place and less than a block
+/// stands after it.
+#[inline(always)]
+fn finished(begun: u8x16, bytes: &[u8], begin: usize) -> u8
+    requires long { LANES ≤ length bytes.now }
+    requires within { begin ≤ length bytes.now }
+    requires short { length bytes.now - begin < BLOCK }
+    requires sums { AddsUp begun (take begin bytes.now) }
+    ensures { result ≡ sum_of bytes.now }
+{
+    // At most three vectors stand after the blocks.
+    let (lanes, at) = one_more(begun, bytes, begin);
+    let (lanes, at) = one_more(lanes, bytes, at);
+    let (lanes, at) = one_more(lanes, bytes, at);
+    (lanes + last_lanes(bytes, bytes.len() - at)).reduce_sum()
+}
+
+/// One vector more, where a whole one stands at the place.
+#[inline(always)]
+fn one_more(lanes: u8x16, bytes: &[u8], at: usize) -> (u8x16, usize)
+    requires within { at ≤ length bytes.now }
+    requires sums { AddsUp lanes (take at bytes.now) }
+    ensures within { result.1 ≤ length bytes.now }
+    ensures left { (length bytes.now - result.1 < LANES)
+        ⊎ (length bytes.now - result.1 + LANES ≡ length bytes.now - at) }
+    ensures sums { AddsUp result.0 (take result.1 bytes.now) }
+{
+    if bytes.len() - at < LANES {
+        (lanes, at)
+    } else {
+        (lanes + vector_at(bytes, at), at + LANES)
+    }
+}
+
+/// The last `n` bytes, as the last lanes of a vector whose other lanes are 0.
+#[inline(always)]
+fn last_lanes(bytes: &[u8], n: usize) -> u8x16
+    requires long { LANES ≤ length bytes.now }
+    requires few { n ≤ LANES }
+    ensures { AddsUp result (drop (length bytes.now - n) bytes.now) }
+{
+    vector_at(bytes, bytes.len() - LANES) & vector_at(&TAIL_MASKS, n)
+}
+
+/// The sixteen bytes at a place.
+#[inline(always)]
+fn vector_at(bytes: &[u8], at: usize) -> u8x16
+    requires { at + LANES ≤ length bytes.now }
+    ensures { result ≡ chunk at LANES bytes.now }
+{
+    u8x16::from_slice(&bytes[at..])
+}

@@ -1,0 +1,176 @@
+//! The Multiple APIC Description Table (MADT): interrupt controllers and processors.
+ghost use Rattle.std.specs.Prelude.{◌≡◌};
+ghost use Rattle.acpi_base.specs.Madt.{mailbox_of};
+
+mod apic;
+mod entry;
+mod gic;
+mod sapic;
+mod wakeup;
+mod walk;
+
+use crate::bytes::{field_in, has_bit};
+pub use crate::error::MadtError;
+use crate::error::{AcpiError, AcpiResult};
+use crate::memory::handler::{Lender, PhysicalRecord};
+use crate::memory::mapping::PhysicalMapping;
+use crate::model::{ModelAndProcessors, model_in};
+use crate::table::header::SdtHeader;
+use crate::table::signature::Signature;
+use crate::table::{AcpiTable, sum_refusal};
+pub use apic::{
+    InterruptSourceOverrideEntry, IoApicEntry, LocalApicAddressOverrideEntry, LocalApicEntry,
+    LocalApicNmiEntry, LocalX2ApicEntry, NmiSourceEntry, X2ApicNmiEntry,
+};
+pub(crate) use entry::LEAST_LENGTHS;
+pub use entry::{EntryHeader, MadtEntry};
+pub use gic::{
+    GicInterruptTranslationServiceEntry, GicMsiFrameEntry, GicRedistributorEntry, GiccEntry,
+    GicdEntry,
+};
+pub use sapic::{IoSapicEntry, LocalSapicEntry, PlatformInterruptSourceEntry};
+use std::alloc::Allocator;
+pub use wakeup::{
+    MpProtectedModeWakeupCommand, MultiprocessorWakeupEntry, MultiprocessorWakeupMailbox,
+};
+pub use walk::MadtEntryIter;
+
+/// The MADT (section 5.2.12). Its entries stand after these fields; a mapping of it gives them.
+#[derive(Debug, Drop)]
+pub struct Madt {
+    /// The header that every table begins with.
+    pub header: SdtHeader,
+    /// The physical address of each processor's local APIC, unless an entry gives another.
+    pub local_apic_address: u32,
+    /// Bit 0: the machine has a pair of 8259 controllers too. `supports_8259()` says so.
+    pub flags: u32,
+}
+
+impl PhysicalRecord for Madt {
+    ghost use Rattle.acpi_base.specs.Madt.{madt_at};
+
+    const MIN_LENGTH: usize = 44;
+
+    ghost MIN_LENGTH = { 44 };
+
+    ghost reading = { madt_at };
+
+    #[tactic(auto, unfolding(crate::specs::Madt::madt_at))]
+    fn read(bytes: &[u8]) -> Self {
+        Madt {
+            header: SdtHeader::read(bytes),
+            local_apic_address: field_in(bytes, 36, 4) as u32,
+            flags: field_in(bytes, 40, 4) as u32,
+        }
+    }
+}
+
+impl AcpiTable for Madt {
+    ghost use Rattle.std.proofs.Common.{lit≤, refl};
+    ghost use Rattle.acpi_base.specs.Table.{sdt_kind};
+    ghost use Rattle.acpi_base.specs.declared.table.signature.TheConstants.Signature.{MADT};
+
+    const SIGNATURE: Signature = Signature::MADT;
+
+    ghost SIGNATURE = { MADT };
+
+    ghost kind = { sdt_kind MADT 44 };
+
+    #[tactic(auto, unfolding(crate::specs::Madt::madt_at))]
+    fn header(&self) -> &SdtHeader {
+        &self.header
+    }
+
+    fn validate(&self, bytes: &[u8]) -> AcpiResult<()> {
+        self.header().validate(Self::SIGNATURE, bytes)
+    }
+
+    fn validate_rest(bytes: &[u8]) -> AcpiResult<()> {
+        sum_refusal(Self::SIGNATURE, bytes)
+    }
+
+    ghost least = { lit≤ tt };
+
+    ghost agrees = { (refl, refl) };
+}
+
+impl Madt {
+    ghost use Rattle.acpi_base.specs.Bits.{has_bit};
+
+    /// Whether the machine has a pair of 8259 controllers too, which are to be masked where the
+    /// APICs are used.
+    pub fn supports_8259(&self) -> bool
+        ensures { result ≡ has_bit self.now.flags 0 }
+    {
+        has_bit(self.flags as u64, 0)
+    }
+}
+
+/// What `get_mpwk_mailbox_addr` answers, out of the table's bytes.
+fn mailbox_address(table: &[u8]) -> AcpiResult<u64>
+    ensures { result ≡ mailbox_of table.now }
+{
+    let mut entries = MadtEntryIter::over(table);
+    while let Some(entry) = entries.next() {
+        if let MadtEntry::MultiprocessorWakeup(wakeup) = entry {
+            return Ok(wakeup.mailbox_address);
+        }
+    }
+    let fault = if entries.ended_malformed() {
+        MadtError::InvalidEntryLength
+    } else {
+        MadtError::UnexpectedEntry
+    };
+    Err(AcpiError::InvalidMadt(fault))
+}
+
+impl<'h, H: Lender> PhysicalMapping<'h, H, Madt> {
+    ghost use Rattle.std.specs.Prelude.{◌+◌, ◌*◌, ◌≤◌, length, false};
+    ghost use Rattle.acpi_base.specs.Madt.{cut_of, entries_of};
+    ghost use Rattle.acpi_base.specs.MadtWalk.{entries_left, has_ended, rest_left};
+    ghost use Rattle.acpi_base.specs.Mapping.{bytes_of};
+    ghost use Rattle.acpi_base.specs.Model.{AsksMemory, model_of};
+    ghost use Rattle.acpi_base.specs.Steps.{GivesOrFull};
+
+    /// The table's entries, in order: at most half as many as it has bytes after the 44 fixed ones.
+    pub fn entries(&self) -> MadtEntryIter<'_>
+        ensures items { entries_left result ≡ entries_of (bytes_of self.now) }
+        ensures rest { rest_left result ≡ (cut_of (bytes_of self.now)).1 }
+        ensures begun { has_ended result ≡ false }
+        ensures few { 2 * length (entries_left result) + 44 ≤ length (bytes_of self.now) }
+    {
+        MadtEntryIter::over(self.bytes())
+    }
+
+    /// The physical address of the mailbox by which processors are woken (section 5.2.12.19): that
+    /// of the first wakeup entry.
+    ///
+    /// Refuses with `InvalidMadt`: `InvalidEntryLength` where a malformed entry comes before one,
+    /// and `UnexpectedEntry` where there is none.
+    pub fn get_mpwk_mailbox_addr(&self) -> AcpiResult<u64>
+        ensures { result ≡ mailbox_of (bytes_of self.now) }
+    {
+        mailbox_address(self.bytes())
+    }
+
+    /// The interrupt model that the entries describe (section 5.2.12), and the processors, where there
+    /// are any. It is `Unknown`, without processors, where no entry is of APICs; no memory is then asked
+    /// for.
+    ///
+    /// Refuses with `InvalidMadt` for the first entry that is at fault: `InvalidEntryLength` where it
+    /// is malformed, `UnexpectedEntry` for the types of SAPICs and of the GIC (6 to 8, and 0xb to
+    /// 0xf), for an override `InterruptOverrideEntryHasInvalidBus` where its bus isn't 0, for one and
+    /// for an NMI source `MpsIntiInvalidPolarity` where bits 0 and 1 of its flags are 2 and then
+    /// `MpsIntiInvalidTriggerMode` where bits 2 and 3 are, and `InvalidLocalNmiLine` for a local NMI
+    /// whose line is neither 0 nor 1. Then with `AllocError` where a growth is refused, or a clone of the
+    /// allocator.
+    pub fn parse_interrupt_model_in<A: Allocator + Clone>(
+        &self,
+        allocator: A,
+    ) -> AcpiResult<ModelAndProcessors<A>>
+        ensures { GivesOrFull (AsksMemory (bytes_of self.now)) result
+            (model_of (bytes_of self.now)) }
+    {
+        model_in(self.get(), self.bytes(), allocator)
+    }
+}

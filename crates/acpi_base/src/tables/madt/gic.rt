@@ -1,0 +1,208 @@
+//! Entries of the GIC model.
+
+use super::entry::EntryHeader;
+use crate::bytes::{field, field_in};
+use crate::extended::ExtendedField;
+use crate::memory::handler::PhysicalRecord;
+
+/// A processor and its interface to the generic interrupt controller (GIC). A field that reaches
+/// past the end of a short entry is read as if zeros followed (section 5.2.12.14).
+#[derive(Clone, Copy, Debug)]
+pub struct GiccEntry {
+    /// Its type and its length.
+    pub header: EntryHeader,
+    /// The number of the interface.
+    pub cpu_interface_number: u32,
+    /// The processor's ACPI id: the `_UID` of its object in the namespace.
+    pub processor_uid: u32,
+    /// Bit 0: it can be used. Bits 1 and 2: the interrupt of the performance counters, and the
+    /// maintenance interrupt, is edge-triggered.
+    pub flags: u32,
+    /// The version of the parking protocol. 0: there is none.
+    pub parking_protocol_version: u32,
+    /// The interrupt of the performance counters.
+    pub performance_interrupt_gsiv: u32,
+    /// The physical address of the parking protocol's mailbox.
+    pub parked_address: u64,
+    /// The physical address of the interface's registers.
+    pub gic_registers_address: u64,
+    /// The physical address of the virtual interface's registers.
+    pub gic_virtual_registers_address: u64,
+    /// The physical address of the registers that control the virtual interface.
+    pub gic_hypervisor_registers_address: u64,
+    /// The maintenance interrupt of the virtual interface.
+    pub vgic_maintenance_interrupt: u32,
+    /// The physical address of the processor's redistributor. 0: it lies in one of the ranges that
+    /// `GicRedistributorEntry` gives.
+    pub gicr_base_address: u64,
+    /// The processor's affinity, as in its register MPIDR.
+    pub mpidr: u64,
+    /// How much power it takes beside the others: less is less.
+    pub processor_power_efficiency_class: u8,
+    /// The interrupt of the profiling extension. 0: there is none.
+    pub spe_overflow_interrupt: u16,
+    /// The interrupt of the trace buffer, for the MADT's revision 6 and above.
+    pub trbe_interrupt: ExtendedField<u16, 6>,
+}
+
+impl PhysicalRecord for GiccEntry {
+    ghost use Rattle.acpi_base.specs.MadtEntries.{gicc_at};
+
+    const MIN_LENGTH: usize = 76;
+
+    ghost MIN_LENGTH = { 76 };
+
+    ghost reading = { gicc_at };
+
+    fn read(bytes: &[u8]) -> Self {
+        GiccEntry {
+            header: EntryHeader::read(bytes),
+            cpu_interface_number: field_in(bytes, 4, 4) as u32,
+            processor_uid: field_in(bytes, 8, 4) as u32,
+            flags: field_in(bytes, 12, 4) as u32,
+            parking_protocol_version: field_in(bytes, 16, 4) as u32,
+            performance_interrupt_gsiv: field_in(bytes, 20, 4) as u32,
+            parked_address: field_in(bytes, 24, 8),
+            gic_registers_address: field_in(bytes, 32, 8),
+            gic_virtual_registers_address: field_in(bytes, 40, 8),
+            gic_hypervisor_registers_address: field_in(bytes, 48, 8),
+            vgic_maintenance_interrupt: field_in(bytes, 56, 4) as u32,
+            gicr_base_address: field_in(bytes, 60, 8),
+            mpidr: field_in(bytes, 68, 8),
+            processor_power_efficiency_class: field(bytes, 76, 1) as u8,
+            spe_overflow_interrupt: field(bytes, 78, 2) as u16,
+            trbe_interrupt: ExtendedField::read(bytes, 80),
+        }
+    }
+}
+
+/// The distributor of the generic interrupt controller (section 5.2.12.15).
+#[derive(Clone, Copy, Debug)]
+pub struct GicdEntry {
+    /// Its type and its length.
+    pub header: EntryHeader,
+    /// Its id.
+    pub gic_id: u32,
+    /// The physical address of its registers.
+    pub physical_base_address: u64,
+    /// The first interrupt of the distributor: reserved, and 0.
+    pub system_vector_base: u32,
+    /// The version of the controller, 1 to 4. 0: the hardware tells.
+    pub gic_version: u8,
+}
+
+impl PhysicalRecord for GicdEntry {
+    ghost use Rattle.acpi_base.specs.MadtEntries.{gicd_at};
+
+    const MIN_LENGTH: usize = 24;
+
+    ghost MIN_LENGTH = { 24 };
+
+    ghost reading = { gicd_at };
+
+    fn read(bytes: &[u8]) -> Self {
+        GicdEntry {
+            header: EntryHeader::read(bytes),
+            gic_id: field_in(bytes, 4, 4) as u32,
+            physical_base_address: field_in(bytes, 8, 8),
+            system_vector_base: field_in(bytes, 16, 4) as u32,
+            gic_version: field_in(bytes, 20, 1) as u8,
+        }
+    }
+}
+
+/// A frame that turns messages into interrupts (section 5.2.12.16).
+#[derive(Clone, Copy, Debug)]
+pub struct GicMsiFrameEntry {
+    /// Its type and its length.
+    pub header: EntryHeader,
+    /// Its id.
+    pub frame_id: u32,
+    /// The physical address of its registers.
+    pub physical_base_address: u64,
+    /// Bit 0: the next two fields count, and not what the registers say.
+    pub flags: u32,
+    /// How many interrupts it has.
+    pub spi_count: u16,
+    /// The first of them.
+    pub spi_base: u16,
+}
+
+impl PhysicalRecord for GicMsiFrameEntry {
+    ghost use Rattle.acpi_base.specs.MadtEntries.{gic_msi_frame_at};
+
+    const MIN_LENGTH: usize = 24;
+
+    ghost MIN_LENGTH = { 24 };
+
+    ghost reading = { gic_msi_frame_at };
+
+    fn read(bytes: &[u8]) -> Self {
+        GicMsiFrameEntry {
+            header: EntryHeader::read(bytes),
+            frame_id: field_in(bytes, 4, 4) as u32,
+            physical_base_address: field_in(bytes, 8, 8),
+            flags: field_in(bytes, 16, 4) as u32,
+            spi_count: field_in(bytes, 20, 2) as u16,
+            spi_base: field_in(bytes, 22, 2) as u16,
+        }
+    }
+}
+
+/// A range of memory that holds redistributors (section 5.2.12.17).
+#[derive(Clone, Copy, Debug)]
+pub struct GicRedistributorEntry {
+    /// Its type and its length.
+    pub header: EntryHeader,
+    /// The physical address of the range.
+    pub discovery_range_base_address: u64,
+    /// How many bytes it has.
+    pub discovery_range_length: u32,
+}
+
+impl PhysicalRecord for GicRedistributorEntry {
+    ghost use Rattle.acpi_base.specs.MadtEntries.{gic_redistributor_at};
+
+    const MIN_LENGTH: usize = 16;
+
+    ghost MIN_LENGTH = { 16 };
+
+    ghost reading = { gic_redistributor_at };
+
+    fn read(bytes: &[u8]) -> Self {
+        GicRedistributorEntry {
+            header: EntryHeader::read(bytes),
+            discovery_range_base_address: field_in(bytes, 4, 8),
+            discovery_range_length: field_in(bytes, 12, 4) as u32,
+        }
+    }
+}
+
+/// A service that translates interrupts (section 5.2.12.18).
+#[derive(Clone, Copy, Debug)]
+pub struct GicInterruptTranslationServiceEntry {
+    /// Its type and its length.
+    pub header: EntryHeader,
+    /// Its id.
+    pub id: u32,
+    /// The physical address of its registers.
+    pub physical_base_address: u64,
+}
+
+impl PhysicalRecord for GicInterruptTranslationServiceEntry {
+    ghost use Rattle.acpi_base.specs.MadtEntries.{gic_translation_service_at};
+
+    const MIN_LENGTH: usize = 20;
+
+    ghost MIN_LENGTH = { 20 };
+
+    ghost reading = { gic_translation_service_at };
+
+    fn read(bytes: &[u8]) -> Self {
+        GicInterruptTranslationServiceEntry {
+            header: EntryHeader::read(bytes),
+            id: field_in(bytes, 4, 4) as u32,
+            physical_base_address: field_in(bytes, 8, 8),
+        }
+    }
+}

@@ -1,0 +1,51 @@
+-- A guest finds as many tables as were placed.
+use Rattle.std.proofs.Common.{◌≡◌, ℕ, suc, List, [], ◌∷◌, drop, length, Result, Ok, Err, refl, sym, ap, subst, ◌∙◌}
+use Rattle.std.specs.List.{cons_option}
+use Rattle.std.specs.Result.{result_ok}
+use Rattle.std.proofs.lemmas.List.{length-map}
+use Rattle.acpi_base.specs.Header.{header_at}
+use Rattle.acpi_base.specs.Memory.{Memory}
+use Rattle.acpi_base.specs.Steps.{◌>>=◌}
+use Rattle.acpi_base.specs.Table.{own_table_at}
+use Rattle.acpi_base.specs.declared.error.AcpiError.{AcpiError}
+use Rattle.acpi_base.specs.declared.table.header.SdtHeader.{SdtHeader}
+use Rattle.acpi.specs.Lists.{own_header_at, valid_headers, valid_tables}
+use Rattle.acpi.specs.Opened.{Opened, opened_by_rsdp}
+use Rattle.acpi.specs.Root.{pointers, width_of}
+use Rattle.acpi_image_reader.specs.declared.error.ImageError.{ImageError}
+use Rattle.acpi_image.specs.WriteLaws.{IsWritten, opened_of}
+use Rattle.acpi_image.specs.Written.{Plan, pointers_of, records_of}
+
+abbrev done : SdtHeader → Result SdtHeader AcpiError
+done x = Ok x
+
+one_each : (r : Result (List ℕ) AcpiError) (hs : List SdtHeader) (ts : List (List ℕ)) → length hs ≡ length ts
+    → length (cons_option (result_ok (r >>= λ t. done (header_at t))) hs) ≡ length (cons_option (result_ok r) ts)
+one_each (Ok t) hs ts e = ap suc e
+one_each (Err d) hs ts e = e
+
+-- there is a header for each valid table
+headers_count : (m : Memory) (ps : List ℕ) → length (valid_headers m ps) ≡ length (valid_tables m ps)
+unfolding own_header_at
+headers_count m [] = refl
+headers_count m (p ∷ ps) = one_each (own_table_at m p) _ _ (headers_count m ps)
+
+abbrev found : Opened → Result Opened AcpiError
+found x = Ok x
+
+same_opened : (x y : Opened) → found x ≡ found y → x ≡ y
+same_opened x y e = cc
+
+-- what is opened in a memory that is read from the file
+pub guest_count : (p : Plan) (file : List ℕ) (m : Memory) (o : Opened) → IsWritten p file → m ≡ records_of p → opened_by_rsdp m p.rsdp ≡ Ok o
+    → length (valid_headers m (pointers (width_of o.kind) (drop 36 o.root))) ≡ length p.tables
+guest_count p file m o is same opened =
+    let there : opened_by_rsdp (records_of p) p.rsdp ≡ Ok o = subst (λ (n : Memory). opened_by_rsdp n p.rsdp ≡ Ok o) same opened in
+    let which : o ≡ opened_of p = same_opened _ _ (sym there ∙ is.opened) in
+    rw (which, same, is.listed) (headers_count (records_of p) (pointers_of p) ∙ ap length is.tables ∙ length-map p.tables _)
+
+abbrev read_as : Memory → Result Memory ImageError
+read_as m = Ok m
+
+pub same_memory : (m n : Memory) → read_as m ≡ read_as n → n ≡ m
+same_memory m n e = cc

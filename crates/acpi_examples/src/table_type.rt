@@ -1,0 +1,64 @@
+//! A type of table of the kernel's own, and what a kernel finds.
+
+use acpi::bgrt::Bgrt;
+use acpi::sdt::{SdtHeader, Signature, field};
+use acpi::{AcpiHandler, AcpiResult, AcpiTable, AcpiTables, PhysicalRecord};
+
+/// The Windows security mitigations table: what the firmware protects in system management mode.
+#[derive(Clone, Copy)]
+pub struct Wsmt {
+    header: SdtHeader,
+    /// Bit 0: only fixed buffers are taken. Bit 1: pointers in them are checked. Bit 2: system
+    /// resources are protected.
+    pub protections: u32,
+}
+
+impl PhysicalRecord for Wsmt {
+    ghost use Rattle.acpi_base.specs.Bytes.{field_of};
+    ghost use Rattle.acpi_base.specs.Header.{header_at};
+
+    const MIN_LENGTH: usize = 40;
+
+    ghost MIN_LENGTH = { 40 };
+
+    ghost reading = { λ b. record { header = header_at b; protections = field_of b 36 4 } };
+
+    fn read(bytes: &[u8]) -> Self {
+        Wsmt {
+            header: SdtHeader::read(bytes),
+            protections: field(bytes, 36, 4) as u32,
+        }
+    }
+}
+
+impl AcpiTable for Wsmt {
+    ghost use Rattle.std.proofs.Common.{lit≤, refl};
+    ghost use Rattle.acpi_base.specs.Table.{sdt_kind};
+    ghost use Rattle.acpi_base.specs.declared.table.signature.TheConstants.Signature.{WSMT};
+
+    const SIGNATURE: Signature = Signature::WSMT;
+
+    ghost SIGNATURE = { WSMT };
+
+    ghost kind = { sdt_kind WSMT 40 };
+
+    fn header(&self) -> &SdtHeader {
+        &self.header
+    }
+
+    fn validate(&self, bytes: &[u8]) -> AcpiResult<()> {
+        self.header().validate(Self::SIGNATURE, bytes)
+    }
+
+    ghost least = { lit≤ tt };
+
+    ghost agrees = { (refl, refl) };
+}
+
+/// Where the boot graphic lies, and what the firmware protects.
+pub fn find_both<H: AcpiHandler>(memory: &H, rsdt: u64) -> AcpiResult<(u64, u32)> {
+    let tables = AcpiTables::from_rsdt(memory, 0, rsdt)?;
+    let graphic = tables.find_table::<Bgrt>()?;
+    let mitigations = tables.find_table::<Wsmt>()?;
+    Ok((graphic.image_address, mitigations.protections))
+}

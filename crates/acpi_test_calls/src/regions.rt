@@ -1,0 +1,99 @@
+//! A kernel's memory: what it lends, and which regions are refused.
+
+use crate::checks::check;
+use acpi::AcpiHandler;
+use acpi::handler::{MappedRegion, MappedRegions, RegionError};
+use acpi_testkit::samples::front;
+
+/// Bytes that regions begin with.
+static BYTES: [u8; 4] = [1, 2, 3, 4];
+
+/// A region of so many bytes.
+fn region(start: u64, count: usize) -> Result<MappedRegion<'static>, RegionError> {
+    MappedRegion::new(start, front(&BYTES, count.min(4)))
+}
+
+/// How many bytes are lent from an address on, where so many are asked for.
+fn lent<H: AcpiHandler>(memory: &H, address: u64, size: usize) -> Option<usize> {
+    if size == 0 {
+        return None;
+    }
+    match memory.map_physical_region(address, size) {
+        Ok(bytes) => Some(bytes.len()),
+        Err(_) => None,
+    }
+}
+
+/// Requests for memory that lies from 0x1000 to 0x1004.
+static LENT_OF_ONE: [(u64, usize, Option<usize>); 7] = [
+    (0x1000, 1, Some(4)),
+    (0x1003, 1, Some(1)),
+    (0xFFF, 1, None),
+    (0x1000, 5, None),
+    (0x1003, 2, None),
+    (0x1004, 1, None),
+    (u64::MAX, 1, None),
+];
+
+/// What one region lends.
+fn lent_of_one(address: u64, size: usize) -> Result<Option<usize>, RegionError> {
+    Ok(lent(&region(0x1000, 4)?, address, size))
+}
+
+#[test]
+fn a_region_lends_what_lies_inside_it(rt: HostRuntime) {
+    for (address, size, wanted) in &LENT_OF_ONE {
+        check(&rt, "one", lent_of_one(*address, *size), Ok(*wanted));
+    }
+}
+
+/// Requests for memory that lies from 0x1000 to 0x1004, from there to 0x1006, and from 0x2000 to
+/// 0x2001.
+static LENT_OF_THREE: [(u64, usize, Option<usize>); 8] = [
+    (0x1000, 4, Some(4)),
+    (0x1003, 1, Some(1)),
+    (0x1003, 2, None),
+    (0x1004, 2, Some(2)),
+    (0x1006, 1, None),
+    (0x2000, 1, Some(1)),
+    (0x2001, 1, None),
+    (0xFFF, 1, None),
+];
+
+/// What three regions lend.
+fn lent_of_three(address: u64, size: usize) -> Result<Option<usize>, RegionError> {
+    let regions = [region(0x1000, 4)?, region(0x1004, 2)?, region(0x2000, 1)?];
+    Ok(lent(&MappedRegions::new(&regions)?, address, size))
+}
+
+#[test]
+fn regions_lend_what_lies_inside_one_of_them(rt: HostRuntime) {
+    for (address, size, wanted) in &LENT_OF_THREE {
+        check(&rt, "three", lent_of_three(*address, *size), Ok(*wanted));
+    }
+}
+
+/// Where two regions start and how many bytes they have, and why they are no memory.
+static PAIRS: [((u64, usize), (u64, usize), Result<(), RegionError>); 7] = [
+    ((0x1000, 4), (0x1004, 1), Ok(())),
+    ((0x1000, 4), (0x1003, 1), Err(RegionError::Overlap)),
+    ((0x1000, 1), (0x1000, 1), Err(RegionError::Overlap)),
+    ((0x1000, 1), (0xFFF, 1), Err(RegionError::NotAscending)),
+    ((0x1000, 1), (u64::MAX, 1), Err(RegionError::EndTooLarge)),
+    ((0x1000, 1), (u64::MAX - 1, 1), Ok(())),
+    ((0x1000, 0), (0x1000, 1), Ok(())),
+];
+
+/// Whether two regions are a memory.
+fn paired(first: (u64, usize), second: (u64, usize)) -> Result<(), RegionError> {
+    let regions = [region(first.0, first.1)?, region(second.0, second.1)?];
+    MappedRegions::new(&regions)?;
+    Ok(())
+}
+
+#[test]
+fn regions_that_are_no_memory_are_refused(rt: HostRuntime) {
+    for (first, second, wanted) in &PAIRS {
+        check(&rt, "pair", paired(*first, *second), *wanted);
+    }
+}
