@@ -16,7 +16,7 @@ use Rattle.acpi.specs.Lists.{fadt_kind, faults_of, unless_valid}
 use Rattle.acpi.specs.Lookup.{lookup}
 use Rattle.acpi.specs.Opened.{Opened, opened_from}
 use Rattle.acpi.specs.Root.{pointers, width_of}
-use Rattle.acpi.specs.declared.root.RootPlace.{RootPlace}
+use Rattle.acpi.specs.declared.root.RootPointer.{RootPointer}
 use Rattle.acpi.specs.OpenedRanges.{root_and_ranges, area_ranges, opened_by_rsdp_ranges, opened_by_search_ranges, opened_ranges, rsdp_ranges, search_ranges, walk_ranges}
 use Rattle.acpi.specs.Platform.{madt_kind}
 use Rattle.acpi.specs.Rsdp.{length_of, root_of_rsdp, rsdp_at}
@@ -165,7 +165,7 @@ module _ (may : ℕ → ℕ → Bool) where
       moved_walk m (n - k - 1) (n - (k + 1)) (start + 16 * k + 16) (start + 16 * (k + 1)) (omega arith) (omega arith) (after_refused m _ e _ refused rest)
 
 -- a call below a root table that was opened
-pub asked_below : {L : Type 0} (memory : L → Memory) (may : L → ℕ → ℕ → Bool) (ranges : Memory → List ℕ → Ranges) (handler lender : L) (place : RootPlace) (o : Opened)
+pub asked_below : {L : Type 0} (memory : L → Memory) (may : L → ℕ → ℕ → Bool) (ranges : Memory → List ℕ → Ranges) (handler lender : L) (place : RootPointer) (o : Opened)
     → lender ≡ handler → opened_from (memory handler) place ≡ Ok o → Allows (may handler) (root_and_ranges (memory handler) place ranges)
     → Allows (may lender) (ranges (memory lender) (pointers (width_of o.kind) (drop 36 o.root)))
 asked_below memory may ranges handler lender place o same opened h =

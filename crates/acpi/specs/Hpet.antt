@@ -2,10 +2,10 @@
 use Rattle.std.specs.Prelude.{ℕ, ◌==◌, List, Result, Ok, if◌then◌else◌}
 use Rattle.acpi_base.specs.Bits.{bits_of}
 use Rattle.acpi_base.specs.Bytes.{field_of}
-use Rattle.acpi_base.specs.Header.{check_table, header_at}
+use Rattle.acpi_base.specs.Header.{header_at}
 use Rattle.acpi_base.specs.Memory.{Memory}
 use Rattle.acpi_base.specs.Steps.{◌>>=◌, holds}
-use Rattle.acpi_base.specs.Table.{Kind, kind}
+use Rattle.acpi_base.specs.Table.{Kind, sdt_kind}
 use Rattle.acpi_base.specs.declared.error.AcpiError.{AcpiError}
 use Rattle.acpi_base.specs.declared.error.AcpiError.TheVariants.{InvalidGenericAddress}
 use Rattle.acpi_base.specs.declared.signature.TheConstants.Signature.{HPET}
@@ -48,7 +48,7 @@ info_of t = do
   })
 
 abbrev pub hpet_kind : Kind
-hpet_kind = kind HPET 56 (check_table HPET)
+hpet_kind = sdt_kind HPET 56
 
 -- what the first valid HPET says
 abbrev pub hpet_of : Memory → List ℕ → Result HpetInfo AcpiError

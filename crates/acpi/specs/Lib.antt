@@ -10,6 +10,7 @@ pub mod Opened
 pub mod OpenedRanges
 pub mod Pci
 pub mod Platform
+pub mod PlatformAnswer
 pub mod Pointers
 pub mod Regions
 pub mod Relocation

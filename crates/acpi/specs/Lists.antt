@@ -6,10 +6,10 @@ use Rattle.acpi_base.specs.declared.error.AcpiError.TheVariants as refusal
 use Rattle.acpi_base.specs.declared.sdt.SdtHeader.{SdtHeader}
 use Rattle.acpi_base.specs.declared.signature.Signature.{Signature}
 use Rattle.acpi_base.specs.declared.signature.TheConstants.Signature.{DSDT, FADT, SSDT}
-use Rattle.acpi_base.specs.Header.{check_table, header_at}
+use Rattle.acpi_base.specs.Header.{header_at}
 use Rattle.acpi_base.specs.Memory.{Memory}
 use Rattle.acpi_base.specs.Steps.{◌>>=◌}
-use Rattle.acpi_base.specs.Table.{Kind, kind, own_table_at, plain_kind, table_at}
+use Rattle.acpi_base.specs.Table.{Kind, sdt_kind, own_table_at, plain_kind, table_at}
 use Rattle.acpi_fixed.specs.Fadt.{dsdt_address_of, fadt_at}
 use Rattle.acpi.specs.Lookup.{lookup}
 use Rattle.acpi.specs.declared.records.AmlTable.{AmlTable}
@@ -60,7 +60,7 @@ faults_of m k (p ∷ ps) = unless_valid p (table_at m k p) (faults_of m k ps)
 -- ---- the DSDT, which the FADT leads to
 
 abbrev pub fadt_kind : Kind
-fadt_kind = kind FADT 116 (check_table FADT)
+fadt_kind = sdt_kind FADT 116
 
 -- the AML of the DSDT: the first valid FADT, its address of the DSDT, and the table there
 abbrev pub dsdt_stream : Memory → List ℕ → Result AmlTable AcpiError

@@ -8,7 +8,7 @@ use Rattle.acpi.specs.Rsdp.{root_of_rsdp, rsdp_at}
 use Rattle.acpi.specs.Search.{found_rsdp}
 use Rattle.acpi.specs.Tables.{kind_of, revision_of, root_address_of, root_of}
 use Rattle.acpi.specs.declared.root.RootKind.{RootKind}
-use Rattle.acpi.specs.declared.root.RootPlace.{RootPlace}
+use Rattle.acpi.specs.declared.root.RootPointer.{RootPointer}
 use Rattle.acpi.specs.declared.tables.AcpiTables.{AcpiTables}
 
 -- what tables were opened with: the revision of what named the root table, and that table's kind,
@@ -28,7 +28,7 @@ opened_of t = record {
 }
 
 -- by what leads to the root table
-abbrev pub opened_from : Memory → RootPlace → Result Opened AcpiError
+abbrev pub opened_from : Memory → RootPointer → Result Opened AcpiError
 opened_from m place = do
   root ← root_at m place.kind place.address
   Ok (record { revision = place.revision; kind = place.kind; address = place.address; root = root })

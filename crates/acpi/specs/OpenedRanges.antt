@@ -9,7 +9,7 @@ use Rattle.acpi.specs.Root.{pointers, width_of}
 use Rattle.acpi.specs.Rsdp.{length_of, root_of_rsdp, rsdp_at}
 use Rattle.acpi.specs.Search.{count_of, first_area, found_in, found_rsdp, room_of, second_area}
 use Rattle.acpi.specs.Search.{word_in}
-use Rattle.acpi.specs.declared.root.RootPlace.{RootPlace}
+use Rattle.acpi.specs.declared.root.RootPointer.{RootPointer}
 use Rattle.acpi.specs.declared.rsdp.area.Area.{Area}
 
 -- those of the whole of an RSDP, where it has a length
@@ -55,11 +55,11 @@ search_ranges m = (0x40e, 2) ∷ do
 -- ---- what is opened
 
 -- those of `opened_from`
-abbrev pub opened_ranges : Memory → RootPlace → Ranges
+abbrev pub opened_ranges : Memory → RootPointer → Ranges
 opened_ranges m place = root_ranges m place.kind place.address
 
 -- those of a root table and, where it is opened, of a call below it
-abbrev pub root_and_ranges : Memory → RootPlace → (Memory → List ℕ → Ranges) → Ranges
+abbrev pub root_and_ranges : Memory → RootPointer → (Memory → List ℕ → Ranges) → Ranges
 root_and_ranges m place ranges = opened_ranges m place ++ do
   opened ← opened_from m place
   ranges m (pointers (width_of opened.kind) (drop 36 opened.root))

@@ -1,11 +1,10 @@
 -- Where the configuration space of a PCI function lies.
 use Rattle.std.specs.Prelude.{◌≡◌, ℕ, ◌+◌, ◌-◌, ◌*◌, ◌^◌, ◌<◌, ◌==◌, ◌&&◌, Bool, false, List, map, find, nat_le, nat_lt, Option, Some, None, option_and_then, Result, Ok, ◌∷◌, if◌then◌else◌}
 use Rattle.std.specs.Range.{range_inclusive_end, range_inclusive_exhausted, range_inclusive_start}
-use Rattle.acpi_base.specs.Header.{check_table}
 use Rattle.acpi_base.specs.Mcfg.{regions_of}
 use Rattle.acpi_base.specs.Memory.{Memory}
 use Rattle.acpi_base.specs.Steps.{◌>>=◌}
-use Rattle.acpi_base.specs.Table.{Kind, kind}
+use Rattle.acpi_base.specs.Table.{Kind, sdt_kind}
 use Rattle.acpi_base.specs.declared.error.AcpiError.{AcpiError}
 use Rattle.acpi_base.specs.declared.mcfg.McfgEntry.{McfgEntry}
 use Rattle.acpi_base.specs.declared.signature.TheConstants.Signature.{MCFG}
@@ -14,7 +13,7 @@ use Rattle.acpi.specs.declared.mcfg.PciConfigEntry.{PciConfigEntry}
 use Rattle.acpi.specs.declared.mcfg.PciConfigEntryIterator.{PciConfigEntryIterator}
 
 abbrev pub mcfg_kind : Kind
-mcfg_kind = kind MCFG 44 (check_table MCFG)
+mcfg_kind = sdt_kind MCFG 44
 
 -- the regions of the first valid MCFG
 abbrev pub found_regions : Memory → List ℕ → Result (List McfgEntry) AcpiError

@@ -1,10 +1,9 @@
 -- What the FADT and the MADT say together.
 use Rattle.std.specs.Prelude.{ℕ, List, Option, None, Result, Ok, Err, IsOk}
-use Rattle.acpi_base.specs.Header.{check_table}
 use Rattle.acpi_base.specs.Memory.{Memory}
 use Rattle.acpi_base.specs.Model as model
 use Rattle.acpi_base.specs.Steps.{◌>>=◌}
-use Rattle.acpi_base.specs.Table.{Kind, kind}
+use Rattle.acpi_base.specs.Table.{Kind, sdt_kind}
 use Rattle.acpi_base.specs.declared.error.AcpiError.{AcpiError}
 use Rattle.acpi_base.specs.declared.model.interrupt.InterruptModel.TheVariants.{Unknown}
 use Rattle.acpi_base.specs.declared.signature.TheConstants.Signature.{MADT}
@@ -17,7 +16,7 @@ use Rattle.acpi.specs.declared.platform.PlatformInfo.{PlatformInfo}
 use Rattle.acpi.specs.declared.platform.timer.PmTimer.{PmTimer}
 
 abbrev pub madt_kind : Kind
-madt_kind = kind MADT 44 (check_table MADT)
+madt_kind = sdt_kind MADT 44
 
 -- the model of the table found; nothing is known where none was
 abbrev pub model_found : {A : Type 0} → Result (ℕ × List ℕ) AcpiError

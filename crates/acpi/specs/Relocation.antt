@@ -2,16 +2,15 @@
 use Rattle.std.specs.Prelude.{◌≡◌, ℕ, ◌≤◌, List, Result, Ok, Err}
 use Rattle.acpi_base.specs.declared.error.AcpiError.{AcpiError}
 use Rattle.acpi_base.specs.declared.signature.Signature.{Signature}
-use Rattle.acpi_base.specs.Header.{check_table}
 use Rattle.acpi_base.specs.Memory.{Memory}
-use Rattle.acpi_base.specs.Table.{kind}
+use Rattle.acpi_base.specs.Table.{sdt_kind}
 use Rattle.acpi.specs.Footprint.{below}
 use Rattle.acpi.specs.Hpet.{hpet_of}
 use Rattle.acpi.specs.Lists.{valid_headers, valid_tables}
 use Rattle.acpi.specs.Lookup.{lookup}
 use Rattle.acpi.specs.Pci.{found_regions}
 use Rattle.acpi.specs.Platform.{platform_of}
-use Rattle.acpi.specs.Tables.{memory_of, pointers_of}
+use Rattle.acpi.specs.Tables.{of_tables}
 use Rattle.acpi.specs.declared.root.RootKind.{RootKind}
 use Rattle.acpi.specs.declared.tables.AcpiTables.{AcpiTables}
 
@@ -26,7 +25,7 @@ abbrev pub Relocation : {H A : Type 0} {h : _} → AcpiTables H h
     → (Memory → List ℕ → Result A AcpiError) → (Result A AcpiError → Type 0) → Type 0
 Relocation t defined Says = (n : Memory) (kind : RootKind) (address : ℕ)
     → below n kind address (λ ps. Ok (valid_tables n ps))
-    ≡ Ok (valid_tables (memory_of t) (pointers_of t))
+    ≡ Ok (of_tables t valid_tables)
     → Says (below n kind address (defined n))
 
 -- ---- laws
@@ -39,7 +38,7 @@ bytes_found (Err e) = Err e
 -- a lookup of a table of which the header, the least length and the sum are checked
 abbrev pub LookupFollows : Type 0
 LookupFollows = (s : Signature) (least : ℕ) → 36 ≤ least
-    → FollowsTables (λ m ps. bytes_found (lookup m (kind s least (check_table s)) ps))
+    → FollowsTables (λ m ps. bytes_found (lookup m (sdt_kind s least) ps))
 
 abbrev pub HeadersFollow : Type 0
 HeadersFollow = FollowsTables valid_headers

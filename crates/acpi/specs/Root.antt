@@ -10,7 +10,7 @@ use Rattle.acpi_base.specs.Memory.{Memory}
 use Rattle.acpi_base.specs.Table.{Kind, plain_kind, table_at}
 use Rattle.acpi.specs.declared.root.RootKind.{RootKind}
 use Rattle.acpi.specs.declared.root.RootKind.TheVariants.{Rsdt, Xsdt}
-use Rattle.acpi.specs.declared.root.RootPlace.{RootPlace}
+use Rattle.acpi.specs.declared.root.RootPointer.{RootPointer}
 
 -- the signature of a root table of this kind
 abbrev pub signature_of : RootKind → Signature
@@ -32,16 +32,16 @@ root_at m kind address = table_at m (root_kind kind) address
 
 -- ---- what leads to a root table
 
-abbrev pub place : ℕ → RootKind → ℕ → RootPlace
-place revision kind address = record { revision = revision; kind = kind; address = address }
+abbrev pub root_pointer : ℕ → RootKind → ℕ → RootPointer
+root_pointer revision kind address = record { revision = revision; kind = kind; address = address }
 
 -- the kind that a revision stands for: the RSDT for 0, else the XSDT
 abbrev pub kind_of_revision : ℕ → RootKind
 kind_of_revision revision = if revision == 0 then Rsdt else Xsdt
 
 -- a root table at an address that goes by a revision
-abbrev pub root_of_revision : ℕ → ℕ → RootPlace
-root_of_revision revision address = place revision (kind_of_revision revision) address
+abbrev pub root_of_revision : ℕ → ℕ → RootPointer
+root_of_revision revision address = root_pointer revision (kind_of_revision revision) address
 
 -- ---- its pointers
 

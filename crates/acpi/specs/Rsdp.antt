@@ -9,9 +9,9 @@ use Rattle.acpi_base.specs.declared.error.AcpiError.TheVariants.{RsdpInvalidOemI
 use Rattle.acpi_base.specs.Bytes.{field_of, part, sum_of}
 use Rattle.acpi_base.specs.Memory.{Memory}
 use Rattle.acpi_base.specs.Steps.{◌>>=◌, holds, lent}
-use Rattle.acpi.specs.Root.{place}
+use Rattle.acpi.specs.Root.{root_pointer}
 use Rattle.acpi.specs.declared.root.RootKind.TheVariants.{Rsdt, Xsdt}
-use Rattle.acpi.specs.declared.root.RootPlace.{RootPlace}
+use Rattle.acpi.specs.declared.root.RootPointer.{RootPointer}
 use Rattle.acpi.specs.declared.rsdp.Rsdp.{Rsdp}
 
 -- the RSDP that the bytes begin with
@@ -58,13 +58,13 @@ ext_checksum_of r = unless_first r r.ext_checksum
 
 -- the root table that an RSDP leads to: the RSDT where its revision or its XSDT address is 0, else
 -- the XSDT
-abbrev pub root_of : Rsdp → RootPlace
+abbrev pub root_of : Rsdp → RootPointer
 root_of r =
-    if r.revision == 0 || r.xsdt_address == 0 then place r.revision Rsdt r.rsdt_address
-    else place r.revision Xsdt r.xsdt_address
+    if r.revision == 0 || r.xsdt_address == 0 then root_pointer r.revision Rsdt r.rsdt_address
+    else root_pointer r.revision Xsdt r.xsdt_address
 
 -- the same, for the RSDP's bytes
-abbrev pub root_of_rsdp : List ℕ → RootPlace
+abbrev pub root_of_rsdp : List ℕ → RootPointer
 root_of_rsdp b = root_of (rsdp_of b)
 
 -- ---- the checks

@@ -1,7 +1,6 @@
 //! Why listed tables of a type were passed over.
 ghost use Rattle.std.proofs.Props.{props};
 ghost use Rattle.acpi_base.specs.Ranges.{Allows};
-ghost use Rattle.acpi_base.specs.Table.{kind};
 ghost use Rattle.acpi.specs.Footprint.{lookup_ranges};
 ghost use Rattle.acpi.specs.Pointers.{pointers_left};
 
@@ -20,7 +19,7 @@ pub struct TableFaults<'t, 'h, H: Lender, T: AcpiTable> {
     pointers: Pointers<'t>,
     sought: PhantomData<T>,
     ghost asked: { Allows (H.may handler.now) (lookup_ranges (H.memory handler.now)
-        (kind T.SIGNATURE T.MIN_LENGTH T.verdict) (pointers_left pointers)) } by { Prim.hlevel props },
+        T.kind (pointers_left pointers)) } by { Prim.hlevel props },
 }
 
 impl<'t, 'h, H: Lender, T: AcpiTable> TableFaults<'t, 'h, H, T> {
@@ -30,10 +29,9 @@ impl<'t, 'h, H: Lender, T: AcpiTable> TableFaults<'t, 'h, H, T> {
 
     pub(crate) fn new(handler: &'h H, pointers: Pointers<'t>) -> Self
         requires { Allows (H.may handler.now) (lookup_ranges (H.memory handler.now)
-            (kind T.SIGNATURE T.MIN_LENGTH T.verdict) (pointers_left pointers)) }
-        ensures { let k = kind T.SIGNATURE T.MIN_LENGTH T.verdict in
-            faults_left H.memory k result
-            ≡ faults_of (H.memory handler.now) k (pointers_left pointers.entry) }
+            T.kind (pointers_left pointers)) }
+        ensures { faults_left H.memory T.kind result
+            ≡ faults_of (H.memory handler.now) T.kind (pointers_left pointers.entry) }
     {
         TableFaults {
             handler,
@@ -49,11 +47,9 @@ impl<H: Lender, T: AcpiTable> Iterator for TableFaults<'_, '_, H, T> {
 
     type Item = TableFault;
 
-    ghost next_gives = { let k = kind T.SIGNATURE T.MIN_LENGTH T.verdict in
-        YieldsFirst (faults_left H.memory k) };
+    ghost next_gives = { YieldsFirst (faults_left H.memory T.kind) };
 
-    ghost remaining = { let k = kind T.SIGNATURE T.MIN_LENGTH T.verdict in
-        item_count (faults_left H.memory k) };
+    ghost remaining = { item_count (faults_left H.memory T.kind) };
 
     fn next(&mut self) -> Option<TableFault> {
         // A pointer is passed only once its table is looked at: of those after a valid one, none may

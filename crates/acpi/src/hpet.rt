@@ -46,15 +46,15 @@ impl PhysicalRecord for HpetTable {
 }
 
 impl AcpiTable for HpetTable {
-    ghost use Rattle.std.proofs.Common.{lit≤};
-    ghost use Rattle.acpi_base.specs.Header.{check_table};
+    ghost use Rattle.std.proofs.Common.{lit≤, refl};
+    ghost use Rattle.acpi.specs.Hpet.{hpet_kind};
     ghost use Rattle.acpi_base.specs.declared.signature.TheConstants.Signature.{HPET};
 
     const SIGNATURE: Signature = Signature::HPET;
 
     ghost SIGNATURE = { HPET };
 
-    ghost verdict = { check_table HPET };
+    ghost kind = { hpet_kind };
 
     #[tactic(auto, unfolding(crate::specs::Hpet::hpet_at))]
     fn header(&self) -> &SdtHeader {
@@ -70,6 +70,8 @@ impl AcpiTable for HpetTable {
     }
 
     ghost least = { lit≤ tt };
+
+    ghost agrees = { (refl, refl) };
 }
 
 /// Whether the rest of the page may be accessed from the registers' base address on.
@@ -107,7 +109,7 @@ impl HpetInfo {
     ghost use Rattle.acpi.specs.Footprint.{AllowsBelow, FootprintBelow, lookup_ranges};
     ghost use Rattle.acpi.specs.Hpet.{hpet_kind, hpet_of, info_of};
     ghost use Rattle.acpi.specs.Relocation.{Relocation};
-    ghost use Rattle.acpi.specs.Tables.{memory_of, pointers_of};
+    ghost use Rattle.acpi.specs.Tables.{of_tables};
 
     /// What the first valid HPET says. Of the generic address in it only the space and the address
     /// count.
@@ -116,20 +118,20 @@ impl HpetInfo {
     /// where its registers don't lie in memory.
     pub fn new<H: Lender>(tables: &AcpiTables<'_, H>) -> AcpiResult<HpetInfo>
         requires { AllowsBelow tables.now (λ m. lookup_ranges m hpet_kind) }
-        ensures exact { result ≡ hpet_of (memory_of tables.now) (pointers_of tables.now) }
+        ensures exact { result ≡ of_tables tables.now hpet_of }
         // It depends on what the lookup of the HPET depends on.
         ensures footprint { FootprintBelow tables.now (λ m. lookup_ranges m hpet_kind) hpet_of
             (λ said. result ≡ said) }
         // It is the same wherever the valid tables lie.
         ensures relocation { Relocation tables.now hpet_of (λ said. result ≡ said) }
     {
-        HpetInfo::found(tables)
+        HpetInfo::new_exact(tables)
     }
 
-    /// `new`, by the exact clause from which its laws follow.
-    fn found<H: Lender>(tables: &AcpiTables<'_, H>) -> AcpiResult<HpetInfo>
+    /// What `new` answers: the first valid HPET is looked up and read.
+    fn new_exact<H: Lender>(tables: &AcpiTables<'_, H>) -> AcpiResult<HpetInfo>
         requires { AllowsBelow tables.now (λ m. lookup_ranges m hpet_kind) }
-        ensures { result ≡ hpet_of (memory_of tables.now) (pointers_of tables.now) }
+        ensures { result ≡ of_tables tables.now hpet_of }
     {
         let table = tables.find_table::<HpetTable>()?;
         HpetInfo::of(&table)

@@ -13,7 +13,7 @@ pub mod mcfg;
 pub mod platform;
 mod pointers;
 mod records;
-mod root;
+pub mod root;
 pub mod rsdp;
 mod ssdts;
 mod tables;

@@ -31,19 +31,19 @@ impl PciConfigRegions<Global> {
     ghost use Rattle.acpi.specs.Footprint.{AllowsBelow, FootprintBelow, lookup_ranges};
     ghost use Rattle.acpi.specs.Pci.{RegionsAsk, found_regions, mcfg_kind};
     ghost use Rattle.acpi.specs.Relocation.{Relocation};
-    ghost use Rattle.acpi.specs.Tables.{memory_of, pointers_of};
+    ghost use Rattle.acpi.specs.Tables.{of_tables};
 
     /// `new_in` over the global allocator.
     pub fn new<H: Lender>(alloc: Global, tables: &AcpiTables<'_, H>) -> AcpiResult<Self>
         requires { AllowsBelow tables.now (λ m. lookup_ranges m mcfg_kind) }
-        ensures exact { GivesOrFull (RegionsAsk (memory_of tables.now) (pointers_of tables.now))
-            result (found_regions (memory_of tables.now) (pointers_of tables.now)) }
+        ensures exact { GivesOrFull (of_tables tables.now RegionsAsk)
+            result (of_tables tables.now found_regions) }
         // It depends on what the lookup of the MCFG depends on.
         ensures footprint { FootprintBelow tables.now (λ m. lookup_ranges m mcfg_kind) found_regions
-            (GivesOrFull (RegionsAsk (memory_of tables.now) (pointers_of tables.now)) result) }
+            (GivesOrFull (of_tables tables.now RegionsAsk) result) }
         // It is the same wherever the valid tables lie.
         ensures relocation { Relocation tables.now found_regions
-            (GivesOrFull (RegionsAsk (memory_of tables.now) (pointers_of tables.now)) result) }
+            (GivesOrFull (of_tables tables.now RegionsAsk) result) }
     {
         PciConfigRegions::new_in(tables, alloc)
     }
@@ -55,7 +55,7 @@ impl<A: Allocator> PciConfigRegions<A> {
     ghost use Rattle.acpi.specs.Pci.{RegionsAsk, IsApart, entries_left, found_regions, mcfg_kind};
     ghost use Rattle.acpi.specs.Pci.{pci_address};
     ghost use Rattle.acpi.specs.Relocation.{Relocation};
-    ghost use Rattle.acpi.specs.Tables.{memory_of, pointers_of};
+    ghost use Rattle.acpi.specs.Tables.{of_tables};
 
     /// The regions of the first valid MCFG, in the order of the table.
     ///
@@ -63,23 +63,23 @@ impl<A: Allocator> PciConfigRegions<A> {
     /// is refused.
     pub fn new_in<H: Lender>(tables: &AcpiTables<'_, H>, allocator: A) -> AcpiResult<Self>
         requires { AllowsBelow tables.now (λ m. lookup_ranges m mcfg_kind) }
-        ensures exact { GivesOrFull (RegionsAsk (memory_of tables.now) (pointers_of tables.now))
-            result (found_regions (memory_of tables.now) (pointers_of tables.now)) }
+        ensures exact { GivesOrFull (of_tables tables.now RegionsAsk)
+            result (of_tables tables.now found_regions) }
         // It depends on what the lookup of the MCFG depends on.
         ensures footprint { FootprintBelow tables.now (λ m. lookup_ranges m mcfg_kind) found_regions
-            (GivesOrFull (RegionsAsk (memory_of tables.now) (pointers_of tables.now)) result) }
+            (GivesOrFull (of_tables tables.now RegionsAsk) result) }
         // It is the same wherever the valid tables lie.
         ensures relocation { Relocation tables.now found_regions
-            (GivesOrFull (RegionsAsk (memory_of tables.now) (pointers_of tables.now)) result) }
+            (GivesOrFull (of_tables tables.now RegionsAsk) result) }
     {
-        PciConfigRegions::found(tables, allocator)
+        PciConfigRegions::new_in_exact(tables, allocator)
     }
 
-    /// `new_in`, by the exact clause from which its laws follow.
-    fn found<H: Lender>(tables: &AcpiTables<'_, H>, allocator: A) -> AcpiResult<Self>
+    /// What `new_in` answers: the first valid MCFG is looked up, and its entries are copied.
+    fn new_in_exact<H: Lender>(tables: &AcpiTables<'_, H>, allocator: A) -> AcpiResult<Self>
         requires { AllowsBelow tables.now (λ m. lookup_ranges m mcfg_kind) }
-        ensures { GivesOrFull (RegionsAsk (memory_of tables.now) (pointers_of tables.now)) result
-            (found_regions (memory_of tables.now) (pointers_of tables.now)) }
+        ensures { GivesOrFull (of_tables tables.now RegionsAsk) result
+            (of_tables tables.now found_regions) }
     {
         let mcfg = tables.find_table::<Mcfg>()?;
         let regions = collected(mcfg.entries(), allocator)?;
@@ -109,12 +109,12 @@ impl<A: Allocator> PciConfigRegions<A> {
         // Functions of one region lie at least 4096 bytes apart.
         ensures apart { IfSome result (IsApart self.now segment_group_no bus device function) }
     {
-        self.address_of(segment_group_no, bus, device, function)
+        self.physical_address_exact(segment_group_no, bus, device, function)
     }
 
-    /// `physical_address`, by the exact clause from which its law follows.
+    /// What `physical_address` answers: the region is found, and the sum taken in it.
     #[tactic(auto, unfolding(crate::specs::Pci::pci_address))]
-    fn address_of(&self, segment: u16, bus: u8, device: u8, function: u8) -> Option<u64>
+    fn physical_address_exact(&self, segment: u16, bus: u8, device: u8, function: u8) -> Option<u64>
         ensures { result ≡ pci_address self.now segment bus device function }
     {
         if device > 31 || function > 7 {

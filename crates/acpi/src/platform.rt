@@ -1,9 +1,9 @@
 //! What the platform has, as the tables say together.
 ghost use Rattle.acpi_base.specs.Steps.{GivesOrFull};
-ghost use Rattle.acpi.specs.Footprint.{AllowsBelow, FootprintBelow, lookup_ranges, platform_ranges};
-ghost use Rattle.acpi.specs.Platform.{PlatformAsks, ModelAsks, madt_kind, model_in, platform_beside, platform_of};
-ghost use Rattle.acpi.specs.Relocation.{Relocation};
-ghost use Rattle.acpi.specs.Tables.{memory_of, pointers_of};
+ghost use Rattle.acpi.specs.Footprint.{AllowsBelow, lookup_ranges, platform_ranges};
+ghost use Rattle.acpi.specs.Platform.{ModelAsks, madt_kind, model_in, platform_beside};
+ghost use Rattle.acpi.specs.PlatformAnswer.{GivesPlatform, PlatformFootprint, PlatformRelocation};
+ghost use Rattle.acpi.specs.Tables.{of_tables};
 
 pub mod interrupt;
 mod mailbox;
@@ -40,15 +40,12 @@ impl PlatformInfo<Global> {
     /// `new_in` over the global allocator.
     pub fn new<H: Lender>(alloc: Global, tables: &AcpiTables<'_, H>) -> AcpiResult<Self>
         requires { AllowsBelow tables.now platform_ranges }
-        ensures exact { GivesOrFull (PlatformAsks (memory_of tables.now) (pointers_of tables.now))
-            result (platform_of (memory_of tables.now) (pointers_of tables.now)) }
+        ensures exact { GivesPlatform tables.now result }
         // It depends on what the lookup of the FADT depends on, and where one is found, on what that
         // of the MADT depends on.
-        ensures footprint { FootprintBelow tables.now platform_ranges platform_of
-            (GivesOrFull (PlatformAsks (memory_of tables.now) (pointers_of tables.now)) result) }
+        ensures footprint { PlatformFootprint tables.now result }
         // It is the same wherever the valid tables lie.
-        ensures relocation { Relocation tables.now platform_of
-            (GivesOrFull (PlatformAsks (memory_of tables.now) (pointers_of tables.now)) result) }
+        ensures relocation { PlatformRelocation tables.now result }
     {
         PlatformInfo::new_in(tables, alloc)
     }
@@ -65,28 +62,24 @@ impl<A: Allocator + Clone> PlatformInfo<A> {
     /// at.
     pub fn new_in<H: Lender>(tables: &AcpiTables<'_, H>, allocator: A) -> AcpiResult<Self>
         requires { AllowsBelow tables.now platform_ranges }
-        ensures exact { GivesOrFull (PlatformAsks (memory_of tables.now) (pointers_of tables.now))
-            result (platform_of (memory_of tables.now) (pointers_of tables.now)) }
+        ensures exact { GivesPlatform tables.now result }
         // It depends on what the lookup of the FADT depends on, and where one is found, on what that
         // of the MADT depends on.
-        ensures footprint { FootprintBelow tables.now platform_ranges platform_of
-            (GivesOrFull (PlatformAsks (memory_of tables.now) (pointers_of tables.now)) result) }
+        ensures footprint { PlatformFootprint tables.now result }
         // It is the same wherever the valid tables lie.
-        ensures relocation { Relocation tables.now platform_of
-            (GivesOrFull (PlatformAsks (memory_of tables.now) (pointers_of tables.now)) result) }
+        ensures relocation { PlatformRelocation tables.now result }
     {
-        PlatformInfo::found(tables, allocator)
+        PlatformInfo::new_in_exact(tables, allocator)
     }
 
-    /// `new_in`, by the exact clause from which its laws follow.
+    /// What `new_in` answers: the first valid FADT is looked up, and then what is said beside it.
     #[tactic(auto, using(crate::proofs::Brief::profile_of_brief, crate::proofs::Brief::timer_in_brief))]
-    fn found<H: Lender>(tables: &AcpiTables<'_, H>, allocator: A) -> AcpiResult<Self>
+    fn new_in_exact<H: Lender>(tables: &AcpiTables<'_, H>, allocator: A) -> AcpiResult<Self>
         requires { AllowsBelow tables.now platform_ranges }
-        ensures { GivesOrFull (PlatformAsks (memory_of tables.now) (pointers_of tables.now)) result
-            (platform_of (memory_of tables.now) (pointers_of tables.now)) }
+        ensures { GivesPlatform tables.now result }
     {
         // It is looked at where it lies, so that it isn't copied.
-        let found = tables.first_member::<FadtBrief>();
+        let found = tables.find_table_exact::<FadtBrief>();
         match &found {
             Ok(fadt) => {
                 PlatformInfo::beside(fadt.power_profile(), PmTimer::of(fadt), tables, allocator)
@@ -104,8 +97,8 @@ impl<A: Allocator + Clone> PlatformInfo<A> {
         allocator: A,
     ) -> AcpiResult<Self>
         requires { AllowsBelow tables.now (λ m. lookup_ranges m madt_kind) }
-        ensures { GivesOrFull (ModelAsks (memory_of tables.now) (pointers_of tables.now)) result
-            (platform_beside (memory_of tables.now) (pointers_of tables.now) power_profile timer) }
+        ensures { GivesOrFull (of_tables tables.now ModelAsks) result
+            (of_tables tables.now platform_beside power_profile timer) }
     {
         let (interrupt_model, processor_info) = found_model(tables, allocator)?;
         let pm_timer = timer?;
@@ -124,8 +117,8 @@ fn found_model<H: Lender, A: Allocator + Clone>(
     allocator: A,
 ) -> AcpiResult<ModelAndProcessors<A>>
     requires { AllowsBelow tables.now (λ m. lookup_ranges m madt_kind) }
-    ensures { GivesOrFull (ModelAsks (memory_of tables.now) (pointers_of tables.now)) result
-        (model_in (memory_of tables.now) (pointers_of tables.now)) }
+    ensures { GivesOrFull (of_tables tables.now ModelAsks) result
+        (of_tables tables.now model_in) }
 {
     match tables.find_table::<Madt>() {
         Ok(madt) => madt.parse_interrupt_model_in(allocator),

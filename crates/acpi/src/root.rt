@@ -6,7 +6,7 @@ use acpi_base::Signature;
 
 /// The kind of a root table. Both list the tables that the firmware has, by their addresses.
 #[derive(Clone, Copy)]
-pub(crate) enum RootKind {
+pub enum RootKind {
     /// The RSDT, whose pointers have four bytes (section 5.2.7).
     Rsdt,
     /// The XSDT, whose pointers have eight (section 5.2.8).
@@ -15,7 +15,7 @@ pub(crate) enum RootKind {
 
 impl RootKind {
     /// The kind that a revision stands for: the RSDT for 0, else the XSDT.
-    pub(crate) fn of_revision(revision: u8) -> RootKind
+    pub fn of_revision(revision: u8) -> RootKind
         ensures { result ≡ root.kind_of_revision revision }
     {
         if revision == 0 {
@@ -26,7 +26,7 @@ impl RootKind {
     }
 
     /// The signature of such a table.
-    pub(crate) fn signature(self) -> Signature
+    pub fn signature(self) -> Signature
         ensures { result ≡ root.signature_of self }
     {
         match self {
@@ -36,7 +36,7 @@ impl RootKind {
     }
 
     /// How many bytes each of its pointers has.
-    pub(crate) fn width(self) -> usize
+    pub fn width(self) -> usize
         ensures value { result ≡ root.width_of self }
         ensures some { 1 ≤ result }
         ensures few { result ≤ 8 }
@@ -50,7 +50,7 @@ impl RootKind {
 
 /// Where a root table is looked for, and as what.
 #[derive(Clone, Copy)]
-pub(crate) struct RootPlace {
+pub(crate) struct RootPointer {
     /// The revision of what names the table.
     pub(crate) revision: u8,
     /// The table's kind.
@@ -59,12 +59,12 @@ pub(crate) struct RootPlace {
     pub(crate) address: u64,
 }
 
-impl RootPlace {
+impl RootPointer {
     /// The root table at an address that goes by a revision.
-    pub(crate) fn of_revision(revision: u8, address: u64) -> RootPlace
+    pub(crate) fn of_revision(revision: u8, address: u64) -> RootPointer
         ensures { result ≡ root.root_of_revision revision address }
     {
-        RootPlace {
+        RootPointer {
             revision,
             kind: RootKind::of_revision(revision),
             address,

@@ -7,11 +7,11 @@ ghost use Rattle.acpi.specs.OpenedRanges.{rsdp_ranges};
 ghost use Rattle.acpi.specs.Rsdp.{check_sum, check_whole_at, rsdp_at};
 
 mod area;
+mod raw_bytes;
 mod search;
-mod span;
 
-use self::span::Span;
-use crate::root::{RootKind, RootPlace};
+use self::raw_bytes::RawBytes;
+use crate::root::{RootKind, RootPointer};
 use acpi_base::bytes::{byte_sum, field, text_of};
 use acpi_base::{AcpiError, AcpiResult, Lender, PhysicalMapping, PhysicalRecord};
 
@@ -135,14 +135,14 @@ impl Rsdp {
 
     /// The root table that this leads to where it is valid: the RSDT where the revision or the
     /// XSDT's address is 0, else the XSDT, however bad the table there is.
-    pub(crate) fn root(&self) -> RootPlace
+    pub(crate) fn root(&self) -> RootPointer
         ensures { result ≡ root_of self.now }
     {
         let (kind, address) = match self.xsdt_address() {
             None | Some(0) => (RootKind::Rsdt, self.rsdt_address as u64),
             Some(address) => (RootKind::Xsdt, address),
         };
-        RootPlace {
+        RootPointer {
             revision: self.revision,
             kind,
             address,
@@ -169,7 +169,7 @@ impl Rsdp {
         self.validate_exact(bytes)
     }
 
-    /// `validate`, by the exact clause from which its law follows.
+    /// All checks of `validate`, and what they answer, without its law.
     #[tactic(auto, unfolding(crate::specs::Rsdp::check_rsdp))]
     fn validate_exact(&self, bytes: &[u8]) -> AcpiResult<()>
         requires least { 36 ≤ length bytes.now }
@@ -238,7 +238,7 @@ fn check_whole<H: Lender>(handler: &H, address: u64, length: usize) -> AcpiResul
     requires asked { H.may handler.now address length ≡ true }
     ensures { result ≡ check_whole_at (H.memory handler.now) address (Some length) }
 {
-    let whole = PhysicalMapping::<'_, H, Span>::map(handler, address, length)?;
+    let whole = PhysicalMapping::<'_, H, RawBytes>::map(handler, address, length)?;
     check_sum(whole.bytes())
 }
 

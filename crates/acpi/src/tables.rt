@@ -37,8 +37,8 @@ impl<'h, H: Lender> AcpiTables<'h, H> {
     ghost use Rattle.std.specs.Prelude.{◌≤◌, ◌∷◌, ◌++◌, ℕ, List};
     ghost use Rattle.std.specs.Prelude.{IfErr, IsErr, IfOk, Ok, Err};
     ghost use Rattle.acpi_base.specs.Ranges.{Allows, table_ranges};
-    ghost use Rattle.acpi_base.specs.Steps.{Gives, GivesOrFull};
-    ghost use Rattle.acpi_base.specs.Table.{kind, plain_kind, table_at};
+    ghost use Rattle.acpi_base.specs.Steps.{Gives};
+    ghost use Rattle.acpi_base.specs.Table.{plain_kind, table_at};
     ghost use Rattle.acpi_base.specs.declared.error.AcpiError.TheVariants.{TableMissing};
     ghost use Rattle.acpi_base.specs.declared.signature.TheConstants.Signature.{DSDT};
     ghost use Rattle.acpi.specs.Footprint.{AllowsBelow, FootprintBelow, dsdt_ranges, header_ranges};
@@ -46,10 +46,11 @@ impl<'h, H: Lender> AcpiTables<'h, H> {
     ghost use Rattle.acpi.specs.Lists.{dsdt_stream, stream_at};
     ghost use Rattle.acpi.specs.Lists.{faults_of, ssdt_streams, valid_headers};
     ghost use Rattle.acpi.specs.Lookup.{IsFirstValid, NoneValid, lookup};
-    ghost use Rattle.acpi.specs.Platform.{PlatformAsks, platform_of};
+    ghost use Rattle.acpi.specs.PlatformAnswer.{GivesPlatform, PlatformFootprint};
+    ghost use Rattle.acpi.specs.PlatformAnswer.{PlatformRelocation};
     ghost use Rattle.acpi.specs.Pointers.{pointers_left};
     ghost use Rattle.acpi.specs.Relocation.{Relocation};
-    ghost use Rattle.acpi.specs.Tables.{lender_of, may_of, memory_of, pointers_of, revision_of};
+    ghost use Rattle.acpi.specs.Tables.{lender_of, may_of, memory_of, of_tables, pointers_of, revision_of};
     ghost use Rattle.acpi.specs.Walks.{faults_left, headers_left, ssdts_left};
 
     /// The revision that the tables were opened with.
@@ -69,14 +70,12 @@ impl<'h, H: Lender> AcpiTables<'h, H> {
     /// The bytes of the first member of the root list that is valid for `T`.
     #[inline(always)]
     fn first_valid<T: AcpiTable>(&self) -> AcpiResult<ValidTable<'h, H>>
-        requires { let k = kind T.SIGNATURE T.MIN_LENGTH T.verdict in
-            AllowsBelow self.now (λ m. lookup_ranges m k) }
+        requires { AllowsBelow self.now (λ m. lookup_ranges m T.kind) }
         ensures handler { IfOk result (λ v. claimed_from v.claim ≡ lender_of self.now) }
         ensures lent { IfOk result (λ v. IsLentOf (memory_of self.now) v.claim) }
         ensures least { IfOk result (λ v. T.MIN_LENGTH ≤ length (shown_by v.claim)) }
-        ensures found { let k = kind T.SIGNATURE T.MIN_LENGTH T.verdict in
-            Gives (λ v. (claimed_at v.claim, shown_by v.claim)) result
-            (lookup (memory_of self.now) k (pointers_of self.now)) }
+        ensures found { Gives (λ v. (claimed_at v.claim, shown_by v.claim)) result
+            (of_tables self.now (λ m. lookup m T.kind)) }
     {
         for address in self.pointers() {
             if let Ok(found) = valid_at::<H, T>(self.root.handler(), address) {
@@ -86,16 +85,14 @@ impl<'h, H: Lender> AcpiTables<'h, H> {
         Err(AcpiError::TableMissing(T::SIGNATURE))
     }
 
-    /// The first member of the root list that is valid for `T`.
+    /// What `find_table` answers: a mapping of the first member that is valid for `T`.
     #[inline(always)]
-    pub(crate) fn first_member<T: AcpiTable>(&self) -> AcpiResult<PhysicalMapping<'h, H, T>>
-        requires { let k = kind T.SIGNATURE T.MIN_LENGTH T.verdict in
-            AllowsBelow self.now (λ m. lookup_ranges m k) }
+    pub(crate) fn find_table_exact<T: AcpiTable>(&self) -> AcpiResult<PhysicalMapping<'h, H, T>>
+        requires { AllowsBelow self.now (λ m. lookup_ranges m T.kind) }
         ensures handler { IfOk result (λ m. handler_of m ≡ lender_of self.now) }
         ensures lent { IfOk result (λ m. IsOfMemory (memory_of self.now) m) }
-        ensures found { let k = kind T.SIGNATURE T.MIN_LENGTH T.verdict in
-            Gives (λ m. (start_of m, bytes_of m)) result
-            (lookup (memory_of self.now) k (pointers_of self.now)) }
+        ensures found { Gives (λ m. (start_of m, bytes_of m)) result
+            (of_tables self.now (λ m. lookup m T.kind)) }
     {
         let found = self.first_valid::<T>()?;
         Ok(found.mapping())
@@ -107,37 +104,30 @@ impl<'h, H: Lender> AcpiTables<'h, H> {
     /// Refuses with `TableMissing`, carrying `T::SIGNATURE`, where no member is valid for `T`. A
     /// member that isn't lent, or fails another check, is passed over.
     pub fn find_table<T: AcpiTable>(&self) -> AcpiResult<PhysicalMapping<'h, H, T>>
-        requires { let k = kind T.SIGNATURE T.MIN_LENGTH T.verdict in
-            AllowsBelow self.now (λ m. lookup_ranges m k) }
+        requires { AllowsBelow self.now (λ m. lookup_ranges m T.kind) }
         ensures handler { IfOk result (λ m. handler_of m ≡ lender_of self.now) }
         // However many bytes were lent, all of them are the memory's.
         ensures lent { IfOk result (λ m. IsOfMemory (memory_of self.now) m) }
-        ensures exact { let k = kind T.SIGNATURE T.MIN_LENGTH T.verdict in
-            Gives (λ m. (start_of m, bytes_of m)) result
-            (lookup (memory_of self.now) k (pointers_of self.now)) }
+        ensures exact { Gives (λ m. (start_of m, bytes_of m)) result
+            (of_tables self.now (λ m. lookup m T.kind)) }
         // In the reader's words: the table found is valid, and none listed before it is.
-        ensures first { let k = kind T.SIGNATURE T.MIN_LENGTH T.verdict in
-            IfOk result (λ m.
-            IsFirstValid (memory_of self.now) k (pointers_of self.now) (start_of m) (bytes_of m)) }
+        ensures first { IfOk result (λ m.
+            IsFirstValid (memory_of self.now) T.kind (pointers_of self.now) (start_of m) (bytes_of m)) }
         // A member that isn't valid, put anywhere into the list, changes nothing.
-        ensures skips { let k = kind T.SIGNATURE T.MIN_LENGTH T.verdict in
-            (before after : List ℕ) (p : ℕ) → pointers_of self.now ≡ before ++ after
-            → IsErr (table_at (memory_of self.now) k p)
+        ensures skips { (before after : List ℕ) (p : ℕ) → pointers_of self.now ≡ before ++ after
+            → IsErr (table_at (memory_of self.now) T.kind p)
             → Gives (λ m. (start_of m, bytes_of m)) result
-            (lookup (memory_of self.now) k (before ++ p ∷ after)) }
-        ensures missing { let k = kind T.SIGNATURE T.MIN_LENGTH T.verdict in
-            IfErr result (λ e. (e ≡ TableMissing T.SIGNATURE)
-            × NoneValid (memory_of self.now) k (pointers_of self.now)) }
-        ensures absent { let k = kind T.SIGNATURE T.MIN_LENGTH T.verdict in
-            NoneValid (memory_of self.now) k (pointers_of self.now)
+            (lookup (memory_of self.now) T.kind (before ++ p ∷ after)) }
+        ensures missing { IfErr result (λ e. (e ≡ TableMissing T.SIGNATURE)
+            × NoneValid (memory_of self.now) T.kind (pointers_of self.now)) }
+        ensures absent { NoneValid (memory_of self.now) T.kind (pointers_of self.now)
             → result ≡ Err (TableMissing T.SIGNATURE) }
         // It depends on the root table, and of the members up to the one found on the header and,
         // where this has the names and the least length, on the table.
-        ensures footprint { let k = kind T.SIGNATURE T.MIN_LENGTH T.verdict in
-            FootprintBelow self.now (λ m. lookup_ranges m k) (λ n. lookup n k)
+        ensures footprint { FootprintBelow self.now (λ m. lookup_ranges m T.kind) (λ n. lookup n T.kind)
             (Gives (λ m. (start_of m, bytes_of m)) result) }
     {
-        self.first_member::<T>()
+        self.find_table_exact::<T>()
     }
 
     /// The headers of all members that are valid under the signatures that they bear, in order. It
@@ -145,7 +135,7 @@ impl<'h, H: Lender> AcpiTables<'h, H> {
     pub fn headers(&self) -> SdtHeaderIterator<'_, 'h, H>
         requires { AllowsBelow self.now header_ranges }
         ensures items { headers_left H.memory result
-            ≡ valid_headers (memory_of self.now) (pointers_of self.now) }
+            ≡ of_tables self.now valid_headers }
         ensures few { length (headers_left H.memory result) ≤ length (pointers_of self.now) }
         ensures fits { length (headers_left H.memory result) < 2 ^ 32 }
         // They depend on the root table and the members, each under its own signature.
@@ -163,7 +153,7 @@ impl<'h, H: Lender> AcpiTables<'h, H> {
     pub fn ssdts(&self) -> SsdtIterator<'_, 'h, H>
         requires { AllowsBelow self.now ssdt_ranges }
         ensures items { ssdts_left H.memory result
-            ≡ ssdt_streams (memory_of self.now) (pointers_of self.now) }
+            ≡ of_tables self.now ssdt_streams }
         ensures few { length (ssdts_left H.memory result) ≤ length (pointers_of self.now) }
         ensures fits { length (ssdts_left H.memory result) < 2 ^ 32 }
         // They depend on the root table and the members, each as an SSDT.
@@ -181,22 +171,22 @@ impl<'h, H: Lender> AcpiTables<'h, H> {
     /// with: `MapFailed`, `SdtInvalidSignature` and so on, carrying the DSDT's signature.
     pub fn dsdt(&self) -> AcpiResult<AmlTable>
         requires { AllowsBelow self.now dsdt_ranges }
-        ensures exact { result ≡ dsdt_stream (memory_of self.now) (pointers_of self.now) }
+        ensures exact { result ≡ of_tables self.now dsdt_stream }
         // It depends on what the lookup of the FADT depends on, and on the table led to.
         ensures footprint { FootprintBelow self.now dsdt_ranges dsdt_stream
             (λ said. result ≡ said) }
     {
-        self.find_dsdt()
+        self.dsdt_exact()
     }
 
-    /// `dsdt`, by the exact clause from which its footprint follows.
+    /// What `dsdt` answers: the first valid FADT is looked up, and the table that it leads to.
     #[tactic(auto, using(crate::proofs::Brief::dsdt_of_brief))]
-    fn find_dsdt(&self) -> AcpiResult<AmlTable>
+    fn dsdt_exact(&self) -> AcpiResult<AmlTable>
         requires { AllowsBelow self.now dsdt_ranges }
-        ensures { result ≡ dsdt_stream (memory_of self.now) (pointers_of self.now) }
+        ensures { result ≡ of_tables self.now dsdt_stream }
     {
         // It is looked at where it lies, so that it isn't copied.
-        let found = self.first_member::<FadtBrief>();
+        let found = self.find_table_exact::<FadtBrief>();
         match &found {
             Ok(fadt) => self.dsdt_at(fadt.dsdt_address()?),
             Err(error) => Err(*error),
@@ -217,19 +207,14 @@ impl<'h, H: Lender> AcpiTables<'h, H> {
     /// before the first valid one (of all where none is valid) whose refusal isn't
     /// `SdtInvalidSignature`, in order. It gives at most one for each pointer.
     pub fn faults<T: AcpiTable>(&self) -> TableFaults<'_, 'h, H, T>
-        requires { let k = kind T.SIGNATURE T.MIN_LENGTH T.verdict in
-            AllowsBelow self.now (λ m. lookup_ranges m k) }
-        ensures items { let k = kind T.SIGNATURE T.MIN_LENGTH T.verdict in
-            faults_left H.memory k result
-            ≡ faults_of (memory_of self.now) k (pointers_of self.now) }
-        ensures few { let k = kind T.SIGNATURE T.MIN_LENGTH T.verdict in
-            length (faults_left H.memory k result) ≤ length (pointers_of self.now) }
-        ensures fits { let k = kind T.SIGNATURE T.MIN_LENGTH T.verdict in
-            length (faults_left H.memory k result) < 2 ^ 32 }
+        requires { AllowsBelow self.now (λ m. lookup_ranges m T.kind) }
+        ensures items { faults_left H.memory T.kind result
+            ≡ of_tables self.now (λ m. faults_of m T.kind) }
+        ensures few { length (faults_left H.memory T.kind result) ≤ length (pointers_of self.now) }
+        ensures fits { length (faults_left H.memory T.kind result) < 2 ^ 32 }
         // They depend on the bytes that the lookup depends on.
-        ensures footprint { let k = kind T.SIGNATURE T.MIN_LENGTH T.verdict in
-            FootprintBelow self.now (λ m. lookup_ranges m k) (λ n ps. Ok (faults_of n k ps))
-            (λ said. said ≡ Ok (faults_left H.memory k result)) }
+        ensures footprint { FootprintBelow self.now (λ m. lookup_ranges m T.kind) (λ n ps. Ok (faults_of n T.kind ps))
+            (λ said. said ≡ Ok (faults_left H.memory T.kind result)) }
     {
         TableFaults::new(self.root.handler(), self.pointers())
     }
@@ -237,12 +222,9 @@ impl<'h, H: Lender> AcpiTables<'h, H> {
     /// `PlatformInfo::new` over these tables.
     pub fn platform_info(&self, alloc: Global) -> AcpiResult<PlatformInfo<Global>>
         requires { AllowsBelow self.now platform_ranges }
-        ensures exact { GivesOrFull (PlatformAsks (memory_of self.now) (pointers_of self.now))
-            result (platform_of (memory_of self.now) (pointers_of self.now)) }
-        ensures footprint { FootprintBelow self.now platform_ranges platform_of
-            (GivesOrFull (PlatformAsks (memory_of self.now) (pointers_of self.now)) result) }
-        ensures relocation { Relocation self.now platform_of
-            (GivesOrFull (PlatformAsks (memory_of self.now) (pointers_of self.now)) result) }
+        ensures exact { GivesPlatform self.now result }
+        ensures footprint { PlatformFootprint self.now result }
+        ensures relocation { PlatformRelocation self.now result }
     {
         PlatformInfo::new(alloc, self)
     }
@@ -253,12 +235,9 @@ impl<'h, H: Lender> AcpiTables<'h, H> {
         allocator: A,
     ) -> AcpiResult<PlatformInfo<A>>
         requires { AllowsBelow self.now platform_ranges }
-        ensures exact { GivesOrFull (PlatformAsks (memory_of self.now) (pointers_of self.now))
-            result (platform_of (memory_of self.now) (pointers_of self.now)) }
-        ensures footprint { FootprintBelow self.now platform_ranges platform_of
-            (GivesOrFull (PlatformAsks (memory_of self.now) (pointers_of self.now)) result) }
-        ensures relocation { Relocation self.now platform_of
-            (GivesOrFull (PlatformAsks (memory_of self.now) (pointers_of self.now)) result) }
+        ensures exact { GivesPlatform self.now result }
+        ensures footprint { PlatformFootprint self.now result }
+        ensures relocation { PlatformRelocation self.now result }
     {
         PlatformInfo::new_in(self, allocator)
     }

@@ -32,15 +32,15 @@ impl PhysicalRecord for Wsmt {
 }
 
 impl AcpiTable for Wsmt {
-    ghost use Rattle.std.proofs.Common.{lit≤};
-    ghost use Rattle.acpi_base.specs.Header.{check_table};
+    ghost use Rattle.std.proofs.Common.{lit≤, refl};
+    ghost use Rattle.acpi_base.specs.Table.{sdt_kind};
     ghost use Rattle.acpi_base.specs.declared.signature.TheConstants.Signature.{WSMT};
 
     const SIGNATURE: Signature = Signature::WSMT;
 
     ghost SIGNATURE = { WSMT };
 
-    ghost verdict = { check_table WSMT };
+    ghost kind = { sdt_kind WSMT 40 };
 
     fn header(&self) -> &SdtHeader {
         &self.header
@@ -51,6 +51,8 @@ impl AcpiTable for Wsmt {
     }
 
     ghost least = { lit≤ tt };
+
+    ghost agrees = { (refl, refl) };
 }
 
 /// Where the boot graphic lies, and what the firmware protects.

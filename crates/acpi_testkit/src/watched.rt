@@ -37,15 +37,15 @@ impl PhysicalRecord for Watched {
 }
 
 impl AcpiTable for Watched {
-    ghost use Rattle.std.proofs.Common.{lit≤};
-    ghost use Rattle.acpi_base.specs.Header.{check_table};
+    ghost use Rattle.std.proofs.Common.{lit≤, refl};
+    ghost use Rattle.acpi_base.specs.Table.{sdt_kind};
     ghost use Rattle.acpi_base.specs.declared.signature.TheConstants.Signature.{BGRT};
 
     const SIGNATURE: Signature = Signature::BGRT;
 
     ghost SIGNATURE = { BGRT };
 
-    ghost verdict = { check_table BGRT };
+    ghost kind = { sdt_kind BGRT 36 };
 
     fn header(&self) -> &SdtHeader {
         &self.header
@@ -57,4 +57,6 @@ impl AcpiTable for Watched {
     }
 
     ghost least = { lit≤ tt };
+
+    ghost agrees = { (refl, refl) };
 }

@@ -5,7 +5,7 @@ ghost use Rattle.acpi_base.specs.declared.error.AcpiError.TheVariants.{InvalidMa
 ghost use Rattle.acpi_base.specs.declared.error.MadtError.TheVariants.{WakeupApsTimeout};
 ghost use Rattle.acpi.specs.Footprint.{AllowsBelow, FootprintBelow, lookup_ranges};
 ghost use Rattle.acpi.specs.Platform.{madt_kind};
-ghost use Rattle.acpi.specs.Tables.{memory_of, pointers_of};
+ghost use Rattle.acpi.specs.Tables.{of_tables};
 ghost use Rattle.acpi.specs.Wake.{IsUntouched, Makes, MakesUntilWoken, Waits, Wakes};
 ghost use Rattle.acpi.specs.Wake.{mailbox_found, opening, reads, wakes_by};
 ghost use Rattle.acpi.specs.declared.platform.mailbox.MailboxWrite.{MailboxWrite};
@@ -33,35 +33,33 @@ pub fn wakeup_aps<H: Lender, M: Mailbox>(
 ) -> AcpiResult<()>
     requires { AllowsBelow tables.now (λ m. lookup_ranges m madt_kind) }
     ensures refused { (e : AcpiError)
-        → opening (M.open_answer mailbox.old) (mailbox_found (memory_of tables.now)
-        (pointers_of tables.now)) ≡ Err e
+        → opening (M.open_answer mailbox.old) (of_tables tables.now mailbox_found) ≡ Err e
         → (result ≡ Err e) × IsUntouched M.opened M.writes M.answer mailbox.old mailbox.new }
     ensures unchanged { (e : AcpiError)
-        → opening (M.open_answer mailbox.old) (mailbox_found (memory_of tables.now)
-        (pointers_of tables.now)) ≡ Err e → mailbox.new ≡ mailbox.old }
+        → opening (M.open_answer mailbox.old) (of_tables tables.now mailbox_found) ≡ Err e → mailbox.new ≡ mailbox.old }
     // These calls are made of the mailbox, in this order, and no others.
-    ensures made { (a : ℕ) → mailbox_found (memory_of tables.now) (pointers_of tables.now) ≡ Ok a
+    ensures made { (a : ℕ) → of_tables tables.now mailbox_found ≡ Ok a
         → OnOk (M.open_answer mailbox.old a) (MatchResult result
         (λ _. MakesUntilWoken M.called (M.answer mailbox.old) mailbox.old
         (wakes_by a apic_id wakeup_vector) mailbox.new)
         (λ _. Makes M.called mailbox.old
         (wakes_by a apic_id wakeup_vector ++ reads timeout_loops) mailbox.new)) }
     ensures answers_kept { (a : ℕ) → M.open_answer mailbox.new a ≡ M.open_answer mailbox.old a }
-    ensures opened { (a : ℕ) → mailbox_found (memory_of tables.now) (pointers_of tables.now) ≡ Ok a
+    ensures opened { (a : ℕ) → of_tables tables.now mailbox_found ≡ Ok a
         → OnOk (M.open_answer mailbox.old a) (M.opened mailbox.new ≡ Some a) }
     ensures written { OnOk (opening (M.open_answer mailbox.old)
-        (mailbox_found (memory_of tables.now) (pointers_of tables.now)))
+        (of_tables tables.now mailbox_found))
         (M.writes mailbox.new ≡ MailboxWrite.Command 0 ∷ MailboxWrite.ApicId apic_id
         ∷ MailboxWrite.WakeupVector wakeup_vector ∷ MailboxWrite.Command 1 ∷ []) }
     ensures answered { OnOk (opening (M.open_answer mailbox.old)
-        (mailbox_found (memory_of tables.now) (pointers_of tables.now)))
+        (of_tables tables.now mailbox_found))
         (MatchResult result
         (λ _. Wakes (M.answer mailbox.old) timeout_loops (M.answer mailbox.new))
         (λ e. (e ≡ InvalidMadt WakeupApsTimeout)
         × Waits (M.answer mailbox.old) timeout_loops (M.answer mailbox.new))) }
     // Where the mailbox lies, or why none is found, depends on what the lookup of the MADT depends on.
     ensures footprint { FootprintBelow tables.now (λ m. lookup_ranges m madt_kind) mailbox_found
-        (λ said. mailbox_found (memory_of tables.now) (pointers_of tables.now) ≡ said) }
+        (λ said. of_tables tables.now mailbox_found ≡ said) }
 {
     let address = mailbox_address(tables)?;
     wake(mailbox, address, apic_id, wakeup_vector, timeout_loops)
@@ -73,7 +71,7 @@ pub fn wakeup_aps<H: Lender, M: Mailbox>(
 /// `get_mpwk_mailbox_addr` refuses.
 fn mailbox_address<H: Lender>(tables: &AcpiTables<'_, H>) -> AcpiResult<u64>
     requires { AllowsBelow tables.now (λ m. lookup_ranges m madt_kind) }
-    ensures { result ≡ mailbox_found (memory_of tables.now) (pointers_of tables.now) }
+    ensures { result ≡ of_tables tables.now mailbox_found }
 {
     tables.find_table::<Madt>()?.get_mpwk_mailbox_addr()
 }

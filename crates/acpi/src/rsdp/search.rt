@@ -11,7 +11,7 @@ ghost use Rattle.acpi.specs.Rsdp.{rsd_ptr};
 ghost use Rattle.acpi.specs.Search.{count_of, found_in, found_rsdp, placed, room_of, walk, word_in};
 
 use super::area::{Area, FIRST_AREA, second_area};
-use super::span::Span;
+use super::raw_bytes::RawBytes;
 use super::{Rsdp, map_rsdp};
 use acpi_base::bytes::field;
 use acpi_base::{AcpiError, AcpiResult, Lender, PhysicalMapping};
@@ -73,7 +73,7 @@ fn search_area<'h, H: Lender>(
     ensures found { Gives (option_map placed) result (found_in (H.memory handler.now) area) }
 {
     let length = (area.end - area.start + 16) as usize;
-    let mapping = PhysicalMapping::<'h, H, Span>::map(handler, area.start, length)?;
+    let mapping = PhysicalMapping::<'h, H, RawBytes>::map(handler, area.start, length)?;
     Ok(first_candidate(handler, area, mapping.bytes()))
 }
 
@@ -83,13 +83,15 @@ fn area_word<H: Lender>(handler: &H) -> AcpiResult<u16>
     requires { H.may handler.now 0x40e 2 ≡ true }
     ensures { Gives (λ w. w) result (word_in (H.memory handler.now)) }
 {
-    let word = PhysicalMapping::<'_, H, Span>::map(handler, 0x40e, 2)?;
+    let word = PhysicalMapping::<'_, H, RawBytes>::map(handler, 0x40e, 2)?;
     Ok(field(word.bytes(), 0, 2) as u16)
 }
 
-/// The search, step by step.
+/// The RSDP that `search_for_on_bios` answers, or its refusal: the search, step by step.
 #[tactic(auto, using(crate::proofs::Asked::asked_word), unfolding(crate::specs::Search::found_rsdp))]
-fn search_areas<'h, H: Lender>(handler: &'h H) -> AcpiResult<PhysicalMapping<'h, H, Rsdp>>
+fn search_for_on_bios_exact<'h, H: Lender>(
+    handler: &'h H,
+) -> AcpiResult<PhysicalMapping<'h, H, Rsdp>>
     requires { Allows (H.may handler.now) (search_ranges (H.memory handler.now)) }
     ensures handler { IfOk result (λ m. handler_of m ≡ handler.now) }
     ensures lent { IfOk result (λ m. IsOfMemory (H.memory handler.now) m) }
@@ -143,6 +145,6 @@ impl Rsdp {
         ensures footprint { let m = H.memory handler.now in
             Footprint m (search_ranges m) found_rsdp (Gives placed result) }
     {
-        search_areas(handler)
+        search_for_on_bios_exact(handler)
     }
 }

@@ -7,7 +7,7 @@ ghost use Rattle.acpi.specs.Footprint.{root_ranges};
 ghost use Rattle.acpi.specs.Root.{root_at};
 
 use super::AcpiTables;
-use crate::root::{RootKind, RootPlace};
+use crate::root::{RootKind, RootPointer};
 use crate::rsdp::{Rsdp, map_rsdp};
 use acpi_base::sdt::{SdtHeader, map_sdt};
 use acpi_base::{AcpiResult, Lender, PhysicalMapping, PhysicalRecord};
@@ -59,11 +59,11 @@ impl<'h, H: Lender> AcpiTables<'h, H> {
             Footprint m (opened_by_rsdp_ranges m address) (λ n. opened_by_rsdp n address)
             (Gives (λ t. opened_of t) result) }
     {
-        AcpiTables::open_by_rsdp(handler, address)
+        AcpiTables::from_rsdp_exact(handler, address)
     }
 
-    /// `from_rsdp`, by the exact clauses from which its footprint follows.
-    fn open_by_rsdp(handler: &'h H, address: u64) -> AcpiResult<Self>
+    /// What `from_rsdp` answers: the RSDP is mapped, and the root table that it leads to opened.
+    fn from_rsdp_exact(handler: &'h H, address: u64) -> AcpiResult<Self>
         requires { Allows (H.may handler.now) (opened_by_rsdp_ranges (H.memory handler.now) address) }
         ensures handler { IfOk result (λ t. lender_of t ≡ handler.now) }
         ensures exact { Gives (λ t. opened_of t) result
@@ -90,11 +90,11 @@ impl<'h, H: Lender> AcpiTables<'h, H> {
             Footprint m (opened_by_search_ranges m) opened_by_search
             (Gives (λ t. opened_of t) result) }
     {
-        AcpiTables::open_by_search(handler)
+        AcpiTables::search_for_rsdp_bios_exact(handler)
     }
 
-    /// `search_for_rsdp_bios`, by the exact clauses from which its footprint follows.
-    fn open_by_search(handler: &'h H) -> AcpiResult<Self>
+    /// What `search_for_rsdp_bios` answers: the RSDP is searched for, and the root table opened.
+    fn search_for_rsdp_bios_exact(handler: &'h H) -> AcpiResult<Self>
         requires { Allows (H.may handler.now) (opened_by_search_ranges (H.memory handler.now)) }
         ensures handler { IfOk result (λ t. lender_of t ≡ handler.now) }
         ensures exact { Gives (λ t. opened_of t) result (opened_by_search (H.memory handler.now)) }
@@ -126,12 +126,15 @@ impl<'h, H: Lender> AcpiTables<'h, H> {
             Footprint m (opened_by_rsdp_ranges m (start_of mapping.entry))
             (λ n. opened_by_rsdp n (start_of mapping.entry)) (Gives (λ t. opened_of t) result) }
     {
-        AcpiTables::open_validated(handler, mapping)
+        AcpiTables::from_validated_rsdp_exact(handler, mapping)
     }
 
-    /// `from_validated_rsdp`, by the exact clauses from which its footprint follows.
+    /// What `from_validated_rsdp` answers: the RSDP is mapped again, and the root table opened.
     #[tactic(auto, using(crate::proofs::Led::valid_lent))]
-    fn open_validated(handler: &'h H, mapping: PhysicalMapping<'h, H, Rsdp>) -> AcpiResult<Self>
+    fn from_validated_rsdp_exact(
+        handler: &'h H,
+        mapping: PhysicalMapping<'h, H, Rsdp>,
+    ) -> AcpiResult<Self>
         requires valid { IsOk (rsdp_at (H.memory handler.now) (start_of mapping)) }
         requires asked { Allows (H.may handler.now)
             (opened_by_rsdp_ranges (H.memory handler.now) (start_of mapping)) }
@@ -155,9 +158,9 @@ impl<'h, H: Lender> AcpiTables<'h, H> {
             (opened_from (H.memory handler.now) (root_of_rsdp (bytes_of rsdp.entry))) }
         ensures pointers { IfOk result (λ t. SpellsPointers t) }
     {
-        let place = rsdp.get().root();
+        let root_pointer = rsdp.get().root();
         drop(rsdp);
-        AcpiTables::open(handler, place)
+        AcpiTables::open(handler, root_pointer)
     }
 
     /// The tables below the root table at an address: the RSDT, with pointers of four bytes, for
@@ -179,11 +182,11 @@ impl<'h, H: Lender> AcpiTables<'h, H> {
             Footprint m (opened_ranges m (root_of_revision revision address))
             (λ n. opened_at n (revision, address)) (Gives (λ t. opened_of t) result) }
     {
-        AcpiTables::open_at(handler, revision, address)
+        AcpiTables::from_rsdt_exact(handler, revision, address)
     }
 
-    /// `from_rsdt`, by the exact clauses from which its footprint follows.
-    fn open_at(handler: &'h H, revision: u8, address: u64) -> AcpiResult<Self>
+    /// What `from_rsdt` answers: the root table of the revision's kind is opened.
+    fn from_rsdt_exact(handler: &'h H, revision: u8, address: u64) -> AcpiResult<Self>
         requires { Allows (H.may handler.now)
             (opened_ranges (H.memory handler.now) (root_of_revision revision address)) }
         ensures handler { IfOk result (λ t. lender_of t ≡ handler.now) }
@@ -191,20 +194,20 @@ impl<'h, H: Lender> AcpiTables<'h, H> {
             (opened_at (H.memory handler.now) (revision, address)) }
         ensures pointers { IfOk result (λ t. SpellsPointers t) }
     {
-        AcpiTables::open(handler, RootPlace::of_revision(revision, address))
+        AcpiTables::open(handler, RootPointer::of_revision(revision, address))
     }
 
     /// The tables below a root table.
-    fn open(handler: &'h H, place: RootPlace) -> AcpiResult<Self>
-        requires { Allows (H.may handler.now) (opened_ranges (H.memory handler.now) place) }
+    fn open(handler: &'h H, root_pointer: RootPointer) -> AcpiResult<Self>
+        requires { Allows (H.may handler.now) (opened_ranges (H.memory handler.now) root_pointer) }
         ensures handler { IfOk result (λ t. lender_of t ≡ handler.now) }
-        ensures exact { Gives (λ t. opened_of t) result (opened_from (H.memory handler.now) place) }
+        ensures exact { Gives (λ t. opened_of t) result (opened_from (H.memory handler.now) root_pointer) }
         ensures pointers { IfOk result (λ t. SpellsPointers t) }
     {
-        let root = map_root(handler, place.kind, place.address)?;
+        let root = map_root(handler, root_pointer.kind, root_pointer.address)?;
         Ok(AcpiTables {
-            revision: place.revision,
-            kind: place.kind,
+            revision: root_pointer.revision,
+            kind: root_pointer.kind,
             root,
         })
     }

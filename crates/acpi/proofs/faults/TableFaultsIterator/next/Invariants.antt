@@ -1,5 +1,4 @@
 use Rattle.std.proofs.Common.{◌≡◌, length}
-use Rattle.acpi_base.specs.Table.{kind}
 use Rattle.acpi.specs.Pointers.{pointers_left}
 use Rattle.acpi.specs.Walks.{faults_left}
 use Rattle.acpi.proofs.faults.TableFaultsIterator.next.Given as goal
@@ -8,7 +7,7 @@ use Rattle.acpi.proofs.faults.TableFaultsIterator.next.Given as goal
 abbrev pub invariant-loop-address : goal.invariant-loop-address
 invariant-loop-address g l =
     let m = g.H.Lender.memory in
-    let k = kind g.T.AcpiTable.SIGNATURE g.T.PhysicalRecord.MIN_LENGTH g.T.AcpiTable.verdict in
+    let k = g.T.AcpiTable.kind in
     faults_left m k l.self ≡ faults_left m k l.fn.self
 
 abbrev pub decreases-loop-address : goal.decreases-loop-address

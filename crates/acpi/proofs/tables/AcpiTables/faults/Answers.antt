@@ -1,4 +1,3 @@
-use Rattle.acpi_base.specs.Table.{kind}
 use Rattle.std.proofs.Common.{refl}
 use Rattle.acpi.proofs.Agreed.{from_tables, in_ok, same_faults}
 use Rattle.acpi.proofs.Passed.{faults_few, fits_root}
@@ -14,4 +13,4 @@ returns-clause-fits g c =
     rw (c.new.ensures, c.pointers.ensures) (fits_root _ (width_of (kind_of c.args.self.now)) (root_of c.args.self.now) c.args.self.now.short (faults_few _ _ _))
 
 pub returns-clause-footprint : goal.returns-clause-footprint
-returns-clause-footprint g c = λ n h. rw (from_tables c.args.self.now _ _ (in_ok _ _ (same_faults (kind g.T.AcpiTable.SIGNATURE g.T.PhysicalRecord.MIN_LENGTH g.T.AcpiTable.verdict))) c.args.self.now.valid n h) (rw (c.new.ensures, c.handler.ensures, c.pointers.ensures) refl)
+returns-clause-footprint g c = λ n h. rw (from_tables c.args.self.now _ _ (in_ok _ _ (same_faults g.T.AcpiTable.kind)) c.args.self.now.valid n h) (rw (c.new.ensures, c.handler.ensures, c.pointers.ensures) refl)

@@ -1,17 +1,16 @@
 use Rattle.std.proofs.Common.{subst, sym}
 use Rattle.acpi_base.specs.Ranges.{Allows, table_ranges}
-use Rattle.acpi_base.specs.Table.{kind}
 use Rattle.acpi.proofs.Asked.{asked_member, later_kept}
 use Rattle.acpi.specs.Tables.{may_of, memory_of}
 use Rattle.acpi.proofs.tables.AcpiTables.first_valid.Goals as goal
 
 pub valid_at-requires : goal.valid_at-requires
 valid_at-requires g c =
-    let k = kind g.T.AcpiTable.SIGNATURE g.T.PhysicalRecord.MIN_LENGTH g.T.AcpiTable.verdict in
+    let k = g.T.AcpiTable.kind in
     subst (λ h. Allows (g.H.Lender.may h) (table_ranges (g.H.Lender.memory h) k c.in-Some.address)) (sym c.handler.ensures)
     (asked_member (may_of c.args.self.now) (memory_of c.args.self.now) k c.in-Some.address _ _ c.in-Some.ensures.steps c.loop-address.invariant.1)
 
 pub loop-address-preserved : goal.loop-address-preserved
 loop-address-preserved g c =
-    later_kept (may_of c.args.self.now) (memory_of c.args.self.now) (kind g.T.AcpiTable.SIGNATURE g.T.PhysicalRecord.MIN_LENGTH g.T.AcpiTable.verdict)
+    later_kept (may_of c.args.self.now) (memory_of c.args.self.now) g.T.AcpiTable.kind
     c.in-Some.address _ _ _ c.in_default.field-0 (rw c.handler.ensures at c.in_default.ensures.table) c.in-Some.ensures.steps c.loop-address.invariant

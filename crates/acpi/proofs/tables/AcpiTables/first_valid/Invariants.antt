@@ -1,5 +1,4 @@
 use Rattle.std.proofs.Common.{◌≡◌}
-use Rattle.acpi_base.specs.Table.{kind}
 use Rattle.acpi_base.specs.Ranges.{Allows}
 use Rattle.acpi.specs.Footprint.{lookup_ranges}
 use Rattle.acpi.specs.Lookup.{lookup}
@@ -11,6 +10,6 @@ use Rattle.acpi.proofs.tables.AcpiTables.first_valid.Given as goal
 abbrev pub invariant-loop-address : goal.invariant-loop-address
 invariant-loop-address g l =
     let m = g.H.Lender.memory (lender_of l.self) in
-    let k = kind g.T.AcpiTable.SIGNATURE g.T.PhysicalRecord.MIN_LENGTH g.T.AcpiTable.verdict in
+    let k = g.T.AcpiTable.kind in
     (lookup m k (pointers_left l.address-iterator) ≡ lookup m k (pointers_of l.self))
     × Allows (may_of l.self) (lookup_ranges m k (pointers_left l.address-iterator))

@@ -3,4 +3,4 @@ use Rattle.acpi.proofs.tables.AcpiTables.open.Goals as goal
 
 pub returns-clause-pointers : goal.returns-clause-pointers
 returns-clause-pointers g c =
-    root_pointers _ c.args.place.kind c.args.place.address _ (g.met.H.Lender.regions c.args.handler.now) c.in_ok-root.ensures.root
+    root_pointers _ c.args.root_pointer.kind c.args.root_pointer.address _ (g.met.H.Lender.regions c.args.handler.now) c.in_ok-root.ensures.root

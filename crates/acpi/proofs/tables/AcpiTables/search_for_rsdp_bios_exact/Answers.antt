@@ -1,5 +1,5 @@
 use Rattle.acpi.proofs.Asked.{asked_found, asked_search}
-use Rattle.acpi.proofs.tables.AcpiTables.open_by_search.Goals as goal
+use Rattle.acpi.proofs.tables.AcpiTables.search_for_rsdp_bios_exact.Goals as goal
 
 pub search_for_on_bios-requires : goal.search_for_on_bios-requires
 search_for_on_bios-requires g c =

@@ -1,5 +1,5 @@
 use Rattle.acpi.proofs.Asked.{asked_first, asked_root}
-use Rattle.acpi.proofs.tables.AcpiTables.open_by_rsdp.Goals as goal
+use Rattle.acpi.proofs.tables.AcpiTables.from_rsdp_exact.Goals as goal
 
 pub map_rsdp-requires : goal.map_rsdp-requires
 map_rsdp-requires g c =

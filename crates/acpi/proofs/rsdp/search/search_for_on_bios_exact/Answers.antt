@@ -2,7 +2,7 @@ use Rattle.std.proofs.Common.{subst, sym}
 use Rattle.acpi_base.specs.Ranges.{Allows}
 use Rattle.acpi.specs.OpenedRanges.{area_ranges}
 use Rattle.acpi.proofs.Asked.{asked_first_area, asked_second_area}
-use Rattle.acpi.proofs.rsdp.search.search_areas.Goals as goal
+use Rattle.acpi.proofs.rsdp.search.search_for_on_bios_exact.Goals as goal
 
 pub search_area-requires-clause-asked : goal.search_area-requires-clause-asked
 search_area-requires-clause-asked g c =

@@ -3,9 +3,9 @@ use acpi_base::PhysicalRecord;
 
 /// A record that means nothing: a mapping of it shows the bytes, at least one, as they are.
 #[derive(Clone, Copy)]
-pub(crate) struct Span;
+pub(crate) struct RawBytes;
 
-impl PhysicalRecord for Span {
+impl PhysicalRecord for RawBytes {
     const MIN_LENGTH: usize = 1;
 
     ghost MIN_LENGTH = { 1 };
@@ -13,6 +13,6 @@ impl PhysicalRecord for Span {
     ghost reading = { λ b. record {} };
 
     fn read(_bytes: &[u8]) -> Self {
-        Span
+        RawBytes
     }
 }

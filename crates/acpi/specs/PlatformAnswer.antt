@@ -1,0 +1,28 @@
+-- What calls say that answer the platform of some tables.
+use Rattle.std.specs.Prelude.{Result}
+use Rattle.acpi_base.specs.Steps.{GivesOrFull}
+use Rattle.acpi_base.specs.declared.error.AcpiError.{AcpiError}
+use Rattle.acpi.specs.Footprint.{FootprintBelow, platform_ranges}
+use Rattle.acpi.specs.Platform.{PlatformAsks, platform_of}
+use Rattle.acpi.specs.Relocation.{Relocation}
+use Rattle.acpi.specs.Tables.{of_tables}
+use Rattle.acpi.specs.declared.platform.PlatformInfo.{PlatformInfo}
+use Rattle.acpi.specs.declared.tables.AcpiTables.{AcpiTables}
+
+-- it is the platform that is defined, or AllocError where memory may be asked for
+abbrev pub GivesPlatform : {A : Type 0} {H h : _} → AcpiTables H h → Result (PlatformInfo A) AcpiError
+    → Type 0
+GivesPlatform t answer = GivesOrFull (of_tables t PlatformAsks) answer (of_tables t platform_of)
+
+-- it depends on what the lookup of the FADT depends on, and where one is found, on what that of the
+-- MADT depends on
+abbrev pub PlatformFootprint : {A : Type 0} {H h : _} → AcpiTables H h
+    → Result (PlatformInfo A) AcpiError → Type 0
+PlatformFootprint t answer =
+    FootprintBelow t platform_ranges platform_of (GivesOrFull (of_tables t PlatformAsks) answer)
+
+-- it is the same wherever the valid tables lie
+abbrev pub PlatformRelocation : {A : Type 0} {H h : _} → AcpiTables H h
+    → Result (PlatformInfo A) AcpiError → Type 0
+PlatformRelocation t answer =
+    Relocation t platform_of (GivesOrFull (of_tables t PlatformAsks) answer)
