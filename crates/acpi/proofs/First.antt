@@ -6,6 +6,7 @@ use Rattle.acpi_base.specs.Steps.{Gives}
 use Rattle.acpi_base.specs.Table.{Kind, table_at}
 use Rattle.acpi_base.specs.declared.error.AcpiError.{AcpiError}
 use Rattle.acpi_base.specs.declared.error.AcpiError.TheVariants.{TableMissing}
+use Rattle.acpi_base.specs.declared.signature.Signature.{Signature}
 use Rattle.acpi.specs.Laws.{LookupIsFirst}
 use Rattle.acpi.specs.Later.{or_later}
 use Rattle.acpi.specs.Lookup.{IsFirstValid, NoneValid, lookup}
@@ -78,13 +79,15 @@ pub gives_first : {X : Type 0} (m : Memory) (k : Kind) (ps : List ℕ) (place : 
 gives_first m k ps place bytes (Ok x) said = is_first m k ps (place x) (bytes x) said
 gives_first m k ps place bytes (Err e) said = tt
 
-pub gives_missing : {X : Type 0} (m : Memory) (k : Kind) (ps : List ℕ) (view : X → ℕ × List ℕ) (r : Result X AcpiError) → Gives view r (lookup m k ps) → IfErr r (λ e. (e ≡ TableMissing k.signature) × NoneValid m k ps)
-gives_missing m k ps view (Ok x) said = tt
-gives_missing m k ps view (Err e) said = none_valid m k ps e said
+pub gives_missing : {X : Type 0} (m : Memory) (k : Kind) (ps : List ℕ) (view : X → ℕ × List ℕ) (r : Result X AcpiError) (s : Signature) → k.signature ≡ s → Gives view r (lookup m k ps) → IfErr r (λ e. (e ≡ TableMissing s) × NoneValid m k ps)
+gives_missing m k ps view (Ok x) s same said = tt
+gives_missing m k ps view (Err e) s same said =
+    let none = none_valid m k ps e said in
+    (none.0 ∙ ap TableMissing same, none.1)
 
 refused_as : {X : Type 0} (view : X → ℕ × List ℕ) (r : Result X AcpiError) (e : AcpiError) (said : Result (ℕ × List ℕ) AcpiError) → said ≡ Err e → Gives view r said → r ≡ Err e
 refused_as view (Ok x) e said none gives = absurd cc
 refused_as view (Err d) e said none gives = let same : d ≡ e = cc in rw same refl
 
-pub gives_absent : {X : Type 0} (m : Memory) (k : Kind) (ps : List ℕ) (view : X → ℕ × List ℕ) (r : Result X AcpiError) → Gives view r (lookup m k ps) → NoneValid m k ps → r ≡ Err (TableMissing k.signature)
-gives_absent m k ps view r gives none = refused_as view r (TableMissing k.signature) (lookup m k ps) (none_found m k ps none) gives
+pub gives_absent : {X : Type 0} (m : Memory) (k : Kind) (ps : List ℕ) (view : X → ℕ × List ℕ) (r : Result X AcpiError) (s : Signature) → k.signature ≡ s → Gives view r (lookup m k ps) → NoneValid m k ps → r ≡ Err (TableMissing s)
+gives_absent m k ps view r s same gives none = rw (← same) (refused_as view r (TableMissing k.signature) (lookup m k ps) (none_found m k ps none) gives)

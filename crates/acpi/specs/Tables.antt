@@ -37,7 +37,7 @@ abbrev pub pointers_of : {H h : _} → AcpiTables H h → List ℕ
 pointers_of t = pointers (width_of (kind_of t)) (drop 36 (root_of t))
 
 -- what a definition over a memory and the pointers in it says of the tables
-abbrev pub of_tables : {ℓ} {A : Type ℓ} {H h : _} → AcpiTables H h → (Memory → List ℕ → A) → A
+abbrev pub of_tables {ℓ} : {A : Type ℓ} {H h : _} → AcpiTables H h → (Memory → List ℕ → A) → A
 of_tables t defined = defined (memory_of t) (pointers_of t)
 
 -- in the reader's words: the bytes behind the root table's header spell these pointers and no

@@ -9,7 +9,7 @@ use Rattle.acpi_base.specs.Bytes.{field_of, number, part, spelling, sum_of}
 use Rattle.acpi_base.specs.Memory.{Memory, Region, IsMemory}
 use Rattle.acpi_base.specs.Steps.{lent}
 use Rattle.acpi_base.specs.declared.error.AcpiError.{AcpiError}
-use Rattle.acpi.specs.Root.{place, root_of_revision}
+use Rattle.acpi.specs.Root.{root_of_revision, root_pointer}
 use Rattle.acpi.specs.declared.root.RootKind.TheVariants.{Rsdt, Xsdt}
 use Rattle.acpi.specs.Rsdp.{check_first, check_length, check_sum, length_of, root_of_rsdp, rsd_ptr, rsdp_at, rsdp_of}
 use Rattle.acpi_image.proofs.Placed.{lent_start}
@@ -116,7 +116,7 @@ module _ (revision rsdt count xsdt x y : ℕ) where
       let many : (rsdp_of bytes).length ≡ number (spelling 4 count) = rsdp_length bytes ∙ count_is in
       rw (first_passes zero_sum, revision_of, many) refl
 
-  leads : root_of_rsdp bytes ≡ (if revision == 0 || number (spelling 8 xsdt) == 0 then place revision Rsdt (number (spelling 4 rsdt)) else place revision Xsdt (number (spelling 8 xsdt)))
+  leads : root_of_rsdp bytes ≡ (if revision == 0 || number (spelling 8 xsdt) == 0 then root_pointer revision Rsdt (number (spelling 4 rsdt)) else root_pointer revision Xsdt (number (spelling 8 xsdt)))
   leads =
       let first : (rsdp_of bytes).rsdt_address ≡ number (spelling 4 rsdt) = rsdp_rsdt bytes ∙ rsdt_is in
       let second : (rsdp_of bytes).xsdt_address ≡ number (spelling 8 xsdt) = rsdp_xsdt bytes ∙ xsdt_is in

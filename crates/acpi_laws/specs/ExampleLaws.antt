@@ -25,7 +25,7 @@ use Rattle.acpi.specs.OpenedRanges.{root_and_ranges, rsdp_ranges, search_ranges}
 use Rattle.acpi.specs.Pci.{found_regions, mcfg_kind}
 use Rattle.acpi.specs.Platform.{madt_kind, platform_of}
 use Rattle.acpi.specs.Relocation.{bytes_found}
-use Rattle.acpi.specs.Root.{place}
+use Rattle.acpi.specs.Root.{root_pointer}
 use Rattle.acpi.specs.Rsdp.{rsdp_at}
 use Rattle.acpi.specs.Search.{found_rsdp}
 use Rattle.acpi.specs.Wake.{mailbox_found}
@@ -134,13 +134,13 @@ RsdpInstance = Instance here there rsdp_ranges rsdp_at 0x500 (Ok rsdp)
 
 abbrev pub OpenedInstance : Type 0
 OpenedInstance =
-    Instance here there opened_ranges opened_from (place 0 Rsdt 0x1000) (Ok opened)
+    Instance here there opened_ranges opened_from (root_pointer 0 Rsdt 0x1000) (Ok opened)
 
 -- what may be asked for to open the RSDT and to look the HPET up: of the table whose id is refused
 -- and of the FADT the header, and nothing behind the HPET
 abbrev pub AskedInstance : Type 0
 AskedInstance =
-    root_and_ranges here (place 0 Rsdt 0x1000) (λ m. lookup_ranges m hpet_kind)
+    root_and_ranges here (root_pointer 0 Rsdt 0x1000) (λ m. lookup_ranges m hpet_kind)
     ≡ (0x1000, 36) ∷ (0x1000, 60) ∷ (0x2000, 36) ∷ (0x3000, 36) ∷ (0x4000, 36) ∷ (0x4000, 56) ∷ []
 
 abbrev pub OpenedByRsdpInstance : Type 0

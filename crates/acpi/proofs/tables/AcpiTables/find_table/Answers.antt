@@ -8,10 +8,12 @@ pub returns-clause-first : goal.returns-clause-first
 returns-clause-first g c = gives_first _ _ _ (λ m. start_of m) (λ m. bytes_of m) _ c.find_table_exact.ensures.found
 
 pub returns-clause-missing : goal.returns-clause-missing
-returns-clause-missing g c = gives_missing _ _ _ (λ m. (start_of m, bytes_of m)) _ c.find_table_exact.ensures.found
+returns-clause-missing g c =
+    gives_missing _ _ _ (λ m. (start_of m, bytes_of m)) _ _ (g.met.T.AcpiTable.agrees).0 c.find_table_exact.ensures.found
 
 pub returns-clause-absent : goal.returns-clause-absent
-returns-clause-absent g c = gives_absent _ _ _ (λ m. (start_of m, bytes_of m)) _ c.find_table_exact.ensures.found
+returns-clause-absent g c =
+    gives_absent _ _ _ (λ m. (start_of m, bytes_of m)) _ _ (g.met.T.AcpiTable.agrees).0 c.find_table_exact.ensures.found
 
 pub returns-clause-skips : goal.returns-clause-skips
 returns-clause-skips g c = gives_skipping _ _ _ (λ m. (start_of m, bytes_of m)) _ c.find_table_exact.ensures.found
