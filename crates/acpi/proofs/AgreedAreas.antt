@@ -1,7 +1,7 @@
 -- Memories that agree on the ranges of a search in areas find the same RSDP there.
 use Rattle.std.proofs.Common.{◌≡◌, ℕ, List, [], ◌∷◌, Option, Some, None, refl}
 use Rattle.std.specs.Option.{option_or}
-use Rattle.acpi_base.proofs.Agreement.{all_back, all_front}
+use Rattle.acpi_base.proofs.TableFootprints.{each_back, each_front}
 use Rattle.acpi_base.specs.Memory.{Memory}
 use Rattle.acpi_base.specs.Ranges.{AgreesOn}
 use Rattle.acpi_base.specs.declared.range.AddressRange.{AddressRange}
@@ -17,8 +17,8 @@ same_later m n areas None later h = later h
 same_among : (m n : Memory) (areas : List AddressRange) → AgreesOn m n (areas_ranges m areas) → found_among n areas ≡ found_among m areas
 same_among m n [] h = refl
 same_among m n (s ∷ areas) h =
-    let front = same_walk m n (count_in s) (first_in s) (all_front _ (walk_ranges m (count_in s) (first_in s)) _ h) in
-    let after = all_back _ (walk_ranges m (count_in s) (first_in s)) _ h in
+    let front = same_walk m n (count_in s) (first_in s) (each_front _ (walk_ranges m (count_in s) (first_in s)) _ h) in
+    let after = each_back _ (walk_ranges m (count_in s) (first_in s)) _ h in
     rw front (same_later m n areas (walk_in m s) (same_among m n areas) after)
 
 pub same_in_areas : AreasDependOn
@@ -27,5 +27,5 @@ same_in_areas m n areas h = rw (same_among m n areas h) refl
 
 pub same_opened_in_areas : OpenedInAreasDependsOn
 same_opened_in_areas m n areas h =
-    let front = same_in_areas m n areas (all_front _ (areas_ranges m areas) _ h) in
-    rw front (same_by_search m n (found_in_areas m areas) (all_back _ (areas_ranges m areas) _ h))
+    let front = same_in_areas m n areas (each_front _ (areas_ranges m areas) _ h) in
+    rw front (same_by_search m n (found_in_areas m areas) (each_back _ (areas_ranges m areas) _ h))

@@ -12,7 +12,7 @@ use Rattle.acpi_base.specs.declared.error.AcpiError.{AcpiError}
 use Rattle.acpi_base.specs.declared.error.AcpiError.TheVariants.{NoValidRsdp}
 use Rattle.acpi_base.specs.declared.range.AddressRange.{AddressRange}
 use Rattle.acpi_base.specs.Ranges.{Allows}
-use Rattle.acpi_base.proofs.Allowed.{all_back, all_front}
+use Rattle.acpi_base.proofs.AllowedRanges.{all_back, all_front}
 use Rattle.acpi.specs.Areas.{areas_ranges, opened_in_areas_ranges, IsCandidateIn, IsFirstIn, IsSearchedIn, NoneIn, count_in, end_of, first_in, found_among, found_in_areas, is_refused_in, walk_in}
 use Rattle.acpi.specs.OpenedRanges.{opened_ranges, or_else_ranges, walk_ranges}
 use Rattle.acpi.specs.Rsdp.{length_of, root_of_rsdp, rsdp_at}

@@ -6,7 +6,7 @@ use Rattle.acpi_base.specs.Steps.{Gives}
 use Rattle.acpi_base.specs.Table.{Kind, table_at}
 use Rattle.acpi_base.specs.declared.error.AcpiError.{AcpiError}
 use Rattle.acpi_base.specs.declared.error.AcpiError.TheVariants.{TableMissing}
-use Rattle.acpi_base.specs.declared.signature.Signature.{Signature}
+use Rattle.acpi_base.specs.declared.table.signature.Signature.{Signature}
 use Rattle.acpi.specs.Laws.{LookupIsFirst}
 use Rattle.acpi.specs.Later.{or_later}
 use Rattle.acpi.specs.Lookup.{IsFirstValid, NoneValid, lookup}

@@ -4,10 +4,10 @@ use Rattle.std.proofs.Common.{◌≡◌, ℕ, ◌+◌, ◌≤◌, ◌<◌, ◌^�
 use Rattle.std.specs.Prelude.{map, filter_map}
 use Rattle.std.specs.List.{cons_option}
 use Rattle.std.specs.Result.{result_ok}
-use Rattle.acpi_base.proofs.Agreement.{all_back, all_front, same_own_table, same_table}
-use Rattle.acpi_base.proofs.Allowed as allowed
+use Rattle.acpi_base.proofs.TableFootprints.{each_back, each_front, same_own_table, same_table}
+use Rattle.acpi_base.proofs.AllowedRanges as allowed
 use Rattle.acpi_base.specs.declared.error.AcpiError.{AcpiError}
-use Rattle.acpi_base.specs.declared.signature.TheConstants.Signature.{DSDT}
+use Rattle.acpi_base.specs.declared.table.signature.TheConstants.Signature.{DSDT}
 use Rattle.acpi_base.specs.Header.{header_at}
 use Rattle.acpi_base.specs.Memory.{Memory}
 use Rattle.acpi_base.specs.Ranges as ranges
@@ -32,8 +32,8 @@ pub same_members : DependsOn header_ranges members_of
 unfolding own_header_at
 same_members m n [] h = refl
 same_members m n (p ∷ ps) h =
-    let front = same_own_table m n p (all_front _ (own_table_ranges m p) _ h) in
-    let after = same_members m n ps (all_back _ (own_table_ranges m p) _ h) in
+    let front = same_own_table m n p (each_front _ (own_table_ranges m p) _ h) in
+    let after = same_members m n ps (each_back _ (own_table_ranges m p) _ h) in
     rw (front, after) refl
 
 same_found_at : (k : Kind) (m n : Memory) (p : ℕ) → AgreesOn m n (table_ranges m k p) → result_ok (found_at n k p) ≡ result_ok (found_at m k p)
@@ -88,11 +88,11 @@ module _ (m n : Memory) where
 
   -- of two parts of the ranges behind a step, the first and the second
   first_led : {A : Type 0} (r : Result A AcpiError) (f g : A → Ranges) → AgreesOn m n (ranges.◌>>=◌ r (λ x. f x ++ g x)) → AgreesOn m n (ranges.◌>>=◌ r f)
-  first_led (Ok x) f g h = all_front _ (f x) _ h
+  first_led (Ok x) f g h = each_front _ (f x) _ h
   first_led (Err e) f g h = tt
 
   second_led : {A : Type 0} (r : Result A AcpiError) (f g : A → Ranges) → AgreesOn m n (ranges.◌>>=◌ r (λ x. f x ++ g x)) → AgreesOn m n (ranges.◌>>=◌ r g)
-  second_led (Ok x) f g h = all_back _ (f x) _ h
+  second_led (Ok x) f g h = each_back _ (f x) _ h
   second_led (Err e) f g h = tt
 
   led_from : (place : Memory → Fadt → Result AddressRange AcpiError) (of : Memory → Fadt → Ranges) → ((f : Fadt) → AgreesOn m n (of m f) → place n f ≡ place m f)
@@ -103,20 +103,20 @@ module _ (m n : Memory) where
 
   same_led_dsdt : (ps : List ℕ) → AgreesOn m n (led_ranges m ps) → led_by dsdt_place n ps ≡ led_by dsdt_place m ps
   same_led_dsdt ps h =
-      let front = same_lookup fadt_kind m n ps (all_front _ (lookup_ranges m fadt_kind ps) _ h) in
-      let after = all_back _ (lookup_ranges m fadt_kind ps) _ h in
+      let front = same_lookup fadt_kind m n ps (each_front _ (lookup_ranges m fadt_kind ps) _ h) in
+      let after = each_back _ (lookup_ranges m fadt_kind ps) _ h in
       rw front (led_from dsdt_place dsdt_place_ranges same_dsdt_place (lookup m fadt_kind ps) (first_led (lookup m fadt_kind ps) _ _ after))
 
   same_led_facs : (ps : List ℕ) → AgreesOn m n (led_ranges m ps) → led_by facs_place n ps ≡ led_by facs_place m ps
   same_led_facs ps h =
-      let front = same_lookup fadt_kind m n ps (all_front _ (lookup_ranges m fadt_kind ps) _ h) in
-      let after = all_back _ (lookup_ranges m fadt_kind ps) _ h in
+      let front = same_lookup fadt_kind m n ps (each_front _ (lookup_ranges m fadt_kind ps) _ h) in
+      let after = each_back _ (lookup_ranges m fadt_kind ps) _ h in
       rw front (led_from facs_place facs_place_ranges (λ f g. facs_from (facs_address_of f) g) (lookup m fadt_kind ps) (second_led (lookup m fadt_kind ps) (λ found. dsdt_place_ranges m (fadt_at found.1)) _ after))
 
 pub same_places : (root : AddressRange) → DependsOn place_ranges (places_of root)
 same_places root m n ps h =
-    let after = all_back _ (header_ranges m ps) _ h in
-    let members = same_each m n (own_table_ranges m) _ _ (same_place_at m n) ps (all_front _ (header_ranges m ps) _ h) in
+    let after = each_back _ (header_ranges m ps) _ h in
+    let members = same_each m n (own_table_ranges m) _ _ (same_place_at m n) ps (each_front _ (header_ranges m ps) _ h) in
     rw (members, same_led_dsdt m n ps after, same_led_facs m n ps after) refl
 
 -- ---- how many there are
@@ -135,25 +135,25 @@ fits_places n w root short few = omega (arith, pointers_few w (drop 36 root), le
 
 module _ (may : ℕ → ℕ → Bool) where
   pub asked_members : (m : Memory) (ps : List ℕ) → Allows may (place_ranges m ps) → Allows may (header_ranges m ps)
-  asked_members m ps h = allowed.all_front may (header_ranges m ps) _ h
+  asked_members m ps h = allowed.each_front may (header_ranges m ps) _ h
 
   pub asked_led : (m : Memory) (ps : List ℕ) → Allows may (place_ranges m ps) → Allows may (led_ranges m ps)
-  asked_led m ps h = allowed.all_back may (header_ranges m ps) _ h
+  asked_led m ps h = allowed.each_back may (header_ranges m ps) _ h
 
   pub asked_led_fadt : (m : Memory) (ps : List ℕ) → Allows may (led_ranges m ps) → Allows may (lookup_ranges m fadt_kind ps)
-  asked_led_fadt m ps h = allowed.all_front may (lookup_ranges m fadt_kind ps) _ h
+  asked_led_fadt m ps h = allowed.each_front may (lookup_ranges m fadt_kind ps) _ h
 
   both_asked : (m : Memory) (ps : List ℕ) (found : ℕ × List ℕ) → Allows may (led_ranges m ps) → lookup m fadt_kind ps ≡ Ok found
       → Allows may (dsdt_place_ranges m (fadt_at found.1) ++ facs_place_ranges m (fadt_at found.1))
-  both_asked m ps found h there = rw there at (allowed.all_back may (lookup_ranges m fadt_kind ps) _ h)
+  both_asked m ps found h there = rw there at (allowed.each_back may (lookup_ranges m fadt_kind ps) _ h)
 
   pub asked_dsdt_place : (m : Memory) (ps : List ℕ) (found : ℕ × List ℕ) → Allows may (led_ranges m ps) → lookup m fadt_kind ps ≡ Ok found
       → Allows may (dsdt_place_ranges m (fadt_at found.1))
-  asked_dsdt_place m ps found h there = allowed.all_front may (dsdt_place_ranges m (fadt_at found.1)) _ (both_asked m ps found h there)
+  asked_dsdt_place m ps found h there = allowed.each_front may (dsdt_place_ranges m (fadt_at found.1)) _ (both_asked m ps found h there)
 
   pub asked_facs_place : (m : Memory) (ps : List ℕ) (found : ℕ × List ℕ) → Allows may (led_ranges m ps) → lookup m fadt_kind ps ≡ Ok found
       → Allows may (facs_place_ranges m (fadt_at found.1))
-  asked_facs_place m ps found h there = allowed.all_back may (dsdt_place_ranges m (fadt_at found.1)) _ (both_asked m ps found h there)
+  asked_facs_place m ps found h there = allowed.each_back may (dsdt_place_ranges m (fadt_at found.1)) _ (both_asked m ps found h there)
 
   pub asked_facs_head : (m : Memory) (a : ℕ) → Allows may (facs_ranges m a) → may a 36 ≡ true
   asked_facs_head m a h = allowed.all_here may (a, 36) _ h

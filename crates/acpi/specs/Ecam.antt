@@ -2,7 +2,7 @@
 -- Specification, section 4.1.2).
 use Rattle.std.specs.Prelude.{◌≡◌, ℕ, ◌+◌, ◌*◌, ◌^◌, List, map, Option, Some, option_and_then}
 use Rattle.acpi_base.specs.Ecam.{ecam_in, ecam_range}
-use Rattle.acpi_base.specs.declared.mcfg.McfgEntry.{McfgEntry}
+use Rattle.acpi_base.specs.declared.tables.mcfg.McfgEntry.{McfgEntry}
 use Rattle.acpi_base.specs.declared.range.AddressRange.{AddressRange}
 use Rattle.acpi.specs.declared.mcfg.ecam.EcamRanges.{EcamRanges}
 use Rattle.acpi.specs.Pci.{pci_address, region_of}

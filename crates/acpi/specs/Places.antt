@@ -5,8 +5,8 @@ use Rattle.std.specs.Result.{result_ok}
 use Rattle.std.specs.Str.{bytes_eq}
 use Rattle.acpi_base.specs.declared.error.AcpiError.{AcpiError}
 use Rattle.acpi_base.specs.declared.error.AcpiError.TheVariants.{SdtInvalidLength, SdtInvalidSignature}
-use Rattle.acpi_base.specs.declared.sdt.SdtHeader.{SdtHeader}
-use Rattle.acpi_base.specs.declared.signature.TheConstants.Signature.{DSDT, FACS}
+use Rattle.acpi_base.specs.declared.table.header.SdtHeader.{SdtHeader}
+use Rattle.acpi_base.specs.declared.table.signature.TheConstants.Signature.{DSDT, FACS}
 use Rattle.acpi_base.specs.Header.{header_at}
 use Rattle.acpi_base.specs.Memory.{Memory}
 use Rattle.acpi_base.specs.Ranges as ranges

@@ -2,7 +2,7 @@
 use Rattle.std.specs.Prelude.{◌≡◌, ◌⊎◌, ℕ, ◌+◌, ◌≤◌, List, [], ◌∷◌, IsErr, Ok, filter_map, length, map, slice_get}
 use Rattle.std.specs.List.{AllByRecursion}
 use Rattle.std.specs.Result.{result_ok}
-use Rattle.acpi_base.specs.declared.signature.TheConstants.Signature.{DSDT}
+use Rattle.acpi_base.specs.declared.table.signature.TheConstants.Signature.{DSDT}
 use Rattle.acpi_base.specs.Header.{check_table}
 use Rattle.acpi_base.specs.Memory.{Memory}
 use Rattle.acpi_base.specs.Ranges.{Ranges}

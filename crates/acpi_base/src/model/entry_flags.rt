@@ -4,10 +4,10 @@ ghost use Rattle.acpi_base.specs.Bits.{has_bit};
 ghost use Rattle.acpi_base.specs.Interrupts.{polarity_of, trigger_mode_of};
 
 use super::interrupt::{Polarity, TriggerMode};
-use super::part::{polarity_of, trigger_mode_of};
+use super::item::{polarity_of, trigger_mode_of};
 use crate::bytes::has_bit;
 use crate::error::MadtError;
-use crate::madt::{LocalApicEntry, LocalApicNmiEntry, LocalX2ApicEntry, X2ApicNmiEntry};
+use crate::tables::madt::{LocalApicEntry, LocalApicNmiEntry, LocalX2ApicEntry, X2ApicNmiEntry};
 
 impl LocalApicEntry {
     /// Whether the processor can be used: bit 0 of the flags (section 5.2.12.2).

@@ -1,7 +1,7 @@
 //! All that was lent for a mapping.
 
 use super::PhysicalMapping;
-use crate::handler::{Lender, PhysicalRecord};
+use crate::memory::handler::{Lender, PhysicalRecord};
 
 impl<'h, H: Lender, T: PhysicalRecord> PhysicalMapping<'h, H, T> {
     ghost use Rattle.std.specs.Prelude.{◌≡◌};
