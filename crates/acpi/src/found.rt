@@ -1,7 +1,6 @@
 //! All tables of a type.
 ghost use Rattle.std.proofs.Props.{props};
 ghost use Rattle.acpi_base.specs.Ranges.{Allows};
-ghost use Rattle.acpi_base.specs.Table.{kind};
 ghost use Rattle.acpi.specs.Members.{kind_ranges};
 ghost use Rattle.acpi.specs.Pointers.{pointers_left};
 
@@ -18,7 +17,7 @@ pub struct FoundTables<'t, 'h, H: Lender, T: AcpiTable> {
     pointers: Pointers<'t>,
     sought: PhantomData<T>,
     ghost asked: { Allows (H.may handler.now) (kind_ranges (H.memory handler.now)
-        (kind T.SIGNATURE T.MIN_LENGTH T.verdict) (pointers_left pointers)) } by { Prim.hlevel props },
+        T.kind (pointers_left pointers)) } by { Prim.hlevel props },
 }
 
 impl<'t, 'h, H: Lender, T: AcpiTable> FoundTables<'t, 'h, H, T> {
@@ -28,10 +27,9 @@ impl<'t, 'h, H: Lender, T: AcpiTable> FoundTables<'t, 'h, H, T> {
 
     pub(crate) fn new(handler: &'h H, pointers: Pointers<'t>) -> Self
         requires { Allows (H.may handler.now) (kind_ranges (H.memory handler.now)
-            (kind T.SIGNATURE T.MIN_LENGTH T.verdict) (pointers_left pointers)) }
-        ensures { let k = kind T.SIGNATURE T.MIN_LENGTH T.verdict in
-            found_left H.memory k result
-            ≡ tables_found (H.memory handler.now) k (pointers_left pointers.entry) }
+            T.kind (pointers_left pointers)) }
+        ensures { found_left H.memory T.kind result
+            ≡ tables_found (H.memory handler.now) T.kind (pointers_left pointers.entry) }
     {
         FoundTables {
             handler,
@@ -49,11 +47,9 @@ impl<'h, H: Lender, T: AcpiTable> Iterator for FoundTables<'_, 'h, H, T> {
     type Item = PhysicalMapping<'h, H, T>;
 
     // Each is seen as its address and its bytes.
-    ghost next_gives = { let k = kind T.SIGNATURE T.MIN_LENGTH T.verdict in
-        YieldsFirstBy (λ m. (start_of m, bytes_of m)) (found_left H.memory k) };
+    ghost next_gives = { YieldsFirstBy (λ m. (start_of m, bytes_of m)) (found_left H.memory T.kind) };
 
-    ghost remaining = { let k = kind T.SIGNATURE T.MIN_LENGTH T.verdict in
-        item_count (found_left H.memory k) };
+    ghost remaining = { item_count (found_left H.memory T.kind) };
 
     #[tactic(auto, unfolding(crate::specs::Members::found_at))]
     fn next(&mut self) -> Option<PhysicalMapping<'h, H, T>> {

@@ -27,7 +27,7 @@ impl<'a> MemoryImage<'a> {
     ghost use Rattle.acpi_image_reader.specs.Image.{GivesOrRunsOut, IsImage, records_in};
     ghost use Rattle.acpi_image_reader.specs.Held.{memory_of};
 
-    /// The memory of `from_bytes`, by the exact clause from which its others follow.
+    /// What `from_bytes` answers.
     #[tactic(auto, using(crate::proofs::Images::image_memory))]
     fn image_of(alloc: Global, bytes: &'a [u8]) -> Result<MemoryImage<'a>, ImageError>
         ensures { GivesOrRunsOut bytes.now (λ i. memory_of i) result (records_in bytes.now) }

@@ -31,11 +31,11 @@ impl<A: Allocator> PciConfigRegions<A> {
         // There `physical_address` answers too, less the buses before the region's first.
         ensures beside { IfSome result (IsBeside self.now segment_group_no bus device function) }
     {
-        self.ecam_of(segment_group_no, bus, device, function)
+        self.ecam_address_exact(segment_group_no, bus, device, function)
     }
 
-    /// `ecam_address`, by the exact clause from which its law follows.
-    fn ecam_of(&self, segment: u16, bus: u8, device: u8, function: u8) -> Option<u64>
+    /// What `ecam_address` answers: the region is found, and the sum taken in it.
+    fn ecam_address_exact(&self, segment: u16, bus: u8, device: u8, function: u8) -> Option<u64>
         ensures { result ≡ ecam_address self.now segment bus device function }
     {
         let region = region_for(self.regions.as_slice(), segment, bus)?;

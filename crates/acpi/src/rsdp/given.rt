@@ -234,12 +234,12 @@ impl Rsdp {
             Footprint m (areas_ranges m areas.now) (λ n. found_in_areas n areas.now)
             (Gives placed result) }
     {
-        Rsdp::found_in_areas(handler, areas)
+        Rsdp::search_in_exact(handler, areas)
     }
 
-    /// `search_in`, by the exact clause from which its laws follow.
+    /// What `search_in` answers: the areas are walked to the first valid candidate.
     #[tactic(auto, unfolding(crate::specs::Areas::found_in_areas))]
-    fn found_in_areas<'h, H: Lender>(
+    fn search_in_exact<'h, H: Lender>(
         handler: &'h H,
         areas: &[AddressRange],
     ) -> AcpiResult<PhysicalMapping<'h, H, Rsdp>>

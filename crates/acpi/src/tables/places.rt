@@ -14,7 +14,7 @@ impl<'h, H: Lender> AcpiTables<'h, H> {
     ghost use Rattle.acpi_base.specs.Mapping.{IsOfMemory, bytes_of, handler_of, start_of};
     ghost use Rattle.acpi_base.specs.Ranges.{Allows};
     ghost use Rattle.acpi_base.specs.Steps.{Gives};
-    ghost use Rattle.acpi_base.specs.Table.{kind, plain_kind};
+    ghost use Rattle.acpi_base.specs.Table.{plain_kind};
     ghost use Rattle.acpi.specs.Footprint.{AllowsBelow, FootprintBelow, header_ranges, lookup_ranges};
     ghost use Rattle.acpi.specs.Lookup.{lookup};
     ghost use Rattle.acpi.specs.Members.{kind_ranges, members_of, tables_found};
@@ -23,7 +23,7 @@ impl<'h, H: Lender> AcpiTables<'h, H> {
     ghost use Rattle.acpi.specs.Places.{led_by, led_ranges, place_ranges, places_of};
     ghost use Rattle.acpi.specs.Placed.{root_place};
     ghost use Rattle.acpi.specs.Root.{signature_of};
-    ghost use Rattle.acpi.specs.Tables.{kind_of, lender_of, may_of, memory_of, pointers_of, root_address_of, root_of};
+    ghost use Rattle.acpi.specs.Tables.{kind_of, lender_of, may_of, memory_of, of_tables, pointers_of, root_address_of, root_of};
 
     /// The physical address of the root table (sections 5.2.7 and 5.2.8).
     pub fn root_address(&self) -> u64
@@ -52,7 +52,7 @@ impl<'h, H: Lender> AcpiTables<'h, H> {
     pub fn members(&self) -> TableMembers<'_, 'h, H>
         requires { AllowsBelow self.now header_ranges }
         ensures items { members_left H.memory result
-            ≡ members_of (memory_of self.now) (pointers_of self.now) }
+            ≡ of_tables self.now members_of }
         // In the reader's words: their addresses are the pointers.
         ensures each { map (λ x. x.address) (members_left H.memory result) ≡ pointers_of self.now }
         ensures fits { length (members_left H.memory result) < 2 ^ 32 }
@@ -65,19 +65,15 @@ impl<'h, H: Lender> AcpiTables<'h, H> {
 
     /// All members that are valid for `T`, in order. It gives at most one for each pointer.
     pub fn find_tables<T: AcpiTable>(&self) -> FoundTables<'_, 'h, H, T>
-        requires { let k = kind T.SIGNATURE T.MIN_LENGTH T.verdict in
-            AllowsBelow self.now (λ m. kind_ranges m k) }
-        ensures items { let k = kind T.SIGNATURE T.MIN_LENGTH T.verdict in
-            found_left H.memory k result
-            ≡ tables_found (memory_of self.now) k (pointers_of self.now) }
-        ensures few { let k = kind T.SIGNATURE T.MIN_LENGTH T.verdict in
-            length (found_left H.memory k result) ≤ length (pointers_of self.now) }
-        ensures fits { let k = kind T.SIGNATURE T.MIN_LENGTH T.verdict in
-            length (found_left H.memory k result) < 2 ^ 32 }
+        requires { AllowsBelow self.now (λ m. kind_ranges m T.kind) }
+        ensures items { found_left H.memory T.kind result
+            ≡ of_tables self.now (λ m. tables_found m T.kind) }
+        ensures few { length (found_left H.memory T.kind result) ≤ length (pointers_of self.now) }
+        ensures fits { length (found_left H.memory T.kind result) < 2 ^ 32 }
         // They depend on the root table and the members, each as a table of this type.
-        ensures footprint { let k = kind T.SIGNATURE T.MIN_LENGTH T.verdict in
-            FootprintBelow self.now (λ m. kind_ranges m k) (λ n ps. Ok (tables_found n k ps))
-            (λ said. said ≡ Ok (found_left H.memory k result)) }
+        ensures footprint { FootprintBelow self.now (λ m. kind_ranges m T.kind)
+            (λ n ps. Ok (tables_found n T.kind ps))
+            (λ said. said ≡ Ok (found_left H.memory T.kind result)) }
     {
         FoundTables::new(self.root.handler(), self.pointers())
     }
@@ -93,22 +89,22 @@ impl<'h, H: Lender> AcpiTables<'h, H> {
         // However many bytes were lent, all of them are the memory's.
         ensures lent { IfOk result (λ m. IsOfMemory (memory_of self.now) m) }
         ensures exact { Gives (λ m. (start_of m, bytes_of m)) result
-            (lookup (memory_of self.now) (plain_kind signature) (pointers_of self.now)) }
+            (of_tables self.now (λ m. lookup m (plain_kind signature))) }
         // It depends on what a lookup depends on.
         ensures footprint { FootprintBelow self.now (λ m. lookup_ranges m (plain_kind signature))
             (λ n. lookup n (plain_kind signature))
             (Gives (λ m. (start_of m, bytes_of m)) result) }
     {
-        self.first_sdt(signature)
+        self.find_sdt_exact(signature)
     }
 
-    /// `find_sdt`, by the exact clause from which its footprint follows.
-    fn first_sdt(&self, signature: Signature) -> AcpiResult<PhysicalMapping<'h, H, SdtHeader>>
+    /// What `find_sdt` answers: the members are walked to the first one that is valid so.
+    fn find_sdt_exact(&self, signature: Signature) -> AcpiResult<PhysicalMapping<'h, H, SdtHeader>>
         requires { AllowsBelow self.now (λ m. lookup_ranges m (plain_kind signature)) }
         ensures handler { IfOk result (λ m. handler_of m ≡ lender_of self.now) }
         ensures lent { IfOk result (λ m. IsOfMemory (memory_of self.now) m) }
         ensures exact { Gives (λ m. (start_of m, bytes_of m)) result
-            (lookup (memory_of self.now) (plain_kind signature) (pointers_of self.now)) }
+            (of_tables self.now (λ m. lookup m (plain_kind signature))) }
     {
         for address in self.pointers() {
             if let Ok(found) = map_sdt(self.root.handler(), address, signature) {
@@ -131,7 +127,7 @@ impl<'h, H: Lender> AcpiTables<'h, H> {
     pub fn ranges(&self) -> TableRanges<'_, 'h, H>
         requires { AllowsBelow self.now place_ranges }
         ensures items { places_left H.memory result
-            ≡ places_of (root_place self.now) (memory_of self.now) (pointers_of self.now) }
+            ≡ of_tables self.now (places_of (root_place self.now)) }
         ensures few { length (places_left H.memory result) ≤ length (pointers_of self.now) + 3 }
         ensures fits { length (places_left H.memory result) < 2 ^ 32 }
         // They depend on the root table, the members, each under its own signature, and what the
@@ -140,14 +136,14 @@ impl<'h, H: Lender> AcpiTables<'h, H> {
             (λ n ps. Ok (places_of (root_place self.now) n ps))
             (λ said. said ≡ Ok (places_left H.memory result)) }
     {
-        self.placed()
+        self.ranges_exact()
     }
 
-    /// `ranges`, by the exact clause from which its bounds and its footprint follow.
-    fn placed(&self) -> TableRanges<'_, 'h, H>
+    /// What `ranges` answers: the FADT is looked up here, and each member when it comes.
+    fn ranges_exact(&self) -> TableRanges<'_, 'h, H>
         requires { AllowsBelow self.now place_ranges }
         ensures { places_left H.memory result
-            ≡ places_of (root_place self.now) (memory_of self.now) (pointers_of self.now) }
+            ≡ of_tables self.now (places_of (root_place self.now)) }
     {
         let root = AddressRange {
             address: self.root_address(),
@@ -161,12 +157,12 @@ impl<'h, H: Lender> AcpiTables<'h, H> {
     fn led(&self) -> (Option<AddressRange>, Option<AddressRange>)
         requires { AllowsBelow self.now led_ranges }
         ensures dsdt { result.0
-            ≡ result_ok (led_by dsdt_place (memory_of self.now) (pointers_of self.now)) }
+            ≡ result_ok (of_tables self.now (led_by dsdt_place)) }
         ensures facs { result.1
-            ≡ result_ok (led_by facs_place (memory_of self.now) (pointers_of self.now)) }
+            ≡ result_ok (of_tables self.now (led_by facs_place)) }
     {
         // It is looked at where it lies, so that it isn't copied.
-        let found = self.first_member::<Fadt>();
+        let found = self.find_table_exact::<Fadt>();
         match &found {
             Ok(table) => {
                 let fadt = table.get();

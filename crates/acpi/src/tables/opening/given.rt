@@ -31,11 +31,11 @@ impl<'h, H: Lender> AcpiTables<'h, H> {
             Footprint m (opened_in_areas_ranges m areas.now) (λ n. opened_in_areas n areas.now)
             (Gives (λ t. opened_of t) result) }
     {
-        AcpiTables::open_in(handler, areas)
+        AcpiTables::search_in_exact(handler, areas)
     }
 
-    /// `search_in`, by the exact clauses from which its footprint follows.
-    fn open_in(handler: &'h H, areas: &[AddressRange]) -> AcpiResult<Self>
+    /// What `search_in` answers: the RSDP is searched for, and the root table opened.
+    fn search_in_exact(handler: &'h H, areas: &[AddressRange]) -> AcpiResult<Self>
         requires { Allows (H.may handler.now)
             (opened_in_areas_ranges (H.memory handler.now) areas.now) }
         ensures handler { IfOk result (λ t. lender_of t ≡ handler.now) }

@@ -1,5 +1,5 @@
 use Rattle.acpi.proofs.Among.{asked_found_in, asked_search_in}
-use Rattle.acpi.proofs.tables.AcpiTables.open_in.Goals as goal
+use Rattle.acpi.proofs.tables.AcpiTables.search_in_exact.Goals as goal
 
 pub search_in-requires : goal.search_in-requires
 search_in-requires g c =

@@ -3,7 +3,7 @@ use Rattle.acpi_base.specs.Ranges.{Allows, table_ranges}
 use Rattle.acpi_base.specs.Table.{plain_kind}
 use Rattle.acpi.proofs.Asked.{asked_member, later_kept}
 use Rattle.acpi.specs.Tables.{may_of, memory_of}
-use Rattle.acpi.proofs.tables.AcpiTables.first_sdt.Goals as goal
+use Rattle.acpi.proofs.tables.AcpiTables.find_sdt_exact.Goals as goal
 
 pub map_sdt-requires : goal.map_sdt-requires
 map_sdt-requires g c =
