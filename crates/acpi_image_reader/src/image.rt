@@ -8,7 +8,7 @@ ghost use Rattle.acpi_base.specs.Memory.{IsMemory, IsMemory-prop};
 ghost use Rattle.acpi_image_reader.specs.Regions.{regions_of};
 
 pub use crate::error::ImageError;
-use crate::kept::Records;
+use crate::record_list::Records;
 use crate::reader::records_of;
 use crate::record::Record;
 use acpi_base::{AcpiError, AcpiHandler, AcpiResult};
@@ -27,9 +27,9 @@ impl<'a> MemoryImage<'a> {
     ghost use Rattle.acpi_image_reader.specs.Image.{GivesOrRunsOut, IsImage, records_in};
     ghost use Rattle.acpi_image_reader.specs.Held.{memory_of};
 
-    /// What `from_bytes` answers.
+    /// What `from_bytes` answers: the records are read, and kept as the memory.
     #[tactic(auto, using(crate::proofs::Images::image_memory))]
-    fn image_of(alloc: Global, bytes: &'a [u8]) -> Result<MemoryImage<'a>, ImageError>
+    fn from_bytes_exact(alloc: Global, bytes: &'a [u8]) -> Result<MemoryImage<'a>, ImageError>
         ensures { GivesOrRunsOut bytes.now (λ i. memory_of i) result (records_in bytes.now) }
     {
         let records = records_of(alloc, bytes)?;
@@ -58,7 +58,7 @@ impl<'a> MemoryImage<'a> {
         ensures law { (m : Memory)
             → (records_in bytes.now ≡ Ok m) ↔ (IsImage bytes.now m × IsMemory m) }
     {
-        MemoryImage::image_of(alloc, bytes)
+        MemoryImage::from_bytes_exact(alloc, bytes)
     }
 
     /// Its regions, in the order of the file's records.

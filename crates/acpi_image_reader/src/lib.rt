@@ -3,11 +3,11 @@
 
 mod error;
 pub mod image;
-mod kept;
 pub mod laws;
 pub mod reader;
 mod record;
-pub mod starts;
+mod record_list;
+pub mod start_index;
 
 pub use image::{ImageError, MemoryImage};
 pub use record::Record;

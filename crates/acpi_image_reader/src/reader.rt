@@ -5,7 +5,7 @@ ghost use Rattle.acpi_image_reader.specs.Image.{GivesOrRunsOut, next_at, records
 ghost use Rattle.acpi_image_reader.specs.Regions.{region_of, regions_of};
 
 use crate::error::ImageError;
-pub use crate::kept::Records;
+pub use crate::record_list::Records;
 use crate::record::{Record, first_record};
 use std::alloc::Allocator;
 

@@ -8,7 +8,7 @@ ghost use Rattle.acpi_image.specs.WriteChecks as checks;
 
 use crate::error::WriteError;
 use crate::write::PlacedTable;
-use acpi_image_reader::starts::{add_start, last_up_to};
+use acpi_image_reader::start_index::{add_start, last_up_to};
 use std::alloc::{AllocError, Allocator};
 use std::collections::BTreeMap;
 

@@ -1,5 +1,5 @@
 use Rattle.acpi_image_reader.proofs.Listing.{starts_with}
-use Rattle.acpi_image_reader.proofs.starts.add_start.Goals as goal
+use Rattle.acpi_image_reader.proofs.start_index.add_start.Goals as goal
 
 pub returns-in-Ok : goal.returns-in-Ok
 returns-in-Ok g c = record {

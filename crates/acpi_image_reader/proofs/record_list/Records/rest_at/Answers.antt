@@ -1,6 +1,6 @@
 use Rattle.std.proofs.Common.{sym, ◌∙◌}
 use Rattle.acpi_image_reader.proofs.Listing.{rest_found, rest_nothing, rest_past}
-use Rattle.acpi_image_reader.proofs.kept.Records.rest_at.Goals as goal
+use Rattle.acpi_image_reader.proofs.record_list.Records.rest_at.Goals as goal
 
 pub returns-in-Some-rest : goal.returns-in-Some-rest
 returns-in-Some-rest g c =

@@ -1,7 +1,7 @@
 use Rattle.std.proofs.Common.{ap}
 use Rattle.acpi_image_reader.proofs.Listing.{apart_none, starts_none}
 use Rattle.acpi_image_reader.specs.Regions.{regions_of}
-use Rattle.acpi_image_reader.proofs.kept.Records.none.Goals as goal
+use Rattle.acpi_image_reader.proofs.record_list.Records.none.Goals as goal
 
 pub invariant_of-result : goal.invariant_of-result
 invariant_of-result g c = record {

@@ -2,7 +2,7 @@ use Rattle.std.proofs.Common.{◌≡◌, ◌<◌, length, arith}
 use Rattle.std.proofs.lemmas.Grind.{common_steps}
 use Rattle.acpi_image_reader.proofs.Listing.{starts_same}
 use Rattle.acpi_image_reader.specs.Regions.{region_of}
-use Rattle.acpi_image_reader.proofs.kept.keep_start.Goals as goal
+use Rattle.acpi_image_reader.proofs.record_list.keep_start.Goals as goal
 
 pub returns-then-is_empty-clause-kept : goal.returns-then-is_empty-clause-kept
 returns-then-is_empty-clause-kept g c =

@@ -1,7 +1,7 @@
 use Rattle.std.proofs.Common.{◌≡◌, ◌<◌, length, sym, arith}
 use Rattle.std.proofs.lemmas.Grind.{common_steps}
 use Rattle.acpi_image_reader.proofs.Listing.{shares_by, shares_empty, shares_nothing}
-use Rattle.acpi_image_reader.proofs.kept.Records.shares_with_any.Goals as goal
+use Rattle.acpi_image_reader.proofs.record_list.Records.shares_with_any.Goals as goal
 
 pub returns-then-is_empty : goal.returns-then-is_empty
 returns-then-is_empty g c =

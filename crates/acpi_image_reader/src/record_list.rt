@@ -9,7 +9,7 @@ ghost use Rattle.acpi_image_reader.specs.Starts.{AreAllApart, AreAllApart-prop, 
 
 use crate::error::ImageError;
 use crate::record::Record;
-use crate::starts::{add_start, last_up_to};
+use crate::start_index::{add_start, last_up_to};
 use std::alloc::Allocator;
 use std::collections::BTreeMap;
 

@@ -1,7 +1,7 @@
 use Rattle.std.proofs.lemmas.List.{map-append}
 use Rattle.acpi_image_reader.proofs.Listing.{more_apart}
 use Rattle.acpi_image_reader.specs.Regions.{region_of, regions_of}
-use Rattle.acpi_image_reader.proofs.kept.Records.with.Goals as goal
+use Rattle.acpi_image_reader.proofs.record_list.Records.with.Goals as goal
 
 pub invariant_of-result : goal.invariant_of-result
 invariant_of-result g c = record {
