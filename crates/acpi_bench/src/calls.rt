@@ -3,7 +3,6 @@
 
 use crate::counted::Counted;
 use crate::stopwatch::Stopwatch;
-use crate::words::Root;
 use acpi::bgrt::Bgrt;
 use acpi::fadt::Fadt;
 use acpi::hpet::HpetTable;
@@ -11,6 +10,7 @@ use acpi::madt::Madt;
 use acpi::mcfg::Mcfg;
 use acpi::spcr::Spcr;
 use acpi::{AcpiHandler, AcpiTable, AcpiTables, HpetInfo, PciConfigRegions};
+use acpi_cli::root::Root;
 use std::alloc::Global;
 use std::io;
 

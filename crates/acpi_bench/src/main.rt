@@ -1,7 +1,8 @@
 //! Prints how long the library's calls take on the ACPI tables in a file of memory.
 //!
-//! `acpi_bench IMAGE rsdt REVISION ADDRESS [BATCHES]` opens the root table at an address, and
-//! `acpi_bench IMAGE rsdp ADDRESS [BATCHES]` the one that the RSDP at an address leads to. Each
+//! `acpi_bench IMAGE rsdt REVISION ADDRESS [BATCHES]` opens the root table at an address,
+//! `acpi_bench IMAGE rsdp ADDRESS [BATCHES]` the one that the RSDP at an address leads to, and
+//! `acpi_bench IMAGE bios [BATCHES]` the one that the RSDP leads to which the BIOS areas hold. Each
 //! line names a call, says how many requests to the handler one call makes, and gives the
 //! nanoseconds that one takes: the least of so many batches of calls. With 0 batches no clock is
 //! read, and only the requests are printed.
@@ -13,7 +14,7 @@ mod stopwatch;
 mod sums;
 mod words;
 
-use acpi_cli::{texts_of, texts_or_none};
+use acpi_cli::{args, borrowed};
 use acpi_image_reader::MemoryImage;
 use calls::time_calls;
 use counted::Counted;
@@ -24,22 +25,18 @@ use stopwatch::Stopwatch;
 use sums::time_sums;
 use words::{Order, order_of};
 
-const USAGE: &str = "acpi_bench IMAGE rsdt REVISION ADDRESS [BATCHES] | rsdp ADDRESS [BATCHES]";
+const USAGE: &str =
+    "acpi_bench IMAGE rsdt REVISION ADDRESS [BATCHES] | rsdp ADDRESS [BATCHES] | bios [BATCHES]";
 
 fn main(rt: HostRuntime) -> ExitCode {
     ExitCode::from(bench(&rt).unwrap_or(1))
 }
 
-/// Runs the program on the process's words, and answers the status: 0 where all is printed, 1 where
-/// the file, its memory, the root table, memory or a write is refused, and 2 where the words are no
-/// order.
+/// Runs the program on the process's arguments, and answers the status: 0 if all is printed, 1 if the
+/// file, its memory, the root table, memory or a write is refused, and 2 if the arguments are no order.
 fn bench(rt: &HostRuntime) -> io::Result<u8> {
-    let texts = texts_or_none(rt.alloc(), texts_of(rt))?;
-    let mut words = Vec::new(rt.alloc());
-    for text in &texts {
-        words.push(text.as_str())?;
-    }
-    match order_of(&words) {
+    let args = args(rt)?;
+    match order_of(&borrowed(rt.alloc(), &args)?) {
         Some(order) => bench_file(rt, order),
         None => refuse(rt, 2, "usage", &USAGE),
     }

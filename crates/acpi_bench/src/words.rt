@@ -1,29 +1,9 @@
-//! What the words of a command line ask for.
+//! What the arguments ask for.
 
-use acpi::{AcpiHandler, AcpiResult, AcpiTables};
-use acpi_cli::{parse_address, parse_revision};
+use acpi_cli::root::{Root, parse_root};
 
-/// How many batches are timed where the words don't say.
+/// How many batches are timed if the arguments don't say.
 const BATCHES: u64 = 1000;
-
-/// What leads to the tables.
-#[derive(Clone, Copy)]
-pub(crate) enum Root {
-    /// The root table at an address: the RSDT for revision 0, else the XSDT.
-    Rsdt { revision: u8, address: u64 },
-    /// The RSDP at an address.
-    Rsdp { address: u64 },
-}
-
-impl Root {
-    /// The tables that it leads to.
-    pub(crate) fn open<'h, H: AcpiHandler>(self, handler: &'h H) -> AcpiResult<AcpiTables<'h, H>> {
-        match self {
-            Root::Rsdt { revision, address } => AcpiTables::from_rsdt(handler, revision, address),
-            Root::Rsdp { address } => AcpiTables::from_rsdp(handler, address),
-        }
-    }
-}
 
 /// What is to be timed.
 #[derive(Clone, Copy)]
@@ -36,38 +16,23 @@ pub(crate) struct Order<'w> {
     pub(crate) batches: u64,
 }
 
-/// The order that the words behind the program's name are, or `None` where they are none.
-pub(crate) fn order_of<'w>(words: &[&'w str]) -> Option<Order<'w>> {
-    let (image, words) = words.split_first()?;
-    let (root, words) = root_of(words)?;
+/// The order that the arguments after the program's name are, or `None` if they are none.
+pub(crate) fn order_of<'w>(args: &[&'w str]) -> Option<Order<'w>> {
+    let (image, args) = args.split_first()?;
+    let (root, batches) = root_and_batches(args)?;
     Some(Order {
         image: *image,
         root,
-        batches: batches_of(words)?,
+        batches,
     })
 }
 
-/// What leads to the tables, and the arguments after it.
-fn root_of<'a, 'w>(words: &'a [&'w str]) -> Option<(Root, &'a [&'w str])> {
-    match words {
-        ["rsdt", revision, address, rest @ ..] => {
-            let revision = parse_revision(revision)?;
-            let address = parse_address(address)?;
-            Some((Root::Rsdt { revision, address }, rest))
-        }
-        ["rsdp", address, rest @ ..] => {
-            let address = parse_address(address)?;
-            Some((Root::Rsdp { address }, rest))
-        }
-        _ => None,
+/// What leads to the tables, and how many batches are timed: the last argument may say so. No form
+/// takes one more.
+fn root_and_batches(args: &[&str]) -> Option<(Root, u64)> {
+    if let Some(root) = parse_root(args) {
+        return Some((root, BATCHES));
     }
-}
-
-/// How many batches are timed.
-fn batches_of(words: &[&str]) -> Option<u64> {
-    match words {
-        [] => Some(BATCHES),
-        [batches] => batches.parse().ok(),
-        _ => None,
-    }
+    let (batches, args) = args.split_last()?;
+    Some((parse_root(args)?, batches.parse().ok()?))
 }

@@ -1,4 +1,4 @@
--- What a word of a command line means.
+-- What numbers an argument spells.
 use Rattle.std.specs.Prelude.{ℕ, ◌&&◌, List, length, drop, nat_eq, nat_le, Option, Some, None, option_and_then, if◌then◌else◌, codes}
 use Rattle.std.specs.Char.{is_digit}
 use Rattle.std.specs.List.{list_all, starts_with}
@@ -14,8 +14,10 @@ numeral base most digits =
 
 -- a revision: one to three decimal digits, at most 255
 abbrev pub revision_of : List ℕ → Option ℕ
-revision_of word = option_and_then (λ n. if nat_le n 255 then Some n else None) (numeral 10 3 word)
+revision_of argument =
+    option_and_then (λ n. if nat_le n 255 then Some n else None) (numeral 10 3 argument)
 
 -- an address: 0x, and one to sixteen hexadecimal digits of either case
 abbrev pub address_of : List ℕ → Option ℕ
-address_of word = if starts_with nat_eq word (codes "0x") then numeral 16 16 (drop 2 word) else None
+address_of argument =
+    if starts_with nat_eq argument (codes "0x") then numeral 16 16 (drop 2 argument) else None

@@ -1,7 +1,8 @@
-//! What programs are made of: arguments, the numbers that they spell, and files that are read.
+//! What programs share: arguments, what they say that leads to the tables, and files that are read.
 #![tactic(auto)]
 
 pub mod files;
+pub mod root;
 
 ghost use Rattle.std.specs.Prelude.{◌≡◌, ◌≢◌, ◌^◌, ◌≤◌, [], IfErr, IfOk, IsOkAnd, drop, map, string_bytes};
 ghost use Rattle.std.specs.Char.{is_digit};
@@ -36,53 +37,61 @@ fn number_of(digits: &str, base: u32, most: usize) -> Option<u64>
     u64::from_str_radix(digits, base).ok()
 }
 
-/// The revision that a word spells: one to three decimal digits, at most 255.
+/// The revision that an argument spells: one to three decimal digits, at most 255.
 pub fn parse_revision(word: &str) -> Option<u8>
     ensures { result ≡ revision_of word.now }
 {
     u8::try_from(number_of(word, 10, 3)?).ok()
 }
 
-/// The address that a word spells: `0x`, and one to sixteen hexadecimal digits of either case.
+/// The address that an argument spells: `0x`, and one to sixteen hexadecimal digits of either case.
 pub fn parse_address(word: &str) -> Option<u64>
     ensures { result ≡ address_of word.now }
 {
     number_of(word.strip_prefix("0x")?, 16, 16)
 }
 
-/// The words as they were had, or none where they can't be had, as words that are no text.
+/// The arguments as they were had, or none if they can't be had, as when one isn't valid UTF-8.
 ///
-/// Refuses where memory for them is refused.
-pub fn texts_or_none(alloc: Global, texts: io::Result<Vec<String>>) -> io::Result<Vec<String>>
-    ensures had { IfOk texts (λ t. result ≡ Ok t) }
-    // Memory that is refused doesn't make the words wrong.
-    ensures memory { IfErr texts (λ e. error_kind e ≡ ErrorKind.OutOfMemory → result ≡ Err e) }
-    ensures other { IfErr texts (λ e. error_kind e ≢ ErrorKind.OutOfMemory →
+/// Refuses if memory for them is refused.
+pub fn args_or_none(alloc: Global, args: io::Result<Vec<String>>) -> io::Result<Vec<String>>
+    ensures had { IfOk args (λ t. result ≡ Ok t) }
+    // Memory that is refused doesn't make the arguments wrong.
+    ensures memory { IfErr args (λ e. error_kind e ≡ ErrorKind.OutOfMemory → result ≡ Err e) }
+    ensures other { IfErr args (λ e. error_kind e ≢ ErrorKind.OutOfMemory →
         IsOkAnd result (λ t. t.items ≡ [])) }
 {
-    match texts {
+    match args {
         Err(refusal) if refusal.kind() != ErrorKind::OutOfMemory => Ok(Vec::new(alloc)),
-        texts => texts,
+        args => args,
     }
 }
 
 /// The arguments without the first, the program's name: all others, in order.
-fn after_name(mut texts: Vec<String>) -> Vec<String>
-    ensures { result.items ≡ drop 1 texts.items }
+fn after_name(mut args: Vec<String>) -> Vec<String>
+    ensures { result.items ≡ drop 1 args.items }
 {
-    if texts.is_empty() {
-        return texts;
+    if args.is_empty() {
+        return args;
     }
-    texts.remove(0);
-    texts
+    args.remove(0);
+    args
 }
 
-/// The arguments after the program's name: all that the system gives, in order.
+/// The process's arguments after the program's name, in order.
 ///
 /// Refuses if they can't be had.
-pub fn texts_of(rt: &HostRuntime) -> io::Result<Vec<String>> {
-    let texts = env::args(rt)?.collect(rt.alloc())?;
-    Ok(after_name(texts))
+fn given_args(rt: &HostRuntime) -> io::Result<Vec<String>> {
+    let args = env::args(rt)?.collect(rt.alloc())?;
+    Ok(after_name(args))
+}
+
+/// The process's arguments after the program's name, in order, or none if they can't be had, as when
+/// one isn't valid UTF-8.
+///
+/// Refuses if memory for them is refused.
+pub fn args(rt: &HostRuntime) -> io::Result<Vec<String>> {
+    args_or_none(rt.alloc(), given_args(rt))
 }
 
 /// The same texts, borrowed.

@@ -6,7 +6,7 @@
 #![tactic(auto)]
 
 use acpi_cli::files::HostFiles;
-use acpi_cli::{borrowed, texts_of, texts_or_none};
+use acpi_cli::{args, borrowed};
 use acpi_packing::program::pack;
 use acpi_packing::storage::HostStorage;
 use std::io;
@@ -16,20 +16,13 @@ fn main(rt: HostRuntime) -> ExitCode {
     ExitCode::from(status(&rt).unwrap_or(1))
 }
 
-/// Runs the program on the process's arguments, files and outputs, and answers the status.
+/// The status of the program over the process's arguments, files, storage and outputs.
 ///
 /// Refuses if a write or memory is refused.
 fn status(rt: &HostRuntime) -> io::Result<u8> {
-    let texts = texts_or_none(rt.alloc(), texts_of(rt))?;
-    let arguments = borrowed(rt.alloc(), &texts)?;
+    let args = args(rt)?;
+    let args = borrowed(rt.alloc(), &args)?;
     let (mut files, mut storage) = (HostFiles::new(rt), HostStorage::new(rt));
     let (mut out, mut err) = (io::writer(rt), rt.stderr());
-    pack(
-        rt.alloc(),
-        &arguments,
-        &mut files,
-        &mut storage,
-        &mut out,
-        &mut err,
-    )
+    pack(rt.alloc(), &args, &mut files, &mut storage, &mut out, &mut err)
 }

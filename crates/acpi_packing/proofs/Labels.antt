@@ -17,7 +17,7 @@ use Rattle.acpi_packing.specs.Run.{packed_by}
 use Rattle.acpi_packing.specs.Sources.{bytes_in, bytes_of, check_contents, check_tables, entries}
 use Rattle.acpi_packing.specs.declared.error.Refusal.{Refusal}
 use Rattle.acpi_packing.specs.declared.error.Refusal.TheVariants.{NoRoom}
-use Rattle.acpi_packing.specs.declared.sources.Kind.TheVariants.{Dsdt, Listed}
+use Rattle.acpi_packing.specs.declared.sources.FileRole.TheVariants.{Dsdt, Listed}
 
 -- these bytes begin with those of the regions
 abbrev Begin : List (List ℕ) → Memory → Type 0

@@ -29,7 +29,7 @@ use Rattle.acpi_packing.specs.Place.{ArePlaced, place_at, placed_from}
 use Rattle.acpi_packing.specs.Sources.{bytes_of, check_tables, entries}
 use Rattle.acpi_packing.specs.declared.error.Refusal.{Refusal}
 use Rattle.acpi_packing.specs.declared.error.Refusal.TheVariants.{NoRoom}
-use Rattle.acpi_packing.specs.declared.sources.Kind.TheVariants.{Dsdt, Listed}
+use Rattle.acpi_packing.specs.declared.sources.FileRole.TheVariants.{Dsdt, Listed}
 
 abbrev AllBytes : Memory → Type 0
 AllBytes m = AllByRecursion (λ r. IsBytes r.bytes) m

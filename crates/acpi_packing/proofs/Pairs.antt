@@ -3,7 +3,7 @@ use Rattle.std.proofs.Common.{◌≡◌, ℕ, List, [], ◌∷◌, ◌++◌, ◌
 use Rattle.std.specs.Prelude.{Option}
 use Rattle.std.specs.Borrow.{Bor}
 use Rattle.std.specs.Option.{option_map}
-use Rattle.acpi_packing.specs.Words.{addresses_in, memory_request, names_in, with_address}
+use Rattle.acpi_packing.specs.Arguments.{addresses_in, memory_request, names_in, with_address}
 
 -- addresses, and those behind them
 abbrev pub behind : List ℕ → Option (List ℕ) → Option (List ℕ)

@@ -7,7 +7,7 @@ use Rattle.acpi_cli.specs.Reads.{Asks, FileRead, contents_of}
 use Rattle.acpi_packing.specs.Program.{Follows, Packs, files_for}
 use Rattle.acpi_packing.specs.Run.{Ends}
 use Rattle.acpi_packing.specs.Saves.{FileSaved, saved_of}
-use Rattle.acpi_packing.specs.Words.{Request, request_in}
+use Rattle.acpi_packing.specs.Arguments.{Request, request_in}
 use Rattle.acpi_packing.specs.declared.run.Outcome.{Outcome}
 use Rattle.acpi_packing.specs.declared.storage.Saved.{Saved}
 

@@ -3,8 +3,8 @@ use Rattle.std.specs.Prelude.{ℕ, List, drop, map, Option}
 use Rattle.std.specs.Option.{option_copied}
 use Rattle.std.specs.Borrow.{Bor}
 use Rattle.acpi_packing.specs.Sources.{entries}
-use Rattle.acpi_packing.specs.declared.sources.FilesOfKind.{FilesOfKind}
-use Rattle.acpi_packing.specs.declared.sources.Entry.{Entry}
+use Rattle.acpi_packing.specs.declared.sources.FilesOfRole.{FilesOfRole}
+use Rattle.acpi_packing.specs.declared.sources.IndexedFile.{IndexedFile}
 
 -- the bytes of a file, none where it can't be read
 abbrev pub content : Option (Bor (List ℕ)) → Option (List ℕ)
@@ -14,9 +14,9 @@ abbrev pub contents : List (Option (Bor (List ℕ))) → List (Option (List ℕ)
 contents files = map content files
 
 -- a file's index and its bytes
-abbrev pub entry_of : Entry → ℕ × List ℕ
+abbrev pub entry_of : IndexedFile → ℕ × List ℕ
 entry_of e = (e.index, e.bytes.now)
 
--- the files of a kind that are still to come
-abbrev pub entries_left : FilesOfKind → List (ℕ × List ℕ)
-entries_left s = entries s.kind s.index (contents (drop s.index s.files.now))
+-- the files of a role that are still to come
+abbrev pub entries_left : FilesOfRole → List (ℕ × List ℕ)
+entries_left s = entries s.role s.index (contents (drop s.index s.files.now))

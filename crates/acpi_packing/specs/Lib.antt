@@ -9,4 +9,4 @@ pub mod Save
 pub mod Saves
 pub mod Sources
 pub mod Texts
-pub mod Words
+pub mod Arguments

@@ -11,7 +11,7 @@ use Rattle.acpi_image_reader.specs.declared.error.ImageError.{ImageError}
 use Rattle.acpi_packing.specs.Sources.{bytes_in, bytes_of, entries}
 use Rattle.acpi_packing.specs.declared.listing.Label.{Label}
 use Rattle.acpi_packing.specs.declared.listing.Label.TheVariants as label
-use Rattle.acpi_packing.specs.declared.sources.Kind.TheVariants.{Dsdt, Listed}
+use Rattle.acpi_packing.specs.declared.sources.FileRole.TheVariants.{Dsdt, Listed}
 
 -- the text of this index, or none
 abbrev pub name_of : List (List ℕ) → ℕ → List ℕ

@@ -15,7 +15,7 @@ use Rattle.acpi_packing.specs.Sources.{begins, bytes_in, bytes_of, check_content
 use Rattle.acpi_packing.specs.declared.error.FileError.TheVariants as fault
 use Rattle.acpi_packing.specs.declared.error.Refusal.{Refusal}
 use Rattle.acpi_packing.specs.declared.error.Refusal.TheVariants.{File, NoRoom, OutOfMemory}
-use Rattle.acpi_packing.specs.declared.sources.Kind.TheVariants.{Dsdt, Listed}
+use Rattle.acpi_packing.specs.declared.sources.FileRole.TheVariants.{Dsdt, Listed}
 
 -- the file of n is put at its address: it ends below 2^64, and shares no byte with an earlier one
 unfoldable pub check_place : ℕ → Memory → Region → Result (Unit {0}) Refusal

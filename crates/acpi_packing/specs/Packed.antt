@@ -14,7 +14,7 @@ use Rattle.acpi_image.specs.Written.{root_record, root_to, starts_of}
 use Rattle.acpi_packing.specs.Pack.{all_regions, first_address, fixed_of, packed_tables, rsdp_address}
 use Rattle.acpi_packing.specs.Place.{ArePlaced}
 use Rattle.acpi_packing.specs.Sources.{bytes_of, entries}
-use Rattle.acpi_packing.specs.declared.sources.Kind.TheVariants.{Listed}
+use Rattle.acpi_packing.specs.declared.sources.FileRole.TheVariants.{Listed}
 
 -- the file is the records of these regions and nothing else, and is read as the memory of them
 pub record IsMemoryFile (regions : Memory) (file : List ℕ) : Type 0 where

@@ -6,7 +6,7 @@ use Rattle.acpi_packing.specs.Listing.{labels_of, listing}
 use Rattle.acpi_packing.specs.Run.{Ends}
 use Rattle.acpi_packing.specs.Save.{save_error_text}
 use Rattle.acpi_packing.specs.Saves.{FileSaved}
-use Rattle.acpi_packing.specs.Words.{Request, request_in}
+use Rattle.acpi_packing.specs.Arguments.{Request, request_in}
 use Rattle.acpi_packing.specs.declared.run.Outcome.{Outcome}
 use Rattle.acpi_packing.specs.declared.run.Outcome.TheVariants as outcome
 use Rattle.acpi_packing.specs.declared.save.SaveError.{SaveError}

@@ -7,12 +7,12 @@ use Rattle.acpi_packing.specs.Listing.{name_of}
 use Rattle.acpi_packing.specs.Pack.{RefusesOrRunsOut, dsdt_address, file_of, packed_files, packed_tables}
 use Rattle.acpi_packing.specs.Sources.{bytes_of, entries}
 use Rattle.acpi_packing.specs.Texts.{refusal_text}
-use Rattle.acpi_packing.specs.Words.{Request}
+use Rattle.acpi_packing.specs.Arguments.{Request}
 use Rattle.acpi_packing.specs.declared.error.Refusal.{Refusal}
 use Rattle.acpi_packing.specs.declared.error.Refusal.TheVariants as refusal
 use Rattle.acpi_packing.specs.declared.run.Outcome.{Outcome}
 use Rattle.acpi_packing.specs.declared.run.Outcome.TheVariants as outcome
-use Rattle.acpi_packing.specs.declared.sources.Kind.TheVariants.{Dsdt, Listed, Unlisted}
+use Rattle.acpi_packing.specs.declared.sources.FileRole.TheVariants.{Dsdt, Listed, Unlisted}
 
 -- what a request packs
 abbrev pub packed_by : Option (List ℕ) → List (Option (List ℕ)) → Result Memory Refusal

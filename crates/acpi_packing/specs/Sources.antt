@@ -7,8 +7,8 @@ use Rattle.acpi_base.specs.Steps.{◌>>=◌, holds}
 use Rattle.acpi_packing.specs.declared.error.FileError.TheVariants as fault
 use Rattle.acpi_packing.specs.declared.error.Refusal.{Refusal}
 use Rattle.acpi_packing.specs.declared.error.Refusal.TheVariants.{File}
-use Rattle.acpi_packing.specs.declared.sources.Kind.{Kind}
-use Rattle.acpi_packing.specs.declared.sources.Kind.TheVariants as kinds
+use Rattle.acpi_packing.specs.declared.sources.FileRole.{FileRole}
+use Rattle.acpi_packing.specs.declared.sources.FileRole.TheVariants as roles
 
 -- a file that can't be read has no bytes
 abbrev pub bytes_in : Option (List ℕ) → List ℕ
@@ -29,17 +29,17 @@ is_unlisted bytes =
     begins bytes (codes "FACS") || (begins bytes (codes "RSDT")
     || (begins bytes (codes "XSDT") || begins bytes (codes "RSD PTR ")))
 
-abbrev pub is_of : Kind → List ℕ → Bool
-is_of kinds.Listed bytes = not (is_dsdt bytes) && not (is_unlisted bytes)
-is_of kinds.Dsdt bytes = is_dsdt bytes
-is_of kinds.Unlisted bytes = is_unlisted bytes
+abbrev pub is_of : FileRole → List ℕ → Bool
+is_of roles.Listed bytes = not (is_dsdt bytes) && not (is_unlisted bytes)
+is_of roles.Dsdt bytes = is_dsdt bytes
+is_of roles.Unlisted bytes = is_unlisted bytes
 
--- the files of a kind, each with its index, counted from n
-abbrev pub entries : Kind → ℕ → List (Option (List ℕ)) → List (ℕ × List ℕ)
-entries kind n [] = []
-entries kind n (file ∷ files) =
-    if is_of kind (bytes_in file) then (n, bytes_in file) ∷ entries kind (n + 1) files
-    else entries kind (n + 1) files
+-- the files of a role, each with its index, counted from n
+abbrev pub entries : FileRole → ℕ → List (Option (List ℕ)) → List (ℕ × List ℕ)
+entries role n [] = []
+entries role n (file ∷ files) =
+    if is_of role (bytes_in file) then (n, bytes_in file) ∷ entries role (n + 1) files
+    else entries role (n + 1) files
 
 -- their bytes
 abbrev pub bytes_of : List (ℕ × List ℕ) → List (List ℕ)
@@ -47,7 +47,7 @@ bytes_of found = map (λ e. e.1) found
 
 -- the bytes of the files that the XSDT lists
 abbrev pub listed : List (Option (List ℕ)) → List (List ℕ)
-listed files = bytes_of (entries kinds.Listed 0 files)
+listed files = bytes_of (entries roles.Listed 0 files)
 
 -- ---- why a file is refused by itself
 

@@ -2,6 +2,7 @@
 //! the file that is made.
 #![tactic(auto)]
 
+pub mod arguments;
 mod error;
 pub mod listing;
 mod pack;
@@ -11,8 +12,7 @@ pub mod run;
 pub mod save;
 mod sources;
 pub mod storage;
-pub mod words;
 
 pub use error::{FileError, Refusal};
 pub use pack::{pack_files, pack_tables};
-pub use sources::Source;
+pub use sources::FileBytes;

@@ -4,15 +4,14 @@ ghost use Rattle.acpi_base.specs.Memory.{Memory};
 ghost use Rattle.acpi_image_reader.specs.Image.{records_in};
 ghost use Rattle.acpi_image_reader.specs.Regions.{regions_of};
 ghost use Rattle.acpi_image_reader.specs.declared.error.ImageError.TheVariants.{OutOfMemory};
-ghost use Rattle.acpi_packing.specs.Held.{contents, entry_of};
+ghost use Rattle.acpi_packing.specs.Held.{contents, entries_left, entry_of};
 ghost use Rattle.acpi_packing.specs.Listing as listing;
 ghost use Rattle.acpi_packing.specs.Listing.{AreNamed, label_text, labels_of, name_of, table_label};
 ghost use Rattle.acpi_packing.specs.Run.{packed_by};
-ghost use Rattle.acpi_packing.specs.Sources as sources;
-ghost use Rattle.acpi_packing.specs.Words.{addresses_of};
+ghost use Rattle.acpi_packing.specs.Arguments.{addresses_of};
 
-use crate::sources::{Entry, Kind, Source, entries};
-use crate::words::{Command, Form};
+use crate::sources::{FileBytes, FileRole, FilesOfRole, IndexedFile, of_role};
+use crate::arguments::{Command, Form};
 use acpi_base::Signature;
 use acpi_base::bytes::filled;
 use acpi_image::{ImageError, MemoryImage, Record};
@@ -53,31 +52,26 @@ pub(crate) fn name_of<'w>(names: &[&'w str], index: usize) -> &'w str
 }
 
 /// What is said of a table.
-fn table_label<'w>(names: &[&'w str], entry: Entry<'_>) -> Label<'w>
+fn table_label<'w>(names: &[&'w str], entry: IndexedFile<'_>) -> Label<'w>
     ensures { label_text result ≡ table_label (map (λ n. n.now) names.now) (entry_of entry.entry) }
 {
     let signature = Signature::from_bytes(filled(entry.bytes, 0));
     Label::Table(signature, name_of(names, entry.index))
 }
 
-/// Puts what is said of the files of a kind after what is there.
+/// Puts what is said of the files of a role after what is there.
 ///
 /// Refuses if memory is refused.
 fn put_labels<'w>(
     labels: &mut Vec<Label<'w>>,
-    alloc: Global,
     names: &[&'w str],
-    files: &[Source<'_>],
-    kind: Kind,
+    files: FilesOfRole<'_, '_>,
 ) -> Result<(), AllocError>
     ensures { OnOk result (map label_text labels.new.items ≡ map label_text labels.old.items
-        ++ map (table_label (map (λ n. n.now) names.now)) (sources.entries kind 0 (contents files.now))) }
+        ++ map (table_label (map (λ n. n.now) names.now)) (entries_left files)) }
 {
-    let Ok(tables) = entries(alloc, files, kind) else {
-        return Err(AllocError);
-    };
-    for table in &tables {
-        labels.push(table_label(names, *table))?;
+    for table in files {
+        labels.push(table_label(names, table))?;
     }
     Ok(())
 }
@@ -101,7 +95,7 @@ fn range_labels<'w>(alloc: Global, names: &[&'w str]) -> Result<Vec<Label<'w>>, 
 fn tables_labels<'w>(
     alloc: Global,
     names: &[&'w str],
-    files: &[Source<'_>],
+    files: &[FileBytes<'_>],
 ) -> Result<Vec<Label<'w>>, AllocError>
     ensures { IfOk result (λ v. map label_text v.items
         ≡ labels_of None (map (λ n. n.now) names.now) (contents files.now)) }
@@ -109,8 +103,8 @@ fn tables_labels<'w>(
     let mut labels = Vec::new(alloc);
     labels.push(Label::Name("RSDP"))?;
     labels.push(Label::Name("XSDT"))?;
-    put_labels(&mut labels, alloc, names, files, Kind::Listed)?;
-    put_labels(&mut labels, alloc, names, files, Kind::Dsdt)?;
+    put_labels(&mut labels, names, of_role(files, FileRole::Listed))?;
+    put_labels(&mut labels, names, of_role(files, FileRole::Dsdt))?;
     Ok(labels)
 }
 
@@ -120,7 +114,7 @@ fn tables_labels<'w>(
 fn labels_of<'w>(
     alloc: Global,
     command: &Command<'w>,
-    files: &[Source<'_>],
+    files: &[FileBytes<'_>],
 ) -> Result<Vec<Label<'w>>, AllocError>
     ensures { IfOk result (λ v. map label_text v.items ≡ labels_of (addresses_of command.now.form)
         (map (λ n. n.now) command.now.names.items) (contents files.now)) }
@@ -164,7 +158,7 @@ fn lines_of(
 fn lines_in(
     alloc: Global,
     command: &Command<'_>,
-    files: &[Source<'_>],
+    files: &[FileBytes<'_>],
     image: &[u8],
 ) -> Result<String, ImageError>
     ensures exact { IfOk result (λ t. listing.listing
@@ -189,7 +183,7 @@ fn lines_in(
 pub fn record_lines(
     alloc: Global,
     command: &Command<'_>,
-    files: &[Source<'_>],
+    files: &[FileBytes<'_>],
     image: &[u8],
 ) -> Result<String, ImageError>
     // The lines are those of the records that are read in the image.

@@ -13,11 +13,11 @@ ghost use Rattle.acpi_packing.specs.Pack.{laid_out, packed_files, packed_tables,
 ghost use Rattle.acpi_packing.specs.Packed.{IsMemoryFile, IsPacked};
 ghost use Rattle.acpi_packing.specs.Sources.{entries, listed};
 ghost use Rattle.acpi_packing.specs.declared.error.Refusal.TheVariants.{OutOfMemory};
-ghost use Rattle.acpi_packing.specs.declared.sources.Kind.TheVariants.{Dsdt};
+ghost use Rattle.acpi_packing.specs.declared.sources.FileRole.TheVariants.{Dsdt};
 
 use crate::error::{FileError, Refusal};
 use crate::place::{check_room, place, place_one};
-use crate::sources::{Kind, Source, bytes_of, check_contents, check_tables, listed_count, of_kind};
+use crate::sources::{FileRole, FileBytes, bytes_of, check_contents, check_tables, listed_count, of_role};
 use acpi::PhysicalRecord;
 use acpi::fadt::Fadt;
 use acpi_image::PlacedTable;
@@ -38,7 +38,7 @@ fn share(one: &PlacedTable<'_>, other: &PlacedTable<'_>) -> bool
 }
 
 /// Whether a table shares a byte with one of these files at their addresses.
-fn shares_byte(addresses: &[u64], files: &[Source<'_>], table: &PlacedTable<'_>) -> bool
+fn shares_byte(addresses: &[u64], files: &[FileBytes<'_>], table: &PlacedTable<'_>) -> bool
     ensures { result ≡ shares_any (regions addresses.now (contents files.now))
         (placed_region table.now) }
 {
@@ -61,7 +61,7 @@ fn shares_byte(addresses: &[u64], files: &[Source<'_>], table: &PlacedTable<'_>)
 fn check_place(
     index: usize,
     addresses: &[u64],
-    files: &[Source<'_>],
+    files: &[FileBytes<'_>],
     table: &PlacedTable<'_>,
 ) -> Result<(), Refusal>
     ensures exact { result ≡ check_place index (regions addresses.now (contents files.now))
@@ -80,7 +80,7 @@ fn check_place(
 /// Tests where each file is put.
 ///
 /// Refuses, files in order, as `check_place` does.
-fn check_places(addresses: &[u64], files: &[Source<'_>]) -> Result<(), Refusal>
+fn check_places(addresses: &[u64], files: &[FileBytes<'_>]) -> Result<(), Refusal>
     ensures { result ≡ check_places 0 [] (regions addresses.now (contents files.now)) }
 {
     for index in 0..addresses.len().min(files.len()) {
@@ -96,7 +96,7 @@ fn check_places(addresses: &[u64], files: &[Source<'_>]) -> Result<(), Refusal>
 /// The records of files at their addresses, one after the other.
 ///
 /// Refuses with `OutOfMemory`.
-fn put_files(file: &mut Vec<u8>, addresses: &[u64], files: &[Source<'_>]) -> Result<(), Refusal>
+fn put_files(file: &mut Vec<u8>, addresses: &[u64], files: &[FileBytes<'_>]) -> Result<(), Refusal>
     ensures put { let all = regions addresses.now (contents files.now) in
         OnOk result (file.new.items ≡ file.old.items ++ flat_map record_spelling all) }
     ensures refused { IfErr result (λ e. e ≡ OutOfMemory) }
@@ -114,7 +114,7 @@ fn put_files(file: &mut Vec<u8>, addresses: &[u64], files: &[Source<'_>]) -> Res
 
 /// The file of `pack_files`, by its exact clauses alone.
 #[tactic(auto, unfolding(crate::specs::Pack::packed_files))]
-fn files_image(alloc: Global, addresses: &[u64], files: &[Source<'_>]) -> Result<Vec<u8>, Refusal>
+fn files_image(alloc: Global, addresses: &[u64], files: &[FileBytes<'_>]) -> Result<Vec<u8>, Refusal>
     ensures exact { IfOk result (λ v.
         file_of (packed_files addresses.now (contents files.now)) ≡ Ok v.items) }
     ensures refused { IfErr result (λ e.
@@ -135,7 +135,7 @@ fn files_image(alloc: Global, addresses: &[u64], files: &[Source<'_>]) -> Result
 pub fn pack_files(
     alloc: Global,
     addresses: &[u64],
-    files: &[Source<'_>],
+    files: &[FileBytes<'_>],
 ) -> Result<Vec<u8>, Refusal>
     // The file, or the first refusal, is the one that is defined; memory runs out only where nothing
     // is refused.
@@ -165,10 +165,10 @@ fn address_in(fadt: &[u8]) -> Option<u64>
 }
 
 /// The address that the first FADT among files gives for the DSDT.
-pub(crate) fn dsdt_address(files: &[Source<'_>]) -> Option<u64>
+pub(crate) fn dsdt_address(files: &[FileBytes<'_>]) -> Option<u64>
     ensures { result ≡ pack.dsdt_address (listed (contents files.now)) }
 {
-    for table in of_kind(files, Kind::Listed) {
+    for table in of_role(files, FileRole::Listed) {
         if table.bytes.starts_with(b"FACP") {
             return address_in(table.bytes);
         }
@@ -182,13 +182,13 @@ pub(crate) fn dsdt_address(files: &[Source<'_>]) -> Option<u64>
 /// `Overlap` for a second DSDT.
 fn dsdt_at<'a>(
     address: Option<u64>,
-    files: &[Source<'a>],
+    files: &[FileBytes<'a>],
 ) -> Result<Option<PlacedTable<'a>>, Refusal>
     ensures exact { Gives (λ d. option_map placed_region d) result
         (pack.dsdt_at address (entries Dsdt 0 (contents files.now))) }
     ensures ends { IfOk result (λ d. IfSome d (λ t. end_of (placed_region t) < 2 ^ 64)) }
 {
-    let mut found = of_kind(files, Kind::Dsdt);
+    let mut found = of_role(files, FileRole::Dsdt);
     let (Some(address), Some(first)) = (address, found.next()) else {
         return Ok(None);
     };
@@ -275,7 +275,7 @@ fn root_length(count: usize) -> Option<usize>
 #[tactic(auto, unfolding(crate::specs::Pack::laid_out))]
 fn lay_out(
     alloc: Global,
-    files: &[Source<'_>],
+    files: &[FileBytes<'_>],
     dsdt: Option<PlacedTable<'_>>,
 ) -> Result<Vec<u8>, Refusal>
     requires { IfSome dsdt (λ t. end_of (placed_region t) < 2 ^ 64) }
@@ -302,7 +302,7 @@ fn lay_out(
 
 /// The file of `pack_tables`, by its exact clauses alone.
 #[tactic(auto, unfolding(crate::specs::Pack::packed_tables))]
-fn tables_image(alloc: Global, files: &[Source<'_>]) -> Result<Vec<u8>, Refusal>
+fn tables_image(alloc: Global, files: &[FileBytes<'_>]) -> Result<Vec<u8>, Refusal>
     ensures exact { IfOk result (λ v. file_of (packed_tables (contents files.now)) ≡ Ok v.items) }
     ensures refused { IfErr result (λ e. RefusesOrRunsOut (packed_tables (contents files.now)) e) }
     ensures bytes { IfOk result (λ v. IsBytes v.items) }
@@ -320,7 +320,7 @@ fn tables_image(alloc: Global, files: &[Source<'_>]) -> Result<Vec<u8>, Refusal>
 /// Refuses, files in order, with `Unreadable`, `Empty`, `Short` and `Long`; then for the DSDT with
 /// `EndTooLarge` and `Overlap`; then with `NoRoom`; and if nothing is refused so, with `OutOfMemory`
 /// where a growth is refused (sections 5.2.5.3, 5.2.8 and 5.2.9).
-pub fn pack_tables(alloc: Global, files: &[Source<'_>]) -> Result<Vec<u8>, Refusal>
+pub fn pack_tables(alloc: Global, files: &[FileBytes<'_>]) -> Result<Vec<u8>, Refusal>
     // The file, or the first refusal, is the one that is defined; memory runs out only where nothing
     // is refused.
     ensures exact { IfOk result (λ v. file_of (packed_tables (contents files.now)) ≡ Ok v.items) }

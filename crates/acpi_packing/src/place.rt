@@ -8,7 +8,7 @@ ghost use Rattle.acpi_packing.specs.Sources.{listed};
 ghost use Rattle.acpi_packing.specs.declared.error.Refusal.TheVariants.{OutOfMemory};
 
 use crate::error::Refusal;
-use crate::sources::{Kind, Source, of_kind};
+use crate::sources::{FileRole, FileBytes, of_role};
 use acpi_image::PlacedTable;
 use std::alloc::Global;
 
@@ -47,7 +47,7 @@ pub(crate) fn place_one(fixed: &PlacedTable<'_>, from: u64, count: usize) -> Opt
 ///
 /// Refuses with `NoRoom` if one has none.
 pub(crate) fn check_room(
-    files: &[Source<'_>],
+    files: &[FileBytes<'_>],
     fixed: &PlacedTable<'_>,
     from: u64,
 ) -> Result<(), Refusal>
@@ -55,7 +55,7 @@ pub(crate) fn check_room(
     ensures { result ≡ room (placed_region fixed.now) from (listed (contents files.now)) }
 {
     let mut next = from;
-    for table in of_kind(files, Kind::Listed) {
+    for table in of_role(files, FileRole::Listed) {
         let Some(address) = place_one(fixed, next, table.bytes.len()) else {
             return Err(Refusal::NoRoom);
         };
@@ -70,7 +70,7 @@ pub(crate) fn check_room(
 /// Refuses with `NoRoom` if one has none, and with `OutOfMemory`.
 pub(crate) fn place<'a>(
     alloc: Global,
-    files: &[Source<'a>],
+    files: &[FileBytes<'a>],
     fixed: &PlacedTable<'_>,
     from: u64,
 ) -> Result<Vec<PlacedTable<'a>>, Refusal>
@@ -85,7 +85,7 @@ pub(crate) fn place<'a>(
 {
     let mut placed = Vec::new(alloc);
     let mut next = from;
-    for table in of_kind(files, Kind::Listed) {
+    for table in of_role(files, FileRole::Listed) {
         let Some(address) = place_one(fixed, next, table.bytes.len()) else {
             return Err(Refusal::NoRoom);
         };

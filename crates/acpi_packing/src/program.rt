@@ -3,13 +3,13 @@ ghost use Rattle.std.specs.Prelude.{◌≡◌, IfOk, OnErr, map, option_map};
 ghost use Rattle.acpi_cli.specs.Reads.{AsksFront};
 ghost use Rattle.acpi_packing.specs.Held.{contents};
 ghost use Rattle.acpi_packing.specs.Program.{Follows, Packs, Saves, files_for};
-ghost use Rattle.acpi_packing.specs.Words.{request_in, request_of};
+ghost use Rattle.acpi_packing.specs.Arguments.{request_in, request_of};
 
 use crate::listing::record_lines;
-use crate::run::{Outcome, run_command};
-use crate::sources::Source;
+use crate::run::{Outcome, run};
+use crate::sources::FileBytes;
 use crate::storage::Storage;
-use crate::words::{Command, parse_command};
+use crate::arguments::{Command, parse_command};
 use acpi_cli::files::{Files, contents_from, count, read_all};
 use std::alloc::{AllocError, Global};
 use std::io;
@@ -32,7 +32,7 @@ fn files_named<'c, 'w>(asked: &'c Option<Command<'w>>) -> &'c [&'w str]
 fn save_image<S: Storage, W: Write, E: Write>(
     alloc: Global,
     command: &Command<'_>,
-    files: &[Source<'_>],
+    files: &[FileBytes<'_>],
     image: Vec<u8>,
     storage: &mut S,
     out: &mut W,
@@ -64,7 +64,7 @@ fn save_image<S: Storage, W: Write, E: Write>(
 fn finish<S: Storage, W: Write, E: Write>(
     alloc: Global,
     asked: &Option<Command<'_>>,
-    files: &[Source<'_>],
+    files: &[FileBytes<'_>],
     outcome: Outcome,
     storage: &mut S,
     out: &mut W,
@@ -108,6 +108,6 @@ pub fn pack<F: Files, S: Storage, W: Write, E: Write>(
     let start = count(files);
     read_all(files, files_named(&asked))?;
     let sources = contents_from(alloc, files, start)?;
-    let outcome = run_command(alloc, &asked, &sources, err)?;
+    let outcome = run(alloc, &asked, &sources, err)?;
     finish(alloc, &asked, &sources, outcome, storage, out, err)
 }

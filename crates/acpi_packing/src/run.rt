@@ -1,17 +1,16 @@
 //! The program over files that are read, and over any writer.
-ghost use Rattle.std.specs.Prelude.{◌≡◌, [], IfErr, IfOk, Some, Ok, map, option_map, string_bytes};
-ghost use Rattle.acpi_packing.specs.Held.{contents, entry_of};
+ghost use Rattle.std.specs.Prelude.{◌≡◌, ◌++◌, IfErr, IfOk, OnOk, Some, Ok, map, option_map, string_bytes};
+ghost use Rattle.acpi_packing.specs.Held.{contents, entries_left};
 ghost use Rattle.acpi_packing.specs.Pack.{RefusesOrRunsOut, file_of};
 ghost use Rattle.acpi_packing.specs.Run.{IsReport, left_out_by, left_out_lines, packed_by};
 ghost use Rattle.acpi_packing.specs.Run.{Ends, refused_line, refused_name, usage_line};
-ghost use Rattle.acpi_packing.specs.Words.{addresses_of, request_in, request_of};
-ghost use Rattle.acpi_packing.specs.declared.error.Refusal.TheVariants.{OutOfMemory};
+ghost use Rattle.acpi_packing.specs.Arguments.{addresses_of, request_of};
 
 use crate::error::Refusal;
 use crate::listing::name_of;
 use crate::pack::{dsdt_address, pack_files, pack_tables};
-use crate::sources::{Entry, Kind, Source, entries};
-use crate::words::{Command, Form, parse_command};
+use crate::sources::{FileBytes, FileRole, FilesOfRole, of_role};
+use crate::arguments::{Command, Form};
 use std::alloc::{AllocError, Global};
 use std::io;
 use std::io::Write;
@@ -30,7 +29,7 @@ pub enum Outcome {
 /// The image that a command asks for.
 ///
 /// Refuses as `pack_files` and `pack_tables` do.
-fn packed(alloc: Global, form: &Form, files: &[Source<'_>]) -> Result<Vec<u8>, Refusal>
+fn packed(alloc: Global, form: &Form, files: &[FileBytes<'_>]) -> Result<Vec<u8>, Refusal>
     ensures exact { IfOk result (λ v.
         file_of (packed_by (addresses_of form.now) (contents files.now)) ≡ Ok v.items) }
     ensures refused { IfErr result (λ e.
@@ -42,43 +41,43 @@ fn packed(alloc: Global, form: &Form, files: &[Source<'_>]) -> Result<Vec<u8>, R
     }
 }
 
-/// The files of a command that are left out.
+/// Puts a line for each of these files, which are left out.
 ///
-/// Refuses with `OutOfMemory`.
-fn left_out<'a>(alloc: Global, form: &Form, files: &[Source<'a>]) -> Result<Vec<Entry<'a>>, Refusal>
-    ensures all { IfOk result (λ v.
-        map entry_of v.items ≡ left_out_by (addresses_of form.now) (contents files.now)) }
-    ensures refused { IfErr result (λ e. e ≡ OutOfMemory) }
+/// Refuses if memory is refused.
+fn put_left_out(
+    text: &mut String,
+    names: &[&str],
+    files: FilesOfRole<'_, '_>,
+) -> Result<(), AllocError>
+    ensures { OnOk result (string_bytes text.new ≡ string_bytes text.old
+        ++ left_out_lines (map (λ n. n.now) names.now) (entries_left files)) }
 {
-    if let Form::Memory(_) = form {
-        return Ok(Vec::new(alloc));
+    for file in files {
+        let name = name_of(names, file.index);
+        writeln!(text, "left out {name}")?;
     }
-    let mut left_out = entries(alloc, files, Kind::Unlisted)?;
-    if dsdt_address(files).is_none() {
-        let dsdts = entries(alloc, files, Kind::Dsdt)?;
-        match left_out.extend_from_slice(&dsdts) {
-            Ok(()) => {}
-            Err(_) => return Err(Refusal::OutOfMemory),
-        }
-    }
-    Ok(left_out)
+    Ok(())
 }
 
-/// A line for each file that is left out.
+/// A line for each file of a command that is left out.
 ///
-/// Refuses where memory is refused.
-fn left_out_lines(
+/// Refuses if memory is refused.
+fn left_out(
     alloc: Global,
+    form: &Form,
     names: &[&str],
-    left_out: &[Entry<'_>],
+    files: &[FileBytes<'_>],
 ) -> Result<String, AllocError>
-    ensures { IfOk result (λ t. string_bytes t
-        ≡ left_out_lines (map (λ n. n.now) names.now) (map entry_of left_out.now)) }
+    ensures { IfOk result (λ t. string_bytes t ≡ left_out_lines (map (λ n. n.now) names.now)
+        (left_out_by (addresses_of form.now) (contents files.now))) }
 {
     let mut text = String::new(alloc);
-    for entry in left_out {
-        let name = name_of(names, entry.index);
-        writeln!(text, "left out {name}")?;
+    if let Form::Memory(_) = form {
+        return Ok(text);
+    }
+    put_left_out(&mut text, names, of_role(files, FileRole::Unlisted))?;
+    if dsdt_address(files).is_none() {
+        put_left_out(&mut text, names, of_role(files, FileRole::Dsdt))?;
     }
     Ok(text)
 }
@@ -125,7 +124,7 @@ fn usage_line(alloc: Global) -> Result<String, AllocError>
 fn report_command(
     alloc: Global,
     command: &Command<'_>,
-    files: &[Source<'_>],
+    files: &[FileBytes<'_>],
 ) -> Result<(Outcome, String), AllocError>
     ensures { IfOk result (λ r.
         IsReport (Some (request_of command.now)) (contents files.now) r.0 (string_bytes r.1)) }
@@ -137,10 +136,7 @@ fn report_command(
             return Ok((Outcome::Refused(refusal), text));
         }
     };
-    let Ok(left_out) = left_out(alloc, &command.form, files) else {
-        return Err(AllocError);
-    };
-    let text = left_out_lines(alloc, &command.names, &left_out)?;
+    let text = left_out(alloc, &command.form, &command.names, files)?;
     Ok((Outcome::Image(image), text))
 }
 
@@ -150,7 +146,7 @@ fn report_command(
 fn report(
     alloc: Global,
     asked: &Option<Command<'_>>,
-    files: &[Source<'_>],
+    files: &[FileBytes<'_>],
 ) -> Result<(Outcome, String), AllocError>
     ensures { IfOk result (λ r. IsReport (option_map request_of asked.now)
         (contents files.now) r.0 (string_bytes r.1)) }
@@ -161,38 +157,23 @@ fn report(
     }
 }
 
-/// `run` of the command that the arguments are, or of `None` if they are no command.
-pub(crate) fn run_command<E: Write>(
+/// Runs the program on a command, or on `None` if the arguments are none, and on the files that it
+/// names, in order, `None` for one that can't be read. It answers what is to be written, and prints
+/// lines: one for each file that is left out, or one that says why nothing is packed, or the usage.
+///
+/// Faults are found in this order: no command, then what `pack_files` or `pack_tables` refuses.
+/// Refuses if a write to standard error, or memory for what is printed, is refused.
+pub fn run<E: Write>(
     alloc: Global,
     asked: &Option<Command<'_>>,
-    files: &[Source<'_>],
+    files: &[FileBytes<'_>],
     err: &mut E,
 ) -> io::Result<Outcome>
-    ensures { IfOk result (λ o. Ends (option_map request_of asked.now) (contents files.now) o
+    // What it comes to is what is defined, and so is all that is printed.
+    ensures exact { IfOk result (λ o. Ends (option_map request_of asked.now) (contents files.now) o
         (E.contents err.old) (E.contents err.new)) }
 {
     let (outcome, text) = report(alloc, asked, files)?;
     err.write_all(text.as_bytes())?;
     Ok(outcome)
-}
-
-/// Runs the program on the arguments after its name, and on the files that they name, in order,
-/// `None` for one that can't be read. It answers what is to be written, and prints lines: one for
-/// each file that is left out, or one that says why nothing is packed, or the usage.
-///
-/// Faults are found in this order: arguments that are no command, then what `pack_files` or
-/// `pack_tables` refuses. Refuses if a write to standard error, or memory for the arguments or for
-/// what is printed, is refused.
-pub fn run<E: Write>(
-    alloc: Global,
-    words: &[&str],
-    files: &[Source<'_>],
-    err: &mut E,
-) -> io::Result<Outcome>
-    // What it comes to is what is defined, and so is all that is printed.
-    ensures exact { IfOk result (λ o. Ends (request_in (map (λ w. w.now) words.now))
-        (contents files.now) o (E.contents err.old) (E.contents err.new)) }
-{
-    let asked = parse_command(alloc, words)?;
-    run_command(alloc, &asked, files, err)
 }

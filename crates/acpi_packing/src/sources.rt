@@ -1,20 +1,18 @@
 //! What files hold, which of them are tables, and why one is refused by itself.
-ghost use Rattle.std.specs.Prelude.{◌≡◌, ◌≤◌, IfErr, IfOk, length, map};
-ghost use Rattle.acpi_packing.specs.Held.{content, contents, entries_left, entry_of};
+ghost use Rattle.std.specs.Prelude.{◌≡◌, ◌≤◌, length};
+ghost use Rattle.acpi_packing.specs.Held.{content, contents, entries_left};
 ghost use Rattle.acpi_packing.specs.Sources as sources;
 ghost use Rattle.acpi_packing.specs.Sources.{bytes_in, is_of, is_unlisted, is_dsdt, listed};
-ghost use Rattle.acpi_packing.specs.declared.error.Refusal.TheVariants.{OutOfMemory};
 
 use crate::error::{FileError, Refusal};
 use acpi_base::bytes::field;
-use std::alloc::Global;
 
 /// The bytes of a file, `None` where it can't be read.
-pub type Source<'a> = Option<&'a [u8]>;
+pub type FileBytes<'a> = Option<&'a [u8]>;
 
 /// What is done with a file of tables.
 #[derive(Clone, Copy)]
-pub(crate) enum Kind {
+pub(crate) enum FileRole {
     /// The XSDT lists it.
     Listed,
     /// It lies where the FADT says.
@@ -25,13 +23,13 @@ pub(crate) enum Kind {
 
 /// A file and its index among all of them.
 #[derive(Clone, Copy)]
-pub(crate) struct Entry<'a> {
+pub(crate) struct IndexedFile<'a> {
     pub(crate) index: usize,
     pub(crate) bytes: &'a [u8],
 }
 
 /// The bytes of a file, or none where it can't be read.
-pub(crate) fn bytes_of<'a>(file: Source<'a>) -> &'a [u8]
+pub(crate) fn bytes_of<'a>(file: FileBytes<'a>) -> &'a [u8]
     ensures { result.now ≡ bytes_in (content file.entry) }
 {
     match file {
@@ -57,94 +55,75 @@ fn is_unlisted(bytes: &[u8]) -> bool
         || bytes.starts_with(b"RSD PTR ")
 }
 
-impl Kind {
-    /// Whether a file with these bytes is of this kind.
+impl FileRole {
+    /// Whether a file with these bytes has this role.
     fn has(self, bytes: &[u8]) -> bool
         ensures { result ≡ is_of self bytes.now }
     {
         match self {
-            Kind::Listed => !is_dsdt(bytes) && !is_unlisted(bytes),
-            Kind::Dsdt => is_dsdt(bytes),
-            Kind::Unlisted => is_unlisted(bytes),
+            FileRole::Listed => !is_dsdt(bytes) && !is_unlisted(bytes),
+            FileRole::Dsdt => is_dsdt(bytes),
+            FileRole::Unlisted => is_unlisted(bytes),
         }
     }
 }
 
-/// The files of a kind, in order.
+/// The files of a role, in order.
 #[derive(Drop)]
-pub(crate) struct FilesOfKind<'a, 'f> {
-    files: &'f [Source<'a>],
-    kind: Kind,
+pub(crate) struct FilesOfRole<'a, 'f> {
+    files: &'f [FileBytes<'a>],
+    role: FileRole,
     /// How many files were passed.
     index: usize,
 }
 
-impl<'a> Iterator for FilesOfKind<'a, '_> {
+impl<'a> Iterator for FilesOfRole<'a, '_> {
     ghost use Rattle.std.specs.Iterator.{YieldsFirstBy, item_count};
     ghost use Rattle.acpi_packing.specs.Held.{entries_left, entry_of};
 
-    type Item = Entry<'a>;
+    type Item = IndexedFile<'a>;
 
     ghost next_gives = { YieldsFirstBy entry_of (λ s. entries_left s) };
 
     ghost remaining = { item_count (λ s. entries_left s) };
 
-    fn next(&mut self) -> Option<Entry<'a>> {
+    fn next(&mut self) -> Option<IndexedFile<'a>> {
         while self.index < self.files.len() {
             let index = self.index;
             let bytes = bytes_of(self.files[index]);
             self.index = index + 1;
-            if self.kind.has(bytes) {
-                return Some(Entry { index, bytes });
+            if self.role.has(bytes) {
+                return Some(IndexedFile { index, bytes });
             }
         }
         None
     }
 }
 
-/// The files of a kind, in order.
+/// The files of a role, in order.
 #[tactic(auto, using(crate::proofs::Counting::entries_few))]
-pub(crate) fn of_kind<'a, 'f>(files: &'f [Source<'a>], kind: Kind) -> FilesOfKind<'a, 'f>
-    ensures all { entries_left result ≡ sources.entries kind 0 (contents files.now) }
+pub(crate) fn of_role<'a, 'f>(files: &'f [FileBytes<'a>], role: FileRole) -> FilesOfRole<'a, 'f>
+    ensures all { entries_left result ≡ sources.entries role 0 (contents files.now) }
     ensures few { length (entries_left result) ≤ length files.now }
 {
-    FilesOfKind {
+    FilesOfRole {
         files,
-        kind,
+        role,
         index: 0,
     }
 }
 
 /// How many files the XSDT lists.
-pub(crate) fn listed_count(files: &[Source<'_>]) -> usize
+pub(crate) fn listed_count(files: &[FileBytes<'_>]) -> usize
     ensures { result ≡ length (listed (contents files.now)) }
 {
-    of_kind(files, Kind::Listed).count()
-}
-
-/// The files of a kind, in order, in memory.
-///
-/// Refuses with `OutOfMemory`.
-pub(crate) fn entries<'a>(
-    alloc: Global,
-    files: &[Source<'a>],
-    kind: Kind,
-) -> Result<Vec<Entry<'a>>, Refusal>
-    ensures found { IfOk result
-        (λ v. map entry_of v.items ≡ sources.entries kind 0 (contents files.now)) }
-    ensures refused { IfErr result (λ e. e ≡ OutOfMemory) }
-{
-    let mut found = Vec::new(alloc);
-    for entry in of_kind(files, kind) {
-        found.push(entry)?;
-    }
-    Ok(found)
+    of_role(files, FileRole::Listed).count()
 }
 
 /// Tests that a file can be read, and has bytes.
 ///
 /// Refuses, in this order, with `Unreadable` and `Empty`.
-fn check_content(index: usize, file: Source<'_>) -> Result<(), Refusal>
+fn check_content(index: usize, file: FileBytes<'_>) -> Result<(), Refusal>
     ensures { result ≡ sources.check_content index (content file.entry) }
 {
     match file {
@@ -157,7 +136,7 @@ fn check_content(index: usize, file: Source<'_>) -> Result<(), Refusal>
 /// Tests each file by itself.
 ///
 /// Refuses, files in order, and for each in this order, with `Unreadable` and `Empty`.
-pub(crate) fn check_contents(files: &[Source<'_>]) -> Result<(), Refusal>
+pub(crate) fn check_contents(files: &[FileBytes<'_>]) -> Result<(), Refusal>
     ensures { result ≡ sources.check_contents 0 (contents files.now) }
 {
     for (index, file) in files.iter().enumerate() {
@@ -188,7 +167,7 @@ fn check_length(index: usize, bytes: &[u8]) -> Result<(), Refusal>
 /// Refuses, in this order, with `Unreadable`, `Empty`, and for what is not left out `Short` and
 /// `Long`.
 #[tactic(auto, unfolding(crate::specs::Sources::check_table))]
-fn check_table(index: usize, file: Source<'_>) -> Result<(), Refusal>
+fn check_table(index: usize, file: FileBytes<'_>) -> Result<(), Refusal>
     ensures { result ≡ sources.check_table index (content file.entry) }
 {
     check_content(index, file)?;
@@ -202,7 +181,7 @@ fn check_table(index: usize, file: Source<'_>) -> Result<(), Refusal>
 /// Tests each file of tables by itself.
 ///
 /// Refuses, files in order, as `check_table` does.
-pub(crate) fn check_tables(files: &[Source<'_>]) -> Result<(), Refusal>
+pub(crate) fn check_tables(files: &[FileBytes<'_>]) -> Result<(), Refusal>
     ensures { result ≡ sources.check_tables 0 (contents files.now) }
 {
     for (index, file) in files.iter().enumerate() {

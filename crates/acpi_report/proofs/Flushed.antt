@@ -3,7 +3,7 @@ use Rattle.std.proofs.Common.{ℕ, List, inl, inr}
 use Rattle.std.specs.Prelude.{Option}
 use Rattle.std.specs.Io.KnownBytes.{Keeps}
 use Rattle.std.proofs.KnownBytes.{Appends-kept}
-use Rattle.acpi_report.specs.declared.words.Command.{Command}
+use Rattle.acpi_cli.specs.declared.root.Root.{Root}
 use Rattle.acpi_report.specs.Output.{EndsWith, Found, Prints}
 
 pub prints_kept : (found : Found) (a b c d e f : Option (List ℕ))
@@ -13,7 +13,7 @@ prints_kept found a b c d e f prints shown told = record {
   complaints = Appends-kept d e f _ prints.complaints told;
 }
 
-pub ends_kept : (asked : Option Command) (file : Option (List ℕ)) (status : ℕ)
+pub ends_kept : (asked : Option Root) (file : Option (List ℕ)) (status : ℕ)
     (a b c d e f : Option (List ℕ))
     → EndsWith asked file status a b d e → Keeps b c → Keeps e f → EndsWith asked file status a c d f
 ends_kept asked file status a b c d e f (inl (is, prints)) shown told =

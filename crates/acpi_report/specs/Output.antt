@@ -14,12 +14,13 @@ use Rattle.acpi.specs.Root.{pointers, width_of}
 use Rattle.acpi_image_reader.specs.ErrorText.{image_error_text}
 use Rattle.acpi_image_reader.specs.Image.{records_in}
 use Rattle.acpi_image_reader.specs.declared.error.ImageError.{ImageError}
-use Rattle.acpi_report.specs.Command.{command_of}
+use Rattle.acpi_report.specs.Command.{root_for}
 use Rattle.acpi_report.specs.Lines.{IsPciText, bgrt_kind, bgrt_lines, dsdt_lines, header_lines, hpet_lines, line, revision_line, skipped_lines, spcr_kind, spcr_lines, ssdt_lines}
 use Rattle.acpi_report.specs.PlatformLines.{IsPlatformText}
-use Rattle.acpi_report.specs.Status.{RunsOutWith, opened_for, status_with}
+use Rattle.acpi_cli.specs.Root.{opened_for}
+use Rattle.acpi_report.specs.Status.{RunsOutWith, status_with}
 use Rattle.acpi_report.specs.Writing.{AppendsSome}
-use Rattle.acpi_report.specs.declared.words.Command.{Command}
+use Rattle.acpi_cli.specs.declared.root.Root.{Root}
 
 -- ---- standard output
 
@@ -69,7 +70,7 @@ usage_line =
 abbrev pub refusal_line : List ℕ → List ℕ
 refusal_line name = line (codes "refused: " ∷ name ∷ [])
 
--- ---- both, of words and a file
+-- ---- both, of arguments and a file
 
 -- the memory and the root table in it that are found, or the one line that says why there are none
 abbrev pub Found : Type 0
@@ -79,17 +80,17 @@ abbrev pub found_in : Memory → Result Opened AcpiError → Found
 found_in m (Ok opened) = Ok (m, opened)
 found_in m (Err e) = Err (refusal_line (error_text e))
 
-abbrev pub found_over : Command → Result Memory ImageError → Found
-found_over command (Ok m) = found_in m (opened_for m command)
-found_over command (Err refusal) = Err (refusal_line (image_error_text refusal))
+abbrev pub found_over : Root → Result Memory ImageError → Found
+found_over root (Ok m) = found_in m (opened_for m root)
+found_over root (Err refusal) = Err (refusal_line (image_error_text refusal))
 
-abbrev pub found_with : Option Command → Option (List ℕ) → Found
+abbrev pub found_with : Option Root → Option (List ℕ) → Found
 found_with None file = Err usage_line
-found_with (Some command) None = Err (refusal_line (codes "Unreadable"))
-found_with (Some command) (Some file) = found_over command (records_in file)
+found_with (Some root) None = Err (refusal_line (codes "Unreadable"))
+found_with (Some root) (Some file) = found_over root (records_in file)
 
 abbrev pub found_for : List (List ℕ) → Option (List ℕ) → Found
-found_for words file = found_with (command_of words) file
+found_for arguments file = found_with (root_for arguments) file
 
 -- a text of standard output: all lines, or nothing where nothing is found
 abbrev pub IsOutput : Found → List ℕ → Type 0
@@ -97,18 +98,18 @@ IsOutput (Ok found) text = IsLines found.0 found.1 text
 IsOutput (Err complaint) text = text ≡ []
 
 -- the text of standard error: the tables passed over, or why nothing is found
-abbrev pub complaints_of : Found → List ℕ
-complaints_of (Ok found) = skipped_lines_of found.0 found.1
-complaints_of (Err complaint) = complaint
+abbrev pub stderr_of : Found → List ℕ
+stderr_of (Ok found) = skipped_lines_of found.0 found.1
+stderr_of (Err complaint) = complaint
 
 -- standard output grew by its text and by nothing else, and standard error by its own
 pub record Prints (found : Found) (out out_after err err_after : Option (List ℕ)) : Type 0 where
   pub lines : AppendsSome (IsOutput found) out out_after
-  pub complaints : Appends err err_after (complaints_of found)
+  pub complaints : Appends err err_after (stderr_of found)
 
 -- how a run ends of which each write is taken: with the status that is defined, and what is found is
 -- printed, or if memory can run out, with 1 and a line that says so
-abbrev pub EndsWith : Option Command → Option (List ℕ) → ℕ
+abbrev pub EndsWith : Option Root → Option (List ℕ) → ℕ
     → Option (List ℕ) → Option (List ℕ) → Option (List ℕ) → Option (List ℕ) → Type 0
 EndsWith asked file status out out_after err err_after =
     ((status ≡ status_with asked file) × Prints (found_with asked file) out out_after err err_after)
@@ -117,4 +118,4 @@ EndsWith asked file status out out_after err err_after =
 
 abbrev pub Ends : List (List ℕ) → Option (List ℕ) → ℕ
     → Option (List ℕ) → Option (List ℕ) → Option (List ℕ) → Option (List ℕ) → Type 0
-Ends words file = EndsWith (command_of words) file
+Ends arguments file = EndsWith (root_for arguments) file

@@ -1,7 +1,7 @@
 //! What the ACPI tables in a file of memory say, as lines, and the command that asks for them.
 #![tactic(auto)]
 
+pub mod arguments;
 pub mod lines;
 pub mod run;
 pub mod view;
-pub mod words;

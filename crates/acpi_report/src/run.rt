@@ -2,16 +2,15 @@
 ghost use Rattle.std.specs.Prelude.{◌≡◌, ◌≢◌, ◌⊎◌, IfOk, IfSome, None, OnOk, map};
 ghost use Rattle.std.specs.Io.KnownBytes.{Appends};
 ghost use Rattle.std.specs.Option.{option_copied};
-ghost use Rattle.acpi_base.specs.Steps.{Gives};
-ghost use Rattle.acpi.specs.Opened.{opened_of};
-ghost use Rattle.acpi.specs.Tables.{lender_of};
-ghost use Rattle.acpi_report.specs.Command.{command_of};
-ghost use Rattle.acpi_report.specs.Output.{Ends, EndsWith, Prints, found_for, found_in, refusal_line};
-ghost use Rattle.acpi_report.specs.Status.{opened_for, status_for, status_of};
+ghost use Rattle.acpi_cli.specs.Root.{opened_for};
+ghost use Rattle.acpi_report.specs.Command.{root_for};
+ghost use Rattle.acpi_report.specs.Output.{EndsWith, Prints, found_for, found_in, refusal_line};
+ghost use Rattle.acpi_report.specs.Status.{status_for, status_of};
 
+use crate::arguments::parse_command;
 use crate::lines::{print_parts, print_skipped_tables};
-use crate::words::{Command, parse_command};
-use acpi::{AcpiHandler, AcpiResult, AcpiTables};
+use acpi::AcpiHandler;
+use acpi_cli::root::Root;
 use acpi_image_reader::MemoryImage;
 use std::alloc::Global;
 use std::fmt::Display;
@@ -21,11 +20,11 @@ use std::io::{BufWriter, Write};
 /// How many bytes of an output are gathered before they are written.
 const BUFFERED: usize = 32768;
 
-/// Runs the program on the words behind its name, and on the bytes of the file that the first word
-/// names, which are `None` where it can't be read. It answers the status: 0 where all is printed, 1
-/// where something is refused, and 2 where the words are no command.
+/// Runs the program on the arguments after its name, and on the bytes of the file that the first of
+/// them names, which are `None` if it can't be read. It answers the status: 0 if all is printed, 1 if
+/// something is refused, and 2 if the arguments are no command.
 ///
-/// Faults are found in this order: words that are no command, a file that can't be read, what
+/// Faults are found in this order: arguments that are no command, a file that can't be read, what
 /// `MemoryImage::from_bytes` refuses, and what opening the root table refuses. A write or a flush
 /// that is refused ends it with status 1. Memory that is refused for the platform or for the regions
 /// of configuration space ends nothing: that part is refused, as `platform: AllocError` or
@@ -44,63 +43,29 @@ pub fn run<W: Write, E: Write>(
     ensures printed { result ≢ 1 →
         Prints (found_for (map (λ w. w.now) words.now) (option_copied image.entry))
         (W.contents out.old) (W.contents out.new) (E.contents err.old) (E.contents err.new) }
-    // So words that are no command give 2, unless the line on the usage can't be written.
-    ensures no_command { command_of (map (λ w. w.now) words.now) ≡ None →
+    // So arguments that are no command give 2, unless the line on the usage can't be written.
+    ensures no_command { root_for (map (λ w. w.now) words.now) ≡ None →
         (result ≡ 2) ⊎ (result ≡ 1) }
     // And nothing else gives 2.
-    ensures usage { result ≡ 2 → command_of (map (λ w. w.now) words.now) ≡ None }
+    ensures usage { result ≡ 2 → root_for (map (λ w. w.now) words.now) ≡ None }
 {
-    print_run(alloc, words, image, out, err).unwrap_or(1)
+    print_run(alloc, parse_command(words), image, out, err).unwrap_or(1)
 }
 
-/// `run`, which refuses with what the first refused write or flush is refused with.
+/// `run` of what leads to the tables, or of `None` if the arguments are no command. It flushes both
+/// outputs, whatever is refused, and answers the status.
+///
+/// Refuses with what the first refused write or flush is refused with.
+#[tactic(auto, using(crate::proofs::Flushed::ends_kept))]
 pub fn print_run<W: Write, E: Write>(
     alloc: Global,
-    words: &[&str],
+    asked: Option<Root>,
     image: Option<&[u8]>,
     out: &mut W,
     err: &mut E,
 ) -> io::Result<u8>
     // Where each write is taken, the status is the one that is defined, and so is what is printed; or
     // memory for the image is refused, and one line says so.
-    ensures { IfOk result (λ s. Ends (map (λ w. w.now) words.now) (option_copied image.entry) s
-        (W.contents out.old) (W.contents out.new) (E.contents err.old) (E.contents err.new)) }
-{
-    print_command(alloc, parse_command(words), image, out, err)
-}
-
-/// `print_run` of the command that the arguments are, or of `None` if they are no command, over
-/// writers that are gathered in 32 KiB each before they are written. It answers the status and gives
-/// the writers back.
-///
-/// Refuses with what the first refused write or flush is refused with, or if memory for gathering is
-/// refused. A refused write leaves a front of what an output would have got.
-pub fn run_gathered<W: Write + Drop, E: Write + Drop>(
-    alloc: Global,
-    asked: Option<Command>,
-    image: Option<&[u8]>,
-    out: W,
-    err: E,
-) -> io::Result<(u8, W, E)>
-    // The outputs that are given back have grown by what is defined, and by nothing else.
-    ensures { IfOk result (λ r. EndsWith asked (option_copied image.entry) r.0
-        (W.contents out) (W.contents r.1) (E.contents err) (E.contents r.2)) }
-{
-    let mut out = BufWriter::with_capacity(alloc, BUFFERED, out)?;
-    let mut err = BufWriter::with_capacity(alloc, BUFFERED, err)?;
-    let status = print_command(alloc, asked, image, &mut out, &mut err)?;
-    Ok((status, out.into_inner()?, err.into_inner()?))
-}
-
-/// Prints what a command asks for, or the first fault, flushes both outputs, and answers the status.
-#[tactic(auto, using(crate::proofs::Flushed::ends_kept))]
-fn print_command<W: Write, E: Write>(
-    alloc: Global,
-    asked: Option<Command>,
-    image: Option<&[u8]>,
-    out: &mut W,
-    err: &mut E,
-) -> io::Result<u8>
     ensures { IfOk result (λ s. EndsWith asked (option_copied image.entry) s
         (W.contents out.old) (W.contents out.new) (E.contents err.old) (E.contents err.new)) }
 {
@@ -113,10 +78,32 @@ fn print_command<W: Write, E: Write>(
     Ok(status)
 }
 
+/// `print_run` over writers that are gathered in 32 KiB each before they are written. It answers the
+/// status and gives the writers back.
+///
+/// Refuses with what the first refused write or flush is refused with, or if memory for gathering is
+/// refused. A refused write leaves a front of what an output would have got.
+pub fn run_gathered<W: Write + Drop, E: Write + Drop>(
+    alloc: Global,
+    asked: Option<Root>,
+    image: Option<&[u8]>,
+    out: W,
+    err: E,
+) -> io::Result<(u8, W, E)>
+    // The outputs that are given back have grown by what is defined, and by nothing else.
+    ensures { IfOk result (λ r. EndsWith asked (option_copied image.entry) r.0
+        (W.contents out) (W.contents r.1) (E.contents err) (E.contents r.2)) }
+{
+    let mut out = BufWriter::with_capacity(alloc, BUFFERED, out)?;
+    let mut err = BufWriter::with_capacity(alloc, BUFFERED, err)?;
+    let status = print_run(alloc, asked, image, &mut out, &mut err)?;
+    Ok((status, out.into_inner()?, err.into_inner()?))
+}
+
 /// Prints the lines, or the first fault, and answers the status.
 fn print_all<W: Write, E: Write>(
     alloc: Global,
-    asked: Option<Command>,
+    asked: Option<Root>,
     image: Option<&[u8]>,
     out: &mut W,
     err: &mut E,
@@ -124,7 +111,7 @@ fn print_all<W: Write, E: Write>(
     ensures { IfOk result (λ s. EndsWith asked (option_copied image.entry) s
         (W.contents out.old) (W.contents out.new) (E.contents err.old) (E.contents err.new)) }
 {
-    let Some(command) = asked else {
+    let Some(root) = asked else {
         writeln!(
             err,
             "usage: acpi_view IMAGE rsdt REVISION ADDRESS | rsdp ADDRESS | bios"
@@ -135,7 +122,7 @@ fn print_all<W: Write, E: Write>(
         return refuse("Unreadable", err);
     };
     match MemoryImage::from_bytes(alloc, bytes) {
-        Ok(image) => print_image(alloc, &image, command, out, err),
+        Ok(image) => print_image(alloc, &image, root, out, err),
         Err(refusal) => refuse(refusal, err),
     }
 }
@@ -155,34 +142,22 @@ pub fn refuse<D: Display + Drop, E: Write>(refusal: D, err: &mut E) -> io::Resul
 fn print_image<H: AcpiHandler, W: Write, E: Write>(
     alloc: Global,
     handler: &H,
-    command: Command,
+    root: Root,
     out: &mut W,
     err: &mut E,
 ) -> io::Result<u8>
     ensures status { IfOk result
-        (λ s. s ≡ status_of (opened_for (H.memory handler.now) command)) }
+        (λ s. s ≡ status_of (opened_for (H.memory handler.now) root)) }
     ensures printed { OnOk result
-        (Prints (found_in (H.memory handler.now) (opened_for (H.memory handler.now) command))
+        (Prints (found_in (H.memory handler.now) (opened_for (H.memory handler.now) root))
         (W.contents out.old) (W.contents out.new) (E.contents err.old) (E.contents err.new)) }
 {
-    match open(handler, command) {
+    match root.open(handler) {
         Ok(tables) => {
             print_parts(alloc, &tables, out)?;
             print_skipped_tables(&tables, err)?;
             Ok(0)
         }
         Err(refusal) => refuse(refusal, err),
-    }
-}
-
-/// The tables that a command asks for.
-fn open<H: AcpiHandler>(handler: &H, command: Command) -> AcpiResult<AcpiTables<'_, H>>
-    ensures lender { IfOk result (λ t. lender_of t ≡ handler.now) }
-    ensures exact { Gives (λ t. opened_of t) result (opened_for (H.memory handler.now) command) }
-{
-    match command {
-        Command::Rsdt { revision, address } => AcpiTables::from_rsdt(handler, revision, address),
-        Command::Rsdp { address } => AcpiTables::from_rsdp(handler, address),
-        Command::Bios => AcpiTables::search_for_rsdp_bios(handler),
     }
 }

@@ -5,8 +5,8 @@ ghost use Rattle.acpi_cli.specs.Reads.{AsksFront};
 ghost use Rattle.acpi_report.specs.Command.{files_of};
 ghost use Rattle.acpi_report.specs.View.{Views, first_of};
 
+use crate::arguments::{files_named, parse_command};
 use crate::run::run_gathered;
-use crate::words::{files_named, parse_command};
 use acpi_cli::files::{Files, contents_from, count, read_all};
 use std::alloc::Global;
 use std::io;

@@ -8,9 +8,10 @@ mod heaps;
 mod refusing;
 mod writes;
 
+use acpi_cli::root::Root;
 use acpi_image::{PlacedTable, write_image};
 use acpi_report::run::run;
-use acpi_report::words::{Command, files_named, parse_command};
+use acpi_report::arguments::{files_named, parse_command};
 use acpi_testkit::rows::shown;
 use heaps::{over_heaps, without_memory};
 use std::alloc::{AllocError, Global};
@@ -139,11 +140,11 @@ fn taken_file(alloc: Global, words: &[&str]) -> io::Result<Vec<u8>> {
 fn taken_command(alloc: Global, words: &[&str]) -> io::Result<Vec<u8>> {
     let mut text = Vec::new(alloc);
     match parse_command(words) {
-        Some(Command::Rsdt { revision, address }) => {
+        Some(Root::Rsdt { revision, address }) => {
             writeln!(text, "rsdt {revision} 0x{address:x}")
         }
-        Some(Command::Rsdp { address }) => writeln!(text, "rsdp 0x{address:x}"),
-        Some(Command::Bios) => writeln!(text, "bios"),
+        Some(Root::Rsdp { address }) => writeln!(text, "rsdp 0x{address:x}"),
+        Some(Root::Bios) => writeln!(text, "bios"),
         None => writeln!(text, "none"),
     }?;
     Ok(text)

@@ -2,6 +2,8 @@
 #![tactic(auto)]
 
 #[cfg(test)]
+mod arguments;
+#[cfg(test)]
 mod bytes;
 #[cfg(test)]
 mod checks;
@@ -15,7 +17,5 @@ mod reading;
 mod saving;
 #[cfg(test)]
 mod texts;
-#[cfg(test)]
-mod words;
 #[cfg(test)]
 mod writing;

@@ -4,8 +4,8 @@ use crate::bytes::{Bytes, Room};
 use crate::checks::check;
 use crate::packing::samples::{BGRT, DSDT, FADT, RSDT, SSDT};
 use acpi_packing::listing::record_lines;
-use acpi_packing::words::{Command, Form, parse_command};
-use acpi_packing::{Source, pack_files, pack_tables};
+use acpi_packing::arguments::{Command, Form, parse_command};
+use acpi_packing::{FileBytes, pack_files, pack_tables};
 use std::alloc::Global;
 
 /// Arguments, the files that they name, and what is said of the image of them.
@@ -54,7 +54,7 @@ static ROWS: [Row; 4] = [
 ];
 
 /// The image that a command packs.
-fn image_of(alloc: Global, command: &Command<'_>, files: &[Source<'_>]) -> Option<Vec<u8>> {
+fn image_of(alloc: Global, command: &Command<'_>, files: &[FileBytes<'_>]) -> Option<Vec<u8>> {
     match &command.form {
         Form::Memory(addresses) => pack_files(alloc, addresses, files).ok(),
         Form::Tables => pack_tables(alloc, files).ok(),
@@ -62,7 +62,7 @@ fn image_of(alloc: Global, command: &Command<'_>, files: &[Source<'_>]) -> Optio
 }
 
 /// What is said of the image that arguments ask for.
-fn said_of(alloc: Global, arguments: &[&str], files: &[Source<'_>]) -> Option<String> {
+fn said_of(alloc: Global, arguments: &[&str], files: &[FileBytes<'_>]) -> Option<String> {
     let command = parse_command(alloc, arguments).ok()??;
     let image = image_of(alloc, &command, files)?;
     record_lines(alloc, &command, files, &image).ok()
@@ -80,7 +80,7 @@ fn rooms_of(files: &[Bytes]) -> [Room; 5] {
 /// Whether this is said of the image that a row asks for.
 fn is_said(alloc: Global, row: &Row) -> bool {
     let rooms = rooms_of(row.files);
-    let mut sources: Vec<Source<'_>> = Vec::new(alloc);
+    let mut sources: Vec<FileBytes<'_>> = Vec::new(alloc);
     for room in &rooms[..row.files.len().min(5)] {
         if sources.push(Some(room.bytes())).is_err() {
             return false;

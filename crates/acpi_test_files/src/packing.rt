@@ -8,7 +8,8 @@ pub(crate) mod samples;
 
 use crate::bytes::{Bytes, Part, Room};
 use crate::checks::{check, check_bytes};
-use acpi_packing::Source;
+use acpi_packing::FileBytes;
+use acpi_packing::arguments::parse_command;
 use acpi_packing::run::{Outcome, run};
 use images::IMAGES;
 use opened::{Opened, check_opened};
@@ -54,7 +55,7 @@ fn rooms_of(files: &[Option<Bytes>]) -> [Option<Room>; 5] {
 /// What a run over the files of a row comes to. What it prints is put into `err`.
 fn outcome_of(alloc: Global, row: &Row, err: &mut Vec<u8>) -> io::Result<Outcome> {
     let rooms = rooms_of(row.files);
-    let mut sources: Vec<Source<'_>> = Vec::new(alloc);
+    let mut sources: Vec<FileBytes<'_>> = Vec::new(alloc);
     for room in &rooms[..row.files.len().min(5)] {
         let source = match room {
             Some(room) => Some(room.bytes()),
@@ -62,7 +63,7 @@ fn outcome_of(alloc: Global, row: &Row, err: &mut Vec<u8>) -> io::Result<Outcome
         };
         sources.push(source)?;
     }
-    run(alloc, row.words, &sources, err)
+    run(alloc, &parse_command(alloc, row.words)?, &sources, err)
 }
 
 /// Checks what a run comes to.
@@ -119,6 +120,7 @@ impl Write for Closed {
 fn a_line_that_cant_be_printed_fails(rt: HostRuntime) {
     let facs = b"FACS\x24\0\0\0\0\0\0\0\0\0\0\0\0\0\0\0\0\0\0\0\0\0\0\0\0\0\0\0\0\0\0\0";
     let files = [Some(facs.as_slice())];
-    let outcome = run(rt.alloc(), &["out", "tables", "facs"], &files, &mut Closed);
-    check(&rt, "failed", outcome.is_err(), true);
+    let asked = parse_command(rt.alloc(), &["out", "tables", "facs"]);
+    let outcome = asked.map(|asked| run(rt.alloc(), &asked, &files, &mut Closed));
+    check(&rt, "failed", matches!(outcome, Ok(Err(_))), true);
 }

@@ -2,7 +2,7 @@
 
 use super::refusing::{Refused, Refusing};
 use acpi_report::run::run_gathered;
-use acpi_report::words::parse_command;
+use acpi_report::arguments::parse_command;
 use std::alloc::Global;
 use std::io;
 use std::io::Write;

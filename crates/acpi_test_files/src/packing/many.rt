@@ -2,7 +2,7 @@
 
 use crate::bytes::Part;
 use crate::checks::{check, check_bytes};
-use acpi_packing::{Refusal, Source, pack_files, pack_tables};
+use acpi_packing::{Refusal, FileBytes, pack_files, pack_tables};
 use std::alloc::Global;
 use std::process::Abort;
 
@@ -75,7 +75,7 @@ const TABLES: [Part; 9] = [
 ];
 
 /// Checks what sixty files are packed into.
-fn check_sixty(rt: &impl Abort, alloc: Global, files: &[Source<'_>]) {
+fn check_sixty(rt: &impl Abort, alloc: Global, files: &[FileBytes<'_>]) {
     let ranges = pack_files(alloc, &sixty_addresses(), files);
     check_packed(rt, "ranges", ranges, 3120, &RANGES);
     let tables = pack_tables(alloc, files);
@@ -85,7 +85,7 @@ fn check_sixty(rt: &impl Abort, alloc: Global, files: &[Source<'_>]) {
 #[test]
 fn packs_many_files(rt: HostRuntime) {
     let tables = sixty();
-    let mut files: Vec<Source<'_>> = Vec::new(rt.alloc());
+    let mut files: Vec<FileBytes<'_>> = Vec::new(rt.alloc());
     for table in &tables {
         let is_refused = files.push(Some(table.as_slice())).is_err();
         check(&rt, "refused", is_refused, false);

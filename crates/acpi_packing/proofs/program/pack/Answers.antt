@@ -3,7 +3,7 @@ use Rattle.std.specs.Prelude.{option_map}
 use Rattle.acpi_cli.proofs.Asking.{none_asked}
 use Rattle.acpi_packing.proofs.Saving.{on_err, packed}
 use Rattle.acpi_packing.specs.Held.{contents}
-use Rattle.acpi_packing.specs.Words.{request_of}
+use Rattle.acpi_packing.specs.Arguments.{request_of}
 use Rattle.acpi_packing.proofs.program.pack.Goals as goal
 
 pub returns-in_err-asked-clause-refused : goal.returns-in_err-asked-clause-refused

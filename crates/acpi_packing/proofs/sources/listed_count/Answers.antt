@@ -3,11 +3,11 @@ use Rattle.std.proofs.lemmas.Iterator.Consumers.{YieldsList-from_first, count_fr
 use Rattle.std.proofs.lemmas.List.{length-map}
 use Rattle.acpi_packing.specs.Held.{contents, entries_left, entry_of}
 use Rattle.acpi_packing.specs.Sources.{entries}
-use Rattle.acpi_packing.specs.declared.sources.Kind.TheVariants.{Listed}
+use Rattle.acpi_packing.specs.declared.sources.FileRole.TheVariants.{Listed}
 use Rattle.acpi_packing.proofs.sources.listed_count.Goals as goal
 
 pub returns : goal.returns
 returns c =
     let found = entries Listed 0 (contents c.args.files.now) in
-    let all = YieldsList-from_first entry_of entries_left found c.of_kind.ensures.all in
-    count_from_yields_List c.of_kind.result c.count.result c.count.ensures.ran all ∙ sym (length-map found (λ (e : ℕ × List ℕ). e.1))
+    let all = YieldsList-from_first entry_of entries_left found c.of_role.ensures.all in
+    count_from_yields_List c.of_role.result c.count.result c.count.ensures.ran all ∙ sym (length-map found (λ (e : ℕ × List ℕ). e.1))

@@ -6,7 +6,7 @@ use Rattle.acpi_report.proofs.run.print_all.Goals as goal
 pub returns-in_default-image : goal.returns-in_default-image
 returns-in_default-image g c =
     unreadable_ends c.args.asked (option_copied c.args.image)
-    c.in-Some.command c.refuse.result (g.W.Write.contents c.args.out.now)
+    c.in-Some.root c.refuse.result (g.W.Write.contents c.args.out.now)
     (g.E.Write.contents c.args.err.now) (g.E.Write.contents c.refuse.new.err)
     c.in-Some.is (ap option_copied c.in_default-image.is)
     c.refuse.ensures.status c.refuse.ensures.line
@@ -14,7 +14,7 @@ returns-in_default-image g c =
 pub returns-in-Err : goal.returns-in-Err
 returns-in-Err g c =
     image_ends c.args.asked (option_copied c.args.image)
-    c.in-Some.command c.in-Some-image.bytes.now c.in-Err.refusal c.refuse-in-Err.result
+    c.in-Some.root c.in-Some-image.bytes.now c.in-Err.refusal c.refuse-in-Err.result
     (g.W.Write.contents c.args.out.now)
     (g.E.Write.contents c.args.err.now) (g.E.Write.contents c.refuse-in-Err.new.err)
     c.in-Some.is (ap option_copied c.in-Some-image.is)

@@ -1,6 +1,6 @@
 //! What the words of a command line ask for.
 ghost use Rattle.std.specs.Prelude.{◌≡◌, IfOk, map, option_map};
-ghost use Rattle.acpi_packing.specs.Words.{form_request, memory_request, request_in, request_of, tables_request};
+ghost use Rattle.acpi_packing.specs.Arguments.{form_request, memory_request, request_in, request_of, tables_request};
 
 use acpi_cli::parse_address;
 use std::alloc::{AllocError, Global};

@@ -1,6 +1,6 @@
 use Rattle.std.proofs.Common.{◌<◌, length, arith}
 use Rattle.acpi_packing.proofs.Pairs.{odd_pairs}
-use Rattle.acpi_packing.proofs.words.parse_memory.Goals as goal
+use Rattle.acpi_packing.proofs.arguments.parse_memory.Goals as goal
 
 pub returns-then-not-is_empty : goal.returns-then-not-is_empty
 returns-then-not-is_empty c =

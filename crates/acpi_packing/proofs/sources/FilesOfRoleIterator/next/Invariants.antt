@@ -1,8 +1,8 @@
 use Rattle.std.proofs.Common.{◌≡◌, ◌-◌, length}
 use Rattle.acpi_packing.specs.Held.{entries_left}
-use Rattle.acpi_packing.proofs.sources.FilesOfKindIterator.next.Given as goal
+use Rattle.acpi_packing.proofs.sources.FilesOfRoleIterator.next.Given as goal
 
--- what was passed over is not of the kind
+-- what was passed over is not of the role
 abbrev pub invariant-loop-self : goal.invariant-loop-self
 invariant-loop-self l = entries_left l.self ≡ entries_left l.fn.self
 

@@ -1,9 +1,9 @@
 -- What the words of a command line ask for.
 use Rattle.std.specs.Prelude.{ℕ, List, [], ◌∷◌, map, Option, Some, None, if◌then◌else◌, codes}
 use Rattle.std.specs.Str.{bytes_eq}
-use Rattle.acpi_packing.specs.declared.words.Command.{Command}
-use Rattle.acpi_packing.specs.declared.words.Form.{Form}
-use Rattle.acpi_packing.specs.declared.words.Form.TheVariants.{Memory, Tables}
+use Rattle.acpi_packing.specs.declared.arguments.Command.{Command}
+use Rattle.acpi_packing.specs.declared.arguments.Form.{Form}
+use Rattle.acpi_packing.specs.declared.arguments.Form.TheVariants.{Memory, Tables}
 use Rattle.acpi_cli.specs.Numbers.{address_of}
 
 -- the file that is to be made, the files that it is made from, and the addresses of these, or none

@@ -1,0 +1,27 @@
+//! What the program's arguments ask for: a file, and what leads to the tables in it.
+ghost use Rattle.std.specs.Prelude.{◌≡◌, map};
+ghost use Rattle.acpi_report.specs.Command.{files_for, root_for};
+
+use acpi_cli::root::{Root, parse_root};
+
+/// What leads to the tables, by the arguments after the program's name, or `None` if these are no
+/// command: IMAGE, which may be any text, and the arguments of `parse_root`.
+pub fn parse_command(arguments: &[&str]) -> Option<Root>
+    ensures { result ≡ root_for (map (λ w. w.now) arguments.now) }
+{
+    let [_image, rest @ ..] = arguments else {
+        return None;
+    };
+    parse_root(rest)
+}
+
+/// The files that are read for a command of these arguments: the one that the first of them names,
+/// or none if they are no command.
+pub fn files_named<'a, 'w>(asked: Option<Root>, arguments: &'a [&'w str]) -> &'a [&'w str]
+    ensures { map (λ n. n.now) result.now ≡ files_for asked (map (λ w. w.now) arguments.now) }
+{
+    if asked.is_none() || arguments.is_empty() {
+        return &[];
+    }
+    &arguments[..1]
+}
