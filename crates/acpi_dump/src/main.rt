@@ -3,7 +3,7 @@
 #![tactic(auto)]
 
 use acpi_cli::files::HostFiles;
-use acpi_cli::{borrowed, texts_of, texts_or_none};
+use acpi_cli::{args, borrowed};
 use acpi_dumping::run::dump;
 use std::io;
 use std::process::ExitCode;
@@ -12,18 +12,12 @@ fn main(rt: HostRuntime) -> ExitCode {
     ExitCode::from(status(&rt).unwrap_or(1))
 }
 
-/// Runs the program on the process's arguments, files and outputs, and answers the status.
+/// The status of the program over the process's arguments, files and outputs.
 ///
 /// Refuses if a write or memory is refused.
 fn status(rt: &HostRuntime) -> io::Result<u8> {
-    let texts = texts_or_none(rt.alloc(), texts_of(rt))?;
-    let arguments = borrowed(rt.alloc(), &texts)?;
+    let args = args(rt)?;
+    let args = borrowed(rt.alloc(), &args)?;
     let mut files = HostFiles::new(rt);
-    dump(
-        rt.alloc(),
-        &arguments,
-        &mut files,
-        io::writer(rt),
-        rt.stderr(),
-    )
+    dump(rt.alloc(), &args, &mut files, io::writer(rt), rt.stderr())
 }

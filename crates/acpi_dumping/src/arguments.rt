@@ -1,7 +1,8 @@
 //! What the arguments of the program ask for.
 
 use acpi::sdt::Signature;
-use acpi_report::words::{Command, parse_command};
+use acpi_cli::root::Root;
+use acpi_report::arguments::parse_command;
 
 /// How the tables of a signature are shown.
 #[derive(Clone, Copy)]
@@ -28,8 +29,8 @@ pub(crate) enum Asked {
     Help,
     /// Which version it is.
     Version,
-    /// The tables of an image.
-    Tables(Command, Shown),
+    /// The tables of an image that this leads to.
+    Tables(Root, Shown),
 }
 
 /// The signature that an argument is: four bytes.
@@ -67,9 +68,9 @@ pub(crate) fn parse(arguments: &[&str]) -> Option<Asked> {
         && let Some(contents) = parse_contents(option)
     {
         let signature = parse_signature(signature)?;
-        let command = parse_command(front)?;
-        return Some(Asked::Tables(command, Shown::Tables(signature, contents)));
+        let root = parse_command(front)?;
+        return Some(Asked::Tables(root, Shown::Tables(signature, contents)));
     }
-    let command = parse_command(arguments)?;
-    Some(Asked::Tables(command, Shown::Lines))
+    let root = parse_command(arguments)?;
+    Some(Asked::Tables(root, Shown::Lines))
 }

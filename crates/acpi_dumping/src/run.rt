@@ -3,10 +3,10 @@
 use crate::arguments::{Asked, Shown, parse};
 use crate::listing::print_lines;
 use crate::shown::print_tables;
-use acpi::{AcpiHandler, AcpiResult, AcpiTables};
+use acpi::{AcpiHandler, AcpiTables};
 use acpi_cli::files::{Files, contents_from, count, read_all};
+use acpi_cli::root::Root;
 use acpi_image_reader::MemoryImage;
-use acpi_report::words::Command;
 use std::alloc::Global;
 use std::fmt::Display;
 use std::io;
@@ -61,8 +61,8 @@ fn print_asked<F: Files, W: Write, E: Write>(
             writeln!(out, "acpi_dump 5.2.0")?;
             Ok(0)
         }
-        Some(Asked::Tables(command, shown)) => {
-            print_file(alloc, arguments, command, shown, files, out, err)
+        Some(Asked::Tables(root, shown)) => {
+            print_file(alloc, arguments, root, shown, files, out, err)
         }
         None => {
             writeln!(err, "{USAGE}")?;
@@ -75,7 +75,7 @@ fn print_asked<F: Files, W: Write, E: Write>(
 fn print_file<F: Files, W: Write, E: Write>(
     alloc: Global,
     arguments: &[&str],
-    command: Command,
+    root: Root,
     shown: Shown,
     files: &mut F,
     out: &mut W,
@@ -91,7 +91,7 @@ fn print_file<F: Files, W: Write, E: Write>(
         return refuse(name, &"Unreadable", err);
     };
     match MemoryImage::from_bytes(alloc, bytes) {
-        Ok(image) => print_image(&image, name, command, shown, out, err),
+        Ok(image) => print_image(&image, name, root, shown, out, err),
         Err(refusal) => refuse(name, &refusal, err),
     }
 }
@@ -102,32 +102,23 @@ fn refuse<E: Write>(name: &str, refusal: &impl Display, err: &mut E) -> io::Resu
     Ok(1)
 }
 
-/// The tables that a command leads to.
-fn open<H: AcpiHandler>(handler: &H, command: Command) -> AcpiResult<AcpiTables<'_, H>> {
-    match command {
-        Command::Rsdt { revision, address } => AcpiTables::from_rsdt(handler, revision, address),
-        Command::Rsdp { address } => AcpiTables::from_rsdp(handler, address),
-        Command::Bios => AcpiTables::search_for_rsdp_bios(handler),
-    }
-}
-
 /// Prints what is asked for of a memory.
 fn print_image<H: AcpiHandler, W: Write, E: Write>(
     handler: &H,
     name: &str,
-    command: Command,
+    root: Root,
     shown: Shown,
     out: &mut W,
     err: &mut E,
 ) -> io::Result<u8> {
-    match open(handler, command) {
+    match root.open(handler) {
         Ok(tables) => print_shown(handler, &tables, shown, out, err),
         Err(refusal) => {
-            match command {
-                Command::Rsdt { address, .. } | Command::Rsdp { address } => {
+            match root {
+                Root::Rsdt { address, .. } | Root::Rsdp { address } => {
                     writeln!(err, "refused: {name} 0x{address:x}: {refusal}")?;
                 }
-                Command::Bios => writeln!(err, "refused: {name}: {refusal}")?,
+                Root::Bios => writeln!(err, "refused: {name}: {refusal}")?,
             }
             Ok(1)
         }
