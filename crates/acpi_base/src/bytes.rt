@@ -146,7 +146,7 @@ fn are_plain(bytes: &[u8]) -> bool
 
 /// Whether the bytes encode some text in UTF-8.
 #[inline(always)]
-pub(crate) fn is_text(bytes: &[u8]) -> bool
+pub fn is_text(bytes: &[u8]) -> bool
     ensures { result ≡ is_utf8 bytes.now }
 {
     if are_plain(bytes) {
