@@ -9,11 +9,12 @@ use Rattle.acpi_base.specs.Memory.{Memory, Region, AreApart, end_of}
 use Rattle.acpi_image_reader.proofs.Listing.{flipped, starts_none}
 use Rattle.acpi_image_reader.proofs.Sharing.{apart_is, share_is, shares_none}
 use Rattle.acpi_image_reader.specs.Image.{share, shares_any}
-use Rattle.acpi_image.specs.Places.{IsPlaced, places_of, region_in}
+use Rattle.acpi_image.specs.Places.{IsPlaced, places_of}
+use Rattle.acpi_image_reader.specs.Regions.{region_in}
 use Rattle.acpi_image_reader.specs.Starts.{AreAllApart}
 use Rattle.acpi_image.specs.WriteChecks.{some_share}
 use Rattle.acpi_image.specs.declared.write.PlacedTable.{PlacedTable}
-use Rattle.acpi_image.specs.declared.write.places.Place.{Place}
+use Rattle.acpi_base.specs.declared.range.AddressRange.{AddressRange}
 
 differ : false ≡ true → ⊥
 differ e = absurd cc
@@ -52,10 +53,10 @@ none_found (r ∷ m) h = or_from _ _ (shares_none m r (flipped_all r m h.0)) (no
 abbrev place_of : PlacedTable → Region
 place_of t = record { start = t.address; bytes = replicate (length t.bytes.now) 0 }
 
-is_of : (p : Place) (t : PlacedTable) → p.start ≡ t.address → p.length ≡ length t.bytes.now → region_in p ≡ place_of t
+is_of : (p : AddressRange) (t : PlacedTable) → p.address ≡ t.address → p.length ≡ length t.bytes.now → region_in p ≡ place_of t
 is_of p t start count = rw (start, count) refl
 
-module _ (m : Memory) (tables : List PlacedTable) (i : ℕ) (d : PlacedTable) (less : i < length tables) (p : Place) (start : p.start ≡ (get_or tables i d).address) (count : p.length ≡ length (get_or tables i d).bytes.now) where
+module _ (m : Memory) (tables : List PlacedTable) (i : ℕ) (d : PlacedTable) (less : i < length tables) (p : AddressRange) (start : p.address ≡ (get_or tables i d).address) (count : p.length ≡ length (get_or tables i d).bytes.now) where
   abbrev before : Memory
   before = m ++ places_of (take i tables)
 
@@ -80,7 +81,7 @@ module _ (m : Memory) (tables : List PlacedTable) (i : ℕ) (d : PlacedTable) (l
   table_added starts h = subst (λ (n : Memory). IsPlaced starts n) one_more h
 
 -- it ends below 2^64
-pub table_fits : (tables : List PlacedTable) (i : ℕ) (d : PlacedTable) (p : Place) → i < length tables → p.start ≡ (get_or tables i d).address → p.length ≡ length (get_or tables i d).bytes.now
+pub table_fits : (tables : List PlacedTable) (i : ℕ) (d : PlacedTable) (p : AddressRange) → i < length tables → p.address ≡ (get_or tables i d).address → p.length ≡ length (get_or tables i d).bytes.now
     → list_all (λ r. nat_lt (end_of r) (2 ^ 64)) (places_of tables) ≡ true → end_of (region_in p) < 2 ^ 64
 table_fits (t ∷ tables) zero d p less start count h =
     let fits = ltb-true _ _ (and_parts _ _ h).0 in

@@ -4,27 +4,21 @@ use Rattle.std.specs.List.{list_all}
 use Rattle.std.proofs.lemmas.List.{length-replicate, length-map}
 use Rattle.acpi_base.specs.Memory.{Memory, Region, end_of}
 use Rattle.acpi_image_reader.specs.Image.{share, shares_any}
-use Rattle.acpi_image.specs.Places.{places_of, region_in}
+use Rattle.acpi_image.specs.Places.{places_of}
+use Rattle.acpi_image_reader.specs.Regions.{region_in}
+use Rattle.acpi_image_reader.proofs.Sharing.{SamePlace, ranges_share, same_share}
 use Rattle.acpi_image.specs.WriteChecks.{check_places, check_plan, check_tables, pointers_fit, some_share}
 use Rattle.acpi_image.specs.Written.{placed, placed_region, plan, records_of, root_length, starts_of, summed}
 use Rattle.acpi_image.proofs.Written.{length-root_to, length-rsdp_to, length-with_sum}
 use Rattle.acpi_image.specs.declared.write.PlacedTable.{PlacedTable}
-use Rattle.acpi_image.specs.declared.write.places.Place.{Place}
+use Rattle.acpi_base.specs.declared.range.AddressRange.{AddressRange}
 use Rattle.acpi.specs.Root.{kind_of_revision}
-
-record SamePlace (r s : Region) : Type 0 where
-  pub start : r.start ≡ s.start
-  pub count : length r.bytes ≡ length s.bytes
 
 abbrev SamePlaces : Memory → Memory → Type 0
 SamePlaces [] [] = Unit {0}
 SamePlaces [] (s ∷ n) = ⊥
 SamePlaces (r ∷ m) [] = ⊥
 SamePlaces (r ∷ m) (s ∷ n) = SamePlace r s × SamePlaces m n
-
-same_share : (r r' s s' : Region) → SamePlace r r' → SamePlace s s' → share r s ≡ share r' s'
-unfolding share
-same_share r r' s s' a b = rw (a.start, a.count, b.start, b.count) refl
 
 same_shares : (m n : Memory) (r s : Region) → SamePlaces m n → SamePlace r s → shares_any m r ≡ shares_any n s
 same_shares [] [] r s all one = refl
@@ -54,12 +48,12 @@ tables_there (t ∷ ts) =
     (record { start = refl; count = length-replicate (length t.bytes.now) 0 ∙ sym (length-with_sum 9 t.bytes.now) }, tables_there ts)
 
 -- the records lie where they were looked for
-planned_places : (rsdp root : Place) (revision : ℕ) (tables : List PlacedTable)
+planned_places : (rsdp root : AddressRange) (revision : ℕ) (tables : List PlacedTable)
     → rsdp.length ≡ 36 → root.length ≡ root_length (kind_of_revision revision) (length tables)
-    → check_places (region_in rsdp ∷ region_in root ∷ places_of tables) ≡ check_places (records_of (plan rsdp.start root.start revision tables))
+    → check_places (region_in rsdp ∷ region_in root ∷ places_of tables) ≡ check_places (records_of (plan rsdp.address root.address revision tables))
 planned_places rsdp root revision tables few many =
-    same_places (region_in rsdp ∷ region_in root ∷ places_of tables) (records_of (plan rsdp.start root.start revision tables)) (
-      record { start = refl; count = length-replicate rsdp.length 0 ∙ few ∙ sym (length-rsdp_to revision root.start) },
+    same_places (region_in rsdp ∷ region_in root ∷ places_of tables) (records_of (plan rsdp.address root.address revision tables)) (
+      record { start = refl; count = length-replicate rsdp.length 0 ∙ few ∙ sym (length-rsdp_to revision root.address) },
       (
         record { start = refl; count = length-replicate root.length 0 ∙ many ∙ sym (length-root_to _ _ ∙ ap (root_length (kind_of_revision revision)) (length-map _ _ ∙ length-map _ _)) },
         tables_there tables,
@@ -67,18 +61,16 @@ planned_places rsdp root revision tables few many =
     )
 
 -- what is left to check once the other checks hold
-pub places_left : (rsdp root : Place) (revision : ℕ) (tables : List PlacedTable) → rsdp.length ≡ 36 → root.length ≡ root_length (kind_of_revision revision) (length tables)
-    → (root.start == 0) ≡ false → check_tables 0 (placed tables) ≡ Ok tt → nat_lt (root_length (kind_of_revision revision) (length tables)) (2 ^ 32) ≡ true
-    → pointers_fit revision (root.start ∷ starts_of (placed tables)) ≡ true
-    → check_places (region_in rsdp ∷ region_in root ∷ places_of tables) ≡ check_plan (plan rsdp.start root.start revision tables)
+pub places_left : (rsdp root : AddressRange) (revision : ℕ) (tables : List PlacedTable) → rsdp.length ≡ 36 → root.length ≡ root_length (kind_of_revision revision) (length tables)
+    → (root.address == 0) ≡ false → check_tables 0 (placed tables) ≡ Ok tt → nat_lt (root_length (kind_of_revision revision) (length tables)) (2 ^ 32) ≡ true
+    → pointers_fit revision (root.address ∷ starts_of (placed tables)) ≡ true
+    → check_places (region_in rsdp ∷ region_in root ∷ places_of tables) ≡ check_plan (plan rsdp.address root.address revision tables)
 unfolding check_plan
 places_left rsdp root revision tables few many some are short fit =
     planned_places rsdp root revision tables few many ∙ rw (some, are, length-map tables placed_region, short, fit) refl
 
--- two tables share a byte exactly where their places do
-pub tables_share : (p q : Place) (t u : PlacedTable) → p.start ≡ t.address → p.length ≡ length t.bytes.now → q.start ≡ u.address → q.length ≡ length u.bytes.now
+-- two tables share a byte exactly where their ranges do
+pub tables_share : (p q : AddressRange) (t u : PlacedTable) → p.address ≡ t.address → p.length ≡ length t.bytes.now → q.address ≡ u.address → q.length ≡ length u.bytes.now
     → share (region_in p) (region_in q) ≡ share (placed_region t) (placed_region u)
 tables_share p q t u p_start p_count q_start q_count =
-    same_share (region_in p) (placed_region t) (region_in q) (placed_region u)
-    (record { start = p_start; count = length-replicate p.length 0 ∙ p_count })
-    (record { start = q_start; count = length-replicate q.length 0 ∙ q_count })
+    ranges_share p q (placed_region t) (placed_region u) p_start p_count q_start q_count

@@ -1,14 +1,9 @@
 -- Where records lie: their starts and lengths, whatever their bytes are.
 use Rattle.std.specs.Prelude.{ℕ, List, length, map, replicate}
 use Rattle.std.specs.BTreeMap.{BTreeMap}
-use Rattle.acpi_base.specs.Memory.{Memory, Region}
+use Rattle.acpi_base.specs.Memory.{Memory}
 use Rattle.acpi_image_reader.specs.Starts.{AreAllApart, ListsStarts}
 use Rattle.acpi_image.specs.declared.write.PlacedTable.{PlacedTable}
-use Rattle.acpi_image.specs.declared.write.places.Place.{Place}
-
--- a region of this start and length
-abbrev pub region_in : Place → Region
-region_in p = record { start = p.start; bytes = replicate p.length 0 }
 
 -- regions where tables are to lie
 abbrev pub places_of : List PlacedTable → Memory

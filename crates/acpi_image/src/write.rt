@@ -11,9 +11,9 @@ mod records;
 
 pub use crate::error::WriteError;
 use checks::check_plan;
-pub use places::Place;
+pub use places::range_of;
 use records::put_records;
-pub use records::{put_record, put_root, put_rsdp};
+pub use records::{put_region, put_root_table, put_rsdp};
 use std::alloc::{Allocator, Global};
 
 /// A table, and where it is to lie.

@@ -1,9 +1,12 @@
 -- When regions share a byte.
-use Rattle.std.proofs.Common.{◌≡◌, ℕ, ◌<◌, ◌≤◌, true, false, ◌||◌, List, [], ◌∷◌, ◌++◌, length, refl, arith, inl, inr}
+use Rattle.std.proofs.Common.{◌≡◌, ℕ, ◌<◌, ◌≤◌, true, false, ◌||◌, List, [], ◌∷◌, ◌++◌, length, refl, arith, inl, inr, ◌∙◌}
 use Rattle.std.proofs.lemmas.Bool.{and_parts, and_from, or_cases, or_parts, or_from, or_left, or_right, false_from_ne_true, leb-true, le-leb, ltb-true, lt-ltb, cases_lt}
+use Rattle.std.proofs.lemmas.List.{length-replicate}
 use Rattle.std.specs.List.{AllByRecursion}
 use Rattle.acpi_base.specs.Memory.{Memory, Region, AreApart, IsMemory, IsRegion, end_of, lies_in}
+use Rattle.acpi_base.specs.declared.range.AddressRange.{AddressRange}
 use Rattle.acpi_image_reader.specs.Image.{share, shares_any}
+use Rattle.acpi_image_reader.specs.Regions.{region_in}
 
 pub inside : (r : Region) (a : ℕ) → lies_in r a ≡ true → (r.start ≤ a) × (a < end_of r)
 inside r a h =
@@ -48,6 +51,26 @@ not_shared r s h t =
 
 pub share_is : (r s : Region) → AreApart r s → share r s ≡ false
 share_is r s h = false_from_ne_true _ (not_shared r s h)
+
+-- ---- it depends on starts and lengths alone
+
+pub record SamePlace (r s : Region) : Type 0 where
+  pub start : r.start ≡ s.start
+  pub count : length r.bytes ≡ length s.bytes
+
+pub same_share : (r r' s s' : Region) → SamePlace r r' → SamePlace s s' → share r s ≡ share r' s'
+unfolding share
+same_share r r' s s' a b = rw (a.start, a.count, b.start, b.count) refl
+
+-- two regions share a byte exactly where the ranges that they lie in do
+pub ranges_share : (p q : AddressRange) (r s : Region) → p.address ≡ r.start → p.length ≡ length r.bytes → q.address ≡ s.start → q.length ≡ length s.bytes
+    → share (region_in p) (region_in q) ≡ share r s
+ranges_share p q r s p_start p_count q_start q_count =
+    same_share (region_in p) r (region_in q) s
+    (record { start = p_start; count = length-replicate p.length 0 ∙ p_count })
+    (record { start = q_start; count = length-replicate q.length 0 ∙ q_count })
+
+-- ---- several
 
 pub shares_none : (m : Memory) (r : Region) → AllByRecursion (λ s. AreApart s r) m → shares_any m r ≡ false
 shares_none [] r h = refl

@@ -4,6 +4,7 @@
 mod error;
 pub mod image;
 pub mod laws;
+pub mod range;
 pub mod reader;
 mod record;
 mod record_list;

@@ -6,6 +6,8 @@ ghost use Rattle.acpi_image_reader.specs.Image.{record_at};
 ghost use Rattle.acpi_image_reader.specs.Regions.{region_of};
 
 use crate::error::ImageError;
+use crate::range::shares_byte;
+use acpi_base::AddressRange;
 use acpi_base::bytes::field;
 
 /// A region that a file spells, by one of its records.
@@ -41,24 +43,25 @@ impl<'a> Record<'a> {
         }
     }
 
-    /// Whether an address lies in this record.
-    fn holds(&self, address: u64) -> bool
-        ensures { result ≡ lies_in (region_of self.now) address }
+    /// The addresses of its bytes.
+    fn range(&self) -> AddressRange
+        ensures address { result.address ≡ self.now.start }
+        ensures length { result.length ≡ length self.now.bytes.now }
     {
-        self.rest(address).is_some()
+        AddressRange {
+            address: self.start,
+            length: self.bytes.len() as u64,
+        }
     }
 
     /// Whether some byte lies in this record and in another. One without bytes shares none.
-    #[tactic(auto, unfolding(crate::specs::Image::share), using(crate::proofs::Sharing::share_is, crate::proofs::Sharing::apart_is))]
+    #[tactic(auto, using(crate::proofs::Sharing::share_is, crate::proofs::Sharing::apart_is))]
     pub(crate) fn shares_byte(&self, other: &Record<'_>) -> bool
         ensures exact { result ≡ share (region_of self.now) (region_of other.now) }
         // That is, no address lies in both exactly where the answer is no.
         ensures law { (result ≡ false) ↔ AreApart (region_of self.now) (region_of other.now) }
     {
-        if self.bytes.is_empty() || other.bytes.is_empty() {
-            return false;
-        }
-        self.holds(other.start) || other.holds(self.start)
+        shares_byte(self.range(), other.range())
     }
 }
 

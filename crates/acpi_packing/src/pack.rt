@@ -20,8 +20,10 @@ use crate::place::{check_room, place, place_one};
 use crate::sources::{FileRole, FileBytes, bytes_of, check_contents, check_tables, listed_count, of_role};
 use acpi::PhysicalRecord;
 use acpi::fadt::Fadt;
+use acpi::root::RootKind;
 use acpi_image::PlacedTable;
-use acpi_image::write::{Place, put_record, put_root, put_rsdp};
+use acpi_image::write::{put_region, put_root_table, put_rsdp, range_of};
+use acpi_image_reader::range;
 use std::alloc::Global;
 
 /// Where the RSDP lies: where the BIOS areas begin that are searched for it (section 5.2.5.1).
@@ -34,7 +36,7 @@ const FIRST: u64 = 0x100000;
 fn share(one: &PlacedTable<'_>, other: &PlacedTable<'_>) -> bool
     ensures { result ≡ share (placed_region one.now) (placed_region other.now) }
 {
-    Place::of(one).shares_byte(Place::of(other))
+    range::shares_byte(range_of(one), range_of(other))
 }
 
 /// Whether a table shares a byte with one of these files at their addresses.
@@ -103,11 +105,7 @@ fn put_files(file: &mut Vec<u8>, addresses: &[u64], files: &[FileBytes<'_>]) -> 
     ensures bytes { OnOk result (IsBytes file.new.items) }
 {
     for index in 0..addresses.len().min(files.len()) {
-        let table = PlacedTable {
-            address: addresses[index],
-            bytes: bytes_of(files[index]),
-        };
-        put_record(file, &table)?;
+        put_region(file, addresses[index], bytes_of(files[index]))?;
     }
     Ok(())
 }
@@ -226,7 +224,7 @@ fn put_tables(file: &mut Vec<u8>, tables: &[PlacedTable<'_>]) -> Result<(), Refu
     ensures bytes { OnOk result (IsBytes file.new.items) }
 {
     for table in tables {
-        put_record(file, table)?;
+        put_region(file, table.address, table.bytes)?;
     }
     Ok(())
 }
@@ -248,10 +246,10 @@ fn put_all(
     ensures bytes { OnOk result (IsBytes file.new.items) }
 {
     put_rsdp(file, RSDP, 2, root)?;
-    put_root(file, root, 2, tables)?;
+    put_root_table(file, root, 2, tables)?;
     put_tables(file, tables)?;
     if let Some(dsdt) = dsdt {
-        put_record(file, &dsdt)?;
+        put_region(file, dsdt.address, dsdt.bytes)?;
     }
     Ok(())
 }
@@ -262,8 +260,9 @@ fn root_length(count: usize) -> Option<usize>
     ensures low { IfSome result (λ n. n < 2 ^ 32) }
     ensures none { IfNone result (2 ^ 32 ≤ root_length Xsdt count) }
 {
-    if count <= (u32::MAX as usize - 36) / 8 {
-        Some(36 + 8 * count)
+    let width = RootKind::Xsdt.width();
+    if count <= (u32::MAX as usize - 36) / width {
+        Some(36 + width * count)
     } else {
         None
     }

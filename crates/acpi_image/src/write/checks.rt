@@ -1,27 +1,17 @@
 //! Why an image can't be written.
 ghost use Rattle.std.specs.Prelude.{◌≡◌, ◌^◌, ◌<◌, ◌∷◌, nat_lt, length};
 ghost use Rattle.std.specs.List.{list_all};
-ghost use Rattle.std.specs.Str.{is_utf8};
 ghost use Rattle.acpi_image.specs.WriteChecks as checks;
 ghost use Rattle.acpi_image.specs.Written.{placed, plan, root_length, starts_of};
 ghost use Rattle.acpi.specs.Root.{kind_of_revision, signature_of, width_of};
 
 use crate::error::WriteError;
 use crate::write::PlacedTable;
-use crate::write::places::{Place, check_places};
-use acpi_base::Signature;
-use acpi_base::bytes::{field, text_of};
+use crate::write::places::check_places;
+use acpi::root::RootKind;
+use acpi_base::bytes::{field, is_text};
+use acpi_base::{AddressRange, Signature};
 use std::alloc::Allocator;
-
-/// Whether bytes encode a text.
-fn is_text(bytes: &[u8]) -> bool
-    ensures { result ≡ is_utf8 bytes.now }
-{
-    match text_of(bytes) {
-        Some(_) => true,
-        None => false,
-    }
-}
 
 /// Whether bytes are a table but for their sum.
 #[tactic(auto, unfolding(crate::specs::WriteChecks::is_table))]
@@ -73,18 +63,14 @@ fn pointers_fit(revision: u8, root_address: u64, tables: &[PlacedTable<'_>]) -> 
 pub(super) fn signature(revision: u8) -> Signature
     ensures { result ≡ signature_of (kind_of_revision revision) }
 {
-    if revision == 0 {
-        Signature::RSDT
-    } else {
-        Signature::XSDT
-    }
+    RootKind::of_revision(revision).signature()
 }
 
 /// How many bytes a pointer of the root table has.
 pub(super) fn width(revision: u8) -> usize
     ensures { result ≡ width_of (kind_of_revision revision) }
 {
-    if revision == 0 { 4 } else { 8 }
+    RootKind::of_revision(revision).width()
 }
 
 /// Whether the length of a root table with so many pointers is below 2^32.
@@ -125,13 +111,13 @@ pub(super) fn check_plan<A: Allocator + Clone>(
     if !pointers_fit(revision, root_address, tables) {
         return Err(WriteError::PointerTooLarge);
     }
-    let rsdp = Place {
-        start: rsdp_address,
+    let rsdp = AddressRange {
+        address: rsdp_address,
         length: 36,
     };
-    let root = Place {
-        start: root_address,
-        length: root_length(revision, tables.len()),
+    let root = AddressRange {
+        address: root_address,
+        length: root_length(revision, tables.len()) as u64,
     };
     check_places(alloc, rsdp, root, tables)
 }

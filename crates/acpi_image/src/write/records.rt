@@ -152,7 +152,7 @@ fn put_pointers<A: Allocator>(
 /// Puts a root table that lists these tables.
 ///
 /// Refuses with `OutOfMemory`.
-fn put_root_table<A: Allocator>(
+fn put_table_of_pointers<A: Allocator>(
     file: &mut Vec<u8, A>,
     revision: u8,
     tables: &[PlacedTable<'_>],
@@ -175,7 +175,7 @@ fn put_root_table<A: Allocator>(
 /// XSDT.
 ///
 /// Refuses with `OutOfMemory`.
-pub fn put_root<A: Allocator>(
+pub fn put_root_table<A: Allocator>(
     file: &mut Vec<u8, A>,
     address: u64,
     revision: u8,
@@ -188,22 +188,23 @@ pub fn put_root<A: Allocator>(
     ensures refused { IfErr result (λ e. e ≡ OutOfMemory) }
 {
     put_head(file, address, root_length(revision, tables.len()))?;
-    put_root_table(file, revision, tables)
+    put_table_of_pointers(file, revision, tables)
 }
 
 /// Puts the record of bytes at an address, as they are.
 ///
 /// Refuses with `OutOfMemory`.
-pub fn put_record<A: Allocator>(
+pub fn put_region<A: Allocator>(
     file: &mut Vec<u8, A>,
-    region: &PlacedTable<'_>,
+    address: u64,
+    bytes: &[u8],
 ) -> Result<(), WriteError>
     ensures put { OnOk result (file.new.items
-        ≡ file.old.items ++ record_spelling (placed_region region.now)) }
+        ≡ file.old.items ++ record_spelling (record { start = address; bytes = bytes.now })) }
     ensures refused { IfErr result (λ e. e ≡ OutOfMemory) }
 {
-    put_head(file, region.address, region.bytes.len())?;
-    put(file, region.bytes)
+    put_head(file, address, bytes.len())?;
+    put(file, bytes)
 }
 
 /// Puts the record of a table, with byte 9 set.
@@ -240,7 +241,7 @@ pub(super) fn put_records<A: Allocator>(
     ensures bytes { OnOk result (IsBytes file.new.items) }
 {
     put_rsdp(file, rsdp_address, revision, root_address)?;
-    put_root(file, root_address, revision, tables)?;
+    put_root_table(file, root_address, revision, tables)?;
     for table in tables {
         put_table(file, table)?;
     }

@@ -4,4 +4,4 @@ use Rattle.acpi_packing.proofs.pack.share.Goals as goal
 
 pub returns : goal.returns
 returns c =
-    c.shares_byte.ensures ∙ tables_share c.of.result c.of-2.result c.args.one.now c.args.other.now c.of.ensures.start c.of.ensures.length c.of-2.ensures.start c.of-2.ensures.length
+    c.shares_byte.ensures ∙ tables_share c.range_of.result c.range_of-2.result c.args.one.now c.args.other.now c.range_of.ensures.address c.range_of.ensures.length c.range_of-2.ensures.address c.range_of-2.ensures.length
