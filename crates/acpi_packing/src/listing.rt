@@ -154,8 +154,8 @@ fn lines_of(
     Ok(text)
 }
 
-/// The lines of `record_lines`, by its clauses on what they are.
-fn lines_in(
+/// What `record_lines` answers: the image is read, and a line made of each of its records.
+fn record_lines_exact(
     alloc: Global,
     command: &Command<'_>,
     files: &[FileBytes<'_>],
@@ -196,5 +196,5 @@ pub fn record_lines(
         → packed_by (addresses_of command.now.form) (contents files.now) ≡ Ok m
         → AreNamed (addresses_of command.now.form) (contents files.now) m }
 {
-    lines_in(alloc, command, files, image)
+    record_lines_exact(alloc, command, files, image)
 }

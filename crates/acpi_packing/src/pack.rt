@@ -110,9 +110,9 @@ fn put_files(file: &mut Vec<u8>, addresses: &[u64], files: &[FileBytes<'_>]) -> 
     Ok(())
 }
 
-/// The file of `pack_files`, by its exact clauses alone.
+/// What `pack_files` answers: the files are tested, and then put into the image.
 #[tactic(auto, unfolding(crate::specs::Pack::packed_files))]
-fn files_image(alloc: Global, addresses: &[u64], files: &[FileBytes<'_>]) -> Result<Vec<u8>, Refusal>
+fn pack_files_exact(alloc: Global, addresses: &[u64], files: &[FileBytes<'_>]) -> Result<Vec<u8>, Refusal>
     ensures exact { IfOk result (λ v.
         file_of (packed_files addresses.now (contents files.now)) ≡ Ok v.items) }
     ensures refused { IfErr result (λ e.
@@ -147,7 +147,7 @@ pub fn pack_files(
     // Each number in it is a byte.
     ensures bytes { IfOk result (λ v. IsBytes v.items) }
 {
-    files_image(alloc, addresses, files)
+    pack_files_exact(alloc, addresses, files)
 }
 
 /// The address that a FADT gives for the DSDT, its 64-bit field first, where it is as long as a
@@ -299,9 +299,9 @@ fn lay_out(
     Ok(file)
 }
 
-/// The file of `pack_tables`, by its exact clauses alone.
+/// What `pack_tables` answers: the files are tested, the tables placed, and then put into the image.
 #[tactic(auto, unfolding(crate::specs::Pack::packed_tables))]
-fn tables_image(alloc: Global, files: &[FileBytes<'_>]) -> Result<Vec<u8>, Refusal>
+fn pack_tables_exact(alloc: Global, files: &[FileBytes<'_>]) -> Result<Vec<u8>, Refusal>
     ensures exact { IfOk result (λ v. file_of (packed_tables (contents files.now)) ≡ Ok v.items) }
     ensures refused { IfErr result (λ e. RefusesOrRunsOut (packed_tables (contents files.now)) e) }
     ensures bytes { IfOk result (λ v. IsBytes v.items) }
@@ -330,5 +330,5 @@ pub fn pack_tables(alloc: Global, files: &[FileBytes<'_>]) -> Result<Vec<u8>, Re
     // Each number in it is a byte.
     ensures bytes { IfOk result (λ v. IsBytes v.items) }
 {
-    tables_image(alloc, files)
+    pack_tables_exact(alloc, files)
 }
