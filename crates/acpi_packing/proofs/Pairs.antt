@@ -1,4 +1,4 @@
--- Pairs of words.
+-- Pairs of arguments.
 use Rattle.std.proofs.Common.{◌≡◌, ℕ, List, [], ◌∷◌, ◌++◌, ◌<◌, length, map, Some, None, arith, ◌∙◌, refl, sym, ap, append_assoc}
 use Rattle.std.specs.Prelude.{Option}
 use Rattle.std.specs.Borrow.{Bor}
@@ -26,7 +26,7 @@ odd [] less some = absurd (omega arith)
 odd (a ∷ []) less some = refl
 odd (a ∷ b ∷ rest) less some = absurd (omega arith)
 
--- a word is left that has no second
+-- an argument is left that has no second
 pub odd_pairs : (out addresses : List ℕ) (names rest words : List (Bor (List ℕ))) → SoFar addresses names rest words → length rest < 2 → 0 < length rest
     → None ≡ memory_request out (texts_of words)
 odd_pairs out addresses names rest words so_far less some =

@@ -1,4 +1,4 @@
--- What the words of a command line ask for.
+-- What the arguments ask for.
 use Rattle.std.specs.Prelude.{ℕ, List, [], ◌∷◌, map, Option, Some, None, if◌then◌else◌, codes}
 use Rattle.std.specs.Str.{bytes_eq}
 use Rattle.acpi_packing.specs.declared.arguments.Command.{Command}
@@ -25,7 +25,7 @@ request_of c = record {
   addresses = addresses_of c.form;
 }
 
--- the first of pairs of words is an address
+-- the first of pairs of arguments is an address
 abbrev pub with_address : Option ℕ → Option (List ℕ) → Option (List ℕ)
 with_address None rest = None
 with_address (Some address) None = None
@@ -53,14 +53,14 @@ memory_request out pairs = memory_with out (names_in pairs) (addresses_in pairs)
 abbrev pub tables_request : List ℕ → List (List ℕ) → Option Request
 tables_request out names = Some (record { out = out; names = names; addresses = None })
 
--- what a form and the words behind it ask for
+-- what a form and the arguments after it ask for
 abbrev pub form_request : List ℕ → List ℕ → List (List ℕ) → Option Request
 form_request out form words =
     if bytes_eq form (codes "memory") then memory_request out words
     else if bytes_eq form (codes "tables") then tables_request out words
     else None
 
--- what the words behind the program's name ask for: a file, a form, and one file at least
+-- what the arguments after the program's name ask for: a file, a form, and one file at least
 abbrev pub request_in : List (List ℕ) → Option Request
 request_in (out ∷ form ∷ word ∷ words) = form_request out form (word ∷ words)
 request_in _ = None

@@ -1,4 +1,4 @@
-//! What the words of a command line ask for.
+//! What the arguments ask for.
 ghost use Rattle.std.specs.Prelude.{◌≡◌, IfOk, map, option_map};
 ghost use Rattle.acpi_packing.specs.Arguments.{form_request, memory_request, request_in, request_of, tables_request};
 
@@ -14,7 +14,7 @@ pub enum Form {
     Tables,
 }
 
-/// What the words of a command line ask for.
+/// What the arguments ask for.
 #[derive(Drop)]
 pub struct Command<'w> {
     /// The file that is to be made.
@@ -25,7 +25,7 @@ pub struct Command<'w> {
     pub form: Form,
 }
 
-/// The command of pairs of words, ADDRESS and FILE.
+/// The command of pairs of arguments, ADDRESS and FILE.
 ///
 /// Refuses where memory is refused.
 fn parse_memory<'w>(
@@ -75,7 +75,7 @@ fn parse_tables<'w>(
     }))
 }
 
-/// The command of a form, and the words behind it.
+/// The command of a form, and the arguments after it.
 ///
 /// Refuses where memory is refused.
 fn parse_form<'w>(
@@ -94,8 +94,8 @@ fn parse_form<'w>(
     }
 }
 
-/// The command that the words behind the program's name are, or `None` where they are none: OUT,
-/// which may be any text, a form, and the words of that form, at least one.
+/// The command that the arguments after the program's name are, or `None` if they are none: OUT,
+/// which may be any text, a form, and the arguments of that form, at least one.
 ///
 /// Refuses where memory is refused.
 pub fn parse_command<'w>(

@@ -1,4 +1,4 @@
-//! Images of memory from files: what the words of a command line ask for, where the files lie, and
+//! Images of memory from files: what the arguments ask for, where the files lie, and
 //! the file that is made.
 #![tactic(auto)]
 

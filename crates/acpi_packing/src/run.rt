@@ -22,7 +22,7 @@ pub enum Outcome {
     Image(Vec<u8>),
     /// Nothing is packed.
     Refused(Refusal),
-    /// The words are no command.
+    /// The arguments are no command.
     NoCommand,
 }
 
