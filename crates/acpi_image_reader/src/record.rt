@@ -55,7 +55,6 @@ impl<'a> Record<'a> {
     }
 
     /// Whether some byte lies in this record and in another. One without bytes shares none.
-    #[tactic(auto, using(crate::proofs::Sharing::share_is, crate::proofs::Sharing::apart_is))]
     pub(crate) fn shares_byte(&self, other: &Record<'_>) -> bool
         ensures exact { result ≡ share (region_of self.now) (region_of other.now) }
         // That is, no address lies in both exactly where the answer is no.
