@@ -1,16 +1,16 @@
 //! The lines that the program prints.
-ghost use Rattle.std.specs.Prelude.{◌≡◌, OnOk, codes};
+ghost use Rattle.std.specs.Prelude.{◌≡◌, OnOk, codes, flat_map};
 ghost use Rattle.std.specs.Io.KnownBytes.{Appends};
-ghost use Rattle.acpi_base.specs.Table.{kind};
+ghost use Rattle.acpi.specs.Lists.{faults_of};
 ghost use Rattle.acpi.specs.Pci.{shown_in};
-ghost use Rattle.acpi.specs.Tables.{memory_of, pointers_of, revision_of};
+ghost use Rattle.acpi.specs.Tables.{memory_of, of_tables, pointers_of, revision_of};
 ghost use Rattle.acpi.specs.Opened.{opened_of};
 ghost use Rattle.acpi_report.specs.Output.{IsLines, skipped_lines_of};
 ghost use Rattle.acpi_report.specs.Writing.{AppendsSome};
 ghost use Rattle.acpi_report.specs.Lines.{IsPciText, bgrt_lines, console_line, dsdt_lines};
 ghost use Rattle.acpi_report.specs.Lines.{graphic_line, header_line, header_lines, hpet_line};
 ghost use Rattle.acpi_report.specs.Lines.{hpet_lines, lines_or_refusal, refused_line, region_line, region_lines};
-ghost use Rattle.acpi_report.specs.Lines.{revision_line, skipped_line, skipped_lines, spcr_lines};
+ghost use Rattle.acpi_report.specs.Lines.{revision_line, skipped_line, spcr_lines};
 ghost use Rattle.acpi_report.specs.Lines.{ssdt_lines, stream_line, yes_or_no};
 
 mod listed;
@@ -80,8 +80,7 @@ fn print_skipped<H: AcpiHandler, T: AcpiTable, E: Write>(
     err: &mut E,
 ) -> io::Result<()>
     ensures { OnOk result (Appends (E.contents err.old) (E.contents err.new)
-        (skipped_lines (memory_of tables.now)
-        T.kind (pointers_of tables.now))) }
+        (flat_map (skipped_line T.SIGNATURE) (of_tables tables.now (λ m. faults_of m T.kind)))) }
 {
     for fault in tables.faults::<T>() {
         print_fault(T::SIGNATURE, fault, err)?;

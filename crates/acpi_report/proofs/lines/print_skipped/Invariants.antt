@@ -1,5 +1,4 @@
 use Rattle.std.specs.Prelude.{flat_map}
-use Rattle.acpi_base.specs.Table.{kind}
 use Rattle.acpi.specs.Walks.{faults_left}
 use Rattle.acpi_report.specs.Lines.{skipped_line}
 use Rattle.acpi_report.specs.Writing.{Still}
