@@ -1,13 +1,17 @@
 //! What the callers find and write.
 
 use crate::caller::graphic_address;
+use crate::resolved::isa_pin;
 use crate::table_type::find_both;
 use crate::writer::{GuestError, tables_of_guest};
 use acpi::handler::{MappedRegion, RegionError};
+use acpi::madt::Madt;
+use acpi::platform::interrupt::InterruptModel;
 use acpi::sdt::Signature;
-use acpi::{AcpiError, AcpiResult};
+use acpi::{AcpiError, AcpiHandler, AcpiResult, AcpiTables};
 use acpi_image::{MemoryImage, PlacedTable, WriteError};
 use acpi_testkit::samples::graphics::two_tables;
+use acpi_testkit::samples::madts::with_madt;
 use acpi_testkit::samples::rsdps::two_roots;
 use acpi_testkit::samples::{front, put_graphic, seal_table};
 use std::alloc::Global;
@@ -70,6 +74,39 @@ fn the_boot_graphic_is_found_from_an_rsdp(rt: HostRuntime) {
     seal_table(&mut file, 240, 56);
     match MemoryImage::from_bytes(rt.alloc(), &file) {
         Ok(image) => check_found(&rt, &image),
+        Err(error) => check(&rt, "read", Some(error), None),
+    }
+}
+
+/// An I/O APIC of id 7 at 0xFEC00000, whose first pin is interrupt 2 (section 5.2.12.3).
+const IO_APIC: [u8; 12] = [1, 12, 7, 0, 0, 0, 0xC0, 0xFE, 2, 0, 0, 0];
+
+/// ISA interrupts, and the id of the I/O APIC that each comes to and its pin there. No entry overrides
+/// one, so each is the interrupt of its own number.
+static PINS: [(u8, Option<(u8, u32)>); 3] = [(2, Some((7, 0))), (9, Some((7, 7))), (1, None)];
+
+/// The I/O APIC and the pin that an ISA interrupt comes to, by the MADT in a memory.
+fn pin_found<H: AcpiHandler>(alloc: Global, memory: &H, irq: u8) -> AcpiResult<Option<(u8, u32)>> {
+    let madt = AcpiTables::from_rsdt(memory, 0, 0x1000)?.find_table::<Madt>()?;
+    let (model, _) = madt.parse_interrupt_model_in(alloc)?;
+    match &model {
+        InterruptModel::Apic(apic) => Ok(isa_pin(apic, irq)),
+        InterruptModel::Unknown => Ok(None),
+    }
+}
+
+/// Checks what is found in an image.
+fn check_pins(rt: &impl Abort, alloc: Global, image: &MemoryImage<'_>) {
+    for (irq, wanted) in &PINS {
+        check(rt, "pin", pin_found(alloc, image, *irq), Ok(*wanted));
+    }
+}
+
+#[test]
+fn an_isa_interrupt_comes_to_a_pin(rt: HostRuntime) {
+    let file = with_madt(&IO_APIC);
+    match MemoryImage::from_bytes(rt.alloc(), &file) {
+        Ok(image) => check_pins(&rt, rt.alloc(), &image),
         Err(error) => check(&rt, "read", Some(error), None),
     }
 }
