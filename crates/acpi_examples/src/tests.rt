@@ -104,8 +104,9 @@ fn check_pins(rt: &impl Abort, alloc: Global, image: &MemoryImage<'_>) {
 
 #[test]
 fn an_isa_interrupt_comes_to_a_pin(rt: HostRuntime) {
+    // The records end 12 bytes of entries after the 116 before them.
     let file = with_madt(&IO_APIC);
-    match MemoryImage::from_bytes(rt.alloc(), &file) {
+    match MemoryImage::from_bytes(rt.alloc(), front(&file, 128)) {
         Ok(image) => check_pins(&rt, rt.alloc(), &image),
         Err(error) => check(&rt, "read", Some(error), None),
     }
