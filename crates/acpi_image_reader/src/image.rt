@@ -8,9 +8,9 @@ ghost use Rattle.acpi_base.specs.Memory.{IsMemory, IsMemory-prop};
 ghost use Rattle.acpi_image_reader.specs.Regions.{regions_of};
 
 pub use crate::error::ImageError;
-use crate::record_list::Records;
 use crate::reader::records_of;
 use crate::record::Record;
+use crate::record_list::Records;
 use acpi_base::{AcpiError, AcpiHandler, AcpiResult};
 use std::alloc::Global;
 

@@ -25,7 +25,5 @@ fn holds(range: AddressRange, address: u64) -> bool
 pub fn shares_byte(one: AddressRange, other: AddressRange) -> bool
     ensures { result ≡ share (region_in one) (region_in other) }
 {
-    one.length > 0
-        && other.length > 0
-        && (holds(one, other.address) || holds(other, one.address))
+    one.length > 0 && other.length > 0 && (holds(one, other.address) || holds(other, one.address))
 }

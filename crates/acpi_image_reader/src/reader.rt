@@ -5,8 +5,8 @@ ghost use Rattle.acpi_image_reader.specs.Image.{GivesOrRunsOut, next_at, records
 ghost use Rattle.acpi_image_reader.specs.Regions.{region_of, regions_of};
 
 use crate::error::ImageError;
-pub use crate::record_list::Records;
 use crate::record::{Record, first_record};
+pub use crate::record_list::Records;
 use std::alloc::Allocator;
 
 /// The record that the bytes begin with, which shares no byte with an earlier one, and the bytes

@@ -24,5 +24,12 @@ fn status(rt: &HostRuntime) -> io::Result<u8> {
     let args = borrowed(rt.alloc(), &args)?;
     let (mut files, mut storage) = (HostFiles::new(rt), HostStorage::new(rt));
     let (mut out, mut err) = (io::writer(rt), rt.stderr());
-    pack(rt.alloc(), &args, &mut files, &mut storage, &mut out, &mut err)
+    pack(
+        rt.alloc(),
+        &args,
+        &mut files,
+        &mut storage,
+        &mut out,
+        &mut err,
+    )
 }

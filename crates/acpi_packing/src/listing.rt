@@ -10,8 +10,8 @@ ghost use Rattle.acpi_packing.specs.Listing.{AreNamed, label_text, labels_of, na
 ghost use Rattle.acpi_packing.specs.Run.{packed_by};
 ghost use Rattle.acpi_packing.specs.Arguments.{addresses_of};
 
-use crate::sources::{FileBytes, FileRole, FilesOfRole, IndexedFile, of_role};
 use crate::arguments::{Command, Form};
+use crate::sources::{FileBytes, FileRole, FilesOfRole, IndexedFile, of_role};
 use acpi_base::Signature;
 use acpi_base::bytes::filled;
 use acpi_image::{ImageError, MemoryImage, Record};

@@ -17,7 +17,9 @@ ghost use Rattle.acpi_packing.specs.declared.sources.FileRole.TheVariants.{Dsdt}
 
 use crate::error::{FileError, Refusal};
 use crate::place::{check_room, place, place_one};
-use crate::sources::{FileRole, FileBytes, bytes_of, check_contents, check_tables, listed_count, of_role};
+use crate::sources::{
+    FileBytes, FileRole, bytes_of, check_contents, check_tables, listed_count, of_role,
+};
 use acpi::PhysicalRecord;
 use acpi::fadt::Fadt;
 use acpi::root::RootKind;
@@ -112,7 +114,11 @@ fn put_files(file: &mut Vec<u8>, addresses: &[u64], files: &[FileBytes<'_>]) -> 
 
 /// What `pack_files` answers: the files are tested, and then put into the image.
 #[tactic(auto, unfolding(crate::specs::Pack::packed_files))]
-fn pack_files_exact(alloc: Global, addresses: &[u64], files: &[FileBytes<'_>]) -> Result<Vec<u8>, Refusal>
+fn pack_files_exact(
+    alloc: Global,
+    addresses: &[u64],
+    files: &[FileBytes<'_>],
+) -> Result<Vec<u8>, Refusal>
     ensures exact { IfOk result (λ v.
         file_of (packed_files addresses.now (contents files.now)) ≡ Ok v.items) }
     ensures refused { IfErr result (λ e.

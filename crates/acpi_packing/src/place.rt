@@ -8,7 +8,7 @@ ghost use Rattle.acpi_packing.specs.Sources.{listed};
 ghost use Rattle.acpi_packing.specs.declared.error.Refusal.TheVariants.{OutOfMemory};
 
 use crate::error::Refusal;
-use crate::sources::{FileRole, FileBytes, of_role};
+use crate::sources::{FileBytes, FileRole, of_role};
 use acpi_image::PlacedTable;
 use std::alloc::Global;
 

@@ -5,11 +5,11 @@ ghost use Rattle.acpi_packing.specs.Held.{contents};
 ghost use Rattle.acpi_packing.specs.Program.{Follows, Packs, Saves, files_for};
 ghost use Rattle.acpi_packing.specs.Arguments.{request_in, request_of};
 
+use crate::arguments::{Command, parse_command};
 use crate::listing::record_lines;
 use crate::run::{Outcome, run};
 use crate::sources::FileBytes;
 use crate::storage::Storage;
-use crate::arguments::{Command, parse_command};
 use acpi_cli::files::{Files, contents_from, count, read_all};
 use std::alloc::{AllocError, Global};
 use std::io;

@@ -6,11 +6,11 @@ ghost use Rattle.acpi_packing.specs.Run.{IsReport, left_out_by, left_out_lines, 
 ghost use Rattle.acpi_packing.specs.Run.{Ends, refused_line, refused_name, usage_line};
 ghost use Rattle.acpi_packing.specs.Arguments.{addresses_of, request_of};
 
+use crate::arguments::{Command, Form};
 use crate::error::Refusal;
 use crate::listing::name_of;
 use crate::pack::{dsdt_address, pack_files, pack_tables};
 use crate::sources::{FileBytes, FileRole, FilesOfRole, of_role};
-use crate::arguments::{Command, Form};
 use std::alloc::{AllocError, Global};
 use std::io;
 use std::io::Write;

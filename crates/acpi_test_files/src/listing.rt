@@ -3,8 +3,8 @@
 use crate::bytes::{Bytes, Room};
 use crate::checks::check;
 use crate::packing::samples::{BGRT, DSDT, FADT, RSDT, SSDT};
-use acpi_packing::listing::record_lines;
 use acpi_packing::arguments::{Command, Form, parse_command};
+use acpi_packing::listing::record_lines;
 use acpi_packing::{FileBytes, pack_files, pack_tables};
 use std::alloc::Global;
 

@@ -2,7 +2,7 @@
 
 use crate::bytes::Part;
 use crate::checks::{check, check_bytes};
-use acpi_packing::{Refusal, FileBytes, pack_files, pack_tables};
+use acpi_packing::{FileBytes, Refusal, pack_files, pack_tables};
 use std::alloc::Global;
 use std::process::Abort;
 
