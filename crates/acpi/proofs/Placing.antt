@@ -135,25 +135,25 @@ fits_places n w root short few = omega (arith, pointers_few w (drop 36 root), le
 
 module _ (may : ℕ → ℕ → Bool) where
   pub asked_members : (m : Memory) (ps : List ℕ) → Allows may (place_ranges m ps) → Allows may (header_ranges m ps)
-  asked_members m ps h = allowed.each_front may (header_ranges m ps) _ h
+  asked_members m ps h = allowed.all_front may (header_ranges m ps) _ h
 
   pub asked_led : (m : Memory) (ps : List ℕ) → Allows may (place_ranges m ps) → Allows may (led_ranges m ps)
-  asked_led m ps h = allowed.each_back may (header_ranges m ps) _ h
+  asked_led m ps h = allowed.all_back may (header_ranges m ps) _ h
 
   pub asked_led_fadt : (m : Memory) (ps : List ℕ) → Allows may (led_ranges m ps) → Allows may (lookup_ranges m fadt_kind ps)
-  asked_led_fadt m ps h = allowed.each_front may (lookup_ranges m fadt_kind ps) _ h
+  asked_led_fadt m ps h = allowed.all_front may (lookup_ranges m fadt_kind ps) _ h
 
   both_asked : (m : Memory) (ps : List ℕ) (found : ℕ × List ℕ) → Allows may (led_ranges m ps) → lookup m fadt_kind ps ≡ Ok found
       → Allows may (dsdt_place_ranges m (fadt_at found.1) ++ facs_place_ranges m (fadt_at found.1))
-  both_asked m ps found h there = rw there at (allowed.each_back may (lookup_ranges m fadt_kind ps) _ h)
+  both_asked m ps found h there = rw there at (allowed.all_back may (lookup_ranges m fadt_kind ps) _ h)
 
   pub asked_dsdt_place : (m : Memory) (ps : List ℕ) (found : ℕ × List ℕ) → Allows may (led_ranges m ps) → lookup m fadt_kind ps ≡ Ok found
       → Allows may (dsdt_place_ranges m (fadt_at found.1))
-  asked_dsdt_place m ps found h there = allowed.each_front may (dsdt_place_ranges m (fadt_at found.1)) _ (both_asked m ps found h there)
+  asked_dsdt_place m ps found h there = allowed.all_front may (dsdt_place_ranges m (fadt_at found.1)) _ (both_asked m ps found h there)
 
   pub asked_facs_place : (m : Memory) (ps : List ℕ) (found : ℕ × List ℕ) → Allows may (led_ranges m ps) → lookup m fadt_kind ps ≡ Ok found
       → Allows may (facs_place_ranges m (fadt_at found.1))
-  asked_facs_place m ps found h there = allowed.each_back may (dsdt_place_ranges m (fadt_at found.1)) _ (both_asked m ps found h there)
+  asked_facs_place m ps found h there = allowed.all_back may (dsdt_place_ranges m (fadt_at found.1)) _ (both_asked m ps found h there)
 
   pub asked_facs_head : (m : Memory) (a : ℕ) → Allows may (facs_ranges m a) → may a 36 ≡ true
   asked_facs_head m a h = allowed.all_here may (a, 36) _ h
