@@ -10,7 +10,9 @@ ghost use Rattle.acpi.specs.Pointers.{pointers_left};
 
 use crate::pointers::Pointers;
 use acpi_base::sdt::{SdtHeader, map_own_sdt};
-use acpi_base::{AcpiError, AcpiResult, AddressRange, Lender, PhysicalMapping, PhysicalRecord, Signature};
+use acpi_base::{
+    AcpiError, AcpiResult, AddressRange, Lender, PhysicalMapping, PhysicalRecord, Signature,
+};
 
 /// Where the root table lies, then each valid member in the order of the root table, then the DSDT
 /// and the FACS. A table that is listed twice comes twice.

@@ -110,7 +110,7 @@ addresses_are x y =
     made parts_of address_of _ x y refl refl (pairs _ _ _ _ _ _ (spaces_are x.address_space y.address_space) (pairs _ _ _ _ _ _ (numbers_are x.bit_width y.bit_width) (pairs _ _ _ _ _ _ (numbers_are x.bit_offset y.bit_offset) (pairs _ _ _ _ _ _ (sizes_are x.access_size y.access_size) (numbers_are x.address y.address)))))
 
 abbrev range_of : ℕ × ℕ → AddressRange
-range_of p = record { address = p.0; length = p.1; }
+range_of p = record { address = p.0; length = p.1 }
 
 pub ranges_are : (x y : AddressRange) → IsEquality (ranges.ghosts.eq x y) x y
 ranges_are x y =

@@ -5,7 +5,9 @@ use crate::found::FoundTables;
 use crate::members::TableMembers;
 use crate::ranges::{TableRanges, facs_at};
 use acpi_base::sdt::{SdtHeader, map_sdt};
-use acpi_base::{AcpiError, AcpiResult, AcpiTable, AddressRange, Lender, PhysicalMapping, Signature};
+use acpi_base::{
+    AcpiError, AcpiResult, AcpiTable, AddressRange, Lender, PhysicalMapping, Signature,
+};
 use acpi_fixed::fadt::Fadt;
 
 impl<'h, H: Lender> AcpiTables<'h, H> {
