@@ -1,0 +1,2 @@
+pub mod Gtdt
+pub mod Timers
