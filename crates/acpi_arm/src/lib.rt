@@ -5,6 +5,7 @@
 #![tactic(auto)]
 
 mod frames;
+pub mod gic;
 pub mod gtdt;
 mod interrupt;
 mod timers;
