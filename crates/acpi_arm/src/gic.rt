@@ -10,7 +10,7 @@ ghost use Rattle.acpi_arm.specs.Gic.{AsksMemory, GicAsks, found_gic, gic_of, ite
 mod collect;
 mod part;
 
-use acpi::tables::AcpiTables;
+use acpi::AcpiTables;
 use acpi_base::madt::Madt;
 use acpi_base::managed_slice::ManagedSlice;
 use acpi_base::{AcpiResult, Lender, PhysicalMapping};
