@@ -1,1 +1,1 @@
-mod Gic
+mod Found
