@@ -1,5 +1,5 @@
 -- What is said of a GIC depends on the valid MADT alone, wherever it lies.
-use Rattle.std.proofs.Common.{ℕ, lit≤}
+use Rattle.std.proofs.Common.{lit≤}
 use Rattle.acpi_base.specs.Ranges.{DependsOn}
 use Rattle.acpi_base.specs.Steps.{◌>>=◌}
 use Rattle.acpi_base.specs.declared.signature.TheConstants.Signature.{MADT}
