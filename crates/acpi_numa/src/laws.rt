@@ -1,0 +1,11 @@
+//! Laws of comparisons.
+ghost use Rattle.acpi_base.specs.Equality.{IsEquality};
+
+use crate::error::NumaError;
+
+/// Refusals compare as equal exactly if they are one.
+pub fn numa_error_equality(a: &NumaError, b: &NumaError) -> bool
+    ensures { IsEquality result a.now b.now }
+{
+    a == b
+}
