@@ -7,7 +7,7 @@
 pub mod address;
 pub mod bytes;
 mod claim;
-mod entries;
+pub mod entries;
 pub mod error;
 pub mod extended;
 pub mod guarded;
