@@ -1,2 +1,5 @@
 pub mod ErrorText
 pub mod Slit
+pub mod Srat
+pub mod SratEntries
+pub mod SratWalk

@@ -7,6 +7,8 @@
 pub mod error;
 pub mod laws;
 pub mod slit;
+pub mod srat;
 
 pub use error::{NumaError, NumaResult};
 pub use slit::{Distances, Slit, SlitCalls};
+pub use srat::{Domains, Srat, SratCalls, SratEntry, SratEntryIter};
