@@ -61,7 +61,7 @@ same_faults k m n (p ∷ ps) h =
 -- ---- lists
 
 -- a list made of what each member says by itself
-same_each : {Y : Type 0} (m n : Memory) (ranges_of : ℕ → Ranges) (f g : ℕ → Option Y)
+pub same_each : {Y : Type 0} (m n : Memory) (ranges_of : ℕ → Ranges) (f g : ℕ → Option Y)
     → ((p : ℕ) → AgreesOn m n (ranges_of p) → f p ≡ g p)
     → (ps : List ℕ) → AgreesOn m n (flat_map ranges_of ps) → filter_map f ps ≡ filter_map g ps
 same_each m n ranges_of f g each [] h = refl

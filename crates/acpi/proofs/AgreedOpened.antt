@@ -45,7 +45,7 @@ same_later : (m n : Memory) (c a : ℕ) (r : Result (List ℕ) AcpiError)
 same_later m n c a (Ok b) later h = refl
 same_later m n c a (Err e) later h = later h
 
-same_walk : (m n : Memory) (c a : ℕ) → AgreesOn m n (walk_ranges m c a) → walk n c a ≡ walk m c a
+pub same_walk : (m n : Memory) (c a : ℕ) → AgreesOn m n (walk_ranges m c a) → walk n c a ≡ walk m c a
 same_walk m n zero a h = refl
 same_walk m n (suc c) a h =
     let front = same_rsdp m n a (all_front _ (rsdp_ranges m a) _ h) in
@@ -100,7 +100,7 @@ same_opened_by_rsdp m n a h =
     let front = same_rsdp m n a (all_front _ (rsdp_ranges m a) _ h) in
     rw front (same_by_rsdp m n (rsdp_at m a) (all_back _ (rsdp_ranges m a) _ h))
 
-same_by_search : (m n : Memory) (r : Result (ℕ × List ℕ) AcpiError) → AgreesOn m n (ranges.◌>>=◌ r (λ f. opened_ranges m (root_of_rsdp f.1)))
+pub same_by_search : (m n : Memory) (r : Result (ℕ × List ℕ) AcpiError) → AgreesOn m n (ranges.◌>>=◌ r (λ f. opened_ranges m (root_of_rsdp f.1)))
     → (r >>= λ f. opened_from n (root_of_rsdp f.1)) ≡ (r >>= λ f. opened_from m (root_of_rsdp f.1))
 same_by_search m n (Ok f) h = same_opened m n (root_of_rsdp f.1) h
 same_by_search m n (Err e) h = refl

@@ -13,7 +13,7 @@ use Rattle.acpi.specs.Rsdp.{rsdp_at}
 use Rattle.acpi.specs.Search.{first_area, second_area, room_of, count_of, found_in, found_rsdp, or_else, walk, word_in, IsRefused, IsLeast, HasNone, IsLent, IsSecond, IsSearched}
 
 -- what n candidates from an address on have
-abbrev Says : Memory → ℕ → ℕ → Option (ℕ × List ℕ) → Type 0
+abbrev pub Says : Memory → ℕ → ℕ → Option (ℕ × List ℕ) → Type 0
 Says m n a (Some found) =
     (k : ℕ) × (k < n) × (found.0 ≡ a + 16 * k) × (rsdp_at m found.0 ≡ Ok found.1) × ((i : ℕ) → i < k → IsRefused m (a + 16 * i))
 Says m n a None = (i : ℕ) → i < n → IsRefused m (a + 16 * i)
@@ -35,7 +35,7 @@ walk_one m n a (Ok b) later e h =
     (0, omega arith, omega arith, e, λ i less. absurd (omega (arith, less)))
 walk_one m n a (Err x) later e h = one_more m n a later (x, e) h
 
-walk_says : (m : Memory) (n a : ℕ) → Says m n a (walk m n a)
+pub walk_says : (m : Memory) (n a : ℕ) → Says m n a (walk m n a)
 walk_says m zero a = λ i less. absurd (omega (arith, less))
 walk_says m (suc n) a = walk_one m n a (rsdp_at m a) (walk m n (a + 16)) refl (walk_says m n (a + 16))
 

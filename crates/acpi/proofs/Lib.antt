@@ -1,8 +1,11 @@
+pub mod Among
 pub mod Asked
 pub mod Brief
 pub mod Agreed
+pub mod AgreedAreas
 pub mod AgreedOpened
 pub mod Calls
+pub mod Ecam
 pub mod Equalities
 pub mod First
 pub mod Least
@@ -11,6 +14,7 @@ pub mod Moved
 pub mod Passed
 pub mod Pieces
 pub mod Places
+pub mod Placing
 pub mod Rooted
 pub mod Spelled
 pub mod Texts

@@ -22,7 +22,7 @@ skips_invalid m k p (q ∷ before) after h = ap (or_later (here q) (table_at m k
 pub gives_skipping : {X : Type 0} (m : Memory) (k : Kind) (ps : List ℕ) (view : X → ℕ × List ℕ) (r : Result X AcpiError) → Gives view r (lookup m k ps) → (before after : List ℕ) (p : ℕ) → ps ≡ before ++ after → IsErr (table_at m k p) → Gives view r (lookup m k (before ++ p ∷ after))
 gives_skipping m k ps view r said before after p listed h = rw (skips_invalid m k p before after h, ← listed) said
 
-one_more : {Y : Type 0} (o : Option Y) (ys : List Y) (n : ℕ) → length ys ≤ n → length (cons_option o ys) ≤ n + 1
+pub one_more : {Y : Type 0} (o : Option Y) (ys : List Y) (n : ℕ) → length ys ≤ n → length (cons_option o ys) ≤ n + 1
 one_more None ys n h = omega arith
 one_more (Some y) ys n h = omega arith
 
@@ -49,7 +49,7 @@ pieces_few zero w b = omega arith
 pieces_few (suc n) w [] = omega arith
 pieces_few (suc n) w (x ∷ b) = omega (arith, pieces_few n w (drop w (x ∷ b)))
 
-pointers_few : (w : ℕ) (b : List ℕ) → length (pointers w b) ≤ length b
+pub pointers_few : (w : ℕ) (b : List ℕ) → length (pointers w b) ≤ length b
 unfolding pointers
 pointers_few w b = pieces_few (length b) w b
 

@@ -1,3 +1,5 @@
+pub mod Areas
+pub mod Ecam
 pub mod Footprint
 pub mod FootprintLaws
 pub mod Hpet
@@ -5,9 +7,12 @@ pub mod Later
 pub mod Laws
 pub mod Lists
 pub mod Lookup
+pub mod Members
 pub mod Opened
 pub mod OpenedRanges
 pub mod Pci
+pub mod Placed
+pub mod Places
 pub mod Platform
 pub mod Pointers
 pub mod Relocation

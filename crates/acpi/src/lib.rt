@@ -5,13 +5,16 @@
 #![tactic(auto)]
 
 mod faults;
+mod found;
 pub mod handler;
 mod headers;
 pub mod hpet;
 pub mod laws;
 pub mod mcfg;
+mod members;
 pub mod platform;
 mod pointers;
+mod ranges;
 mod records;
 mod root;
 pub mod rsdp;
@@ -20,17 +23,20 @@ mod tables;
 
 pub use acpi_base::managed_slice::ManagedSlice;
 pub use acpi_base::{
-    AcpiError, AcpiHandler, AcpiResult, AcpiTable, Guarded, Lender, MadtError, PhysicalMapping,
-    PhysicalRecord, address, madt, sdt, spcr,
+    AcpiError, AcpiHandler, AcpiResult, AcpiTable, AddressRange, Guarded, Lender, MadtError,
+    PhysicalMapping, PhysicalRecord, address, madt, sdt, spcr,
 };
 pub use acpi_fixed::fadt::PowerProfile;
 pub use acpi_fixed::{bgrt, fadt};
 pub use faults::TableFaults;
+pub use found::FoundTables;
 pub use headers::SdtHeaderIterator;
 pub use hpet::HpetInfo;
 pub use mcfg::PciConfigRegions;
+pub use members::{TableMember, TableMembers};
 pub use platform::PlatformInfo;
 pub use platform::interrupt::InterruptModel;
+pub use ranges::TableRanges;
 pub use records::{AmlTable, Sdt, TableFault};
 pub use ssdts::SsdtIterator;
 pub use tables::AcpiTables;

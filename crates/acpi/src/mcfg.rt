@@ -4,10 +4,13 @@ ghost use Rattle.acpi_base.specs.Mcfg.{regions_left};
 ghost use Rattle.acpi.specs.Pci.{address_in, is_of, region_of};
 ghost use Rattle.acpi_base.specs.declared.mcfg.McfgEntry.{McfgEntry};
 
+mod ecam;
+
 use crate::tables::AcpiTables;
 use acpi_base::managed_slice::ManagedSlice;
 pub use acpi_base::mcfg::{Mcfg, McfgEntry, McfgEntryIter};
 use acpi_base::{AcpiResult, Lender};
+pub use ecam::EcamRanges;
 use std::alloc::{AllocError, Allocator, Global};
 use std::marker::Model;
 use std::ops::RangeInclusive;
@@ -93,7 +96,9 @@ impl<A: Allocator> PciConfigRegions<A> {
     /// for each device and 2^12 for each function.
     ///
     /// A base is that of the region's first bus here, as the Rust crate has it. The PCI Firmware
-    /// Specification (section 4.1.2) and Linux count it from bus 0: they agree if the first bus is 0.
+    /// Specification (section 4.1.2) and Linux count it from bus 0, as `ecam_address` does, which is
+    /// what a kernel wants: the two agree only if the region's first bus is 0, and a wrong address is
+    /// another device's.
     ///
     /// It is `None` if no region holds the bus, if the device is above 31 or the function above 7, and
     /// if the sum is 2^64 or more; no later region is then tried. Of the 4096 bytes of configuration
@@ -193,7 +198,7 @@ pub struct PciConfigEntry {
     pub segment_group: u16,
     /// Its buses: none where the last is under the first.
     pub bus_range: RangeInclusive<u8>,
-    /// Where the first bus's configuration space lies.
+    /// The region's base: by the PCI Firmware Specification that of bus 0, whatever its first bus is.
     pub physical_address: u64,
 }
 

@@ -7,6 +7,7 @@ ghost use Rattle.acpi.specs.OpenedRanges.{rsdp_ranges};
 ghost use Rattle.acpi.specs.Rsdp.{check_sum, check_whole_at, rsdp_at};
 
 mod area;
+mod given;
 mod search;
 mod span;
 
@@ -14,6 +15,7 @@ use self::span::Span;
 use crate::root::{RootKind, RootPlace};
 use acpi_base::bytes::{byte_sum, field, text_of};
 use acpi_base::{AcpiError, AcpiResult, Lender, PhysicalMapping, PhysicalRecord};
+pub use given::bios_areas;
 
 /// The RSDP's 36 bytes (section 5.2.5.3). Revision 0 has only the first 20 of them: the fields
 /// behind mean nothing there.

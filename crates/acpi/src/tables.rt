@@ -7,6 +7,7 @@ ghost use Rattle.acpi_base.specs.Mapping.{IsOfMemory, start_of, bytes_of, handle
 ghost use Rattle.acpi.specs.Root.{root_at};
 
 mod opening;
+mod places;
 
 use crate::faults::TableFaults;
 use crate::headers::SdtHeaderIterator;

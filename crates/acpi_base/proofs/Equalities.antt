@@ -1,4 +1,6 @@
 -- What is compared by `==` is equal exactly where it is one: values of enums by their variants and fields, structs by their fields.
+use Rattle.acpi_base.specs.contracts.range.AddressRangePartialEq.TheImpl as ranges
+use Rattle.acpi_base.specs.declared.range.AddressRange.{AddressRange}
 use Rattle.std.proofs.Common.{rules, ◌≡◌, ℕ, Bool, List, [], ◌∷◌, true, false, refl, ap, sym, ◌∙◌}
 use Rattle.std.specs.Prelude.{◌&&◌, ◌==◌}
 use mathlib.Core.Logic.{inl, inr}
@@ -106,3 +108,10 @@ address_of p = record {
 pub addresses_are : (x y : GenericAddress) → IsEquality (addresses.ghosts.eq x y) x y
 addresses_are x y =
     made parts_of address_of _ x y refl refl (pairs _ _ _ _ _ _ (spaces_are x.address_space y.address_space) (pairs _ _ _ _ _ _ (numbers_are x.bit_width y.bit_width) (pairs _ _ _ _ _ _ (numbers_are x.bit_offset y.bit_offset) (pairs _ _ _ _ _ _ (sizes_are x.access_size y.access_size) (numbers_are x.address y.address)))))
+
+abbrev range_of : ℕ × ℕ → AddressRange
+range_of p = record { address = p.0; length = p.1; }
+
+pub ranges_are : (x y : AddressRange) → IsEquality (ranges.ghosts.eq x y) x y
+ranges_are x y =
+    made (λ r. (r.address, r.length)) range_of _ x y refl refl (pairs _ _ _ _ _ _ (numbers_are x.address y.address) (numbers_are x.length y.length))

@@ -6,12 +6,14 @@ pub mod Damage
 pub mod Equalities
 pub mod Held
 pub mod Inside
+pub mod Isa
 pub mod Lent
 pub mod MadtCounts
 pub mod Numbers
 pub mod OneRegion
 pub mod Orders
 pub mod Own
+pub mod Pin
 pub mod Plain
 pub mod Regions
 pub mod Said

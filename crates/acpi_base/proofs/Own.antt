@@ -143,7 +143,7 @@ at_header m p n b head whole front enough =
     let same : take 36 b ≡ head = same_some (sym (at-front m p 36 b whole_of_it (omega (arith, long))) ∙ front) in
     (sym (header_front b) ∙ ap header_at same, long)
 
-is_length : (s : Signature) (least : ℕ) (h : SdtHeader) (n : ℕ) → length_in s least h ≡ Ok n → (h.length ≡ n) × (least ≤ n)
+pub is_length : (s : Signature) (least : ℕ) (h : SdtHeader) (n : ℕ) → length_in s least h ≡ Ok n → (h.length ≡ n) × (least ≤ n)
 unfolding length_in
 is_length s least h n e =
     let names = bind_ok (check_names s h) _ n e in

@@ -3,6 +3,7 @@ pub mod Bits
 pub mod Bytes
 pub mod Claim
 pub mod Draft
+pub mod Ecam
 pub mod Entries
 pub mod EntryLaws
 pub mod Equality
@@ -11,6 +12,7 @@ pub mod Extended
 pub mod Guarded
 pub mod Header
 pub mod Interrupts
+pub mod Isa
 pub mod Laws
 pub mod Lends
 pub mod Madt
@@ -21,8 +23,10 @@ pub mod Mcfg
 pub mod Memory
 pub mod Model
 pub mod Names
+pub mod NmiLines
 pub mod OneRegion
 pub mod Parts
+pub mod Pin
 pub mod Ranges
 pub mod Spcr
 pub mod SpcrFlags

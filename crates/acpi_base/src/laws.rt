@@ -11,6 +11,7 @@ ghost use Rattle.acpi_base.specs.Text.{letters_of};
 use crate::address::{AccessSize, AddressSpace, GenericAddress};
 use crate::error::{AcpiError, MadtError};
 use crate::madt::MpProtectedModeWakeupCommand;
+use crate::range::AddressRange;
 use crate::signature::Signature;
 use crate::spcr::SpcrInterfaceType;
 use std::cmp::Ordering;
@@ -97,6 +98,13 @@ pub fn access_size_equality(a: &AccessSize, b: &AccessSize) -> bool
 
 /// Generic addresses compare as equal exactly where they are one.
 pub fn address_equality(a: &GenericAddress, b: &GenericAddress) -> bool
+    ensures { IsEquality result a.now b.now }
+{
+    a == b
+}
+
+/// Ranges compare as equal exactly where they are one.
+pub fn range_equality(a: &AddressRange, b: &AddressRange) -> bool
     ensures { IsEquality result a.now b.now }
 {
     a == b

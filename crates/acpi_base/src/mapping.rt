@@ -3,6 +3,8 @@ ghost use Rattle.std.specs.Prelude.{◌≡◌, ◌≤◌, length};
 ghost use Rattle.std.specs.Coded.{Coded-set};
 ghost use Rattle.acpi_base.specs.Claim.{shown_by};
 
+mod loan;
+
 use crate::claim::Claim;
 use crate::error::AcpiResult;
 use crate::handler::{Lender, PhysicalRecord};

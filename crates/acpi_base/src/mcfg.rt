@@ -1,5 +1,7 @@
 //! Where the configuration space of PCI devices lies in memory.
 
+mod ecam;
+
 use crate::bytes::{field_in, skip};
 use crate::error::AcpiResult;
 use crate::handler::{Lender, PhysicalRecord};
@@ -64,7 +66,9 @@ impl AcpiTable for Mcfg {
 /// last. It holds no bus where the last is under the first.
 #[derive(Clone, Copy, Debug)]
 pub struct McfgEntry {
-    /// The physical address of the first bus's configuration space.
+    /// The physical address that the addresses of functions are counted from: that of bus 0 by the
+    /// PCI Firmware Specification (section 4.1.2), and so in `ecam_address`; that of the first bus as
+    /// the Rust crate has it, and so in `PciConfigRegions::physical_address`.
     pub base_address: u64,
     /// The segment group.
     pub pci_segment_group: u16,

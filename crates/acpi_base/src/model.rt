@@ -5,10 +5,14 @@
 
 mod counts;
 mod draft;
+mod entry_flags;
 mod gather;
 mod interrupt;
+mod isa;
 pub mod laws;
+mod nmi_lines;
 mod part;
+mod pin;
 mod processor;
 
 pub(crate) use gather::model_in;
@@ -16,6 +20,9 @@ pub use interrupt::{
     Apic, InterruptModel, InterruptSourceOverride, IoApic, LocalInterruptLine, NmiLine,
     NmiProcessor, NmiSource, Polarity, TriggerMode,
 };
+pub use isa::IsaInterrupt;
+pub use nmi_lines::LocalNmiLines;
+pub use pin::IoApicPin;
 pub use processor::{Processor, ProcessorInfo, ProcessorState};
 
 /// The interrupt model, and the processors, or `None` where none is listed.

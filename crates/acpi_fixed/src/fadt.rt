@@ -15,6 +15,7 @@ use acpi_base::{AcpiError, AcpiResult, AcpiTable, PhysicalRecord, Signature};
 pub use brief::FadtBrief;
 use extended::extended_number_in;
 pub use flags::{ArmBootArchFlags, FixedFeatureFlags, IaPcBootArchFlags};
+pub use registers::GpeBlock;
 use registers::{Registers, address_from, register_from};
 
 /// What the machine is for (section 5.2.9).
@@ -231,6 +232,9 @@ impl Fadt {
     /// The status and enable registers of the fixed events: the extended block where its address
     /// isn't 0, else the ports, at address 0 too.
     ///
+    /// A machine of reduced hardware has none, whatever is answered here: ask
+    /// `flags.system_is_hw_reduced_acpi()` first.
+    ///
     /// Refuses with `InvalidGenericAddress` a reserved code in the extended block, and a length of
     /// 32 bytes and more where the ports count.
     pub fn pm1a_event_block(&self) -> AcpiResult<GenericAddress>
@@ -250,6 +254,9 @@ impl Fadt {
 
     /// The control registers of the fixed hardware: the extended block where its address isn't 0,
     /// else the ports, at address 0 too.
+    ///
+    /// A machine of reduced hardware has none, whatever is answered here: ask
+    /// `flags.system_is_hw_reduced_acpi()` first.
     ///
     /// Refuses as `pm1a_event_block` does.
     pub fn pm1a_control_block(&self) -> AcpiResult<GenericAddress>
@@ -291,6 +298,7 @@ impl Fadt {
     ///
     /// Refuses as `pm1a_event_block` does: also a block that the 32-bit field places and that is 32
     /// bytes long or longer, as real chipsets have them, since eight bits a byte don't fit the width.
+    /// `gpe0` answers those too.
     pub fn gpe0_block(&self) -> AcpiResult<Option<GenericAddress>>
         ensures { result ≡ optional_block_of (registers_of self.now).gpe0 }
     {
@@ -302,6 +310,7 @@ impl Fadt {
     ///
     /// Refuses as `pm1a_event_block` does: also a block that the 32-bit field places and that is 32
     /// bytes long or longer, as real chipsets have them, since eight bits a byte don't fit the width.
+    /// `gpe1` answers those too.
     pub fn gpe1_block(&self) -> AcpiResult<Option<GenericAddress>>
         ensures { result ≡ optional_block_of (registers_of self.now).gpe1 }
     {

@@ -1,5 +1,6 @@
 pub mod Codes
 pub mod Instances
 pub mod Ordered
+pub mod Placed
 pub mod Searched
 pub mod TableInstances

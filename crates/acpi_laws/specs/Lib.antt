@@ -1,4 +1,5 @@
 pub mod CodeLaws
 pub mod ExampleLaws
 pub mod Examples
+pub mod PlaceLaws
 pub mod TableExamples

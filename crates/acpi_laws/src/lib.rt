@@ -8,3 +8,4 @@
 pub mod definitions;
 pub mod examples;
 pub mod footprints;
+pub mod places;

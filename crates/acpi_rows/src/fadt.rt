@@ -18,6 +18,7 @@ pub(crate) fn answer(alloc: Global, bytes: &[u8], question: &str) -> Result<Stri
         "header" => shown(alloc, table.header()),
         "profile" => shown(alloc, &table.power_profile()),
         "addresses" => shown(alloc, &(table.facs_address(), table.dsdt_address())),
+        "events" => shown(alloc, &(table.gpe0(), table.gpe1(), table.gpe1_base())),
         "flags" => set_names(alloc, &FLAGS, &flags_of(&table)),
         _ => block_or_field(alloc, &table, question),
     }

@@ -1,5 +1,6 @@
 //! The entries of a MADT, its fixed fields, and the interrupts that it describes.
 
+use crate::interrupts;
 use crate::named::field_of;
 use acpi::PhysicalMapping;
 use acpi::platform::interrupt::InterruptModel;
@@ -18,6 +19,7 @@ pub(crate) fn answer(alloc: Global, bytes: &[u8], question: &str) -> Result<Stri
             let _first = entries.next();
             shown(alloc, &entries.next())
         }
+        "flags of entry" => interrupts::flags(alloc, entries.next()),
         "steps" => shown(alloc, &steps(entries)),
         _ => match question.strip_prefix("trace interrupt at revision ") {
             Some(revision) => shown(alloc, &trace_interrupt(entries, revision)),
@@ -70,18 +72,23 @@ fn of_mapping(alloc: Global, bytes: &[u8], question: &str) -> Result<String, All
             &(madt.entries().count(), madt.get_mpwk_mailbox_addr()),
         ),
         "8259" => shown(alloc, &madt.supports_8259()),
-        "interrupts" => interrupts(alloc, &madt),
-        _ => field_of(alloc, madt.get(), question),
+        "interrupts" => of_model(alloc, &madt, question),
+        _ => match question.strip_prefix("model ") {
+            Some(asked) => of_model(alloc, &madt, asked),
+            None => field_of(alloc, madt.get(), question),
+        },
     }
 }
 
-/// The overrides, the NMI sources and the NMI lines.
-fn interrupts(
+/// What the interrupt model answers.
+fn of_model(
     alloc: Global,
     madt: &PhysicalMapping<'_, Window<'_>, Madt>,
+    question: &str,
 ) -> Result<String, AllocError> {
     match madt.parse_interrupt_model_in(alloc) {
-        Ok(answer) => interrupts_of(alloc, &answer.0),
+        Ok(answer) if question == "interrupts" => interrupts_of(alloc, &answer.0),
+        Ok(answer) => interrupts::of_model(alloc, &answer.0, question),
         Err(refusal) => shown(alloc, &refusal),
     }
 }

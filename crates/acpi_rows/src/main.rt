@@ -7,6 +7,7 @@ mod bgrt;
 mod codes;
 mod fadt;
 mod hex_text;
+mod interrupts;
 mod madt;
 mod mcfg;
 mod memory;

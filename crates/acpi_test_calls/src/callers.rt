@@ -8,7 +8,7 @@ use acpi_testkit::caller::graphic_address;
 use acpi_testkit::example::{Window, find_both};
 use acpi_testkit::samples::graphics::two_tables;
 use acpi_testkit::samples::rsdps::two_roots;
-use acpi_testkit::samples::{front, put_graphic};
+use acpi_testkit::samples::{front, put_graphic, seal_table};
 use acpi_testkit::writer::{GuestError, tables_of_guest};
 use std::alloc::Global;
 use std::process::Abort;
@@ -83,7 +83,7 @@ fn the_boot_graphic_is_found_from_an_rsdp(rt: HostRuntime) {
     // The image's address is the eight bytes at 40 of the table, the last of the file's records.
     let mut file = two_roots();
     file[240 + 40 + 2] = 0xC0;
-    file[240 + 9] = 0xD3;
+    seal_table(&mut file, 240, 56);
     match MemoryImage::from_bytes(rt.alloc(), &file) {
         Ok(image) => check_found(&rt, &image),
         Err(error) => check(&rt, "read", Some(error), None),

@@ -45,10 +45,7 @@ const CALLS: [MailboxCall; 14] = [
 
 /// An RSDT that lists a MADT of 60 bytes with a wakeup entry. The mailbox lies at 0x5000.
 fn with_mailbox() -> [u8; 136] {
-    with_madt(
-        0x37,
-        &[0x10, 0x10, 0, 0, 0, 0, 0, 0, 0, 0x50, 0, 0, 0, 0, 0, 0],
-    )
+    with_madt(&[0x10, 0x10, 0, 0, 0, 0, 0, 0, 0, 0x50, 0, 0, 0, 0, 0, 0])
 }
 
 /// Wakes the processor with the id 7, to run at 0x8000. `None` if there are no tables.
@@ -127,7 +124,7 @@ fn nothing_is_done_without_a_mailbox(rt: HostRuntime) {
     let mut mailbox = ScriptedMailbox::new(&[0]);
     let missing = wake(rt.alloc(), &empty_root(), &mut mailbox, 9);
     check_untouched(&rt, missing, NO_MADT, &mailbox);
-    let file = with_madt(0x34, &[0x7F, 2]);
+    let file = with_madt(&[0x7F, 2]);
     let other = wake(rt.alloc(), front(&file, 118), &mut mailbox, 9);
     check_untouched(&rt, other, NO_MAILBOX, &mailbox);
 }

@@ -32,6 +32,17 @@ pub(crate) fn regions<A: Allocator>(
     }
 }
 
+/// Where the configuration space of each region lies by the base of bus 0.
+pub(crate) fn ecam_ranges<A: Allocator>(
+    alloc: Global,
+    answer: AcpiResult<PciConfigRegions<A>>,
+) -> Result<String, AllocError> {
+    match answer {
+        Ok(regions) => listed(alloc, regions.ecam_ranges()),
+        Err(refusal) => shown(alloc, &refusal),
+    }
+}
+
 /// Where the configuration space of a function lies. Five bytes in hexadecimal digits name it: its
 /// segment group, its bus, its device and its own number.
 pub(crate) fn function<A: Allocator>(
@@ -39,24 +50,44 @@ pub(crate) fn function<A: Allocator>(
     answer: AcpiResult<PciConfigRegions<A>>,
     digits: &str,
 ) -> Result<String, AllocError> {
-    match answer {
-        Ok(regions) => place_in(alloc, &regions, digits),
-        Err(refusal) => shown(alloc, &refusal),
+    match (answer, function_of(digits)) {
+        (Ok(regions), Some((segment, bus, device, number))) => {
+            place(
+                alloc,
+                regions.physical_address(segment, bus, device, number),
+            )
+        }
+        (Err(refusal), _) => shown(alloc, &refusal),
+        (Ok(_), None) => Ok(String::new(alloc)),
     }
 }
 
-/// The same in regions.
-fn place_in<A: Allocator>(
+/// The same by the base of bus 0.
+pub(crate) fn ecam_function<A: Allocator>(
     alloc: Global,
-    regions: &PciConfigRegions<A>,
+    answer: AcpiResult<PciConfigRegions<A>>,
     digits: &str,
 ) -> Result<String, AllocError> {
-    let mut bytes = [0; 5];
-    if hex::decode_to_slice(digits, &mut bytes).is_err() {
-        return Ok(String::new(alloc));
+    match (answer, function_of(digits)) {
+        (Ok(regions), Some((segment, bus, device, number))) => {
+            place(alloc, regions.ecam_address(segment, bus, device, number))
+        }
+        (Err(refusal), _) => shown(alloc, &refusal),
+        (Ok(_), None) => Ok(String::new(alloc)),
     }
+}
+
+/// The segment group, the bus, the device and the number of a function.
+fn function_of(digits: &str) -> Option<(u16, u8, u8, u8)> {
+    let mut bytes = [0; 5];
+    hex::decode_to_slice(digits, &mut bytes).ok()?;
     let [high, low, bus, device, number] = bytes;
-    match regions.physical_address(u16::from_be_bytes([high, low]), bus, device, number) {
+    Some((u16::from_be_bytes([high, low]), bus, device, number))
+}
+
+/// An address, if there is one.
+fn place(alloc: Global, answer: Option<u64>) -> Result<String, AllocError> {
+    match answer {
         Some(address) => format!(in alloc; "0x{address:x}"),
         None => String::from_str(alloc, "none"),
     }

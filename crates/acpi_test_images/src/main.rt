@@ -11,6 +11,7 @@ mod changes;
 mod devices;
 mod handlers;
 mod heaps;
+mod places;
 mod platforms;
 mod tables;
 mod texts;

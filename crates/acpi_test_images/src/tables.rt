@@ -6,7 +6,7 @@
 
 use crate::platforms::{of_answer, platform};
 use crate::texts::{Parts, listed};
-use crate::{devices, heaps};
+use crate::{devices, heaps, places};
 use acpi::bgrt::Bgrt;
 use acpi::fadt::Fadt;
 use acpi::hpet::HpetTable;
@@ -77,13 +77,14 @@ enum Question {
     HpetId,
     Mailbox,
     Regions,
+    EcamRanges,
     Platform,
     Model,
     Ends,
     AfterTheLast,
 }
 
-const QUESTIONS: [(&str, Question); 13] = [
+const QUESTIONS: [(&str, Question); 14] = [
     ("revision", Question::Revision),
     ("headers", Question::Headers),
     ("whole headers", Question::WholeHeaders),
@@ -93,6 +94,7 @@ const QUESTIONS: [(&str, Question); 13] = [
     ("hpet id", Question::HpetId),
     ("mailbox", Question::Mailbox),
     ("regions", Question::Regions),
+    ("ecam ranges", Question::EcamRanges),
     ("platform", Question::Platform),
     ("model", Question::Model),
     ("ends", Question::Ends),
@@ -118,6 +120,7 @@ fn answer_of<H: AcpiHandler>(
         Question::HpetId => devices::hpet_id(alloc, tables),
         Question::Mailbox => devices::mailbox(alloc, tables),
         Question::Regions => devices::regions(alloc, PciConfigRegions::new(alloc, tables)),
+        Question::EcamRanges => devices::ecam_ranges(alloc, PciConfigRegions::new(alloc, tables)),
         Question::Platform => platform(alloc, tables),
         Question::Model => heaps::model(alloc, tables, alloc),
         Question::Ends => ends(alloc, tables),
@@ -134,7 +137,9 @@ fn about<H: AcpiHandler>(
     let (word, name) = asked.split_once(' ').unwrap_or((asked, ""));
     match word {
         "function" => devices::function(alloc, PciConfigRegions::new(alloc, tables), name),
+        "ecam" => devices::ecam_function(alloc, PciConfigRegions::new(alloc, tables), name),
         "processor" => of_answer(alloc, tables.platform_info(alloc), asked),
+        "places" => places::answer(alloc, tables, name),
         _ => match named(&FACTS, word) {
             Some(fact) => of_types(alloc, tables, fact, name),
             None => Ok(String::new(alloc)),

@@ -1,5 +1,5 @@
 //! Images and tables, spelled out byte by byte from the layouts. Bytes that are not named are zero.
-ghost use Rattle.std.specs.Prelude.{◌+◌, ◌≤◌, length};
+ghost use Rattle.std.specs.Prelude.{◌+◌, ◌≤◌, ◌<◌, length};
 
 pub mod graphics;
 pub mod madts;
@@ -30,18 +30,40 @@ pub fn put_head(file: &mut [u8], offset: usize, start: u64, count: u64)
     put(file, offset + 8, &count.to_le_bytes());
 }
 
-/// Writes what a table begins with: its signature, its length, and byte 9, the checksum.
-pub fn put_table(file: &mut [u8], offset: usize, name: &[u8; 4], count: u8, checksum: u8)
+/// Writes what a table begins with: its signature and its length.
+pub fn put_table(file: &mut [u8], offset: usize, name: &[u8; 4], count: u8)
     requires { offset + 36 ≤ length file.old }
 {
     put(file, offset, name);
-    put(file, offset + 4, &[count, 0, 0, 0, 0, checksum]);
+    put(file, offset + 4, &[count]);
+}
+
+/// Changes the checksum of what lies at an offset, one of so many bytes, so that these sum to 0
+/// modulo 256.
+pub fn seal(file: &mut [u8], offset: usize, count: usize, checksum: usize)
+    requires bytes { offset + count ≤ length file.old }
+    requires checksum { checksum < count }
+{
+    let mut total: u8 = 0;
+    for byte in &file[offset..offset + count] {
+        total = total.wrapping_add(*byte);
+    }
+    file[offset + checksum] = file[offset + checksum].wrapping_sub(total);
+}
+
+/// Changes byte 9 of a table, its checksum, so that its bytes sum to 0 modulo 256.
+pub fn seal_table(file: &mut [u8], offset: usize, count: usize)
+    requires bytes { offset + count ≤ length file.old }
+    requires checksum { 9 < count }
+{
+    seal(file, offset, count, 9);
 }
 
 /// Writes a boot graphic: version 1, displayed, turned by 180 degrees.
 pub fn put_graphic(file: &mut [u8], offset: usize)
     requires { offset + 56 ≤ length file.old }
 {
-    put_table(file, offset, b"BGRT", 56, 0x93);
+    put_table(file, offset, b"BGRT", 56);
     put(file, offset + 36, &[1, 0, 5]);
+    seal_table(file, offset, 56);
 }

@@ -1,6 +1,6 @@
 //! Interrupt controllers, and how interrupts come to them.
 
 pub use acpi_base::model::{
-    Apic, InterruptModel, InterruptSourceOverride, IoApic, LocalInterruptLine, NmiLine,
-    NmiProcessor, NmiSource, Polarity, TriggerMode,
+    Apic, InterruptModel, InterruptSourceOverride, IoApic, IoApicPin, IsaInterrupt,
+    LocalInterruptLine, LocalNmiLines, NmiLine, NmiProcessor, NmiSource, Polarity, TriggerMode,
 };

@@ -6,6 +6,8 @@ ghost use Rattle.acpi_base.specs.Ranges.{Allows};
 ghost use Rattle.acpi.specs.Footprint.{root_ranges};
 ghost use Rattle.acpi.specs.Root.{root_at};
 
+mod given;
+
 use super::AcpiTables;
 use crate::root::{RootKind, RootPlace};
 use crate::rsdp::{Rsdp, map_rsdp};

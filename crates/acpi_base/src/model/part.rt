@@ -180,7 +180,7 @@ fn nmi_source_of(entry: &NmiSourceEntry) -> Result<NmiSource, MadtError>
 }
 
 /// The polarity in bits 0 and 1 of an interrupt's flags.
-fn polarity_of(flags: u16) -> Result<Polarity, MadtError>
+pub(super) fn polarity_of(flags: u16) -> Result<Polarity, MadtError>
     ensures { result ≡ polarity_of flags }
 {
     match bits(flags as u64, 0, 2) {
@@ -192,7 +192,7 @@ fn polarity_of(flags: u16) -> Result<Polarity, MadtError>
 }
 
 /// The trigger mode in bits 2 and 3.
-fn trigger_mode_of(flags: u16) -> Result<TriggerMode, MadtError>
+pub(super) fn trigger_mode_of(flags: u16) -> Result<TriggerMode, MadtError>
     ensures { result ≡ trigger_mode_of flags }
 {
     match bits(flags as u64, 2, 2) {

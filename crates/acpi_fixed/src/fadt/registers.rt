@@ -2,10 +2,13 @@
 ghost use Rattle.std.specs.Prelude.{◌≡◌, ◌+◌, ◌≤◌, length};
 ghost use Rattle.acpi_fixed.specs.Registers.{address_or, register_of};
 
+mod gpe;
+
 use super::extended::extended_address_in;
 use acpi_base::address::{AccessSize, AddressSpace, GenericAddress, RawAddress};
 use acpi_base::bytes::{field_in, filled, filled_in};
 use acpi_base::{AcpiError, AcpiResult};
+pub use gpe::GpeBlock;
 
 /// The 64-bit address where it is there and not 0, else the 32-bit one.
 ///

@@ -1,12 +1,13 @@
 //! Root tables that list a boot graphic and another table, or nothing.
 
-use super::{put, put_head, put_table};
+use super::{put, put_graphic, put_head, put_table, seal_table};
 
 /// An RSDT at 0x1000 that lists nothing.
 pub fn empty_root() -> [u8; 52] {
     let mut file = [0; 52];
     put_head(&mut file, 0, 0x1000, 36);
-    put_table(&mut file, 16, b"RSDT", 36, 0x9F);
+    put_table(&mut file, 16, b"RSDT", 36);
+    seal_table(&mut file, 16, 36);
     file
 }
 
@@ -14,12 +15,14 @@ pub fn empty_root() -> [u8; 52] {
 /// and a WSMT at 0x1080, whose protections are 7.
 pub fn two_tables() -> [u8; 168] {
     let mut memory = [0; 168];
-    put_table(&mut memory, 0, b"RSDT", 44, 0xB7);
+    put_table(&mut memory, 0, b"RSDT", 44);
     put(&mut memory, 36, &[0x40, 0x10, 0, 0, 0x80, 0x10]);
-    put_table(&mut memory, 0x40, b"BGRT", 56, 0xD3);
-    put(&mut memory, 0x40 + 36, &[1, 0, 5]);
+    seal_table(&mut memory, 0, 44);
+    put_graphic(&mut memory, 0x40);
     put(&mut memory, 0x40 + 42, &[0xC0]);
-    put_table(&mut memory, 0x80, b"WSMT", 40, 0x86);
+    seal_table(&mut memory, 0x40, 56);
+    put_table(&mut memory, 0x80, b"WSMT", 40);
     put(&mut memory, 0x80 + 36, &[7]);
+    seal_table(&mut memory, 0x80, 40);
     memory
 }

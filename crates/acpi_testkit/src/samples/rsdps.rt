@@ -1,15 +1,14 @@
 //! RSDPs, and the root tables that they lead to.
 ghost use Rattle.std.specs.Prelude.{◌+◌, ◌≤◌, length};
 
-use super::{put, put_graphic, put_head, put_table};
+use super::{put, put_graphic, put_head, put_table, seal, seal_table};
 
 /// Writes an RSDP of version 1 that leads to the RSDT at 0x1000.
-pub fn put_rsdp(file: &mut [u8], offset: usize, checksum: u8)
+pub fn put_rsdp(file: &mut [u8], offset: usize)
     requires { offset + 20 ≤ length file.old }
 {
-    put(file, offset, b"RSD PTR ");
-    put(file, offset + 8, &[checksum]);
-    put(file, offset + 9, b"      \0\0\x10\0\0");
+    put(file, offset, b"RSD PTR \0      \0\0\x10\0\0");
+    seal(file, offset, 20, 8);
 }
 
 /// Writes an RSDP of version 2 and of 40 bytes, the last four being 1, 2, 3 and 4. It leads to the
@@ -20,9 +19,11 @@ pub fn put_long_rsdp(file: &mut [u8], offset: usize)
     put(
         file,
         offset,
-        b"RSD PTR \x1f      \x02\0\0\0\0\x28\0\0\0\0\x30",
+        b"RSD PTR \0      \x02\0\0\0\0\x28\0\0\0\0\x30",
     );
-    put(file, offset + 32, &[0x9E, 0, 0, 0, 1, 2, 3, 4]);
+    put(file, offset + 36, &[1, 2, 3, 4]);
+    seal(file, offset, 20, 8);
+    seal(file, offset, 40, 32);
 }
 
 /// Writes three records of 188 bytes together: an RSDT at 0x1000 and an XSDT at 0x3000, which list
@@ -31,11 +32,13 @@ pub fn put_roots(file: &mut [u8], offset: usize)
     requires { offset + 188 ≤ length file.old }
 {
     put_head(file, offset, 0x1000, 40);
-    put_table(file, offset + 16, b"RSDT", 40, 0x7B);
+    put_table(file, offset + 16, b"RSDT", 40);
     put(file, offset + 52, &[0x00, 0x20]);
+    seal_table(file, offset + 16, 40);
     put_head(file, offset + 56, 0x3000, 44);
-    put_table(file, offset + 72, b"XSDT", 44, 0x71);
+    put_table(file, offset + 72, b"XSDT", 44);
     put(file, offset + 108, &[0x00, 0x20]);
+    seal_table(file, offset + 72, 44);
     put_head(file, offset + 116, 0x2000, 56);
     put_graphic(file, offset + 132);
 }
@@ -44,7 +47,7 @@ pub fn put_roots(file: &mut [u8], offset: usize)
 pub fn two_roots() -> [u8; 296] {
     let mut file = [0; 296];
     put_head(&mut file, 0, 0x600, 36);
-    put_rsdp(&mut file, 16, 0x11);
+    put_rsdp(&mut file, 16);
     put_head(&mut file, 52, 0x700, 40);
     put_long_rsdp(&mut file, 68);
     put_roots(&mut file, 108);

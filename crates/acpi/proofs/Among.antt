@@ -1,0 +1,222 @@
+-- The search in areas that a caller gives: candidate by candidate, and in the reader's words.
+use Rattle.std.proofs.Common.{◌≡◌, ℕ, zero, suc, ◌+◌, ◌-◌, ◌*◌, ◌/◌, ◌<◌, ◌≤◌, List, [], ◌∷◌, ◌++◌, length, drop, length-drop, Bool, true, false, arith, refl, ap, sym, subst, ◌∙◌, Option, Some, None, Result, Ok, Err}
+use Rattle.std.specs.Prelude.{◌&&◌, nat_le, IfOk, IsOk}
+use Rattle.std.specs.List.{AllByRecursion}
+use Rattle.std.specs.Option.{ok_or, option_or}
+use Rattle.std.specs.Result.{is_err}
+use Rattle.std.proofs.lemmas.Bool.Decides.{nat_tests}
+use Rattle.acpi_base.specs.Bytes.{part}
+use Rattle.acpi_base.specs.Memory.{Memory, IsMemory, at}
+use Rattle.acpi_base.specs.Steps.{Gives, lent}
+use Rattle.acpi_base.specs.declared.error.AcpiError.{AcpiError}
+use Rattle.acpi_base.specs.declared.error.AcpiError.TheVariants.{NoValidRsdp}
+use Rattle.acpi_base.specs.declared.range.AddressRange.{AddressRange}
+use Rattle.acpi_base.specs.Ranges.{Allows}
+use Rattle.acpi_base.proofs.Allowed.{all_back, all_front}
+use Rattle.acpi.specs.Areas.{areas_ranges, opened_in_areas_ranges, IsCandidateIn, IsFirstIn, IsSearchedIn, NoneIn, count_in, end_of, first_in, found_among, found_in_areas, is_refused_in, walk_in}
+use Rattle.acpi.specs.OpenedRanges.{opened_ranges, or_else_ranges, walk_ranges}
+use Rattle.acpi.specs.Rsdp.{length_of, root_of_rsdp, rsdp_at}
+use Rattle.acpi.specs.Search.{IsRefused, walk}
+use Rattle.acpi.proofs.Asked.{asked_next}
+use Rattle.acpi.proofs.Least.{Says, walk_says}
+use Rattle.acpi.proofs.Walk.{walk_later}
+use Rattle.acpi.proofs.Within.{lent_part}
+
+-- ---- what a loan shows
+
+err_is : (r : Result (Option ℕ) AcpiError) → is_err r ≡ true → (e : AcpiError) × (r ≡ Err e)
+err_is (Ok x) h = absurd cc
+err_is (Err e) h = (e, refl)
+
+both_true : (a b : Bool) → (a && b) ≡ true → (a ≡ true) × (b ≡ true)
+both_true true b h = (refl, h)
+both_true false b h = absurd cc
+
+-- the first checks refuse what is lent there
+first_refused : (m : Memory) (a : ℕ) (b : List ℕ) (e : AcpiError) → lent m a 36 ≡ Ok b → length_of b ≡ Err e → IsRefused m a
+unfolding rsdp_at
+first_refused m a b e there refused = (e, rw (there, refused) refl)
+
+-- a candidate whose bytes are in a loan
+pub shown_refused : (m : Memory) (a off : ℕ) (b : List ℕ) → IsMemory m → lent m a (length b) ≡ Ok b → is_refused_in b off ≡ true → IsRefused m (a + off)
+shown_refused m a off b hm e h =
+    let two = both_true _ _ h in
+    let long : 36 ≤ length (drop off b) = (let test : nat_le 36 (length (drop off b)) ≡ true = two.0 in grind (arith, nat_tests)) in
+    let room : off + 36 ≤ length b = omega (arith, long, length-drop off b) in
+    let why = err_is _ two.1 in
+    first_refused m (a + off) (part b off 36) why.0 (lent_part m a off 36 (length b) b hm e (omega arith) room) why.1
+
+-- ---- candidates that are passed over
+
+moved : (m : Memory) (a b : ℕ) → a ≡ b → IsRefused m a → IsRefused m b
+moved m a b e h = subst (λ (x : ℕ). IsRefused m x) e h
+
+-- what isn't lent is refused
+pub unlent_refused : (m : Memory) (a : ℕ) (e : AcpiError) → lent m a 36 ≡ Err e → IsRefused m a
+unfolding rsdp_at
+unlent_refused m a e none = (e, rw none refl)
+
+pub only_this : (m : Memory) (a : ℕ) → IsRefused m a → (i : ℕ) → i < 1 → IsRefused m (a + 16 * i)
+only_this m a h i less = moved m a (a + 16 * i) (omega (arith, less)) h
+
+-- one that is refused, and those after it that its loan shows to be
+pub front_refused : (m : Memory) (a n : ℕ) (b : List ℕ) → IsMemory m → at m a (length b) ≡ Some b → IsRefused m a
+    → ((i : ℕ) → 0 < i → i < n → is_refused_in b (16 * i) ≡ true) → (i : ℕ) → i < n → IsRefused m (a + 16 * i)
+front_refused m a n b hm e first rest zero less = moved m a (a + 16 * zero) (omega arith) first
+front_refused m a n b hm e first rest (suc i) less = shown_refused m a (16 * suc i) b hm (rw e refl) (rest (suc i) (omega arith) less)
+
+module _ (m : Memory) (n start : ℕ) where
+  next_refused : (k r : ℕ) → ((i : ℕ) → i < suc r → IsRefused m (start + 16 * k + 16 * i)) → (i : ℕ) → i < r → IsRefused m (start + 16 * (k + 1) + 16 * i)
+  next_refused k r refused i less = moved m (start + 16 * k + 16 * suc i) (start + 16 * (k + 1) + 16 * i) (omega arith) (refused (suc i) (omega (arith, less)))
+
+  this_refused : (k r : ℕ) → ((i : ℕ) → i < suc r → IsRefused m (start + 16 * k + 16 * i)) → IsRefused m (start + 16 * k)
+  this_refused k r refused = moved m (start + 16 * k + 16 * 0) (start + 16 * k) (omega arith) (refused 0 (omega arith))
+
+  pub walk_past_all : (all : Option (ℕ × List ℕ)) (k r : ℕ) → walk m (n - k) (start + 16 * k) ≡ all → k + r ≤ n
+      → ((i : ℕ) → i < r → IsRefused m (start + 16 * k + 16 * i)) → walk m (n - (k + r)) (start + 16 * (k + r)) ≡ all
+  walk_past_all all k zero so_far most refused =
+      let same : k ≡ k + zero = omega arith in
+      subst (λ (x : ℕ). walk m (n - x) (start + 16 * x) ≡ all) same so_far
+  walk_past_all all k (suc r) so_far most refused =
+      let turn : k < n = omega (arith, most) in
+      let here = this_refused k r refused in
+      let next = walk_later m n k start all so_far turn here.0 here.1 in
+      let same : k + 1 + r ≡ k + suc r = omega arith in
+      subst (λ (x : ℕ). walk m (n - x) (start + 16 * x) ≡ all) same (walk_past_all all (k + 1) r next (omega (arith, most)) (next_refused k r refused))
+
+  pub asked_past_all : (may : ℕ → ℕ → Bool) (k r : ℕ) → Allows may (walk_ranges m (n - k) (start + 16 * k)) → k + r ≤ n
+      → ((i : ℕ) → i < r → IsRefused m (start + 16 * k + 16 * i)) → Allows may (walk_ranges m (n - (k + r)) (start + 16 * (k + r)))
+  asked_past_all may k zero asked most refused =
+      let same : k ≡ k + zero = omega arith in
+      subst (λ (x : ℕ). Allows may (walk_ranges m (n - x) (start + 16 * x))) same asked
+  asked_past_all may k (suc r) asked most refused =
+      let turn : k < n = omega (arith, most) in
+      let here = this_refused k r refused in
+      let next = asked_next may m n k start here.0 turn asked here.1 in
+      let same : k + 1 + r ≡ k + suc r = omega arith in
+      subst (λ (x : ℕ). Allows may (walk_ranges m (n - x) (start + 16 * x))) same (asked_past_all may (k + 1) r next (omega (arith, most)) (next_refused k r refused))
+
+  -- where all are passed over, none is valid
+  pub walked_out : (all : Option (ℕ × List ℕ)) (k : ℕ) → walk m (n - k) (start + 16 * k) ≡ all → n ≤ k → None ≡ all
+  walked_out all k so_far over =
+      let none : n - k ≡ 0 = omega (arith, over) in rw none at so_far
+
+-- an area without candidates
+pub none_in_area : (m : Memory) (s : AddressRange) (count : ℕ) → count ≡ count_in s → count ≡ 0 → None ≡ walk_in m s
+none_in_area m s count is none =
+    let empty : count_in s ≡ 0 = sym is ∙ none in rw empty refl
+
+-- areas after one that has no valid candidate
+pub later_areas : (may : ℕ → ℕ → Bool) (m : Memory) (s : AddressRange) (all areas : List AddressRange) (top : Option (ℕ × List ℕ)) → all ≡ s ∷ areas → found_among m all ≡ top
+    → Allows may (areas_ranges m all) → None ≡ walk_in m s → (found_among m areas ≡ top) × Allows may (areas_ranges m areas)
+later_areas may m s all areas top is so_far asked none =
+    let these : Allows may (walk_ranges m (count_in s) (first_in s) ++ or_else_ranges (walk_in m s) (areas_ranges m areas)) = rw is at asked in
+    let rest = all_back may (walk_ranges m (count_in s) (first_in s)) _ these in
+    let found : option_or (walk_in m s) (found_among m areas) ≡ top = rw is at so_far in
+    (rw (← none) at found, rw (← none) at rest)
+
+-- ---- the root table that is opened
+
+pub asked_search_in : (may : ℕ → ℕ → Bool) (m : Memory) (areas : List AddressRange) → Allows may (opened_in_areas_ranges m areas) → Allows may (areas_ranges m areas)
+asked_search_in may m areas h = all_front may (areas_ranges m areas) _ h
+
+pub asked_found_in : (may : ℕ → ℕ → Bool) (m : Memory) (areas : List AddressRange) (found : ℕ × List ℕ) → Allows may (opened_in_areas_ranges m areas)
+    → found_in_areas m areas ≡ Ok found → Allows may (opened_ranges m (root_of_rsdp found.1))
+asked_found_in may m areas found h there = rw there at (all_back may (areas_ranges m areas) _ h)
+
+-- ---- in the reader's words
+
+-- what the candidates of one area come to
+abbrev InOne : Memory → AddressRange → Option (ℕ × List ℕ) → Type 0
+InOne m s (Some found) =
+    IsCandidateIn s found.0 × (rsdp_at m found.0 ≡ Ok found.1) × ((a : ℕ) → a < found.0 → IsCandidateIn s a → IsRefused m a)
+InOne m s None = NoneIn m s
+
+in_order : (address end i : ℕ) → i < (end - (address + 15) / 16 * 16 - 4) / 16 → address ≤ 16 * ((address + 15) / 16 + i)
+in_order address end i less = omega arith
+
+in_time : (address end i : ℕ) → i < (end - (address + 15) / 16 * 16 - 4) / 16 → 16 * ((address + 15) / 16 + i) + 20 ≤ end
+in_time address end i less = omega arith
+
+of_index : (s : AddressRange) (i a : ℕ) → i < count_in s → a ≡ first_in s + 16 * i → IsCandidateIn s a
+of_index s i a less is =
+    let k = (s.address + 15) / 16 + i in
+    let same : a ≡ 16 * k = is ∙ omega arith in
+    (k, same, subst (λ (x : ℕ). s.address ≤ x) (sym same) (in_order s.address (end_of s) i less), subst (λ (x : ℕ). x + 20 ≤ end_of s) (sym same) (in_time s.address (end_of s) i less))
+
+index_below : (address end k : ℕ) → address ≤ 16 * k → 16 * k + 20 ≤ end → k - (address + 15) / 16 < (end - (address + 15) / 16 * 16 - 4) / 16
+index_below address end k low high = omega arith
+
+index_at : (address k : ℕ) → address ≤ 16 * k → 16 * k ≡ (address + 15) / 16 * 16 + 16 * (k - (address + 15) / 16)
+index_at address k low = omega arith
+
+index_of : (s : AddressRange) (a : ℕ) → IsCandidateIn s a → (i : ℕ) × (i < count_in s) × (a ≡ first_in s + 16 * i)
+index_of s a c =
+    let low : s.address ≤ 16 * c.0 = subst (λ (x : ℕ). s.address ≤ x) c.1 c.2 in
+    let high : 16 * c.0 + 20 ≤ end_of s = subst (λ (x : ℕ). x + 20 ≤ end_of s) c.1 c.3 in
+    (c.0 - (s.address + 15) / 16, index_below s.address (end_of s) c.0 low high, c.1 ∙ index_at s.address c.0 low)
+
+walked : (m : Memory) (s : AddressRange) (o : Option (ℕ × List ℕ)) → Says m (count_in s) (first_in s) o → InOne m s o
+walked m s (Some found) h = (
+  of_index s h.0 found.0 h.1 h.2,
+  h.3,
+  λ a less c. let at = index_of s a c in moved m (first_in s + 16 * at.0) a (sym at.2) (h.4 at.0 (omega (arith, less, h.2, at.2))),
+)
+walked m s None h = λ a c. let at = index_of s a c in moved m (first_in s + 16 * at.0) a (sym at.2) (h at.0 at.1)
+
+in_one : (m : Memory) (s : AddressRange) → InOne m s (walk_in m s)
+in_one m s = walked m s (walk_in m s) (walk_says m (count_in s) (first_in s))
+
+abbrev IsAmong : Memory → List AddressRange → Option (ℕ × List ℕ) → Type 0
+IsAmong m areas (Some found) = IsFirstIn m areas found
+IsAmong m areas None = AllByRecursion (NoneIn m) areas
+
+one_more : (m : Memory) (s : AddressRange) (areas : List AddressRange) (o later : Option (ℕ × List ℕ)) → InOne m s o → IsAmong m areas later → IsAmong m (s ∷ areas) (option_or o later)
+one_more m s areas (Some found) later here more = record {
+  before = [];
+  area = s;
+  after = areas;
+  listed = refl;
+  none_before = tt;
+  candidate = here.0;
+  valid = here.1;
+  least = here.2;
+}
+one_more m s areas None (Some found) here f = record {
+  before = s ∷ f.before;
+  area = f.area;
+  after = f.after;
+  listed = ap (λ xs. s ∷ xs) f.listed;
+  none_before = (here, f.none_before);
+  candidate = f.candidate;
+  valid = f.valid;
+  least = f.least;
+}
+one_more m s areas None None here more = (here, more)
+
+among : (m : Memory) (areas : List AddressRange) → IsAmong m areas (found_among m areas)
+among m [] = tt
+among m (s ∷ areas) = one_more m s areas (walk_in m s) (found_among m areas) (in_one m s) (among m areas)
+
+abbrev Searched : Memory → List AddressRange → Result (ℕ × List ℕ) AcpiError → Type 0
+Searched m areas r = IsSearchedIn m areas (λ found. found) r
+
+or_refused : (m : Memory) (areas : List AddressRange) (o : Option (ℕ × List ℕ)) → IsAmong m areas o → Searched m areas (ok_or o NoValidRsdp)
+or_refused m areas (Some found) h = h
+or_refused m areas None h = (refl, h)
+
+found_is_first : (m : Memory) (areas : List AddressRange) → Searched m areas (found_in_areas m areas)
+unfolding found_in_areas
+found_is_first m areas = or_refused m areas (found_among m areas) (among m areas)
+
+-- so it is of what answers the same
+pub searched_in : {X : Type 0} (m : Memory) (areas : List AddressRange) (view : X → ℕ × List ℕ) (r : Result X AcpiError) → Gives view r (found_in_areas m areas) → IsSearchedIn m areas view r
+searched_in m areas view (Ok x) same = rw same at (found_is_first m areas)
+searched_in m areas view (Err e) same = rw same at (found_is_first m areas)
+
+valid_in : {X : Type 0} (m : Memory) (areas : List AddressRange) (view : X → ℕ × List ℕ) (r : Result X AcpiError) → IsSearchedIn m areas view r → IfOk r (λ x. IsOk (rsdp_at m (view x).0))
+valid_in m areas view (Ok x) f = rw f.valid refl
+valid_in m areas view (Err e) h = tt
+
+pub found_valid_in : {X : Type 0} (m : Memory) (areas : List AddressRange) (place : X → ℕ) (bytes : X → List ℕ) (r : Result X AcpiError) → Gives (λ x. (place x, bytes x)) r (found_in_areas m areas) → IfOk r (λ x. IsOk (rsdp_at m (place x)))
+found_valid_in m areas place bytes r said = valid_in m areas (λ x. (place x, bytes x)) r (searched_in m areas (λ x. (place x, bytes x)) r said)

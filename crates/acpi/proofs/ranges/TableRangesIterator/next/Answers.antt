@@ -1,0 +1,14 @@
+use Rattle.acpi_base.specs.Ranges.{own_table_ranges}
+use Rattle.acpi.proofs.Asked.{asked_each, asked_kept}
+use Rattle.acpi.specs.Pointers.{pointers_left}
+use Rattle.acpi.proofs.ranges.TableRangesIterator.next.Goals as goal
+
+pub invariant_of-self-in-Some-next : goal.invariant_of-self-in-Some-next
+invariant_of-self-in-Some-next g c =
+    let h = c.loop-address.self.handler.now in
+    record { asked = asked_kept (g.H.Lender.may h) (own_table_ranges (g.H.Lender.memory h)) (pointers_left c.loop-address.self.pointers) (pointers_left c.next.new.self) c.next.result c.next.ensures.steps c.loop-address.self.asked }
+
+pub own_place-requires : goal.own_place-requires
+own_place-requires g c =
+    let h = c.loop-address.self.handler.now in
+    asked_each (g.H.Lender.may h) (own_table_ranges (g.H.Lender.memory h)) c.in-Some-next.address _ _ c.in-Some-next.ensures.steps c.loop-address.self.asked

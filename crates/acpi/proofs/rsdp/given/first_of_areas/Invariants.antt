@@ -1,0 +1,13 @@
+use Rattle.std.proofs.Common.{◌≡◌, length}
+use Rattle.acpi_base.specs.Ranges.{Allows}
+use Rattle.acpi.specs.Areas.{areas_ranges, found_among}
+use Rattle.acpi.proofs.rsdp.given.first_of_areas.Given as goal
+
+-- the areas that are left have the first valid one of all
+abbrev pub invariant-loop-area : goal.invariant-loop-area
+invariant-loop-area g l =
+    let m = g.H.Lender.memory l.handler in
+    (found_among m l.rest ≡ found_among m l.areas) × Allows (g.H.Lender.may l.handler) (areas_ranges m l.rest)
+
+abbrev pub decreases-loop-area : goal.decreases-loop-area
+decreases-loop-area g l = length l.rest

@@ -1,0 +1,18 @@
+use Rattle.std.proofs.Common.{refl}
+use Rattle.acpi_base.specs.Table.{kind}
+use Rattle.acpi.proofs.Agreed.{from_tables, in_ok}
+use Rattle.acpi.proofs.Passed.{filter_map_few, fits_root}
+use Rattle.acpi.proofs.Placing.{same_found}
+use Rattle.acpi.specs.Root.{width_of}
+use Rattle.acpi.specs.Tables.{kind_of, root_of}
+use Rattle.acpi.proofs.tables.AcpiTables.find_tables.Goals as goal
+
+pub returns-clause-few : goal.returns-clause-few
+returns-clause-few g c = rw (c.new.ensures, c.pointers.ensures) (filter_map_few _ _)
+
+pub returns-clause-fits : goal.returns-clause-fits
+returns-clause-fits g c =
+    rw (c.new.ensures, c.pointers.ensures) (fits_root _ (width_of (kind_of c.args.self.now)) (root_of c.args.self.now) c.args.self.now.short (filter_map_few _ _))
+
+pub returns-clause-footprint : goal.returns-clause-footprint
+returns-clause-footprint g c = λ n h. rw (from_tables c.args.self.now _ _ (in_ok _ _ (same_found (kind g.T.AcpiTable.SIGNATURE g.T.PhysicalRecord.MIN_LENGTH g.T.AcpiTable.verdict))) c.args.self.now.valid n h) (rw (c.new.ensures, c.handler.ensures, c.pointers.ensures) refl)

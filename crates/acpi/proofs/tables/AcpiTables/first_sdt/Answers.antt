@@ -1,0 +1,17 @@
+use Rattle.std.proofs.Common.{subst, sym}
+use Rattle.acpi_base.specs.Ranges.{Allows, table_ranges}
+use Rattle.acpi_base.specs.Table.{plain_kind}
+use Rattle.acpi.proofs.Asked.{asked_member, later_kept}
+use Rattle.acpi.specs.Tables.{may_of, memory_of}
+use Rattle.acpi.proofs.tables.AcpiTables.first_sdt.Goals as goal
+
+pub map_sdt-requires : goal.map_sdt-requires
+map_sdt-requires g c =
+    let k = plain_kind c.args.signature in
+    subst (λ h. Allows (g.H.Lender.may h) (table_ranges (g.H.Lender.memory h) k c.in-Some.address)) (sym c.handler.ensures)
+    (asked_member (may_of c.args.self.now) (memory_of c.args.self.now) k c.in-Some.address _ _ c.in-Some.ensures.steps c.loop-address.invariant.1)
+
+pub loop-address-preserved : goal.loop-address-preserved
+loop-address-preserved g c =
+    later_kept (may_of c.args.self.now) (memory_of c.args.self.now) (plain_kind c.args.signature)
+    c.in-Some.address _ _ _ c.in_default.field-0 (rw c.handler.ensures at c.in_default.ensures.table) c.in-Some.ensures.steps c.loop-address.invariant

@@ -1,0 +1,18 @@
+use Rattle.acpi.proofs.Placing.{asked_dsdt_place, asked_facs_place, asked_led_fadt}
+use Rattle.acpi.specs.Tables.{may_of, memory_of, pointers_of}
+use Rattle.acpi.proofs.tables.AcpiTables.led.Goals as goal
+
+pub first_member-found-requires : goal.first_member-found-requires
+first_member-found-requires g c =
+    let t = c.args.self.now in
+    asked_led_fadt (may_of t) (memory_of t) (pointers_of t) c.requires
+
+pub dsdt_place-requires : goal.dsdt_place-requires
+dsdt_place-requires g c =
+    let t = c.args.self.now in
+    rw c.get-fadt.ensures (asked_dsdt_place (may_of t) (memory_of t) (pointers_of t) _ c.requires (rw c.in-Ok.is at c.first_member-found.ensures.found))
+
+pub facs_place-requires : goal.facs_place-requires
+facs_place-requires g c =
+    let t = c.args.self.now in
+    rw c.get-fadt.ensures (asked_facs_place (may_of t) (memory_of t) (pointers_of t) _ c.requires (rw c.in-Ok.is at c.first_member-found.ensures.found))

@@ -1,0 +1,122 @@
+-- The search for the RSDP in areas that a caller gives (ACPI 6.4, section 5.2.5.1).
+use Rattle.std.specs.Prelude.{◌≡◌, ℕ, ◌+◌, ◌-◌, ◌*◌, ◌/◌, ◌^◌, ◌<◌, ◌≤◌, ◌&&◌, nat_le, nat_lt, Bool, if◌then◌else◌}
+use Rattle.std.specs.Prelude.{List, [], ◌∷◌, ◌++◌, length, drop, Option, Some, None, Result, Ok, Err}
+use Rattle.std.specs.List.{AllByRecursion}
+use Rattle.std.specs.Option.{ok_or, option_or}
+use Rattle.std.specs.Result.{is_err}
+use Rattle.acpi_base.specs.Bytes.{part}
+use Rattle.acpi_base.specs.Memory.{Memory}
+use Rattle.acpi_base.specs.Ranges as ranges
+use Rattle.acpi_base.specs.Ranges.{DependsOn, Ranges}
+use Rattle.acpi_base.specs.Steps.{◌>>=◌}
+use Rattle.acpi_base.specs.declared.error.AcpiError.{AcpiError}
+use Rattle.acpi_base.specs.declared.error.AcpiError.TheVariants.{NoValidRsdp}
+use Rattle.acpi_base.specs.declared.range.AddressRange.{AddressRange}
+use Rattle.acpi.specs.Opened.{Opened, opened_from}
+use Rattle.acpi.specs.OpenedRanges.{opened_ranges, or_else_ranges, walk_ranges}
+use Rattle.acpi.specs.Rsdp.{length_of, root_of_rsdp, rsdp_at}
+use Rattle.acpi.specs.Search.{IsRefused, walk}
+
+-- so many bytes from an address on
+abbrev pub range : ℕ → ℕ → AddressRange
+range address length = record { address = address; length = length }
+
+-- the first address behind an area: at most 2^64
+abbrev pub end_of : AddressRange → ℕ
+end_of s = if nat_le (s.address + s.length) (2 ^ 64) then s.address + s.length else 2 ^ 64
+
+-- ---- what a search finds
+
+-- a multiple of 16 in the area, with 20 bytes in it
+abbrev pub IsCandidateIn : AddressRange → ℕ → Type 0
+IsCandidateIn s a = (k : ℕ) × (a ≡ 16 * k) × (s.address ≤ a) × (a + 20 ≤ end_of s)
+
+-- no candidate of an area is valid
+abbrev pub NoneIn : Memory → AddressRange → Type 0
+NoneIn m s = (a : ℕ) → IsCandidateIn s a → IsRefused m a
+
+-- the areas are some, then this one, then others; it has this valid candidate, and none before that is
+-- valid, neither in this area nor in those before
+pub record IsFirstIn (m : Memory) (areas : List AddressRange) (found : ℕ × List ℕ) : Type 0 where
+  pub before : List AddressRange
+  pub area : AddressRange
+  pub after : List AddressRange
+  pub listed : areas ≡ before ++ area ∷ after
+  pub none_before : AllByRecursion (NoneIn m) before
+  pub candidate : IsCandidateIn area found.0
+  pub valid : rsdp_at m found.0 ≡ Ok found.1
+  pub least : (a : ℕ) → a < found.0 → IsCandidateIn area a → IsRefused m a
+
+-- what a search answered, seen by view, is the first valid candidate, or there is none
+abbrev pub IsSearchedIn : {X : Type 0} → Memory → List AddressRange → (X → ℕ × List ℕ)
+    → Result X AcpiError → Type 0
+IsSearchedIn m areas view (Ok x) = IsFirstIn m areas (view x)
+IsSearchedIn m areas view (Err e) = (e ≡ NoValidRsdp) × AllByRecursion (NoneIn m) areas
+
+-- ---- step by step
+
+-- the first multiple of 16 from the area's start on
+abbrev pub first_in : AddressRange → ℕ
+first_in s = (s.address + 15) / 16 * 16
+
+-- how many candidates an area has
+abbrev pub count_in : AddressRange → ℕ
+count_in s = (end_of s - first_in s - 4) / 16
+
+-- the first valid one, if it has one
+abbrev pub walk_in : Memory → AddressRange → Option (ℕ × List ℕ)
+walk_in m s = walk m (count_in s) (first_in s)
+
+-- that of the first area that has one
+abbrev pub found_among : Memory → List AddressRange → Option (ℕ × List ℕ)
+found_among m [] = None
+found_among m (s ∷ areas) = option_or (walk_in m s) (found_among m areas)
+
+-- the RSDP that the areas have, or the refusal
+unfoldable pub found_in_areas : Memory → List AddressRange → Result (ℕ × List ℕ) AcpiError
+found_in_areas m areas = ok_or (found_among m areas) NoValidRsdp
+
+-- the root table that it leads to
+abbrev pub opened_in_areas : Memory → List AddressRange → Result Opened AcpiError
+opened_in_areas m areas = do
+  found ← found_in_areas m areas
+  opened_from m (root_of_rsdp found.1)
+
+-- bytes hold those of a candidate at an offset, and its own checks refuse these
+abbrev pub is_refused_in : List ℕ → ℕ → Bool
+is_refused_in b offset =
+    nat_le 36 (length (drop offset b)) && is_err (length_of (part b offset 36))
+
+-- ---- ranges
+
+-- those of `found_in_areas`: each candidate's, up to and with the first valid one
+abbrev pub areas_ranges : Memory → List AddressRange → Ranges
+areas_ranges m [] = []
+areas_ranges m (s ∷ areas) =
+    walk_ranges m (count_in s) (first_in s) ++ or_else_ranges (walk_in m s) (areas_ranges m areas)
+
+-- those of `opened_in_areas`
+abbrev pub opened_in_areas_ranges : Memory → List AddressRange → Ranges
+opened_in_areas_ranges m areas = areas_ranges m areas
+    ++ ranges.◌>>=◌ (found_in_areas m areas) (λ found. opened_ranges m (root_of_rsdp found.1))
+
+abbrev pub AreasDependOn : Type 0
+AreasDependOn = DependsOn areas_ranges found_in_areas
+
+abbrev pub OpenedInAreasDependsOn : Type 0
+OpenedInAreasDependsOn = DependsOn opened_in_areas_ranges opened_in_areas
+
+-- ---- the areas of a BIOS
+
+-- the first KiB of the extended BIOS data area, as far as it lies below 0xa0000; none of it where its
+-- address isn't given, or lies elsewhere
+abbrev pub ebda_area : Option ℕ → AddressRange
+ebda_area None = range 0 0
+ebda_area (Some a) =
+    if nat_le 0x400 a && nat_lt a 0xa0000
+    then range a (if nat_le (a + 1024) 0xa0000 then 1024 else 0xa0000 - a)
+    else range 0 0
+
+-- that, and then the read-only memory of the BIOS
+abbrev pub bios_areas : Option ℕ → List AddressRange
+bios_areas ebda = ebda_area ebda ∷ range 0xe0000 0x20000 ∷ []

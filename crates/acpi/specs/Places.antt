@@ -1,0 +1,101 @@
+-- Where the tables lie.
+use Rattle.std.specs.Prelude.{ℕ, List, [], ◌∷◌, ◌++◌, length, filter_map, nat_le, Result, Ok}
+use Rattle.std.specs.List.{cons_option}
+use Rattle.std.specs.Result.{result_ok}
+use Rattle.std.specs.Str.{bytes_eq}
+use Rattle.acpi_base.specs.declared.error.AcpiError.{AcpiError}
+use Rattle.acpi_base.specs.declared.error.AcpiError.TheVariants.{SdtInvalidLength, SdtInvalidSignature}
+use Rattle.acpi_base.specs.declared.sdt.SdtHeader.{SdtHeader}
+use Rattle.acpi_base.specs.declared.signature.TheConstants.Signature.{DSDT, FACS}
+use Rattle.acpi_base.specs.Header.{header_at}
+use Rattle.acpi_base.specs.Memory.{Memory}
+use Rattle.acpi_base.specs.Ranges as ranges
+use Rattle.acpi_base.specs.Ranges.{Ranges, table_ranges}
+use Rattle.acpi_base.specs.Steps.{◌>>=◌, holds, lent}
+use Rattle.acpi_base.specs.Table.{own_table_at, plain_kind, table_at}
+use Rattle.acpi_fixed.specs.Fadt.{dsdt_address_of, facs_address_of, fadt_at}
+use Rattle.acpi_fixed.specs.declared.fadt.Fadt.{Fadt}
+use Rattle.acpi.specs.Footprint.{header_ranges, lookup_ranges}
+use Rattle.acpi.specs.Lists.{fadt_kind}
+use Rattle.acpi.specs.Lookup.{lookup}
+use Rattle.acpi_base.specs.declared.range.AddressRange.{AddressRange}
+
+-- so many bytes from an address
+abbrev pub range : ℕ → ℕ → AddressRange
+range address n = record { address = address; length = n }
+
+-- the table at an address, if it is valid under the signature that it bears
+unfoldable pub place_at : Memory → ℕ → Result AddressRange AcpiError
+place_at m p = do
+  table ← own_table_at m p
+  Ok (range p (length table))
+
+-- the DSDT that a FADT leads to, if it is valid (section 5.2.11.1)
+unfoldable pub dsdt_place : Memory → Fadt → Result AddressRange AcpiError
+dsdt_place m f = do
+  address ← dsdt_address_of f
+  table ← table_at m (plain_kind DSDT) address
+  Ok (range address (length table))
+
+-- the length of a FACS (section 5.2.10), whose signature and length lie where those of a header do
+unfoldable pub facs_length : SdtHeader → Result ℕ AcpiError
+facs_length head = do
+  _ ← holds (bytes_eq head.signature.0 FACS.0) (SdtInvalidSignature FACS)
+  _ ← holds (nat_le 64 head.length) (SdtInvalidLength FACS)
+  Ok head.length
+
+-- the FACS at an address
+unfoldable pub facs_at : Memory → ℕ → Result AddressRange AcpiError
+facs_at m address = do
+  head ← lent m address 36
+  length ← facs_length (header_at head)
+  _ ← lent m address length
+  Ok (range address length)
+
+-- the FACS that a FADT leads to
+abbrev pub facs_place : Memory → Fadt → Result AddressRange AcpiError
+facs_place m f = do
+  address ← facs_address_of f
+  facs_at m address
+
+-- ---- of a root table
+
+-- what the first valid FADT leads to
+abbrev pub led_by : {A : Type 0} → (Memory → Fadt → Result A AcpiError) → Memory → List ℕ → Result A AcpiError
+led_by place m ps = do
+  found ← lookup m fadt_kind ps
+  place m (fadt_at found.1)
+
+-- the valid members, then the DSDT and the FACS where a valid FADT leads to them
+abbrev pub places_below : Memory → List ℕ → List AddressRange
+places_below m ps = filter_map (λ p. result_ok (place_at m p)) ps
+    ++ cons_option (result_ok (led_by dsdt_place m ps))
+    (cons_option (result_ok (led_by facs_place m ps)) [])
+
+-- the root table, and what lies below it
+abbrev pub places_of : AddressRange → Memory → List ℕ → List AddressRange
+places_of root m ps = root ∷ places_below m ps
+
+-- ---- their ranges
+
+-- those of `dsdt_place`
+abbrev pub dsdt_place_ranges : Memory → Fadt → Ranges
+dsdt_place_ranges m f = ranges.◌>>=◌ (dsdt_address_of f) (λ address. table_ranges m (plain_kind DSDT) address)
+
+-- those of `facs_at`
+abbrev pub facs_ranges : Memory → ℕ → Ranges
+facs_ranges m address = (address, 36) ∷ ranges.◌>>=◌ (lent m address 36) (λ head.
+    ranges.◌>>=◌ (facs_length (header_at head)) (λ length. (address, length) ∷ []))
+
+-- those of `facs_place`
+abbrev pub facs_place_ranges : Memory → Fadt → Ranges
+facs_place_ranges m f = ranges.◌>>=◌ (facs_address_of f) (λ address. facs_ranges m address)
+
+-- those of what the first valid FADT leads to
+abbrev pub led_ranges : Memory → List ℕ → Ranges
+led_ranges m ps = lookup_ranges m fadt_kind ps ++ ranges.◌>>=◌ (lookup m fadt_kind ps) (λ found.
+    dsdt_place_ranges m (fadt_at found.1) ++ facs_place_ranges m (fadt_at found.1))
+
+-- those of `places_of`: each member's, under its own signature, and those of what the FADT leads to
+abbrev pub place_ranges : Memory → List ℕ → Ranges
+place_ranges m ps = header_ranges m ps ++ led_ranges m ps

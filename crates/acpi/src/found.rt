@@ -1,0 +1,67 @@
+//! All tables of a type.
+ghost use Rattle.std.proofs.Props.{props};
+ghost use Rattle.acpi_base.specs.Ranges.{Allows};
+ghost use Rattle.acpi_base.specs.Table.{kind};
+ghost use Rattle.acpi.specs.Members.{kind_ranges};
+ghost use Rattle.acpi.specs.Pointers.{pointers_left};
+
+use crate::pointers::Pointers;
+use acpi_base::sdt::map_table;
+use acpi_base::{AcpiTable, Lender, PhysicalMapping};
+use std::marker::PhantomData;
+
+/// The listed tables that are valid for `T`, in the order of the root table. A table that is listed
+/// twice comes twice.
+#[derive(Drop)]
+pub struct FoundTables<'t, 'h, H: Lender, T: AcpiTable> {
+    handler: &'h H,
+    pointers: Pointers<'t>,
+    sought: PhantomData<T>,
+    ghost asked: { Allows (H.may handler.now) (kind_ranges (H.memory handler.now)
+        (kind T.SIGNATURE T.MIN_LENGTH T.verdict) (pointers_left pointers)) } by { Prim.hlevel props },
+}
+
+impl<'t, 'h, H: Lender, T: AcpiTable> FoundTables<'t, 'h, H, T> {
+    ghost use Rattle.std.specs.Prelude.{◌≡◌};
+    ghost use Rattle.acpi.specs.Members.{tables_found};
+    ghost use Rattle.acpi.specs.Placed.{found_left};
+
+    pub(crate) fn new(handler: &'h H, pointers: Pointers<'t>) -> Self
+        requires { Allows (H.may handler.now) (kind_ranges (H.memory handler.now)
+            (kind T.SIGNATURE T.MIN_LENGTH T.verdict) (pointers_left pointers)) }
+        ensures { let k = kind T.SIGNATURE T.MIN_LENGTH T.verdict in
+            found_left H.memory k result
+            ≡ tables_found (H.memory handler.now) k (pointers_left pointers.entry) }
+    {
+        FoundTables {
+            handler,
+            pointers,
+            sought: PhantomData,
+        }
+    }
+}
+
+impl<'h, H: Lender, T: AcpiTable> Iterator for FoundTables<'_, 'h, H, T> {
+    ghost use Rattle.std.specs.Iterator.{YieldsFirstBy, item_count};
+    ghost use Rattle.acpi_base.specs.Mapping.{bytes_of, start_of};
+    ghost use Rattle.acpi.specs.Placed.{found_left};
+
+    type Item = PhysicalMapping<'h, H, T>;
+
+    // Each is seen as its address and its bytes.
+    ghost next_gives = { let k = kind T.SIGNATURE T.MIN_LENGTH T.verdict in
+        YieldsFirstBy (λ m. (start_of m, bytes_of m)) (found_left H.memory k) };
+
+    ghost remaining = { let k = kind T.SIGNATURE T.MIN_LENGTH T.verdict in
+        item_count (found_left H.memory k) };
+
+    #[tactic(auto, unfolding(crate::specs::Members::found_at))]
+    fn next(&mut self) -> Option<PhysicalMapping<'h, H, T>> {
+        while let Some(address) = self.pointers.next() {
+            if let Ok(table) = map_table::<H, T>(self.handler, address) {
+                return Some(table);
+            }
+        }
+        None
+    }
+}

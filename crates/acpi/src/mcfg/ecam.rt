@@ -1,0 +1,81 @@
+//! The configuration space of a PCI function by the base of bus 0.
+ghost use Rattle.std.specs.Prelude.{◌≡◌};
+
+use super::{McfgEntry, PciConfigRegions, region_for};
+use acpi_base::AddressRange;
+use std::alloc::Allocator;
+
+impl<A: Allocator> PciConfigRegions<A> {
+    ghost use Rattle.std.specs.Prelude.{IfSome};
+    ghost use Rattle.acpi.specs.Ecam.{IsBeside, ecam_address, spans_left, spans_of};
+
+    /// The physical address of a function's configuration space, as a kernel wants it: a region's
+    /// base is that of bus 0 of its segment group (PCI Firmware Specification, section 4.1.2), and
+    /// Linux reads it so. It is the base of the first region of the segment group that holds the bus,
+    /// and 2^20 bytes for each bus, 2^15 for each device and 2^12 for each function.
+    ///
+    /// `physical_address` counts from the region's first bus, as the Rust crate does. The two differ
+    /// by 2^20 bytes for each bus before the first, and agree where the first bus is 0.
+    ///
+    /// It is `None` if no region holds the bus, if the device is above 31 or the function above 7, and
+    /// if the sum is 2^64 or more; no later region is then tried. Of the 4096 bytes of configuration
+    /// space only the first is promised to lie below 2^64. A base is taken as it is, aligned or not.
+    pub fn ecam_address(
+        &self,
+        segment_group_no: u16,
+        bus: u8,
+        device: u8,
+        function: u8,
+    ) -> Option<u64>
+        ensures value { result ≡ ecam_address self.now segment_group_no bus device function }
+        // There `physical_address` answers too, less the buses before the region's first.
+        ensures beside { IfSome result (IsBeside self.now segment_group_no bus device function) }
+    {
+        self.ecam_of(segment_group_no, bus, device, function)
+    }
+
+    /// `ecam_address`, by the exact clause from which its law follows.
+    fn ecam_of(&self, segment: u16, bus: u8, device: u8, function: u8) -> Option<u64>
+        ensures { result ≡ ecam_address self.now segment bus device function }
+    {
+        let region = region_for(self.regions.as_slice(), segment, bus)?;
+        region.ecam_address(bus, device, function)
+    }
+
+    /// The memory that the configuration space of each region takes, by the base of bus 0, in the order
+    /// of the table: the segment group, and the range of the buses from the first to the last, 2^20
+    /// bytes each.
+    ///
+    /// There is no range if the last bus is below the first, and if the range ends at 2^64 or above.
+    /// Some address in it may then be answered by `ecam_address` all the same.
+    pub fn ecam_ranges(&self) -> EcamRanges<'_>
+        ensures { spans_left result ≡ spans_of self.now }
+    {
+        EcamRanges {
+            regions: self.regions.as_slice(),
+        }
+    }
+}
+
+/// The memory that the configuration space of each region takes, in the order of the table.
+#[derive(Clone, Debug, Drop)]
+pub struct EcamRanges<'a> {
+    regions: &'a [McfgEntry],
+}
+
+impl Iterator for EcamRanges<'_> {
+    ghost use Rattle.std.specs.Iterator.{YieldsFirst, item_count};
+    ghost use Rattle.acpi.specs.Ecam.{spans_left};
+
+    type Item = (u16, Option<AddressRange>);
+
+    ghost next_gives = { YieldsFirst (λ s. spans_left s) };
+
+    ghost remaining = { item_count (λ s. spans_left s) };
+
+    fn next(&mut self) -> Option<(u16, Option<AddressRange>)> {
+        let (first, others) = self.regions.split_first()?;
+        self.regions = others;
+        Some((first.pci_segment_group, first.ecam_range()))
+    }
+}

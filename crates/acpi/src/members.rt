@@ -1,0 +1,75 @@
+//! What each pointer of the root table leads to.
+ghost use Rattle.std.proofs.Props.{props};
+ghost use Rattle.acpi_base.specs.Ranges.{Allows};
+ghost use Rattle.acpi.specs.Footprint.{header_ranges};
+ghost use Rattle.acpi.specs.Pointers.{pointers_left};
+
+use crate::pointers::Pointers;
+use acpi_base::sdt::{SdtHeader, map_own_sdt};
+use acpi_base::{AcpiResult, Lender};
+
+/// What a pointer of the root table leads to.
+#[derive(Clone, Copy, Debug)]
+pub struct TableMember {
+    /// The physical address that is listed.
+    pub address: u64,
+    /// The header of the table there, if that is valid under the signature that it bears, or else
+    /// why it is refused.
+    pub header: AcpiResult<SdtHeader>,
+}
+
+/// What each pointer of the root table leads to, one item for each, in order. A table that is listed
+/// twice comes twice.
+#[derive(Drop)]
+pub struct TableMembers<'t, 'h, H: Lender> {
+    handler: &'h H,
+    pointers: Pointers<'t>,
+    ghost asked: { Allows (H.may handler.now)
+        (header_ranges (H.memory handler.now) (pointers_left pointers)) } by { Prim.hlevel props },
+}
+
+impl<'t, 'h, H: Lender> TableMembers<'t, 'h, H> {
+    ghost use Rattle.std.specs.Prelude.{◌≡◌};
+    ghost use Rattle.acpi.specs.Members.{members_of};
+    ghost use Rattle.acpi.specs.Placed.{members_left};
+
+    pub(crate) fn new(handler: &'h H, pointers: Pointers<'t>) -> Self
+        requires { Allows (H.may handler.now)
+            (header_ranges (H.memory handler.now) (pointers_left pointers)) }
+        ensures { members_left H.memory result
+            ≡ members_of (H.memory handler.now) (pointers_left pointers.entry) }
+    {
+        TableMembers { handler, pointers }
+    }
+}
+
+impl<H: Lender> Iterator for TableMembers<'_, '_, H> {
+    ghost use Rattle.std.specs.Iterator.{YieldsFirst, item_count};
+    ghost use Rattle.acpi.specs.Placed.{members_left};
+
+    type Item = TableMember;
+
+    ghost next_gives = { YieldsFirst (members_left H.memory) };
+
+    ghost remaining = { item_count (members_left H.memory) };
+
+    fn next(&mut self) -> Option<TableMember> {
+        let address = self.pointers.next()?;
+        let header = own_header(self.handler, address);
+        Some(TableMember { address, header })
+    }
+}
+
+ghost use Rattle.std.specs.Prelude.{◌≡◌};
+ghost use Rattle.acpi_base.specs.Ranges.{own_table_ranges};
+ghost use Rattle.acpi.specs.Lists.{own_header_at};
+
+/// The header of the table at an address, if that is valid under the signature that it bears.
+#[tactic(auto, unfolding(crate::specs::Lists::own_header_at))]
+fn own_header<H: Lender>(handler: &H, address: u64) -> AcpiResult<SdtHeader>
+    requires { Allows (H.may handler.now) (own_table_ranges (H.memory handler.now) address) }
+    ensures { result ≡ own_header_at (H.memory handler.now) address }
+{
+    let table = map_own_sdt(handler, address)?;
+    Ok(*table.get())
+}

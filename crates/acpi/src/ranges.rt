@@ -1,0 +1,129 @@
+//! Where the tables lie.
+ghost use Rattle.std.specs.Prelude.{◌≡◌, ◌≤◌, IfOk};
+ghost use Rattle.std.specs.Result.{result_ok};
+ghost use Rattle.std.proofs.Props.{props};
+ghost use Rattle.acpi_base.specs.Ranges.{Allows, own_table_ranges};
+ghost use Rattle.acpi_base.specs.Steps.{Gives};
+ghost use Rattle.acpi.specs.Footprint.{header_ranges};
+ghost use Rattle.acpi.specs.Places.{facs_at, facs_length, facs_ranges, place_at};
+ghost use Rattle.acpi.specs.Pointers.{pointers_left};
+
+use crate::pointers::Pointers;
+use acpi_base::sdt::{SdtHeader, map_own_sdt};
+use acpi_base::{AcpiError, AcpiResult, AddressRange, Lender, PhysicalMapping, PhysicalRecord, Signature};
+
+/// Where the root table lies, then each valid member in the order of the root table, then the DSDT
+/// and the FACS. A table that is listed twice comes twice.
+#[derive(Drop)]
+pub struct TableRanges<'t, 'h, H: Lender> {
+    handler: &'h H,
+    root: Option<AddressRange>,
+    pointers: Pointers<'t>,
+    dsdt: Option<AddressRange>,
+    facs: Option<AddressRange>,
+    ghost asked: { Allows (H.may handler.now)
+        (header_ranges (H.memory handler.now) (pointers_left pointers)) } by { Prim.hlevel props },
+}
+
+impl<'t, 'h, H: Lender> TableRanges<'t, 'h, H> {
+    ghost use Rattle.std.specs.Prelude.{◌∷◌, ◌++◌, [], filter_map};
+    ghost use Rattle.std.specs.List.{cons_option};
+    ghost use Rattle.acpi.specs.Placed.{places_left};
+
+    pub(crate) fn new(
+        handler: &'h H,
+        root: AddressRange,
+        pointers: Pointers<'t>,
+        dsdt: Option<AddressRange>,
+        facs: Option<AddressRange>,
+    ) -> Self
+        requires { Allows (H.may handler.now)
+            (header_ranges (H.memory handler.now) (pointers_left pointers)) }
+        ensures { places_left H.memory result ≡ root ∷ (filter_map
+            (λ p. result_ok (place_at (H.memory handler.now) p)) (pointers_left pointers.entry)
+            ++ cons_option dsdt (cons_option facs [])) }
+    {
+        TableRanges {
+            handler,
+            root: Some(root),
+            pointers,
+            dsdt,
+            facs,
+        }
+    }
+}
+
+impl<H: Lender> Iterator for TableRanges<'_, '_, H> {
+    ghost use Rattle.std.specs.Iterator.{YieldsFirst, item_count};
+    ghost use Rattle.acpi.specs.Placed.{places_left};
+
+    type Item = AddressRange;
+
+    ghost next_gives = { YieldsFirst (places_left H.memory) };
+
+    ghost remaining = { item_count (places_left H.memory) };
+
+    fn next(&mut self) -> Option<AddressRange> {
+        if let Some(root) = self.root {
+            self.root = None;
+            return Some(root);
+        }
+        while let Some(address) = self.pointers.next() {
+            if let Ok(place) = own_place(self.handler, address) {
+                return Some(place);
+            }
+        }
+        if let Some(dsdt) = self.dsdt {
+            self.dsdt = None;
+            return Some(dsdt);
+        }
+        let facs = self.facs?;
+        self.facs = None;
+        Some(facs)
+    }
+}
+
+/// Where the table at an address lies, if it is valid under the signature that it bears.
+#[tactic(auto, unfolding(crate::specs::Places::place_at))]
+fn own_place<H: Lender>(handler: &H, address: u64) -> AcpiResult<AddressRange>
+    requires { Allows (H.may handler.now) (own_table_ranges (H.memory handler.now) address) }
+    ensures { result ≡ place_at (H.memory handler.now) address }
+{
+    let table = map_own_sdt(handler, address)?;
+    Ok(AddressRange {
+        address,
+        length: table.region_length() as u64,
+    })
+}
+
+/// The length of a FACS (section 5.2.10), whose signature and length lie where those of a header do.
+#[tactic(auto, unfolding(crate::specs::Places::facs_length))]
+fn facs_length(head: &SdtHeader) -> AcpiResult<usize>
+    ensures long { IfOk result (λ n. 64 ≤ n) }
+    ensures length { Gives (λ n. n) result (facs_length head.now) }
+{
+    if head.signature != Signature::FACS {
+        return Err(AcpiError::SdtInvalidSignature(Signature::FACS));
+    }
+    if head.length < 64 {
+        return Err(AcpiError::SdtInvalidLength(Signature::FACS));
+    }
+    Ok(head.length as usize)
+}
+
+/// Where the FACS at an address lies: it has the signature, gives a length of at least 64, and so
+/// many bytes are lent.
+#[tactic(auto, unfolding(crate::specs::Places::facs_at))]
+pub(crate) fn facs_at<H: Lender>(handler: &H, address: u64) -> AcpiResult<AddressRange>
+    requires { Allows (H.may handler.now) (facs_ranges (H.memory handler.now) address) }
+    ensures { result ≡ facs_at (H.memory handler.now) address }
+{
+    let head = PhysicalMapping::<H, SdtHeader>::map(handler, address, SdtHeader::MIN_LENGTH)?;
+    let length = facs_length(&head)?;
+    drop(head);
+    let whole = PhysicalMapping::<H, SdtHeader>::map(handler, address, length)?;
+    Ok(AddressRange {
+        address,
+        length: whole.region_length() as u64,
+    })
+}

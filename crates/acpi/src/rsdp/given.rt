@@ -1,0 +1,253 @@
+//! The search for the RSDP in areas that a caller gives, where firmware lends less than whole areas.
+ghost use Rattle.std.specs.Prelude.{◌≡◌, ◌<◌, ◌≤◌, ◌^◌, ◌+◌, ◌*◌, ℕ, Ok, true, IfErr, IfOk, IfSome};
+ghost use Rattle.std.specs.Option.{option_map};
+ghost use Rattle.acpi_base.specs.Mapping.{IsOfMemory, bytes_of, handler_of, start_of};
+ghost use Rattle.acpi_base.specs.Ranges.{Allows};
+ghost use Rattle.acpi_base.specs.Steps.{Gives, lent};
+ghost use Rattle.acpi.specs.Areas as areas;
+ghost use Rattle.acpi.specs.Areas.{areas_ranges, count_in, first_in, found_among, is_refused_in, walk_in};
+ghost use Rattle.acpi.specs.OpenedRanges.{rsdp_ranges, walk_ranges};
+ghost use Rattle.acpi.specs.Rsdp.{rsdp_at};
+ghost use Rattle.acpi.specs.Search.{IsRefused, placed, walk};
+
+use super::{Rsdp, check_whole};
+use acpi_base::bytes::skip;
+use acpi_base::{AcpiError, AcpiResult, AddressRange, Lender, PhysicalMapping, PhysicalRecord};
+
+/// The areas that a BIOS puts the RSDP in, in the order of section 5.2.5.1: the first KiB of the
+/// extended BIOS data area (EBDA), and 0xe0000..0x100000.
+///
+/// The EBDA is given by its physical address, which is 16 times the word at 0x40e, and not by that
+/// word. Its KiB is cut at 0xa0000, where video memory begins. The first area has no bytes, at address
+/// 0, if the EBDA isn't given or doesn't begin within 0x400..0xa0000.
+///
+/// `Rsdp::search_for_on_bios` looks at these in the other order, so where both have an RSDP a search in
+/// these areas may answer another one.
+pub fn bios_areas(ebda: Option<u64>) -> [AddressRange; 2]
+    ensures { result ≡ areas.bios_areas ebda }
+{
+    let first = match ebda {
+        Some(address) if address >= 0x400 && address < 0xa0000 => AddressRange {
+            address,
+            length: if address + 1024 <= 0xa0000 {
+                1024
+            } else {
+                0xa0000 - address
+            },
+        },
+        _ => AddressRange {
+            address: 0,
+            length: 0,
+        },
+    };
+    let second = AddressRange {
+        address: 0xe0000,
+        length: 0x20000,
+    };
+    [first, second]
+}
+
+/// The first candidate of an area, and how many there are, each 16 bytes after the one before. No
+/// first one is told if there is none.
+fn candidates(area: &AddressRange) -> (u64, u64)
+    ensures first { 0 < result.1 → result.0 ≡ first_in area.now }
+    ensures count { result.1 ≡ count_in area.now }
+    ensures low { result.0 + 16 * result.1 < 2 ^ 64 }
+{
+    let skipped = (16 - area.address % 16) % 16;
+    let above = u64::MAX - area.address;
+    let room = if area.length < above {
+        area.length
+    } else {
+        above
+    };
+    if room < skipped + 20 {
+        return (0, 0);
+    }
+    (area.address + skipped, (room - skipped - 4) / 16)
+}
+
+/// Whether bytes hold those of a candidate at an offset, and its own checks refuse these.
+fn is_refused_in(bytes: &[u8], offset: usize) -> bool
+    ensures { result ≡ is_refused_in bytes.now offset }
+{
+    let front = skip(bytes, offset);
+    if front.len() < 36 {
+        return false;
+    }
+    let candidate = &front[..36];
+    Rsdp::read(candidate).summed_length(candidate).is_err()
+}
+
+/// How many candidates from a refused one on are known to be refused: that one, and those after it
+/// whose bytes were lent with its own.
+fn refused_front(bytes: &[u8], left: u64) -> u64
+    requires some { 0 < left }
+    requires low { 16 * left < 2 ^ 64 }
+    ensures some { 0 < result }
+    ensures most { result ≤ left }
+    ensures refused { (i : ℕ) → 0 < i → i < result → is_refused_in bytes.now (16 * i) ≡ true }
+{
+    for k in 1..left {
+        if !is_refused_in(bytes, 16 * k as usize) {
+            return k;
+        }
+    }
+    left
+}
+
+/// The checks of an RSDP whose 36 bytes are mapped.
+#[tactic(auto, unfolding(crate::specs::Rsdp::rsdp_at))]
+fn check_mapped<H: Lender>(handler: &H, rsdp: &PhysicalMapping<'_, H, Rsdp>) -> AcpiResult<()>
+    requires lent { lent (H.memory handler.now) (start_of rsdp.now) 36 ≡ Ok (bytes_of rsdp.now) }
+    requires asked { Allows (H.may handler.now)
+        (rsdp_ranges (H.memory handler.now) (start_of rsdp.now)) }
+    ensures { Gives (λ _. bytes_of rsdp.now) result
+        (rsdp_at (H.memory handler.now) (start_of rsdp.now)) }
+{
+    if let Some(length) = rsdp.get().summed_length(rsdp.bytes())? {
+        check_whole(handler, rsdp.physical_start(), length)?;
+    }
+    Ok(())
+}
+
+/// The RSDP at an address, where it is valid, or else how many candidates from there on are refused,
+/// as far as is known from what was lent there: each 16 bytes after the one before.
+fn tried<'h, H: Lender>(
+    handler: &'h H,
+    address: u64,
+    left: u64,
+) -> Result<PhysicalMapping<'h, H, Rsdp>, u64>
+    requires some { 0 < left }
+    requires low { 16 * left < 2 ^ 64 }
+    requires asked { Allows (H.may handler.now) (rsdp_ranges (H.memory handler.now) address) }
+    ensures handler { IfOk result (λ m. handler_of m ≡ handler.now) }
+    ensures lent { IfOk result (λ m. IsOfMemory (H.memory handler.now) m) }
+    ensures place { IfOk result (λ m. start_of m ≡ address) }
+    ensures valid { IfOk result (λ m. rsdp_at (H.memory handler.now) address ≡ Ok (bytes_of m)) }
+    ensures some_passed { IfErr result (λ n. 0 < n) }
+    ensures most { IfErr result (λ n. n ≤ left) }
+    ensures refused { IfErr result (λ n. (i : ℕ) → i < n
+        → IsRefused (H.memory handler.now) (address + 16 * i)) }
+{
+    let Ok(rsdp) = PhysicalMapping::<'h, H, Rsdp>::map(handler, address, 36) else {
+        return Err(1);
+    };
+    match check_mapped(handler, &rsdp) {
+        Ok(()) => Ok(rsdp),
+        Err(_) => Err(refused_front(rsdp.lent_bytes(), left)),
+    }
+}
+
+/// The first valid one of so many candidates from an address on.
+fn first_valid<'h, H: Lender>(
+    handler: &'h H,
+    first: u64,
+    count: u64,
+) -> Option<PhysicalMapping<'h, H, Rsdp>>
+    requires low { first + 16 * count < 2 ^ 64 }
+    requires asked { Allows (H.may handler.now) (walk_ranges (H.memory handler.now) count first) }
+    ensures handler { IfSome result (λ m. handler_of m ≡ handler.now) }
+    ensures lent { IfSome result (λ m. IsOfMemory (H.memory handler.now) m) }
+    ensures found { option_map placed result ≡ walk (H.memory handler.now) count first }
+{
+    let mut passed = 0;
+    while passed < count {
+        match tried(handler, first + 16 * passed, count - passed) {
+            Ok(found) => return Some(found),
+            Err(refused) => passed += refused,
+        }
+    }
+    None
+}
+
+/// The first valid candidate of an area.
+fn first_of_area<'h, H: Lender>(
+    handler: &'h H,
+    area: &AddressRange,
+) -> Option<PhysicalMapping<'h, H, Rsdp>>
+    requires { Allows (H.may handler.now)
+        (walk_ranges (H.memory handler.now) (count_in area.now) (first_in area.now)) }
+    ensures handler { IfSome result (λ m. handler_of m ≡ handler.now) }
+    ensures lent { IfSome result (λ m. IsOfMemory (H.memory handler.now) m) }
+    ensures found { option_map placed result ≡ walk_in (H.memory handler.now) area.now }
+{
+    let (first, count) = candidates(area);
+    if count == 0 {
+        return None;
+    }
+    first_valid(handler, first, count)
+}
+
+/// The first valid candidate of the areas, in their order.
+fn first_of_areas<'h, H: Lender>(
+    handler: &'h H,
+    areas: &[AddressRange],
+) -> Option<PhysicalMapping<'h, H, Rsdp>>
+    requires { Allows (H.may handler.now) (areas_ranges (H.memory handler.now) areas.now) }
+    ensures handler { IfSome result (λ m. handler_of m ≡ handler.now) }
+    ensures lent { IfSome result (λ m. IsOfMemory (H.memory handler.now) m) }
+    ensures found { option_map placed result ≡ found_among (H.memory handler.now) areas.now }
+{
+    let mut rest = areas;
+    while let Some((area, others)) = rest.split_first() {
+        if let Some(found) = first_of_area(handler, area) {
+            return Some(found);
+        }
+        rest = others;
+    }
+    None
+}
+
+impl Rsdp {
+    ghost use Rattle.std.specs.Prelude.{IsOk};
+    ghost use Rattle.acpi_base.specs.Ranges.{Footprint};
+    ghost use Rattle.acpi.specs.Areas.{IsSearchedIn, found_in_areas};
+
+    /// The RSDP in areas that the caller gives (section 5.2.5.1), such as `bios_areas` or those that a
+    /// firmware's memory map names: a mapping of the 36 bytes of the first valid candidate.
+    ///
+    /// The areas are looked at in their order, and the candidates of one from the lowest on: they are
+    /// the multiples of 16 in it with 20 bytes before its end, and an end above 2^64 counts as 2^64. A
+    /// candidate that fails any check of an RSDP at an address is passed over, also one whose bytes
+    /// aren't lent. Its 36 bytes, and as many as its length says, may reach past the area's end; no other
+    /// byte there is asked for.
+    ///
+    /// No area is asked for as a whole. A candidate takes at most two requests, and none if the bytes
+    /// that were lent for one before it hold its 36 bytes, and these show that it isn't valid.
+    ///
+    /// Refuses with `NoValidRsdp` if no candidate is left, also if there are no areas.
+    pub fn search_in<'h, H: Lender>(
+        handler: &'h H,
+        areas: &[AddressRange],
+    ) -> AcpiResult<PhysicalMapping<'h, H, Rsdp>>
+        requires { Allows (H.may handler.now) (areas_ranges (H.memory handler.now) areas.now) }
+        ensures handler { IfOk result (λ m. handler_of m ≡ handler.now) }
+        // However many bytes were lent, all of them are the memory's.
+        ensures lent { IfOk result (λ m. IsOfMemory (H.memory handler.now) m) }
+        ensures exact { Gives placed result (found_in_areas (H.memory handler.now) areas.now) }
+        ensures valid { IfOk result (λ m. IsOk (rsdp_at (H.memory handler.now) (start_of m))) }
+        // In the reader's words: the first valid candidate, or there is none.
+        ensures first { IsSearchedIn (H.memory handler.now) areas.now placed result }
+        // It depends on the candidates up to the one found.
+        ensures footprint { let m = H.memory handler.now in
+            Footprint m (areas_ranges m areas.now) (λ n. found_in_areas n areas.now)
+            (Gives placed result) }
+    {
+        Rsdp::found_in_areas(handler, areas)
+    }
+
+    /// `search_in`, by the exact clause from which its laws follow.
+    #[tactic(auto, unfolding(crate::specs::Areas::found_in_areas))]
+    fn found_in_areas<'h, H: Lender>(
+        handler: &'h H,
+        areas: &[AddressRange],
+    ) -> AcpiResult<PhysicalMapping<'h, H, Rsdp>>
+        requires { Allows (H.may handler.now) (areas_ranges (H.memory handler.now) areas.now) }
+        ensures handler { IfOk result (λ m. handler_of m ≡ handler.now) }
+        ensures lent { IfOk result (λ m. IsOfMemory (H.memory handler.now) m) }
+        ensures exact { Gives placed result (found_in_areas (H.memory handler.now) areas.now) }
+    {
+        first_of_areas(handler, areas).ok_or(AcpiError::NoValidRsdp)
+    }
+}

@@ -1,0 +1,49 @@
+//! The root table by a search for the RSDP in areas that a caller gives.
+ghost use Rattle.std.specs.Prelude.{IfOk};
+ghost use Rattle.acpi_base.specs.Steps.{Gives};
+ghost use Rattle.acpi_base.specs.Ranges.{Allows};
+
+use crate::rsdp::Rsdp;
+use crate::tables::AcpiTables;
+use acpi_base::{AcpiResult, AddressRange, Lender};
+
+impl<'h, H: Lender> AcpiTables<'h, H> {
+    ghost use Rattle.std.specs.Prelude.{◌≡◌};
+    ghost use Rattle.acpi_base.specs.Ranges.{Footprint};
+    ghost use Rattle.acpi.specs.Areas.{opened_in_areas, opened_in_areas_ranges};
+    ghost use Rattle.acpi.specs.Opened.{opened_of};
+    ghost use Rattle.acpi.specs.Tables.{SpellsPointers, lender_of};
+
+    /// The tables below the root table that the RSDP leads to which `Rsdp::search_in` finds in these
+    /// areas (section 5.2.5.1). No later candidate is tried if the root table is bad.
+    ///
+    /// Refuses first as that search does, with `NoValidRsdp`, and then as `from_rsdt`.
+    pub fn search_in(handler: &'h H, areas: &[AddressRange]) -> AcpiResult<Self>
+        requires { Allows (H.may handler.now)
+            (opened_in_areas_ranges (H.memory handler.now) areas.now) }
+        ensures handler { IfOk result (λ t. lender_of t ≡ handler.now) }
+        ensures exact { Gives (λ t. opened_of t) result
+            (opened_in_areas (H.memory handler.now) areas.now) }
+        // In the reader's words: the root table's bytes spell these pointers and no others.
+        ensures pointers { IfOk result (λ t. SpellsPointers t) }
+        // It depends on the candidates up to the one found and the root table that this leads to.
+        ensures footprint { let m = H.memory handler.now in
+            Footprint m (opened_in_areas_ranges m areas.now) (λ n. opened_in_areas n areas.now)
+            (Gives (λ t. opened_of t) result) }
+    {
+        AcpiTables::open_in(handler, areas)
+    }
+
+    /// `search_in`, by the exact clauses from which its footprint follows.
+    fn open_in(handler: &'h H, areas: &[AddressRange]) -> AcpiResult<Self>
+        requires { Allows (H.may handler.now)
+            (opened_in_areas_ranges (H.memory handler.now) areas.now) }
+        ensures handler { IfOk result (λ t. lender_of t ≡ handler.now) }
+        ensures exact { Gives (λ t. opened_of t) result
+            (opened_in_areas (H.memory handler.now) areas.now) }
+        ensures pointers { IfOk result (λ t. SpellsPointers t) }
+    {
+        let rsdp = Rsdp::search_in(handler, areas)?;
+        AcpiTables::from_root(handler, rsdp)
+    }
+}

@@ -1,0 +1,200 @@
+//! Where the tables lie, and all of a kind.
+
+use super::AcpiTables;
+use crate::found::FoundTables;
+use crate::members::TableMembers;
+use crate::ranges::{TableRanges, facs_at};
+use acpi_base::sdt::{SdtHeader, map_sdt};
+use acpi_base::{AcpiError, AcpiResult, AcpiTable, AddressRange, Lender, PhysicalMapping, Signature};
+use acpi_fixed::fadt::Fadt;
+
+impl<'h, H: Lender> AcpiTables<'h, H> {
+    ghost use Rattle.std.specs.Prelude.{◌≡◌, ◌^◌, ◌<◌, ◌≤◌, ◌+◌, List, Ok, IfOk, length, map};
+    ghost use Rattle.std.specs.Result.{result_ok};
+    ghost use Rattle.acpi_base.specs.Mapping.{IsOfMemory, bytes_of, handler_of, start_of};
+    ghost use Rattle.acpi_base.specs.Ranges.{Allows};
+    ghost use Rattle.acpi_base.specs.Steps.{Gives};
+    ghost use Rattle.acpi_base.specs.Table.{kind, plain_kind};
+    ghost use Rattle.acpi.specs.Footprint.{AllowsBelow, FootprintBelow, header_ranges, lookup_ranges};
+    ghost use Rattle.acpi.specs.Lookup.{lookup};
+    ghost use Rattle.acpi.specs.Members.{kind_ranges, members_of, tables_found};
+    ghost use Rattle.acpi.specs.Placed.{found_left, members_left, places_left};
+    ghost use Rattle.acpi.specs.Places.{dsdt_place, dsdt_place_ranges, facs_place, facs_place_ranges};
+    ghost use Rattle.acpi.specs.Places.{led_by, led_ranges, place_ranges, places_of};
+    ghost use Rattle.acpi.specs.Placed.{root_place};
+    ghost use Rattle.acpi.specs.Root.{signature_of};
+    ghost use Rattle.acpi.specs.Tables.{kind_of, lender_of, may_of, memory_of, pointers_of, root_address_of, root_of};
+
+    /// The physical address of the root table (sections 5.2.7 and 5.2.8).
+    pub fn root_address(&self) -> u64
+        ensures { result ≡ root_address_of self.now }
+    {
+        self.root.physical_start()
+    }
+
+    /// How many bytes the root table has, with its header.
+    pub fn root_length(&self) -> u32
+        ensures { result ≡ length (root_of self.now) }
+    {
+        self.root.region_length() as u32
+    }
+
+    /// The signature of the root table: `RSDT` or `XSDT`.
+    pub fn root_signature(&self) -> Signature
+        ensures { result ≡ signature_of (kind_of self.now) }
+    {
+        self.kind.signature()
+    }
+
+    /// What each pointer of the root table leads to, in order: its address, and the header of the
+    /// table there if that is valid under the signature that it bears, or else the first refusal.
+    /// There is exactly one item for each pointer.
+    pub fn members(&self) -> TableMembers<'_, 'h, H>
+        requires { AllowsBelow self.now header_ranges }
+        ensures items { members_left H.memory result
+            ≡ members_of (memory_of self.now) (pointers_of self.now) }
+        // In the reader's words: their addresses are the pointers.
+        ensures each { map (λ x. x.address) (members_left H.memory result) ≡ pointers_of self.now }
+        ensures fits { length (members_left H.memory result) < 2 ^ 32 }
+        // They depend on the root table and the members, each under its own signature.
+        ensures footprint { FootprintBelow self.now header_ranges (λ n ps. Ok (members_of n ps))
+            (λ said. said ≡ Ok (members_left H.memory result)) }
+    {
+        TableMembers::new(self.root.handler(), self.pointers())
+    }
+
+    /// All members that are valid for `T`, in order. It gives at most one for each pointer.
+    pub fn find_tables<T: AcpiTable>(&self) -> FoundTables<'_, 'h, H, T>
+        requires { let k = kind T.SIGNATURE T.MIN_LENGTH T.verdict in
+            AllowsBelow self.now (λ m. kind_ranges m k) }
+        ensures items { let k = kind T.SIGNATURE T.MIN_LENGTH T.verdict in
+            found_left H.memory k result
+            ≡ tables_found (memory_of self.now) k (pointers_of self.now) }
+        ensures few { let k = kind T.SIGNATURE T.MIN_LENGTH T.verdict in
+            length (found_left H.memory k result) ≤ length (pointers_of self.now) }
+        ensures fits { let k = kind T.SIGNATURE T.MIN_LENGTH T.verdict in
+            length (found_left H.memory k result) < 2 ^ 32 }
+        // They depend on the root table and the members, each as a table of this type.
+        ensures footprint { let k = kind T.SIGNATURE T.MIN_LENGTH T.verdict in
+            FootprintBelow self.now (λ m. kind_ranges m k) (λ n ps. Ok (tables_found n k ps))
+            (λ said. said ≡ Ok (found_left H.memory k result)) }
+    {
+        FoundTables::new(self.root.handler(), self.pointers())
+    }
+
+    /// The first member that is valid under a signature that is known only at run time, with at
+    /// least the 36 bytes of a header, mapped as its header.
+    ///
+    /// Refuses with `TableMissing`, carrying the signature, if no member is valid so. A member that
+    /// isn't lent, or fails another check, is passed over.
+    pub fn find_sdt(&self, signature: Signature) -> AcpiResult<PhysicalMapping<'h, H, SdtHeader>>
+        requires { AllowsBelow self.now (λ m. lookup_ranges m (plain_kind signature)) }
+        ensures handler { IfOk result (λ m. handler_of m ≡ lender_of self.now) }
+        // However many bytes were lent, all of them are the memory's.
+        ensures lent { IfOk result (λ m. IsOfMemory (memory_of self.now) m) }
+        ensures exact { Gives (λ m. (start_of m, bytes_of m)) result
+            (lookup (memory_of self.now) (plain_kind signature) (pointers_of self.now)) }
+        // It depends on what a lookup depends on.
+        ensures footprint { FootprintBelow self.now (λ m. lookup_ranges m (plain_kind signature))
+            (λ n. lookup n (plain_kind signature))
+            (Gives (λ m. (start_of m, bytes_of m)) result) }
+    {
+        self.first_sdt(signature)
+    }
+
+    /// `find_sdt`, by the exact clause from which its footprint follows.
+    fn first_sdt(&self, signature: Signature) -> AcpiResult<PhysicalMapping<'h, H, SdtHeader>>
+        requires { AllowsBelow self.now (λ m. lookup_ranges m (plain_kind signature)) }
+        ensures handler { IfOk result (λ m. handler_of m ≡ lender_of self.now) }
+        ensures lent { IfOk result (λ m. IsOfMemory (memory_of self.now) m) }
+        ensures exact { Gives (λ m. (start_of m, bytes_of m)) result
+            (lookup (memory_of self.now) (plain_kind signature) (pointers_of self.now)) }
+    {
+        for address in self.pointers() {
+            if let Ok(found) = map_sdt(self.root.handler(), address, signature) {
+                return Ok(found);
+            }
+        }
+        Err(AcpiError::TableMissing(signature))
+    }
+
+    /// Where the root table lies, then each valid member in order, then, if a valid FADT is listed,
+    /// the DSDT that the first one leads to if that is valid, and the FACS at its `facs_address` if
+    /// 36 bytes are lent there that begin with `FACS` and give a length of at least 64, and so many
+    /// bytes are lent (sections 5.2.6, 5.2.9 and 5.2.10). It gives at most three more than there
+    /// are pointers. The FADT, the DSDT and the FACS are looked at by this call, and each member when
+    /// it comes.
+    ///
+    /// A boot loader that reserves these reserves besides what is no table: the RSDP, the image of
+    /// the boot graphic, and the mailbox by which processors are woken. A FACS is written by the
+    /// firmware and by the system, so a copy of it is no FACS.
+    pub fn ranges(&self) -> TableRanges<'_, 'h, H>
+        requires { AllowsBelow self.now place_ranges }
+        ensures items { places_left H.memory result
+            ≡ places_of (root_place self.now) (memory_of self.now) (pointers_of self.now) }
+        ensures few { length (places_left H.memory result) ≤ length (pointers_of self.now) + 3 }
+        ensures fits { length (places_left H.memory result) < 2 ^ 32 }
+        // They depend on the root table, the members, each under its own signature, and what the
+        // FADT leads to.
+        ensures footprint { FootprintBelow self.now place_ranges
+            (λ n ps. Ok (places_of (root_place self.now) n ps))
+            (λ said. said ≡ Ok (places_left H.memory result)) }
+    {
+        self.placed()
+    }
+
+    /// `ranges`, by the exact clause from which its bounds and its footprint follow.
+    fn placed(&self) -> TableRanges<'_, 'h, H>
+        requires { AllowsBelow self.now place_ranges }
+        ensures { places_left H.memory result
+            ≡ places_of (root_place self.now) (memory_of self.now) (pointers_of self.now) }
+    {
+        let root = AddressRange {
+            address: self.root_address(),
+            length: self.root_length() as u64,
+        };
+        let (dsdt, facs) = self.led();
+        TableRanges::new(self.root.handler(), root, self.pointers(), dsdt, facs)
+    }
+
+    /// Where the DSDT and the FACS lie that the first valid FADT leads to.
+    fn led(&self) -> (Option<AddressRange>, Option<AddressRange>)
+        requires { AllowsBelow self.now led_ranges }
+        ensures dsdt { result.0
+            ≡ result_ok (led_by dsdt_place (memory_of self.now) (pointers_of self.now)) }
+        ensures facs { result.1
+            ≡ result_ok (led_by facs_place (memory_of self.now) (pointers_of self.now)) }
+    {
+        // It is looked at where it lies, so that it isn't copied.
+        let found = self.first_member::<Fadt>();
+        match &found {
+            Ok(table) => {
+                let fadt = table.get();
+                (self.dsdt_place(fadt).ok(), self.facs_place(fadt).ok())
+            }
+            Err(_) => (None, None),
+        }
+    }
+
+    /// Where the DSDT lies that a FADT leads to, if it is valid.
+    #[tactic(auto, unfolding(crate::specs::Places::dsdt_place))]
+    fn dsdt_place(&self, fadt: &Fadt) -> AcpiResult<AddressRange>
+        requires { Allows (may_of self.now) (dsdt_place_ranges (memory_of self.now) fadt.now) }
+        ensures { result ≡ dsdt_place (memory_of self.now) fadt.now }
+    {
+        let address = fadt.dsdt_address()?;
+        let dsdt = map_sdt(self.root.handler(), address, Signature::DSDT)?;
+        Ok(AddressRange {
+            address,
+            length: dsdt.region_length() as u64,
+        })
+    }
+
+    /// Where the FACS lies that a FADT leads to.
+    fn facs_place(&self, fadt: &Fadt) -> AcpiResult<AddressRange>
+        requires { Allows (may_of self.now) (facs_place_ranges (memory_of self.now) fadt.now) }
+        ensures { result ≡ facs_place (memory_of self.now) fadt.now }
+    {
+        facs_at(self.root.handler(), fadt.facs_address()?)
+    }
+}

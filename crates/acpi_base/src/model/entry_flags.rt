@@ -1,0 +1,88 @@
+//! What the flags of a MADT's entries say, so that no caller masks bits.
+ghost use Rattle.std.specs.Prelude.{◌≡◌};
+ghost use Rattle.acpi_base.specs.Bits.{has_bit};
+ghost use Rattle.acpi_base.specs.Interrupts.{polarity_of, trigger_mode_of};
+
+use super::interrupt::{Polarity, TriggerMode};
+use super::part::{polarity_of, trigger_mode_of};
+use crate::bytes::has_bit;
+use crate::error::MadtError;
+use crate::madt::{LocalApicEntry, LocalApicNmiEntry, LocalX2ApicEntry, X2ApicNmiEntry};
+
+impl LocalApicEntry {
+    /// Whether the processor can be used: bit 0 of the flags (section 5.2.12.2).
+    pub fn is_enabled(&self) -> bool
+        ensures { result ≡ has_bit self.now.flags 0 }
+    {
+        has_bit(self.flags as u64, 0)
+    }
+
+    /// Whether the processor can be enabled later, if it isn't now: bit 1 of the flags (section
+    /// 5.2.12.2). The bit has a meaning from revision 5 of the MADT on, and is reserved before.
+    pub fn is_online_capable(&self) -> bool
+        ensures { result ≡ has_bit self.now.flags 1 }
+    {
+        has_bit(self.flags as u64, 1)
+    }
+}
+
+impl LocalX2ApicEntry {
+    /// Whether the processor can be used: bit 0 of the flags (section 5.2.12.12).
+    pub fn is_enabled(&self) -> bool
+        ensures { result ≡ has_bit self.now.flags 0 }
+    {
+        has_bit(self.flags as u64, 0)
+    }
+
+    /// Whether the processor can be enabled later, if it isn't now: bit 1 of the flags (section
+    /// 5.2.12.12). The bit has a meaning from revision 5 of the MADT on, and is reserved before.
+    pub fn is_online_capable(&self) -> bool
+        ensures { result ≡ has_bit self.now.flags 1 }
+    {
+        has_bit(self.flags as u64, 1)
+    }
+}
+
+impl LocalApicNmiEntry {
+    /// The level at which the NMI counts as raised: bits 0 and 1 of the flags (section 5.2.12.7), by
+    /// the codes of an override's flags.
+    ///
+    /// Refuses the reserved code 2 with `MpsIntiInvalidPolarity`.
+    pub fn polarity(&self) -> Result<Polarity, MadtError>
+        ensures { result ≡ polarity_of self.now.flags }
+    {
+        polarity_of(self.flags)
+    }
+
+    /// What raises the NMI: bits 2 and 3 of the flags (section 5.2.12.7), by the codes of an
+    /// override's flags.
+    ///
+    /// Refuses the reserved code 2 with `MpsIntiInvalidTriggerMode`.
+    pub fn trigger_mode(&self) -> Result<TriggerMode, MadtError>
+        ensures { result ≡ trigger_mode_of self.now.flags }
+    {
+        trigger_mode_of(self.flags)
+    }
+}
+
+impl X2ApicNmiEntry {
+    /// The level at which the NMI counts as raised: bits 0 and 1 of the flags (section 5.2.12.13), by
+    /// the codes of an override's flags.
+    ///
+    /// Refuses the reserved code 2 with `MpsIntiInvalidPolarity`.
+    pub fn polarity(&self) -> Result<Polarity, MadtError>
+        ensures { result ≡ polarity_of self.now.flags }
+    {
+        polarity_of(self.flags)
+    }
+
+    /// What raises the NMI: bits 2 and 3 of the flags (section 5.2.12.13), by the codes of an
+    /// override's flags.
+    ///
+    /// Refuses the reserved code 2 with `MpsIntiInvalidTriggerMode`.
+    pub fn trigger_mode(&self) -> Result<TriggerMode, MadtError>
+        ensures { result ≡ trigger_mode_of self.now.flags }
+    {
+        trigger_mode_of(self.flags)
+    }
+}

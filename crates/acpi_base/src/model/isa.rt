@@ -1,0 +1,150 @@
+//! ISA interrupts, and the one that carries the machine's events, as the overrides wire them.
+ghost use Rattle.std.specs.Prelude.{◌≡◌};
+ghost use Rattle.acpi_base.specs.Isa.{is_taken, isa_interrupt, leads_to, override_for, straight, wired};
+
+use super::interrupt::{Apic, InterruptSourceOverride, Polarity, TriggerMode};
+use std::alloc::Allocator;
+
+/// How an interrupt comes to the I/O APICs.
+#[derive(Clone, Copy, Debug)]
+pub struct IsaInterrupt {
+    /// The global system interrupt, of which `io_apic_for` says the I/O APIC and the pin.
+    pub global_system_interrupt: u32,
+    /// The level at which it counts as raised: `ActiveHigh` or `ActiveLow`.
+    pub polarity: Polarity,
+    /// What raises it: `Edge` or `Level`.
+    pub trigger_mode: TriggerMode,
+}
+
+impl<A: Allocator> Apic<A> {
+    ghost use Rattle.std.specs.Prelude.{IfSome};
+    ghost use Rattle.acpi_base.specs.Isa.{SharedByOverrides, sci_interrupt};
+
+    /// The global system interrupt of one of the 16 ISA interrupts (section 5.2.12.5).
+    ///
+    /// Of the overrides of a source the last one counts. If `irq` has an override, it is that, with
+    /// ISA's own `ActiveHigh` and `Edge` in place of `SameAsBus`. Otherwise it is the interrupt of
+    /// the same number, `ActiveHigh` and `Edge`.
+    ///
+    /// It is `None` if `irq` is above 15. It is `None` too if `irq` has no override, but that of
+    /// another source leads to the interrupt of the number `irq`, since that input is taken: here
+    /// too only the last override of a source counts, and sources above 15 count as well.
+    ///
+    /// The interrupt that the FADT gives as `sci_interrupt` is asked for by the call of that name:
+    /// it is not of the ISA bus, and is otherwise raised.
+    pub fn isa_interrupt(&self, irq: u8) -> Option<IsaInterrupt>
+        ensures value { result ≡ isa_interrupt self.now.interrupt_source_overrides irq }
+        // Another ISA interrupt shares its global system interrupt only by overrides of both.
+        ensures shared { IfSome result
+            (SharedByOverrides self.now.interrupt_source_overrides irq) }
+    {
+        isa_interrupt(self.interrupt_source_overrides.as_slice(), irq)
+    }
+
+    /// The global system interrupt that carries the machine's events (the SCI), of the number that
+    /// the FADT gives as `sci_interrupt` (section 5.2.9: it may be shared, and is raised by the low
+    /// level).
+    ///
+    /// Below 16 it is wired as the last override of that ISA source says, with `ActiveLow` and
+    /// `Level` in place of `SameAsBus`. Without an override, and from 16 on, it is the interrupt of
+    /// that number, `ActiveLow` and `Level`.
+    pub fn sci_interrupt(&self, sci: u16) -> IsaInterrupt
+        ensures { result ≡ sci_interrupt self.now.interrupt_source_overrides sci }
+    {
+        let overrides = self.interrupt_source_overrides.as_slice();
+        let (polarity, trigger_mode) = (Polarity::ActiveLow, TriggerMode::Level);
+        if sci < 16
+            && let Some(wiring) = override_for(overrides, sci as u8)
+        {
+            return wired(&wiring, polarity, trigger_mode);
+        }
+        straight(sci as u32, polarity, trigger_mode)
+    }
+}
+
+/// What `Apic::isa_interrupt` answers, out of the overrides.
+fn isa_interrupt(overrides: &[InterruptSourceOverride], irq: u8) -> Option<IsaInterrupt>
+    ensures { result ≡ isa_interrupt overrides.now irq }
+{
+    if irq > 15 {
+        return None;
+    }
+    let (polarity, trigger_mode) = (Polarity::ActiveHigh, TriggerMode::Edge);
+    if let Some(wiring) = override_for(overrides, irq) {
+        return Some(wired(&wiring, polarity, trigger_mode));
+    }
+    if is_taken(overrides, irq) {
+        return None;
+    }
+    Some(straight(irq as u32, polarity, trigger_mode))
+}
+
+/// The override of a source that counts: the last one.
+fn override_for(
+    overrides: &[InterruptSourceOverride],
+    source: u8,
+) -> Option<InterruptSourceOverride>
+    ensures { result ≡ override_for overrides.now source }
+{
+    let mut last = None;
+    for wiring in overrides {
+        if wiring.isa_source == source {
+            last = Some(*wiring);
+        }
+    }
+    last
+}
+
+/// Whether a source has an override, and it leads to the interrupt of a number.
+fn leads_to(overrides: &[InterruptSourceOverride], number: u8, source: u8) -> bool
+    ensures { result ≡ leads_to overrides.now number source }
+{
+    match override_for(overrides, source) {
+        Some(wiring) => wiring.global_system_interrupt == number as u32,
+        None => false,
+    }
+}
+
+/// Whether the override of some source leads to the interrupt of a number.
+fn is_taken(overrides: &[InterruptSourceOverride], number: u8) -> bool
+    ensures { result ≡ is_taken overrides.now number }
+{
+    for wiring in overrides {
+        if leads_to(overrides, number, wiring.isa_source) {
+            return true;
+        }
+    }
+    false
+}
+
+/// The interrupt that an override gives, with these in place of those of its bus.
+fn wired(
+    wiring: &InterruptSourceOverride,
+    polarity: Polarity,
+    trigger_mode: TriggerMode,
+) -> IsaInterrupt
+    ensures { result ≡ wired polarity trigger_mode wiring.now }
+{
+    IsaInterrupt {
+        global_system_interrupt: wiring.global_system_interrupt,
+        polarity: match wiring.polarity {
+            Polarity::SameAsBus => polarity,
+            given => given,
+        },
+        trigger_mode: match wiring.trigger_mode {
+            TriggerMode::SameAsBus => trigger_mode,
+            given => given,
+        },
+    }
+}
+
+/// The interrupt of a number, wired one to one.
+fn straight(number: u32, polarity: Polarity, trigger_mode: TriggerMode) -> IsaInterrupt
+    ensures { result ≡ straight polarity trigger_mode number }
+{
+    IsaInterrupt {
+        global_system_interrupt: number,
+        polarity,
+        trigger_mode,
+    }
+}

@@ -1,0 +1,62 @@
+//! The inputs of one processor's local APIC that NMIs come to.
+ghost use Rattle.std.specs.Prelude.{◌≡◌};
+ghost use Rattle.acpi_base.specs.NmiLines.{is_line_of};
+
+use super::interrupt::{Apic, NmiLine, NmiProcessor};
+use std::alloc::Allocator;
+
+/// The inputs of one processor's local APIC that NMIs come to, in the order of their entries.
+#[derive(Debug, Drop)]
+pub struct LocalNmiLines<'a> {
+    lines: &'a [NmiLine],
+    processor_uid: u32,
+}
+
+impl<A: Allocator> Apic<A> {
+    ghost use Rattle.acpi_base.specs.NmiLines.{lines_for, lines_left};
+
+    /// The inputs of the local APIC of the processor with this ACPI id that NMIs come to: those of
+    /// all processors and its own, in the order of their entries (sections 5.2.12.7 and 5.2.12.13).
+    ///
+    /// The ids that stand for all processors in entries, 0xff and 0xffffffff, are ids like others
+    /// here.
+    pub fn local_nmi_lines_for(&self, processor_uid: u32) -> LocalNmiLines<'_>
+        ensures { lines_left result ≡ lines_for self.now.local_apic_nmi_lines processor_uid }
+    {
+        LocalNmiLines {
+            lines: self.local_apic_nmi_lines.as_slice(),
+            processor_uid,
+        }
+    }
+}
+
+/// Whether an input is one of this processor's: of all processors, or its own.
+fn is_line_of(line: &NmiLine, processor_uid: u32) -> bool
+    ensures { result ≡ is_line_of processor_uid line.now }
+{
+    match line.processor {
+        NmiProcessor::All => true,
+        NmiProcessor::ProcessorUid(uid) => uid == processor_uid,
+    }
+}
+
+impl Iterator for LocalNmiLines<'_> {
+    ghost use Rattle.std.specs.Iterator.{YieldsFirst, item_count};
+    ghost use Rattle.acpi_base.specs.NmiLines.{lines_left};
+
+    type Item = NmiLine;
+
+    ghost next_gives = { YieldsFirst (λ s. lines_left s) };
+
+    ghost remaining = { item_count (λ s. lines_left s) };
+
+    fn next(&mut self) -> Option<NmiLine> {
+        while let Some((line, others)) = self.lines.split_first() {
+            self.lines = others;
+            if is_line_of(line, self.processor_uid) {
+                return Some(*line);
+            }
+        }
+        None
+    }
+}

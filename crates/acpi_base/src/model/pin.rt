@@ -1,0 +1,57 @@
+//! The I/O APIC and its pin that a global system interrupt comes to.
+ghost use Rattle.std.specs.Prelude.{◌≡◌};
+ghost use Rattle.std.specs.Option.{option_map};
+ghost use Rattle.acpi_base.specs.Pin.{IsNearest, io_apic_for, pin_of};
+
+use super::interrupt::{Apic, IoApic};
+use std::alloc::Allocator;
+
+/// A pin of an I/O APIC.
+#[derive(Clone, Copy, Debug)]
+pub struct IoApicPin<'a> {
+    /// The I/O APIC.
+    pub io_apic: &'a IoApic,
+    /// The number of its pin, from 0 on.
+    pub pin: u32,
+}
+
+impl<A: Allocator> Apic<A> {
+    /// The I/O APIC that a global system interrupt comes to, and the pin there (section 5.2.12.3):
+    /// of those whose base is at most the interrupt the first one with the greatest base, and how far
+    /// the interrupt is above that. It is `None` if every base is above the interrupt.
+    ///
+    /// How many pins an I/O APIC has is in its own registers, and no table tells. Compare the pin with
+    /// that number: if it is not below it, the interrupt comes to none.
+    pub fn io_apic_for(&self, global_system_interrupt: u32) -> Option<IoApicPin<'_>>
+        ensures value { option_map pin_of result
+            ≡ io_apic_for self.now.io_apics global_system_interrupt }
+        // In the reader's words: no base is nearer, and it is the first of that base.
+        ensures nearest { IsNearest self.now.io_apics global_system_interrupt
+            (option_map pin_of result) }
+    {
+        pin_for(self.io_apics.as_slice(), global_system_interrupt)
+    }
+}
+
+/// What `Apic::io_apic_for` answers, out of the I/O APICs.
+#[tactic(auto, using(crate::proofs::Pin::one_nearer))]
+fn pin_for(io_apics: &[IoApic], interrupt: u32) -> Option<IoApicPin<'_>>
+    ensures { option_map pin_of result ≡ io_apic_for io_apics.now interrupt }
+{
+    let mut found: Option<&IoApic> = None;
+    for io_apic in io_apics {
+        let base = io_apic.global_system_interrupt_base;
+        let is_nearer = match found {
+            Some(other) => other.global_system_interrupt_base < base,
+            None => true,
+        };
+        if base <= interrupt && is_nearer {
+            found = Some(io_apic);
+        }
+    }
+    let io_apic = found?;
+    Some(IoApicPin {
+        io_apic,
+        pin: interrupt - io_apic.global_system_interrupt_base,
+    })
+}

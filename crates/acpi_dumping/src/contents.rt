@@ -1,0 +1,97 @@
+//! What a table holds: its fields or its bytes.
+
+use crate::arguments::Contents;
+use crate::fields::{print_bytes, print_fields};
+use crate::getters::print_getters;
+use crate::hex::print_dump;
+use crate::layouts::{ENTRY, Field, HEADER, MADT, entries_of, entry_fields, fields_of};
+use acpi::sdt::Signature;
+use std::io;
+use std::io::Write;
+
+/// Prints what a table holds.
+pub(crate) fn print_contents<W: Write>(
+    signature: Signature,
+    table: &[u8],
+    contents: Contents,
+    out: &mut W,
+) -> io::Result<()> {
+    match contents {
+        Contents::Bytes => print_dump(table, out),
+        Contents::Fields => print_typed(signature, table, out),
+    }
+}
+
+/// Prints the fields of a table.
+fn print_typed<W: Write>(signature: Signature, table: &[u8], out: &mut W) -> io::Result<()> {
+    if signature == Signature::MADT {
+        print_madt(table, out)
+    } else if signature == Signature::FACS {
+        print_fields(0, table, &[fields_of(signature)], out)
+    } else {
+        print_plain(signature, table, out)
+    }
+}
+
+/// Prints the fields of a table with a header, whose entries, if it has some, are of one length.
+fn print_plain<W: Write>(signature: Signature, table: &[u8], out: &mut W) -> io::Result<()> {
+    let lists = [HEADER, fields_of(signature)];
+    let (entry, length) = entries_of(signature);
+    if length == 0 {
+        print_fields(0, table, &lists, out)?;
+    } else {
+        let (front, entries) = split(table, 44);
+        print_fields(0, front, &lists, out)?;
+        print_entries(entries, entry, length, out)?;
+    }
+    if signature == Signature::FADT {
+        return print_getters(table, out);
+    }
+    Ok(())
+}
+
+/// Bytes up to a place, and those from there on.
+fn split(bytes: &[u8], place: usize) -> (&[u8], &[u8]) {
+    if place <= bytes.len() {
+        (&bytes[..place], &bytes[place..])
+    } else {
+        (bytes, &[])
+    }
+}
+
+/// Prints entries of one length, which begin at offset 44, and the bytes after them.
+fn print_entries<W: Write>(
+    entries: &[u8],
+    fields: &[Field],
+    length: usize,
+    out: &mut W,
+) -> io::Result<()> {
+    if length == 0 {
+        return Ok(());
+    }
+    let mut offset: u64 = 44;
+    for entry in entries.chunks(length) {
+        print_fields(offset, entry, &[fields], out)?;
+        offset = offset.saturating_add(entry.len() as u64);
+    }
+    Ok(())
+}
+
+/// Prints a MADT entry by entry. A remainder that begins with no entry is printed as bytes.
+fn print_madt<W: Write>(table: &[u8], out: &mut W) -> io::Result<()> {
+    let (front, mut rest) = split(table, 44);
+    print_fields(0, front, &[HEADER, MADT], out)?;
+    let mut offset: u64 = 44;
+    while let [kind, length, ..] = rest {
+        let fields = entry_fields(*kind);
+        let length = *length as usize;
+        if length < 2 || rest.len() < length {
+            break;
+        }
+        let (entry, others) = rest.split_at(length);
+        print_fields(offset, entry, &[ENTRY, fields], out)?;
+        offset = offset.saturating_add(length as u64);
+        rest = others;
+    }
+    print_bytes(offset, rest, 0, rest.len(), out)
+}

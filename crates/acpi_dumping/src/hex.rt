@@ -1,0 +1,44 @@
+//! Bytes as `hexdump -C` lays them out.
+
+use crate::fields::print_text;
+use std::io;
+use std::io::Write;
+
+/// Prints bytes in lines of 16: the offset, the bytes in hexadecimal, and their characters. Lines
+/// that are the same as the one before are one `*`. At last comes the number of bytes.
+pub(crate) fn print_dump<W: Write>(bytes: &[u8], out: &mut W) -> io::Result<()> {
+    let mut before: Option<&[u8]> = None;
+    let mut starred = false;
+    let mut offset: u64 = 0;
+    for line in bytes.chunks(16) {
+        if before == Some(line) {
+            if !starred {
+                writeln!(out, "*")?;
+            }
+            starred = true;
+        } else {
+            print_line(offset, line, out)?;
+            starred = false;
+        }
+        before = Some(line);
+        offset = offset.saturating_add(line.len() as u64);
+    }
+    writeln!(out, "{offset:08x}")
+}
+
+/// Prints a line of up to 16 bytes.
+fn print_line<W: Write>(offset: u64, line: &[u8], out: &mut W) -> io::Result<()> {
+    write!(out, "{offset:08x}  ")?;
+    for place in 0..16 {
+        if place == 8 {
+            write!(out, " ")?;
+        }
+        match line.get(place) {
+            Some(byte) => write!(out, "{byte:02x} ")?,
+            None => write!(out, "   ")?,
+        }
+    }
+    write!(out, " |")?;
+    print_text(line, out)?;
+    writeln!(out, "|")
+}

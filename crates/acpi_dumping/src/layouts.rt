@@ -1,0 +1,87 @@
+//! The fields of tables, by the names of the ACPI Specification's tables.
+
+mod devices;
+mod fadt;
+mod madt;
+
+use acpi::sdt::Signature;
+pub(crate) use madt::{ENTRY, MADT, entry_fields};
+
+/// What a field's number means.
+#[derive(Clone, Copy)]
+pub(crate) enum Meaning {
+    /// Itself.
+    Plain,
+    /// Itself, and it is easier read as a decimal number.
+    Decimal,
+    /// The bytes are a text.
+    Text,
+    /// One of these.
+    Codes(&'static [Code]),
+    /// Those of these bits that are set.
+    Bits(&'static [Bit]),
+    /// The bytes are a generic address (section 5.2.3.2).
+    Register,
+}
+
+/// A number, and what it stands for.
+#[derive(Clone, Copy)]
+pub(crate) struct Code(pub(crate) u64, pub(crate) &'static str);
+
+/// The number of a bit, and what it says if it is set.
+#[derive(Clone, Copy)]
+pub(crate) struct Bit(pub(crate) u32, pub(crate) &'static str);
+
+/// A field: its offset, its length in bytes, its name and what its number means.
+#[derive(Clone, Copy)]
+pub(crate) struct Field(
+    pub(crate) usize,
+    pub(crate) usize,
+    pub(crate) &'static str,
+    pub(crate) Meaning,
+);
+
+use Meaning::{Decimal, Plain, Text};
+
+/// The header that every table begins with (section 5.2.6, table 5.4).
+pub(crate) const HEADER: &[Field] = &[
+    Field(0, 4, "Signature", Text),
+    Field(4, 4, "Length", Decimal),
+    Field(8, 1, "Revision", Plain),
+    Field(9, 1, "Checksum", Plain),
+    Field(10, 6, "OEMID", Text),
+    Field(16, 8, "OEM Table ID", Text),
+    Field(24, 4, "OEM Revision", Plain),
+    Field(28, 4, "Creator ID", Text),
+    Field(32, 4, "Creator Revision", Plain),
+];
+
+/// The fields after the header of a table with this signature. A FACS has no header: these are then
+/// all of its fields.
+pub(crate) fn fields_of(signature: Signature) -> &'static [Field] {
+    if signature == Signature::FADT {
+        fadt::FADT
+    } else if signature == Signature::MCFG {
+        devices::MCFG
+    } else if signature == Signature::HPET {
+        devices::HPET
+    } else if signature == Signature::BGRT {
+        devices::BGRT
+    } else if signature == Signature::SPCR {
+        devices::SPCR
+    } else if signature == Signature::FACS {
+        devices::FACS
+    } else {
+        &[]
+    }
+}
+
+/// The fields of each entry after those of a table with this signature, and how many bytes an entry
+/// has: 0 if there are no entries, or they are of several lengths.
+pub(crate) fn entries_of(signature: Signature) -> (&'static [Field], usize) {
+    if signature == Signature::MCFG {
+        (devices::MCFG_ENTRY, 16)
+    } else {
+        (&[], 0)
+    }
+}

@@ -1,0 +1,222 @@
+//! The MADT and its entries (section 5.2.12).
+
+use super::Meaning::{Bits, Codes, Decimal, Plain};
+use super::{Bit, Code, Field};
+
+const MADT_FLAGS: &[Bit] = &[Bit(0, "PCAT_COMPAT")];
+
+/// The MADT's fields after the header (table 5.19).
+pub(crate) const MADT: &[Field] = &[
+    Field(36, 4, "Local Interrupt Controller Address", Plain),
+    Field(40, 4, "Flags", Bits(MADT_FLAGS)),
+];
+
+/// What each entry begins with (table 5.20), by offsets in the entry, as those below.
+pub(crate) const ENTRY: &[Field] = &[
+    Field(0, 1, "Type", Codes(KINDS)),
+    Field(1, 1, "Length", Decimal),
+];
+
+const LOCAL: &[Bit] = &[Bit(0, "Enabled"), Bit(1, "Online Capable")];
+
+/// The MPS INTI flags (table 5.26): the polarity in bits 0 and 1, the trigger in bits 2 and 3.
+const INTI: &[Code] = &[
+    Code(0x0, "as the bus has it"),
+    Code(0x5, "active high, edge-triggered"),
+    Code(0x7, "active low, edge-triggered"),
+    Code(0xd, "active high, level-triggered"),
+    Code(0xf, "active low, level-triggered"),
+];
+
+const PLATFORM: &[Code] = &[
+    Code(1, "PMI"),
+    Code(2, "INIT"),
+    Code(3, "Corrected Platform Error Interrupt"),
+];
+
+const CPEI: &[Bit] = &[Bit(0, "CPEI Processor Override")];
+
+const GICC: &[Bit] = &[
+    Bit(0, "Enabled"),
+    Bit(1, "Performance Interrupt Mode"),
+    Bit(2, "VGIC Maintenance interrupt Mode Flags"),
+];
+
+const FRAME: &[Bit] = &[Bit(0, "SPI Count/Base Select")];
+
+const KINDS: &[Code] = &[
+    Code(0x00, "Processor Local APIC"),
+    Code(0x01, "I/O APIC"),
+    Code(0x02, "Interrupt Source Override"),
+    Code(0x03, "NMI Source"),
+    Code(0x04, "Local APIC NMI"),
+    Code(0x05, "Local APIC Address Override"),
+    Code(0x06, "I/O SAPIC"),
+    Code(0x07, "Local SAPIC"),
+    Code(0x08, "Platform Interrupt Sources"),
+    Code(0x09, "Processor Local x2APIC"),
+    Code(0x0a, "Local x2APIC NMI"),
+    Code(0x0b, "GIC CPU Interface (GICC)"),
+    Code(0x0c, "GIC Distributor (GICD)"),
+    Code(0x0d, "GIC MSI Frame"),
+    Code(0x0e, "GIC Redistributor (GICR)"),
+    Code(0x0f, "GIC Interrupt Translation Service (ITS)"),
+    Code(0x10, "Multiprocessor Wakeup"),
+];
+
+const LOCAL_APIC: &[Field] = &[
+    Field(2, 1, "ACPI Processor UID", Decimal),
+    Field(3, 1, "APIC ID", Decimal),
+    Field(4, 4, "Flags", Bits(LOCAL)),
+];
+
+const IO_APIC: &[Field] = &[
+    Field(2, 1, "I/O APIC ID", Decimal),
+    Field(3, 1, "Reserved", Plain),
+    Field(4, 4, "I/O APIC Address", Plain),
+    Field(8, 4, "Global System Interrupt Base", Decimal),
+];
+
+const SOURCE_OVERRIDE: &[Field] = &[
+    Field(2, 1, "Bus", Decimal),
+    Field(3, 1, "Source", Decimal),
+    Field(4, 4, "Global System Interrupt", Decimal),
+    Field(8, 2, "Flags", Codes(INTI)),
+];
+
+const NMI_SOURCE: &[Field] = &[
+    Field(2, 2, "Flags", Codes(INTI)),
+    Field(4, 4, "Global System Interrupt", Decimal),
+];
+
+const LOCAL_NMI: &[Field] = &[
+    Field(2, 1, "ACPI Processor UID", Decimal),
+    Field(3, 2, "Flags", Codes(INTI)),
+    Field(5, 1, "Local APIC LINT#", Decimal),
+];
+
+const ADDRESS_OVERRIDE: &[Field] = &[
+    Field(2, 2, "Reserved", Plain),
+    Field(4, 8, "Local APIC Address", Plain),
+];
+
+const IO_SAPIC: &[Field] = &[
+    Field(2, 1, "I/O APIC ID", Decimal),
+    Field(3, 1, "Reserved", Plain),
+    Field(4, 4, "Global System Interrupt Base", Decimal),
+    Field(8, 8, "I/O SAPIC Address", Plain),
+];
+
+const LOCAL_SAPIC: &[Field] = &[
+    Field(2, 1, "ACPI Processor ID", Decimal),
+    Field(3, 1, "Local SAPIC ID", Decimal),
+    Field(4, 1, "Local SAPIC EID", Decimal),
+    Field(5, 3, "Reserved", Plain),
+    Field(8, 4, "Flags", Bits(LOCAL)),
+    Field(12, 4, "ACPI Processor UID Value", Decimal),
+];
+
+const PLATFORM_SOURCE: &[Field] = &[
+    Field(2, 2, "Flags", Codes(INTI)),
+    Field(4, 1, "Interrupt Type", Codes(PLATFORM)),
+    Field(5, 1, "Processor ID", Decimal),
+    Field(6, 1, "Processor EID", Decimal),
+    Field(7, 1, "I/O SAPIC Vector", Plain),
+    Field(8, 4, "Global System Interrupt", Decimal),
+    Field(12, 4, "Platform Interrupt Source Flags", Bits(CPEI)),
+];
+
+const LOCAL_X2APIC: &[Field] = &[
+    Field(2, 2, "Reserved", Plain),
+    Field(4, 4, "X2APIC ID", Decimal),
+    Field(8, 4, "Flags", Bits(LOCAL)),
+    Field(12, 4, "ACPI Processor UID", Decimal),
+];
+
+const X2APIC_NMI: &[Field] = &[
+    Field(2, 2, "Flags", Codes(INTI)),
+    Field(4, 4, "ACPI Processor UID", Decimal),
+    Field(8, 1, "Local x2APIC LINT#", Decimal),
+    Field(9, 3, "Reserved", Plain),
+];
+
+const GICC_ENTRY: &[Field] = &[
+    Field(2, 2, "Reserved", Plain),
+    Field(4, 4, "CPU Interface Number", Decimal),
+    Field(8, 4, "ACPI Processor UID", Decimal),
+    Field(12, 4, "Flags", Bits(GICC)),
+    Field(16, 4, "Parking Protocol Version", Plain),
+    Field(20, 4, "Performance Interrupt GSIV", Decimal),
+    Field(24, 8, "Parked Address", Plain),
+    Field(32, 8, "Physical Base Address", Plain),
+    Field(40, 8, "GICV", Plain),
+    Field(48, 8, "GICH", Plain),
+    Field(56, 4, "VGIC Maintenance interrupt", Decimal),
+    Field(60, 8, "GICR Base Address", Plain),
+    Field(68, 8, "MPIDR", Plain),
+    Field(76, 1, "Processor Power Efficiency Class", Decimal),
+    Field(77, 1, "Reserved", Plain),
+    Field(78, 2, "SPE overflow Interrupt", Decimal),
+    Field(80, 2, "TRBE Interrupt", Decimal),
+];
+
+const GICD: &[Field] = &[
+    Field(2, 2, "Reserved", Plain),
+    Field(4, 4, "GIC ID", Decimal),
+    Field(8, 8, "Physical Base Address", Plain),
+    Field(16, 4, "System Vector Base", Plain),
+    Field(20, 1, "GIC version", Plain),
+    Field(21, 3, "Reserved", Plain),
+];
+
+const MSI_FRAME: &[Field] = &[
+    Field(2, 2, "Reserved", Plain),
+    Field(4, 4, "GIC MSI Frame ID", Decimal),
+    Field(8, 8, "Physical Base Address", Plain),
+    Field(16, 4, "Flags", Bits(FRAME)),
+    Field(20, 2, "SPI Count", Decimal),
+    Field(22, 2, "SPI Base", Decimal),
+];
+
+const GICR: &[Field] = &[
+    Field(2, 2, "Reserved", Plain),
+    Field(4, 8, "Discovery Range Base Address", Plain),
+    Field(12, 4, "Discovery Range Length", Plain),
+];
+
+const ITS: &[Field] = &[
+    Field(2, 2, "Reserved", Plain),
+    Field(4, 4, "GIC ITS ID", Decimal),
+    Field(8, 8, "Physical Base Address", Plain),
+    Field(16, 4, "Reserved", Plain),
+];
+
+const WAKEUP: &[Field] = &[
+    Field(2, 2, "MailBoxVersion", Plain),
+    Field(4, 4, "Reserved", Plain),
+    Field(8, 8, "MailBoxAddress", Plain),
+];
+
+/// The fields of an entry of this kind after the two that each begins with.
+pub(crate) fn entry_fields(kind: u8) -> &'static [Field] {
+    match kind {
+        0x00 => LOCAL_APIC,
+        0x01 => IO_APIC,
+        0x02 => SOURCE_OVERRIDE,
+        0x03 => NMI_SOURCE,
+        0x04 => LOCAL_NMI,
+        0x05 => ADDRESS_OVERRIDE,
+        0x06 => IO_SAPIC,
+        0x07 => LOCAL_SAPIC,
+        0x08 => PLATFORM_SOURCE,
+        0x09 => LOCAL_X2APIC,
+        0x0a => X2APIC_NMI,
+        0x0b => GICC_ENTRY,
+        0x0c => GICD,
+        0x0d => MSI_FRAME,
+        0x0e => GICR,
+        0x0f => ITS,
+        0x10 => WAKEUP,
+        _ => &[],
+    }
+}

@@ -1,0 +1,158 @@
+//! The program over any files and any writers.
+
+use crate::arguments::{Asked, Shown, parse};
+use crate::listing::print_lines;
+use crate::shown::print_tables;
+use acpi::{AcpiHandler, AcpiResult, AcpiTables};
+use acpi_cli::files::{Files, contents_from, count, read_all};
+use acpi_image_reader::MemoryImage;
+use acpi_report::words::Command;
+use std::alloc::Global;
+use std::fmt::Display;
+use std::io;
+use std::io::{BufWriter, Write};
+
+/// How many bytes of an output are gathered before they are written.
+const BUFFERED: usize = 32768;
+
+const USAGE: &str = "usage: acpi_dump IMAGE rsdt REVISION ADDRESS | rsdp ADDRESS | bios
+       acpi_dump IMAGE ... --table SIGNATURE
+       acpi_dump IMAGE ... --hex SIGNATURE
+       acpi_dump --help | --version";
+
+/// Runs the program on the arguments after its name, and answers the status: 0 if all is printed, 1
+/// if the file, its memory, the root table, a write or memory is refused or no valid table has the
+/// signature that is asked for, and 2 if the arguments are no command. Then no file is opened.
+///
+/// Refuses with what the first refused write or flush is refused with, or if memory is refused for
+/// the list of files or for gathering an output.
+pub fn dump<F: Files, W: Write + Drop, E: Write + Drop>(
+    alloc: Global,
+    arguments: &[&str],
+    files: &mut F,
+    out: W,
+    err: E,
+) -> io::Result<u8> {
+    let mut out = BufWriter::with_capacity(alloc, BUFFERED, out)?;
+    let mut err = BufWriter::with_capacity(alloc, BUFFERED, err)?;
+    let printed = print_asked(alloc, arguments, files, &mut out, &mut err);
+    let shown = out.flush();
+    let told = err.flush();
+    let status = printed?;
+    shown?;
+    told?;
+    Ok(status)
+}
+
+/// Prints what the arguments ask for.
+fn print_asked<F: Files, W: Write, E: Write>(
+    alloc: Global,
+    arguments: &[&str],
+    files: &mut F,
+    out: &mut W,
+    err: &mut E,
+) -> io::Result<u8> {
+    match parse(arguments) {
+        Some(Asked::Help) => {
+            writeln!(out, "{USAGE}")?;
+            Ok(0)
+        }
+        Some(Asked::Version) => {
+            writeln!(out, "acpi_dump 5.2.0")?;
+            Ok(0)
+        }
+        Some(Asked::Tables(command, shown)) => {
+            print_file(alloc, arguments, command, shown, files, out, err)
+        }
+        None => {
+            writeln!(err, "{USAGE}")?;
+            Ok(2)
+        }
+    }
+}
+
+/// Prints what is asked for of the file that the first argument names.
+fn print_file<F: Files, W: Write, E: Write>(
+    alloc: Global,
+    arguments: &[&str],
+    command: Command,
+    shown: Shown,
+    files: &mut F,
+    out: &mut W,
+    err: &mut E,
+) -> io::Result<u8> {
+    let [name, ..] = arguments else {
+        return Ok(2);
+    };
+    let start = count(files);
+    read_all(files, &[*name])?;
+    let contents = contents_from(alloc, files, start)?;
+    let Some(Some(bytes)) = contents.first() else {
+        return refuse(name, &"Unreadable", err);
+    };
+    match MemoryImage::from_bytes(alloc, bytes) {
+        Ok(image) => print_image(&image, name, command, shown, out, err),
+        Err(refusal) => refuse(name, &refusal, err),
+    }
+}
+
+/// Prints why a file is refused, and answers the status.
+fn refuse<E: Write>(name: &str, refusal: &impl Display, err: &mut E) -> io::Result<u8> {
+    writeln!(err, "refused: {name}: {refusal}")?;
+    Ok(1)
+}
+
+/// The tables that a command leads to.
+fn open<H: AcpiHandler>(handler: &H, command: Command) -> AcpiResult<AcpiTables<'_, H>> {
+    match command {
+        Command::Rsdt { revision, address } => AcpiTables::from_rsdt(handler, revision, address),
+        Command::Rsdp { address } => AcpiTables::from_rsdp(handler, address),
+        Command::Bios => AcpiTables::search_for_rsdp_bios(handler),
+    }
+}
+
+/// Prints what is asked for of a memory.
+fn print_image<H: AcpiHandler, W: Write, E: Write>(
+    handler: &H,
+    name: &str,
+    command: Command,
+    shown: Shown,
+    out: &mut W,
+    err: &mut E,
+) -> io::Result<u8> {
+    match open(handler, command) {
+        Ok(tables) => print_shown(handler, &tables, shown, out, err),
+        Err(refusal) => {
+            match command {
+                Command::Rsdt { address, .. } | Command::Rsdp { address } => {
+                    writeln!(err, "refused: {name} 0x{address:x}: {refusal}")?;
+                }
+                Command::Bios => writeln!(err, "refused: {name}: {refusal}")?,
+            }
+            Ok(1)
+        }
+    }
+}
+
+/// Prints what is asked for of tables.
+fn print_shown<H: AcpiHandler, W: Write, E: Write>(
+    handler: &H,
+    tables: &AcpiTables<'_, H>,
+    shown: Shown,
+    out: &mut W,
+    err: &mut E,
+) -> io::Result<u8> {
+    match shown {
+        Shown::Lines => {
+            print_lines(handler, tables, out)?;
+            Ok(0)
+        }
+        Shown::Tables(signature, contents) => {
+            if print_tables(handler, tables, signature, contents, out)? {
+                return Ok(0);
+            }
+            writeln!(err, "no valid table {signature}")?;
+            Ok(1)
+        }
+    }
+}

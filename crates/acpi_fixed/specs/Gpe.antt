@@ -1,0 +1,41 @@
+-- The registers of general purpose events, by their length in bytes (ACPI 6.4, section 5.2.9).
+use Rattle.std.specs.Prelude.{ℕ, ◌==◌, List, Option, Some, None, Result, Ok, Err, if◌then◌else◌}
+use Rattle.acpi_base.specs.Address.{space_of}
+use Rattle.acpi_base.specs.Bytes.{field_of}
+use Rattle.acpi_base.specs.Steps.{◌>>=◌}
+use Rattle.acpi_base.specs.declared.address.AddressSpace.TheVariants.{SystemIo}
+use Rattle.acpi_base.specs.declared.error.AcpiError.{AcpiError}
+use Rattle.acpi_fixed.specs.declared.fadt.Fadt.{Fadt}
+use Rattle.acpi_fixed.specs.declared.fadt.registers.RegisterBlock.{RegisterBlock}
+use Rattle.acpi_fixed.specs.declared.fadt.registers.gpe.GpeBlock.{GpeBlock}
+use Rattle.acpi_fixed.specs.Fadt.{registers_of}
+use Rattle.acpi_fixed.specs.Registers.{usable_extended}
+
+-- so many bytes at an extended address: of its fields the space and the address count
+abbrev pub block_from : List ℕ → ℕ → Result GpeBlock AcpiError
+block_from raw byte_length = do
+  space ← space_of (field_of raw 0 1)
+  Ok (record { space = space; address = field_of raw 4 8; byte_length = byte_length })
+
+-- the block at the extended address, or else at the port, unless that is 0
+abbrev pub block_or : Option (List ℕ) → ℕ → ℕ → Result (Option GpeBlock) AcpiError
+block_or (Some raw) port byte_length = do
+  block ← block_from raw byte_length
+  Ok (Some block)
+block_or None port byte_length =
+    if port == 0 then Ok None
+    else Ok (Some (record { space = SystemIo; address = port; byte_length = byte_length }))
+
+-- the block of a pair of fields: nothing where its length is 0, before anything else
+abbrev pub gpe_of : RegisterBlock → Result (Option GpeBlock) AcpiError
+gpe_of r =
+    if r.size == 0 then Ok None else block_or (usable_extended r.extended) r.address r.size
+
+-- the number of the first event of a block, where there is one
+abbrev pub base_beside : ℕ → Result (Option GpeBlock) AcpiError → Option ℕ
+base_beside base (Ok (Some block)) = Some base
+base_beside base (Ok None) = None
+base_beside base (Err e) = None
+
+abbrev pub gpe1_base_of : Fadt → Option ℕ
+gpe1_base_of f = base_beside f.gpe1_base (gpe_of (registers_of f).gpe1)

@@ -1,0 +1,97 @@
+//! The blocks of registers of general purpose events, by their length in bytes.
+ghost use Rattle.std.specs.Prelude.{◌≡◌};
+ghost use Rattle.acpi_fixed.specs.Gpe.{block_from, gpe_of};
+
+use super::RegisterBlock;
+use crate::fadt::Fadt;
+use acpi_base::AcpiResult;
+use acpi_base::address::{AddressSpace, RawAddress};
+use acpi_base::bytes::field_in;
+
+/// A block of registers of general purpose events (section 4.8.4.1): its first half has the status
+/// bits, its second half the enable bits.
+#[derive(Clone, Copy, Debug)]
+pub struct GpeBlock {
+    /// What `address` counts.
+    pub space: AddressSpace,
+    /// Where the first register lies in that space.
+    pub address: u64,
+    /// How many bytes both halves have: four events for each.
+    pub byte_length: u8,
+}
+
+/// The block at an extended address, of so many bytes.
+fn block_from(raw: &RawAddress, byte_length: u8) -> AcpiResult<GpeBlock>
+    ensures { result ≡ block_from raw.now byte_length }
+{
+    let space = AddressSpace::try_from(field_in(raw, 0, 1) as u8)?;
+    Ok(GpeBlock {
+        space,
+        address: field_in(raw, 4, 8),
+        byte_length,
+    })
+}
+
+impl RegisterBlock {
+    /// The block by its length in bytes, or `None` where that is 0 or neither field gives an address.
+    ///
+    /// Refuses a reserved space of the extended field with `InvalidGenericAddress`.
+    fn gpe(&self) -> AcpiResult<Option<GpeBlock>>
+        ensures { result ≡ gpe_of self.now }
+    {
+        if self.size == 0 {
+            return Ok(None);
+        }
+        if let Some(raw) = self.usable_extended() {
+            return Ok(Some(block_from(&raw, self.size)?));
+        }
+        if self.address == 0 {
+            return Ok(None);
+        }
+        Ok(Some(GpeBlock {
+            space: AddressSpace::SystemIo,
+            address: self.address as u64,
+            byte_length: self.size,
+        }))
+    }
+}
+
+impl Fadt {
+    ghost use Rattle.acpi_fixed.specs.Gpe.{gpe1_base_of};
+    ghost use Rattle.acpi_fixed.specs.Fadt.{registers_of};
+
+    /// The registers of the first general purpose events (section 5.2.9), of any length up to 255
+    /// bytes: the extended address where the table has it and it isn't 0, else the 32-bit one, which
+    /// is a port.
+    ///
+    /// It is `None` if the length is 0, whatever the addresses are, and if both addresses are 0. The
+    /// width and the access size of the extended field aren't looked at. On a machine of reduced
+    /// hardware (`system_is_hw_reduced_acpi`) it means nothing.
+    ///
+    /// Refuses a reserved address space with `InvalidGenericAddress`.
+    pub fn gpe0(&self) -> AcpiResult<Option<GpeBlock>>
+        ensures { result ≡ gpe_of (registers_of self.now).gpe0 }
+    {
+        self.registers.gpe0.gpe()
+    }
+
+    /// The registers of further general purpose events (section 5.2.9), found as those of `gpe0`.
+    /// `gpe1_base()` says which event is their first.
+    ///
+    /// Refuses a reserved address space with `InvalidGenericAddress`.
+    pub fn gpe1(&self) -> AcpiResult<Option<GpeBlock>>
+        ensures { result ≡ gpe_of (registers_of self.now).gpe1 }
+    {
+        self.registers.gpe1.gpe()
+    }
+
+    /// The number of the first event of `gpe1`, or `None` if there is no such block or it is refused.
+    pub fn gpe1_base(&self) -> Option<u8>
+        ensures { result ≡ gpe1_base_of self.now }
+    {
+        match self.gpe1() {
+            Ok(Some(_)) => Some(self.gpe1_base),
+            Ok(None) | Err(_) => None,
+        }
+    }
+}

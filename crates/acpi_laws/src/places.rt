@@ -1,0 +1,40 @@
+//! What holds of the members of a root table, and of the ranges in which the tables lie.
+ghost use Rattle.acpi_laws.specs.PlaceLaws.{FirstIsFound, FoundBySignature, HeadersOfMembers};
+ghost use Rattle.acpi_laws.specs.PlaceLaws.{OneForEach, RootLiesInRange, TablesLieInRanges};
+
+/// `members` gives exactly one item for each pointer of the root table, in order.
+#[tactic(auto, using(acpi::proofs::Placing::addresses_are))]
+pub fn one_for_each()
+    ensures { OneForEach }
+{}
+
+/// The headers that `members` gives as `Ok` are those that `headers` gives.
+pub fn headers_of_members()
+    ensures { HeadersOfMembers }
+{}
+
+/// The first that `find_tables` gives is what `find_table` finds, and it gives one exactly if that
+/// succeeds.
+pub fn first_is_found()
+    ensures { FirstIsFound }
+{}
+
+/// `find_sdt` answers what `find_table` does for a type that asks for 36 bytes and the checks of a
+/// header, and for nothing else.
+pub fn found_by_signature()
+    ensures { FoundBySignature }
+{}
+
+/// Each range that a lookup, `faults`, `find_tables`, `headers`, `members`, `ssdts`, `dsdt` or a
+/// summary depends on or asks for lies in one of those that `ranges` gives. Excepted are those that
+/// begin at a member that `members` refuses, or where the first valid FADT has the DSDT and no valid
+/// one is.
+pub fn tables_lie_in_ranges()
+    ensures { TablesLieInRanges }
+{}
+
+/// Each range that opening a root table depends on or asks for at the table's address lies in the
+/// first that `ranges` gives.
+pub fn root_lies_in_range()
+    ensures { RootLiesInRange }
+{}
