@@ -12,7 +12,8 @@ use Rattle.acpi_numa.specs.declared.srat.kinds.MemoryAffinity.{MemoryAffinity}
 abbrev pub domain_since_2 : ℕ → ℕ → ℕ → ℕ
 domain_since_2 revision lowest whole = if nat_lt revision 2 then lowest else whole
 
--- section 5.2.16.1: the domain's lowest byte is at 2, and its three higher ones from 9 on
+-- Processor Local APIC/SAPIC Affinity Structure (section 5.2.16.1): Proximity Domain [7:0] at 2, APIC ID
+-- at 3, Flags at 4, Local SAPIC EID at 8, Proximity Domain [31:8] at 9, Clock Domain at 12
 abbrev pub local_apic_affinity_at : ℕ → List ℕ → LocalApicAffinity
 local_apic_affinity_at revision b = record {
   domain = domain_since_2 revision (field_of b 2 1) (field_of b 2 1 + 256 * field_of b 9 3);
@@ -22,7 +23,8 @@ local_apic_affinity_at revision b = record {
   clock_domain = field_of b 12 4;
 }
 
--- section 5.2.16.2
+-- Memory Affinity Structure (section 5.2.16.2): Proximity Domain at 2, Base Address Low and High at 8,
+-- Length Low and High at 16, Flags at 28
 abbrev pub memory_affinity_at : ℕ → List ℕ → MemoryAffinity
 memory_affinity_at revision b = record {
   domain = domain_since_2 revision (field_of b 2 1) (field_of b 2 4);
@@ -31,7 +33,8 @@ memory_affinity_at revision b = record {
   flags = field_of b 28 4;
 }
 
--- section 5.2.16.3
+-- Processor Local x2APIC Affinity Structure (section 5.2.16.3): Proximity Domain at 4, X2APIC ID at 8,
+-- Flags at 12, Clock Domain at 16
 abbrev pub local_x2apic_affinity_at : List ℕ → LocalX2ApicAffinity
 local_x2apic_affinity_at b = record {
   domain = field_of b 4 4;
@@ -40,7 +43,8 @@ local_x2apic_affinity_at b = record {
   clock_domain = field_of b 16 4;
 }
 
--- section 5.2.16.4
+-- GICC Affinity Structure (section 5.2.16.4): Proximity Domain at 2, ACPI Processor UID at 6, Flags at
+-- 10, Clock Domain at 14
 abbrev pub gicc_affinity_at : List ℕ → GiccAffinity
 gicc_affinity_at b = record {
   domain = field_of b 2 4;
@@ -49,11 +53,13 @@ gicc_affinity_at b = record {
   clock_domain = field_of b 14 4;
 }
 
--- section 5.2.16.5
+-- GIC Interrupt Translation Service (ITS) Affinity Structure (section 5.2.16.5): Proximity Domain at 2,
+-- ITS ID at 8
 abbrev pub gic_its_affinity_at : List ℕ → GicItsAffinity
-gic_its_affinity_at b = record { domain = field_of b 4 4; its_id = field_of b 8 4 }
+gic_its_affinity_at b = record { domain = field_of b 2 4; its_id = field_of b 8 4 }
 
--- section 5.2.16.6; an entry of a port has the same fields
+-- Generic Initiator Affinity Structure (section 5.2.16.6): Device Handle Type at 3, Proximity Domain at
+-- 4, Device Handle at 8, Flags at 24; an entry of a port has the same fields
 abbrev pub generic_affinity_at : List ℕ → GenericAffinity
 generic_affinity_at b = record {
   handle_type = field_of b 3 1;

@@ -163,7 +163,7 @@ impl GicItsAffinity {
         ensures { result ≡ entries.gic_its_affinity_at bytes.now }
     {
         GicItsAffinity {
-            domain: field_in(bytes, 4, 4) as u32,
+            domain: field_in(bytes, 2, 4) as u32,
             its_id: field_in(bytes, 8, 4) as u32,
         }
     }
