@@ -1,3 +1,5 @@
+pub mod Affinities
+pub mod Answers
 pub mod ErrorText
 pub mod Slit
 pub mod Srat

@@ -11,4 +11,4 @@ pub mod srat;
 
 pub use error::{NumaError, NumaResult};
 pub use slit::{Distances, Slit, SlitCalls};
-pub use srat::{Domains, Srat, SratCalls, SratEntry, SratEntryIter};
+pub use srat::{Domains, MemoryAffinities, MemoryRange, Srat, SratCalls, SratEntry, SratEntryIter};

@@ -1,5 +1,6 @@
 //! The System Resource Affinity Table (SRAT): the domains that processors and memory are in.
 
+mod affinities;
 mod domains;
 mod entry;
 mod kinds;
@@ -8,6 +9,7 @@ mod walk;
 use acpi_base::sdt::SdtHeader;
 use acpi_base::table::sum_refusal;
 use acpi_base::{AcpiResult, AcpiTable, PhysicalRecord, Signature};
+pub use affinities::{MemoryAffinities, MemoryRange};
 pub use domains::{Domains, SratCalls};
 pub use entry::SratEntry;
 pub use kinds::{

@@ -2,6 +2,7 @@
 ghost use Rattle.std.specs.Prelude.{◌≡◌};
 ghost use Rattle.acpi_numa.specs.Srat.{given_by};
 
+use super::affinities::MemoryRange;
 use super::kinds::{
     GenericAffinity, GicItsAffinity, GiccAffinity, LocalApicAffinity, LocalX2ApicAffinity,
     MemoryAffinity,
@@ -50,6 +51,7 @@ impl SratEntry {
     ghost use Rattle.acpi_base.specs.Entries.{IsEntry};
     ghost use Rattle.acpi_numa.specs.Srat.{apic_domain, entry_of, is_enabled, processor_domain};
     ghost use Rattle.acpi_numa.specs.Srat.{srat_layout};
+    ghost use Rattle.acpi_numa.specs.Affinities.{range_in};
 
     /// What an entry of a table of a revision says, or `None` if its kind is reserved or the maker's.
     pub(super) fn read(revision: u8, entry: &[u8]) -> Option<SratEntry>
@@ -93,6 +95,24 @@ impl SratEntry {
             }
             SratEntry::LocalX2Apic(entry) => {
                 given_by(entry.flags, entry.x2apic_id == apic_id, entry.domain)
+            }
+            _ => None,
+        }
+    }
+
+    /// The range of an enabled entry of memory that has at least one byte.
+    pub(super) fn memory_range(&self) -> Option<MemoryRange>
+        ensures { result ≡ range_in self.now }
+    {
+        match self {
+            SratEntry::Memory(entry) if has_bit(entry.flags as u64, 0) && entry.length > 0 => {
+                Some(MemoryRange {
+                    domain: entry.domain,
+                    base: entry.base,
+                    length: entry.length,
+                    is_hot_pluggable: entry.is_hot_pluggable(),
+                    is_non_volatile: entry.is_non_volatile(),
+                })
             }
             _ => None,
         }
