@@ -38,6 +38,9 @@ by_test true r ranges a is others = record {
 }
 by_test false r ranges a is others = before_others r ranges a (domain_at ranges a) (lies_not r a is) others
 
-pub domain_first : (ranges : List MemoryRange) (a : ℕ) → IsDomainOf ranges a (domain_at ranges a)
-domain_first [] a = tt
-domain_first (r ∷ ranges) a = by_test (lies_in a r) r ranges a refl (domain_first ranges a)
+first_of_all : (ranges : List MemoryRange) (a : ℕ) → IsDomainOf ranges a (domain_at ranges a)
+first_of_all [] a = tt
+first_of_all (r ∷ ranges) a = by_test (lies_in a r) r ranges a refl (first_of_all ranges a)
+
+pub domain_first : (o : Option ℕ) (ranges : List MemoryRange) (a : ℕ) → o ≡ domain_at ranges a → IsDomainOf ranges a o
+domain_first o ranges a is = rw is (first_of_all ranges a)

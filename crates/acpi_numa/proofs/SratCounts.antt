@@ -1,8 +1,9 @@
--- How many entries there are at most.
+-- How many entries and ranges there are at most.
 use Rattle.std.proofs.Common.{◌≡◌, ℕ, suc, ◌-◌, ◌≤◌, List, [], ◌∷◌, ◌++◌, length, length-drop, drop, Option, Some, None, ap, arith, length-append}
 use Rattle.std.specs.List.{concat, AllByRecursion, filter_map, cons_option}
 use Rattle.acpi_base.proofs.Cuts.{cut_is_cut}
 use Rattle.acpi_base.specs.Entries.{IsEntry, cut}
+use Rattle.acpi_numa.specs.Affinities.{range_in, ranges_of}
 use Rattle.acpi_numa.specs.Srat.{entries_of, entry_of, revision_of, srat_grammar, srat_layout}
 
 -- each has a kind and a length
@@ -27,3 +28,6 @@ cut_few bytes =
 pub entries_few : (table : List ℕ) → length (entries_of table) ≤ length table - 48
 entries_few table =
     omega (arith, length-filter_map (entry_of (revision_of table)) (cut srat_grammar (drop 48 table)).0, cut_few (drop 48 table), length-drop 48 table)
+
+pub ranges_few : (table : List ℕ) → length (ranges_of table) ≤ length table - 48
+ranges_few table = omega (arith, length-filter_map range_in (entries_of table), entries_few table)

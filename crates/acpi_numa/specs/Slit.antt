@@ -13,12 +13,12 @@ slit_at b = record { header = header_at b; localities = field_of b 36 8 }
 abbrev pub localities_of : List ℕ → ℕ
 localities_of table = field_of table 36 8
 
--- of n localities, where the distance from one to another stands: row by row behind the 44 fixed
+-- of n localities, where the distance from one to another stands: row by row after the 44 fixed
 -- bytes, a byte for each pair
 abbrev pub place_of : ℕ → ℕ → ℕ → ℕ
 place_of n from to = 44 + from * n + to
 
--- the byte at that place, where both are localities and the table has it
+-- the byte at that place, if both are localities and the table has it
 abbrev pub distance_among : ℕ → List ℕ → ℕ → ℕ → Option ℕ
 distance_among n table from to =
     if nat_lt from n && nat_lt to n then slice_get table (place_of n from to) else None

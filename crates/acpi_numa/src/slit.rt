@@ -7,7 +7,7 @@ use acpi_base::sdt::SdtHeader;
 use acpi_base::table::sum_refusal;
 use acpi_base::{AcpiResult, AcpiTable, Lender, PhysicalMapping, PhysicalRecord, Signature};
 
-/// The SLIT (section 5.2.17). Behind these fields it has a byte for each pair of localities;
+/// The SLIT (section 5.2.17). After these fields it has a byte for each pair of localities;
 /// `Distances` reads them, and `SlitCalls` gives a mapping of it the same calls.
 #[derive(Debug, Drop)]
 pub struct Slit {

@@ -71,11 +71,11 @@ impl MemoryAffinities<Global> {
         // It depends on what the lookup of the SRAT depends on.
         ensures footprint { FootprintBelow tables.now (λ m. lookup_ranges m srat_kind) found_affinities
             (λ said. AnswersOrFull (AffinitiesAsk (memory_of tables.now) (pointers_of tables.now))
-                result (joined said)) }
+            result (joined said)) }
         // It is the same wherever the valid tables lie.
         ensures relocation { Relocation tables.now found_affinities
             (λ said. AnswersOrFull (AffinitiesAsk (memory_of tables.now) (pointers_of tables.now))
-                result (joined said)) }
+            result (joined said)) }
     {
         MemoryAffinities::new_in(tables, alloc)
     }
@@ -103,11 +103,11 @@ impl<A: Allocator> MemoryAffinities<A> {
         // It depends on what the lookup of the SRAT depends on.
         ensures footprint { FootprintBelow tables.now (λ m. lookup_ranges m srat_kind) found_affinities
             (λ said. AnswersOrFull (AffinitiesAsk (memory_of tables.now) (pointers_of tables.now))
-                result (joined said)) }
+            result (joined said)) }
         // It is the same wherever the valid tables lie.
         ensures relocation { Relocation tables.now found_affinities
             (λ said. AnswersOrFull (AffinitiesAsk (memory_of tables.now) (pointers_of tables.now))
-                result (joined said)) }
+            result (joined said)) }
     {
         MemoryAffinities::found(tables, allocator)
     }
@@ -148,6 +148,13 @@ impl<A: Allocator> MemoryAffinities<A> {
         // It is that of the first range in which the address lies.
         ensures first { IsDomainOf self.now address result }
     {
+        self.first_domain(address)
+    }
+
+    /// `domain_of`, by the exact clause from which its law follows.
+    fn first_domain(&self, address: u64) -> Option<u32>
+        ensures { result ≡ domain_at self.now address }
+    {
         domain_at(self.ranges.as_slice(), address)
     }
 }
@@ -165,6 +172,7 @@ fn domain_at(ranges: &[MemoryRange], address: u64) -> Option<u32>
 }
 
 /// How many ranges there are in a table's bytes, or why they are refused.
+#[tactic(auto, using(crate::proofs::SratCounts::ranges_few))]
 fn counted(table: &[u8]) -> NumaResult<usize>
     ensures { result ≡ affinities_count table.now }
 {

@@ -11,9 +11,9 @@ abbrev pub invariant-loop-entry : goal.invariant-loop-entry
 invariant-loop-entry l =
     let left = filter_map range_in (entries_left l.entries) in
     record {
-        count : l.count + length left ≡ length (ranges_of l.table);
-        tested : (l.all_end && list_all ends_below left) ≡ list_all ends_below (ranges_of l.table);
-        rest : rest_left l.entries ≡ (cut_of l.table).1;
+      count : l.count + length left ≡ length (ranges_of l.table);
+      tested : (l.all_end && list_all ends_below left) ≡ list_all ends_below (ranges_of l.table);
+      rest : rest_left l.entries ≡ (cut_of l.table).1;
     }
 
 abbrev pub decreases-loop-entry : goal.decreases-loop-entry
