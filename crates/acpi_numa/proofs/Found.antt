@@ -1,5 +1,5 @@
 -- What the first valid SRAT says depends on what its lookup depends on, wherever the tables lie.
-use Rattle.std.proofs.Common.{ℕ, List, Result, Ok, lit≤}
+use Rattle.std.proofs.Common.{Result, Ok, lit≤}
 use Rattle.acpi_base.specs.Ranges.{DependsOn}
 use Rattle.acpi_base.specs.Steps.{◌>>=◌}
 use Rattle.acpi_base.specs.declared.error.AcpiError.{AcpiError}

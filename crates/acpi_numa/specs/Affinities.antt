@@ -1,5 +1,5 @@
 -- Which domain each range of memory is in (signature SRAT; ACPI 6.4, section 5.2.16.2).
-use Rattle.std.specs.Prelude.{◌≡◌, ℕ, ◌+◌, ◌^◌, ◌<◌, ◌≤◌, ◌&&◌, Bool, true, false, List, [], ◌∷◌, ◌++◌, length, find, nat_le, nat_lt, Option, Some, None, Result, Ok, Err, if◌then◌else◌}
+use Rattle.std.specs.Prelude.{◌≡◌, ℕ, ◌+◌, ◌^◌, ◌<◌, ◌≤◌, ◌&&◌, Bool, true, false, List, [], ◌∷◌, ◌++◌, length, find, nat_le, nat_lt, Option, Some, None, Result, Ok, if◌then◌else◌}
 use Rattle.std.specs.List.{AllByRecursion, filter_map, list_all}
 use Rattle.std.specs.Option.{option_map}
 use Rattle.acpi_base.specs.Bits.{has_bit}

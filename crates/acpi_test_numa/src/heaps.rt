@@ -55,7 +55,11 @@ fn over_growing_heaps<H: AcpiHandler>(
             return String::from_str(alloc, "two answers");
         }
     }
-    let first = if is_refused { "refused" } else { "never refused" };
+    let first = if is_refused {
+        "refused"
+    } else {
+        "never refused"
+    };
     let said = said.as_str();
     format!(in alloc; "{first}; {said}")
 }

@@ -18,11 +18,7 @@ pub(crate) fn answer(alloc: Global, row: &Row, question: &str) -> Result<String,
     }
 }
 
-fn below<H: AcpiHandler>(
-    alloc: Global,
-    handler: &H,
-    question: &str,
-) -> Result<String, AllocError> {
+fn below<H: AcpiHandler>(alloc: Global, handler: &H, question: &str) -> Result<String, AllocError> {
     match AcpiTables::from_rsdt(handler, 0, 0x1000) {
         Ok(tables) => of_tables(alloc, &tables, question),
         Err(refusal) => shown(alloc, &refusal),

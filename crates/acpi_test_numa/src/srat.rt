@@ -70,7 +70,10 @@ fn one_entry(
 fn bits_of(alloc: Global, entry: &SratEntry) -> Result<String, AllocError> {
     match entry {
         SratEntry::Memory(memory) => {
-            shown(alloc, &(memory.is_hot_pluggable(), memory.is_non_volatile()))
+            shown(
+                alloc,
+                &(memory.is_hot_pluggable(), memory.is_non_volatile()),
+            )
         }
         SratEntry::GenericInitiator(device) | SratEntry::GenericPort(device) => {
             shown(alloc, &device.has_architectural_transactions())
