@@ -47,7 +47,10 @@ fn asked(question: &str) -> (&str, u32) {
 /// How many entries there are, and whether they have ended malformed before and after.
 fn walked(alloc: Global, mut entries: SratEntryIter<'_>) -> Result<String, AllocError> {
     let before = entries.ended_malformed();
-    let count = entries.by_ref().count();
+    let mut count = 0u32;
+    for _ in entries.by_ref() {
+        count = count.wrapping_add(1);
+    }
     shown(alloc, &(before, count, entries.ended_malformed()))
 }
 
