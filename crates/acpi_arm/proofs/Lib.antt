@@ -1,1 +1,2 @@
+mod Equalities
 mod Found

@@ -10,7 +10,7 @@ use acpi_base::model::{Polarity, TriggerMode};
 pub(crate) const FRAME_LENGTH: usize = 40;
 
 /// The interrupt of a timer (section 5.2.24.1).
-#[derive(Clone, Copy, Debug)]
+#[derive(Clone, Copy, Debug, PartialEq, Eq)]
 pub struct TimerInterrupt {
     /// Its number at the GIC. 0: the timer isn't there.
     pub interrupt: u32,

@@ -13,7 +13,7 @@ use acpi_base::table::sum_refusal;
 use acpi_base::{AcpiResult, AcpiTable, Lender, PhysicalMapping, PhysicalRecord, Signature};
 
 /// A timer of every processor (section 5.2.24).
-#[derive(Clone, Copy, Debug)]
+#[derive(Clone, Copy, Debug, PartialEq, Eq)]
 pub struct ArmTimer {
     /// Its interrupt, as the number of the GIC. 0: the table names none.
     pub interrupt: u32,

@@ -8,4 +8,5 @@ mod frames;
 pub mod gic;
 pub mod gtdt;
 mod interrupt;
+pub mod laws;
 mod timers;

@@ -8,7 +8,7 @@ use acpi_base::madt::{GicMsiFrameEntry, GiccEntry, MadtEntry};
 use acpi_base::model::TriggerMode;
 
 /// The distributor of interrupts (section 5.2.12.15).
-#[derive(Clone, Copy, Debug)]
+#[derive(Clone, Copy, Debug, PartialEq, Eq)]
 pub struct GicDistributor {
     /// Its id.
     pub id: u32,
@@ -67,7 +67,7 @@ pub struct GicCpuInterface {
 }
 
 /// A range of memory that holds redistributors (section 5.2.12.17).
-#[derive(Clone, Copy, Debug)]
+#[derive(Clone, Copy, Debug, PartialEq, Eq)]
 pub struct GicRedistributors {
     /// The physical address of its first byte.
     pub address: u64,
@@ -76,7 +76,7 @@ pub struct GicRedistributors {
 }
 
 /// A service that translates interrupts (section 5.2.12.18).
-#[derive(Clone, Copy, Debug)]
+#[derive(Clone, Copy, Debug, PartialEq, Eq)]
 pub struct GicTranslationService {
     /// Its id.
     pub id: u32,
@@ -85,7 +85,7 @@ pub struct GicTranslationService {
 }
 
 /// Shared peripheral interrupts (SPIs) of a frame.
-#[derive(Clone, Copy, Debug)]
+#[derive(Clone, Copy, Debug, PartialEq, Eq)]
 pub struct SpiRange {
     /// The first of them.
     pub base: u16,
