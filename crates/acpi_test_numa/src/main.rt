@@ -5,6 +5,7 @@
 //! 0x1000. Numbers in answers are decimal.
 #![tactic(auto)]
 
+mod caller;
 mod heaps;
 mod memory;
 mod ranges;

@@ -1,9 +1,11 @@
 //! Questions about the tables of a memory: `srat QUESTION` and `slit QUESTION` of the first valid table,
-//! those of `ranges` of the ranges that are found, and `QUESTION in SIZE` and `QUESTION in growing heaps`
-//! of the same in memory that may be refused.
+//! those of `ranges` of the ranges that are found, `QUESTION in SIZE` and `QUESTION in growing heaps` of
+//! the same in memory that may be refused, and `from APIC to ADDRESS`.
 
+use crate::caller::distance_to;
 use crate::{heaps, ranges, slit, srat};
 use acpi::{AcpiHandler, AcpiTables};
+use acpi_cli::parse_address;
 use acpi_image::MemoryImage;
 use acpi_numa::{MemoryAffinities, Slit, Srat};
 use acpi_testkit::rows::{Row, shown};
@@ -34,6 +36,7 @@ fn of_tables<H: AcpiHandler>(
         return heaps::answer(alloc, tables, asked, heap);
     }
     match question.split_once(' ') {
+        Some(("from", asked)) => distance(alloc, tables, asked),
         Some(("srat", asked)) => match tables.find_table::<Srat>() {
             Ok(table) => srat::of_mapping(alloc, &table, asked),
             Err(refusal) => shown(alloc, &refusal),
@@ -43,5 +46,18 @@ fn of_tables<H: AcpiHandler>(
             Err(refusal) => shown(alloc, &refusal),
         },
         _ => ranges::answer(alloc, MemoryAffinities::new(alloc, tables), question),
+    }
+}
+
+/// How far the memory at an address is from the processor of a local APIC.
+fn distance<H: AcpiHandler>(
+    alloc: Global,
+    tables: &AcpiTables<'_, H>,
+    asked: &str,
+) -> Result<String, AllocError> {
+    let (apic, address) = asked.split_once(" to ").unwrap_or((asked, ""));
+    match (apic.parse::<u32>(), parse_address(address)) {
+        (Ok(apic), Some(address)) => shown(alloc, &distance_to(alloc, tables, apic, address)),
+        _ => Ok(String::new(alloc)),
     }
 }
