@@ -107,7 +107,7 @@ same_dsdt m n ps h =
 -- ---- summaries
 
 -- what is said of a lookup's answer
-same_said : {A : Type 0} (k : Kind) (m n : Memory) (ps : List ℕ) (said : Result (ℕ × List ℕ) AcpiError → A)
+pub same_said : {A : Type 0} (k : Kind) (m n : Memory) (ps : List ℕ) (said : Result (ℕ × List ℕ) AcpiError → A)
     → AgreesOn m n (lookup_ranges m k ps) → said (lookup n k ps) ≡ said (lookup m k ps)
 same_said k m n ps said h = ap said (same_lookup k m n ps h)
 

@@ -90,7 +90,7 @@ by_bytes : {A : Type 0} (r : Result (ℕ × List ℕ) AcpiError) (said : List �
 by_bytes (Ok found) said = refl
 by_bytes (Err e) said = refl
 
-said_follows : {A : Type 0} (s : Signature) (least : ℕ) (said : List ℕ → Result A AcpiError) → 36 ≤ least
+pub said_follows : {A : Type 0} (s : Signature) (least : ℕ) (said : List ℕ → Result A AcpiError) → 36 ≤ least
     → FollowsTables (λ m ps. lookup m (kind s least (check_table s)) ps >>= λ f. said f.1)
 said_follows s least said enough m n ps qs same =
     by_bytes _ said ∙ ap (λ r. r >>= said) (lookup_follows s least enough m n ps qs same) ∙ sym (by_bytes _ said)

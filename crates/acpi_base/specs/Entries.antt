@@ -1,46 +1,96 @@
--- How a table's bytes are cut into entries, each of which begins with its type and its length, one
--- byte each. What tables differ in is passed: the least length of each type, from type 0 on.
-use Rattle.std.specs.Prelude.{◌≡◌, ℕ, zero, suc, ◌+◌, ◌≤◌, ◌&&◌, List, [], ◌∷◌, ◌++◌, length, take, drop, Option, Some, None, nat_le, if◌then◌else◌, slice_index, slice_index_or}
+-- How a table's bytes are cut into entries, each of which has its type and its length near its front.
+-- What tables differ in is a value, a grammar: where the type and the length stand, the least length
+-- of each type, and how many entries there are at most.
+use Rattle.std.specs.Prelude.{◌≡◌, ℕ, zero, suc, ◌+◌, ◌-◌, ◌*◌, ◌≤◌, ◌&&◌, Bool, true, false, List, [], ◌∷◌, ◌++◌, length, take, drop, Option, Some, None, nat_le, if◌then◌else◌, slice_index, slice_index_or}
 use Rattle.std.specs.List.{concat, AllByRecursion}
+use Rattle.std.specs.Option.{option_map, unwrap_or}
+use Rattle.acpi_base.specs.declared.entries.EntryLayout.{EntryLayout}
+use Rattle.acpi_base.specs.declared.entries.Grammar.{Grammar}
+use Rattle.acpi_base.specs.declared.entries.Place.{Place}
+use Rattle.acpi_base.specs.declared.entries.Width.{Width}
+use Rattle.acpi_base.specs.declared.entries.Width.TheVariants.{One, Two}
 
--- the least length of an entry of a type; one of a type after the last has its type and its length
-abbrev pub least_length : List ℕ → ℕ → ℕ
-least_length least_lengths entry_type = slice_index_or least_lengths entry_type 2
+-- ---- one entry
 
--- an entry: its second byte is its length, and it is long enough for its type
-pub record IsEntry (least_lengths e : List ℕ) : Type 0 where
-  pub header : 2 ≤ length e
-  pub size : slice_index e 1 ≡ length e
-  pub least : least_length least_lengths (slice_index e 0) ≤ length e
+abbrev pub width_of : Width → ℕ
+width_of One = 1
+width_of Two = 2
 
--- the bytes are the entries one after the other, and a rest that begins with no entry
-pub record IsCut (least_lengths bytes : List ℕ) (es : List (List ℕ)) (rest : List ℕ) : Type 0 where
+-- where a number ends
+abbrev pub end_of : Place → ℕ
+end_of p = p.at + width_of p.width
+
+-- the number of these bytes from an offset on, the lowest first; a byte past the end is zero
+abbrev pub number_in : Width → ℕ → List ℕ → ℕ
+number_in One at bytes = slice_index bytes at
+number_in Two at bytes = slice_index bytes at + 256 * slice_index bytes (at + 1)
+
+abbrev pub number_at : Place → List ℕ → ℕ
+number_at p bytes = number_in p.width p.at bytes
+
+-- the least length of an entry of a type, which the list has from type 0 on
+abbrev pub least_length : {n : ℕ} → EntryLayout n → ℕ → ℕ
+least_length l entry_type = slice_index_or l.least_lengths entry_type l.least_of_others
+
+-- an entry: it has a type and a length, which is that of its bytes, and is long enough for its type
+pub record IsEntry {n : ℕ} (l : EntryLayout n) (e : List ℕ) : Type 0 where
+  pub entry_type : end_of l.kind_place ≤ length e
+  pub header : end_of l.length_place ≤ length e
+  pub size : number_at l.length_place e ≡ length e
+  pub least : least_length l (number_at l.kind_place e) ≤ length e
+
+-- ---- all entries
+
+-- so many are no more than there may be
+abbrev pub IsFew : Option ℕ → ℕ → Type 0
+IsFew most n = (bound : ℕ) → most ≡ Some bound → n ≤ bound
+
+-- the bytes are the entries one after the other, and a rest that begins with no entry, unless there
+-- are as many as there may be
+pub record IsCut {n : ℕ} (g : Grammar n) (bytes : List ℕ) (es : List (List ℕ)) (rest : List ℕ) : Type 0 where
   pub whole : bytes ≡ concat es ++ rest
-  pub entries : AllByRecursion (IsEntry least_lengths) es
-  pub ends : (e more : List ℕ) → rest ≡ e ++ more → IsEntry least_lengths e → ⊥
+  pub entries : AllByRecursion (IsEntry g.layout) es
+  pub few : IsFew g.most (length es)
+  pub ends : (e more : List ℕ) → rest ≡ e ++ more → IsEntry g.layout e
+      → g.most ≡ Some (length es)
 
 -- ---- computed
 
 -- the length of the entry that the bytes begin with
-unfoldable pub front : List ℕ → List ℕ → Option ℕ
-front least_lengths [] = None
-front least_lengths (entry_type ∷ []) = None
-front least_lengths (entry_type ∷ n ∷ bytes) =
-    if nat_le 2 n && nat_le (least_length least_lengths entry_type) n && nat_le n (length bytes + 2) then Some n
-    else None
+unfoldable pub front : {n : ℕ} → EntryLayout n → List ℕ → Option ℕ
+front l bytes =
+    let size = number_at l.length_place bytes in
+    if nat_le (end_of l.kind_place) size && nat_le (end_of l.length_place) size
+    && nat_le (least_length l (number_at l.kind_place bytes)) size
+    && nat_le size (length bytes)
+    then Some size else None
 
--- an entry, and those after it
+-- whether no entry may come
+abbrev pub is_full : Option ℕ → Bool
+is_full None = false
+is_full (Some zero) = true
+is_full (Some (suc more)) = false
+
+-- the length of the entry that comes first, if one may come
+unfoldable pub next_front : {n : ℕ} → Grammar n → List ℕ → Option ℕ
+next_front g bytes = if is_full g.most then None else front g.layout bytes
+
+-- an entry before those that follow it
 abbrev pub with_entry : List ℕ → List (List ℕ) × List ℕ → List (List ℕ) × List ℕ
-with_entry e behind = (e ∷ behind.0, behind.1)
+with_entry e others = (e ∷ others.0, others.1)
 
 -- at most so many entries, and the bytes after them
-abbrev pub cut_within : List ℕ → ℕ → List ℕ → List (List ℕ) × List ℕ
-cut_within least_lengths zero bytes = ([], bytes)
-cut_within least_lengths (suc most) bytes = elim (front least_lengths bytes) [
-  | Some n ↦ with_entry (take n bytes) (cut_within least_lengths most (drop n bytes))
+abbrev pub cut_within : {n : ℕ} → EntryLayout n → ℕ → List ℕ → List (List ℕ) × List ℕ
+cut_within l zero bytes = ([], bytes)
+cut_within l (suc most) bytes = elim (front l bytes) [
+  | Some size ↦ with_entry (take size bytes) (cut_within l most (drop size bytes))
   | None ↦ ([], bytes)
 ]
 
--- the entries, and the rest
-unfoldable pub cut : List ℕ → List ℕ → List (List ℕ) × List ℕ
-cut least_lengths bytes = cut_within least_lengths (length bytes) bytes
+-- the entries, and the rest; without a bound there are no more of them than bytes
+unfoldable pub cut : {n : ℕ} → Grammar n → List ℕ → List (List ℕ) × List ℕ
+cut g bytes = cut_within g.layout (unwrap_or g.most (length bytes)) bytes
+
+-- the grammar of those that follow one entry: one less may come
+abbrev pub after_one : {n : ℕ} → Grammar n → Grammar n
+after_one g = record { layout = g.layout; most = option_map (λ most. most - 1) g.most }

@@ -4,7 +4,7 @@ use Rattle.std.specs.List.{filter_map, list_any}
 use Rattle.std.specs.Option.{option_map}
 use Rattle.acpi_base.specs.Entries.{cut}
 use Rattle.acpi_base.specs.Interrupts.{item_of}
-use Rattle.acpi_base.specs.Madt.{entry_of, madt_lengths}
+use Rattle.acpi_base.specs.Madt.{entry_of, madt_grammar}
 use Rattle.acpi_base.specs.Model.{fault_of, io_apic_in, is_of_apic, nmi_line_in, nmi_source_in, override_in, items_of, processor_in}
 use Rattle.acpi_base.specs.declared.error.MadtError.{MadtError}
 use Rattle.acpi_base.specs.declared.model.counts.Counts.{Counts}
@@ -16,7 +16,7 @@ said_of e = option_map item_of (entry_of e)
 
 -- what the entries in which these bytes are cut say, and the refusals
 abbrev pub said_in : List ℕ → List (Result MadtItem MadtError)
-said_in bytes = filter_map said_of (cut madt_lengths bytes).0
+said_in bytes = filter_map said_of (cut madt_grammar bytes).0
 
 -- how many there are of each, where so many are counted and these are after them
 abbrev pub counted_behind : Counts → List MadtItem → Counts

@@ -10,6 +10,9 @@ use Rattle.acpi_base.specs.declared.error.MadtError.{MadtError}
 use Rattle.acpi_base.specs.declared.error.MadtError.TheVariants.{InvalidEntryLength, UnexpectedEntry}
 use Rattle.acpi_base.specs.declared.tables.madt.Madt.{Madt}
 use Rattle.acpi_base.specs.Entries.{cut}
+use Rattle.acpi_base.specs.declared.entries.EntryLayout.{EntryLayout}
+use Rattle.acpi_base.specs.declared.entries.Grammar.{Grammar}
+use Rattle.acpi_base.specs.declared.entries.Width.TheVariants.{One}
 use Rattle.acpi_base.specs.MadtEntries as entries
 use Rattle.acpi_base.specs.declared.tables.madt.entry.MadtEntry.{MadtEntry}
 use Rattle.acpi_base.specs.declared.tables.madt.entry.MadtEntry.TheVariants as variants
@@ -39,13 +42,26 @@ entry_types =
 abbrev pub madt_lengths : List ℕ
 madt_lengths = map (λ k. k.0) entry_types
 
+-- an entry begins with its type and its length, one byte each
+abbrev pub madt_layout : EntryLayout 17
+madt_layout = record {
+  kind_place = record { at = 0; width = One };
+  length_place = record { at = 1; width = One };
+  least_lengths = madt_lengths;
+  least_of_others = 2;
+}
+
+-- there may be any number of entries
+abbrev pub madt_grammar : Grammar 17
+madt_grammar = record { layout = madt_layout; most = None }
+
 -- what an entry says; nothing where its type is after the last one
 abbrev pub entry_of : List ℕ → Option MadtEntry
 entry_of e = option_map (λ k. k.1 e) (slice_get entry_types (slice_index e 0))
 
 -- the entries of the bytes after a table's 44 fixed ones, and the rest in which no entry begins
 abbrev pub cut_of : List ℕ → List (List ℕ) × List ℕ
-cut_of table = cut madt_lengths (drop 44 table)
+cut_of table = cut madt_grammar (drop 44 table)
 
 -- the entries of known types, in order
 abbrev pub entries_of : List ℕ → List MadtEntry

@@ -2,17 +2,17 @@
 use Rattle.std.specs.Prelude.{◌≡◌, ◌&&◌, Bool, true, false, ℕ, List, [], ◌∷◌, Option, Some, None}
 use Rattle.std.specs.List.{filter_map}
 use Rattle.acpi_base.specs.Entries.{cut}
-use Rattle.acpi_base.specs.Madt.{entry_of, madt_lengths}
+use Rattle.acpi_base.specs.Madt.{entry_of, madt_grammar}
 use Rattle.acpi_base.specs.declared.tables.madt.entry.MadtEntry.{MadtEntry}
 use Rattle.acpi_base.specs.declared.tables.madt.walk.MadtEntryIter.{MadtEntryIter}
 
 -- the entries that are still to come
 abbrev pub entries_left : MadtEntryIter → List MadtEntry
-entries_left s = filter_map entry_of (cut madt_lengths s.rest.now).0
+entries_left s = filter_map entry_of (cut madt_grammar s.rest.now).0
 
 -- the rest after them, in which no entry begins
 abbrev pub rest_left : MadtEntryIter → List ℕ
-rest_left s = (cut madt_lengths s.rest.now).1
+rest_left s = (cut madt_grammar s.rest.now).1
 
 -- whether it has answered that no entry is left
 abbrev pub has_ended : MadtEntryIter → Bool

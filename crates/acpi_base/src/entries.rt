@@ -1,48 +1,142 @@
-//! Entries, of which each begins with its type and its length, one byte each.
-ghost use Rattle.std.specs.Prelude.{◌≡◌, ◌<◌, length, IfSome, IfNone, []};
-ghost use Rattle.acpi_base.specs.Entries.{IsEntry, cut, front, least_length, with_entry};
+//! Entries of a table, each of which has its type and its length near its front.
+//!
+//! What tables differ in is a value, a `Grammar`. A walk goes from entry to entry by `split_front`; over
+//! a grammar that is a constant it costs what a walk written for that table does.
+ghost use Rattle.std.specs.Prelude.{◌≡◌, ◌<◌, length, IfSome, IfNone, [], slice_index};
+ghost use Rattle.acpi_base.specs.Entries.{IsEntry, after_one, cut, end_of, front, least_length, next_front, number_at, with_entry};
 
-/// The least length of an entry of a type, where these are those of the first types.
-fn least_length(least_lengths: &[usize], entry_type: u8) -> usize
-    ensures { result ≡ least_length least_lengths.now entry_type }
+/// How many bytes a number has.
+#[derive(Clone, Copy, Debug)]
+pub enum Width {
+    /// One byte.
+    One,
+    /// Two bytes, the lower one first.
+    Two,
+}
+
+/// Where a number stands in an entry.
+#[derive(Clone, Copy, Debug)]
+pub struct Place {
+    /// How many bytes of the entry stand before it.
+    pub at: u8,
+    /// How many bytes it has.
+    pub width: Width,
+}
+
+/// What an entry of a table has to be.
+#[derive(Clone, Copy, Debug)]
+pub struct EntryLayout<const KINDS: usize> {
+    /// Where its type stands.
+    pub kind_place: Place,
+    /// Where its length stands, in bytes, with these two numbers.
+    pub length_place: Place,
+    /// The least length of an entry of each type, from type 0 on.
+    pub least_lengths: [usize; KINDS],
+    /// The least length of an entry of any other type.
+    pub least_of_others: usize,
+}
+
+/// How a table's bytes are cut into entries.
+#[derive(Clone, Copy, Debug)]
+pub struct Grammar<const KINDS: usize> {
+    /// What each entry has to be.
+    pub layout: EntryLayout<KINDS>,
+    /// How many entries there are at most, whatever comes after them. `None`: as many as begin.
+    pub most: Option<usize>,
+}
+
+/// A byte, or zero past the end.
+#[inline(always)]
+fn byte_at(bytes: &[u8], at: usize) -> u8
+    ensures { result ≡ slice_index bytes.now at }
 {
-    match least_lengths.get(entry_type as usize) {
+    match bytes.get(at) {
+        Some(byte) => *byte,
+        None => 0,
+    }
+}
+
+/// The number at a place of an entry. A byte past the end is read as zero.
+#[inline(always)]
+pub fn number_at(place: Place, bytes: &[u8]) -> usize
+    ensures { result ≡ number_at place bytes.now }
+{
+    let at = place.at as usize;
+    match place.width {
+        Width::One => byte_at(bytes, at) as usize,
+        Width::Two => byte_at(bytes, at) as usize + 256 * byte_at(bytes, at + 1) as usize,
+    }
+}
+
+/// Where a number ends.
+#[inline(always)]
+fn end_of(place: Place) -> usize
+    ensures { result ≡ end_of place }
+{
+    match place.width {
+        Width::One => place.at as usize + 1,
+        Width::Two => place.at as usize + 2,
+    }
+}
+
+/// The least length of an entry of a type.
+#[inline(always)]
+fn least_length<const KINDS: usize>(layout: &EntryLayout<KINDS>, entry_type: usize) -> usize
+    ensures { result ≡ least_length layout.now entry_type }
+{
+    match layout.least_lengths.get(entry_type) {
         Some(least) => *least,
-        None => 2,
+        None => layout.least_of_others,
     }
 }
 
-/// The length of the entry that the bytes begin with, or `None` where they begin with none: where
-/// one byte is left, or the length is under 2, under the least of its type, or past the bytes.
+/// The length of the entry that the bytes begin with, or `None` if they begin with none: if the length
+/// is less than what holds the two numbers, than the least of its type, or goes past the bytes.
+#[inline(always)]
 #[tactic(auto, unfolding(crate::specs::Entries::front))]
-fn front_length(least_lengths: &[usize], bytes: &[u8]) -> Option<usize>
-    ensures { result ≡ front least_lengths.now bytes.now }
+fn front<const KINDS: usize>(layout: &EntryLayout<KINDS>, bytes: &[u8]) -> Option<usize>
+    ensures { result ≡ front layout.now bytes.now }
 {
-    match bytes {
-        [entry_type, n, others @ ..] => {
-            let n = *n as usize;
-            if 2 <= n && least_length(least_lengths, *entry_type) <= n && n <= others.len() + 2 {
-                Some(n)
-            } else {
-                None
-            }
-        }
-        _ => None,
+    let size = number_at(layout.length_place, bytes);
+    let entry_type = number_at(layout.kind_place, bytes);
+    if end_of(layout.kind_place) <= size
+        && end_of(layout.length_place) <= size
+        && least_length(layout, entry_type) <= size
+        && size <= bytes.len()
+    {
+        Some(size)
+    } else {
+        None
     }
 }
 
-/// The entry that the bytes begin with, and the bytes after it, or `None` where they begin with
-/// none.
-pub(crate) fn split_front<'a>(
-    least_lengths: &[usize],
+/// The same, or `None` if no entry may come.
+#[inline(always)]
+#[tactic(auto, unfolding(crate::specs::Entries::next_front))]
+fn next_front<const KINDS: usize>(grammar: &Grammar<KINDS>, bytes: &[u8]) -> Option<usize>
+    ensures { result ≡ next_front grammar.now bytes.now }
+{
+    match grammar.most {
+        Some(0) => None,
+        _ => front(&grammar.layout, bytes),
+    }
+}
+
+/// The entry that the bytes begin with, and the bytes after it, or `None` if there may be no more
+/// entries, or the bytes begin with none: if the length is less than what holds type and length, than
+/// the least of its type, or goes past the bytes. Those that follow are entries by the same grammar
+/// with one less of them.
+#[inline(always)]
+pub fn split_front<'a, const KINDS: usize>(
+    grammar: &Grammar<KINDS>,
     bytes: &'a [u8],
 ) -> Option<(&'a [u8], &'a [u8])>
-    ensures found { IfSome result (λ x. cut least_lengths.now bytes.now
-        ≡ with_entry x.0.now (cut least_lengths.now x.1.now)) }
-    ensures entry { IfSome result (λ x. IsEntry least_lengths.now x.0.now) }
+    ensures found { IfSome result (λ x. cut grammar.now bytes.now
+        ≡ with_entry x.0.now (cut (after_one grammar.now) x.1.now)) }
+    ensures entry { IfSome result (λ x. IsEntry grammar.now.layout x.0.now) }
     ensures shorter { IfSome result (λ x. length x.1.now < length bytes.now) }
-    ensures none { IfNone result (cut least_lengths.now bytes.now ≡ ([], bytes.now)) }
+    ensures none { IfNone result (cut grammar.now bytes.now ≡ ([], bytes.now)) }
 {
-    let n = front_length(least_lengths, bytes)?;
-    Some(bytes.split_at(n))
+    let size = next_front(grammar, bytes)?;
+    Some(bytes.split_at(size))
 }

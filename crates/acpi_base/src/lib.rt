@@ -11,7 +11,7 @@
 
 pub mod address;
 pub mod bytes;
-mod entries;
+pub mod entries;
 pub mod error;
 pub mod extended;
 pub mod laws;

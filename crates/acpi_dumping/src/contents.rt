@@ -4,8 +4,8 @@ use crate::arguments::Contents;
 use crate::fields::{print_bytes, print_fields};
 use crate::getters::print_getters;
 use crate::hex::print_dump;
-use crate::layouts::{ENTRY, Field, HEADER, MADT, entries_of, entry_fields, fields_of};
-use acpi::sdt::Signature;
+use crate::layouts::{Field, HEADER, Listing, entries_of, fields_of, listing_of};
+use acpi::sdt::{Signature, field};
 use std::io;
 use std::io::Write;
 
@@ -24,10 +24,12 @@ pub(crate) fn print_contents<W: Write>(
 
 /// Prints the fields of a table.
 fn print_typed<W: Write>(signature: Signature, table: &[u8], out: &mut W) -> io::Result<()> {
-    if signature == Signature::MADT {
-        print_madt(table, out)
+    if let Some(listing) = listing_of(signature) {
+        print_listing(table, listing, out)
     } else if signature == Signature::FACS {
         print_fields(0, table, &[fields_of(signature)], out)
+    } else if signature == Signature::SLIT {
+        print_slit(table, out)
     } else {
         print_plain(signature, table, out)
     }
@@ -77,21 +79,49 @@ fn print_entries<W: Write>(
     Ok(())
 }
 
-/// Prints a MADT entry by entry. A remainder that begins with no entry is printed as bytes.
-fn print_madt<W: Write>(table: &[u8], out: &mut W) -> io::Result<()> {
-    let (front, mut rest) = split(table, 44);
-    print_fields(0, front, &[HEADER, MADT], out)?;
-    let mut offset: u64 = 44;
+/// Prints a table entry by entry. A remainder that begins with no entry is printed as bytes.
+fn print_listing<W: Write>(table: &[u8], listing: Listing, out: &mut W) -> io::Result<()> {
+    let (start, fields) = listing.front();
+    let (front, mut rest) = split(table, start);
+    print_fields(0, front, &[HEADER, fields], out)?;
+    let mut offset = start as u64;
     while let [kind, length, ..] = rest {
-        let fields = entry_fields(*kind);
+        let lists = listing.entry(*kind);
         let length = *length as usize;
         if length < 2 || rest.len() < length {
             break;
         }
         let (entry, others) = rest.split_at(length);
-        print_fields(offset, entry, &[ENTRY, fields], out)?;
+        print_fields(offset, entry, &lists, out)?;
         offset = offset.saturating_add(length as u64);
         rest = others;
     }
     print_bytes(offset, rest, 0, rest.len(), out)
+}
+
+/// Prints a SLIT, with a line for the distances from each locality. Bytes that are no whole line are
+/// printed as bytes.
+fn print_slit<W: Write>(table: &[u8], out: &mut W) -> io::Result<()> {
+    let (front, mut rest) = split(table, 44);
+    print_fields(0, front, &[HEADER, fields_of(Signature::SLIT)], out)?;
+    let count = field(table, 36, 8);
+    let mut offset: u64 = 44;
+    let mut from = 0u64;
+    while from < count && count <= rest.len() as u64 {
+        let (row, others) = rest.split_at(count as usize);
+        print_distances(offset, from, row, out)?;
+        offset = offset.saturating_add(count);
+        from = from.saturating_add(1);
+        rest = others;
+    }
+    print_bytes(offset, rest, 0, rest.len(), out)
+}
+
+/// Prints the distances from a locality to each, as decimal numbers.
+fn print_distances<W: Write>(offset: u64, from: u64, row: &[u8], out: &mut W) -> io::Result<()> {
+    write!(out, "  {offset:04x}  from {from} ")?;
+    for distance in row {
+        write!(out, " {distance}")?;
+    }
+    writeln!(out)
 }

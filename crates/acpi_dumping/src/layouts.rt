@@ -3,9 +3,9 @@
 mod devices;
 mod fadt;
 mod madt;
+mod numa;
 
 use acpi::sdt::Signature;
-pub(crate) use madt::{ENTRY, MADT, entry_fields};
 
 /// What a field's number means.
 #[derive(Clone, Copy)]
@@ -71,8 +71,46 @@ pub(crate) fn fields_of(signature: Signature) -> &'static [Field] {
         devices::SPCR
     } else if signature == Signature::FACS {
         devices::FACS
+    } else if signature == Signature::SLIT {
+        numa::SLIT
     } else {
         &[]
+    }
+}
+
+/// A table whose entries have a kind and a length, of one byte each.
+#[derive(Clone, Copy)]
+pub(crate) enum Listing {
+    Madt,
+    Srat,
+}
+
+/// Which such table has this signature.
+pub(crate) fn listing_of(signature: Signature) -> Option<Listing> {
+    if signature == Signature::MADT {
+        Some(Listing::Madt)
+    } else if signature == Signature::SRAT {
+        Some(Listing::Srat)
+    } else {
+        None
+    }
+}
+
+impl Listing {
+    /// Where the entries begin, and the fields between the header and them.
+    pub(crate) fn front(self) -> (usize, &'static [Field]) {
+        match self {
+            Listing::Madt => (44, madt::MADT),
+            Listing::Srat => (48, numa::SRAT),
+        }
+    }
+
+    /// What each entry begins with, and the fields after that of an entry of this kind.
+    pub(crate) fn entry(self, kind: u8) -> [&'static [Field]; 2] {
+        match self {
+            Listing::Madt => [madt::ENTRY, madt::entry_fields(kind)],
+            Listing::Srat => [numa::SRAT_ENTRY, numa::srat_entry_fields(kind)],
+        }
     }
 }
 

@@ -3,6 +3,7 @@
 //! hexadecimal, but in the texts of signatures and refusals, and in what is printed.
 #![tactic(auto)]
 
+mod areas;
 mod bgrt;
 mod codes;
 mod fadt;

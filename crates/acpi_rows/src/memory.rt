@@ -1,5 +1,6 @@
 //! What is found in memory, over each handler.
 
+use crate::areas::{areas_of, of_bios};
 use acpi::bgrt::Bgrt;
 use acpi::rsdp::Rsdp;
 use acpi::spcr::Spcr;
@@ -15,6 +16,9 @@ use std::alloc::{AllocError, Global};
 /// What a row's regions answer over an image, over a handler that lends just what is asked for, and
 /// over one that records its loans: one answer if all of them give it and each loan ends.
 pub(crate) fn answer(alloc: Global, row: &Row, question: &str) -> Result<String, AllocError> {
+    if let Some(ebda) = question.strip_prefix("bios areas ") {
+        return of_bios(alloc, ebda);
+    }
     let file = row.file(alloc)?;
     match MemoryImage::from_bytes(alloc, &file) {
         Ok(image) => agreed(alloc, &image, question),
@@ -47,9 +51,9 @@ fn recorded(alloc: Global, image: &MemoryImage<'_>, question: &str) -> Result<St
 /// in opens.
 fn asked<H: AcpiHandler>(alloc: Global, handler: &H, question: &str) -> Result<String, AllocError> {
     let Some((what, way)) = question.split_once(" by ") else {
-        return shown(alloc, &searched(handler));
+        return shown(alloc, &searched(alloc, handler, question));
     };
-    let tables = match opened(handler, way) {
+    let tables = match opened(alloc, handler, way) {
         Ok(tables) => tables,
         Err(refusal) => return shown(alloc, &refusal),
     };
@@ -60,18 +64,32 @@ fn asked<H: AcpiHandler>(alloc: Global, handler: &H, question: &str) -> Result<S
     }
 }
 
-/// Where a search finds an RSDP, and how many bytes it has.
-fn searched<H: AcpiHandler>(handler: &H) -> AcpiResult<(u64, usize)> {
-    let found = Rsdp::search_for_on_bios(handler)?;
+/// Where a search finds an RSDP, and how many bytes it has: in the areas behind `areas`, or else in
+/// those of a BIOS.
+fn searched<H: AcpiHandler>(
+    alloc: Global,
+    handler: &H,
+    question: &str,
+) -> AcpiResult<(u64, usize)> {
+    let (word, areas) = question.split_once(' ').unwrap_or((question, ""));
+    let found = match word {
+        "areas" => Rsdp::search_in(handler, &areas_of(alloc, areas)?)?,
+        _ => Rsdp::search_for_on_bios(handler)?,
+    };
     Ok((found.physical_start(), found.region_length()))
 }
 
-/// The tables that a way in opens: `bios`, `candidate`, or the address of an RSDP behind `rsdp` or of
-/// a root table behind its revision.
-fn opened<'h, H: AcpiHandler>(handler: &'h H, way: &str) -> AcpiResult<AcpiTables<'h, H>> {
-    let (word, address) = way.split_once(' ').unwrap_or((way, ""));
-    let address = parse_address(address).unwrap_or(0);
+/// The tables that a way in opens: `bios`, `candidate`, the areas behind `areas`, or the address of
+/// an RSDP behind `rsdp` or of a root table behind its revision.
+fn opened<'h, H: AcpiHandler>(
+    alloc: Global,
+    handler: &'h H,
+    way: &str,
+) -> AcpiResult<AcpiTables<'h, H>> {
+    let (word, place) = way.split_once(' ').unwrap_or((way, ""));
+    let address = parse_address(place).unwrap_or(0);
     match word {
+        "areas" => AcpiTables::search_in(handler, &areas_of(alloc, place)?),
         "bios" => AcpiTables::search_for_rsdp_bios(handler),
         "candidate" => by_candidate(handler),
         "rsdp" => AcpiTables::from_rsdp(handler, address),

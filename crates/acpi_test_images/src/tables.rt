@@ -1,7 +1,8 @@
 //! Questions about the tables of a memory.
 //!
 //! `QUESTION below ROOT` names the root table or what leads to it: `rsdt REVISION ADDRESS`, `rsdp
-//! ADDRESS`, or `bios`. A question that names none is about the tables below the RSDT at 0x1000.
+//! ADDRESS`, `bios`, or `area LENGTH ADDRESS` for the area that has the RSDP. A question that names
+//! none is about the tables below the RSDT at 0x1000.
 //! Questions with ` then ` between them are asked of the same tables, one after the other.
 
 use crate::platforms::{of_answer, platform};
@@ -14,7 +15,9 @@ use acpi::madt::Madt;
 use acpi::mcfg::Mcfg;
 use acpi::sdt::{SdtHeader, Signature};
 use acpi::spcr::Spcr;
-use acpi::{AcpiHandler, AcpiResult, AcpiTable, AcpiTables, HpetInfo, PciConfigRegions};
+use acpi::{
+    AcpiHandler, AcpiResult, AcpiTable, AcpiTables, AddressRange, HpetInfo, PciConfigRegions,
+};
 use acpi_cli::{parse_address, parse_revision};
 use acpi_testkit::answers::place_of;
 use acpi_testkit::rows::{named, shown};
@@ -39,13 +42,15 @@ pub(crate) fn answer<H: AcpiHandler>(
 fn open<'h, H: AcpiHandler>(handler: &'h H, root: &str) -> AcpiResult<AcpiTables<'h, H>> {
     let (kind, address) = root.rsplit_once(' ').unwrap_or((root, ""));
     let address = parse_address(address).unwrap_or(0);
-    match kind {
+    let (word, number) = kind.split_once(' ').unwrap_or((kind, ""));
+    match word {
         "bios" => AcpiTables::search_for_rsdp_bios(handler),
         "rsdp" => AcpiTables::from_rsdp(handler, address),
-        _ => {
-            let revision = kind.strip_prefix("rsdt ").unwrap_or("");
-            AcpiTables::from_rsdt(handler, parse_revision(revision).unwrap_or(0), address)
+        "area" => {
+            let length = number.parse::<u64>().unwrap_or(0);
+            AcpiTables::search_in(handler, &[AddressRange { address, length }])
         }
+        _ => AcpiTables::from_rsdt(handler, parse_revision(number).unwrap_or(0), address),
     }
 }
 

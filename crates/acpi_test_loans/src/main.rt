@@ -15,8 +15,8 @@
 //!   `own ADDRESS` and `map ADDRESS` keep what they map at an address, and `given ADDRESS` maps bytes
 //!   that were lent before. `show` says what the mapping that was kept last holds, and
 //!   `release PLACE` drops one of them, or else the first.
-//! - `find NAME` looks a table up and drops it, as `search` does with an RSDP. `checks` says how
-//!   often the table was checked.
+//! - `find NAME` looks a table up and drops it, as `search` does with an RSDP, and `search ADDRESS
+//!   LENGTH` with one in an area. `checks` says how often the table was checked.
 //! - `headers`, `ssdts` and `faults NAME` list to the end, or so many items as a number says.
 //! - `dsdt`, `platform`, `hpet`, `pci` and `wake READS` sum tables up. A number behind `platform`
 //!   or `pci` is the size of a heap.

@@ -7,7 +7,7 @@ use crate::step::Step;
 use crate::transcript::Transcript;
 use crate::verb::Verb;
 use acpi::rsdp::Rsdp;
-use acpi::{AcpiHandler, AcpiResult, AcpiTables, Lender};
+use acpi::{AcpiHandler, AcpiResult, AcpiTables, AddressRange, Lender, PhysicalMapping};
 use acpi_testkit::history::History;
 use std::alloc::{AllocError, Global};
 use std::cell::Cell;
@@ -46,7 +46,7 @@ impl<'r, H: AcpiHandler> Scene<'r, H> {
     fn perform(&mut self, alloc: Global, step: Step<'_>) {
         match step.verb {
             Verb::Rsdt | Verb::Rsdp | Verb::Bios | Verb::Validated => self.open(step),
-            Verb::Search => self.transcript.find(Rsdp::search_for_on_bios(self.handler)),
+            Verb::Search => self.transcript.find(searched(self.handler, step)),
             Verb::Close => self.tables = None,
             Verb::Release => self.release(step.count() as usize),
             Verb::Show => self.show(alloc),
@@ -113,6 +113,24 @@ impl<'r, H: AcpiHandler> Scene<'r, H> {
                 Ok(bytes) => self.transcript.say(&bytes),
                 Err(_) => self.transcript.require(false),
             }
+        }
+    }
+}
+
+/// The RSDP that a search finds: in so many bytes from an address on if the step gives a number, or
+/// else in the areas of a BIOS.
+fn searched<'h, H: AcpiHandler>(
+    handler: &'h H,
+    step: Step<'_>,
+) -> AcpiResult<PhysicalMapping<'h, H, Rsdp>> {
+    match step.number {
+        None => Rsdp::search_for_on_bios(handler),
+        Some(number) => {
+            let area = AddressRange {
+                address: step.address,
+                length: number as u64,
+            };
+            Rsdp::search_in(handler, &[area])
         }
     }
 }

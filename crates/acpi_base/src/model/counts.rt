@@ -7,7 +7,7 @@ use crate::bytes::skip;
 use crate::entries::split_front;
 use crate::error::MadtError;
 use crate::memory::handler::PhysicalRecord;
-use crate::tables::madt::{LEAST_LENGTHS, Madt};
+use crate::tables::madt::{MADT_GRAMMAR, Madt};
 
 /// How many there are of each, and whether any entry is of a model of APICs.
 #[derive(Clone, Copy)]
@@ -35,7 +35,7 @@ impl Counts {
             is_of_apic: false,
         };
         let mut rest = skip(table, Madt::MIN_LENGTH);
-        while let Some((entry, others)) = split_front(&LEAST_LENGTHS, rest) {
+        while let Some((entry, others)) = split_front(&MADT_GRAMMAR, rest) {
             rest = others;
             let Some(said) = MadtItem::said(entry) else {
                 continue;

@@ -14,7 +14,7 @@ use crate::bytes::skip;
 use crate::entries::split_front;
 use crate::error::{AcpiError, AcpiResult};
 use crate::memory::handler::PhysicalRecord;
-use crate::tables::madt::{LEAST_LENGTHS, Madt};
+use crate::tables::madt::{MADT_GRAMMAR, Madt};
 use std::alloc::Allocator;
 
 /// The model of APICs, with room for just what is counted.
@@ -33,7 +33,7 @@ fn gather<A: Allocator + Clone>(
 {
     let mut builder = ModelBuilder::with_room(madt, counts, allocator)?;
     let mut rest = skip(table, Madt::MIN_LENGTH);
-    while let Some((entry, others)) = split_front(&LEAST_LENGTHS, rest) {
+    while let Some((entry, others)) = split_front(&MADT_GRAMMAR, rest) {
         rest = others;
         if let Some(Ok(item)) = MadtItem::said(entry) {
             builder.add(item);

@@ -2,7 +2,7 @@
 ghost use Rattle.std.specs.Prelude.{◌≡◌, Ok};
 ghost use Rattle.acpi_base.specs.Entries.{IsEntry};
 ghost use Rattle.acpi_base.specs.Interrupts.{io_apic_of, nmi_line_of, nmi_source_of, override_of, item_of, polarity_of, processor_for, trigger_mode_of};
-ghost use Rattle.acpi_base.specs.Madt.{madt_lengths};
+ghost use Rattle.acpi_base.specs.Madt.{madt_layout};
 ghost use Rattle.acpi_base.specs.Items.{said_of};
 ghost use Rattle.acpi_base.specs.declared.tables.madt.entry.MadtEntry.TheVariants as variants;
 
@@ -52,7 +52,7 @@ impl MadtItem {
     #[inline(always)]
     #[tactic(auto, unfolding(crate::specs::Interrupts::item_of, crate::specs::Items::said_of))]
     pub(super) fn said(entry: &[u8]) -> Option<Result<MadtItem, MadtError>>
-        requires { IsEntry madt_lengths entry.now }
+        requires { IsEntry madt_layout entry.now }
         ensures { result ≡ said_of entry.now }
     {
         match entry[0] {

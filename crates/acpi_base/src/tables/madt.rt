@@ -22,7 +22,7 @@ pub use apic::{
     InterruptSourceOverrideEntry, IoApicEntry, LocalApicAddressOverrideEntry, LocalApicEntry,
     LocalApicNmiEntry, LocalX2ApicEntry, NmiSourceEntry, X2ApicNmiEntry,
 };
-pub(crate) use entry::LEAST_LENGTHS;
+pub(crate) use entry::MADT_GRAMMAR;
 pub use entry::{EntryHeader, MadtEntry};
 pub use gic::{
     GicInterruptTranslationServiceEntry, GicMsiFrameEntry, GicRedistributorEntry, GiccEntry,

@@ -22,8 +22,12 @@ const LOCAL: &[Bit] = &[Bit(0, "Enabled"), Bit(1, "Online Capable")];
 /// The MPS INTI flags (table 5.26): the polarity in bits 0 and 1, the trigger in bits 2 and 3.
 const INTI: &[Code] = &[
     Code(0x0, "as the bus has it"),
+    Code(0x1, "active high, triggered as the bus has it"),
+    Code(0x3, "active low, triggered as the bus has it"),
+    Code(0x4, "active as the bus has it, edge-triggered"),
     Code(0x5, "active high, edge-triggered"),
     Code(0x7, "active low, edge-triggered"),
+    Code(0xc, "active as the bus has it, level-triggered"),
     Code(0xd, "active high, level-triggered"),
     Code(0xf, "active low, level-triggered"),
 ];

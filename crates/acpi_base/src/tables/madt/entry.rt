@@ -11,6 +11,7 @@ use super::gic::{
 use super::sapic::{IoSapicEntry, LocalSapicEntry, PlatformInterruptSourceEntry};
 use super::wakeup::MultiprocessorWakeupEntry;
 use crate::bytes::field_in;
+use crate::entries::{EntryLayout, Grammar, Place, Width};
 use crate::memory::handler::PhysicalRecord;
 
 /// What each entry begins with (section 5.2.12).
@@ -80,7 +81,7 @@ pub enum MadtEntry {
 }
 
 /// The least length of an entry of each of these types, from type 0 on.
-pub(crate) const LEAST_LENGTHS: [usize; 17] = [
+const LEAST_LENGTHS: [usize; 17] = [
     LocalApicEntry::MIN_LENGTH,
     IoApicEntry::MIN_LENGTH,
     InterruptSourceOverrideEntry::MIN_LENGTH,
@@ -100,15 +101,32 @@ pub(crate) const LEAST_LENGTHS: [usize; 17] = [
     MultiprocessorWakeupEntry::MIN_LENGTH,
 ];
 
+/// How the table's bytes are cut into entries: the type and the length have one byte each.
+pub(crate) const MADT_GRAMMAR: Grammar<17> = Grammar {
+    layout: EntryLayout {
+        kind_place: Place {
+            at: 0,
+            width: Width::One,
+        },
+        length_place: Place {
+            at: 1,
+            width: Width::One,
+        },
+        least_lengths: LEAST_LENGTHS,
+        least_of_others: 2,
+    },
+    most: None,
+};
+
 impl MadtEntry {
     ghost use Rattle.std.specs.Prelude.{◌≡◌};
     ghost use Rattle.acpi_base.specs.Entries.{IsEntry};
-    ghost use Rattle.acpi_base.specs.Madt.{entry_of, madt_lengths};
+    ghost use Rattle.acpi_base.specs.Madt.{entry_of, madt_layout};
 
     /// What an entry says, or `None` where its type is reserved or the maker's.
     #[inline(always)]
     pub(crate) fn read(entry: &[u8]) -> Option<MadtEntry>
-        requires { IsEntry madt_lengths entry.now }
+        requires { IsEntry madt_layout entry.now }
         ensures { result ≡ entry_of entry.now }
     {
         match entry[0] {

@@ -1,7 +1,7 @@
 //! The entries of a MADT, one at a time.
 
 use super::Madt;
-use super::entry::{LEAST_LENGTHS, MadtEntry};
+use super::entry::{MADT_GRAMMAR, MadtEntry};
 use crate::bytes::skip;
 use crate::entries::split_front;
 use crate::memory::handler::PhysicalRecord;
@@ -61,7 +61,7 @@ impl Iterator for MadtEntryIter<'_> {
 
     #[inline(always)]
     fn next(&mut self) -> Option<MadtEntry> {
-        while let Some((entry, others)) = split_front(&LEAST_LENGTHS, self.rest) {
+        while let Some((entry, others)) = split_front(&MADT_GRAMMAR, self.rest) {
             self.rest = others;
             if let Some(found) = MadtEntry::read(entry) {
                 return Some(found);

@@ -2,7 +2,7 @@ use Rattle.std.proofs.Common.{◌≡◌, ℕ, ◌+◌, ◌≤◌, length}
 use Rattle.std.specs.List.{filter_map}
 use Rattle.std.specs.Result.{result_err, result_ok}
 use Rattle.acpi_base.specs.Entries.{cut}
-use Rattle.acpi_base.specs.Madt.{cut_of, entries_of, madt_lengths}
+use Rattle.acpi_base.specs.Madt.{cut_of, entries_of, madt_grammar}
 use Rattle.acpi_base.specs.Model.{fault_in, items_of}
 use Rattle.acpi_base.specs.Items.{counted_behind, counts_of, said_in}
 use Rattle.acpi_base.specs.declared.model.counts.Counts.{Counts}
@@ -19,7 +19,7 @@ invariant-loop-entry l = record {
   passed : filter_map result_err (said_in l.rest) ≡ filter_map fault_in (entries_of l.table);
   counted : counted_behind l.counts (filter_map result_ok (said_in l.rest)) ≡ counts_of (items_of l.table);
   room : has_room l.counts (length (said_in l.rest)) (length l.table);
-  rest : (cut madt_lengths l.rest).1 ≡ (cut_of l.table).1;
+  rest : (cut madt_grammar l.rest).1 ≡ (cut_of l.table).1;
 }
 
 abbrev pub decreases-loop-entry : goal.decreases-loop-entry

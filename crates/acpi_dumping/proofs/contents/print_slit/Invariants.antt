@@ -1,6 +1,6 @@
 use Rattle.std.proofs.Common.{length}
-use Rattle.acpi_dumping.proofs.contents.print_madt.Given as goal
+use Rattle.acpi_dumping.proofs.contents.print_slit.Given as goal
 
--- each entry leaves fewer bytes
+-- each line leaves fewer bytes
 abbrev pub decreases-loop-rest : goal.decreases-loop-rest
 decreases-loop-rest g l = length l.rest

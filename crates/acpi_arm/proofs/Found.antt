@@ -1,0 +1,17 @@
+-- What is said of a GIC depends on the valid MADT alone, wherever it lies.
+use Rattle.std.proofs.Common.{lit≤}
+use Rattle.acpi_base.specs.Ranges.{DependsOn}
+use Rattle.acpi_base.specs.Steps.{◌>>=◌}
+use Rattle.acpi_base.specs.declared.table.signature.TheConstants.Signature.{MADT}
+use Rattle.acpi.proofs.Agreed.{same_said}
+use Rattle.acpi.proofs.Moved.{said_follows}
+use Rattle.acpi.specs.Footprint.{lookup_ranges}
+use Rattle.acpi.specs.Platform.{madt_kind}
+use Rattle.acpi.specs.Relocation.{FollowsTables}
+use Rattle.acpi_arm.specs.Gic.{found_gic, gic_of}
+
+pub same_gic : {A : Type 0} → DependsOn (λ m. lookup_ranges m madt_kind) (λ m ps. found_gic {A = A} m ps)
+same_gic m n ps h = same_said madt_kind m n ps (λ r. r >>= λ f. gic_of f.1) h
+
+pub gic_follows : {A : Type 0} → FollowsTables (λ m ps. found_gic {A = A} m ps)
+gic_follows = said_follows MADT 44 (λ b. gic_of b) (lit≤ tt)

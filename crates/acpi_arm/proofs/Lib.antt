@@ -1,0 +1,2 @@
+mod Equalities
+mod Found

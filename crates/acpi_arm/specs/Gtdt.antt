@@ -1,0 +1,70 @@
+-- The generic timers (ACPI 6.4, section 5.2.24).
+use Rattle.std.specs.Prelude.{ℕ, ◌+◌, ◌-◌, ◌^◌, ◌==◌, ◌||◌, nat_le, nat_lt, List, Option, None, if◌then◌else◌}
+use Rattle.acpi_base.specs.Bits.{has_bit}
+use Rattle.acpi_base.specs.Bytes.{field_of}
+use Rattle.acpi_base.specs.Extended.{extended_at, shown_of}
+use Rattle.acpi_base.specs.Header.{header_at}
+use Rattle.acpi_base.specs.Spcr.{unless}
+use Rattle.acpi_base.specs.Table.{Kind, sdt_kind}
+use Rattle.acpi_base.specs.declared.model.interrupt.Polarity.{Polarity}
+use Rattle.acpi_base.specs.declared.model.interrupt.Polarity.TheVariants.{ActiveHigh, ActiveLow}
+use Rattle.acpi_base.specs.declared.model.interrupt.TriggerMode.{TriggerMode}
+use Rattle.acpi_base.specs.declared.model.interrupt.TriggerMode.TheVariants.{Edge, Level}
+use Rattle.acpi_base.specs.declared.table.signature.TheConstants.Signature.{GTDT}
+use Rattle.acpi_arm.specs.declared.gtdt.ArmTimer.{ArmTimer}
+use Rattle.acpi_arm.specs.declared.gtdt.Gtdt.{Gtdt}
+
+abbrev pub gtdt_kind : Kind
+gtdt_kind = sdt_kind GTDT 96
+
+-- a bit of the flags says how an interrupt comes
+
+abbrev pub trigger_in : ℕ → ℕ → TriggerMode
+trigger_in flags k = if has_bit flags k then Edge else Level
+
+abbrev pub polarity_in : ℕ → ℕ → Polarity
+polarity_in flags k = if has_bit flags k then ActiveLow else ActiveHigh
+
+-- an address, of which all ones stand for none
+abbrev pub unless_ones : ℕ → Option ℕ
+unless_ones address = unless (2 ^ 64 - 1) address
+
+-- the interrupt and the flags at an offset
+abbrev pub arm_timer_at : List ℕ → ℕ → ArmTimer
+arm_timer_at b offset = record {
+  interrupt = field_of b offset 4;
+  trigger_mode = trigger_in (field_of b (offset + 4) 4) 0;
+  polarity = polarity_in (field_of b (offset + 4) 4) 1;
+  always_on = has_bit (field_of b (offset + 4) 4) 2;
+}
+
+-- what a table's bytes mean
+unfoldable pub gtdt_at : List ℕ → Gtdt
+gtdt_at b = record {
+  header = header_at b;
+  control_base = field_of b 36 8;
+  secure_el1_timer = arm_timer_at b 48;
+  non_secure_el1_timer = arm_timer_at b 56;
+  virtual_el1_timer = arm_timer_at b 64;
+  el2_timer = arm_timer_at b 72;
+  read_base = field_of b 80 8;
+  platform_timer_count = field_of b 88 4;
+  platform_timer_offset = field_of b 92 4;
+  el2_virtual = extended_at {least = 3} (λ x. arm_timer_at x 0) b 96 8;
+}
+
+-- ---- what calls show
+
+-- the base of the registers that control the counter
+abbrev pub control_base_of : Gtdt → Option ℕ
+control_base_of t = unless_ones t.control_base
+
+-- the base of those from which it is read; tables below revision 2 have another layout
+abbrev pub read_base_of : Gtdt → Option ℕ
+read_base_of t = if nat_lt t.header.revision 2 then None else unless_ones t.read_base
+
+-- the virtual timer of EL2, from revision 3 on, where no platform timer lies in its eight bytes
+abbrev pub virtual_el2_of : Gtdt → Option ArmTimer
+virtual_el2_of t =
+    if (t.platform_timer_count == 0) || nat_le 104 t.platform_timer_offset
+    then shown_of t.el2_virtual t.header.revision else None

@@ -1,0 +1,3 @@
+pub mod Gic
+pub mod Gtdt
+pub mod Timers

@@ -1,0 +1,172 @@
+-- The timers of the platform, in structures that the GTDT counts (ACPI 6.4, section 5.2.24.1).
+use Rattle.std.specs.Prelude.{◌≡◌, ◌⊎◌, ℕ, zero, suc, ◌+◌, ◌-◌, ◌*◌, ◌==◌, ◌&&◌, ◌||◌, Bool, not, nat_le, nat_lt, List, [], ◌∷◌, length, drop, Option, Some, None, if◌then◌else◌}
+use Rattle.std.proofs.Common.{inl, inr}
+use Rattle.std.specs.List.{filter_map}
+use Rattle.acpi_base.specs.Bits.{has_bit}
+use Rattle.acpi_base.specs.Bytes.{field_of}
+use Rattle.acpi_base.specs.Entries.{cut}
+use Rattle.acpi_base.specs.declared.entries.EntryLayout.{EntryLayout}
+use Rattle.acpi_base.specs.declared.entries.Grammar.{Grammar}
+use Rattle.acpi_base.specs.declared.entries.Width.TheVariants.{One, Two}
+use Rattle.acpi_arm.specs.Gtdt.{polarity_in, trigger_in, unless_ones}
+use Rattle.acpi_arm.specs.declared.frames.GtFrame.{GtFrame}
+use Rattle.acpi_arm.specs.declared.frames.GtFrameIter.{GtFrameIter}
+use Rattle.acpi_arm.specs.declared.frames.TimerInterrupt.{TimerInterrupt}
+use Rattle.acpi_arm.specs.declared.timers.PlatformTimer.{PlatformTimer}
+use Rattle.acpi_arm.specs.declared.timers.PlatformTimer.TheVariants as kinds
+use Rattle.acpi_arm.specs.declared.timers.PlatformTimerIter.{PlatformTimerIter}
+use Rattle.acpi_arm.specs.declared.timers.SbsaWatchdog.{SbsaWatchdog}
+
+-- ---- one structure
+
+-- it begins with its type, one byte, and its length, two bytes
+abbrev pub timers_layout : EntryLayout 2
+timers_layout = record {
+  kind_place = record { at = 0; width = One };
+  length_place = record { at = 1; width = Two };
+  least_lengths = 20 ∷ 28 ∷ [];
+  least_of_others = 4;
+}
+
+-- so many of them
+abbrev pub timers_grammar : ℕ → Grammar 2
+timers_grammar count = record { layout = timers_layout; most = Some count }
+
+-- the interrupt and the flags at an offset
+abbrev pub interrupt_at : List ℕ → ℕ → TimerInterrupt
+interrupt_at b offset = record {
+  interrupt = field_of b offset 4;
+  trigger_mode = trigger_in (field_of b (offset + 4) 4) 0;
+  polarity = polarity_in (field_of b (offset + 4) 4) 1;
+}
+
+-- section 5.2.24.1.1: the physical timer at 20, the virtual one at 28, the common flags at 36
+abbrev pub frame_at : List ℕ → GtFrame
+frame_at b = record {
+  number = field_of b 0 1;
+  base = field_of b 4 8;
+  el0_base = unless_ones (field_of b 12 8);
+  physical_timer = interrupt_at b 20;
+  virtual_timer = interrupt_at b 28;
+  is_secure = has_bit (field_of b 36 4) 0;
+  is_always_on = has_bit (field_of b 36 4) 1;
+}
+
+-- so many frames of 40 bytes, one after the other
+abbrev pub frames_in : ℕ → List ℕ → List GtFrame
+frames_in zero bytes = []
+frames_in (suc n) bytes = frame_at bytes ∷ frames_in n (drop 40 bytes)
+
+-- its type
+abbrev pub kind_of : List ℕ → ℕ
+kind_of e = field_of e 0 1
+
+-- of a block: how many frames it has, and where they begin, from the structure's first byte on
+
+abbrev pub frame_count : List ℕ → ℕ
+frame_count e = field_of e 12 4
+
+abbrev pub frames_offset : List ℕ → ℕ
+frames_offset e = field_of e 16 4
+
+abbrev pub frames_of : List ℕ → List GtFrame
+frames_of e = frames_in (frame_count e) (drop (frames_offset e) e)
+
+-- the frames, if there are some, lie between the block's 20 fixed bytes and its end
+abbrev pub frames_fit : List ℕ → Bool
+frames_fit e =
+    (frame_count e == 0)
+    || (nat_le 20 (frames_offset e) && nat_le (frames_offset e + 40 * frame_count e) (length e))
+
+-- a structure that isn't malformed: only a block, type 0, can still be
+abbrev pub is_sound : List ℕ → Bool
+is_sound e = not (kind_of e == 0) || frames_fit e
+
+-- section 5.2.24.1.2
+abbrev pub watchdog_at : List ℕ → SbsaWatchdog
+watchdog_at e = record {
+  refresh_frame = field_of e 4 8;
+  control_frame = field_of e 12 8;
+  interrupt = field_of e 20 4;
+  trigger_mode = trigger_in (field_of e 24 4) 0;
+  polarity = polarity_in (field_of e 24 4) 1;
+  is_secure = has_bit (field_of e 24 4) 2;
+}
+
+-- a block's address with its frames, or a watchdog
+abbrev pub Timer : Type 0
+Timer = (ℕ × List GtFrame) ⊎ SbsaWatchdog
+
+-- what a structure says; nothing for a type that isn't defined
+abbrev pub timer_of : List ℕ → Option Timer
+timer_of e =
+    if kind_of e == 0 then Some (inl (field_of e 4 8, frames_of e))
+    else if kind_of e == 1 then Some (inr (watchdog_at e))
+    else None
+
+-- ---- all structures of a table
+
+-- how many it says there are; tables below revision 2 have none
+abbrev pub timer_count : List ℕ → ℕ
+timer_count table = if nat_lt (field_of table 8 1) 2 then 0 else field_of table 88 4
+
+-- the bytes from which on they lie; they can't begin in the first 96 bytes
+abbrev pub timer_bytes : List ℕ → List ℕ
+timer_bytes table =
+    if nat_lt (field_of table 92 4) 96 then [] else drop (field_of table 92 4) table
+
+-- those before the first one that is malformed
+abbrev pub sound_front : List (List ℕ) → List (List ℕ)
+sound_front [] = []
+sound_front (e ∷ es) = if is_sound e then e ∷ sound_front es else []
+
+-- so many structures in these bytes, up to the first malformed one
+abbrev pub structures_in : ℕ → List ℕ → List (List ℕ)
+structures_in count bytes = sound_front (cut (timers_grammar count) bytes).0
+
+-- what they say, those of defined types
+abbrev pub timers_in : ℕ → List ℕ → List Timer
+timers_in count bytes = filter_map timer_of (structures_in count bytes)
+
+-- how many of them are missing: the end is malformed where some are
+abbrev pub missing_in : ℕ → List ℕ → ℕ
+missing_in count bytes = count - length (structures_in count bytes)
+
+abbrev pub timers_of : List ℕ → List Timer
+timers_of table = timers_in (timer_count table) (timer_bytes table)
+
+abbrev pub missing_of : List ℕ → ℕ
+missing_of table = missing_in (timer_count table) (timer_bytes table)
+
+-- ---- walks
+
+abbrev pub frames_left : GtFrameIter → List GtFrame
+frames_left s = frames_in s.left s.rest.now
+
+-- what an item shows
+abbrev pub shown_in : PlatformTimer → Timer
+shown_in (kinds.GtBlock block) = inl (block.address, frames_left block.frames)
+shown_in (kinds.SbsaWatchdog watchdog) = inr watchdog
+
+-- the timers still to come
+abbrev pub timers_left : PlatformTimerIter → List Timer
+timers_left s = timers_in s.left s.rest.now
+
+-- how many structures will be missing
+abbrev pub missing_left : PlatformTimerIter → ℕ
+missing_left s = missing_in s.left s.rest.now
+
+-- whether it has answered that no timer is left
+abbrev pub has_ended : PlatformTimerIter → Bool
+has_ended s = s.ended
+
+-- whether it has, and structures are missing
+abbrev pub is_malformed : PlatformTimerIter → Bool
+is_malformed s = s.ended && nat_lt 0 s.left
+
+-- a step leaves what is missing as it is, and has ended exactly if it gives no timer
+abbrev pub EndsWhereMissing : PlatformTimerIter → Option PlatformTimer → PlatformTimerIter → Type 0
+EndsWhereMissing s (Some timer) t =
+    (missing_left t ≡ missing_left s) × (has_ended t ≡ has_ended s)
+EndsWhereMissing s None t =
+    (missing_left t ≡ missing_left s) × (is_malformed t ≡ nat_lt 0 (missing_left s))

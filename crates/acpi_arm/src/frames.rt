@@ -1,0 +1,111 @@
+//! The frames of a block of timers.
+ghost use Rattle.std.specs.Prelude.{◌≡◌, ◌≤◌};
+ghost use Rattle.acpi_arm.specs.Timers.{frame_at, interrupt_at};
+
+use crate::interrupt::{polarity_in, trigger_in, unless_ones};
+use acpi_base::bytes::{field, has_bit, skip};
+use acpi_base::model::{Polarity, TriggerMode};
+
+/// How many bytes a frame has.
+pub(crate) const FRAME_LENGTH: usize = 40;
+
+/// The interrupt of a timer (section 5.2.24.1).
+#[derive(Clone, Copy, Debug, PartialEq, Eq)]
+pub struct TimerInterrupt {
+    /// Its number at the GIC. 0: the timer isn't there.
+    pub interrupt: u32,
+    /// What raises it.
+    pub trigger_mode: TriggerMode,
+    /// The level at which it counts as raised.
+    pub polarity: Polarity,
+}
+
+/// A frame of a block of timers, with a physical timer and a virtual one (section 5.2.24.1.1).
+#[derive(Clone, Copy, Debug)]
+pub struct GtFrame {
+    /// Its number, from 0 to 7.
+    pub number: u8,
+    /// The physical address of its registers.
+    pub base: u64,
+    /// The physical address of its registers as EL0 sees them, or `None` if EL0 sees none.
+    pub el0_base: Option<u64>,
+    /// The interrupt of its physical timer.
+    pub physical_timer: TimerInterrupt,
+    /// The interrupt of its virtual timer.
+    pub virtual_timer: TimerInterrupt,
+    /// Only secure software may use it.
+    pub is_secure: bool,
+    /// Its timers keep their state and raise their interrupts in every low power state.
+    pub is_always_on: bool,
+}
+
+/// The interrupt whose number and flags stand at an offset. A byte past the end is read as zero.
+pub(crate) fn interrupt_in(bytes: &[u8], offset: usize) -> TimerInterrupt
+    requires { offset ≤ 64 }
+    ensures { result ≡ interrupt_at bytes.now offset }
+{
+    let flags = field(bytes, offset + 4, 4) as u32;
+    TimerInterrupt {
+        interrupt: field(bytes, offset, 4) as u32,
+        trigger_mode: trigger_in(flags, 0),
+        polarity: polarity_in(flags, 1),
+    }
+}
+
+/// The frame that the bytes begin with. A byte past the end is read as zero.
+fn frame_in(bytes: &[u8]) -> GtFrame
+    ensures { result ≡ frame_at bytes.now }
+{
+    let common_flags = field(bytes, 36, 4);
+    GtFrame {
+        number: field(bytes, 0, 1) as u8,
+        base: field(bytes, 4, 8),
+        el0_base: unless_ones(field(bytes, 12, 8)),
+        physical_timer: interrupt_in(bytes, 20),
+        virtual_timer: interrupt_in(bytes, 28),
+        is_secure: has_bit(common_flags, 0),
+        is_always_on: has_bit(common_flags, 1),
+    }
+}
+
+/// The frames of a block, in order.
+#[derive(Clone, Copy, Debug)]
+pub struct GtFrameIter<'a> {
+    rest: &'a [u8],
+    left: u32,
+}
+
+impl<'a> GtFrameIter<'a> {
+    ghost use Rattle.acpi_arm.specs.Timers.{frames_in, frames_left};
+
+    /// So many frames, one after the other.
+    pub(crate) fn over(bytes: &'a [u8], count: u32) -> Self
+        ensures { frames_left result ≡ frames_in count bytes.now }
+    {
+        GtFrameIter {
+            rest: bytes,
+            left: count,
+        }
+    }
+}
+
+impl Iterator for GtFrameIter<'_> {
+    ghost use Rattle.std.specs.Iterator.{YieldsFirst, item_count};
+    ghost use Rattle.acpi_arm.specs.Timers.{frames_left};
+
+    type Item = GtFrame;
+
+    ghost next_gives = { YieldsFirst (λ s. frames_left s) };
+
+    ghost remaining = { item_count (λ s. frames_left s) };
+
+    fn next(&mut self) -> Option<GtFrame> {
+        if self.left == 0 {
+            return None;
+        }
+        let frame = frame_in(self.rest);
+        self.rest = skip(self.rest, FRAME_LENGTH);
+        self.left -= 1;
+        Some(frame)
+    }
+}

@@ -1,0 +1,235 @@
+//! What one entry of a MADT says of a GIC.
+ghost use Rattle.std.specs.Prelude.{◌≡◌};
+ghost use Rattle.acpi_arm.specs.Gic.{cpu_interface_of, distributor_in, spis_of};
+
+use crate::interrupt::trigger_in;
+use acpi_base::bytes::has_bit;
+use acpi_base::madt::{GicMsiFrameEntry, GiccEntry, MadtEntry};
+use acpi_base::model::TriggerMode;
+
+/// The distributor of interrupts (section 5.2.12.15).
+#[derive(Clone, Copy, Debug, PartialEq, Eq)]
+pub struct GicDistributor {
+    /// Its id.
+    pub id: u32,
+    /// The physical address of its registers.
+    pub address: u64,
+    /// The version of the GIC, from 1 to 4. 0: the hardware tells. Others are kept as they are.
+    pub version: u8,
+    /// Reserved by the specification, which has it be 0. It is kept as it is.
+    pub system_vector_base: u32,
+}
+
+/// A processor, and its interface to the GIC (section 5.2.12.14). A field past the end of a short
+/// entry is 0.
+#[derive(Clone, Copy, Debug)]
+pub struct GicCpuInterface {
+    /// The number of the interface. In a GIC of version 1 or 2 it is the processor's bit in the
+    /// distributor's registers.
+    pub number: u32,
+    /// The processor's ACPI id: the `_UID` of its object in the namespace.
+    pub processor_uid: u32,
+    /// The processor's affinity, as in its register MPIDR.
+    pub mpidr: u64,
+    /// The processor can be used (bit 0 of the flags).
+    pub is_enabled: bool,
+    /// A processor that isn't enabled can be enabled later (bit 3, since ACPI 6.5).
+    pub is_online_capable: bool,
+    /// The interrupt of the performance counters. 0: there is none.
+    pub performance_interrupt: u32,
+    /// What raises it (bit 1: 1 is edge-triggered).
+    pub performance_trigger: TriggerMode,
+    /// The version of the parking protocol. 0: there is none, and processors are woken by PSCI.
+    pub parking_protocol_version: u32,
+    /// The physical address of the parking protocol's mailbox.
+    pub parked_address: u64,
+    /// The physical address of the interface's registers. 0: there are none in memory.
+    pub address: u64,
+    /// The physical address of the virtual interface's registers (GICV). 0: there are none.
+    pub virtual_address: u64,
+    /// The physical address of the registers that control the virtual interface (GICH). 0: there are
+    /// none.
+    pub hypervisor_address: u64,
+    /// The maintenance interrupt of the virtual interface. 0: there is none.
+    pub maintenance_interrupt: u32,
+    /// What raises it (bit 2: 1 is edge-triggered).
+    pub maintenance_trigger: TriggerMode,
+    /// The physical address of the processor's redistributor. 0: there is none, or it lies in one of
+    /// the ranges of redistributors.
+    pub redistributor_address: u64,
+    /// How much power the processor takes beside the others: less is less.
+    pub efficiency_class: u8,
+    /// The interrupt of the profiling extension. 0: there is none.
+    pub spe_overflow_interrupt: u16,
+    /// The interrupt of the trace buffer, or `None` for a MADT below revision 6 and for an entry that
+    /// ends before its byte 82. 0: there is none.
+    pub trace_buffer_interrupt: Option<u16>,
+}
+
+/// A range of memory that holds redistributors (section 5.2.12.17).
+#[derive(Clone, Copy, Debug, PartialEq, Eq)]
+pub struct GicRedistributors {
+    /// The physical address of its first byte.
+    pub address: u64,
+    /// How many bytes it has, as the entry says: it can be 0.
+    pub length: u32,
+}
+
+/// A service that translates interrupts (section 5.2.12.18).
+#[derive(Clone, Copy, Debug, PartialEq, Eq)]
+pub struct GicTranslationService {
+    /// Its id.
+    pub id: u32,
+    /// The physical address of its registers.
+    pub address: u64,
+}
+
+/// Shared peripheral interrupts (SPIs) of a frame.
+#[derive(Clone, Copy, Debug, PartialEq, Eq)]
+pub struct SpiRange {
+    /// The first of them.
+    pub base: u16,
+    /// How many there are.
+    pub count: u16,
+}
+
+/// A frame that turns messages into interrupts (section 5.2.12.16).
+#[derive(Clone, Copy, Debug)]
+pub struct GicMsiFrame {
+    /// Its id.
+    pub id: u32,
+    /// The physical address of its registers.
+    pub address: u64,
+    /// Its interrupts, or `None` if bit 0 of the flags isn't set: the registers then tell.
+    pub spis: Option<SpiRange>,
+}
+
+/// The distributor that an entry describes, or `None` if it is of another kind.
+pub(crate) fn distributor_in(entry: &MadtEntry) -> Option<GicDistributor>
+    ensures { result ≡ distributor_in entry.now }
+{
+    match entry {
+        MadtEntry::Gicd(e) => Some(GicDistributor {
+            id: e.gic_id,
+            address: e.physical_base_address,
+            version: e.gic_version,
+            system_vector_base: e.system_vector_base,
+        }),
+        _ => None,
+    }
+}
+
+/// An item of a list of the model.
+pub(crate) trait GicPart: Drop {
+    ghost use Rattle.std.specs.Prelude.{ℕ, Option};
+    ghost use Rattle.acpi_base.specs.declared.tables.madt.entry.MadtEntry.{MadtEntry};
+
+    // What an entry of a table of a revision says.
+    ghost said_in: { ℕ → MadtEntry → Option Self };
+
+    /// What an entry of a table of a revision says, or `None` if it is of another kind.
+    fn said(entry: &MadtEntry, revision: u8) -> Option<Self>
+        ensures { result ≡ said_in revision entry.now };
+}
+
+impl GicPart for GicCpuInterface {
+    ghost use Rattle.acpi_arm.specs.Gic.{cpu_interface_in};
+
+    ghost said_in = { cpu_interface_in };
+
+    fn said(entry: &MadtEntry, revision: u8) -> Option<Self> {
+        match entry {
+            MadtEntry::Gicc(e) => Some(cpu_interface_of(e, revision)),
+            _ => None,
+        }
+    }
+}
+
+impl GicPart for GicRedistributors {
+    ghost use Rattle.acpi_arm.specs.Gic.{redistributors_in};
+
+    ghost said_in = { redistributors_in };
+
+    fn said(entry: &MadtEntry, _revision: u8) -> Option<Self> {
+        match entry {
+            MadtEntry::GicRedistributor(e) => Some(GicRedistributors {
+                address: e.discovery_range_base_address,
+                length: e.discovery_range_length,
+            }),
+            _ => None,
+        }
+    }
+}
+
+impl GicPart for GicTranslationService {
+    ghost use Rattle.acpi_arm.specs.Gic.{translation_service_in};
+
+    ghost said_in = { translation_service_in };
+
+    fn said(entry: &MadtEntry, _revision: u8) -> Option<Self> {
+        match entry {
+            MadtEntry::GicInterruptTranslationService(e) => Some(GicTranslationService {
+                id: e.id,
+                address: e.physical_base_address,
+            }),
+            _ => None,
+        }
+    }
+}
+
+impl GicPart for GicMsiFrame {
+    ghost use Rattle.acpi_arm.specs.Gic.{msi_frame_in};
+
+    ghost said_in = { msi_frame_in };
+
+    fn said(entry: &MadtEntry, _revision: u8) -> Option<Self> {
+        match entry {
+            MadtEntry::GicMsiFrame(e) => Some(GicMsiFrame {
+                id: e.frame_id,
+                address: e.physical_base_address,
+                spis: spis_of(e),
+            }),
+            _ => None,
+        }
+    }
+}
+
+/// What an entry says of a processor, in a table of a revision.
+fn cpu_interface_of(entry: &GiccEntry, revision: u8) -> GicCpuInterface
+    ensures { result ≡ cpu_interface_of revision entry.now }
+{
+    GicCpuInterface {
+        number: entry.cpu_interface_number,
+        processor_uid: entry.processor_uid,
+        mpidr: entry.mpidr,
+        is_enabled: has_bit(entry.flags as u64, 0),
+        is_online_capable: has_bit(entry.flags as u64, 3),
+        performance_interrupt: entry.performance_interrupt_gsiv,
+        performance_trigger: trigger_in(entry.flags, 1),
+        parking_protocol_version: entry.parking_protocol_version,
+        parked_address: entry.parked_address,
+        address: entry.gic_registers_address,
+        virtual_address: entry.gic_virtual_registers_address,
+        hypervisor_address: entry.gic_hypervisor_registers_address,
+        maintenance_interrupt: entry.vgic_maintenance_interrupt,
+        maintenance_trigger: trigger_in(entry.flags, 2),
+        redistributor_address: entry.gicr_base_address,
+        efficiency_class: entry.processor_power_efficiency_class,
+        spe_overflow_interrupt: entry.spe_overflow_interrupt,
+        trace_buffer_interrupt: entry.trbe_interrupt.access(revision),
+    }
+}
+
+/// The interrupts of a frame, where its entry has them.
+fn spis_of(entry: &GicMsiFrameEntry) -> Option<SpiRange>
+    ensures { result ≡ spis_of entry.now }
+{
+    if has_bit(entry.flags as u64, 0) {
+        Some(SpiRange {
+            base: entry.spi_base,
+            count: entry.spi_count,
+        })
+    } else {
+        None
+    }
+}

@@ -1,0 +1,193 @@
+//! The generic timers, and the timers of the platform beside them.
+ghost use Rattle.std.specs.Prelude.{◌≡◌, ◌+◌, ◌≤◌, length};
+ghost use Rattle.acpi_arm.specs.Gtdt.{arm_timer_at};
+
+pub use crate::frames::{GtFrame, GtFrameIter, TimerInterrupt};
+use crate::interrupt::{polarity_in, trigger_in, unless_ones};
+pub use crate::timers::{GtBlock, PlatformTimer, PlatformTimerIter, SbsaWatchdog};
+use acpi_base::bytes::{field_in, has_bit};
+use acpi_base::extended::ExtendedField;
+use acpi_base::model::{Polarity, TriggerMode};
+use acpi_base::sdt::SdtHeader;
+use acpi_base::table::sum_refusal;
+use acpi_base::{AcpiResult, AcpiTable, Lender, PhysicalMapping, PhysicalRecord, Signature};
+
+/// A timer of every processor (section 5.2.24).
+#[derive(Clone, Copy, Debug, PartialEq, Eq)]
+pub struct ArmTimer {
+    /// Its interrupt, as the number of the GIC. 0: the table names none.
+    pub interrupt: u32,
+    /// What raises the interrupt.
+    pub trigger_mode: TriggerMode,
+    /// The level at which it counts as raised.
+    pub polarity: Polarity,
+    /// It keeps its state and raises its interrupt in every low power state of the processor.
+    pub always_on: bool,
+}
+
+impl PhysicalRecord for ArmTimer {
+    const MIN_LENGTH: usize = 8;
+
+    ghost MIN_LENGTH = { 8 };
+
+    ghost reading = { λ b. arm_timer_at b 0 };
+
+    fn read(bytes: &[u8]) -> Self {
+        timer_in(bytes, 0)
+    }
+}
+
+/// The timer whose interrupt and flags stand at an offset.
+fn timer_in(bytes: &[u8], offset: usize) -> ArmTimer
+    requires { offset + 8 ≤ length bytes.now }
+    ensures { result ≡ arm_timer_at bytes.now offset }
+{
+    let flags = field_in(bytes, offset + 4, 4) as u32;
+    ArmTimer {
+        interrupt: field_in(bytes, offset, 4) as u32,
+        trigger_mode: trigger_in(flags, 0),
+        polarity: polarity_in(flags, 1),
+        always_on: has_bit(flags as u64, 2),
+    }
+}
+
+/// The GTDT (section 5.2.24). `PlatformTimerIter` gives the timers of the platform out of its bytes,
+/// and `GtdtCalls` out of a mapping of it.
+#[derive(Clone, Copy, Debug)]
+pub struct Gtdt {
+    /// The header that every table begins with.
+    pub header: SdtHeader,
+    control_base: u64,
+    /// The timer of secure EL1.
+    pub secure_el1_timer: ArmTimer,
+    /// The timer of non-secure EL1.
+    pub non_secure_el1_timer: ArmTimer,
+    /// The virtual timer of EL1.
+    pub virtual_el1_timer: ArmTimer,
+    /// The timer of EL2.
+    pub el2_timer: ArmTimer,
+    read_base: u64,
+    /// How many structures of platform timers there are. Tables below revision 2 have none, whatever
+    /// stands here.
+    pub platform_timer_count: u32,
+    /// Where they begin, in bytes from the table's first one.
+    pub platform_timer_offset: u32,
+    el2_virtual: ExtendedField<ArmTimer, 3>,
+}
+
+impl PhysicalRecord for Gtdt {
+    ghost use Rattle.acpi_arm.specs.Gtdt.{gtdt_at};
+
+    const MIN_LENGTH: usize = 96;
+
+    ghost MIN_LENGTH = { 96 };
+
+    ghost reading = { gtdt_at };
+
+    #[tactic(auto, unfolding(crate::specs::Gtdt::gtdt_at))]
+    fn read(bytes: &[u8]) -> Self {
+        Gtdt {
+            header: SdtHeader::read(bytes),
+            control_base: field_in(bytes, 36, 8),
+            secure_el1_timer: timer_in(bytes, 48),
+            non_secure_el1_timer: timer_in(bytes, 56),
+            virtual_el1_timer: timer_in(bytes, 64),
+            el2_timer: timer_in(bytes, 72),
+            read_base: field_in(bytes, 80, 8),
+            platform_timer_count: field_in(bytes, 88, 4) as u32,
+            platform_timer_offset: field_in(bytes, 92, 4) as u32,
+            el2_virtual: ExtendedField::read(bytes, 96),
+        }
+    }
+}
+
+impl AcpiTable for Gtdt {
+    ghost use Rattle.std.proofs.Common.{lit≤, refl};
+    ghost use Rattle.acpi_arm.specs.Gtdt.{gtdt_kind};
+    ghost use Rattle.acpi_base.specs.declared.table.signature.TheConstants.Signature.{GTDT};
+
+    const SIGNATURE: Signature = Signature::GTDT;
+
+    ghost SIGNATURE = { GTDT };
+
+    ghost kind = { gtdt_kind };
+
+    #[tactic(auto, unfolding(crate::specs::Gtdt::gtdt_at))]
+    fn header(&self) -> &SdtHeader {
+        &self.header
+    }
+
+    fn validate(&self, bytes: &[u8]) -> AcpiResult<()> {
+        self.header().validate(Self::SIGNATURE, bytes)
+    }
+
+    fn validate_rest(bytes: &[u8]) -> AcpiResult<()> {
+        sum_refusal(Self::SIGNATURE, bytes)
+    }
+
+    ghost least = { lit≤ tt };
+
+    ghost agrees = { (refl, refl) };
+}
+
+impl Gtdt {
+    ghost use Rattle.acpi_arm.specs.Gtdt.{control_base_of, read_base_of, virtual_el2_of};
+
+    /// The physical address of the registers that control the counter, or `None` if all its bits are
+    /// ones: the system has them elsewhere.
+    pub fn counter_control_base(&self) -> Option<u64>
+        ensures { result ≡ control_base_of self.now }
+    {
+        unless_ones(self.control_base)
+    }
+
+    /// The physical address of the registers from which the counter is read, or `None` if all its bits
+    /// are ones, or for a table below revision 2, which has another layout.
+    pub fn counter_read_base(&self) -> Option<u64>
+        ensures { result ≡ read_base_of self.now }
+    {
+        if self.header.revision < 2 {
+            None
+        } else {
+            unless_ones(self.read_base)
+        }
+    }
+
+    /// The virtual timer of EL2. It is `None` for a table below revision 3, for one that ends before
+    /// byte 104, and if platform timers begin before byte 104: these bytes are then theirs.
+    pub fn virtual_el2_timer(&self) -> Option<ArmTimer>
+        ensures { result ≡ virtual_el2_of self.now }
+    {
+        if self.platform_timer_count == 0 || self.platform_timer_offset >= 104 {
+            self.el2_virtual.access(self.header.revision)
+        } else {
+            None
+        }
+    }
+}
+
+/// The calls of `PlatformTimerIter`, over a mapping of a GTDT.
+pub trait GtdtCalls {
+    ghost use Rattle.std.specs.Prelude.{ℕ, List, false};
+    ghost use Rattle.acpi_arm.specs.Timers.{has_ended, missing_left, missing_of};
+    ghost use Rattle.acpi_arm.specs.Timers.{timers_left, timers_of};
+
+    // The table's bytes.
+    ghost table: { Self → List ℕ };
+
+    /// The timers of the platform, in order, as `PlatformTimerIter::over` gives them.
+    fn platform_timers(&self) -> PlatformTimerIter<'_>
+        ensures items { timers_left result ≡ timers_of (table self.now) }
+        ensures missing { missing_left result ≡ missing_of (table self.now) }
+        ensures begun { has_ended result ≡ false };
+}
+
+impl<'h, H: Lender> GtdtCalls for PhysicalMapping<'h, H, Gtdt> {
+    ghost use Rattle.acpi_base.specs.Mapping.{bytes_of};
+
+    ghost table = { λ m. bytes_of m };
+
+    fn platform_timers(&self) -> PlatformTimerIter<'_> {
+        PlatformTimerIter::over(self.bytes())
+    }
+}

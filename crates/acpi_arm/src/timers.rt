@@ -1,0 +1,205 @@
+//! The timers of the platform, one at a time.
+ghost use Rattle.std.specs.Prelude.{◌≡◌};
+ghost use Rattle.std.specs.Option.{option_map};
+ghost use Rattle.acpi_arm.specs.Timers.{frames_fit, is_sound, shown_in, timer_bytes, timer_count, timer_of, timers_grammar, watchdog_at};
+
+use crate::frames::{FRAME_LENGTH, GtFrameIter};
+use crate::interrupt::{polarity_in, trigger_in};
+use acpi_base::bytes::{field, has_bit, skip};
+use acpi_base::entries::{EntryLayout, Grammar, Place, Width, split_front};
+use acpi_base::model::{Polarity, TriggerMode};
+
+/// A block of timers in memory (section 5.2.24.1.1).
+#[derive(Clone, Copy, Debug)]
+pub struct GtBlock<'a> {
+    /// The physical address of its control frame.
+    pub address: u64,
+    /// Its frames, in order.
+    pub frames: GtFrameIter<'a>,
+}
+
+/// A watchdog of the Server Base System Architecture (section 5.2.24.1.2).
+#[derive(Clone, Copy, Debug)]
+pub struct SbsaWatchdog {
+    /// The physical address of its refresh frame.
+    pub refresh_frame: u64,
+    /// The physical address of its control frame.
+    pub control_frame: u64,
+    /// Its interrupt, as the number of the GIC.
+    pub interrupt: u32,
+    /// What raises the interrupt.
+    pub trigger_mode: TriggerMode,
+    /// The level at which it counts as raised.
+    pub polarity: Polarity,
+    /// Only secure software may use it.
+    pub is_secure: bool,
+}
+
+/// A timer of the platform.
+#[derive(Clone, Copy, Debug)]
+pub enum PlatformTimer<'a> {
+    /// Type 0.
+    GtBlock(GtBlock<'a>),
+    /// Type 1.
+    SbsaWatchdog(SbsaWatchdog),
+}
+
+/// How so many structures are cut.
+#[inline(always)]
+fn timers_grammar(count: u32) -> Grammar<2>
+    ensures { result ≡ timers_grammar count }
+{
+    Grammar {
+        layout: EntryLayout {
+            kind_place: Place {
+                at: 0,
+                width: Width::One,
+            },
+            length_place: Place {
+                at: 1,
+                width: Width::Two,
+            },
+            least_lengths: [20, 28],
+            least_of_others: 4,
+        },
+        most: Some(count as usize),
+    }
+}
+
+/// Whether a block's frames, if it has some, lie between its 20 fixed bytes and its end.
+fn frames_fit(block: &[u8]) -> bool
+    ensures { result ≡ frames_fit block.now }
+{
+    let count = field(block, 12, 4);
+    let offset = field(block, 16, 4);
+    count == 0 || (offset >= 20 && offset + FRAME_LENGTH as u64 * count <= block.len() as u64)
+}
+
+/// Whether a structure isn't malformed.
+fn is_sound(structure: &[u8]) -> bool
+    ensures { result ≡ is_sound structure.now }
+{
+    field(structure, 0, 1) != 0 || frames_fit(structure)
+}
+
+impl<'a> PlatformTimer<'a> {
+    /// What a structure says, or `None` if its type isn't defined.
+    fn read(structure: &'a [u8]) -> Option<PlatformTimer<'a>>
+        ensures { option_map shown_in result ≡ timer_of structure.now }
+    {
+        match field(structure, 0, 1) {
+            0 => {
+                let frames = skip(structure, field(structure, 16, 4) as usize);
+                Some(PlatformTimer::GtBlock(GtBlock {
+                    address: field(structure, 4, 8),
+                    frames: GtFrameIter::over(frames, field(structure, 12, 4) as u32),
+                }))
+            }
+            1 => Some(PlatformTimer::SbsaWatchdog(watchdog_in(structure))),
+            _ => None,
+        }
+    }
+}
+
+/// What a watchdog's structure says.
+fn watchdog_in(structure: &[u8]) -> SbsaWatchdog
+    ensures { result ≡ watchdog_at structure.now }
+{
+    let flags = field(structure, 24, 4) as u32;
+    SbsaWatchdog {
+        refresh_frame: field(structure, 4, 8),
+        control_frame: field(structure, 12, 8),
+        interrupt: field(structure, 20, 4) as u32,
+        trigger_mode: trigger_in(flags, 0),
+        polarity: polarity_in(flags, 1),
+        is_secure: has_bit(flags as u64, 2),
+    }
+}
+
+/// The timers of the platform that a GTDT lists, in order: as many structures as it counts, one after
+/// the other. Those of undefined types count too, and are skipped. It ends once that many were taken,
+/// or at the first fault: where they begin before byte 96, where less than 4 bytes are left, where a
+/// length is less than the least of its type (20 for type 0, 28 for type 1, 4 for others) or goes past
+/// the table's end, and at a block whose frames begin before its byte 20 or end after it.
+#[derive(Debug, Drop)]
+pub struct PlatformTimerIter<'a> {
+    rest: &'a [u8],
+    left: u32,
+    ended: bool,
+}
+
+impl<'a> PlatformTimerIter<'a> {
+    ghost use Rattle.std.specs.Prelude.{false};
+    ghost use Rattle.acpi_arm.specs.Timers.{has_ended, is_malformed, missing_left, missing_of};
+    ghost use Rattle.acpi_arm.specs.Timers.{timers_left, timers_of};
+
+    /// The platform timers of a GTDT's bytes. It knows no memory and no handler.
+    pub fn over(table: &'a [u8]) -> Self
+        ensures items { timers_left result ≡ timers_of table.now }
+        ensures missing { missing_left result ≡ missing_of table.now }
+        ensures begun { has_ended result ≡ false }
+    {
+        PlatformTimerIter {
+            rest: timer_bytes(table),
+            left: timer_count(table),
+            ended: false,
+        }
+    }
+
+    /// Whether `next` has answered `None` at a fault, and not after as many structures as the table
+    /// counts. Before that answer it is false.
+    pub fn ended_malformed(&self) -> bool
+        ensures { result ≡ is_malformed self.now }
+    {
+        self.ended && self.left > 0
+    }
+}
+
+/// How many structures a table says there are; below revision 2 there are none.
+fn timer_count(table: &[u8]) -> u32
+    ensures { result ≡ timer_count table.now }
+{
+    if field(table, 8, 1) < 2 {
+        0
+    } else {
+        field(table, 88, 4) as u32
+    }
+}
+
+/// The bytes from which on they lie, or none if that is before byte 96.
+fn timer_bytes(table: &[u8]) -> &[u8]
+    ensures { result.now ≡ timer_bytes table.now }
+{
+    let offset = field(table, 92, 4) as usize;
+    if offset < 96 {
+        return &[];
+    }
+    skip(table, offset)
+}
+
+impl<'a> Iterator for PlatformTimerIter<'a> {
+    ghost use Rattle.std.specs.Iterator.{YieldsFirstBy, item_count};
+    ghost use Rattle.acpi_arm.specs.Timers.{EndsWhereMissing, shown_in, timers_left};
+
+    type Item = PlatformTimer<'a>;
+
+    ghost next_gives = { λ s r t. YieldsFirstBy shown_in (λ x. timers_left x) s r t
+        × EndsWhereMissing s r t };
+
+    ghost remaining = { item_count (λ s. timers_left s) };
+
+    fn next(&mut self) -> Option<PlatformTimer<'a>> {
+        while let Some((structure, others)) = split_front(&timers_grammar(self.left), self.rest) {
+            if !is_sound(structure) {
+                break;
+            }
+            self.rest = others;
+            self.left = self.left.saturating_sub(1);
+            if let Some(found) = PlatformTimer::read(structure) {
+                return Some(found);
+            }
+        }
+        self.ended = true;
+        None
+    }
+}

@@ -1,0 +1,111 @@
+-- Which domain each range of memory is in (signature SRAT; ACPI 6.4, section 5.2.16.2).
+use Rattle.std.specs.Prelude.{◌≡◌, ℕ, ◌+◌, ◌^◌, ◌<◌, ◌≤◌, ◌&&◌, Bool, true, false, List, [], ◌∷◌, ◌++◌, length, find, nat_le, nat_lt, Option, Some, None, Result, Ok, if◌then◌else◌}
+use Rattle.std.specs.List.{AllByRecursion, filter_map, list_all}
+use Rattle.std.specs.Option.{option_map}
+use Rattle.acpi_base.specs.Bits.{has_bit}
+use Rattle.acpi_base.specs.Memory.{Memory}
+use Rattle.acpi_base.specs.Steps.{◌>>=◌, holds}
+use Rattle.acpi_base.specs.Table.{Kind, sdt_kind}
+use Rattle.acpi_base.specs.declared.error.AcpiError.{AcpiError}
+use Rattle.acpi_base.specs.declared.table.signature.TheConstants.Signature.{SRAT}
+use Rattle.acpi.specs.Lookup.{lookup}
+use Rattle.acpi_numa.specs.Answers.{joined}
+use Rattle.acpi_numa.specs.Srat.{cut_of, entries_of}
+use Rattle.acpi_numa.specs.declared.error.NumaError.{NumaError}
+use Rattle.acpi_numa.specs.declared.error.NumaError.TheVariants.{InvalidEntryLength, InvalidMemoryRange}
+use Rattle.acpi_numa.specs.declared.srat.affinities.MemoryRange.{MemoryRange}
+use Rattle.acpi_numa.specs.declared.srat.entry.SratEntry.{SratEntry}
+use Rattle.acpi_numa.specs.declared.srat.entry.SratEntry.TheVariants as kinds
+use Rattle.acpi_numa.specs.declared.srat.kinds.MemoryAffinity.{MemoryAffinity}
+
+-- ---- the ranges of a table
+
+-- what an entry says of a range, of which bit 1 of the flags says that it can be plugged in while the
+-- machine runs, and bit 2 that it is non-volatile
+abbrev pub range_at : MemoryAffinity → MemoryRange
+range_at e = record {
+  domain = e.domain;
+  base = e.base;
+  length = e.length;
+  is_hot_pluggable = has_bit e.flags 1;
+  is_non_volatile = has_bit e.flags 2;
+}
+
+-- the range of an entry, where it is one of memory, is enabled and has bytes
+abbrev pub range_in : SratEntry → Option MemoryRange
+range_in (kinds.Memory e) =
+    if has_bit e.flags 0 && nat_lt 0 e.length then Some (range_at e) else None
+range_in _ = None
+
+-- those of all entries, in order
+abbrev pub ranges_of : List ℕ → List MemoryRange
+ranges_of table = filter_map range_in (entries_of table)
+
+-- a range ends below 2^64
+abbrev pub ends_below : MemoryRange → Bool
+ends_below r = nat_lt (r.base + r.length) (2 ^ 64)
+
+-- no byte is left
+abbrev pub is_used_up : List ℕ → Bool
+is_used_up [] = true
+is_used_up (b ∷ rest) = false
+
+-- the ranges, where the entries take all bytes of the table and each range ends below 2^64
+abbrev pub affinities_of : List ℕ → Result (List MemoryRange) NumaError
+affinities_of table = do
+  _ ← holds (is_used_up (cut_of table).1) InvalidEntryLength
+  _ ← holds (list_all ends_below (ranges_of table)) InvalidMemoryRange
+  Ok (ranges_of table)
+
+-- how many there are
+abbrev pub affinities_count : List ℕ → Result ℕ NumaError
+affinities_count table = affinities_of table >>= λ ranges. Ok (length ranges)
+
+-- there is a range
+abbrev pub SomeRange : Result (List MemoryRange) NumaError → Type 0
+SomeRange (Ok (r ∷ ranges)) = Unit {0}
+SomeRange _ = ⊥
+
+-- ---- found in memory
+
+abbrev pub srat_kind : Kind
+srat_kind = sdt_kind SRAT 48
+
+-- what the first valid SRAT says
+abbrev pub found_affinities : Memory → List ℕ → Result (Result (List MemoryRange) NumaError) AcpiError
+found_affinities m ps = do
+  found ← lookup m srat_kind ps
+  Ok (affinities_of found.1)
+
+-- memory is asked for only where a SRAT is found that isn't refused and has a range
+abbrev pub AffinitiesAsk : Memory → List ℕ → Type 0
+AffinitiesAsk m ps = SomeRange (joined (found_affinities m ps))
+
+-- ---- the domain of an address
+
+-- an address lies in a range
+abbrev pub LiesIn : MemoryRange → ℕ → Type 0
+LiesIn r address = (r.base ≤ address) × (address < r.base + r.length)
+
+-- the ranges are some in which an address doesn't lie, then one in which it lies, of this domain, then
+-- others
+pub record IsFirstWith (ranges : List MemoryRange) (address domain : ℕ) : Type 0 where
+  pub before : List MemoryRange
+  pub range : MemoryRange
+  pub after : List MemoryRange
+  pub listed : ranges ≡ before ++ range ∷ after
+  pub none_before : AllByRecursion (λ r. LiesIn r address → ⊥) before
+  pub lies : LiesIn range address
+  pub domain_is : range.domain ≡ domain
+
+-- the domain is that of the first range in which the address lies; there is none if it lies in none
+abbrev pub IsDomainOf : List MemoryRange → ℕ → Option ℕ → Type 0
+IsDomainOf ranges address (Some domain) = IsFirstWith ranges address domain
+IsDomainOf ranges address None = AllByRecursion (λ r. LiesIn r address → ⊥) ranges
+
+-- the same computed
+abbrev pub lies_in : ℕ → MemoryRange → Bool
+lies_in address r = nat_le r.base address && nat_lt address (r.base + r.length)
+
+abbrev pub domain_at : List MemoryRange → ℕ → Option ℕ
+domain_at ranges address = option_map (λ r. r.domain) (find (lies_in address) ranges)

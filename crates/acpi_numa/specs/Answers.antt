@@ -1,0 +1,15 @@
+-- What calls of this crate answer.
+use Rattle.std.specs.Prelude.{◌≡◌, ◌⊎◌, Result, Ok, Err}
+use Rattle.acpi_base.specs.declared.error.AcpiError.{AcpiError}
+use Rattle.acpi_base.specs.declared.error.AcpiError.TheVariants.{AllocError}
+use Rattle.acpi_numa.specs.declared.error.NumaError.{NumaError}
+use Rattle.acpi_numa.specs.declared.error.NumaError.TheVariants.{Acpi}
+
+-- what is said of a table, or why there is no table
+abbrev pub joined : {A : Type 0} → Result (Result A NumaError) AcpiError → Result A NumaError
+joined (Ok said) = said
+joined (Err e) = Err (Acpi e)
+
+-- what a call answered is what is defined, or AllocError where memory may be asked for
+abbrev pub AnswersOrFull : {X : Type 0} → Type 0 → Result X NumaError → Result X NumaError → Type 0
+AnswersOrFull Asks said defined = (said ≡ defined) ⊎ (Asks × (said ≡ Err (Acpi AllocError)))

@@ -1,0 +1,11 @@
+-- How a refusal is printed.
+use Rattle.std.specs.Prelude.{ℕ, List, codes}
+use Rattle.acpi_base.specs.ErrorText.{error_text}
+use Rattle.acpi_numa.specs.declared.error.NumaError.{NumaError}
+use Rattle.acpi_numa.specs.declared.error.NumaError.TheVariants.{Acpi, InvalidEntryLength, InvalidMemoryRange}
+
+-- the variant's name, or what the refusal that it carries prints
+abbrev pub numa_error_text : NumaError → List ℕ
+numa_error_text (Acpi refused) = error_text refused
+numa_error_text InvalidEntryLength = codes "InvalidEntryLength"
+numa_error_text InvalidMemoryRange = codes "InvalidMemoryRange"

@@ -1,0 +1,7 @@
+pub mod Affinities
+pub mod Answers
+pub mod ErrorText
+pub mod Slit
+pub mod Srat
+pub mod SratEntries
+pub mod SratWalk

@@ -1,0 +1,34 @@
+-- What a walk along the SRAT's entries shows.
+use Rattle.std.specs.Prelude.{◌≡◌, ◌&&◌, Bool, true, false, ℕ, List, [], ◌∷◌, Option, Some, None}
+use Rattle.std.specs.List.{filter_map}
+use Rattle.acpi_base.specs.Entries.{cut}
+use Rattle.acpi_numa.specs.Srat.{entry_of, srat_grammar}
+use Rattle.acpi_numa.specs.declared.srat.entry.SratEntry.{SratEntry}
+use Rattle.acpi_numa.specs.declared.srat.walk.SratEntryIter.{SratEntryIter}
+
+-- the entries that are still to come
+abbrev pub entries_left : SratEntryIter → List SratEntry
+entries_left s = filter_map (entry_of s.revision) (cut srat_grammar s.rest.now).0
+
+-- the rest after them, in which no entry begins
+abbrev pub rest_left : SratEntryIter → List ℕ
+rest_left s = (cut srat_grammar s.rest.now).1
+
+-- whether it has answered that no entry is left
+abbrev pub has_ended : SratEntryIter → Bool
+has_ended s = s.ended
+
+-- whether bytes are left
+abbrev pub is_left : List ℕ → Bool
+is_left [] = false
+is_left (b ∷ rest) = true
+
+-- whether it ended before the table did
+abbrev pub is_malformed : SratEntryIter → Bool
+is_malformed s = s.ended && is_left s.rest.now
+
+-- a step leaves the rest as it is, and has ended exactly if it gives no entry
+abbrev pub EndsAtRest : SratEntryIter → Option SratEntry → SratEntryIter → Type 0
+EndsAtRest s (Some entry) t = (rest_left t ≡ rest_left s) × (has_ended t ≡ has_ended s)
+EndsAtRest s None t =
+    (rest_left t ≡ rest_left s) × (is_malformed t ≡ is_left (rest_left s))

@@ -1,0 +1,206 @@
+//! The System Locality Information Table (SLIT): how far localities are from each other.
+ghost use Rattle.std.specs.Prelude.{◌≡◌};
+ghost use Rattle.acpi_numa.specs.Slit.{fits};
+
+use acpi_base::bytes::{field, field_in};
+use acpi_base::sdt::SdtHeader;
+use acpi_base::table::sum_refusal;
+use acpi_base::{AcpiResult, AcpiTable, Lender, PhysicalMapping, PhysicalRecord, Signature};
+
+/// The SLIT (section 5.2.17). After these fields it has a byte for each pair of localities;
+/// `Distances` reads them, and `SlitCalls` gives a mapping of it the same calls.
+#[derive(Debug, Drop)]
+pub struct Slit {
+    /// The header that every table begins with.
+    pub header: SdtHeader,
+    /// How many localities there are. Nothing promises that the table has the distances of so many.
+    pub localities: u64,
+}
+
+impl PhysicalRecord for Slit {
+    ghost use Rattle.acpi_numa.specs.Slit.{slit_at};
+
+    const MIN_LENGTH: usize = 44;
+
+    ghost MIN_LENGTH = { 44 };
+
+    ghost reading = { slit_at };
+
+    #[tactic(auto, unfolding(crate::specs::Slit::slit_at))]
+    fn read(bytes: &[u8]) -> Self {
+        Slit {
+            header: SdtHeader::read(bytes),
+            localities: field_in(bytes, 36, 8),
+        }
+    }
+}
+
+impl AcpiTable for Slit {
+    ghost use Rattle.std.proofs.Common.{lit≤, refl};
+    ghost use Rattle.acpi_base.specs.Table.{sdt_kind};
+    ghost use Rattle.acpi_base.specs.declared.table.signature.TheConstants.Signature.{SLIT};
+
+    const SIGNATURE: Signature = Signature::SLIT;
+
+    ghost SIGNATURE = { SLIT };
+
+    ghost kind = { sdt_kind SLIT 44 };
+
+    #[tactic(auto, unfolding(crate::specs::Slit::slit_at))]
+    fn header(&self) -> &SdtHeader {
+        &self.header
+    }
+
+    fn validate(&self, bytes: &[u8]) -> AcpiResult<()> {
+        self.header().validate(Self::SIGNATURE, bytes)
+    }
+
+    fn validate_rest(bytes: &[u8]) -> AcpiResult<()> {
+        sum_refusal(Self::SIGNATURE, bytes)
+    }
+
+    ghost least = { lit≤ tt };
+
+    ghost agrees = { (refl, refl) };
+}
+
+/// The distances in a SLIT's bytes. It knows no memory and no handler.
+#[derive(Clone, Copy, Debug)]
+pub struct Distances<'a> {
+    table: &'a [u8],
+}
+
+impl<'a> Distances<'a> {
+    ghost use Rattle.std.specs.Prelude.{◌≡◌, ◌↔◌, ◌+◌, ◌*◌, nat_le, length, IsTrue};
+    ghost use Rattle.acpi_numa.specs.Slit.{IsRowSane, IsSane, distance_of, localities_of, slit_bytes};
+
+    /// The distances in a table's bytes, from the table's first byte on. Of fewer than 44 bytes there
+    /// is none.
+    pub fn over(table: &'a [u8]) -> Self
+        ensures { slit_bytes result ≡ table.now }
+    {
+        Distances { table }
+    }
+
+    /// How many localities the table says that there are (offset 36; eight bytes). A byte past the
+    /// end is read as zero.
+    pub fn localities(&self) -> u64
+        ensures { result ≡ localities_of (slit_bytes self.now) }
+    {
+        field(self.table, 36, 8)
+    }
+
+    /// How far it is from one locality to another, in the table's units, of which 10 is the distance
+    /// of a locality from itself. 255 stands for 'unreachable', and is given as it is.
+    ///
+    /// It is `None` if one of the two isn't below the number of localities, or if the byte of the
+    /// pair, at 44 + from * localities + to, doesn't lie in the table.
+    #[tactic(auto, unfolding(crate::specs::Slit::distance_of))]
+    pub fn distance(&self, from: u64, to: u64) -> Option<u8>
+        ensures { result ≡ distance_of (slit_bytes self.now) from to }
+    {
+        let count = self.localities();
+        if from >= count || to >= count {
+            return None;
+        }
+        let place = from.checked_mul(count)?.checked_add(to)?.checked_add(44)?;
+        if place < self.table.len() as u64 {
+            Some(self.table[place as usize])
+        } else {
+            None
+        }
+    }
+
+    /// Whether the table can be believed: there are localities, the table has the distances of all
+    /// pairs (more bytes may follow), each locality is at 10 from itself, and at more than 10 from
+    /// every other.
+    ///
+    /// It looks at each byte of the table at most once, however many localities the table names.
+    pub fn is_sane(&self) -> bool
+        ensures { IsTrue result ↔ IsSane (slit_bytes self.now) }
+    {
+        let count = self.localities();
+        if count == 0 || !self.has_all(count) {
+            return false;
+        }
+        for from in 0..count {
+            if !self.is_row_sane(from, count) {
+                return false;
+            }
+        }
+        true
+    }
+
+    /// Whether the table has the distances of all pairs of so many localities.
+    fn has_all(&self, count: u64) -> bool
+        ensures { result ≡ nat_le (44 + count * count) (length (slit_bytes self.now)) }
+    {
+        match count.checked_mul(count) {
+            Some(pairs) => pairs <= u64::MAX - 44 && pairs + 44 <= self.table.len() as u64,
+            None => false,
+        }
+    }
+
+    /// Whether the distances from one locality can be believed.
+    fn is_row_sane(&self, from: u64, count: u64) -> bool
+        requires { count ≡ localities_of (slit_bytes self.now) }
+        ensures { IsTrue result ↔ IsRowSane (slit_bytes self.now) from }
+    {
+        for to in 0..count {
+            if !fits(from, to, self.distance(from, to)) {
+                return false;
+            }
+        }
+        true
+    }
+}
+
+/// Whether the distance from one locality to another can be believed.
+fn fits(from: u64, to: u64, distance: Option<u8>) -> bool
+    ensures { result ≡ fits from to distance }
+{
+    match distance {
+        Some(distance) if from == to => distance == 10,
+        Some(distance) => distance > 10,
+        None => false,
+    }
+}
+
+/// The calls of `Distances`, over a mapping of a SLIT.
+pub trait SlitCalls {
+    ghost use Rattle.std.specs.Prelude.{◌↔◌, ℕ, List, IsTrue};
+    ghost use Rattle.acpi_numa.specs.Slit.{IsSane, distance_of, slit_bytes};
+
+    // The table's bytes.
+    ghost table: { Self → List ℕ };
+
+    /// The distances in the table's bytes.
+    fn distances(&self) -> Distances<'_>
+        ensures { slit_bytes result ≡ table self.now };
+
+    /// As `Distances::distance`.
+    fn distance(&self, from: u64, to: u64) -> Option<u8>
+        ensures { result ≡ distance_of (table self.now) from to };
+
+    /// As `Distances::is_sane`.
+    fn is_sane(&self) -> bool
+        ensures { IsTrue result ↔ IsSane (table self.now) };
+}
+
+impl<'h, H: Lender> SlitCalls for PhysicalMapping<'h, H, Slit> {
+    ghost use Rattle.acpi_base.specs.Mapping.{bytes_of};
+
+    ghost table = { λ m. bytes_of m };
+
+    fn distances(&self) -> Distances<'_> {
+        Distances::over(self.bytes())
+    }
+
+    fn distance(&self, from: u64, to: u64) -> Option<u8> {
+        self.distances().distance(from, to)
+    }
+
+    fn is_sane(&self) -> bool {
+        self.distances().is_sane()
+    }
+}

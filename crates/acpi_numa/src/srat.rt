@@ -1,0 +1,73 @@
+//! The System Resource Affinity Table (SRAT): the domains that processors and memory are in.
+
+mod affinities;
+mod domains;
+mod entry;
+mod kinds;
+mod walk;
+
+use acpi_base::sdt::SdtHeader;
+use acpi_base::table::sum_refusal;
+use acpi_base::{AcpiResult, AcpiTable, PhysicalRecord, Signature};
+pub use affinities::{MemoryAffinities, MemoryRange};
+pub use domains::{Domains, SratCalls};
+pub use entry::SratEntry;
+pub use kinds::{
+    GenericAffinity, GicItsAffinity, GiccAffinity, LocalApicAffinity, LocalX2ApicAffinity,
+    MemoryAffinity,
+};
+pub use walk::SratEntryIter;
+
+/// The SRAT (section 5.2.16). Its entries stand after 48 fixed bytes; `Domains` reads them, and
+/// `SratCalls` gives a mapping of it the same calls.
+#[derive(Debug, Drop)]
+pub struct Srat {
+    /// The header that every table begins with.
+    pub header: SdtHeader,
+}
+
+impl PhysicalRecord for Srat {
+    ghost use Rattle.acpi_numa.specs.Srat.{srat_at};
+
+    const MIN_LENGTH: usize = 48;
+
+    ghost MIN_LENGTH = { 48 };
+
+    ghost reading = { srat_at };
+
+    #[tactic(auto, unfolding(crate::specs::Srat::srat_at))]
+    fn read(bytes: &[u8]) -> Self {
+        Srat {
+            header: SdtHeader::read(bytes),
+        }
+    }
+}
+
+impl AcpiTable for Srat {
+    ghost use Rattle.std.proofs.Common.{lit≤, refl};
+    ghost use Rattle.acpi_base.specs.Table.{sdt_kind};
+    ghost use Rattle.acpi_base.specs.declared.table.signature.TheConstants.Signature.{SRAT};
+
+    const SIGNATURE: Signature = Signature::SRAT;
+
+    ghost SIGNATURE = { SRAT };
+
+    ghost kind = { sdt_kind SRAT 48 };
+
+    #[tactic(auto, unfolding(crate::specs::Srat::srat_at))]
+    fn header(&self) -> &SdtHeader {
+        &self.header
+    }
+
+    fn validate(&self, bytes: &[u8]) -> AcpiResult<()> {
+        self.header().validate(Self::SIGNATURE, bytes)
+    }
+
+    fn validate_rest(bytes: &[u8]) -> AcpiResult<()> {
+        sum_refusal(Self::SIGNATURE, bytes)
+    }
+
+    ghost least = { lit≤ tt };
+
+    ghost agrees = { (refl, refl) };
+}

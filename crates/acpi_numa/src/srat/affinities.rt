@@ -1,0 +1,211 @@
+//! Which domain each range of memory is in.
+ghost use Rattle.std.specs.Prelude.{◌≡◌, List, [], IfOk, IsOk, length};
+ghost use Rattle.acpi_numa.specs.Affinities.{affinities_count, domain_at, ends_below, lies_in, ranges_of};
+ghost use Rattle.acpi_numa.specs.declared.srat.affinities.MemoryRange.{MemoryRange};
+
+use super::Srat;
+use super::domains::Domains;
+use crate::error::{NumaError, NumaResult};
+use acpi::AcpiTables;
+use acpi_base::Lender;
+use acpi_base::managed_slice::ManagedSlice;
+use std::alloc::{AllocError, Allocator, Global};
+use std::marker::Model;
+
+/// A range of memory, and the domain that it is in.
+#[derive(Clone, Copy, Debug, PartialEq, Eq)]
+pub struct MemoryRange {
+    /// The domain.
+    pub domain: u32,
+    /// The physical address of the first byte.
+    pub base: u64,
+    /// How many bytes there are: at least one.
+    pub length: u64,
+    /// Whether it can be plugged in while the machine runs.
+    pub is_hot_pluggable: bool,
+    /// Whether it is non-volatile.
+    pub is_non_volatile: bool,
+}
+
+impl MemoryRange {
+    /// Whether an address lies in the range.
+    pub fn holds(&self, address: u64) -> bool
+        ensures { result ≡ lies_in address self.now }
+    {
+        self.base <= address && address - self.base < self.length
+    }
+
+    /// Whether the range ends below 2^64.
+    fn ends_below(&self) -> bool
+        ensures { result ≡ ends_below self.now }
+    {
+        self.length <= u64::MAX - self.base
+    }
+}
+
+/// The ranges of memory that a SRAT puts into domains.
+#[derive(Drop)]
+pub struct MemoryAffinities<A: Allocator> {
+    ranges: ManagedSlice<MemoryRange, A>,
+}
+
+/// In contracts it is the list of its ranges.
+impl<A: Allocator> Model for MemoryAffinities<A> {
+    ghost Value = { List MemoryRange };
+
+    ghost view = { λ m. m.ranges };
+}
+
+impl MemoryAffinities<Global> {
+    ghost use Rattle.acpi.specs.Footprint.{AllowsBelow, FootprintBelow, lookup_ranges};
+    ghost use Rattle.acpi.specs.Relocation.{Relocation};
+    ghost use Rattle.acpi.specs.Tables.{of_tables};
+    ghost use Rattle.acpi_numa.specs.Affinities.{AffinitiesAsk, found_affinities, srat_kind};
+    ghost use Rattle.acpi_numa.specs.Answers.{AnswersOrFull, joined};
+
+    /// `new_in` over the global allocator.
+    pub fn new<H: Lender>(alloc: Global, tables: &AcpiTables<'_, H>) -> NumaResult<Self>
+        requires { AllowsBelow tables.now (λ m. lookup_ranges m srat_kind) }
+        ensures exact { AnswersOrFull (of_tables tables.now AffinitiesAsk)
+            result (joined (of_tables tables.now found_affinities)) }
+        // It depends on what the lookup of the SRAT depends on.
+        ensures footprint { FootprintBelow tables.now (λ m. lookup_ranges m srat_kind) found_affinities
+            (λ said. AnswersOrFull (of_tables tables.now AffinitiesAsk) result (joined said)) }
+        // It is the same wherever the valid tables lie.
+        ensures relocation { Relocation tables.now found_affinities
+            (λ said. AnswersOrFull (of_tables tables.now AffinitiesAsk) result (joined said)) }
+    {
+        MemoryAffinities::new_in(tables, alloc)
+    }
+}
+
+impl<A: Allocator> MemoryAffinities<A> {
+    ghost use Rattle.acpi.specs.Footprint.{AllowsBelow, FootprintBelow, lookup_ranges};
+    ghost use Rattle.acpi.specs.Relocation.{Relocation};
+    ghost use Rattle.acpi.specs.Tables.{of_tables};
+    ghost use Rattle.acpi_numa.specs.Affinities.{AffinitiesAsk, IsDomainOf, SomeRange};
+    ghost use Rattle.acpi_numa.specs.Affinities.{affinities_of, found_affinities, srat_kind};
+    ghost use Rattle.acpi_numa.specs.Answers.{AnswersOrFull, joined};
+
+    /// The ranges of the first valid SRAT, in the order of the table: those of its enabled entries of
+    /// memory that have at least one byte (section 5.2.16.2).
+    ///
+    /// Refuses, in this order, with `Acpi(TableMissing)` if no valid SRAT is listed; with
+    /// `InvalidEntryLength` if the entries end before the table does, since half a map is no map; with
+    /// `InvalidMemoryRange` if one of these ranges ends above 2^64 - 1; and with `Acpi(AllocError)` if
+    /// a growth is refused. Memory is asked for only if there is a range.
+    pub fn new_in<H: Lender>(tables: &AcpiTables<'_, H>, allocator: A) -> NumaResult<Self>
+        requires { AllowsBelow tables.now (λ m. lookup_ranges m srat_kind) }
+        ensures exact { AnswersOrFull (of_tables tables.now AffinitiesAsk)
+            result (joined (of_tables tables.now found_affinities)) }
+        // It depends on what the lookup of the SRAT depends on.
+        ensures footprint { FootprintBelow tables.now (λ m. lookup_ranges m srat_kind) found_affinities
+            (λ said. AnswersOrFull (of_tables tables.now AffinitiesAsk) result (joined said)) }
+        // It is the same wherever the valid tables lie.
+        ensures relocation { Relocation tables.now found_affinities
+            (λ said. AnswersOrFull (of_tables tables.now AffinitiesAsk) result (joined said)) }
+    {
+        MemoryAffinities::new_in_exact(tables, allocator)
+    }
+
+    /// What `new_in` answers: the first valid SRAT is looked up and read.
+    fn new_in_exact<H: Lender>(tables: &AcpiTables<'_, H>, allocator: A) -> NumaResult<Self>
+        requires { AllowsBelow tables.now (λ m. lookup_ranges m srat_kind) }
+        ensures { AnswersOrFull (of_tables tables.now AffinitiesAsk)
+            result (joined (of_tables tables.now found_affinities)) }
+    {
+        let srat = tables.find_table::<Srat>()?;
+        MemoryAffinities::over(srat.bytes(), allocator)
+    }
+
+    /// The ranges in a SRAT's bytes, from the table's first byte on, as `new_in` has them. It knows no
+    /// memory and no handler.
+    pub fn over(table: &[u8], allocator: A) -> NumaResult<Self>
+        ensures { AnswersOrFull (SomeRange (affinities_of table.now)) result (affinities_of table.now) }
+    {
+        let count = counted(table)?;
+        let ranges = gathered(table, count, allocator)?;
+        Ok(MemoryAffinities {
+            ranges: ManagedSlice::from_vec(ranges),
+        })
+    }
+
+    /// The ranges, in the order of the table. They may overlap.
+    pub fn ranges(&self) -> &[MemoryRange]
+        ensures { result.now ≡ self.now }
+    {
+        self.ranges.as_slice()
+    }
+
+    /// The domain of the memory at an address: that of the first range that holds it, or `None` if none
+    /// does.
+    pub fn domain_of(&self, address: u64) -> Option<u32>
+        ensures value { result ≡ domain_at self.now address }
+        // It is that of the first range in which the address lies.
+        ensures first { IsDomainOf self.now address result }
+    {
+        self.domain_of_exact(address)
+    }
+
+    /// What `domain_of` answers: the ranges are searched in order.
+    fn domain_of_exact(&self, address: u64) -> Option<u32>
+        ensures { result ≡ domain_at self.now address }
+    {
+        domain_at(self.ranges.as_slice(), address)
+    }
+}
+
+/// The domain of the first range that holds an address.
+fn domain_at(ranges: &[MemoryRange], address: u64) -> Option<u32>
+    ensures { result ≡ domain_at ranges.now address }
+{
+    for range in ranges {
+        if range.holds(address) {
+            return Some(range.domain);
+        }
+    }
+    None
+}
+
+/// How many ranges there are in a table's bytes, or why they are refused.
+#[tactic(auto, using(crate::proofs::SratCounts::ranges_few))]
+fn counted(table: &[u8]) -> NumaResult<usize>
+    ensures { result ≡ affinities_count table.now }
+{
+    let mut count = 0;
+    let mut all_end = true;
+    let mut entries = Domains::over(table).entries();
+    while let Some(entry) = entries.next() {
+        if let Some(range) = entry.memory_range() {
+            count += 1;
+            all_end = all_end && range.ends_below();
+        }
+    }
+    if entries.ended_malformed() {
+        return Err(NumaError::InvalidEntryLength);
+    }
+    if !all_end {
+        return Err(NumaError::InvalidMemoryRange);
+    }
+    Ok(count)
+}
+
+/// The ranges in a table's bytes, of which there are so many, in memory that is asked for once.
+fn gathered<A: Allocator>(
+    table: &[u8],
+    count: usize,
+    allocator: A,
+) -> Result<Vec<MemoryRange, A>, AllocError>
+    requires { count ≡ length (ranges_of table.now) }
+    ensures items { IfOk result (λ v. v.items ≡ ranges_of table.now) }
+    ensures none { ranges_of table.now ≡ [] → IsOk result }
+{
+    let mut ranges = Vec::with_capacity(allocator, count)?;
+    let mut entries = Domains::over(table).entries();
+    while let Some(entry) = entries.next() {
+        if let Some(range) = entry.memory_range() {
+            ranges.push_reserved(range);
+        }
+    }
+    Ok(ranges)
+}

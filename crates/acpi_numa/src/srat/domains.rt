@@ -1,0 +1,120 @@
+//! The domains of processors.
+
+use super::Srat;
+use super::walk::SratEntryIter;
+use acpi_base::{Lender, PhysicalMapping};
+
+/// The domains in a SRAT's bytes. It knows no memory and no handler.
+#[derive(Clone, Copy, Debug)]
+pub struct Domains<'a> {
+    table: &'a [u8],
+}
+
+impl<'a> Domains<'a> {
+    ghost use Rattle.std.specs.Prelude.{◌≡◌, ◌-◌, ◌≤◌, length, false};
+    ghost use Rattle.acpi_numa.specs.Srat.{cut_of, domain_of_apic, domain_of_processor, entries_of};
+    ghost use Rattle.acpi_numa.specs.Srat.{srat_bytes};
+    ghost use Rattle.acpi_numa.specs.SratWalk.{entries_left, has_ended, rest_left};
+
+    /// The domains in a table's bytes, from the table's first byte on. In fewer than 50 bytes there is
+    /// no entry.
+    pub fn over(table: &'a [u8]) -> Self
+        ensures { srat_bytes result ≡ table.now }
+    {
+        Domains { table }
+    }
+
+    /// The table's entries, in order.
+    pub fn entries(&self) -> SratEntryIter<'a>
+        ensures items { entries_left result ≡ entries_of (srat_bytes self.now) }
+        ensures rest { rest_left result ≡ (cut_of (srat_bytes self.now)).1 }
+        ensures begun { has_ended result ≡ false }
+        ensures few { length (entries_left result) ≤ length (srat_bytes self.now) - 48 }
+    {
+        SratEntryIter::over(self.table)
+    }
+
+    /// The domain of the processor whose local APIC or x2APIC has this id: that of the last enabled
+    /// entry of kind 0 or 2 with this id (sections 5.2.16.1 and 5.2.16.3), or `None` if there is none.
+    /// Entries after a malformed one are not looked at.
+    pub fn domain_of_apic(&self, apic_id: u32) -> Option<u32>
+        ensures { result ≡ domain_of_apic (srat_bytes self.now) apic_id }
+    {
+        let mut found = None;
+        let mut entries = self.entries();
+        while let Some(entry) = entries.next() {
+            if let Some(domain) = entry.apic_domain(apic_id) {
+                found = Some(domain);
+            }
+        }
+        found
+    }
+
+    /// The domain of the processor of this uid, which has an interface to the GIC: that of the last
+    /// enabled entry of kind 3 with this uid (section 5.2.16.4), or `None` if there is none. Entries
+    /// after a malformed one are not looked at.
+    pub fn domain_of_processor(&self, uid: u32) -> Option<u32>
+        ensures { result ≡ domain_of_processor (srat_bytes self.now) uid }
+    {
+        let mut found = None;
+        let mut entries = self.entries();
+        while let Some(entry) = entries.next() {
+            if let Some(domain) = entry.processor_domain(uid) {
+                found = Some(domain);
+            }
+        }
+        found
+    }
+}
+
+/// The calls of `Domains`, over a mapping of a SRAT.
+pub trait SratCalls {
+    ghost use Rattle.std.specs.Prelude.{◌≡◌, ◌-◌, ◌≤◌, ℕ, List, length, false};
+    ghost use Rattle.acpi_numa.specs.Srat.{cut_of, domain_of_apic, domain_of_processor, entries_of};
+    ghost use Rattle.acpi_numa.specs.Srat.{srat_bytes};
+    ghost use Rattle.acpi_numa.specs.SratWalk.{entries_left, has_ended, rest_left};
+
+    // The table's bytes.
+    ghost table: { Self → List ℕ };
+
+    /// The domains in the table's bytes.
+    fn domains(&self) -> Domains<'_>
+        ensures { srat_bytes result ≡ table self.now };
+
+    /// As `Domains::entries`.
+    fn entries(&self) -> SratEntryIter<'_>
+        ensures items { entries_left result ≡ entries_of (table self.now) }
+        ensures rest { rest_left result ≡ (cut_of (table self.now)).1 }
+        ensures begun { has_ended result ≡ false }
+        ensures few { length (entries_left result) ≤ length (table self.now) - 48 };
+
+    /// As `Domains::domain_of_apic`.
+    fn domain_of_apic(&self, apic_id: u32) -> Option<u32>
+        ensures { result ≡ domain_of_apic (table self.now) apic_id };
+
+    /// As `Domains::domain_of_processor`.
+    fn domain_of_processor(&self, uid: u32) -> Option<u32>
+        ensures { result ≡ domain_of_processor (table self.now) uid };
+}
+
+impl<'h, H: Lender> SratCalls for PhysicalMapping<'h, H, Srat> {
+    ghost use Rattle.acpi_base.specs.Mapping.{bytes_of};
+
+    ghost table = { λ m. bytes_of m };
+
+    fn domains(&self) -> Domains<'_> {
+        Domains::over(self.bytes())
+    }
+
+    fn entries(&self) -> SratEntryIter<'_> {
+        self.domains().entries()
+    }
+
+    fn domain_of_apic(&self, apic_id: u32) -> Option<u32> {
+        self.domains().domain_of_apic(apic_id)
+    }
+
+    fn domain_of_processor(&self, uid: u32) -> Option<u32> {
+        self.domains().domain_of_processor(uid)
+    }
+}

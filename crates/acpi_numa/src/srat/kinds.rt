@@ -1,0 +1,206 @@
+//! The kinds of entries, each with its fields.
+//!
+//! The domain of the first two kinds has four bytes since revision 2 of the table: in tables of revision
+//! 0 and 1 it is its lowest byte alone, and the others are reserved. Bit 0 of the flags says whether an
+//! entry counts: `SratEntry::is_enabled` tells it.
+ghost use Rattle.std.specs.Prelude.{◌≡◌, ◌≤◌, length};
+ghost use Rattle.acpi_base.specs.Bits.{has_bit};
+ghost use Rattle.acpi_numa.specs.SratEntries as entries;
+
+use acpi_base::bytes::{field_in, filled_in, has_bit};
+
+/// The domain of a processor with a local APIC (section 5.2.16.1).
+#[derive(Clone, Copy, Debug)]
+pub struct LocalApicAffinity {
+    /// The domain.
+    pub domain: u32,
+    /// The id of the local APIC.
+    pub apic_id: u8,
+    /// Bit 0: the entry counts.
+    pub flags: u32,
+    /// The extended id of a local SAPIC.
+    pub sapic_eid: u8,
+    /// The clock domain.
+    pub clock_domain: u32,
+}
+
+impl LocalApicAffinity {
+    /// What an entry's bytes mean in a table of a revision.
+    pub(super) fn read(revision: u8, bytes: &[u8]) -> Self
+        requires { 16 ≤ length bytes.now }
+        ensures { result ≡ entries.local_apic_affinity_at revision bytes.now }
+    {
+        let lowest = field_in(bytes, 2, 1) as u32;
+        let higher = field_in(bytes, 9, 3) as u32;
+        LocalApicAffinity {
+            domain: if revision < 2 {
+                lowest
+            } else {
+                lowest + 256 * higher
+            },
+            apic_id: field_in(bytes, 3, 1) as u8,
+            flags: field_in(bytes, 4, 4) as u32,
+            sapic_eid: field_in(bytes, 8, 1) as u8,
+            clock_domain: field_in(bytes, 12, 4) as u32,
+        }
+    }
+}
+
+/// The domain of a range of memory (section 5.2.16.2).
+#[derive(Clone, Copy, Debug)]
+pub struct MemoryAffinity {
+    /// The domain.
+    pub domain: u32,
+    /// The physical address of the range's first byte.
+    pub base: u64,
+    /// How many bytes the range has.
+    pub length: u64,
+    /// Bit 0: the entry counts. Bit 1: the memory can be plugged in while the machine runs. Bit 2: it
+    /// is non-volatile.
+    pub flags: u32,
+}
+
+impl MemoryAffinity {
+    /// What an entry's bytes mean in a table of a revision.
+    pub(super) fn read(revision: u8, bytes: &[u8]) -> Self
+        requires { 40 ≤ length bytes.now }
+        ensures { result ≡ entries.memory_affinity_at revision bytes.now }
+    {
+        let width = if revision < 2 { 1 } else { 4 };
+        MemoryAffinity {
+            domain: field_in(bytes, 2, width) as u32,
+            base: field_in(bytes, 8, 8),
+            length: field_in(bytes, 16, 8),
+            flags: field_in(bytes, 28, 4) as u32,
+        }
+    }
+
+    /// Whether the memory can be plugged in while the machine runs (bit 1 of the flags).
+    pub fn is_hot_pluggable(&self) -> bool
+        ensures { result ≡ has_bit self.now.flags 1 }
+    {
+        has_bit(self.flags as u64, 1)
+    }
+
+    /// Whether the memory is non-volatile (bit 2 of the flags).
+    pub fn is_non_volatile(&self) -> bool
+        ensures { result ≡ has_bit self.now.flags 2 }
+    {
+        has_bit(self.flags as u64, 2)
+    }
+}
+
+/// The domain of a processor with a local x2APIC (section 5.2.16.3).
+#[derive(Clone, Copy, Debug)]
+pub struct LocalX2ApicAffinity {
+    /// The domain.
+    pub domain: u32,
+    /// The id of the local x2APIC.
+    pub x2apic_id: u32,
+    /// Bit 0: the entry counts.
+    pub flags: u32,
+    /// The clock domain.
+    pub clock_domain: u32,
+}
+
+impl LocalX2ApicAffinity {
+    /// What an entry's bytes mean.
+    pub(super) fn read(bytes: &[u8]) -> Self
+        requires { 24 ≤ length bytes.now }
+        ensures { result ≡ entries.local_x2apic_affinity_at bytes.now }
+    {
+        LocalX2ApicAffinity {
+            domain: field_in(bytes, 4, 4) as u32,
+            x2apic_id: field_in(bytes, 8, 4) as u32,
+            flags: field_in(bytes, 12, 4) as u32,
+            clock_domain: field_in(bytes, 16, 4) as u32,
+        }
+    }
+}
+
+/// The domain of a processor with an interface to the generic interrupt controller (GIC; section
+/// 5.2.16.4).
+#[derive(Clone, Copy, Debug)]
+pub struct GiccAffinity {
+    /// The domain.
+    pub domain: u32,
+    /// The processor's ACPI id: the `_UID` of its object in the namespace.
+    pub processor_uid: u32,
+    /// Bit 0: the entry counts.
+    pub flags: u32,
+    /// The clock domain.
+    pub clock_domain: u32,
+}
+
+impl GiccAffinity {
+    /// What an entry's bytes mean.
+    pub(super) fn read(bytes: &[u8]) -> Self
+        requires { 18 ≤ length bytes.now }
+        ensures { result ≡ entries.gicc_affinity_at bytes.now }
+    {
+        GiccAffinity {
+            domain: field_in(bytes, 2, 4) as u32,
+            processor_uid: field_in(bytes, 6, 4) as u32,
+            flags: field_in(bytes, 10, 4) as u32,
+            clock_domain: field_in(bytes, 14, 4) as u32,
+        }
+    }
+}
+
+/// The domain of an interrupt translation service of the GIC (ITS; section 5.2.16.5). It has no flags.
+#[derive(Clone, Copy, Debug)]
+pub struct GicItsAffinity {
+    /// The domain.
+    pub domain: u32,
+    /// The id of the service.
+    pub its_id: u32,
+}
+
+impl GicItsAffinity {
+    /// What an entry's bytes mean.
+    pub(super) fn read(bytes: &[u8]) -> Self
+        requires { 12 ≤ length bytes.now }
+        ensures { result ≡ entries.gic_its_affinity_at bytes.now }
+    {
+        GicItsAffinity {
+            domain: field_in(bytes, 2, 4) as u32,
+            its_id: field_in(bytes, 8, 4) as u32,
+        }
+    }
+}
+
+/// The domain of a device that reads and writes memory by itself (section 5.2.16.6), or of a port that
+/// such devices come to.
+#[derive(Clone, Copy, Debug)]
+pub struct GenericAffinity {
+    /// What the handle is. 0: it names the device in the namespace. 1: it is its PCI address.
+    pub handle_type: u8,
+    /// The domain.
+    pub domain: u32,
+    /// The device's handle.
+    pub device_handle: [u8; 16],
+    /// Bit 0: the entry counts. Bit 1: the device has architectural transactions.
+    pub flags: u32,
+}
+
+impl GenericAffinity {
+    /// What an entry's bytes mean.
+    pub(super) fn read(bytes: &[u8]) -> Self
+        requires { 32 ≤ length bytes.now }
+        ensures { result ≡ entries.generic_affinity_at bytes.now }
+    {
+        GenericAffinity {
+            handle_type: field_in(bytes, 3, 1) as u8,
+            domain: field_in(bytes, 4, 4) as u32,
+            device_handle: filled_in(bytes, 8),
+            flags: field_in(bytes, 24, 4) as u32,
+        }
+    }
+
+    /// Whether all transactions of the device are architectural ones (bit 1 of the flags).
+    pub fn has_architectural_transactions(&self) -> bool
+        ensures { result ≡ has_bit self.now.flags 1 }
+    {
+        has_bit(self.flags as u64, 1)
+    }
+}

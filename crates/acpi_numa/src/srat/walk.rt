@@ -1,0 +1,72 @@
+//! The entries of a SRAT, one at a time.
+
+use super::Srat;
+use super::entry::{SRAT_GRAMMAR, SratEntry};
+use acpi_base::PhysicalRecord;
+use acpi_base::bytes::{field, skip};
+use acpi_base::entries::split_front;
+
+/// The entries of the kinds that are defined, in order. Entries of other kinds are skipped by their
+/// length. It ends at the table's end, or where no entry begins: where one byte is left, or the
+/// length is under 2, under the least of its kind, or past the end.
+#[derive(Debug, Drop)]
+pub struct SratEntryIter<'a> {
+    rest: &'a [u8],
+    revision: u8,
+    ended: bool,
+}
+
+impl<'a> SratEntryIter<'a> {
+    ghost use Rattle.std.specs.Prelude.{◌≡◌, ◌-◌, ◌≤◌, length, false};
+    ghost use Rattle.acpi_numa.specs.Srat.{cut_of, entries_of};
+    ghost use Rattle.acpi_numa.specs.SratWalk.{entries_left, has_ended, is_malformed, rest_left};
+
+    /// The entries of a SRAT's bytes: those after its 48 fixed ones. It knows no memory and no
+    /// handler.
+    #[tactic(auto, using(crate::proofs::SratCounts::entries_few))]
+    pub fn over(table: &'a [u8]) -> Self
+        ensures items { entries_left result ≡ entries_of table.now }
+        ensures rest { rest_left result ≡ (cut_of table.now).1 }
+        ensures begun { has_ended result ≡ false }
+        ensures few { length (entries_left result) ≤ length table.now - 48 }
+    {
+        SratEntryIter {
+            rest: skip(table, Srat::MIN_LENGTH),
+            revision: field(table, 8, 1) as u8,
+            ended: false,
+        }
+    }
+
+    /// Whether `next` has answered `None` where no entry began, and not at the table's end. Before
+    /// that answer it is false.
+    pub fn ended_malformed(&self) -> bool
+        ensures { result ≡ is_malformed self.now }
+    {
+        match self.rest {
+            [] => false,
+            _ => self.ended,
+        }
+    }
+}
+
+impl Iterator for SratEntryIter<'_> {
+    ghost use Rattle.std.specs.Iterator.{YieldsFirst, item_count};
+    ghost use Rattle.acpi_numa.specs.SratWalk.{EndsAtRest, entries_left};
+
+    type Item = SratEntry;
+
+    ghost next_gives = { λ s r t. YieldsFirst (λ x. entries_left x) s r t × EndsAtRest s r t };
+
+    ghost remaining = { item_count (λ s. entries_left s) };
+
+    fn next(&mut self) -> Option<SratEntry> {
+        while let Some((entry, others)) = split_front(&SRAT_GRAMMAR, self.rest) {
+            self.rest = others;
+            if let Some(found) = SratEntry::read(self.revision, entry) {
+                return Some(found);
+            }
+        }
+        self.ended = true;
+        None
+    }
+}

@@ -1,0 +1,83 @@
+//! The GIC that a MADT describes.
+//!
+//! A question names a part of the model. `QUESTION in full heap` asks where no memory is left.
+
+use acpi::{AcpiResult, ManagedSlice};
+use acpi_arm::gic::{GicCpuInterface, GicModel};
+use acpi_base::model::TriggerMode;
+use acpi_testkit::rows::shown;
+use linked_list_allocator::LocalHeap;
+use std::alloc::{AllocError, Allocator, Global};
+
+/// What a MADT answers.
+pub(crate) fn answer(alloc: Global, table: &[u8], question: &str) -> Result<String, AllocError> {
+    match question.strip_suffix(" in full heap") {
+        Some(asked) => in_full_heap(alloc, table, asked),
+        None => said(alloc, GicModel::of(table, alloc), question),
+    }
+}
+
+/// What it answers where no memory is left.
+fn in_full_heap(alloc: Global, table: &[u8], question: &str) -> Result<String, AllocError> {
+    let heap = LocalHeap::new(alloc, 16)?;
+    let _filled = ManagedSlice::new_in(16, 0u8, &heap);
+    said(alloc, GicModel::of(table, &heap), question)
+}
+
+/// The part of a model, or that there is none, or the refusal.
+pub(crate) fn said<A: Allocator>(
+    alloc: Global,
+    answer: AcpiResult<Option<GicModel<A>>>,
+    question: &str,
+) -> Result<String, AllocError> {
+    match answer {
+        Ok(Some(model)) => of_model(alloc, &model, question),
+        Ok(None) => String::from_str(alloc, "None"),
+        Err(refusal) => shown(alloc, &refusal),
+    }
+}
+
+/// The part of a model.
+fn of_model<A: Allocator>(
+    alloc: Global,
+    model: &GicModel<A>,
+    question: &str,
+) -> Result<String, AllocError> {
+    match question {
+        "distributor" => shown(alloc, &model.distributor),
+        "interfaces" => shown(alloc, &model.cpu_interfaces.as_slice()),
+        "redistributors" => shown(alloc, &model.redistributors.as_slice()),
+        "services" => shown(alloc, &model.translation_services.as_slice()),
+        "frames" => shown(alloc, &model.msi_frames.as_slice()),
+        "counts" => shown(alloc, &counts(model)),
+        "flags" => shown(alloc, &model.cpu_interfaces.as_slice().first().map(flags)),
+        "trace buffer" => shown(alloc, &model.cpu_interfaces.as_slice().first().map(trace)),
+        _ => Ok(String::new(alloc)),
+    }
+}
+
+/// How many items each list has.
+fn counts<A: Allocator>(model: &GicModel<A>) -> [usize; 4] {
+    [
+        model.cpu_interfaces.as_slice().len(),
+        model.redistributors.as_slice().len(),
+        model.translation_services.as_slice().len(),
+        model.msi_frames.as_slice().len(),
+    ]
+}
+
+/// Whether a processor is enabled and can be enabled later, and how its two interrupts come: that of
+/// the performance counters, and the maintenance interrupt.
+fn flags(interface: &GicCpuInterface) -> (bool, bool, TriggerMode, TriggerMode) {
+    (
+        interface.is_enabled,
+        interface.is_online_capable,
+        interface.performance_trigger,
+        interface.maintenance_trigger,
+    )
+}
+
+/// The interrupt of a processor's trace buffer.
+fn trace(interface: &GicCpuInterface) -> Option<u16> {
+    interface.trace_buffer_interrupt
+}

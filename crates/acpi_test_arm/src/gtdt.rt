@@ -1,0 +1,61 @@
+//! The timers that a GTDT describes.
+
+use acpi::{AcpiTable, PhysicalRecord};
+use acpi_arm::gtdt::{Gtdt, PlatformTimer, PlatformTimerIter};
+use acpi_testkit::rows::shown;
+use std::alloc::{AllocError, Global};
+
+/// What a GTDT answers.
+pub(crate) fn answer(alloc: Global, bytes: &[u8], question: &str) -> Result<String, AllocError> {
+    if bytes.len() < 96 {
+        return Ok(String::new(alloc));
+    }
+    let table = Gtdt::read(bytes);
+    match question {
+        "valid" => shown(alloc, &table.validate(bytes)),
+        "bases" => shown(
+            alloc,
+            &(table.counter_control_base(), table.counter_read_base()),
+        ),
+        "secure el1" => shown(alloc, &table.secure_el1_timer),
+        "non-secure el1" => shown(alloc, &table.non_secure_el1_timer),
+        "virtual el1" => shown(alloc, &table.virtual_el1_timer),
+        "el2" => shown(alloc, &table.el2_timer),
+        "virtual el2" => shown(alloc, &table.virtual_el2_timer()),
+        "platform" => platform(alloc, PlatformTimerIter::over(bytes)),
+        _ => Ok(String::new(alloc)),
+    }
+}
+
+/// The timers of the platform, and how they end. Each is parted from the next by a semicolon.
+pub(crate) fn platform(
+    alloc: Global,
+    mut timers: PlatformTimerIter<'_>,
+) -> Result<String, AllocError> {
+    let mut text = String::new(alloc);
+    for timer in timers.by_ref() {
+        let said = of_timer(alloc, &timer)?;
+        write!(text, "{said}; ")?;
+    }
+    let end = if timers.ended_malformed() {
+        "malformed"
+    } else {
+        "end"
+    };
+    text.push_str(end)?;
+    Ok(text)
+}
+
+/// A block's address and its frames, or a watchdog.
+fn of_timer(alloc: Global, timer: &PlatformTimer<'_>) -> Result<String, AllocError> {
+    match timer {
+        PlatformTimer::SbsaWatchdog(watchdog) => shown(alloc, watchdog),
+        PlatformTimer::GtBlock(block) => {
+            let mut frames = Vec::new(alloc);
+            for frame in block.frames {
+                frames.push(frame)?;
+            }
+            shown(alloc, &(block.address, frames.as_slice()))
+        }
+    }
+}
