@@ -9,4 +9,5 @@ pub mod Save
 pub mod Saves
 pub mod Sources
 pub mod Texts
+pub mod Told
 pub mod Arguments

@@ -6,6 +6,7 @@ use Rattle.acpi_packing.specs.Listing.{labels_of, listing}
 use Rattle.acpi_packing.specs.Run.{Ends}
 use Rattle.acpi_packing.specs.Save.{save_error_text}
 use Rattle.acpi_packing.specs.Saves.{FileSaved}
+use Rattle.acpi_packing.specs.Told.{told_of}
 use Rattle.acpi_packing.specs.Arguments.{Request, request_in}
 use Rattle.acpi_packing.specs.declared.run.Outcome.{Outcome}
 use Rattle.acpi_packing.specs.declared.run.Outcome.TheVariants as outcome
@@ -70,3 +71,30 @@ pub record Packs (arguments : List (List ℕ)) (asked asked_after : List FileRea
   pub ends : Ends (request_in arguments) (contents_of asks.reads) outcome err between
   pub follows : Follows (request_in arguments) (contents_of asks.reads) outcome saved saved_after
       status out out_after between err_after
+
+-- ---- the program
+
+-- a text is printed on the output, and nothing else is done
+pub record Tells (text : List ℕ) (asked asked_after : List FileRead)
+    (saved saved_after : List FileSaved) (status : ℕ)
+    (out out_after err err_after : Option (List ℕ)) : Type 0 where
+  pub done : status ≡ 0
+  pub unasked : asked_after ≡ asked
+  pub unsaved : saved_after ≡ saved
+  pub shown : Appends out out_after text
+  pub told : err_after ≡ err
+
+abbrev pub RunsBy : Option (List ℕ) → List (List ℕ) → List FileRead → List FileRead → List FileSaved
+    → List FileSaved → ℕ → Option (List ℕ) → Option (List ℕ) → Option (List ℕ) → Option (List ℕ)
+    → Type 0
+RunsBy (Some text) arguments asked asked_after saved saved_after status out out_after err err_after =
+    Tells text asked asked_after saved saved_after status out out_after err err_after
+RunsBy None arguments asked asked_after saved saved_after status out out_after err err_after =
+    Packs arguments asked asked_after saved saved_after status out out_after err err_after
+
+-- arguments that ask what the program tells of itself are told it, and all others are packed by
+abbrev pub Runs : List (List ℕ) → List FileRead → List FileRead → List FileSaved
+    → List FileSaved → ℕ → Option (List ℕ) → Option (List ℕ) → Option (List ℕ) → Option (List ℕ)
+    → Type 0
+Runs arguments asked asked_after saved saved_after status out out_after err err_after =
+    RunsBy (told_of arguments) arguments asked asked_after saved saved_after status out out_after err err_after

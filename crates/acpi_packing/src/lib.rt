@@ -4,6 +4,7 @@
 
 pub mod arguments;
 mod error;
+mod help;
 pub mod listing;
 mod pack;
 mod place;

@@ -2,11 +2,12 @@
 ghost use Rattle.std.specs.Prelude.{◌≡◌, IfOk, OnErr, map, option_map};
 ghost use Rattle.acpi_cli.specs.Reads.{AsksFront};
 ghost use Rattle.acpi_packing.specs.Held.{contents};
-ghost use Rattle.acpi_packing.specs.Program.{Follows, Packs, Saves, files_for};
+ghost use Rattle.acpi_packing.specs.Program.{Follows, Packs, Runs, Saves, files_for};
 ghost use Rattle.acpi_packing.specs.Arguments.{request_in, request_of};
 
 use crate::arguments::{Command, parse_command};
 use crate::listing::record_lines;
+use crate::help::told;
 use crate::run::{Outcome, run};
 use crate::sources::FileBytes;
 use crate::storage::Storage;
@@ -83,13 +84,13 @@ fn finish<S: Storage, W: Write, E: Write>(
     }
 }
 
-/// Runs the program on the arguments after its name. They are judged first; for a command the files
-/// that they name are read, in order, and for no command none. If `run` answers an image, it is
-/// saved, and then what lies where in it is printed on the output. It answers the status: 0 if the
-/// image is saved, 1 if something is refused, and 2 if the arguments are no command.
+/// Packs what the arguments ask for. They are judged first; for a command the files that they name
+/// are read, in order, and for no command none. If `run` answers an image, it is saved, and then what
+/// lies where in it is printed on the output. It answers the status: 0 if the image is saved, 1 if
+/// something is refused, and 2 if the arguments are not a command.
 ///
 /// Refuses if a write is refused, or memory for anything but the image itself.
-pub fn pack<F: Files, S: Storage, W: Write, E: Write>(
+fn pack_asked<F: Files, S: Storage, W: Write, E: Write>(
     alloc: Global,
     arguments: &[&str],
     files: &mut F,
@@ -110,4 +111,36 @@ pub fn pack<F: Files, S: Storage, W: Write, E: Write>(
     let sources = contents_from(alloc, files, start)?;
     let outcome = run(alloc, &asked, &sources, err)?;
     finish(alloc, &asked, &sources, outcome, storage, out, err)
+}
+
+/// Runs the program on the arguments after its name. `--help` and `--version` alone print how the
+/// program is called and which version it is, on the output, and nothing else is done: the status is
+/// 0. Other arguments are a command, or none. For a command the files that it names are read, in
+/// order, and the image that is made of them is saved; then what lies where in it is printed on the
+/// output. The status is 0 if the image is saved, 1 if something is refused, and 2 if the arguments
+/// are not a command.
+///
+/// Refuses if a write is refused, or memory for anything but the image itself.
+pub fn pack<F: Files, S: Storage, W: Write, E: Write>(
+    alloc: Global,
+    arguments: &[&str],
+    files: &mut F,
+    storage: &mut S,
+    out: &mut W,
+    err: &mut E,
+) -> io::Result<u8>
+    ensures exact { IfOk result (λ s. Runs (map (λ w. w.now) arguments.now)
+        (F.asked files.old) (F.asked files.new) (S.saved storage.old) (S.saved storage.new) s
+        (W.contents out.old) (W.contents out.new) (E.contents err.old) (E.contents err.new)) }
+    // No other file is asked for if it is refused.
+    ensures refused { OnErr result (AsksFront (files_for (request_in (map (λ w. w.now) arguments.now)))
+        (F.asked files.old) (F.asked files.new)) }
+{
+    match told(arguments) {
+        Some(text) => {
+            out.write_all(text.as_bytes())?;
+            Ok(0)
+        }
+        None => pack_asked(alloc, arguments, files, storage, out, err),
+    }
 }

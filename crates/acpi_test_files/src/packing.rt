@@ -5,6 +5,7 @@ mod many;
 mod opened;
 mod refusals;
 pub(crate) mod samples;
+mod told;
 
 use crate::bytes::{Bytes, Part, Room};
 use crate::checks::{check, check_bytes};

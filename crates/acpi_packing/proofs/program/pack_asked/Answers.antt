@@ -4,7 +4,7 @@ use Rattle.acpi_cli.proofs.Asking.{none_asked}
 use Rattle.acpi_packing.proofs.Saving.{on_err, packed}
 use Rattle.acpi_packing.specs.Held.{contents}
 use Rattle.acpi_packing.specs.Arguments.{request_of}
-use Rattle.acpi_packing.proofs.program.pack.Goals as goal
+use Rattle.acpi_packing.proofs.program.pack_asked.Goals as goal
 
 pub returns-in_err-asked-clause-refused : goal.returns-in_err-asked-clause-refused
 returns-in_err-asked-clause-refused g c = on_err c.from_residual.result _ (_, none_asked _ _)

@@ -1,0 +1,16 @@
+//! What a boot loader reserves.
+
+use acpi::{AcpiHandler, AcpiTables};
+
+/// A boot loader's map of memory.
+pub trait MemoryMap {
+    /// Keeps a range from being used for anything else.
+    fn reserve(&mut self, address: u64, length: u64);
+}
+
+/// Reserves the memory that the tables lie in.
+pub fn reserve_tables<H: AcpiHandler, M: MemoryMap>(tables: &AcpiTables<'_, H>, map: &mut M) {
+    for range in tables.ranges() {
+        map.reserve(range.address, range.length);
+    }
+}

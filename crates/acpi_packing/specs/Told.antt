@@ -1,0 +1,21 @@
+-- What the program tells of itself.
+use Rattle.std.specs.Prelude.{ℕ, List, [], ◌∷◌, Option, Some, None, if◌then◌else◌, codes}
+use Rattle.std.specs.Str.{bytes_eq}
+
+abbrev pub help_text : List ℕ
+help_text = codes "usage: acpi_pack OUT memory ADDRESS FILE [ADDRESS FILE]... | tables FILE...\n       acpi_pack --help | --version\n"
+
+abbrev pub version_text : List ℕ
+version_text = codes "acpi_pack 5.2.0\n"
+
+-- what is told to a single argument that asks for it
+abbrev pub told_to : List ℕ → Option (List ℕ)
+told_to argument =
+    if bytes_eq argument (codes "--help") then Some help_text
+    else if bytes_eq argument (codes "--version") then Some version_text
+    else None
+
+-- what is told to arguments that ask for it
+abbrev pub told_of : List (List ℕ) → Option (List ℕ)
+told_of (argument ∷ []) = told_to argument
+told_of _ = None
