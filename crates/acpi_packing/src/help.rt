@@ -1,6 +1,6 @@
 //! What the program tells of itself.
 ghost use Rattle.std.specs.Prelude.{◌≡◌, map, option_map};
-ghost use Rattle.acpi_packing.specs.Told.{told_of};
+ghost use Rattle.acpi_packing.specs.Told.{told_of, told_to};
 
 /// How the program is called.
 const HELP: &str = "usage: acpi_pack OUT memory ADDRESS FILE [ADDRESS FILE]... | tables FILE...
@@ -10,17 +10,24 @@ const HELP: &str = "usage: acpi_pack OUT memory ADDRESS FILE [ADDRESS FILE]... |
 /// Which version the program is.
 const VERSION: &str = "acpi_pack 5.2.0\n";
 
+/// What is told to an argument that asks for it, or `None` if it asks for something else.
+fn told_to(argument: &str) -> Option<&'static str>
+    ensures { option_map (λ t. t.now) result ≡ told_to argument.now }
+{
+    match argument {
+        "--help" => Some(HELP),
+        "--version" => Some(VERSION),
+        _ => None,
+    }
+}
+
 /// What is told to arguments that ask for it, or `None` if they ask for something else: how the
 /// program is called for `--help` alone, and its version for `--version` alone.
 pub(crate) fn told(arguments: &[&str]) -> Option<&'static str>
     ensures { option_map (λ t. t.now) result ≡ told_of (map (λ w. w.now) arguments.now) }
 {
-    let [argument] = arguments else {
-        return None;
-    };
-    match *argument {
-        "--help" => Some(HELP),
-        "--version" => Some(VERSION),
+    match arguments {
+        [argument] => told_to(argument),
         _ => None,
     }
 }

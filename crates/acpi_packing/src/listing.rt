@@ -68,7 +68,7 @@ fn put_labels<'w>(
     files: FilesOfRole<'_, '_>,
 ) -> Result<(), AllocError>
     ensures { OnOk result (map label_text labels.new.items ≡ map label_text labels.old.items
-        ++ map (table_label (map (λ n. n.now) names.now)) (entries_left files)) }
+        ++ map (table_label (map (λ n. n.now) names.now)) (entries_left files.entry)) }
 {
     for table in files {
         labels.push(table_label(names, table))?;

@@ -50,7 +50,7 @@ fn put_left_out(
     files: FilesOfRole<'_, '_>,
 ) -> Result<(), AllocError>
     ensures { OnOk result (string_bytes text.new ≡ string_bytes text.old
-        ++ left_out_lines (map (λ n. n.now) names.now) (entries_left files)) }
+        ++ left_out_lines (map (λ n. n.now) names.now) (entries_left files.entry)) }
 {
     for file in files {
         let name = name_of(names, file.index);
