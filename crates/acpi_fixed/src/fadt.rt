@@ -54,8 +54,8 @@ pub struct Fadt {
     firmware_ctrl: u32,
     dsdt_address: u32,
     preferred_pm_profile: u8,
-    /// SCI_INT: the interrupt that carries the machine's events: a vector of the 8259, or a global system
-    /// interrupt where the machine has none.
+    /// SCI_INT: the interrupt that carries the machine's events: a vector of the 8259, or a global
+    /// system interrupt where the machine has none.
     pub sci_interrupt: u16,
     /// SMI_CMD: the port that the commands below are written to. 0: the machine has no system
     /// management mode.
@@ -66,7 +66,8 @@ pub struct Fadt {
     pub acpi_disable: u8,
     /// S4BIOS_REQ: the command that asks the firmware for S4.
     pub s4bios_req: u8,
-    /// PSTATE_CNT: the command that takes over the processors' performance states. 0: there is none.
+    /// PSTATE_CNT: the command that takes over the processors' performance states. 0: there is
+    /// none.
     pub pstate_control: u8,
     registers: Registers,
     /// GPE1_BASE: the number of the first event of the second block of general purpose events.
@@ -81,7 +82,8 @@ pub struct Fadt {
     pub flush_size: u16,
     /// FLUSH_STRIDE: the width of a cache line, in bytes, for the reads of FLUSH_SIZE.
     pub flush_stride: u16,
-    /// DUTY_OFFSET: where the duty cycle's setting lies in the processor's control register, in bits.
+    /// DUTY_OFFSET: where the duty cycle's setting lies in the processor's control register, in
+    /// bits.
     pub duty_offset: u8,
     /// DUTY_WIDTH: how wide the duty cycle's setting is, in bits.
     pub duty_width: u8,
@@ -209,8 +211,8 @@ impl Fadt {
         profile_from(self.preferred_pm_profile)
     }
 
-    /// X_FIRMWARE_CTRL or FIRMWARE_CTRL, the physical address of the FACS: the 64-bit one where it is there and not 0, else the
-    /// 32-bit one.
+    /// X_FIRMWARE_CTRL or FIRMWARE_CTRL, the physical address of the FACS: the 64-bit one where it
+    /// is there and not 0, else the 32-bit one.
     ///
     /// Refuses with `InvalidFacsAddress` where that is 0.
     pub fn facs_address(&self) -> AcpiResult<u64>
@@ -220,8 +222,8 @@ impl Fadt {
         address_from(refusal, self.x_firmware_ctrl, self.firmware_ctrl)
     }
 
-    /// X_DSDT or DSDT, the physical address of the DSDT: the 64-bit one where it is there and not 0, else the
-    /// 32-bit one.
+    /// X_DSDT or DSDT, the physical address of the DSDT: the 64-bit one where it is there and not
+    /// 0, else the 32-bit one.
     ///
     /// Refuses with `InvalidDsdtAddress` where that is 0.
     pub fn dsdt_address(&self) -> AcpiResult<u64>
@@ -231,8 +233,8 @@ impl Fadt {
         address_from(refusal, self.x_dsdt_address, self.dsdt_address)
     }
 
-    /// X_PM1a_EVT_BLK or PM1a_EVT_BLK: the status and enable registers of the fixed events: the extended block where its address
-    /// isn't 0, else the ports, at address 0 too.
+    /// X_PM1a_EVT_BLK or PM1a_EVT_BLK: the status and enable registers of the fixed events: the
+    /// extended block where its address isn't 0, else the ports, at address 0 too.
     ///
     /// A machine of reduced hardware has none, whatever is answered here: ask
     /// `flags.system_is_hw_reduced_acpi()` first.
@@ -245,7 +247,8 @@ impl Fadt {
         self.registers.pm1a_event.block()
     }
 
-    /// X_PM1b_EVT_BLK or PM1b_EVT_BLK: the second block of event registers, or `None` where neither field gives an address.
+    /// X_PM1b_EVT_BLK or PM1b_EVT_BLK: the second block of event registers, or `None` where neither
+    /// field gives an address.
     ///
     /// Refuses as `pm1a_event_block` does.
     pub fn pm1b_event_block(&self) -> AcpiResult<Option<GenericAddress>>
@@ -254,8 +257,8 @@ impl Fadt {
         self.registers.pm1b_event.optional_block()
     }
 
-    /// X_PM1a_CNT_BLK or PM1a_CNT_BLK: the control registers of the fixed hardware: the extended block where its address isn't 0,
-    /// else the ports, at address 0 too.
+    /// X_PM1a_CNT_BLK or PM1a_CNT_BLK: the control registers of the fixed hardware: the extended
+    /// block where its address isn't 0, else the ports, at address 0 too.
     ///
     /// A machine of reduced hardware has none, whatever is answered here: ask
     /// `flags.system_is_hw_reduced_acpi()` first.
@@ -267,7 +270,8 @@ impl Fadt {
         self.registers.pm1a_control.block()
     }
 
-    /// X_PM1b_CNT_BLK or PM1b_CNT_BLK: the second block of control registers, or `None` where neither field gives an address.
+    /// X_PM1b_CNT_BLK or PM1b_CNT_BLK: the second block of control registers, or `None` where
+    /// neither field gives an address.
     ///
     /// Refuses as `pm1a_event_block` does.
     pub fn pm1b_control_block(&self) -> AcpiResult<Option<GenericAddress>>
@@ -276,7 +280,8 @@ impl Fadt {
         self.registers.pm1b_control.optional_block()
     }
 
-    /// X_PM2_CNT_BLK or PM2_CNT_BLK: the second control register, or `None` where neither field gives an address.
+    /// X_PM2_CNT_BLK or PM2_CNT_BLK: the second control register, or `None` where neither field
+    /// gives an address.
     ///
     /// Refuses as `pm1a_event_block` does.
     pub fn pm2_control_block(&self) -> AcpiResult<Option<GenericAddress>>
@@ -285,8 +290,8 @@ impl Fadt {
         self.registers.pm2_control.optional_block()
     }
 
-    /// X_PM_TMR_BLK or PM_TMR_BLK: the power management timer, or `None` where its length isn't 4 or neither field gives an
-    /// address.
+    /// X_PM_TMR_BLK or PM_TMR_BLK: the power management timer, or `None` where its length isn't 4
+    /// or neither field gives an address.
     ///
     /// Refuses a reserved code in the extended block with `InvalidGenericAddress`.
     pub fn pm_timer_block(&self) -> AcpiResult<Option<GenericAddress>>
@@ -295,24 +300,24 @@ impl Fadt {
         self.registers.pm_timer.timer_block()
     }
 
-    /// X_GPE0_BLK or GPE0_BLK: the registers of the first general purpose events, or `None` if neither field gives an
-    /// address (section 5.2.9).
+    /// X_GPE0_BLK or GPE0_BLK: the registers of the first general purpose events, or `None` if
+    /// neither field gives an address (section 5.2.9).
     ///
     /// Refuses as `pm1a_event_block` does: also a block that the 32-bit field places and that is 32
-    /// bytes long or longer, as real chipsets have them, since eight bits a byte don't fit the width.
-    /// `gpe0` answers those too.
+    /// bytes long or longer, as real chipsets have them, since eight bits a byte don't fit the
+    /// width. `gpe0` answers those too.
     pub fn gpe0_block(&self) -> AcpiResult<Option<GenericAddress>>
         ensures { result ≡ optional_block_of (registers_of self.now).gpe0 }
     {
         self.registers.gpe0.optional_block()
     }
 
-    /// X_GPE1_BLK or GPE1_BLK: the registers of further general purpose events, or `None` if neither field gives an address
-    /// (section 5.2.9).
+    /// X_GPE1_BLK or GPE1_BLK: the registers of further general purpose events, or `None` if
+    /// neither field gives an address (section 5.2.9).
     ///
     /// Refuses as `pm1a_event_block` does: also a block that the 32-bit field places and that is 32
-    /// bytes long or longer, as real chipsets have them, since eight bits a byte don't fit the width.
-    /// `gpe1` answers those too.
+    /// bytes long or longer, as real chipsets have them, since eight bits a byte don't fit the
+    /// width. `gpe1` answers those too.
     pub fn gpe1_block(&self) -> AcpiResult<Option<GenericAddress>>
         ensures { result ≡ optional_block_of (registers_of self.now).gpe1 }
     {
@@ -328,8 +333,8 @@ impl Fadt {
         GenericAddress::from_raw(self.registers.reset)
     }
 
-    /// SLEEP_CONTROL_REG: the register that puts a machine of reduced hardware to sleep, or `None` where the table has
-    /// no field for it.
+    /// SLEEP_CONTROL_REG: the register that puts a machine of reduced hardware to sleep, or `None`
+    /// where the table has no field for it.
     ///
     /// Refuses a reserved code with `InvalidGenericAddress`.
     pub fn sleep_control_register(&self) -> AcpiResult<Option<GenericAddress>>
@@ -338,8 +343,8 @@ impl Fadt {
         register_from(self.registers.sleep_control)
     }
 
-    /// SLEEP_STATUS_REG: the register that says how a machine of reduced hardware woke, or `None` where the table has
-    /// no field for it.
+    /// SLEEP_STATUS_REG: the register that says how a machine of reduced hardware woke, or `None`
+    /// where the table has no field for it.
     ///
     /// Refuses a reserved code with `InvalidGenericAddress`.
     pub fn sleep_status_register(&self) -> AcpiResult<Option<GenericAddress>>
