@@ -43,8 +43,8 @@ pub enum PowerProfile {
     Reserved(u8),
 }
 
-/// The Fixed ACPI Description Table, FADT (ACPI 6.4, section 5.2.9). A public field that reaches past the end of a
-/// short table is read as if zeros followed.
+/// The Fixed ACPI Description Table, FADT (ACPI 6.4, section 5.2.9). A public field that reaches
+/// past the end of a short table is read as if zeros followed.
 ///
 /// Later versions of the table give an address a second time in a wider field. The calls here take
 /// that one where a table of revision 2 or above has it whole and it isn't 0.
