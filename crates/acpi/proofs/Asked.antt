@@ -38,7 +38,7 @@ no_faults m k [] is = refl
 no_faults m k (x ∷ all) is = cc
 
 module _ (may : ℕ → ℕ → Bool) where
-  -- what lies behind a step that passes
+  -- what lies after a step that passes
   pub behind : {A E : Type 0} (r : Result A E) (of : A → Ranges) (x : A) → r ≡ Ok x → Allows may (ranges.◌>>=◌ r of) → Allows may (of x)
   behind r of x is h = rw is at h
 
@@ -151,7 +151,7 @@ module _ (may : ℕ → ℕ → Bool) where
   pub asked_candidate : (m : Memory) (n k start : ℕ) → k < n → Allows may (walk_ranges m (n - k) (start + 16 * k)) → Allows may (rsdp_ranges m (start + 16 * k))
   asked_candidate m n k start turn h = all_front may (rsdp_ranges m (start + 16 * k)) _ (asked_step m (n - k) (start + 16 * k) (omega arith) h)
 
-  -- behind a candidate that is refused
+  -- after a candidate that is refused
   after_refused : (m : Memory) (r : Result (List ℕ) AcpiError) (e : AcpiError) (xs : Ranges) → r ≡ Err e → Allows may (unless_found r xs) → Allows may xs
   after_refused m r e xs is h = rw is at h
 

@@ -1,4 +1,4 @@
--- Timers and faults compare as equal exactly where they are one.
+-- Timers and faults compare as equal exactly if they are one.
 use Rattle.std.proofs.Common.{rules, ℕ, Bool, true, false, refl}
 use mathlib.Core.Bool.{beq}
 use Rattle.acpi_base.proofs.Equalities.{addresses_are, errors_are, made, numbers_are, pairs}

@@ -1,4 +1,4 @@
--- A lookup answers a table exactly where that is the first valid one.
+-- A lookup answers a table exactly if that is the first valid one.
 use Rattle.std.proofs.Common.{◌≡◌, ℕ, List, [], ◌∷◌, ◌++◌, Result, Ok, Err, refl, ap, ◌∙◌}
 use Rattle.std.specs.Prelude.{IsErr, IfOk, IfErr}
 use Rattle.acpi_base.specs.Memory.{Memory}

@@ -1,4 +1,4 @@
--- The pointers that bytes spell, one at a time.
+-- The pointers that bytes encode, one at a time.
 use Rattle.std.proofs.Common.{◌≡◌, ℕ, zero, suc, ◌<◌, ◌≤◌, List, [], ◌∷◌, length, length-drop, take, drop, arith, refl, ap}
 use Rattle.acpi_base.specs.Bytes.{number, field_of}
 use Rattle.acpi.specs.Root.{pieces, pointers}

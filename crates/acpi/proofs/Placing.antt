@@ -86,7 +86,7 @@ module _ (m n : Memory) where
   facs_from (Ok a) h = same_facs_at a h
   facs_from (Err e) h = refl
 
-  -- of two parts of the ranges behind a step, the first and the second
+  -- of two parts of the ranges after a step, the first and the second
   first_led : {A : Type 0} (r : Result A AcpiError) (f g : A → Ranges) → AgreesOn m n (ranges.◌>>=◌ r (λ x. f x ++ g x)) → AgreesOn m n (ranges.◌>>=◌ r f)
   first_led (Ok x) f g h = each_front _ (f x) _ h
   first_led (Err e) f g h = tt

@@ -1,4 +1,4 @@
--- The bytes of a root table spell its pointers, and no others.
+-- The bytes of a root table encode its pointers, and no others.
 use Rattle.std.proofs.Common.{◌≡◌, ℕ, ◌<◌, List, drop, Ok, arith, ◌↔◌}
 use Rattle.acpi_base.proofs.LentBytes.{table_bytes}
 use Rattle.acpi_base.proofs.Spelling.{IsBytes-drop}

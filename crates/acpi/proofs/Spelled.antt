@@ -1,4 +1,4 @@
--- Bytes spell exactly one list of pointers.
+-- Bytes encode exactly one list of pointers.
 use Rattle.std.proofs.Common.{◌≡◌, ℕ, zero, suc, ◌+◌, ◌-◌, ◌*◌, ◌/◌, ◌%◌, ◌^◌, ◌<◌, ◌≤◌, List, [], ◌∷◌, ◌++◌, length, take, drop, inl, inr, refl, sym, ap, ◌∙◌, arith, length-append, append_assoc, length-drop}
 use Rattle.std.specs.Prelude.{replicate, flat_map}
 use Rattle.std.specs.List.{AllByRecursion}

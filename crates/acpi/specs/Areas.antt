@@ -21,7 +21,7 @@ use Rattle.acpi.specs.Search.{IsRefused, walk}
 abbrev pub range : ℕ → ℕ → AddressRange
 range address length = record { address = address; length = length }
 
--- the first address behind an area: at most 2^64
+-- the first address after an area: at most 2^64
 abbrev pub end_of : AddressRange → ℕ
 end_of s = if nat_le (s.address + s.length) (2 ^ 64) then s.address + s.length else 2 ^ 64
 

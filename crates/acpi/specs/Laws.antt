@@ -7,12 +7,12 @@ use Rattle.acpi.specs.Lookup.{IsFirstValid, lookup}
 use Rattle.acpi.specs.Search.{area, second_area}
 use Rattle.acpi.specs.Root.{IsPointers, pointers}
 
--- bytes spell exactly one list of pointers, the one that is computed
+-- bytes encode exactly one list of pointers, the one that is computed
 abbrev pub OnePointers : Type 0
 OnePointers = (width : ℕ) (bytes ps : List ℕ) → 0 < width → IsBytes bytes
     → IsPointers width bytes ps ↔ (ps ≡ pointers width bytes)
 
--- a lookup answers a table exactly where it is the first valid one
+-- a lookup answers a table exactly if it is the first valid one
 abbrev pub LookupIsFirst : Type 0
 LookupIsFirst = (m : Memory) (k : Kind) (ps : List ℕ) (p : ℕ) (table : List ℕ)
     → (lookup m k ps ≡ Ok (p, table)) ↔ IsFirstValid m k ps p table

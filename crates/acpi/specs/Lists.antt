@@ -15,7 +15,7 @@ use Rattle.acpi.specs.Lookup.{lookup}
 use Rattle.acpi.specs.declared.records.AmlTable.{AmlTable}
 use Rattle.acpi.specs.declared.records.TableFault.{TableFault}
 
--- the header of the table at an address, where that is valid under the signature that it bears
+-- the header of the table at an address, where that is valid under the signature that it has
 unfoldable pub own_header_at : Memory → ℕ → Result SdtHeader AcpiError
 own_header_at m p = do
   table ← own_table_at m p
@@ -29,7 +29,7 @@ valid_tables m ps = filter_map (λ p. result_ok (own_table_at m p)) ps
 abbrev pub valid_headers : Memory → List ℕ → List SdtHeader
 valid_headers m ps = filter_map (λ p. result_ok (own_header_at m p)) ps
 
--- the AML behind the header of a table
+-- the AML after the header of a table
 abbrev pub stream_of : ℕ → List ℕ → AmlTable
 stream_of p table = record { address = p + 36; length = length table - 36 }
 
@@ -43,7 +43,7 @@ stream_at m s p = do
 abbrev pub ssdt_streams : Memory → List ℕ → List AmlTable
 ssdt_streams m ps = filter_map (λ p. result_ok (stream_at m SSDT p)) ps
 
--- a table of another signature is no fault, and any other refusal is one
+-- a table of another signature is not a fault, and any other refusal is one
 abbrev pub with_fault : ℕ → AcpiError → List TableFault → List TableFault
 with_fault p (refusal.SdtInvalidSignature s) faults = faults
 with_fault p e faults = record { address = p; error = e } ∷ faults

@@ -32,7 +32,7 @@ walk_ranges m zero a = []
 walk_ranges m (suc n) a =
     rsdp_ranges m a ++ unless_found (rsdp_at m a) (walk_ranges m n (a + 16))
 
--- those of `found_in`: the area with the 16 bytes behind it, and its candidates' where that is lent
+-- those of `found_in`: the area with the 16 bytes after it, and its candidates' where that is lent
 abbrev pub area_ranges : Memory → Area → Ranges
 area_ranges m s = (s.start, room_of s) ∷ do
   _ ← lent m s.start (room_of s)

@@ -24,7 +24,7 @@ use Rattle.acpi_base.specs.declared.range.AddressRange.{AddressRange}
 abbrev pub range : ℕ → ℕ → AddressRange
 range address n = record { address = address; length = n }
 
--- the table at an address, if it is valid under the signature that it bears
+-- the table at an address, if it is valid under the signature that it has
 unfoldable pub place_at : Memory → ℕ → Result AddressRange AcpiError
 place_at m p = do
   table ← own_table_at m p

@@ -47,7 +47,7 @@ platform_of m ps = do
   fadt ← lookup m fadt_kind ps
   platform_beside m ps (profile_of (fadt_at fadt.1)) (timer_of (fadt_at fadt.1))
 
--- ---- want of memory
+-- ---- lack of memory
 
 -- whether the model of the table found asks for memory
 abbrev pub FoundAsks : Result (ℕ × List ℕ) AcpiError → Type 0

@@ -51,11 +51,11 @@ pieces zero width bytes = []
 pieces (suc n) width [] = []
 pieces (suc n) width (b ∷ bs) = number (take width (b ∷ bs)) ∷ pieces n width (drop width (b ∷ bs))
 
--- the pointers that the bytes behind a root table's header spell
+-- the pointers that the bytes after a root table's header encode
 unfoldable pub pointers : ℕ → List ℕ → List ℕ
 pointers width bytes = pieces (length bytes) width bytes
 
--- the same numbers in the reader's words: they fit the width, and spelled one after the other they
+-- the same numbers in the reader's words: they fit the width, and encoded one after the other they
 -- are the bytes, followed by fewer zeros than a pointer has bytes
 pub record IsPointers (width : ℕ) (bytes ps : List ℕ) : Type 0 where
   pub fit : AllByRecursion (λ p. p < 256 ^ width) ps

@@ -43,7 +43,7 @@ IsCandidate s a = (k : ℕ) × (a ≡ s.start + 16 * k) × (a + 20 ≤ s.end)
 abbrev pub IsRefused : Memory → ℕ → Type 0
 IsRefused m a = (e : AcpiError) × (rsdp_at m a ≡ Err e)
 
--- an area is asked for with 16 bytes behind it
+-- an area is asked for with 16 bytes after it
 abbrev pub room_of : Area → ℕ
 room_of s = s.end - s.start + 16
 

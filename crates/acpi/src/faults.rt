@@ -12,7 +12,7 @@ use std::marker::PhantomData;
 
 /// The faults of the listed tables that a lookup of `T` passes over: of each one before the first
 /// that is valid for `T`, or of all where none is, in the order of the root table. A table of
-/// another signature is no fault.
+/// another signature is not a fault.
 #[derive(Drop)]
 pub struct TableFaults<'t, 'h, H: Lender, T: AcpiTable> {
     handler: &'h H,

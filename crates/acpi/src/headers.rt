@@ -8,7 +8,7 @@ use crate::pointers::Pointers;
 use acpi_base::Lender;
 use acpi_base::sdt::{SdtHeader, map_own_sdt};
 
-/// The headers of all listed tables that are valid under the signatures that they bear, in the
+/// The headers of all listed tables that are valid under the signatures that they have, in the
 /// order of the root table. A table that is listed twice comes twice.
 #[derive(Drop)]
 pub struct SdtHeaderIterator<'t, 'h, H: Lender> {

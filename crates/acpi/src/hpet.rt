@@ -90,7 +90,7 @@ pub enum PageProtection {
 /// A block of event timers.
 #[derive(Clone, Copy, Debug)]
 pub struct HpetInfo {
-    /// What the block is; `hardware_rev` and the calls behind it show its parts.
+    /// What the block is; `hardware_rev` and the calls after it show its parts.
     pub event_timer_block_id: u32,
     /// The physical address of its registers.
     pub base_address: u64,

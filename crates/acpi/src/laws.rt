@@ -9,56 +9,56 @@ use crate::platform::{MailboxCall, MailboxWrite, PlatformInfo, PmTimer};
 use crate::records::{AmlTable, Sdt, TableFault};
 use std::alloc::{AllocError, Allocator};
 
-/// Streams of AML are equal exactly where their fields are.
+/// Streams of AML are equal exactly if their fields are.
 pub fn aml_table_equality(a: &AmlTable, b: &AmlTable) -> bool
     ensures { IsEquality result a.now b.now }
 {
     a == b
 }
 
-/// Faults are equal exactly where their fields are.
+/// Faults are equal exactly if their fields are.
 pub fn table_fault_equality(a: &TableFault, b: &TableFault) -> bool
     ensures { IsEquality result a.now b.now }
 {
     a == b
 }
 
-/// What is known of tables is equal exactly where its fields are.
+/// What is known of tables is equal exactly if its fields are.
 pub fn sdt_equality(a: &Sdt, b: &Sdt) -> bool
     ensures { IsEquality result a.now b.now }
 {
     a == b
 }
 
-/// Timers are equal exactly where their fields are.
+/// Timers are equal exactly if their fields are.
 pub fn pm_timer_equality(a: &PmTimer, b: &PmTimer) -> bool
     ensures { IsEquality result a.now b.now }
 {
     a == b
 }
 
-/// Page protections compare as equal exactly where they are one.
+/// Page protections compare as equal exactly if they are one.
 pub fn protection_equality(a: &PageProtection, b: &PageProtection) -> bool
     ensures { IsEquality result a.now b.now }
 {
     a == b
 }
 
-/// Refusals of regions compare as equal exactly where they are one.
+/// Refusals of regions compare as equal exactly if they are one.
 pub fn region_error_equality(a: &RegionError, b: &RegionError) -> bool
     ensures { IsEquality result a.now b.now }
 {
     a == b
 }
 
-/// Writes to a mailbox compare as equal exactly where they are one.
+/// Writes to a mailbox compare as equal exactly if they are one.
 pub fn mailbox_write_equality(a: &MailboxWrite, b: &MailboxWrite) -> bool
     ensures { IsEquality result a.now b.now }
 {
     a == b
 }
 
-/// Calls of a mailbox compare as equal exactly where they are one.
+/// Calls of a mailbox compare as equal exactly if they are one.
 pub fn mailbox_call_equality(a: &MailboxCall, b: &MailboxCall) -> bool
     ensures { IsEquality result a.now b.now }
 {

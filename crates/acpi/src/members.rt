@@ -13,7 +13,7 @@ use acpi_base::{AcpiResult, Lender};
 pub struct TableMember {
     /// The physical address that is listed.
     pub address: u64,
-    /// The header of the table there, if that is valid under the signature that it bears, or else
+    /// The header of the table there, if that is valid under the signature that it has, or else
     /// why it is refused.
     pub header: AcpiResult<SdtHeader>,
 }
@@ -64,7 +64,7 @@ ghost use Rattle.std.specs.Prelude.{◌≡◌};
 ghost use Rattle.acpi_base.specs.Ranges.{own_table_ranges};
 ghost use Rattle.acpi.specs.Lists.{own_header_at};
 
-/// The header of the table at an address, if that is valid under the signature that it bears.
+/// The header of the table at an address, if that is valid under the signature that it has.
 #[tactic(auto, unfolding(crate::specs::Lists::own_header_at))]
 fn own_header<H: Lender>(handler: &H, address: u64) -> AcpiResult<SdtHeader>
     requires { Allows (H.may handler.now) (own_table_ranges (H.memory handler.now) address) }

@@ -32,7 +32,7 @@ pub struct PlatformInfo<A: Allocator> {
     pub interrupt_model: InterruptModel<A>,
     /// The processors that the MADT lists, or `None` where it lists none.
     pub processor_info: Option<ProcessorInfo<A>>,
-    /// The timer that the FADT describes, or `None` where it has none.
+    /// The timer that the FADT describes, or `None` if it has none.
     pub pm_timer: Option<PmTimer>,
 }
 

@@ -85,7 +85,7 @@ impl<H: Lender> Iterator for TableRanges<'_, '_, H> {
     }
 }
 
-/// Where the table at an address lies, if it is valid under the signature that it bears.
+/// Where the table at an address lies, if it is valid under the signature that it has.
 #[tactic(auto, unfolding(crate::specs::Places::place_at))]
 fn own_place<H: Lender>(handler: &H, address: u64) -> AcpiResult<AddressRange>
     requires { Allows (H.may handler.now) (own_table_ranges (H.memory handler.now) address) }

@@ -6,7 +6,7 @@ ghost use Rattle.acpi.specs.Lists.{stream_of};
 use acpi_base::sdt::SdtHeader;
 use acpi_base::{AcpiError, Lender, PhysicalMapping, PhysicalRecord};
 
-/// A stream of AML, as it stands behind a table's header.
+/// A stream of AML, as it stands after a table's header.
 #[derive(Clone, Copy, Debug, PartialEq, Eq)]
 pub struct AmlTable {
     /// The physical address of its first byte.
@@ -35,7 +35,7 @@ pub struct Sdt {
     pub validated: bool,
 }
 
-/// The AML behind the header of a table.
+/// The AML after the header of a table.
 pub(crate) fn aml_behind<H: Lender>(table: &PhysicalMapping<'_, H, SdtHeader>) -> AmlTable
     requires short { length (bytes_of table.now) < 2 ^ 32 }
     requires ends { start_of table.now + length (bytes_of table.now) < 2 ^ 64 }

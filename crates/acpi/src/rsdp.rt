@@ -18,7 +18,7 @@ use acpi_base::{AcpiError, AcpiResult, Lender, PhysicalMapping, PhysicalRecord};
 pub use given::bios_areas;
 
 /// The RSDP's 36 bytes (section 5.2.5.3). Revision 0 has only the first 20 of them: the fields
-/// behind mean nothing there.
+/// after mean nothing there.
 #[derive(Clone, Copy, Debug)]
 pub struct Rsdp {
     signature: [u8; 8],
@@ -82,7 +82,7 @@ impl Rsdp {
         self.checksum
     }
 
-    /// The OEM's name, or `None` where it is no UTF-8.
+    /// The OEM's name, or `None` if it is not valid UTF-8.
     pub fn oem_id(&self) -> Option<&str>
         ensures { IsTextOf result (oem_id_of self.now) }
     {
@@ -151,11 +151,11 @@ impl Rsdp {
         }
     }
 
-    /// Checks the RSDP that this was read from, whose bytes these are. Bytes behind its length are
+    /// Checks the RSDP that this was read from, whose bytes these are. Bytes after its length are
     /// not looked at.
     ///
     /// Refuses, in this order, with `RsdpIncorrectSignature` where the signature is not `RSD PTR `,
-    /// `RsdpInvalidOemId` where the OEM id is no UTF-8, and `RsdpInvalidChecksum` where the first
+    /// `RsdpInvalidOemId` where the OEM id is not valid UTF-8, and `RsdpInvalidChecksum` where the first
     /// 20 bytes do not sum to 0 modulo 256. For a revision above 0 it also refuses with
     /// `RsdpInvalidChecksum` where the length is under 36 or past the bytes, or where that many
     /// bytes do not sum to 0.
@@ -247,7 +247,7 @@ fn check_whole<H: Lender>(handler: &H, address: u64, length: usize) -> AcpiResul
 /// The RSDP at an address, where it is valid: a mapping of its 36 bytes.
 ///
 /// Refuses, in this order, with `MapFailed` where 36 bytes aren't lent, `RsdpIncorrectSignature`
-/// where the signature is not `RSD PTR `, `RsdpInvalidOemId` where the OEM id is no UTF-8, and
+/// where the signature is not `RSD PTR `, `RsdpInvalidOemId` where the OEM id is not valid UTF-8, and
 /// `RsdpInvalidChecksum` where the first 20 bytes do not sum to 0 modulo 256. For a revision above
 /// 0 it goes on with `RsdpInvalidChecksum` where the length is under 36, `MapFailed` where that
 /// many bytes aren't lent, and `RsdpInvalidChecksum` where they do not sum to 0.

@@ -131,7 +131,7 @@ impl<'h, H: Lender> AcpiTables<'h, H> {
         self.find_table_exact::<T>()
     }
 
-    /// The headers of all members that are valid under the signatures that they bear, in order. It
+    /// The headers of all members that are valid under the signatures that they have, in order. It
     /// gives at most one for each pointer.
     pub fn headers(&self) -> SdtHeaderIterator<'_, 'h, H>
         requires { AllowsBelow self.now header_ranges }

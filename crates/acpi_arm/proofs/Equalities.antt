@@ -1,4 +1,4 @@
--- Timers compare as equal exactly where their fields do.
+-- Timers compare as equal exactly if their fields do.
 use Rattle.std.proofs.Common.{rules, ℕ, Bool, true, false, refl}
 use mathlib.Core.Bool.{beq}
 use Rattle.acpi_base.proofs.Equalities.{made, numbers_are, pairs}

@@ -1,5 +1,5 @@
--- A table is valid for a signature and a least length exactly where it is valid under the signature
--- that it bears, bears this one, and is as long.
+-- A table is valid for a signature and a least length exactly if it is valid under the signature
+-- that it has, has this one, and is as long.
 use Rattle.std.proofs.Common.{◌≡◌, ℕ, ◌≤◌, Bool, true, false, ◌&&◌, ◌+◌, List, [], ◌∷◌, length, take, drop, lit≤, Option, Some, None, Result, Ok, Err, refl, sym, ap, ◌∙◌, arith, eq-eqb, if◌then◌else◌}
 use Rattle.std.specs.Prelude.{◌==◌, nat_le}
 use Rattle.std.specs.Result.{result_ok}
@@ -22,11 +22,11 @@ use Rattle.acpi_base.specs.declared.table.signature.Signature.{Signature}
 abbrev only : {A : Type 0} → Bool → Option A → Option A
 only b o = if b then o else None
 
--- the header bears this signature
+-- the header has this signature
 abbrev pub bears : Signature → SdtHeader → Bool
 bears s h = bytes_eq h.signature.0 s.0
 
--- a table bears this signature and has so many bytes
+-- a table has this signature and has so many bytes
 abbrev pub serves : Signature → ℕ → List ℕ → Bool
 serves s least table = bears s (header_at table) && nat_le least (length table)
 

@@ -1,4 +1,4 @@
--- The order of signatures answers Equal exactly where they are one.
+-- The order of signatures answers Equal exactly if they are one.
 use Rattle.std.proofs.Common.{◌≡◌, ℕ, List, [], ◌∷◌, refl, sym, ap, ◌∙◌, ◌↔◌}
 use Rattle.std.specs.Cmp.{nat_cmp_is}
 use Rattle.std.specs.Cmp.Lexicographic.{slice_cmp}

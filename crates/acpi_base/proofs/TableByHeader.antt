@@ -113,7 +113,7 @@ own_table m s p head front letters =
     let own : the_signature (part head 0 4) ≡ s = ap the_signature (sym letters) in
     rw (front, own) refl
 
--- ---- where the header isn't lent, or bears another signature
+-- ---- where the header isn't lent, or has another signature
 
 pub no_header : (m : Memory) (k : Kind) (p : ℕ) (e : AcpiError) → lent m p 36 ≡ Err e → table_at m k p ≡ Err e
 unfolding table_at

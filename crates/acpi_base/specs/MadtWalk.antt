@@ -27,7 +27,7 @@ is_left (b ∷ rest) = true
 abbrev pub is_malformed : MadtEntryIter → Bool
 is_malformed s = s.ended && is_left s.rest.now
 
--- a step leaves the rest as it is, and has ended exactly where it gives no entry
+-- a step leaves the rest as it is, and has ended exactly if it gives no entry
 abbrev pub EndsAtRest : MadtEntryIter → Option MadtEntry → MadtEntryIter → Type 0
 EndsAtRest s (Some entry) t = (rest_left t ≡ rest_left s) × (has_ended t ≡ has_ended s)
 EndsAtRest s None t =

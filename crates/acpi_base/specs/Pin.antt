@@ -9,7 +9,7 @@ use Rattle.acpi_base.specs.declared.model.pin.IoApicPin.{IoApicPin}
 abbrev pub base_of : IoApic → ℕ
 base_of x = x.global_system_interrupt_base
 
--- of an I/O APIC and the nearest one behind it, the nearer one; of one base the first
+-- of an I/O APIC and the nearest one after it, the nearer one; of one base the first
 abbrev pub nearer : ℕ → IoApic → Option IoApic → Option IoApic
 nearer interrupt x None = if nat_le (base_of x) interrupt then Some x else None
 nearer interrupt x (Some y) =

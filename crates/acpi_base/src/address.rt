@@ -101,7 +101,7 @@ impl TryFrom<u8> for AccessSize {
     }
 }
 
-/// The twelve bytes of a generic address, as a table spells them.
+/// The twelve bytes of a generic address, as a table encodes them.
 pub type RawAddress = [u8; 12];
 
 impl PhysicalRecord for RawAddress {
@@ -135,7 +135,7 @@ pub struct GenericAddress {
 }
 
 impl GenericAddress {
-    /// The address that twelve bytes of a table spell: the codes of the space, the width, the
+    /// The address that twelve bytes of a table encode: the codes of the space, the width, the
     /// offset and the access size in one byte each, then the address (section 5.2.3.2).
     ///
     /// Refuses a reserved code of the space, or else of the access size, with

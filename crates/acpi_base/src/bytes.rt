@@ -32,7 +32,7 @@ pub fn filled_in<const N: usize>(bytes: &[u8], offset: usize) -> [u8; N]
     filled
 }
 
-/// The number that at most eight bytes spell, the lowest byte first.
+/// The number that at most eight bytes encode, the lowest byte first.
 #[inline(always)]
 fn number_of(bytes: &[u8]) -> u64
     requires { length bytes.now ≤ 8 }
@@ -86,7 +86,7 @@ pub fn field_in(bytes: &[u8], offset: usize, n: usize) -> u64
     number_of(&rest[..n])
 }
 
-/// The text that the bytes encode in UTF-8, or `None` where they encode none.
+/// The text that the bytes encode in UTF-8, or `None` if they encode none.
 pub fn text_of(bytes: &[u8]) -> Option<&str>
     ensures { IsTextOf result bytes.now }
 {

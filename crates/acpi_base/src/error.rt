@@ -14,15 +14,15 @@ pub enum AcpiError {
     NoValidRsdp,
     /// An RSDP does not begin with `RSD PTR `.
     RsdpIncorrectSignature,
-    /// The OEM id of an RSDP is no UTF-8.
+    /// The OEM id of an RSDP is not valid UTF-8.
     RsdpInvalidOemId,
     /// A sum over an RSDP is not 0, or its length is too small.
     RsdpInvalidChecksum,
-    /// A table has another signature, or one that is no UTF-8.
+    /// A table has another signature, or one that is not valid UTF-8.
     SdtInvalidSignature(Signature),
-    /// The OEM id of a table is no UTF-8.
+    /// The OEM id of a table is not valid UTF-8.
     SdtInvalidOemId(Signature),
-    /// The OEM table id of a table is no UTF-8.
+    /// The OEM table id of a table is not valid UTF-8.
     SdtInvalidTableId(Signature),
     /// The bytes of a table do not sum to 0 modulo 256.
     SdtInvalidChecksum(Signature),
@@ -42,7 +42,7 @@ pub enum AcpiError {
     MapFailed,
     /// The length in a table's header is under the least, or past the bytes.
     SdtInvalidLength(Signature),
-    /// The namespace string of an SPCR lies outside the table, or is no UTF-8.
+    /// The namespace string of an SPCR lies outside the table, or is not valid UTF-8.
     InvalidNamespaceString,
 }
 

@@ -5,7 +5,7 @@ use crate::bytes::has_part;
 use crate::memory::handler::PhysicalRecord;
 
 /// A field that a table or an entry has from a revision on, and only where it is long enough: from
-/// `MIN_REVISION` on, the value that its bytes spell, if all of them lie in the table that it was
+/// `MIN_REVISION` on, the value that its bytes encode, if all of them lie in the table that it was
 /// read from.
 #[derive(Clone, Copy, Debug)]
 pub struct ExtendedField<T: Copy, const MIN_REVISION: u8> {
@@ -15,7 +15,7 @@ pub struct ExtendedField<T: Copy, const MIN_REVISION: u8> {
 impl<T: Copy, const MIN_REVISION: u8> ExtendedField<T, MIN_REVISION> {
     ghost use Rattle.acpi_base.specs.Extended.{held_of, shown_of};
 
-    /// A field whose bytes spell this value, or `None` where they don't all lie in the table.
+    /// A field whose bytes encode this value, or `None` if they don't all lie in the table.
     #[inline(always)]
     pub fn new(value: Option<T>) -> Self
         ensures { held_of result ≡ value }

@@ -45,28 +45,28 @@ pub fn bytes_of_a_signature(bytes: [u8; 4]) -> [u8; 4]
     Signature::from_bytes(bytes).to_bytes()
 }
 
-/// Signatures compare as equal exactly where they are one.
+/// Signatures compare as equal exactly if they are one.
 pub fn signature_equality(a: &Signature, b: &Signature) -> bool
     ensures { IsEquality result a.now b.now }
 {
     a == b
 }
 
-/// Refusals compare as equal exactly where they are one.
+/// Refusals compare as equal exactly if they are one.
 pub fn error_equality(a: &AcpiError, b: &AcpiError) -> bool
     ensures { IsEquality result a.now b.now }
 {
     a == b
 }
 
-/// Refusals of what a MADT lists compare as equal exactly where they are one.
+/// Refusals of what a MADT lists compare as equal exactly if they are one.
 pub fn madt_error_equality(a: &MadtError, b: &MadtError) -> bool
     ensures { IsEquality result a.now b.now }
 {
     a == b
 }
 
-/// Commands of the wakeup mailbox compare as equal exactly where they are one.
+/// Commands of the wakeup mailbox compare as equal exactly if they are one.
 pub fn command_equality(a: &MpProtectedModeWakeupCommand, b: &MpProtectedModeWakeupCommand) -> bool
     ensures { IsEquality result a.now b.now }
 {
@@ -82,35 +82,35 @@ pub fn command_of_its_number(
     MpProtectedModeWakeupCommand::try_from(command as u16)
 }
 
-/// Address spaces compare as equal exactly where they are one.
+/// Address spaces compare as equal exactly if they are one.
 pub fn space_equality(a: &AddressSpace, b: &AddressSpace) -> bool
     ensures { IsEquality result a.now b.now }
 {
     a == b
 }
 
-/// Access sizes compare as equal exactly where they are one.
+/// Access sizes compare as equal exactly if they are one.
 pub fn access_size_equality(a: &AccessSize, b: &AccessSize) -> bool
     ensures { IsEquality result a.now b.now }
 {
     a == b
 }
 
-/// Generic addresses compare as equal exactly where they are one.
+/// Generic addresses compare as equal exactly if they are one.
 pub fn address_equality(a: &GenericAddress, b: &GenericAddress) -> bool
     ensures { IsEquality result a.now b.now }
 {
     a == b
 }
 
-/// Ranges compare as equal exactly where they are one.
+/// Ranges compare as equal exactly if they are one.
 pub fn range_equality(a: &AddressRange, b: &AddressRange) -> bool
     ensures { IsEquality result a.now b.now }
 {
     a == b
 }
 
-/// Interfaces of serial ports compare as equal exactly where they are one.
+/// Interfaces of serial ports compare as equal exactly if they are one.
 pub fn interface_equality(a: &SpcrInterfaceType, b: &SpcrInterfaceType) -> bool
     ensures { IsEquality result a.now b.now }
 {

@@ -42,7 +42,7 @@ fn bench(rt: &HostRuntime) -> io::Result<u8> {
     }
 }
 
-/// Times all calls on the memory that a file spells.
+/// Times all calls on the memory that a file encodes.
 fn bench_file(rt: &HostRuntime, order: Order<'_>) -> io::Result<u8> {
     match fs::read(rt, order.image) {
         Ok(file) => bench_memory(rt, order, &file),

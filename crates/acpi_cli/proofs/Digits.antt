@@ -1,4 +1,4 @@
--- Numbers that digits spell.
+-- Numbers that digits encode.
 use Rattle.std.proofs.Common.{◌≡◌, ℕ, ◌^◌, ◌<◌, ◌≤◌, List, [], ◌∷◌, length, refl, ap, ◌∙◌, arith}
 use Rattle.std.specs.Prelude.{true, Result, Ok, Err}
 use Rattle.std.specs.Char.{is_digit, digit_value}
@@ -19,7 +19,7 @@ all_digits base (c ∷ cs) h =
     let parts = and_parts (is_digit c base) (list_all (λ d. is_digit d base) cs) h in
     (ltb-true (digit_value c) base parts.0, all_digits base cs parts.1)
 
--- a plus is no digit
+-- a plus is not a digit
 no_plus : (base : ℕ) (ds : List ℕ) → base ≤ 36 → AllDigits base ds → without_leading_plus ds ≡ ds
 no_plus base [] high h = refl
 no_plus base (c ∷ cs) high h =

@@ -1,10 +1,10 @@
--- What numbers an argument spells.
+-- What numbers an argument encodes.
 use Rattle.std.specs.Prelude.{ℕ, ◌&&◌, List, length, drop, nat_eq, nat_le, Option, Some, None, option_and_then, if◌then◌else◌, codes}
 use Rattle.std.specs.Char.{is_digit}
 use Rattle.std.specs.List.{list_all, starts_with}
 use Rattle.std.specs.Str.Parse.{digits_value}
 
--- the number that one to so many digits of a base spell, the highest first
+-- the number that one to so many digits of a base encode, the highest first
 abbrev pub numeral : ℕ → ℕ → List ℕ → Option ℕ
 numeral base most digits =
     if nat_le 1 (length digits)

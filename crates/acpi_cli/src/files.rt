@@ -113,7 +113,7 @@ pub fn read_all<F: Files>(files: &mut F, names: &[&str]) -> Result<(), AllocErro
 
 /// What was read of the files that were asked for, in order, after the first `start` of them.
 ///
-/// Refuses if memory is refused.
+/// Refuses if it runs out of memory.
 pub fn contents_from<F: Files>(
     alloc: Global,
     files: &F,
@@ -132,7 +132,7 @@ pub fn contents_from<F: Files>(
 
 /// What was read of these files.
 ///
-/// Refuses if memory is refused.
+/// Refuses if it runs out of memory.
 fn contents(alloc: Global, readings: &[Reading]) -> Result<Vec<Option<&[u8]>>, AllocError>
     ensures { IfOk result (λ v.
         map option_copied v.items ≡ contents_of (map read_of readings.now)) }

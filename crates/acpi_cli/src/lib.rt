@@ -23,7 +23,7 @@ fn are_digits(text: &str, base: u32) -> bool
     text.bytes().all(|byte| (byte as char).is_digit(base))
 }
 
-/// The number that digits of a base spell, the highest first, or `None` where there are none, more
+/// The number that digits of a base encode, the highest first, or `None` if there are none, more
 /// than `most`, or something else among them.
 fn number_of(digits: &str, base: u32, most: usize) -> Option<u64>
     requires low { 2 ≤ base }
@@ -37,14 +37,14 @@ fn number_of(digits: &str, base: u32, most: usize) -> Option<u64>
     u64::from_str_radix(digits, base).ok()
 }
 
-/// The revision that an argument spells: one to three decimal digits, at most 255.
+/// The revision that an argument encodes: one to three decimal digits, at most 255.
 pub fn parse_revision(word: &str) -> Option<u8>
     ensures { result ≡ revision_of word.now }
 {
     u8::try_from(number_of(word, 10, 3)?).ok()
 }
 
-/// The address that an argument spells: `0x`, and one to sixteen hexadecimal digits of either case.
+/// The address that an argument encodes: `0x`, and one to sixteen hexadecimal digits of either case.
 pub fn parse_address(word: &str) -> Option<u64>
     ensures { result ≡ address_of word.now }
 {
@@ -96,7 +96,7 @@ pub fn args(rt: &HostRuntime) -> io::Result<Vec<String>> {
 
 /// The same texts, borrowed.
 ///
-/// Refuses if memory is refused.
+/// Refuses if it runs out of memory.
 pub fn borrowed(alloc: Global, texts: &[String]) -> Result<Vec<&str>, AllocError>
     ensures { IfOk result (λ v. map (λ w. w.now) v.items ≡ map string_bytes texts.now) }
 {

@@ -1,4 +1,4 @@
--- Fields that came with revision 2 are there exactly where the revision and the length say so.
+-- Fields that came with revision 2 are there exactly if the revision and the length say so.
 use Rattle.std.proofs.Common.{◌≡◌, ℕ, ◌+◌, ◌-◌, ◌≤◌, ◌&&◌, Bool, true, false, List, None, Some, length, drop, ◌++◌, refl, ap, ◌∙◌, arith}
 use Rattle.std.specs.Prelude.{nat_le, replicate}
 use Rattle.std.proofs.lemmas.Bool.{and_from, le-leb}

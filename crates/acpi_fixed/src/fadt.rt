@@ -18,7 +18,7 @@ pub use flags::{ArmBootArchFlags, FixedFeatureFlags, IaPcBootArchFlags};
 pub use registers::GpeBlock;
 use registers::{Registers, address_from, register_from};
 
-/// What the machine is for (section 5.2.9).
+/// Preferred_PM_Profile: what the machine is for (ACPI 6.4, section 5.2.9).
 #[derive(Clone, Copy, Debug, PartialEq, Eq)]
 pub enum PowerProfile {
     /// Code 0: the firmware doesn't say.
@@ -43,8 +43,8 @@ pub enum PowerProfile {
     Reserved(u8),
 }
 
-/// The Fixed ACPI Description Table (section 5.2.9). A public field that reaches past the end of a
-/// short table is read as if zeros followed.
+/// The Fixed ACPI Description Table, FADT (ACPI 6.4, section 5.2.9). A public field that reaches
+/// past the end of a short table is read as if zeros followed.
 ///
 /// Later versions of the table give an address a second time in a wider field. The calls here take
 /// that one where a table of revision 2 or above has it whole and it isn't 0.
@@ -54,50 +54,52 @@ pub struct Fadt {
     firmware_ctrl: u32,
     dsdt_address: u32,
     preferred_pm_profile: u8,
-    /// The interrupt that carries the machine's events: a vector of the 8259, or a global system
-    /// interrupt where the machine has none.
+    /// SCI_INT: the interrupt that carries the machine's events: a vector of the 8259, or a global
+    /// system interrupt where the machine has none.
     pub sci_interrupt: u16,
-    /// The port that the five commands below are written to. 0: there is no system management
-    /// mode.
+    /// SMI_CMD: the port that the commands below are written to. 0: the machine has no system
+    /// management mode.
     pub smi_cmd_port: u32,
-    /// The command that takes the hardware registers from the firmware.
+    /// ACPI_ENABLE: the command that takes the hardware registers from the firmware.
     pub acpi_enable: u8,
-    /// The command that gives them back.
+    /// ACPI_DISABLE: the command that gives the hardware registers back to the firmware.
     pub acpi_disable: u8,
-    /// The command that asks the firmware for S4.
+    /// S4BIOS_REQ: the command that asks the firmware for S4.
     pub s4bios_req: u8,
-    /// The command that takes over the processors' performance states. 0: there is none.
+    /// PSTATE_CNT: the command that takes over the processors' performance states. 0: there is
+    /// none.
     pub pstate_control: u8,
     registers: Registers,
-    /// The number of the first event of the second block of general purpose events.
+    /// GPE1_BASE: the number of the first event of the second block of general purpose events.
     pub gpe1_base: u8,
-    /// The command that says that the system follows changes of C states.
+    /// CST_CNT: the command that says that the system follows changes of C states.
     pub c_state_control: u8,
-    /// The longest time into C2 and back, in microseconds. Above 100: there is no C2.
+    /// P_LVL2_LAT: the longest time into C2 and back, in microseconds. Above 100: there is no C2.
     pub worst_c2_latency: u16,
-    /// The longest time into C3 and back, in microseconds. Above 1000: there is no C3.
+    /// P_LVL3_LAT: the longest time into C3 and back, in microseconds. Above 1000: there is no C3.
     pub worst_c3_latency: u16,
-    /// How many strides to read to write back all caches, where `WBINVD` doesn't do it.
+    /// FLUSH_SIZE: how many strides to read to write back all caches, if `WBINVD` doesn't do it.
     pub flush_size: u16,
-    /// The width of a cache line for this, in bytes.
+    /// FLUSH_STRIDE: the width of a cache line, in bytes, for the reads of FLUSH_SIZE.
     pub flush_stride: u16,
-    /// Where the duty cycle's setting lies in the processor's control register, in bits.
+    /// DUTY_OFFSET: where the duty cycle's setting lies in the processor's control register, in
+    /// bits.
     pub duty_offset: u8,
-    /// How wide this setting is, in bits.
+    /// DUTY_WIDTH: how wide the duty cycle's setting is, in bits.
     pub duty_width: u8,
-    /// The clock's register of the alarm's day of the month. 0: there is none.
+    /// DAY_ALRM: the clock's register of the alarm's day of the month. 0: there is none.
     pub day_alarm: u8,
-    /// The clock's register of the alarm's month. 0: there is none.
+    /// MON_ALRM: the clock's register of the alarm's month. 0: there is none.
     pub month_alarm: u8,
-    /// The clock's register of the century. 0: there is none.
+    /// CENTURY: the clock's register of the century. 0: there is none.
     pub century: u8,
-    /// What a PC has.
+    /// IAPC_BOOT_ARCH: what a PC has.
     pub iapc_boot_arch: IaPcBootArchFlags,
-    /// What the fixed hardware does and needs.
+    /// Flags (Fixed Feature Flags): what the fixed hardware does and needs.
     pub flags: FixedFeatureFlags,
-    /// What to write to the reset register to reset the machine.
+    /// RESET_VALUE: what to write to the reset register to reset the machine.
     pub reset_value: u8,
-    /// How an Arm machine is called.
+    /// ARM_BOOT_ARCH: how an Arm machine is called.
     pub arm_boot_arch: ArmBootArchFlags,
     x_firmware_ctrl: Option<u64>,
     x_dsdt_address: Option<u64>,
@@ -202,15 +204,15 @@ impl Fadt {
     ghost use Rattle.acpi_fixed.specs.Fadt.{pm_timer_of, registers_of};
     ghost use Rattle.acpi_fixed.specs.Registers.{block_of, optional_block_of, register_of};
 
-    /// What the machine is for.
+    /// Preferred_PM_Profile: what the machine is for.
     pub fn power_profile(&self) -> PowerProfile
         ensures { result ≡ profile_of self.now }
     {
         profile_from(self.preferred_pm_profile)
     }
 
-    /// The physical address of the FACS: the 64-bit one where it is there and not 0, else the
-    /// 32-bit one.
+    /// X_FIRMWARE_CTRL or FIRMWARE_CTRL, the physical address of the FACS: the 64-bit one where it
+    /// is there and not 0, else the 32-bit one.
     ///
     /// Refuses with `InvalidFacsAddress` where that is 0.
     pub fn facs_address(&self) -> AcpiResult<u64>
@@ -220,8 +222,8 @@ impl Fadt {
         address_from(refusal, self.x_firmware_ctrl, self.firmware_ctrl)
     }
 
-    /// The physical address of the DSDT: the 64-bit one where it is there and not 0, else the
-    /// 32-bit one.
+    /// X_DSDT or DSDT, the physical address of the DSDT: the 64-bit one where it is there and not
+    /// 0, else the 32-bit one.
     ///
     /// Refuses with `InvalidDsdtAddress` where that is 0.
     pub fn dsdt_address(&self) -> AcpiResult<u64>
@@ -231,8 +233,8 @@ impl Fadt {
         address_from(refusal, self.x_dsdt_address, self.dsdt_address)
     }
 
-    /// The status and enable registers of the fixed events: the extended block where its address
-    /// isn't 0, else the ports, at address 0 too.
+    /// X_PM1a_EVT_BLK or PM1a_EVT_BLK: the status and enable registers of the fixed events: the
+    /// extended block where its address isn't 0, else the ports, at address 0 too.
     ///
     /// A machine of reduced hardware has none, whatever is answered here: ask
     /// `flags.system_is_hw_reduced_acpi()` first.
@@ -245,7 +247,8 @@ impl Fadt {
         self.registers.pm1a_event.block()
     }
 
-    /// The second block of event registers, or `None` where neither field gives an address.
+    /// X_PM1b_EVT_BLK or PM1b_EVT_BLK: the second block of event registers, or `None` where neither
+    /// field gives an address.
     ///
     /// Refuses as `pm1a_event_block` does.
     pub fn pm1b_event_block(&self) -> AcpiResult<Option<GenericAddress>>
@@ -254,8 +257,8 @@ impl Fadt {
         self.registers.pm1b_event.optional_block()
     }
 
-    /// The control registers of the fixed hardware: the extended block where its address isn't 0,
-    /// else the ports, at address 0 too.
+    /// X_PM1a_CNT_BLK or PM1a_CNT_BLK: the control registers of the fixed hardware: the extended
+    /// block where its address isn't 0, else the ports, at address 0 too.
     ///
     /// A machine of reduced hardware has none, whatever is answered here: ask
     /// `flags.system_is_hw_reduced_acpi()` first.
@@ -267,7 +270,8 @@ impl Fadt {
         self.registers.pm1a_control.block()
     }
 
-    /// The second block of control registers, or `None` where neither field gives an address.
+    /// X_PM1b_CNT_BLK or PM1b_CNT_BLK: the second block of control registers, or `None` where
+    /// neither field gives an address.
     ///
     /// Refuses as `pm1a_event_block` does.
     pub fn pm1b_control_block(&self) -> AcpiResult<Option<GenericAddress>>
@@ -276,7 +280,8 @@ impl Fadt {
         self.registers.pm1b_control.optional_block()
     }
 
-    /// The second control register, or `None` where neither field gives an address.
+    /// X_PM2_CNT_BLK or PM2_CNT_BLK: the second control register, or `None` where neither field
+    /// gives an address.
     ///
     /// Refuses as `pm1a_event_block` does.
     pub fn pm2_control_block(&self) -> AcpiResult<Option<GenericAddress>>
@@ -285,8 +290,8 @@ impl Fadt {
         self.registers.pm2_control.optional_block()
     }
 
-    /// The power management timer, or `None` where its length isn't 4 or neither field gives an
-    /// address.
+    /// X_PM_TMR_BLK or PM_TMR_BLK: the power management timer, or `None` where its length isn't 4
+    /// or neither field gives an address.
     ///
     /// Refuses a reserved code in the extended block with `InvalidGenericAddress`.
     pub fn pm_timer_block(&self) -> AcpiResult<Option<GenericAddress>>
@@ -295,31 +300,31 @@ impl Fadt {
         self.registers.pm_timer.timer_block()
     }
 
-    /// The registers of the first general purpose events, or `None` if neither field gives an
-    /// address (section 5.2.9).
+    /// X_GPE0_BLK or GPE0_BLK: the registers of the first general purpose events, or `None` if
+    /// neither field gives an address (section 5.2.9).
     ///
     /// Refuses as `pm1a_event_block` does: also a block that the 32-bit field places and that is 32
-    /// bytes long or longer, as real chipsets have them, since eight bits a byte don't fit the width.
-    /// `gpe0` answers those too.
+    /// bytes long or longer, as real chipsets have them, since eight bits a byte don't fit the
+    /// width. `gpe0` answers those too.
     pub fn gpe0_block(&self) -> AcpiResult<Option<GenericAddress>>
         ensures { result ≡ optional_block_of (registers_of self.now).gpe0 }
     {
         self.registers.gpe0.optional_block()
     }
 
-    /// The registers of further general purpose events, or `None` if neither field gives an address
-    /// (section 5.2.9).
+    /// X_GPE1_BLK or GPE1_BLK: the registers of further general purpose events, or `None` if
+    /// neither field gives an address (section 5.2.9).
     ///
     /// Refuses as `pm1a_event_block` does: also a block that the 32-bit field places and that is 32
-    /// bytes long or longer, as real chipsets have them, since eight bits a byte don't fit the width.
-    /// `gpe1` answers those too.
+    /// bytes long or longer, as real chipsets have them, since eight bits a byte don't fit the
+    /// width. `gpe1` answers those too.
     pub fn gpe1_block(&self) -> AcpiResult<Option<GenericAddress>>
         ensures { result ≡ optional_block_of (registers_of self.now).gpe1 }
     {
         self.registers.gpe1.optional_block()
     }
 
-    /// The register that resets the machine, where the flags say that there is one.
+    /// RESET_REG: the register that resets the machine, if the flags say that there is one.
     ///
     /// Refuses a reserved code with `InvalidGenericAddress`.
     pub fn reset_register(&self) -> AcpiResult<GenericAddress>
@@ -328,8 +333,8 @@ impl Fadt {
         GenericAddress::from_raw(self.registers.reset)
     }
 
-    /// The register that puts a machine of reduced hardware to sleep, or `None` where the table has
-    /// no field for it.
+    /// SLEEP_CONTROL_REG: the register that puts a machine of reduced hardware to sleep, or `None`
+    /// where the table has no field for it.
     ///
     /// Refuses a reserved code with `InvalidGenericAddress`.
     pub fn sleep_control_register(&self) -> AcpiResult<Option<GenericAddress>>
@@ -338,8 +343,8 @@ impl Fadt {
         register_from(self.registers.sleep_control)
     }
 
-    /// The register that says how a machine of reduced hardware woke, or `None` where the table has
-    /// no field for it.
+    /// SLEEP_STATUS_REG: the register that says how a machine of reduced hardware woke, or `None`
+    /// where the table has no field for it.
     ///
     /// Refuses a reserved code with `InvalidGenericAddress`.
     pub fn sleep_status_register(&self) -> AcpiResult<Option<GenericAddress>>

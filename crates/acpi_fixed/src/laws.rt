@@ -13,14 +13,14 @@ use crate::fadt::PowerProfile;
 use std::cmp::Ordering;
 use std::hash::{Hash, Hasher};
 
-/// Profiles compare as equal exactly where they are one.
+/// Profiles compare as equal exactly if they are one.
 pub fn power_profile_equality(a: &PowerProfile, b: &PowerProfile) -> bool
     ensures { IsEquality result a.now b.now }
 {
     a == b
 }
 
-/// Forms of images compare as equal exactly where they are one.
+/// Forms of images compare as equal exactly if they are one.
 pub fn image_type_equality(a: &ImageType, b: &ImageType) -> bool
     ensures { IsEquality result a.now b.now }
 {

@@ -14,7 +14,7 @@ use Rattle.acpi_image.specs.declared.error.WriteError.{WriteError}
 use Rattle.acpi_image.specs.declared.error.WriteError.TheVariants as refusal
 use Rattle.acpi_image.specs.declared.write.PlacedTable.{PlacedTable}
 
--- ---- no check refuses for want of memory
+-- ---- no check refuses for lack of memory
 
 abbrev NotMemory : {A : Type 0} → Result A WriteError → Type 0
 NotMemory (Ok x) = Unit {0}
@@ -53,7 +53,7 @@ unfolding check_places
 places_held m =
     held {A = Unit {0}} (list_all (λ r. nat_lt (end_of r) (2 ^ 64)) m) refusal.EndTooLarge (λ _. holds (not (some_share m)) refusal.Overlap) tt (λ _. last (not (some_share m)) refusal.Overlap tt)
 
--- the checks behind those of the tables
+-- the checks after those of the tables
 behind : Plan → Result (Unit {0}) WriteError
 behind p =
     holds (nat_lt (root_length (kind_of p) (length p.tables)) (2 ^ 32)) refusal.TooMany

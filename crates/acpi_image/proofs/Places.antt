@@ -69,7 +69,7 @@ unfolding check_plan
 places_left rsdp root revision tables few many some are short fit =
     planned_places rsdp root revision tables few many ∙ rw (some, are, length-map tables placed_region, short, fit) refl
 
--- two tables share a byte exactly where their ranges do
+-- two tables share a byte exactly if their ranges do
 pub tables_share : (p q : AddressRange) (t u : PlacedTable) → p.address ≡ t.address → p.length ≡ length t.bytes.now → q.address ≡ u.address → q.length ≡ length u.bytes.now
     → share (region_in p) (region_in q) ≡ share (placed_region t) (placed_region u)
 tables_share p q t u p_start p_count q_start q_count =

@@ -13,7 +13,7 @@ sum_is_set offset bytes within =
     let some = sum_by-set (λ x. x) bytes offset ((256 - sum (set bytes offset 0) % 256) % 256) 0 within in
     omega (arith, none, some)
 
--- parts before and behind the byte stay
+-- parts before and after the byte stay
 
 pub part_behind : (bytes : List ℕ) (k x o n : ℕ) → k < o → part (set bytes k x) o n ≡ part bytes o n
 part_behind bytes k x o n less = ap (take n) (drop-set-lt o bytes k x less)

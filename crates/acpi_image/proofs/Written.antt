@@ -1,4 +1,4 @@
--- How many bytes are written, and how numbers are spelled there.
+-- How many bytes are written, and how numbers are encoded there.
 use Rattle.std.proofs.Common.{◌≡◌, ℕ, zero, suc, ◌+◌, ◌-◌, ◌*◌, ◌/◌, ◌%◌, ◌^◌, ◌<◌, ◌≤◌, Bool, true, false, List, [], ◌∷◌, ◌++◌, length, take, drop, refl, sym, ap, ◌∙◌, arith, if◌then◌else◌, w64}
 use Rattle.std.specs.Prelude.{OnOk, Result, Ok, Err, flat_map, replicate}
 use Rattle.acpi_image_reader.specs.Image.{record_spelling}
@@ -65,7 +65,7 @@ length-root_unsummed kind ps =
 pub length-root_to : (kind : RootKind) (ps : List ℕ) → length (root_to kind ps) ≡ root_length kind (length ps)
 length-root_to kind ps = length-with_sum 9 (root_unsummed kind ps) ∙ length-root_unsummed kind ps
 
--- a root table behind what its record begins with
+-- a root table after what its record begins with
 pub root_record_put : {R : Type 0} (r : Result R WriteError) (kind : RootKind) (a : ℕ) (ps before head now : List ℕ)
     → head ≡ before ++ spelling 8 a ++ spelling 8 (root_length kind (length ps)) → OnOk r (now ≡ head ++ root_to kind ps)
     → OnOk r (now ≡ before ++ record_spelling (root_record kind a ps))

@@ -50,7 +50,7 @@ check_plan p = do
   _ ← holds (pointers_fit p.revision (p.root ∷ pointers_of p)) refusal.PointerTooLarge
   check_places (records_of p)
 
--- the file that is written: the records, one behind the other, or the first refusal
+-- the file that is written: the records, one after the other, or the first refusal
 unfoldable pub written : Plan → Result (List ℕ) WriteError
 written p = do
   _ ← check_plan p

@@ -35,7 +35,7 @@ abbrev pub said_of : {A : Type 0} → Plan → (Memory → List ℕ → Result A
     → Result A AcpiError
 said_of p defined = below (records_of p) (kind_of p) p.root (defined (records_of p))
 
--- of a file that is written by a plan: it is the records of the plan, one behind the other, and
+-- of a file that is written by a plan: it is the records of the plan, one after the other, and
 -- nothing else; they are a memory, as which the file is read; the RSDP there is valid, and opens a
 -- valid root table with the plan's revision; this lists the addresses of the plan's tables, and the
 -- valid tables are those of the plan in order, each with a sum of 0

@@ -58,7 +58,7 @@ unfoldable pub with_first_sum : List ℕ → List ℕ
 with_first_sum bytes = with_sum 8 (take 20 bytes) ++ drop 20 bytes
 
 -- the RSDP of a revision that leads to the root table at an address: the RSDT for revision 0, with
--- zeros behind the first 20 bytes, else the XSDT, where byte 32 makes all 36 sum to 0
+-- zeros after the first 20 bytes, else the XSDT, where byte 32 makes all 36 sum to 0
 unfoldable pub rsdp_to : ℕ → ℕ → List ℕ
 rsdp_to revision root =
     if revision == 0 then with_first_sum (rsdp_unsummed revision root 0 0)

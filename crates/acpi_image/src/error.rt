@@ -8,7 +8,7 @@ pub enum WriteError {
     /// The root table's address is 0.
     ZeroRoot,
     /// The table of this index, counted from 0, has fewer than 36 bytes, a length field that is not
-    /// the number of its bytes, or a signature or an id that is no UTF-8. None before it has.
+    /// the number of its bytes, or a signature or an id that is not valid UTF-8. None before it has.
     BadTable(usize),
     /// The root table's length doesn't fit into four bytes.
     TooMany,
@@ -22,7 +22,7 @@ pub enum WriteError {
     OutOfMemory,
 }
 
-/// The variant's name, and behind a space the index that it carries.
+/// The variant's name, and after a space the index that it carries.
 impl fmt::Display for WriteError {
     ghost use Rattle.std.specs.Prelude.{Some};
     ghost use Rattle.acpi_image.specs.ErrorText.{write_error_text};

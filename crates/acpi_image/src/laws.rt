@@ -7,7 +7,7 @@ use crate::error::WriteError;
 pub use acpi_image_reader::laws::image_error_equality;
 
 /// Whether two refusals of an image to be written are the same, with the indices that they carry:
-/// `==` says so exactly where their variants and these are equal.
+/// `==` says so exactly if their variants and these are equal.
 pub fn write_error_equality(one: &WriteError, other: &WriteError) -> bool
     ensures { IsEquality result one.now other.now }
 {

@@ -9,7 +9,7 @@ use Rattle.acpi_image_reader.specs.Image.{next_at, records_from, records_in, rec
 use Rattle.acpi_image_reader.specs.declared.error.ImageError.{ImageError}
 use Rattle.acpi_image_reader.specs.declared.error.ImageError.TheVariants as refusal
 
--- the next record, and those behind it
+-- the next record, and those after it
 abbrev pub step_from : (ℕ → Bool) → ℕ → Memory → List ℕ → Result Memory ImageError
 step_from granted n kept left = next_at kept left >>= λ found. (holds (granted (length kept)) refusal.OutOfMemory >>= λ _. records_from granted n (kept ++ (found.0 ∷ [])) found.1)
 

@@ -62,7 +62,7 @@ pub same_share : (r r' s s' : Region) → SamePlace r r' → SamePlace s s' → 
 unfolding share
 same_share r r' s s' a b = rw (a.start, a.count, b.start, b.count) refl
 
--- two regions share a byte exactly where the ranges that they lie in do
+-- two regions share a byte exactly if the ranges that they lie in do
 pub ranges_share : (p q : AddressRange) (r s : Region) → p.address ≡ r.start → p.length ≡ length r.bytes → q.address ≡ s.start → q.length ≡ length s.bytes
     → share (region_in p) (region_in q) ≡ share r s
 ranges_share p q r s p_start p_count q_start q_count =
@@ -82,7 +82,7 @@ all_apart (s ∷ m) r h =
     let p = or_parts _ _ h in
     (apart_is s r p.0, all_apart m r p.1)
 
--- ---- a region behind a memory
+-- ---- a region after a memory
 
 all_with : {X : Type 0} (P : X → Type 0) (xs : List X) (y : X) → AllByRecursion P xs → P y → AllByRecursion P (xs ++ (y ∷ []))
 all_with P [] y h hy = (hy, tt)

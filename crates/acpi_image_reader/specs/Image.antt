@@ -1,4 +1,4 @@
--- A file of memory is its records, one behind the other, and nothing else.
+-- A file of memory is its records, one after the other, and nothing else.
 use Rattle.std.specs.Prelude.{◌≡◌, ℕ, ◌+◌, ◌^◌, zero, suc, nat_le, nat_lt, Result, Ok, Err}
 use Rattle.std.specs.Prelude.{Bool, true, false, not, ◌&&◌, ◌||◌}
 use Rattle.std.specs.Prelude.{List, [], ◌∷◌, ◌++◌, length, take, drop, flat_map}
@@ -16,7 +16,7 @@ record_spelling r = spelling 8 r.start ++ (spelling 8 (length r.bytes) ++ r.byte
 abbrev pub IsImage : List ℕ → Memory → Type 0
 IsImage file regions = file ≡ flat_map record_spelling regions
 
--- the region whose record the bytes begin with, and the bytes behind that record
+-- the region whose record the bytes begin with, and the bytes after that record
 unfoldable pub record_at : List ℕ → Result (Region × List ℕ) ImageError
 record_at bytes = do
   _ ← holds (nat_le 16 (length bytes)) refusal.Truncated
@@ -44,7 +44,7 @@ next_at earlier bytes = do
   _ ← holds (not (shares_any earlier found.0)) refusal.Overlap
   Ok found
 
--- ---- want of memory in its place: granted says, for each number of regions that are kept, whether
+-- ---- lack of memory in its place: granted says, for each number of regions that are kept, whether
 -- there is memory for one more
 
 -- the earlier regions, and then those of the bytes, at most n
@@ -67,11 +67,11 @@ ample kept = true
 abbrev pub records_in : List ℕ → Result Memory ImageError
 records_in file = records_with ample file
 
--- somewhere memory can run out, behind a record that passed its checks and before any refusal
+-- somewhere memory can run out, after a record that passed its checks and before any refusal
 abbrev pub RunsOut : List ℕ → Type 0
 RunsOut file = (granted : ℕ → Bool) × (records_with granted file ≡ Err refusal.OutOfMemory)
 
--- a refusal is the one that is defined; want of memory comes where memory can run out
+-- a refusal is the one that is defined; lack of memory comes where memory can run out
 abbrev pub Refuses : {Y : Type 0} → List ℕ → ImageError → Result Y ImageError → Type 0
 Refuses file refusal.OutOfMemory said = RunsOut file
 Refuses file refusal.Truncated said = said ≡ Err refusal.Truncated

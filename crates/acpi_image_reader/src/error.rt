@@ -2,11 +2,11 @@
 
 use std::fmt;
 
-/// Why a file spells no memory. Each is about one of its records.
+/// Why a file encodes no memory. Each is about one of its records.
 #[derive(Clone, Copy, Debug, PartialEq, Eq)]
 pub enum ImageError {
     /// Fewer than 16 bytes are left for a start and a length, or fewer bytes than that length
-    /// behind them.
+    /// after them.
     Truncated,
     /// Start and length add up to more than 2^64 - 1.
     EndTooLarge,

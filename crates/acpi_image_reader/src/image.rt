@@ -1,6 +1,6 @@
 //! Memory from a file.
 //!
-//! A file is a sequence of records without a header, one behind the other to its end. A record is
+//! A file is a sequence of records without a header, one after the other to its end. A record is
 //! a start (8 bytes), a length (8 bytes), both little-endian, and that many bytes: the memory from
 //! the address `start` on. A file without a record is an empty memory, and a record without bytes
 //! lends nothing.
@@ -14,7 +14,7 @@ use crate::record_list::Records;
 use acpi_base::{AcpiError, AcpiHandler, AcpiResult};
 use std::alloc::Global;
 
-/// The memory that a file spells, lent from the file's own bytes. Each record is a region.
+/// The memory that a file encodes, lent from the file's own bytes. Each record is a region.
 #[derive(Drop)]
 pub struct MemoryImage<'a> {
     records: Records<'a, Global>,
@@ -36,11 +36,11 @@ impl<'a> MemoryImage<'a> {
         Ok(MemoryImage { records })
     }
 
-    /// The memory that a file spells. It allocates only a list of the records and
+    /// The memory that a file encodes. It allocates only a list of the records and
     /// a map of their starts.
     ///
     /// Refuses, records in order, and for each in this order, with `Truncated` where fewer than 16
-    /// bytes are left or fewer than `length` behind them, `EndTooLarge` where `start + length` is
+    /// bytes are left or fewer than `length` after them, `EndTooLarge` where `start + length` is
     /// above 2^64 - 1, `Overlap` where it shares a byte with an earlier record, and `OutOfMemory`
     /// where a growth is refused. Records that only touch share no byte, and one without bytes
     /// shares none.
@@ -51,10 +51,10 @@ impl<'a> MemoryImage<'a> {
         // A file that is the records of some memory is read as that memory, unless memory runs out.
         ensures only { (m : Memory) → IsMemory m → IsImage bytes.now m
             → GivesOrRunsOut bytes.now (λ i. memory_of i) result (Ok m) }
-        // The memory, or the first refusal, is the one that is defined; memory runs out only behind
+        // The memory, or the first refusal, is the one that is defined; memory runs out only after
         // a record that passed its checks.
         ensures exact { GivesOrRunsOut bytes.now (λ i. memory_of i) result (records_in bytes.now) }
-        // What is defined is the one memory that the file spells.
+        // What is defined is the one memory that the file encodes.
         ensures law { (m : Memory)
             → (records_in bytes.now ≡ Ok m) ↔ (IsImage bytes.now m × IsMemory m) }
     {

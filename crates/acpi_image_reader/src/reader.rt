@@ -10,7 +10,7 @@ pub use crate::record_list::Records;
 use std::alloc::Allocator;
 
 /// The record that the bytes begin with, which shares no byte with an earlier one, and the bytes
-/// behind it.
+/// after it.
 ///
 /// Refuses, in this order, with `Truncated`, `EndTooLarge` and `Overlap`.
 #[tactic(auto, unfolding(crate::specs::Image::next_at))]

@@ -10,7 +10,7 @@ use crate::range::shares_byte;
 use acpi_base::AddressRange;
 use acpi_base::bytes::field;
 
-/// A region that a file spells, by one of its records.
+/// A region that a file encodes, by one of its records.
 #[derive(Clone, Copy)]
 pub struct Record<'a> {
     /// Its first address.
@@ -57,14 +57,14 @@ impl<'a> Record<'a> {
     /// Whether some byte lies in this record and in another. One without bytes shares none.
     pub(crate) fn shares_byte(&self, other: &Record<'_>) -> bool
         ensures exact { result ≡ share (region_of self.now) (region_of other.now) }
-        // That is, no address lies in both exactly where the answer is no.
+        // That is, no address lies in both exactly if the answer is no.
         ensures law { (result ≡ false) ↔ AreApart (region_of self.now) (region_of other.now) }
     {
         shares_byte(self.range(), other.range())
     }
 }
 
-/// The record that the bytes begin with, and the bytes behind it.
+/// The record that the bytes begin with, and the bytes after it.
 ///
 /// Refuses, in this order, with `Truncated` and `EndTooLarge`.
 #[tactic(auto, unfolding(crate::specs::Image::record_at))]

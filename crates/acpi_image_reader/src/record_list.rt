@@ -13,7 +13,7 @@ use crate::start_index::{add_start, last_up_to};
 use std::alloc::Allocator;
 use std::collections::BTreeMap;
 
-/// Keeps one more record, behind the others.
+/// Keeps one more record, after the others.
 ///
 /// Refuses with `OutOfMemory` where there is none for it.
 fn keep<'a, A: Allocator>(
@@ -80,7 +80,7 @@ impl<'a, A: Allocator> Records<'a, A> {
         }
     }
 
-    /// One more record, behind the others.
+    /// One more record, after the others.
     ///
     /// Refuses with `OutOfMemory` where there is none for it.
     pub(crate) fn with(self, added: Record<'a>) -> Result<Records<'a, A>, ImageError>

@@ -27,7 +27,7 @@ pub fn last_up_to<V, A: Allocator>(starts: &BTreeMap<u64, V, A>, address: u64) -
 
 /// Adds the start of one more region, which shares no byte with those that are listed.
 ///
-/// Refuses where there is no memory for it.
+/// Refuses if there is no memory for it.
 pub fn add_start<V: Drop, A: Allocator + Clone>(
     starts: &mut BTreeMap<u64, V, A>,
     start: u64,

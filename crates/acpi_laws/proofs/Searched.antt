@@ -1,5 +1,5 @@
 -- The search of the BIOS areas that are written out: the first candidate is valid. How many there
--- are behind it is left open, since antt would compute all of them.
+-- are after it is left open, since antt would compute all of them.
 use Rattle.std.proofs.Common.{◌≡◌, ℕ, suc, List, [], ◌∷◌, ◌++◌, drop, Option, Some, Result, Ok, refl, ap, ◌∙◌}
 use Rattle.std.specs.Prelude.{replicate}
 use Rattle.std.specs.Str.{chars, is_utf8}
@@ -30,7 +30,7 @@ ranges_there : (m : Memory) (s : _) (n : ℕ) (area b : List ℕ) → count_of s
     → area_ranges m s ≡ (s.start, room_of s) ∷ (rsdp_ranges m s.start ++ [])
 ranges_there m s n area b count there valid = rw (there, count, valid) refl
 
--- the ranges behind the word's
+-- the ranges after the word's
 behind_word : (second : ℕ → Ranges) (w : Result ℕ AcpiError) (f : Result (Option (ℕ × List ℕ)) AcpiError) (a b : Ranges) (word : ℕ) (found : ℕ × List ℕ)
     → w ≡ Ok word → f ≡ Ok (Some found) → a ≡ b → ranges.◌>>=◌ w (λ word. a ++ ranges.◌>>=◌ f (λ first. or_else_ranges first (second word))) ≡ b ++ []
 behind_word second w f a b word found named there same = rw (named, there, same) refl

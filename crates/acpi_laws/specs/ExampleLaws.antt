@@ -137,7 +137,7 @@ OpenedInstance =
     Instance here there opened_ranges opened_from (root_pointer 0 Rsdt 0x1000) (Ok opened)
 
 -- what may be asked for to open the RSDT and to look the HPET up: of the table whose id is refused
--- and of the FADT the header, and nothing behind the HPET
+-- and of the FADT the header, and nothing after the HPET
 abbrev pub AskedInstance : Type 0
 AskedInstance =
     root_and_ranges here (root_pointer 0 Rsdt 0x1000) (λ m. lookup_ranges m hpet_kind)

@@ -33,7 +33,7 @@ ssdt = table (codes "SSDT") 38 85 (replicate 2 0xa3)
 unfoldable pub dsdt : List ℕ
 dsdt = table (codes "DSDT") 40 28 (replicate 4 0xa3)
 
--- a table whose bytes don't sum to 0, with 20 times this byte behind the header
+-- a table whose bytes don't sum to 0, with 20 times this byte after the header
 unfoldable pub damaged : ℕ → List ℕ
 damaged body = table (codes "HPET") 56 0 (replicate 20 body)
 
@@ -48,7 +48,7 @@ rsdt = table (codes "RSDT") 60 214
 unfoldable pub rsdp : List ℕ
 rsdp = codes "RSD PTR " ++ 209 ∷ replicate 7 0 ++ 0 ∷ 0x10 ∷ 0 ∷ 0 ∷ replicate 16 0
 
--- each in a region of its own, which has this byte behind it
+-- each in a region of its own, which has this byte after it
 unfoldable pub memory : ℕ → Memory
 memory other =
     region 0x500 rsdp other
@@ -72,7 +72,7 @@ there = memory 255
 abbrev pub listed : List ℕ
 listed = 0x2000 ∷ 0x3000 ∷ 0x4000 ∷ 0x5000 ∷ 0x6000 ∷ 0x7000 ∷ []
 
--- and the damaged table behind it
+-- and the damaged table after it
 abbrev pub more : List ℕ
 more = listed ++ 0x9000 ∷ []
 
@@ -129,13 +129,13 @@ AreMemories =
 
 -- ---- how they differ
 
--- behind each table, behind the header of the one whose id is refused, and behind that of the
+-- after each table, after the header of the one whose id is refused, and after that of the
 -- damaged one
 abbrev pub differing : List ℕ
 differing =
     0x524 ∷ 0x103c ∷ 0x2024 ∷ 0x3074 ∷ 0x4038 ∷ 0x5044 ∷ 0x603c ∷ 0x7026 ∷ 0x8028 ∷ 0x9024 ∷ []
 
--- those of a BIOS also behind the word, and behind the first area and the 16 bytes that follow it
+-- those of a BIOS also after the word, and after the first area and the 16 bytes that follow it
 abbrev pub TheyDiffer : Type 0
 TheyDiffer = DifferAt here there differing
     × DifferAt bios_here bios_there (0x410 ∷ 0x100010 ∷ differing)

@@ -48,7 +48,7 @@ abbrev pub LiesInOne : ℕ × ℕ → List AddressRange → Type 0
 LiesInOne asked [] = ⊥
 LiesInOne asked (r ∷ rs) = LiesIn asked r ⊎ LiesInOne asked rs
 
--- they begin at a member that is refused under the signature that it bears
+-- they begin at a member that is refused under the signature that it has
 abbrev pub BeginsRefused : Memory → List ℕ → ℕ → Type 0
 BeginsRefused m [] a = ⊥
 BeginsRefused m (p ∷ ps) a = ((a ≡ p) × IsErr (own_table_at m p)) ⊎ BeginsRefused m ps a

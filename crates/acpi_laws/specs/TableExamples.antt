@@ -10,13 +10,13 @@ use Rattle.acpi_base.specs.Memory.{IsMemory, Memory, Region, at}
 use Rattle.acpi_base.specs.Ranges.{AgreesOn, Ranges, own_table_ranges, table_ranges}
 use Rattle.acpi_base.specs.Table.{own_table_at, plain_kind, table_at}
 
--- a table: its name, one byte each for its length and its checksum, and what stands behind the
+-- a table: its name, one byte each for its length and its checksum, and what stands after the
 -- header; the revision is 1, and all else in the header is 0
 abbrev pub table : List ℕ → ℕ → ℕ → List ℕ → List ℕ
 table name length checksum body =
     name ++ length ∷ 0 ∷ 0 ∷ 0 ∷ 1 ∷ checksum ∷ replicate 26 0 ++ body
 
--- these bytes, and one more behind them
+-- these bytes, and one more after them
 abbrev pub region : ℕ → List ℕ → ℕ → Region
 region start bytes behind = record { start = start; bytes = bytes ++ behind ∷ [] }
 
@@ -26,7 +26,7 @@ hpet = table (codes "HPET") 56 95
     (1 ∷ 0xa2 ∷ 0x86 ∷ 0x80 ∷ 0 ∷ 64 ∷ 0 ∷ 0
     ∷ 0 ∷ 0 ∷ 0xd0 ∷ 0xfe ∷ 0 ∷ 0 ∷ 0 ∷ 0 ∷ 0 ∷ 128 ∷ 0 ∷ 0 ∷ [])
 
--- the same name with an OEM id that is no text, and 24 times this byte behind the header
+-- the same name with an OEM id that is not text, and 24 times this byte after the header
 unfoldable pub unnamed : ℕ → List ℕ
 unnamed body =
     codes "HPET" ++ 60 ∷ 0 ∷ 0 ∷ 0 ∷ 1 ∷ 0 ∷ 255 ∷ replicate 25 0 ++ replicate 24 body
@@ -50,7 +50,7 @@ abbrev pub DifferAt : Memory → Memory → List ℕ → Type 0
 DifferAt m n addresses =
     AllByRecursion (λ a. (at m a 1 ≡ Some (0 ∷ [])) × (at n a 1 ≡ Some (255 ∷ []))) addresses
 
--- they differ behind each table, and behind the header of the one whose id is refused
+-- they differ after each table, and after the header of the one whose id is refused
 abbrev pub TheyDiffer : Type 0
 TheyDiffer = DifferAt here there (0x2024 ∷ 0x203b ∷ 0x203c ∷ 0x4038 ∷ [])
 
@@ -66,7 +66,7 @@ abbrev pub TableAs : Signature → ℕ → Result (List ℕ) AcpiError → Type 
 TableAs s p answer = Instance here there (λ m. table_ranges m (plain_kind s))
     (λ m. table_at m (plain_kind s)) p answer
 
--- and under the signature that it bears
+-- and under the signature that it has
 abbrev pub OwnTableAs : ℕ → Result (List ℕ) AcpiError → Type 0
 OwnTableAs p answer = Instance here there own_table_ranges own_table_at p answer
 
@@ -76,7 +76,7 @@ TableInstance = TableAs HPET 0x4000 (Ok hpet)
 abbrev pub OwnTableInstance : Type 0
 OwnTableInstance = OwnTableAs 0x4000 (Ok hpet)
 
--- one of another signature, and one whose id is no text
+-- one of another signature, and one whose id is not text
 abbrev pub OtherTableInstance : Type 0
 OtherTableInstance = TableAs FADT 0x2000 (Err (SdtInvalidSignature FADT))
 

@@ -10,7 +10,7 @@ pub type NumaResult<T> = Result<T, NumaError>;
 /// Why a call of this crate refuses.
 #[derive(Clone, Copy, Debug, PartialEq, Eq)]
 pub enum NumaError {
-    /// A table isn't found, or memory is refused.
+    /// A table isn't found, or memory runs out.
     Acpi(AcpiError),
     /// An entry is shorter than its kind, or reaches past the table.
     InvalidEntryLength,

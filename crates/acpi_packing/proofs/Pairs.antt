@@ -5,7 +5,7 @@ use Rattle.std.specs.Borrow.{Bor}
 use Rattle.std.specs.Option.{option_map}
 use Rattle.acpi_packing.specs.Arguments.{addresses_in, memory_request, names_in, with_address}
 
--- addresses, and those behind them
+-- addresses, and those after them
 abbrev pub behind : List ℕ → Option (List ℕ) → Option (List ℕ)
 behind addresses rest = option_map (λ more. addresses ++ more) rest
 

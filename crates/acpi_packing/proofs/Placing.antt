@@ -18,7 +18,7 @@ done m = Ok m
 abbrev checked : Result (Unit {0}) Refusal
 checked = Ok tt
 
--- regions, and those behind them
+-- regions, and those after them
 abbrev pub behind : Memory → Result Memory Refusal → Result Memory Refusal
 behind m r = r >>= λ more. done (m ++ more)
 

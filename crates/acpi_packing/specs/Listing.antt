@@ -63,7 +63,7 @@ record_lines labels n [] = []
 record_lines labels n (r ∷ rs) =
     record_line r.start (name_of labels n) ++ record_lines labels (n + 1) rs
 
--- those of a file, or why it is no image
+-- those of a file, or why it is not an image
 abbrev pub listing : List (List ℕ) → List ℕ → Result (List ℕ) ImageError
 listing labels file = do
   regions ← records_in file

@@ -121,7 +121,7 @@ packed_tables files = do
 
 -- ---- the file
 
--- the records of the regions, one behind the other
+-- the records of the regions, one after the other
 abbrev pub file_of : Result Memory Refusal → Result (List ℕ) Refusal
 file_of packed = do
   regions ← packed

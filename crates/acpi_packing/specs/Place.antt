@@ -1,4 +1,4 @@
--- Where tables lie: one behind the other, and away from a region that lies already.
+-- Where tables lie: one after the other, and away from a region that lies already.
 use Rattle.std.specs.Prelude.{◌≡◌, ◌⊎◌, ℕ, ◌+◌, ◌*◌, ◌/◌, ◌%◌, ◌^◌, ◌<◌, ◌≤◌, nat_le, nat_lt, ◌||◌, if◌then◌else◌}
 use Rattle.std.specs.Prelude.{List, [], ◌∷◌, length, Option, Some, None, Result, Ok, Err}
 use Rattle.acpi_base.specs.Memory.{Memory, Region, end_of}
@@ -10,8 +10,8 @@ use Rattle.acpi_packing.specs.declared.error.Refusal.TheVariants.{NoRoom}
 abbrev pub aligned : ℕ → ℕ
 aligned address = (address + 15) / 16 * 16
 
--- the first such address from which so many bytes lie before or behind a region, as far as the
--- least multiple itself or the one behind the region is tried
+-- the first such address from which so many bytes lie before or after a region, as far as the
+-- least multiple itself or the one after the region is tried
 unfoldable pub start_at : Region → ℕ → ℕ → ℕ
 start_at fixed from count =
     if nat_le (aligned from + count) fixed.start || nat_le (end_of fixed) (aligned from)
@@ -24,7 +24,7 @@ place_at fixed from count =
     if nat_lt (start_at fixed from count + count) (2 ^ 64) then Some (start_at fixed from count)
     else None
 
--- tables from an address on, one behind the other, where each ends below 2^64
+-- tables from an address on, one after the other, where each ends below 2^64
 abbrev pub place_or : Region → Option ℕ → List ℕ → (ℕ → Result Memory Refusal) → Result Memory Refusal
 place_or fixed None table more = Err NoRoom
 place_or fixed (Some address) table more = do
@@ -45,14 +45,14 @@ room fixed from tables = do
 
 -- ---- the same in the reader's words
 
--- a region from an address on, aligned to 16, before or behind another, that ends below 2^64
+-- a region from an address on, aligned to 16, before or after another, that ends below 2^64
 pub record IsPlaced (fixed : Region) (from : ℕ) (r : Region) : Type 0 where
   pub behind : from ≤ r.start
   pub even : r.start % 16 ≡ 0
   pub apart : (end_of r ≤ fixed.start) ⊎ (end_of fixed ≤ r.start)
   pub ends : end_of r < 2 ^ 64
 
--- each behind the one before it
+-- each after the one before it
 abbrev pub ArePlaced : Region → ℕ → Memory → Type 0
 ArePlaced fixed from [] = Unit {0}
 ArePlaced fixed from (r ∷ rs) = IsPlaced fixed from r × ArePlaced fixed (end_of r) rs

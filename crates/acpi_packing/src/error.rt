@@ -13,7 +13,7 @@ pub enum FileError {
     Empty,
     /// It has fewer bytes than a table's header, or ends before the length that it gives.
     Short,
-    /// It goes on behind the length that it gives.
+    /// It goes on after the length that it gives.
     Long,
     /// It would end above 2^64 - 1.
     EndTooLarge,

@@ -61,7 +61,7 @@ fn table_label<'w>(names: &[&'w str], entry: IndexedFile<'_>) -> Label<'w>
 
 /// Puts what is said of the files of a role after what is there.
 ///
-/// Refuses if memory is refused.
+/// Refuses if it runs out of memory.
 fn put_labels<'w>(
     labels: &mut Vec<Label<'w>>,
     names: &[&'w str],
@@ -78,7 +78,7 @@ fn put_labels<'w>(
 
 /// The names of files, each by itself.
 ///
-/// Refuses if memory is refused.
+/// Refuses if it runs out of memory.
 fn range_labels<'w>(alloc: Global, names: &[&'w str]) -> Result<Vec<Label<'w>>, AllocError>
     ensures { IfOk result (λ v. map label_text v.items ≡ map (λ n. n.now) names.now) }
 {
@@ -91,7 +91,7 @@ fn range_labels<'w>(alloc: Global, names: &[&'w str]) -> Result<Vec<Label<'w>>, 
 
 /// What is said of the records of an image of tables.
 ///
-/// Refuses if memory is refused.
+/// Refuses if it runs out of memory.
 fn tables_labels<'w>(
     alloc: Global,
     names: &[&'w str],
@@ -110,7 +110,7 @@ fn tables_labels<'w>(
 
 /// What is said of the records of an image, in order.
 ///
-/// Refuses if memory is refused.
+/// Refuses if it runs out of memory.
 fn labels_of<'w>(
     alloc: Global,
     command: &Command<'w>,
@@ -137,7 +137,7 @@ fn label_at<'w>(labels: &[Label<'w>], index: usize) -> Label<'w>
 
 /// A line for each of these records.
 ///
-/// Refuses if memory is refused.
+/// Refuses if it runs out of memory.
 fn lines_of(
     alloc: Global,
     labels: &[Label<'_>],

@@ -31,7 +31,7 @@ use std::alloc::Global;
 /// Where the RSDP lies: where the BIOS areas begin that are searched for it (section 5.2.5.1).
 const RSDP: u64 = 0xe0000;
 
-/// From where on the other tables lie: behind the BIOS areas.
+/// From where on the other tables lie: after the BIOS areas.
 const FIRST: u64 = 0x100000;
 
 /// Whether two tables share a byte.

@@ -21,7 +21,7 @@ fn aligned(address: u128) -> u128
 }
 
 /// The address of so many bytes: the least multiple of 16 from an address on, or where they would
-/// touch what lies already, the least one behind that; `None` where they end above 2^64 - 1.
+/// touch what lies already, the least one after that; `None` where they end above 2^64 - 1.
 #[tactic(auto, unfolding(crate::specs::Place::place_at, crate::specs::Place::start_at))]
 pub(crate) fn place_one(fixed: &PlacedTable<'_>, from: u64, count: usize) -> Option<u64>
     requires { end_of (placed_region fixed.now) < 2 ^ 64 }

@@ -29,7 +29,7 @@ fn files_named<'c, 'w>(asked: &'c Option<Command<'w>>) -> &'c [&'w str]
 /// Saves an image, and prints what lies where in it, or why it isn't saved. It answers the status: 0
 /// if it is saved, and else 1.
 ///
-/// Refuses if a write or memory is refused.
+/// Refuses if a write is refused or memory runs out.
 fn save_image<S: Storage, W: Write, E: Write>(
     alloc: Global,
     command: &Command<'_>,
@@ -61,7 +61,7 @@ fn save_image<S: Storage, W: Write, E: Write>(
 
 /// Does what follows of what a run comes to: saves the image, if there is one. It answers the status.
 ///
-/// Refuses if a write or memory is refused.
+/// Refuses if a write is refused or memory runs out.
 fn finish<S: Storage, W: Write, E: Write>(
     alloc: Global,
     asked: &Option<Command<'_>>,

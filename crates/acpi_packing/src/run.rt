@@ -43,7 +43,7 @@ fn packed(alloc: Global, form: &Form, files: &[FileBytes<'_>]) -> Result<Vec<u8>
 
 /// Puts a line for each of these files, which are left out.
 ///
-/// Refuses if memory is refused.
+/// Refuses if it runs out of memory.
 fn put_left_out(
     text: &mut String,
     names: &[&str],
@@ -61,7 +61,7 @@ fn put_left_out(
 
 /// A line for each file of a command that is left out.
 ///
-/// Refuses if memory is refused.
+/// Refuses if it runs out of memory.
 fn left_out(
     alloc: Global,
     form: &Form,
@@ -94,7 +94,7 @@ fn refused_name<'w>(command: &Command<'w>, refusal: Refusal) -> &'w str
 
 /// The line that says why nothing is packed.
 ///
-/// Refuses where memory is refused.
+/// Refuses if it runs out of memory.
 fn refused_line(
     alloc: Global,
     command: &Command<'_>,
@@ -110,7 +110,7 @@ fn refused_line(
 
 /// The line on the usage.
 ///
-/// Refuses where memory is refused.
+/// Refuses if it runs out of memory.
 fn usage_line(alloc: Global) -> Result<String, AllocError>
     ensures { IfOk result (λ t. string_bytes t ≡ usage_line) }
 {

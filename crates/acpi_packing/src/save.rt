@@ -15,7 +15,7 @@ use std::os::unix::fs::{MetadataExt, OpenOptionsExt};
 /// refused before a file beside it is.
 #[derive(Clone, Copy, Debug, PartialEq, Eq)]
 pub enum SaveError {
-    /// What has its name is no regular file: a folder, a device, a pipe, a socket, or a symbolic
+    /// What has its name is not a regular file: a folder, a device, a pipe, a socket, or a symbolic
     /// link, wherever that leads.
     NotAFile,
     /// It is one of the files that are packed.

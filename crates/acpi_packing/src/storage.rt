@@ -61,7 +61,7 @@ impl<'r> HostStorage<'r> {
 
 /// Copies of these texts.
 ///
-/// Refuses if memory is refused.
+/// Refuses if it runs out of memory.
 fn copies_of(alloc: Global, texts: &[&str]) -> Result<Vec<String>, AllocError>
     ensures { IfOk result (λ v. map string_bytes v.items ≡ map (λ t. t.now) texts.now) }
 {

@@ -57,7 +57,7 @@ full_ends given file (Ok s) a c d runs_out one grows =
     inr (one, runs_out, one_line a c d (refusal_line (codes "OutOfMemory")) grows)
 full_ends given file (Err e) a c d runs_out one grows = tt
 
--- the file spells no memory
+-- the file encodes no memory
 pub unspelled_ends : {E : Type 0} (given : Option Root) (file : Option (List ℕ))
     (root : Root) (bytes : List ℕ) (e : ImageError) (r : Result ℕ E)
     (a c d : Option (List ℕ))

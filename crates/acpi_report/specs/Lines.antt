@@ -44,7 +44,7 @@ abbrev pub number_or_none : Option ℕ → List ℕ
 number_or_none (Some number) = decimal number
 number_or_none None = codes "none"
 
--- NAME N, behind a space
+-- NAME N, after a space
 abbrev pub number_words : List ℕ → Option ℕ → List ℕ
 number_words name number = codes " " ++ (name ++ (codes " " ++ number_or_none number))
 
@@ -59,7 +59,7 @@ abbrev pub lines_or_refusal : {X : Type 0} → List ℕ → (X → List ℕ) →
 lines_or_refusal part lines (Ok x) = lines x
 lines_or_refusal part lines (Err e) = refused_line part e
 
--- the text is what is defined for a part, or says that memory is refused, where it asks for memory
+-- the text is what is defined for a part, or says that memory runs out, where it asks for memory
 abbrev pub IsPartText : Type 0 → List ℕ → List ℕ → List ℕ → Type 0
 IsPartText Asks part defined text =
     (text ≡ defined) ⊎ (Asks × (text ≡ refused_line part AllocError))

@@ -42,7 +42,7 @@ lines_of platform pci m opened = let ps = pointers_in opened in
     ++ spcr_lines m ps
 
 -- the text is all lines, with those that are defined for the platform and the PCI regions, or with
--- the one that says that memory is refused, where they ask for it
+-- the one that says that memory runs out, where they ask for it
 pub record IsLines (m : Memory) (opened : Opened) (text : List ℕ) : Type 0 where
   pub platform : List ℕ
   pub pci : List ℕ

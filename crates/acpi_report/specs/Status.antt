@@ -12,7 +12,7 @@ abbrev pub status_of : {A E : Type 0} → Result A E → ℕ
 status_of (Ok found) = 0
 status_of (Err refusal) = 1
 
--- the same over the memory that a file spells
+-- the same over the memory that a file encodes
 abbrev pub status_over : Root → Result Memory ImageError → ℕ
 status_over root (Ok m) = status_of (opened_for m root)
 status_over root (Err refusal) = 1

@@ -36,7 +36,7 @@ pub fn run<W: Write, E: Write>(
     out: &mut W,
     err: &mut E,
 ) -> u8
-    // The status is the one that is defined, or 1 where a write or memory is refused.
+    // The status is the one that is defined, or 1 if a write is refused or memory runs out.
     ensures status { result ≢ 1 →
         result ≡ status_for (map (λ w. w.now) words.now) (option_copied image.entry) }
     // What is printed then is what is defined, and nothing else.

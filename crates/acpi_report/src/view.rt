@@ -26,7 +26,7 @@ fn first_of<'f>(contents: &[Option<&'f [u8]>]) -> Option<&'f [u8]>
 /// that the first of them names is read, and no other, and for no command none. It answers the
 /// status, which is that of `run`, and gives the outputs back.
 ///
-/// Refuses with what the first refused write or flush is refused with, or if memory is refused for
+/// Refuses with what the first refused write or flush is refused with, or if memory runs out for
 /// the list of files or for gathering the outputs.
 pub fn view<F: Files, W: Write + Drop, E: Write + Drop>(
     alloc: Global,

@@ -64,7 +64,7 @@ fn asked<H: AcpiHandler>(alloc: Global, handler: &H, question: &str) -> Result<S
     }
 }
 
-/// Where a search finds an RSDP, and how many bytes it has: in the areas behind `areas`, or else in
+/// Where a search finds an RSDP, and how many bytes it has: in the areas after `areas`, or else in
 /// those of a BIOS.
 fn searched<H: AcpiHandler>(
     alloc: Global,
@@ -79,8 +79,8 @@ fn searched<H: AcpiHandler>(
     Ok((found.physical_start(), found.region_length()))
 }
 
-/// The tables that a way in opens: `bios`, `candidate`, the areas behind `areas`, or the address of
-/// an RSDP behind `rsdp` or of a root table behind its revision.
+/// The tables that a way in opens: `bios`, `candidate`, the areas after `areas`, or the address of
+/// an RSDP after `rsdp` or of a root table after its revision.
 fn opened<'h, H: AcpiHandler>(
     alloc: Global,
     handler: &'h H,

@@ -6,7 +6,7 @@ use acpi_testkit::samples::front;
 use std::alloc::{AllocError, Global};
 
 /// What bytes answer: the sum of the first of them, or the sums of the first 0 to 131 of those
-/// behind an offset.
+/// after an offset.
 pub(crate) fn answer(alloc: Global, bytes: &[u8], question: &str) -> Result<String, AllocError> {
     let (words, number) = question.rsplit_once(' ').unwrap_or((question, ""));
     let number = number.parse::<u16>().unwrap_or(0) as usize;

@@ -87,7 +87,7 @@ impl<'c> Clone for Counted<'c> {
 }
 
 /// How many items there are after a slice of so many is made, after it is cloned, after it is
-/// dropped, and after the clone is. `None` if memory is refused.
+/// dropped, and after the clone is. `None` if memory runs out.
 fn counts_of(alloc: Global, count: usize) -> Option<[u32; 4]> {
     let alive = Cell::new(0);
     let slice = ManagedSlice::new(alloc, count, Counted::new(&alive)).ok()?;

@@ -1,4 +1,4 @@
-//! Bytes that are spelled in parts.
+//! Bytes that are encoded in parts.
 
 /// What stands at which offset.
 pub(crate) type Part = (usize, &'static [u8]);
@@ -37,7 +37,7 @@ impl Room {
         self.length = self.length.wrapping_add(bytes.len());
     }
 
-    /// The spelled bytes.
+    /// The encoded bytes.
     pub(crate) fn of(bytes: Bytes) -> Room {
         let mut room = Room::EMPTY;
         for (offset, part) in bytes.parts {

@@ -21,7 +21,7 @@ const FACS: Bytes = Bytes {
     parts: &[(0, b"FACS\x24")],
 };
 
-/// A table whose signature is no text.
+/// A table whose signature is not text.
 const ODD: Bytes = Bytes {
     length: 36,
     parts: &[(0, b"\xffAB\xfe\x24")],

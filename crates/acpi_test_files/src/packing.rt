@@ -42,7 +42,7 @@ pub(crate) struct Row {
     pub(crate) answer: Answer,
 }
 
-/// The bytes of up to five files, and behind them as many absent ones as make five.
+/// The bytes of up to five files, and after them as many absent ones as make five.
 fn rooms_of(files: &[Option<Bytes>]) -> [Option<Room>; 5] {
     let mut rooms = [None; 5];
     for index in 0..files.len().min(5) {

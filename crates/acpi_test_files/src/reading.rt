@@ -9,7 +9,7 @@ use linked_list_allocator::LocalHeap;
 use std::alloc::Global;
 use std::process::Abort;
 
-/// A record: its start, its length, and the bytes behind these.
+/// A record: its start, its length, and the bytes after these.
 type Record = (u64, u64, &'static [u8]);
 
 /// A request, by address and size, and the bytes that are lent, `None` where it is refused.
@@ -146,14 +146,14 @@ static ROWS: [Row; 13] = [
     },
 ];
 
-/// Puts a record behind those of a file.
+/// Puts a record after those of a file.
 fn put(file: &mut Room, (start, length, bytes): (u64, u64, &[u8])) {
     file.push(&start.to_le_bytes());
     file.push(&length.to_le_bytes());
     file.push(bytes);
 }
 
-/// The file of some records, cut behind so many bytes.
+/// The file of some records, cut after so many bytes.
 fn file_of(records: &[Record], left: usize) -> Room {
     let mut file = Room::EMPTY;
     for record in records {
@@ -246,7 +246,7 @@ fn lends_each_of_many_records(rt: HostRuntime) {
     }
 }
 
-/// Records behind the forty, which lie from 0x1000 to 0x1050: the start, the bytes, and why the file
+/// Records after the forty, which lie from 0x1000 to 0x1050: the start, the bytes, and why the file
 /// is refused.
 static LASTS: [(&str, u64, &[u8], Option<ImageError>); 6] = [
     ("up to the first", 0xFF0, &[7; 16], None),
@@ -266,7 +266,7 @@ fn compares_a_record_with_all_before_it(rt: HostRuntime) {
     }
 }
 
-/// How many of the fifteen lowest addresses lend a 7 and nothing behind it, for a file that is read
+/// How many of the fifteen lowest addresses lend a 7 and nothing after it, for a file that is read
 /// in a heap, some of which is used then.
 fn sevens_in(heap: &LocalHeap, file: &[u8]) -> Result<usize, ImageError> {
     let records = records_of(heap, file)?;

@@ -267,7 +267,7 @@ fn refusal_of(
     write_image(alloc, rsdp, root, revision, tables).err()
 }
 
-/// The tables of a plan, and behind them as many as make three.
+/// The tables of a plan, and after them as many as make three.
 fn three_of(places: &[Table]) -> [PlacedTable<'static>; 3] {
     let mut tables = [graphic_at(0); 3];
     for (table, (address, length)) in tables.iter_mut().zip(places) {
@@ -336,7 +336,7 @@ fn refuses_bytes_that_are_no_table(rt: HostRuntime) {
 }
 
 /// Fourteen boot graphics that touch, from 0x2000 to 0x2310, in another order than that of their
-/// addresses, and behind them one at an address.
+/// addresses, and after them one at an address.
 fn fifteen_with(address: u64) -> [PlacedTable<'static>; 15] {
     let mut tables = [graphic_at(address); 15];
     for index in 0..14usize {

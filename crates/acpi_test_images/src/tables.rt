@@ -232,7 +232,7 @@ const FACTS: [(&str, Fact); 4] = [
     ("lent", Fact::Lent),
 ];
 
-/// What is asked of the type of table that bears a signature, or of `each` of the six.
+/// What is asked of the type of table that has a signature, or of `each` of the six.
 fn of_types<H: AcpiHandler>(
     alloc: Global,
     tables: &AcpiTables<'_, H>,

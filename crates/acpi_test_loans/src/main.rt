@@ -18,7 +18,7 @@
 //! - `find NAME` looks a table up and drops it, as `search` does with an RSDP, and `search ADDRESS
 //!   LENGTH` with one in an area. `checks` says how often the table was checked.
 //! - `headers`, `ssdts` and `faults NAME` list to the end, or so many items as a number says.
-//! - `dsdt`, `platform`, `hpet`, `pci` and `wake READS` sum tables up. A number behind `platform`
+//! - `dsdt`, `platform`, `hpet`, `pci` and `wake READS` sum tables up. A number after `platform`
 //!   or `pci` is the size of a heap.
 //!
 //! Bytes under the kind `header` are asked whether they are a valid table of a name.

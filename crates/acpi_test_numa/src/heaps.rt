@@ -36,7 +36,7 @@ fn over_heap<H: AcpiHandler>(
     }
 }
 
-/// What is answered over heaps of 16 bytes, 32 and so on to 512: whether memory is refused in the first
+/// What is answered over heaps of 16 bytes, 32 and so on to 512: whether memory runs out in the first
 /// ones, and the one answer of all others.
 fn over_growing_heaps<H: AcpiHandler>(
     alloc: Global,

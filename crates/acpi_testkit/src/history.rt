@@ -33,7 +33,7 @@ pub enum Event {
 /// How many bytes of each loan a mapping should have shown.
 #[derive(Clone, Copy)]
 pub enum Shown<'s> {
-    /// As many as were asked for, or the whole table behind the header that was.
+    /// As many as were asked for, or the whole table after the header that was.
     AsAsked,
     /// These, for the granted requests in order.
     These(&'s [usize]),

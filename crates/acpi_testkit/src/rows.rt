@@ -130,7 +130,7 @@ impl Row {
         Some(self.regions.remove(index))
     }
 
-    /// Puts what a text spells.
+    /// Puts what a text encodes.
     fn put(&mut self, offset: usize, text: &str) -> bool {
         match self.regions.last_mut() {
             None => false,

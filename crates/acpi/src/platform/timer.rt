@@ -18,7 +18,7 @@ impl PmTimer {
     ghost use Rattle.acpi_fixed.specs.Brief.{brief_flags, brief_timer_block};
     ghost use Rattle.acpi.specs.Timer.{timer_from, timer_of};
 
-    /// The timer that a FADT describes, or `None` where it has none: the block of
+    /// The timer that a FADT describes, or `None` if it has none: the block of
     /// `Fadt::pm_timer_block`, and bit 8 of the flags.
     ///
     /// Refuses with `InvalidGenericAddress` where that block is refused.

@@ -2,7 +2,7 @@
 ghost use Rattle.std.specs.Prelude.{◌≡◌, ◌<◌, ◌≤◌, ◌^◌, ◌+◌};
 ghost use Rattle.acpi.specs.Search as search;
 
-/// A range of physical addresses; `end` is the first behind it.
+/// A range of physical addresses; `end` is the first after it.
 #[derive(Clone, Copy)]
 pub(crate) struct Area {
     pub(crate) start: u64,

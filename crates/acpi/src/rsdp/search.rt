@@ -26,7 +26,7 @@ fn has_signature(bytes: &[u8], offset: usize) -> bool
     signature == b"RSD PTR ".as_slice()
 }
 
-/// The least valid candidate of an area that is lent, with the 16 bytes behind it, as these bytes.
+/// The least valid candidate of an area that is lent, with the 16 bytes after it, as these bytes.
 #[tactic(auto, using(crate::proofs::Within::length_lent))]
 fn first_candidate<'h, H: Lender>(
     handler: &'h H,
@@ -59,7 +59,7 @@ fn first_candidate<'h, H: Lender>(
 
 /// The least valid candidate of an area, if it has one.
 ///
-/// Refuses with `MapFailed` where the area isn't lent with the 16 bytes behind it.
+/// Refuses with `MapFailed` where the area isn't lent with the 16 bytes after it.
 #[tactic(auto, using(crate::proofs::Asked::asked_area, crate::proofs::Asked::asked_walk), unfolding(crate::specs::Search::found_in))]
 fn search_area<'h, H: Lender>(
     handler: &'h H,
@@ -118,7 +118,7 @@ impl Rsdp {
     /// first area is 0xe0000..0x100000. The second is the first 1024 bytes of the extended BIOS
     /// data area, which begins at 16 times the word at 0x40e; where that is under 0x80000, or
     /// 0x9ffff or above, it is 0x80000..0xa0000. The second area is asked for only where the first
-    /// has no valid RSDP, and each is asked for with 16 bytes behind it. A candidate that fails any
+    /// has no valid RSDP, and each is asked for with 16 bytes after it. A candidate that fails any
     /// check is skipped, also one that isn't lent as far as its length says.
     ///
     /// Each area is asked for in one piece, so a handler whose regions follow the firmware's memory

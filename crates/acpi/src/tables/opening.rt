@@ -54,7 +54,7 @@ impl<'h, H: Lender> AcpiTables<'h, H> {
         ensures handler { IfOk result (λ t. lender_of t ≡ handler.now) }
         ensures exact { Gives (λ t. opened_of t) result
             (opened_by_rsdp (H.memory handler.now) address) }
-        // In the reader's words: the root table's bytes spell these pointers and no others.
+        // In the reader's words: the root table's bytes encode these pointers and no others.
         ensures pointers { IfOk result (λ t. SpellsPointers t) }
         // It depends on the RSDP and the root table that this leads to, and on no other byte.
         ensures footprint { let m = H.memory handler.now in
@@ -85,7 +85,7 @@ impl<'h, H: Lender> AcpiTables<'h, H> {
         requires { Allows (H.may handler.now) (opened_by_search_ranges (H.memory handler.now)) }
         ensures handler { IfOk result (λ t. lender_of t ≡ handler.now) }
         ensures exact { Gives (λ t. opened_of t) result (opened_by_search (H.memory handler.now)) }
-        // In the reader's words: the root table's bytes spell these pointers and no others.
+        // In the reader's words: the root table's bytes encode these pointers and no others.
         ensures pointers { IfOk result (λ t. SpellsPointers t) }
         // It depends on what the search asks for and the root table that the RSDP leads to.
         ensures footprint { let m = H.memory handler.now in
@@ -121,7 +121,7 @@ impl<'h, H: Lender> AcpiTables<'h, H> {
         ensures handler { IfOk result (λ t. lender_of t ≡ handler.now) }
         ensures exact { Gives (λ t. opened_of t) result
             (opened_by_rsdp (H.memory handler.now) (start_of mapping.entry)) }
-        // In the reader's words: the root table's bytes spell these pointers and no others.
+        // In the reader's words: the root table's bytes encode these pointers and no others.
         ensures pointers { IfOk result (λ t. SpellsPointers t) }
         // It depends on the RSDP and the root table that this leads to, and on no other byte.
         ensures footprint { let m = H.memory handler.now in
@@ -177,7 +177,7 @@ impl<'h, H: Lender> AcpiTables<'h, H> {
         ensures handler { IfOk result (λ t. lender_of t ≡ handler.now) }
         ensures exact { Gives (λ t. opened_of t) result
             (opened_at (H.memory handler.now) (revision, address)) }
-        // In the reader's words: the root table's bytes spell these pointers and no others.
+        // In the reader's words: the root table's bytes encode these pointers and no others.
         ensures pointers { IfOk result (λ t. SpellsPointers t) }
         // It depends on the root table and on no other byte.
         ensures footprint { let m = H.memory handler.now in

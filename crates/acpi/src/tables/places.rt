@@ -49,7 +49,7 @@ impl<'h, H: Lender> AcpiTables<'h, H> {
     }
 
     /// What each pointer of the root table leads to, in order: its address, and the header of the
-    /// table there if that is valid under the signature that it bears, or else the first refusal.
+    /// table there if that is valid under the signature that it has, or else the first refusal.
     /// There is exactly one item for each pointer.
     pub fn members(&self) -> TableMembers<'_, 'h, H>
         requires { AllowsBelow self.now header_ranges }
@@ -125,7 +125,7 @@ impl<'h, H: Lender> AcpiTables<'h, H> {
     ///
     /// A boot loader that reserves these reserves besides what is no table: the RSDP, the image of
     /// the boot graphic, and the mailbox by which processors are woken. A FACS is written by the
-    /// firmware and by the system, so a copy of it is no FACS.
+    /// firmware and by the system, so a copy of it is not a FACS.
     pub fn ranges(&self) -> TableRanges<'_, 'h, H>
         requires { AllowsBelow self.now place_ranges }
         ensures items { places_left H.memory result

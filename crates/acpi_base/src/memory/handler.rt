@@ -18,7 +18,7 @@ pub trait AcpiHandler {
     ghost memory: { Self → Memory };
 
     /// The bytes from an address on, at least `size` of them, all from one region. It answers `Ok`
-    /// exactly where the `size` bytes from that address lie whole inside one region.
+    /// exactly if the `size` bytes from that address lie whole inside one region.
     ///
     /// Refuses with `MapFailed` otherwise.
     fn map_physical_region(&self, address: u64, size: usize) -> AcpiResult<&[u8]>

@@ -3,27 +3,28 @@
 use crate::managed_slice::ManagedSlice;
 use std::alloc::{AllocError, Allocator};
 
-/// An I/O APIC (section 5.2.12.3).
+/// I/O APIC (ACPI 6.4, section 5.2.12.3).
 #[derive(Clone, Copy, Debug)]
 pub struct IoApic {
-    /// Its id.
+    /// I/O APIC ID: its id.
     pub id: u8,
-    /// The physical address of its registers.
+    /// I/O APIC Address: the physical address of its registers.
     pub address: u32,
-    /// The number of the interrupt of its first input.
+    /// Global System Interrupt Base: the global system interrupt of its first input.
     pub global_system_interrupt_base: u32,
 }
 
-/// An input of a local APIC that NMIs come to (sections 5.2.12.7 and 5.2.12.13).
+/// Local APIC NMI or Local x2APIC NMI: the LINT pin that NMIs are connected to (ACPI 6.4, sections
+/// 5.2.12.7 and 5.2.12.13).
 #[derive(Clone, Copy, Debug)]
 pub struct NmiLine {
-    /// Whose local APIC it is.
+    /// ACPI Processor UID: the processor that has the local APIC, or all of them.
     pub processor: NmiProcessor,
-    /// The input.
+    /// LINT#: the pin of that local APIC.
     pub line: LocalInterruptLine,
 }
 
-/// An input of a local APIC.
+/// LINT#: a pin of a local APIC.
 #[derive(Clone, Copy, Debug, PartialEq, Eq)]
 pub enum LocalInterruptLine {
     /// LINT0.
@@ -32,7 +33,7 @@ pub enum LocalInterruptLine {
     Lint1,
 }
 
-/// Whose local APIC an NMI comes to.
+/// The processor to whose local APIC an NMI comes.
 #[derive(Clone, Copy, Debug, PartialEq, Eq)]
 pub enum NmiProcessor {
     /// That of every processor: the id is 0xff in an entry of a local APIC, and 0xffffffff in one of a
@@ -42,67 +43,69 @@ pub enum NmiProcessor {
     ProcessorUid(u32),
 }
 
-/// The level at which an interrupt counts as raised (section 5.2.12.5).
+/// Polarity: the level at which an interrupt counts as raised (MPS INTI Flags; ACPI 6.4, section 5.2.12.5).
 #[derive(Clone, Copy, Debug, PartialEq, Eq)]
 pub enum Polarity {
-    /// The level of the bus that it comes from.
+    /// Conforms to the bus: the level of the bus that the interrupt comes from.
     SameAsBus,
-    /// The high level.
+    /// Active high.
     ActiveHigh,
-    /// The low level.
+    /// Active low.
     ActiveLow,
 }
 
-/// What raises an interrupt (section 5.2.12.5).
+/// Trigger Mode: what raises an interrupt (MPS INTI Flags; ACPI 6.4, section 5.2.12.5).
 #[derive(Clone, Copy, Debug, PartialEq, Eq)]
 pub enum TriggerMode {
-    /// What raises it on the bus that it comes from.
+    /// Conforms to the bus: what raises an interrupt on the bus that it comes from.
     SameAsBus,
-    /// The change to the level of its polarity.
+    /// Edge-triggered: by the change to the level of its polarity.
     Edge,
-    /// That level, for as long as it stays.
+    /// Level-triggered: by the level of its polarity, for as long as it stays.
     Level,
 }
 
-/// Another wiring of an ISA interrupt than one to one (section 5.2.12.5).
+/// Interrupt Source Override: an ISA interrupt that is not wired to the global system interrupt of
+/// the same number (ACPI 6.4, section 5.2.12.5).
 #[derive(Clone, Copy, Debug)]
 pub struct InterruptSourceOverride {
-    /// The interrupt on the ISA bus.
+    /// Source: the interrupt (IRQ) on the ISA bus.
     pub isa_source: u8,
-    /// The interrupt that it is wired to.
+    /// Global System Interrupt: the interrupt that the source is wired to.
     pub global_system_interrupt: u32,
-    /// The level at which it counts as raised.
+    /// Polarity: the level at which it counts as raised.
     pub polarity: Polarity,
-    /// What raises it.
+    /// Trigger Mode: what raises it.
     pub trigger_mode: TriggerMode,
 }
 
-/// An interrupt that is to be non-maskable, and so can't be a device's (section 5.2.12.6).
+/// NMI Source: an interrupt that is to be non-maskable, and so can't be a device's (ACPI 6.4, section
+/// 5.2.12.6).
 #[derive(Clone, Copy, Debug)]
 pub struct NmiSource {
-    /// The interrupt.
+    /// Global System Interrupt: the interrupt that is non-maskable.
     pub global_system_interrupt: u32,
-    /// The level at which it counts as raised.
+    /// Polarity: the level at which it counts as raised.
     pub polarity: Polarity,
-    /// What raises it.
+    /// Trigger Mode: what raises it.
     pub trigger_mode: TriggerMode,
 }
 
 /// The model of APICs: one local APIC for each processor, and I/O APICs.
 #[derive(Drop)]
 pub struct Apic<A: Allocator> {
-    /// The physical address of each processor's local APIC: that of the last entry that overrides it,
-    /// else the table's own.
+    /// Local APIC Address: the physical address of each processor's local APIC. It is that of the last
+    /// entry that overrides it, else the table's own.
     pub local_apic_address: u64,
     /// The I/O APICs, in the order of their entries.
     pub io_apics: ManagedSlice<IoApic, A>,
-    /// The inputs that NMIs come to, in the order of their entries, of both kinds.
+    /// Local APIC NMIs and Local x2APIC NMIs: the LINT pins of NMIs, in the order of their entries.
     pub local_apic_nmi_lines: ManagedSlice<NmiLine, A>,
-    /// The ISA interrupts that are wired otherwise, in the order of their entries.
+    /// Interrupt Source Overrides, in the order of their entries.
     pub interrupt_source_overrides: ManagedSlice<InterruptSourceOverride, A>,
-    /// The interrupts that are non-maskable, in the order of their entries.
+    /// NMI Sources: the interrupts that are non-maskable, in the order of their entries.
     pub nmi_sources: ManagedSlice<NmiSource, A>,
-    /// The machine has a pair of 8259 controllers too, which are to be masked.
+    /// PCAT_COMPAT: the machine has a pair of 8259 controllers too, which are to be masked.
     pub also_has_legacy_pics: bool,
 }
 

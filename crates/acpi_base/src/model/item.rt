@@ -21,23 +21,23 @@ use crate::tables::madt::{
 /// What an entry that isn't refused says.
 #[derive(Clone, Copy)]
 pub(super) enum MadtItem {
-    /// There is a processor.
+    /// Processor Local APIC or Local x2APIC: there is a processor.
     Processor {
         processor_uid: u32,
         local_apic_id: u32,
         is_enabled: bool,
     },
-    /// There is an I/O APIC.
+    /// I/O APIC: there is one.
     IoApic(IoApic),
-    /// An ISA interrupt is wired otherwise.
+    /// Interrupt Source Override: an ISA interrupt is not wired one to one.
     Override(InterruptSourceOverride),
-    /// An interrupt is non-maskable.
+    /// NMI Source: an interrupt is non-maskable.
     NmiSource(NmiSource),
-    /// NMIs come to an input.
+    /// Local APIC NMI or Local x2APIC NMI: the LINT pin.
     NmiLine(NmiLine),
-    /// The local APICs have this address.
+    /// Local APIC Address Override: the local APICs have this address.
     LocalApicAddress(u64),
-    /// How processors are woken, of which the model says nothing.
+    /// Multiprocessor Wakeup: how processors are woken, of which the model says nothing.
     Wakeup,
 }
 
@@ -118,7 +118,7 @@ fn nmi_source_item(entry: &NmiSourceEntry) -> Result<MadtItem, MadtError>
     Ok(MadtItem::NmiSource(nmi_source_of(entry)?))
 }
 
-/// The input of a local APIC that NMIs come to.
+/// Local APIC NMI: the LINT pin of a local APIC.
 #[inline(always)]
 #[tactic(auto, unfolding(crate::specs::Interrupts::item_of))]
 fn nmi_line_item(entry: &LocalApicNmiEntry) -> Result<MadtItem, MadtError>
@@ -128,7 +128,7 @@ fn nmi_line_item(entry: &LocalApicNmiEntry) -> Result<MadtItem, MadtError>
     Ok(MadtItem::NmiLine(nmi_line_of(processor, entry.nmi_line)?))
 }
 
-/// The same of a local x2APIC.
+/// Local x2APIC NMI: the LINT pin of a local x2APIC.
 #[inline(always)]
 #[tactic(auto, unfolding(crate::specs::Interrupts::item_of))]
 fn x2apic_nmi_line_item(entry: &X2ApicNmiEntry) -> Result<MadtItem, MadtError>
@@ -203,7 +203,7 @@ pub(super) fn trigger_mode_of(flags: u16) -> Result<TriggerMode, MadtError>
     }
 }
 
-/// Whose local APIC an id means, where one id stands for all.
+/// The processor that an id means, if one id stands for all processors.
 fn processor_for(all: u32, processor_uid: u32) -> NmiProcessor
     ensures { result ≡ processor_for all processor_uid }
 {
@@ -214,7 +214,7 @@ fn processor_for(all: u32, processor_uid: u32) -> NmiProcessor
     }
 }
 
-/// The input of a local APIC that NMIs come to.
+/// The LINT pin of that number, 0 or 1, for these processors' local APICs.
 fn nmi_line_of(processor: NmiProcessor, number: u8) -> Result<NmiLine, MadtError>
     ensures { result ≡ nmi_line_of processor number }
 {

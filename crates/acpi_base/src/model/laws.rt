@@ -10,42 +10,42 @@ use super::interrupt::{
 use super::processor::{Processor, ProcessorInfo, ProcessorState};
 use std::alloc::{AllocError, Allocator};
 
-/// Inputs of local APICs compare as equal exactly where they are one.
+/// Inputs of local APICs compare as equal exactly if they are one.
 pub fn line_equality(a: &LocalInterruptLine, b: &LocalInterruptLine) -> bool
     ensures { IsEquality result a.now b.now }
 {
     a == b
 }
 
-/// Whose local APIC an NMI comes to compares as equal exactly where it is one.
+/// Whose local APIC an NMI comes to compares as equal exactly if it is one.
 pub fn nmi_processor_equality(a: &NmiProcessor, b: &NmiProcessor) -> bool
     ensures { IsEquality result a.now b.now }
 {
     a == b
 }
 
-/// Polarities compare as equal exactly where they are one.
+/// Polarities compare as equal exactly if they are one.
 pub fn polarity_equality(a: &Polarity, b: &Polarity) -> bool
     ensures { IsEquality result a.now b.now }
 {
     a == b
 }
 
-/// Trigger modes compare as equal exactly where they are one.
+/// Trigger modes compare as equal exactly if they are one.
 pub fn trigger_mode_equality(a: &TriggerMode, b: &TriggerMode) -> bool
     ensures { IsEquality result a.now b.now }
 {
     a == b
 }
 
-/// States of processors compare as equal exactly where they are one.
+/// States of processors compare as equal exactly if they are one.
 pub fn state_equality(a: &ProcessorState, b: &ProcessorState) -> bool
     ensures { IsEquality result a.now b.now }
 {
     a == b
 }
 
-/// Processors compare as equal exactly where their fields are.
+/// Processors compare as equal exactly if their fields are.
 pub fn processor_equality(a: &Processor, b: &Processor) -> bool
     ensures { IsEquality result a.now b.now }
 {

@@ -1,11 +1,12 @@
-//! The inputs of one processor's local APIC that NMIs come to.
+//! The LINT pins of one processor's local APIC that NMIs are connected to.
 ghost use Rattle.std.specs.Prelude.{◌≡◌};
 ghost use Rattle.acpi_base.specs.NmiLines.{is_line_of};
 
 use super::interrupt::{Apic, NmiLine, NmiProcessor};
 use std::alloc::Allocator;
 
-/// The inputs of one processor's local APIC that NMIs come to, in the order of their entries.
+/// The LINT pins of one processor's local APIC that NMIs are connected to, in the order of their
+/// entries.
 #[derive(Debug, Drop)]
 pub struct LocalNmiLines<'a> {
     lines: &'a [NmiLine],
@@ -15,8 +16,9 @@ pub struct LocalNmiLines<'a> {
 impl<A: Allocator> Apic<A> {
     ghost use Rattle.acpi_base.specs.NmiLines.{lines_for, lines_left};
 
-    /// The inputs of the local APIC of the processor with this ACPI id that NMIs come to: those of
-    /// all processors and its own, in the order of their entries (sections 5.2.12.7 and 5.2.12.13).
+    /// The LINT pins that NMIs are connected to at the local APIC of the processor with this ACPI
+    /// Processor UID: those of all processors and its own, in the order of their entries (ACPI 6.4,
+    /// sections 5.2.12.7 and 5.2.12.13).
     ///
     /// The ids that stand for all processors in entries, 0xff and 0xffffffff, are ids like others
     /// here.
@@ -30,7 +32,7 @@ impl<A: Allocator> Apic<A> {
     }
 }
 
-/// Whether an input is one of this processor's: of all processors, or its own.
+/// Whether a LINT pin is one of this processor's: of all processors, or its own.
 fn is_line_of(line: &NmiLine, processor_uid: u32) -> bool
     ensures { result ≡ is_line_of processor_uid line.now }
 {

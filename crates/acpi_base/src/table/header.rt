@@ -71,7 +71,7 @@ impl SdtHeader {
     /// Bytes after the length are not looked at.
     ///
     /// Refuses, in this order, with `SdtInvalidSignature` where the signature is another or no
-    /// UTF-8, `SdtInvalidOemId` and `SdtInvalidTableId` where that id is no UTF-8,
+    /// UTF-8, `SdtInvalidOemId` and `SdtInvalidTableId` where that id is not valid UTF-8,
     /// `SdtInvalidLength` where the length is under 36 or past the bytes, and `SdtInvalidChecksum`.
     pub fn validate(&self, signature: Signature, bytes: &[u8]) -> AcpiResult<()>
         requires { self.now ≡ header_at bytes.now }
@@ -98,14 +98,14 @@ impl SdtHeader {
         Ok(())
     }
 
-    /// The OEM's name, or `None` where it is no UTF-8.
+    /// The OEM's name, or `None` if it is not valid UTF-8.
     pub fn oem_id(&self) -> Option<&str>
         ensures { IsTextOf result self.now.oem_id }
     {
         text_of(&self.oem_id)
     }
 
-    /// The OEM's name for this table, or `None` where it is no UTF-8.
+    /// The OEM's name for this table, or `None` if it is not valid UTF-8.
     pub fn oem_table_id(&self) -> Option<&str>
         ensures { IsTextOf result self.now.oem_table_id }
     {

@@ -231,7 +231,7 @@ impl Signature {
         self.0
     }
 
-    /// The text of its four bytes, or `None` where they are no UTF-8.
+    /// The text of its four bytes, or `None` if they are no UTF-8.
     pub fn as_str(&self) -> Option<&str>
         ensures { IsTextOf result (letters_of self.now) }
     {

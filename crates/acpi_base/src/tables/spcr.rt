@@ -210,35 +210,35 @@ impl Spcr {
         SpcrFlowControl::from_bits_truncate(self.flow_control)
     }
 
-    /// The PCI device id of the port, or `None` where that is 0xffff: it is no PCI device.
+    /// The PCI device id of the port, or `None` if that is 0xffff: it is not a PCI device.
     pub fn pci_device_id(&self) -> Option<u16>
         ensures { result ≡ device_id_of self.now }
     {
         unless(self.pci_device_id, 0xffff)
     }
 
-    /// The PCI vendor id of the port, or `None` where that is 0xffff: it is no PCI device.
+    /// The PCI vendor id of the port, or `None` if that is 0xffff: it is not a PCI device.
     pub fn pci_vendor_id(&self) -> Option<u16>
         ensures { result ≡ vendor_id_of self.now }
     {
         unless(self.pci_vendor_id, 0xffff)
     }
 
-    /// The PCI bus of the port, or `None` where that is 0.
+    /// The PCI bus of the port, or `None` if that is 0.
     pub fn pci_bus_number(&self) -> Option<u8>
         ensures { result ≡ bus_of self.now }
     {
         unless(self.pci_bus_number, 0)
     }
 
-    /// The PCI device number of the port, or `None` where that is 0.
+    /// The PCI device number of the port, or `None` if that is 0.
     pub fn pci_device_number(&self) -> Option<u8>
         ensures { result ≡ device_of self.now }
     {
         unless(self.pci_device_number, 0)
     }
 
-    /// The PCI function number of the port, or `None` where that is 0.
+    /// The PCI function number of the port, or `None` if that is 0.
     pub fn pci_function_number(&self) -> Option<u8>
         ensures { result ≡ function_of self.now }
     {
@@ -278,7 +278,7 @@ fn namespace_in<'t>(spcr: &Spcr, table: &'t [u8]) -> AcpiResult<&'t str>
     name_of(&table[offset..offset + length])
 }
 
-/// The name that bytes spell.
+/// The name that bytes encode.
 fn name_of(bytes: &[u8]) -> AcpiResult<&str>
     ensures { Shows result (name_of bytes.now) }
 {

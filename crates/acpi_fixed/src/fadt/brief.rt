@@ -11,7 +11,7 @@ use acpi_base::table::sum_refusal;
 use acpi_base::{AcpiError, AcpiResult, AcpiTable, PhysicalRecord, Signature};
 
 /// The fields of a FADT (section 5.2.9) by which the DSDT, the profile and the timer are found: a
-/// short record, since what a lookup finds is passed on by copying. It is valid exactly where the
+/// short record, since what a lookup finds is passed on by copying. It is valid exactly if the
 /// whole `Fadt` is.
 #[derive(Clone, Copy)]
 pub struct FadtBrief {

@@ -4,7 +4,7 @@ ghost use Rattle.acpi_base.specs.Bits.{has_bit};
 
 use acpi_base::bytes::has_bit;
 
-/// What the fixed hardware does and needs (section 5.2.9).
+/// Fixed Feature Flags (Flags): what the fixed hardware does and needs (ACPI 6.4, section 5.2.9).
 #[derive(Clone, Copy, Debug)]
 pub struct FixedFeatureFlags(u32);
 
@@ -18,35 +18,39 @@ impl FixedFeatureFlags {
         FixedFeatureFlags(bits)
     }
 
-    /// Whether `WBINVD` or an equivalent writes back and drops all caches, with memory coherent.
+    /// WBINVD: whether `WBINVD` or an equivalent writes back and drops all caches, with memory
+    /// coherent.
     pub fn supports_equivalent_to_wbinvd(&self) -> bool
         ensures { result ≡ has_bit (feature_bits self.now) 0 }
     {
         has_bit(self.0 as u64, 0)
     }
 
-    /// Whether `WBINVD` writes back all caches, with memory coherent, but may leave them filled.
+    /// WBINVD_FLUSH: whether `WBINVD` writes back all caches, with memory coherent, but may leave
+    /// them filled.
     pub fn wbinvd_flushes_all_caches(&self) -> bool
         ensures { result ≡ has_bit (feature_bits self.now) 1 }
     {
         has_bit(self.0 as u64, 1)
     }
 
-    /// Whether each processor has the power state C1.
+    /// PROC_C1: whether each processor has the power state C1.
     pub fn all_procs_support_c1_power_state(&self) -> bool
         ensures { result ≡ has_bit (feature_bits self.now) 2 }
     {
         has_bit(self.0 as u64, 2)
     }
 
-    /// Whether the power state C2 works with several processors too, and not with one alone.
+    /// P_LVL2_UP: whether the power state C2 works with several processors too, and not with one
+    /// alone.
     pub fn c2_configured_for_mp_system(&self) -> bool
         ensures { result ≡ has_bit (feature_bits self.now) 3 }
     {
         has_bit(self.0 as u64, 3)
     }
 
-    /// Whether the power button is handled by a control method or is absent; else it is handled by
+    /// PWR_BUTTON: whether the power button is handled by a control method or is absent; else it
+    /// is handled by
     /// fixed registers.
     pub fn power_button_is_control_method(&self) -> bool
         ensures { result ≡ has_bit (feature_bits self.now) 4 }
@@ -54,7 +58,8 @@ impl FixedFeatureFlags {
         has_bit(self.0 as u64, 4)
     }
 
-    /// Whether the sleep button is handled by a control method or is absent; else it is handled by
+    /// SLP_BUTTON: whether the sleep button is handled by a control method or is absent; else it
+    /// is handled by
     /// fixed registers.
     pub fn sleep_button_is_control_method(&self) -> bool
         ensures { result ≡ has_bit (feature_bits self.now) 5 }
@@ -62,112 +67,115 @@ impl FixedFeatureFlags {
         has_bit(self.0 as u64, 5)
     }
 
-    /// Whether a wake by the real time clock shows in no fixed register.
+    /// FIX_RTC: whether a wake by the real time clock shows in no fixed register.
     pub fn no_rtc_wake_in_fixed_register_space(&self) -> bool
         ensures { result ≡ has_bit (feature_bits self.now) 6 }
     {
         has_bit(self.0 as u64, 6)
     }
 
-    /// Whether the real time clock can wake the machine from S4.
+    /// RTC_S4: whether the real time clock can wake the machine from S4.
     pub fn rtc_wakes_system_from_s4(&self) -> bool
         ensures { result ≡ has_bit (feature_bits self.now) 7 }
     {
         has_bit(self.0 as u64, 7)
     }
 
-    /// Whether the power management timer counts 32 bits; else it counts 24.
+    /// TMR_VAL_EXT: whether the power management timer counts 32 bits; else it counts 24.
     pub fn pm_timer_is_32_bit(&self) -> bool
         ensures { result ≡ has_bit (feature_bits self.now) 8 }
     {
         has_bit(self.0 as u64, 8)
     }
 
-    /// Whether the machine can be docked.
+    /// DCK_CAP: whether the machine can be docked.
     pub fn supports_docking(&self) -> bool
         ensures { result ≡ has_bit (feature_bits self.now) 9 }
     {
         has_bit(self.0 as u64, 9)
     }
 
-    /// Whether a write of `reset_value` to the reset register resets the machine.
+    /// RESET_REG_SUP: whether a write of `reset_value` to the reset register resets the machine.
     pub fn supports_system_reset_via_fadt(&self) -> bool
         ensures { result ≡ has_bit (feature_bits self.now) 10 }
     {
         has_bit(self.0 as u64, 10)
     }
 
-    /// Whether the machine cannot be extended inside and its case is sealed.
+    /// SEALED_CASE: whether the machine cannot be extended inside and its case is sealed.
     pub fn case_is_sealed(&self) -> bool
         ensures { result ≡ has_bit (feature_bits self.now) 11 }
     {
         has_bit(self.0 as u64, 11)
     }
 
-    /// Whether the machine cannot tell if a screen, keyboard or mouse is there.
+    /// HEADLESS: whether the machine cannot tell if a screen, keyboard or mouse is there.
     pub fn system_is_headless(&self) -> bool
         ensures { result ≡ has_bit (feature_bits self.now) 12 }
     {
         has_bit(self.0 as u64, 12)
     }
 
-    /// Whether a processor instruction has to follow a write of the sleep type.
+    /// CPU_SW_SLP: whether a processor instruction has to follow a write of the sleep type.
     pub fn use_instr_after_write_to_slp_typx(&self) -> bool
         ensures { result ≡ has_bit (feature_bits self.now) 13 }
     {
         has_bit(self.0 as u64, 13)
     }
 
-    /// Whether the PM1 registers have the bits for a wake by PCI Express.
+    /// PCI_EXP_WAK: whether the PM1 registers have the bits for a wake by PCI Express.
     pub fn supports_pciexp_wake_in_pm1(&self) -> bool
         ensures { result ≡ has_bit (feature_bits self.now) 14 }
     {
         has_bit(self.0 as u64, 14)
     }
 
-    /// Whether timers should be taken from the power management timer or the HPET.
+    /// USE_PLATFORM_CLOCK: whether timers should be taken from the power management timer or the
+    /// HPET.
     pub fn use_pm_or_hpet_for_monotonically_decreasing_timers(&self) -> bool
         ensures { result ≡ has_bit (feature_bits self.now) 15 }
     {
         has_bit(self.0 as u64, 15)
     }
 
-    /// Whether the clock's status is right after a wake from S4.
+    /// S4_RTC_STS_VALID: whether the clock's status is right after a wake from S4.
     pub fn rtc_sts_is_valid_after_wakeup_from_s4(&self) -> bool
         ensures { result ≡ has_bit (feature_bits self.now) 16 }
     {
         has_bit(self.0 as u64, 16)
     }
 
-    /// Whether wake events may stay armed when the machine enters S5.
+    /// REMOTE_POWER_ON_CAPABLE: whether wake events may stay armed when the machine enters S5.
     pub fn ospm_may_leave_gpe_wake_events_armed_before_s5(&self) -> bool
         ensures { result ≡ has_bit (feature_bits self.now) 17 }
     {
         has_bit(self.0 as u64, 17)
     }
 
-    /// Whether local APICs have to use the cluster model in logical mode.
+    /// FORCE_APIC_CLUSTER_MODEL: whether local APICs have to use the cluster model in logical mode.
     pub fn lapics_must_use_cluster_model_for_logical_mode(&self) -> bool
         ensures { result ≡ has_bit (feature_bits self.now) 18 }
     {
         has_bit(self.0 as u64, 18)
     }
 
-    /// Whether local xAPICs have to use the physical destination mode.
+    /// FORCE_APIC_PHYSICAL_DESTINATION_MODE: whether local xAPICs have to use the physical
+    /// destination mode.
     pub fn local_xapics_must_use_physical_destination_mode(&self) -> bool
         ensures { result ≡ has_bit (feature_bits self.now) 19 }
     {
         has_bit(self.0 as u64, 19)
     }
 
-    /// Whether the machine has reduced hardware, with software in place of the fixed features.
+    /// HW_REDUCED_ACPI: whether the machine has reduced hardware, with software in place of the
+    /// fixed features.
     pub fn system_is_hw_reduced_acpi(&self) -> bool
         ensures { result ≡ has_bit (feature_bits self.now) 20 }
     {
         has_bit(self.0 as u64, 20)
     }
 
-    /// Whether S0 saves as much power as S3, so that S3 is of no use.
+    /// LOW_POWER_S0_IDLE_CAPABLE: whether S0 saves as much power as S3, so that S3 is of no use.
     pub fn no_benefit_to_s3(&self) -> bool
         ensures { result ≡ has_bit (feature_bits self.now) 21 }
     {
@@ -175,7 +183,7 @@ impl FixedFeatureFlags {
     }
 }
 
-/// What a PC has (section 5.2.9.3).
+/// IAPC_BOOT_ARCH, the IA-PC Boot Architecture Flags: what a PC has (ACPI 6.4, section 5.2.9.3).
 #[derive(Clone, Copy, Debug)]
 pub struct IaPcBootArchFlags(u16);
 
@@ -189,42 +197,43 @@ impl IaPcBootArchFlags {
         IaPcBootArchFlags(bits)
     }
 
-    /// Whether the machine has devices on LPC or ISA that a user can see.
+    /// LEGACY_DEVICES: whether the machine has devices on LPC or ISA that a user can see.
     pub fn legacy_devices_are_accessible(&self) -> bool
         ensures { result ≡ has_bit (pc_bits self.now) 0 }
     {
         has_bit(self.0 as u64, 0)
     }
 
-    /// Whether the motherboard has a keyboard controller at the ports 0x60 and 0x64.
+    /// 8042: whether the motherboard has a keyboard controller at the ports 0x60 and 0x64.
     pub fn motherboard_implements_8042(&self) -> bool
         ensures { result ≡ has_bit (pc_bits self.now) 1 }
     {
         has_bit(self.0 as u64, 1)
     }
 
-    /// Whether VGA hardware must not be probed blindly.
+    /// VGA Not Present: whether VGA hardware must not be probed blindly.
     pub fn dont_probe_vga(&self) -> bool
         ensures { result ≡ has_bit (pc_bits self.now) 2 }
     {
         has_bit(self.0 as u64, 2)
     }
 
-    /// Whether message signalled interrupts must not be enabled.
+    /// MSI Not Supported: whether message signalled interrupts must not be enabled.
     pub fn dont_enable_msi(&self) -> bool
         ensures { result ≡ has_bit (pc_bits self.now) 3 }
     {
         has_bit(self.0 as u64, 3)
     }
 
-    /// Whether power management of PCI Express links must not be enabled.
+    /// PCIe ASPM Controls: whether power management of PCI Express links must not be enabled.
     pub fn dont_enable_pcie_aspm(&self) -> bool
         ensures { result ≡ has_bit (pc_bits self.now) 4 }
     {
         has_bit(self.0 as u64, 4)
     }
 
-    /// Whether the clock must be used through its control method, and not by its ports.
+    /// CMOS RTC Not Present: whether the clock must be used through its control method, and not by
+    /// its ports.
     pub fn use_time_and_alarm_namespace_for_rtc(&self) -> bool
         ensures { result ≡ has_bit (pc_bits self.now) 5 }
     {
@@ -232,7 +241,7 @@ impl IaPcBootArchFlags {
     }
 }
 
-/// How an Arm machine is called (section 5.2.9.4).
+/// ARM_BOOT_ARCH, the Arm Boot Architecture Flags: how an Arm machine is called (ACPI 6.4, section 5.2.9.4).
 #[derive(Clone, Copy, Debug)]
 pub struct ArmBootArchFlags(u16);
 
@@ -246,14 +255,14 @@ impl ArmBootArchFlags {
         ArmBootArchFlags(bits)
     }
 
-    /// Whether the machine follows PSCI.
+    /// PSCI_COMPLIANT: whether the machine follows PSCI.
     pub fn implements_psci(&self) -> bool
         ensures { result ≡ has_bit (arm_bits self.now) 0 }
     {
         has_bit(self.0 as u64, 0)
     }
 
-    /// Whether PSCI is called by HVC in place of SMC.
+    /// PSCI_USE_HVC: whether PSCI is called by HVC in place of SMC.
     pub fn use_hvc_as_psci_conduit(&self) -> bool
         ensures { result ≡ has_bit (arm_bits self.now) 1 }
     {

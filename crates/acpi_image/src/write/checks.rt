@@ -90,7 +90,7 @@ pub(super) fn root_length(revision: u8, count: usize) -> usize
 
 /// Tests what is to be written.
 ///
-/// Refuses as `write_image` does, want of memory aside.
+/// Refuses as `write_image` does, lack of memory aside.
 #[tactic(auto, unfolding(crate::specs::WriteChecks::check_plan))]
 pub(super) fn check_plan<A: Allocator + Clone>(
     alloc: A,

@@ -72,7 +72,7 @@ fn shares_with_listed<A: Allocator>(starts: &BTreeMap<u64, u64, A>, place: Addre
 
 /// Lists a place by its start, which shares no byte with those that are listed.
 ///
-/// Refuses where there is no memory for it.
+/// Refuses if there is no memory for it.
 fn add_place<A: Allocator + Clone>(
     starts: &mut BTreeMap<u64, u64, A>,
     place: AddressRange,
@@ -90,7 +90,7 @@ fn add_place<A: Allocator + Clone>(
 /// Whether a table shares a byte with one before it, or with a place that is listed. Up to there it
 /// lists the tables too.
 ///
-/// Refuses where there is no memory for one.
+/// Refuses if there is no memory for one.
 fn tables_share<A: Allocator + Clone>(
     starts: &mut BTreeMap<u64, u64, A>,
     tables: &[PlacedTable<'_>],
@@ -111,7 +111,7 @@ fn tables_share<A: Allocator + Clone>(
 
 /// Whether some byte lies in two of the places, by a list of their starts.
 ///
-/// Refuses where there is no memory for the list.
+/// Refuses if there is no memory for the list.
 fn some_share_by_starts<A: Allocator + Clone>(
     alloc: A,
     rsdp: AddressRange,

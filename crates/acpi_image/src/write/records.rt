@@ -1,4 +1,4 @@
-//! The records of a written image, put into a file one behind the other.
+//! The records of a written image, put into a file one after the other.
 ghost use Rattle.std.specs.Prelude.{◌≡◌, ◌^◌, ◌<◌, ◌≤◌, ◌++◌, length, flat_map, IfErr, OnOk};
 ghost use Rattle.std.specs.List.{All};
 ghost use Rattle.acpi.specs.Root.{kind_of_revision, signature_of, width_of};
@@ -57,7 +57,7 @@ fn rsdp_to(revision: u8, root: u64) -> [u8; 36]
     }
 }
 
-/// Puts bytes behind those of a file.
+/// Puts bytes after those of a file.
 ///
 /// Refuses with `OutOfMemory` where there is none for them.
 fn put<A: Allocator>(file: &mut Vec<u8, A>, bytes: &[u8]) -> Result<(), WriteError>

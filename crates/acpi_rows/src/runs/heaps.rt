@@ -1,4 +1,4 @@
-//! What is printed where memory is refused.
+//! What is printed where memory runs out.
 
 use super::Chosen;
 use acpi::{AcpiHandler, AcpiTables, ManagedSlice};

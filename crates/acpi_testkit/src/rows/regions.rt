@@ -1,4 +1,4 @@
-//! Bytes that rows spell.
+//! Bytes that rows encode.
 
 /// Bytes that lie together, from an address on.
 #[derive(Drop)]
@@ -8,7 +8,7 @@ pub struct Region {
 }
 
 impl Region {
-    /// Puts what a text spells, and says whether it spells bytes that all have a place.
+    /// Puts what a text encodes, and says whether it encodes bytes that all have a place.
     pub(crate) fn put(&mut self, offset: usize, text: &str) -> bool {
         if let Some(quoted) = text.strip_prefix('"') {
             let letters = quoted.strip_suffix('"').unwrap_or(quoted);

@@ -3,7 +3,7 @@
 use super::put_head;
 use std::alloc::AllocError;
 
-/// What lies around each table in its record: so many bytes before it and behind it, all the same.
+/// What lies around each table in its record: so many bytes before it and after it, all the same.
 #[derive(Clone, Copy)]
 pub struct Margins {
     pub before: usize,

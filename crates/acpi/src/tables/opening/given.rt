@@ -24,7 +24,7 @@ impl<'h, H: Lender> AcpiTables<'h, H> {
         ensures handler { IfOk result (λ t. lender_of t ≡ handler.now) }
         ensures exact { Gives (λ t. opened_of t) result
             (opened_in_areas (H.memory handler.now) areas.now) }
-        // In the reader's words: the root table's bytes spell these pointers and no others.
+        // In the reader's words: the root table's bytes encode these pointers and no others.
         ensures pointers { IfOk result (λ t. SpellsPointers t) }
         // It depends on the candidates up to the one found and the root table that this leads to.
         ensures footprint { let m = H.memory handler.now in

@@ -4,16 +4,16 @@ use super::entry::EntryHeader;
 use crate::bytes::field_in;
 use crate::memory::handler::PhysicalRecord;
 
-/// A processor and its local APIC (section 5.2.12.2).
+/// Processor Local APIC: a processor and its local APIC (ACPI 6.4, section 5.2.12.2).
 #[derive(Clone, Copy, Debug)]
 pub struct LocalApicEntry {
-    /// Its type and its length.
+    /// Type and Length: the entry's type, and its length in bytes.
     pub header: EntryHeader,
-    /// The processor's ACPI id: the `_UID` of its object in the namespace.
+    /// ACPI Processor UID: the `_UID` of the processor's object in the namespace.
     pub processor_id: u8,
-    /// The id of its local APIC.
+    /// APIC ID: the id of the processor's local APIC.
     pub apic_id: u8,
-    /// Bit 0: it can be used. Bit 1: it can be enabled later.
+    /// Flags: bit 0 Enabled, the processor can be used; bit 1 Online Capable, it can be enabled later.
     pub flags: u32,
 }
 
@@ -36,16 +36,16 @@ impl PhysicalRecord for LocalApicEntry {
     }
 }
 
-/// An I/O APIC (section 5.2.12.3).
+/// I/O APIC (ACPI 6.4, section 5.2.12.3).
 #[derive(Clone, Copy, Debug)]
 pub struct IoApicEntry {
-    /// Its type and its length.
+    /// Type and Length: the entry's type, and its length in bytes.
     pub header: EntryHeader,
-    /// Its id.
+    /// I/O APIC ID: its id.
     pub io_apic_id: u8,
-    /// The physical address of its registers.
+    /// I/O APIC Address: the physical address of its registers.
     pub io_apic_address: u32,
-    /// The number of the interrupt of its first input.
+    /// Global System Interrupt Base: the global system interrupt of its first input.
     pub global_system_interrupt_base: u32,
 }
 
@@ -68,18 +68,19 @@ impl PhysicalRecord for IoApicEntry {
     }
 }
 
-/// Another wiring of an ISA interrupt than one to one (section 5.2.12.5).
+/// Interrupt Source Override: an ISA interrupt that is not wired to the global system interrupt of
+/// the same number (ACPI 6.4, section 5.2.12.5).
 #[derive(Clone, Copy, Debug)]
 pub struct InterruptSourceOverrideEntry {
-    /// Its type and its length.
+    /// Type and Length: the entry's type, and its length in bytes.
     pub header: EntryHeader,
-    /// 0: ISA. There is no other.
+    /// Bus: 0 for ISA, the only bus that is defined.
     pub bus: u8,
-    /// The interrupt on that bus.
+    /// Source: the interrupt (IRQ) on that bus.
     pub irq: u8,
-    /// The interrupt that it is wired to.
+    /// Global System Interrupt: the interrupt that the source is wired to.
     pub global_system_interrupt: u32,
-    /// Bits 0 and 1 the polarity, bits 2 and 3 the trigger mode.
+    /// MPS INTI Flags: bits 0 and 1 the polarity, bits 2 and 3 the trigger mode.
     pub flags: u16,
 }
 
@@ -103,14 +104,14 @@ impl PhysicalRecord for InterruptSourceOverrideEntry {
     }
 }
 
-/// An interrupt that is to be non-maskable (section 5.2.12.6).
+/// NMI Source: an interrupt that is to be non-maskable (ACPI 6.4, section 5.2.12.6).
 #[derive(Clone, Copy, Debug)]
 pub struct NmiSourceEntry {
-    /// Its type and its length.
+    /// Type and Length: the entry's type, and its length in bytes.
     pub header: EntryHeader,
-    /// Bits 0 and 1 the polarity, bits 2 and 3 the trigger mode.
+    /// MPS INTI Flags: bits 0 and 1 the polarity, bits 2 and 3 the trigger mode.
     pub flags: u16,
-    /// The interrupt.
+    /// Global System Interrupt: the interrupt that is non-maskable.
     pub global_system_interrupt: u32,
 }
 
@@ -132,16 +133,17 @@ impl PhysicalRecord for NmiSourceEntry {
     }
 }
 
-/// The input of a local APIC that NMIs come to (section 5.2.12.7).
+/// Local APIC NMI: the LINT pin of a local APIC that NMIs are connected to (ACPI 6.4, section
+/// 5.2.12.7).
 #[derive(Clone, Copy, Debug)]
 pub struct LocalApicNmiEntry {
-    /// Its type and its length.
+    /// Type and Length: the entry's type, and its length in bytes.
     pub header: EntryHeader,
-    /// The processor's ACPI id; 0xff for all.
+    /// ACPI Processor UID: the `_UID` of the processor's object; 0xff for all processors.
     pub processor_id: u8,
-    /// Bits 0 and 1 the polarity, bits 2 and 3 the trigger mode.
+    /// MPS INTI Flags: bits 0 and 1 the polarity, bits 2 and 3 the trigger mode.
     pub flags: u16,
-    /// The input: 0 for LINT0, 1 for LINT1.
+    /// LINT# of the local APIC: 0 for LINT0, 1 for LINT1.
     pub nmi_line: u8,
 }
 
@@ -164,13 +166,13 @@ impl PhysicalRecord for LocalApicNmiEntry {
     }
 }
 
-/// A 64-bit address of the local APICs, in place of the one that the table gives (section
-/// 5.2.12.8).
+/// Local APIC Address Override: a 64-bit address of the local APICs, in place of the 32-bit one in
+/// the MADT itself (ACPI 6.4, section 5.2.12.8).
 #[derive(Clone, Copy, Debug)]
 pub struct LocalApicAddressOverrideEntry {
-    /// Its type and its length.
+    /// Type and Length: the entry's type, and its length in bytes.
     pub header: EntryHeader,
-    /// The physical address of each processor's local APIC.
+    /// Local APIC Address: the physical address at which each processor reaches its local APIC.
     pub local_apic_address: u64,
 }
 
@@ -191,16 +193,16 @@ impl PhysicalRecord for LocalApicAddressOverrideEntry {
     }
 }
 
-/// A processor and its local x2APIC (section 5.2.12.12).
+/// Processor Local x2APIC: a processor and its local x2APIC (ACPI 6.4, section 5.2.12.12).
 #[derive(Clone, Copy, Debug)]
 pub struct LocalX2ApicEntry {
-    /// Its type and its length.
+    /// Type and Length: the entry's type, and its length in bytes.
     pub header: EntryHeader,
-    /// The id of its local x2APIC.
+    /// X2APIC ID: the id of the processor's local x2APIC.
     pub x2apic_id: u32,
-    /// Bit 0: it can be used. Bit 1: it can be enabled later.
+    /// Flags: bit 0 Enabled, the processor can be used; bit 1 Online Capable, it can be enabled later.
     pub flags: u32,
-    /// The processor's ACPI id: the `_UID` of its object in the namespace.
+    /// ACPI Processor UID: the `_UID` of the processor's object in the namespace.
     pub processor_uid: u32,
 }
 
@@ -223,16 +225,17 @@ impl PhysicalRecord for LocalX2ApicEntry {
     }
 }
 
-/// The input of a local x2APIC that NMIs come to (section 5.2.12.13).
+/// Local x2APIC NMI: the LINT pin of a local x2APIC that NMIs are connected to (ACPI 6.4, section
+/// 5.2.12.13).
 #[derive(Clone, Copy, Debug)]
 pub struct X2ApicNmiEntry {
-    /// Its type and its length.
+    /// Type and Length: the entry's type, and its length in bytes.
     pub header: EntryHeader,
-    /// Bits 0 and 1 the polarity, bits 2 and 3 the trigger mode.
+    /// MPS INTI Flags: bits 0 and 1 the polarity, bits 2 and 3 the trigger mode.
     pub flags: u16,
-    /// The processor's ACPI id; 0xffffffff for all.
+    /// ACPI Processor UID: the `_UID` of the processor's object; 0xffffffff for all processors.
     pub processor_uid: u32,
-    /// The input: 0 for LINT0, 1 for LINT1.
+    /// LINT# of the local APIC: 0 for LINT0, 1 for LINT1.
     pub nmi_line: u8,
 }
 

@@ -5,41 +5,42 @@ use crate::bytes::{field, field_in};
 use crate::extended::ExtendedField;
 use crate::memory::handler::PhysicalRecord;
 
-/// A processor and its interface to the generic interrupt controller (GIC). A field that reaches
-/// past the end of a short entry is read as if zeros followed (section 5.2.12.14).
+/// GIC CPU Interface (GICC): a processor and its interface to the generic interrupt controller. A
+/// field that reaches past the end of a short entry is read as if zeros followed (ACPI 6.4, section
+/// 5.2.12.14).
 #[derive(Clone, Copy, Debug)]
 pub struct GiccEntry {
-    /// Its type and its length.
+    /// Type and Length: the entry's type, and its length in bytes.
     pub header: EntryHeader,
-    /// The number of the interface.
+    /// CPU Interface Number: the number of the interface.
     pub cpu_interface_number: u32,
-    /// The processor's ACPI id: the `_UID` of its object in the namespace.
+    /// ACPI Processor UID: the `_UID` of the processor's object in the namespace.
     pub processor_uid: u32,
-    /// Bit 0: it can be used. Bits 1 and 2: the interrupt of the performance counters, and the
-    /// maintenance interrupt, is edge-triggered.
+    /// Flags: bit 0 Enabled, the processor can be used. Bit 1 Performance Interrupt Mode and bit 2 VGIC
+    /// Maintenance Interrupt Mode: if set, that interrupt is edge-triggered.
     pub flags: u32,
-    /// The version of the parking protocol. 0: there is none.
+    /// Parking Protocol Version: 0 if the processor has none.
     pub parking_protocol_version: u32,
-    /// The interrupt of the performance counters.
+    /// Performance Interrupt GSIV: the interrupt of the performance counters.
     pub performance_interrupt_gsiv: u32,
-    /// The physical address of the parking protocol's mailbox.
+    /// Parked Address: the physical address of the parking protocol's mailbox.
     pub parked_address: u64,
-    /// The physical address of the interface's registers.
+    /// Physical Base Address (GICC): that of the interface's registers.
     pub gic_registers_address: u64,
-    /// The physical address of the virtual interface's registers.
+    /// GICV: the physical address of the virtual interface's registers.
     pub gic_virtual_registers_address: u64,
-    /// The physical address of the registers that control the virtual interface.
+    /// GICH: the physical address of the registers that control the virtual interface.
     pub gic_hypervisor_registers_address: u64,
-    /// The maintenance interrupt of the virtual interface.
+    /// VGIC Maintenance interrupt: that of the virtual interface.
     pub vgic_maintenance_interrupt: u32,
-    /// The physical address of the processor's redistributor. 0: it lies in one of the ranges that
+    /// GICR Base Address: that of the processor's redistributor. 0: it lies in one of the ranges that
     /// `GicRedistributorEntry` gives.
     pub gicr_base_address: u64,
-    /// The processor's affinity, as in its register MPIDR.
+    /// MPIDR: the processor's affinity, as in its register of that name.
     pub mpidr: u64,
-    /// How much power it takes beside the others: less is less.
+    /// Processor Power Efficiency Class: how much power it takes next to the others; less is less.
     pub processor_power_efficiency_class: u8,
-    /// The interrupt of the profiling extension. 0: there is none.
+    /// SPE overflow Interrupt: that of the statistical profiling extension. 0: there is none.
     pub spe_overflow_interrupt: u16,
     /// The interrupt of the trace buffer, for the MADT's revision 6 and above.
     pub trbe_interrupt: ExtendedField<u16, 6>,
@@ -76,18 +77,18 @@ impl PhysicalRecord for GiccEntry {
     }
 }
 
-/// The distributor of the generic interrupt controller (section 5.2.12.15).
+/// GIC Distributor (GICD): that of the generic interrupt controller (ACPI 6.4, section 5.2.12.15).
 #[derive(Clone, Copy, Debug)]
 pub struct GicdEntry {
-    /// Its type and its length.
+    /// Type and Length: the entry's type, and its length in bytes.
     pub header: EntryHeader,
-    /// Its id.
+    /// GIC ID: the id of the distributor.
     pub gic_id: u32,
-    /// The physical address of its registers.
+    /// Physical Base Address: that of its registers.
     pub physical_base_address: u64,
-    /// The first interrupt of the distributor: reserved, and 0.
+    /// System Vector Base: the first interrupt of the distributor; reserved, and 0.
     pub system_vector_base: u32,
-    /// The version of the controller, 1 to 4. 0: the hardware tells.
+    /// GIC version: that of the controller, 1 to 4. 0: the hardware tells.
     pub gic_version: u8,
 }
 
@@ -111,20 +112,20 @@ impl PhysicalRecord for GicdEntry {
     }
 }
 
-/// A frame that turns messages into interrupts (section 5.2.12.16).
+/// GIC MSI Frame: a frame that turns messages into interrupts (ACPI 6.4, section 5.2.12.16).
 #[derive(Clone, Copy, Debug)]
 pub struct GicMsiFrameEntry {
-    /// Its type and its length.
+    /// Type and Length: the entry's type, and its length in bytes.
     pub header: EntryHeader,
-    /// Its id.
+    /// GIC MSI Frame ID: the id of the frame.
     pub frame_id: u32,
-    /// The physical address of its registers.
+    /// Physical Base Address: that of its registers.
     pub physical_base_address: u64,
-    /// Bit 0: the next two fields count, and not what the registers say.
+    /// Flags: bit 0 SPI Count/Base Select, the next two fields count and not what the registers say.
     pub flags: u32,
-    /// How many interrupts it has.
+    /// SPI Count: the number of interrupts (SPIs) of the frame.
     pub spi_count: u16,
-    /// The first of them.
+    /// SPI Base: the first interrupt (SPI) of the frame.
     pub spi_base: u16,
 }
 
@@ -149,14 +150,14 @@ impl PhysicalRecord for GicMsiFrameEntry {
     }
 }
 
-/// A range of memory that holds redistributors (section 5.2.12.17).
+/// GIC Redistributor (GICR): a range of memory that holds redistributors (ACPI 6.4, section 5.2.12.17).
 #[derive(Clone, Copy, Debug)]
 pub struct GicRedistributorEntry {
-    /// Its type and its length.
+    /// Type and Length: the entry's type, and its length in bytes.
     pub header: EntryHeader,
-    /// The physical address of the range.
+    /// Discovery Range Base Address: the physical address of the range.
     pub discovery_range_base_address: u64,
-    /// How many bytes it has.
+    /// Discovery Range Length: the number of bytes of the range.
     pub discovery_range_length: u32,
 }
 
@@ -178,14 +179,15 @@ impl PhysicalRecord for GicRedistributorEntry {
     }
 }
 
-/// A service that translates interrupts (section 5.2.12.18).
+/// GIC Interrupt Translation Service (ITS): it translates messages to interrupts (ACPI 6.4, section
+/// 5.2.12.18).
 #[derive(Clone, Copy, Debug)]
 pub struct GicInterruptTranslationServiceEntry {
-    /// Its type and its length.
+    /// Type and Length: the entry's type, and its length in bytes.
     pub header: EntryHeader,
-    /// Its id.
+    /// GIC ITS ID: the id of the service.
     pub id: u32,
-    /// The physical address of its registers.
+    /// Physical Base Address: that of its registers.
     pub physical_base_address: u64,
 }
 

@@ -4,16 +4,16 @@ use super::entry::EntryHeader;
 use crate::bytes::field_in;
 use crate::memory::handler::PhysicalRecord;
 
-/// An I/O SAPIC, which is used in place of the I/O APIC of the same id (section 5.2.12.9).
+/// I/O SAPIC: one that is used in place of the I/O APIC of the same id (ACPI 6.4, section 5.2.12.9).
 #[derive(Clone, Copy, Debug)]
 pub struct IoSapicEntry {
-    /// Its type and its length.
+    /// Type and Length: the entry's type, and its length in bytes.
     pub header: EntryHeader,
-    /// Its id.
+    /// I/O APIC ID: the id of the I/O SAPIC.
     pub io_apic_id: u8,
-    /// The number of the interrupt of its first input.
+    /// Global System Interrupt Base: the global system interrupt of its first input.
     pub global_system_interrupt_base: u32,
-    /// The physical address of its registers.
+    /// I/O SAPIC Address: the physical address of its registers.
     pub io_sapic_address: u64,
 }
 
@@ -36,20 +36,21 @@ impl PhysicalRecord for IoSapicEntry {
     }
 }
 
-/// A processor and its local SAPIC. The text after the number is not read (section 5.2.12.10).
+/// Local SAPIC: a processor and its local SAPIC. ACPI Processor UID String, the text after the
+/// number, is not read (ACPI 6.4, section 5.2.12.10).
 #[derive(Clone, Copy, Debug)]
 pub struct LocalSapicEntry {
-    /// Its type and its length.
+    /// Type and Length: the entry's type, and its length in bytes.
     pub header: EntryHeader,
-    /// The processor's ACPI id.
+    /// ACPI Processor ID: the number by which the namespace names the processor.
     pub processor_id: u8,
-    /// The id of its local SAPIC.
+    /// Local SAPIC ID: the id of the processor's local SAPIC.
     pub local_sapic_id: u8,
-    /// The extended id of its local SAPIC.
+    /// Local SAPIC EID: the extended id of the processor's local SAPIC.
     pub local_sapic_eid: u8,
-    /// Bit 0: it can be used.
+    /// Flags: bit 0 Enabled, the processor can be used.
     pub flags: u32,
-    /// The `_UID` of its object in the namespace, where that is a number.
+    /// ACPI Processor UID Value: the `_UID` of the processor's object, if that is a number.
     pub processor_uid: u32,
 }
 
@@ -74,24 +75,24 @@ impl PhysicalRecord for LocalSapicEntry {
     }
 }
 
-/// An interrupt of the platform itself (section 5.2.12.11).
+/// Platform Interrupt Source: an interrupt of the platform itself (ACPI 6.4, section 5.2.12.11).
 #[derive(Clone, Copy, Debug)]
 pub struct PlatformInterruptSourceEntry {
-    /// Its type and its length.
+    /// Type and Length: the entry's type, and its length in bytes.
     pub header: EntryHeader,
-    /// Bits 0 and 1 the polarity, bits 2 and 3 the trigger mode.
+    /// MPS INTI Flags: bits 0 and 1 the polarity, bits 2 and 3 the trigger mode.
     pub flags: u16,
-    /// 1: platform management. 2: INIT. 3: a corrected error.
+    /// Interrupt Type: 1 PMI (platform management), 2 INIT, 3 Corrected Platform Error.
     pub interrupt_type: u8,
-    /// The id of the SAPIC of the processor that it goes to.
+    /// Processor ID: the local SAPIC id of the processor that the interrupt goes to.
     pub processor_id: u8,
-    /// The extended id of that SAPIC.
+    /// Processor EID: the extended id of the local SAPIC of that processor.
     pub processor_eid: u8,
-    /// The vector that the I/O SAPIC is to give it.
+    /// I/O SAPIC Vector: the vector that the I/O SAPIC is to give the interrupt.
     pub io_sapic_vector: u8,
-    /// The interrupt.
+    /// Global System Interrupt: the interrupt.
     pub global_system_interrupt: u32,
-    /// Bit 0: the processor may be another.
+    /// Platform Interrupt Source Flags: bit 0 CPEI Processor Override, another processor may be used.
     pub platform_interrupt_source_flags: u32,
 }
 

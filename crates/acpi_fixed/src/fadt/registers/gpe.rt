@@ -33,7 +33,7 @@ fn block_from(raw: &RawAddress, byte_length: u8) -> AcpiResult<GpeBlock>
 }
 
 impl RegisterBlock {
-    /// The block by its length in bytes, or `None` where that is 0 or neither field gives an address.
+    /// The block by its length in bytes, or `None` if that is 0 or neither field gives an address.
     ///
     /// Refuses a reserved space of the extended field with `InvalidGenericAddress`.
     fn gpe(&self) -> AcpiResult<Option<GpeBlock>>
