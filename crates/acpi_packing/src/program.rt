@@ -6,8 +6,8 @@ ghost use Rattle.acpi_packing.specs.Program.{Follows, Packs, Runs, Saves, files_
 ghost use Rattle.acpi_packing.specs.Arguments.{request_in, request_of};
 
 use crate::arguments::{Command, parse_command};
-use crate::listing::record_lines;
 use crate::help::told;
+use crate::listing::record_lines;
 use crate::run::{Outcome, run};
 use crate::sources::FileBytes;
 use crate::storage::Storage;

@@ -13,7 +13,8 @@ struct Told {
     err: &'static str,
 }
 
-const HELP: &str = "usage: acpi_pack OUT memory ADDRESS FILE [ADDRESS FILE]... | tables FILE...\n       acpi_pack --help | --version\n";
+const HELP: &str =
+    "usage: acpi_pack OUT memory ADDRESS FILE [ADDRESS FILE]... | tables FILE...\n       acpi_pack --help | --version\n";
 
 const USAGE: &str = "usage: acpi_pack OUT memory ADDRESS FILE [ADDRESS FILE]... | tables FILE...\n";
 
