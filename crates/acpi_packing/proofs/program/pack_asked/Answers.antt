@@ -14,5 +14,5 @@ returns-clause-exact g c =
     packed c.finish.result _ (option_map request_of c.in_ok-asked.asked) _ _ _ c.count-start.result
     (contents c.in_ok-sources.sources.items) _ _ c.in_ok-outcome.outcome _ _ _ _ _ _ _
     c.in_ok-asked.ensures c.files_named.ensures c.in_ok-read_all.ensures.asked c.count-start.ensures
-    c.in_ok-sources.ensures (ap contents c.deref.ensures.value) c.in_ok-outcome.ensures
+    c.in_ok-sources.ensures (ap contents c.deref.ensures.value) c.in_ok-outcome.ensures.exact
     (ap contents c.deref-2.ensures.value) c.finish.ensures
