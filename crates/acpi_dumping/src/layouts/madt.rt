@@ -44,6 +44,15 @@ const GICC: &[Bit] = &[
     Bit(0, "Enabled"),
     Bit(1, "Performance Interrupt Mode"),
     Bit(2, "VGIC Maintenance interrupt Mode Flags"),
+    Bit(3, "Online Capable"),
+];
+
+const VERSIONS: &[Code] = &[
+    Code(0, "as the hardware tells"),
+    Code(1, "GICv1"),
+    Code(2, "GICv2"),
+    Code(3, "GICv3"),
+    Code(4, "GICv4"),
 ];
 
 const FRAME: &[Bit] = &[Bit(0, "SPI Count/Base Select")];
@@ -169,7 +178,7 @@ const GICD: &[Field] = &[
     Field(4, 4, "GIC ID", Decimal),
     Field(8, 8, "Physical Base Address", Plain),
     Field(16, 4, "System Vector Base", Plain),
-    Field(20, 1, "GIC version", Plain),
+    Field(20, 1, "GIC version", Codes(VERSIONS)),
     Field(21, 3, "Reserved", Plain),
 ];
 
