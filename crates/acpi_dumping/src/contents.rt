@@ -3,6 +3,7 @@
 use crate::arguments::Contents;
 use crate::fields::{print_bytes, print_fields};
 use crate::getters::print_getters;
+use crate::gtdt::print_gtdt;
 use crate::hex::print_dump;
 use crate::layouts::{Field, HEADER, Listing, entries_of, fields_of, listing_of};
 use acpi::sdt::{Signature, field};
@@ -30,6 +31,8 @@ fn print_typed<W: Write>(signature: Signature, table: &[u8], out: &mut W) -> io:
         print_fields(0, table, &[fields_of(signature)], out)
     } else if signature == Signature::SLIT {
         print_slit(table, out)
+    } else if signature == Signature::GTDT {
+        print_gtdt(table, out)
     } else {
         print_plain(signature, table, out)
     }

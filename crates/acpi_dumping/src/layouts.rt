@@ -2,6 +2,7 @@
 
 mod devices;
 mod fadt;
+pub(crate) mod gtdt;
 mod madt;
 mod numa;
 

@@ -8,6 +8,7 @@ mod arguments;
 mod contents;
 mod fields;
 mod getters;
+mod gtdt;
 mod hex;
 mod layouts;
 mod listing;
