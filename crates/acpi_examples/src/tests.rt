@@ -70,7 +70,7 @@ impl MemoryMap for Reserved {
 }
 
 /// What a boot loader reserves whose memory lies from 0x1000 on.
-fn reserved(memory: &[u8]) -> AcpiResult<Reserved> {
+fn reserved_in(memory: &[u8]) -> AcpiResult<Reserved> {
     let mut map = Reserved {
         ranges: 0,
         bytes: 0,
@@ -92,7 +92,7 @@ fn the_memory_of_the_tables_is_reserved(rt: HostRuntime) {
         bytes: 140,
         last: 0x1080,
     };
-    check(&rt, "reserved", reserved(&two_tables()), Ok(wanted));
+    check(&rt, "reserved", reserved_in(&two_tables()), Ok(wanted));
 }
 
 /// RSDPs, and what is found from them.
