@@ -8,7 +8,7 @@ use Rattle.acpi_base.specs.declared.range.AddressRange.{AddressRange}
 abbrev pub holds_bus : McfgEntry → ℕ → Bool
 holds_bus e bus = nat_le e.bus_number_start bus && nat_le bus e.bus_number_end
 
--- a function's place
+-- a function's place: the bus from bit 20 on, the device from bit 15 on, the function from bit 12 on
 abbrev pub ecam_place : McfgEntry → ℕ → ℕ → ℕ → ℕ
 ecam_place e bus device function =
     e.base_address + bus * 2 ^ 20 + device * 2 ^ 15 + function * 2 ^ 12

@@ -105,7 +105,7 @@ apic_of madt items = record {
   local_apic_nmi_lines = filter_map nmi_line_in items;
   interrupt_source_overrides = filter_map override_in items;
   nmi_sources = filter_map nmi_source_in items;
-  also_has_legacy_pics = has_bit madt.flags 0;
+  also_has_legacy_pics = has_bit madt.flags 0;  -- Flags (Multiple APIC Flags), bit 0: PCAT_COMPAT
 }
 
 -- the first processor is the boot processor, and all after it are application processors
