@@ -16,11 +16,11 @@ use Rattle.acpi_fixed.specs.declared.fadt.flags.FixedFeatureFlags.{FixedFeatureF
 unfoldable pub brief_at : List ℕ → FadtBrief
 brief_at b = record {
   header = header_at b;
-  dsdt_address = field_of b 40 4;
-  preferred_pm_profile = field_of b 45 1;
-  flags = record { 0 = field_of b 112 4 };
-  x_dsdt_address = extended_number b 140;
-  pm_timer = block_at b 76 91 208;
+  dsdt_address = field_of b 40 4;  -- DSDT
+  preferred_pm_profile = field_of b 45 1;  -- Preferred_PM_Profile
+  flags = record { 0 = field_of b 112 4 };  -- Flags (Fixed Feature Flags)
+  x_dsdt_address = extended_number b 140;  -- X_DSDT
+  pm_timer = block_at b 76 91 208;  -- PM_TMR_BLK, PM_TMR_LEN, X_PM_TMR_BLK
 }
 
 abbrev pub brief_dsdt_address : FadtBrief → Result ℕ AcpiError
