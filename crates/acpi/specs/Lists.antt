@@ -29,7 +29,7 @@ valid_tables m ps = filter_map (λ p. result_ok (own_table_at m p)) ps
 abbrev pub valid_headers : Memory → List ℕ → List SdtHeader
 valid_headers m ps = filter_map (λ p. result_ok (own_header_at m p)) ps
 
--- the AML after the header of a table
+-- Definition Block: the AML after the 36 bytes of the header of a table (sections 5.2.11.1 and 5.2.11.2)
 abbrev pub stream_of : ℕ → List ℕ → AmlTable
 stream_of p table = record { address = p + 36; length = length table - 36 }
 

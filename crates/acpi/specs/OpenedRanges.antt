@@ -17,7 +17,7 @@ abbrev pub length_ranges : ℕ → Option ℕ → Ranges
 length_ranges a None = []
 length_ranges a (Some n) = (a, n) ∷ []
 
--- those of `rsdp_at`: the 36 bytes, and as many as the length says, where the checks come to that
+-- those of `rsdp_at`: the 36 bytes, and as many as Length says, if the checks come to that
 abbrev pub rsdp_ranges : Memory → ℕ → Ranges
 rsdp_ranges m a = (a, 36) ∷ do
   b ← lent m a 36
@@ -43,8 +43,8 @@ abbrev pub or_else_ranges : {A : Type 0} → Option A → Ranges → Ranges
 or_else_ranges (Some found) ranges = []
 or_else_ranges None ranges = ranges
 
--- those of `found_rsdp`: the word; where that is lent the first area's; where that is lent and has
--- no valid candidate the second's
+-- those of `found_rsdp`: the word at 40:0Eh of the BIOS data area; if that is lent, the first area's; if that is lent
+-- and has no valid candidate, the second's
 abbrev pub search_ranges : Memory → Ranges
 search_ranges m = (0x40e, 2) ∷ do
   word ← word_in m

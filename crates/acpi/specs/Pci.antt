@@ -40,7 +40,8 @@ is_of segment bus e =
 unfoldable pub region_of : List McfgEntry → ℕ → ℕ → Option McfgEntry
 region_of regions segment bus = find (is_of segment bus) regions
 
--- a function's place in a region
+-- a function's place in a region: the bus from bit 20 on, the device from bit 15 on, the function from bit 12 on (PCI
+-- Firmware Specification, section 4.1.2)
 abbrev pub place_in : McfgEntry → ℕ → ℕ → ℕ → ℕ
 place_in e bus device function =
     e.base_address + (bus - e.bus_number_start) * 2 ^ 20 + device * 2 ^ 15 + function * 2 ^ 12

@@ -37,7 +37,8 @@ dsdt_place m f = do
   table ← table_at m (plain_kind DSDT) address
   Ok (range address (length table))
 
--- the length of a FACS (section 5.2.10), whose signature and length lie where those of a header do
+-- Length of a FACS (section 5.2.10), at least 64: its Signature, at 0, and its Length, at 4, lie where those of a
+-- header do
 unfoldable pub facs_length : SdtHeader → Result ℕ AcpiError
 facs_length head = do
   _ ← holds (bytes_eq head.signature.0 FACS.0) (SdtInvalidSignature FACS)

@@ -17,7 +17,7 @@ abbrev pub signature_of : RootKind → Signature
 signature_of Rsdt = RSDT
 signature_of Xsdt = XSDT
 
--- how many bytes each of its pointers has
+-- how many bytes each of its pointers, Entry, has
 abbrev pub width_of : RootKind → ℕ
 width_of Rsdt = 4
 width_of Xsdt = 8
@@ -51,7 +51,7 @@ pieces zero width bytes = []
 pieces (suc n) width [] = []
 pieces (suc n) width (b ∷ bs) = number (take width (b ∷ bs)) ∷ pieces n width (drop width (b ∷ bs))
 
--- the pointers that the bytes after a root table's header encode
+-- the pointers that the bytes after a root table's header, from 36 on, encode: Entry
 unfoldable pub pointers : ℕ → List ℕ → List ℕ
 pointers width bytes = pieces (length bytes) width bytes
 

@@ -60,8 +60,8 @@ Makes {Mailbox = Mailbox} called before (call ∷ calls) after =
 abbrev pub reads : ℕ → List MailboxCall
 reads n = replicate n Read
 
--- what is done before the command is read: the mailbox is opened, and gets the command 0, the id,
--- the vector, the command 1
+-- what is done before Command is read: the mailbox is opened, and gets Command 0 (Noop), ApicId, WakeupVector and
+-- Command 1 (Wakeup)
 abbrev pub wakes_by : ℕ → ℕ → ℕ → List MailboxCall
 wakes_by address id vector =
     Opened address ∷ Wrote (Command 0) ∷ Wrote (ApicId id) ∷ Wrote (WakeupVector vector)
