@@ -39,23 +39,23 @@ distributor_in (kinds.Gicd e) = Some (record {
 })
 distributor_in _ = None
 
--- flags: bit 0 enabled, bits 1 and 2 how two interrupts are raised, bit 3 online capable
+-- GICC CPU Interface Flags (section 5.2.12.14): of bits 1 and 2 a 1 is Edge; bit 3 came with ACPI 6.5
 abbrev pub cpu_interface_of : ℕ → GiccEntry → GicCpuInterface
 cpu_interface_of revision e = record {
   number = e.cpu_interface_number;
   processor_uid = e.processor_uid;
   mpidr = e.mpidr;
-  is_enabled = has_bit e.flags 0;
-  is_online_capable = has_bit e.flags 3;
+  is_enabled = has_bit e.flags 0;  -- bit 0: Enabled
+  is_online_capable = has_bit e.flags 3;  -- bit 3: Online Capable
   performance_interrupt = e.performance_interrupt_gsiv;
-  performance_trigger = trigger_in e.flags 1;
+  performance_trigger = trigger_in e.flags 1;  -- bit 1: Performance Interrupt Mode
   parking_protocol_version = e.parking_protocol_version;
   parked_address = e.parked_address;
   address = e.gic_registers_address;
   virtual_address = e.gic_virtual_registers_address;
   hypervisor_address = e.gic_hypervisor_registers_address;
   maintenance_interrupt = e.vgic_maintenance_interrupt;
-  maintenance_trigger = trigger_in e.flags 2;
+  maintenance_trigger = trigger_in e.flags 2;  -- bit 2: VGIC Maintenance interrupt Mode Flags
   redistributor_address = e.gicr_base_address;
   efficiency_class = e.processor_power_efficiency_class;
   spe_overflow_interrupt = e.spe_overflow_interrupt;
@@ -78,7 +78,8 @@ translation_service_in revision (kinds.GicInterruptTranslationService e) =
     Some (record { id = e.id; address = e.physical_base_address })
 translation_service_in revision _ = None
 
--- the interrupts of a frame, where bit 0 of its flags says that the entry has them
+-- the interrupts of a frame, if bit 0 of its GIC MSI Frame Flags, SPI Count/Base Select, says that the entry has them
+-- (section 5.2.12.16)
 abbrev pub spis_of : GicMsiFrameEntry → Option SpiRange
 spis_of e =
     if has_bit e.flags 0 then Some (record { base = e.spi_base; count = e.spi_count }) else None
@@ -90,7 +91,7 @@ msi_frame_in revision _ = None
 
 -- ---- what all entries say
 
--- what each entry of some kind says, in order; the table's revision is its byte 8
+-- what each entry of some kind says, in order; Revision of the table is its byte 8
 abbrev pub items_of : {T : Type 0} → (ℕ → MadtEntry → Option T) → List ℕ → List T
 items_of said_in table = filter_map (said_in (field_of table 8 1)) (entries_of table)
 
