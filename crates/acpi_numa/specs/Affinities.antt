@@ -20,18 +20,17 @@ use Rattle.acpi_numa.specs.declared.srat.kinds.MemoryAffinity.{MemoryAffinity}
 
 -- ---- the ranges of a table
 
--- what an entry says of a range, of which bit 1 of the flags says that it can be plugged in while the
--- machine runs, and bit 2 that it is non-volatile
+-- what an entry says of a range: Hot Pluggable, that it can be plugged in while the machine runs, and NonVolatile
 abbrev pub range_at : MemoryAffinity → MemoryRange
 range_at e = record {
   domain = e.domain;
   base = e.base;
   length = e.length;
-  is_hot_pluggable = has_bit e.flags 1;
-  is_non_volatile = has_bit e.flags 2;
+  is_hot_pluggable = has_bit e.flags 1;  -- Flags, bit 1: Hot Pluggable
+  is_non_volatile = has_bit e.flags 2;  -- Flags, bit 2: NonVolatile
 }
 
--- the range of an entry, where it is one of memory, is enabled and has bytes
+-- the range of an entry, if it is one of memory, is enabled (Flags, bit 0: Enabled) and has bytes
 abbrev pub range_in : SratEntry → Option MemoryRange
 range_in (kinds.Memory e) =
     if has_bit e.flags 0 && nat_lt 0 e.length then Some (range_at e) else None
