@@ -22,8 +22,8 @@ use Rattle.acpi_arm.specs.declared.timers.SbsaWatchdog.{SbsaWatchdog}
 -- it begins with Type, one byte at 0, and Length, two bytes at 1
 abbrev pub timers_layout : EntryLayout 2
 timers_layout = record {
-  kind_place = record { at = 0; width = One };
-  length_place = record { at = 1; width = Two };
+  kind_place = record { at = 0; width = One };  -- Type
+  length_place = record { at = 1; width = Two };  -- Length
   least_lengths = 20 ∷ 28 ∷ [];
   least_of_others = 4;
 }
@@ -61,14 +61,13 @@ frames_in (suc n) bytes = frame_at bytes ∷ frames_in n (drop 40 bytes)
 abbrev pub kind_of : List ℕ → ℕ
 kind_of e = field_of e 0 1
 
--- of a GT Block: GT Block Timer Count, how many frames it has, and GT Block Timer Offset, where they begin, from the
--- structure's first byte on
+-- of a GT Block: how many frames it has, and where they begin, from the structure's first byte on
 
 abbrev pub frame_count : List ℕ → ℕ
-frame_count e = field_of e 12 4
+frame_count e = field_of e 12 4  -- GT Block Timer Count
 
 abbrev pub frames_offset : List ℕ → ℕ
-frames_offset e = field_of e 16 4
+frames_offset e = field_of e 16 4  -- GT Block Timer Offset
 
 abbrev pub frames_of : List ℕ → List GtFrame
 frames_of e = frames_in (frame_count e) (drop (frames_offset e) e)

@@ -42,11 +42,11 @@ entry_types =
 abbrev pub madt_lengths : List ℕ
 madt_lengths = map (λ k. k.0) entry_types
 
--- an entry begins with its Type, at 0, and its Length, at 1, one byte each
+-- an entry begins with its type and its length, one byte each
 abbrev pub madt_layout : EntryLayout 17
 madt_layout = record {
-  kind_place = record { at = 0; width = One };
-  length_place = record { at = 1; width = One };
+  kind_place = record { at = 0; width = One };  -- Type
+  length_place = record { at = 1; width = One };  -- Length
   least_lengths = madt_lengths;
   least_of_others = 2;
 }

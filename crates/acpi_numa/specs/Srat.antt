@@ -37,11 +37,11 @@ srat_kinds =
     (32, λ revision e. kinds.GenericInitiator (entries.generic_affinity_at e)) ∷
     (32, λ revision e. kinds.GenericPort (entries.generic_affinity_at e)) ∷ []
 
--- an entry begins with its kind, Type at 0, and its Length at 1, one byte each
+-- an entry begins with its kind and its length, one byte each
 abbrev pub srat_layout : EntryLayout 7
 srat_layout = record {
-  kind_place = record { at = 0; width = One };
-  length_place = record { at = 1; width = One };
+  kind_place = record { at = 0; width = One };  -- Type
+  length_place = record { at = 1; width = One };  -- Length
   least_lengths = map (λ k. k.0) srat_kinds;
   least_of_others = 2;
 }
