@@ -87,8 +87,10 @@ impl<'a> PlatformTimer<'a> {
     fn read(structure: &'a [u8]) -> Option<PlatformTimer<'a>>
         ensures { option_map shown_in result ≡ timer_of structure.now }
     {
+        // Type.
         match field(structure, 0, 1) {
             0 => {
+                // GT Block Timer Offset.
                 let frames = skip(structure, field(structure, 16, 4) as usize);
                 Some(PlatformTimer::GtBlock(GtBlock {
                     address: field(structure, 4, 8), // GT Block Physical address

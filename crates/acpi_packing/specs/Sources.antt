@@ -63,7 +63,7 @@ check_contents n (file ∷ files) = do
   _ ← check_content n file
   check_contents (n + 1) files
 
--- a header, and a length field that says how many bytes there are
+-- a header of 36 bytes, whose Length, at 4, says how many bytes there are (ACPI 6.4, section 5.2.6)
 unfoldable pub check_length : ℕ → List ℕ → Result (Unit {0}) Refusal
 check_length n bytes = do
   _ ← holds (nat_le 36 (length bytes)) (File n fault.Short)

@@ -203,6 +203,7 @@ fn cpu_interface_of(entry: &GiccEntry, revision: u8) -> GicCpuInterface
         processor_uid: entry.processor_uid,
         mpidr: entry.mpidr,
         is_enabled: has_bit(entry.flags as u64, 0), // Enabled
+        // Online Capable, since ACPI 6.5.
         is_online_capable: has_bit(entry.flags as u64, 3),
         performance_interrupt: entry.performance_interrupt_gsiv,
         performance_trigger: trigger_in(entry.flags, 1), // Performance Interrupt Mode

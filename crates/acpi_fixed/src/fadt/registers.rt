@@ -91,7 +91,7 @@ impl RegisterBlock {
         ensures { result ≡ usable_extended self.now.extended }
     {
         match self.extended {
-            Some(raw) if field_in(&raw, 4, 8) != 0 => Some(raw),
+            Some(raw) if field_in(&raw, 4, 8) != 0 => Some(raw), // Address
             _ => None,
         }
     }
@@ -179,6 +179,7 @@ impl Registers {
         requires { 116 ≤ length table.now }
         ensures { result ≡ registers_at table.now }
     {
+        // FADT Major Version.
         if table.len() >= 244 && field_in(table, 8, 1) >= 2 {
             Registers::read_there(table)
         } else {
