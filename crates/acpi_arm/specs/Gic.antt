@@ -28,7 +28,7 @@ use Rattle.acpi_arm.specs.declared.gic.part.GicRedistributors.{GicRedistributors
 use Rattle.acpi_arm.specs.declared.gic.part.GicTranslationService.{GicTranslationService}
 use Rattle.acpi_arm.specs.declared.gic.part.SpiRange.{SpiRange}
 
--- ---- what one entry says, in a table of a revision; nothing where it is of another kind
+-- ---- what one entry says, in a table of a revision; nothing if it is of another kind
 
 abbrev pub distributor_in : MadtEntry → Option GicDistributor
 distributor_in (kinds.Gicd e) = Some (record {
@@ -101,7 +101,7 @@ distributor_of table = do
   _ ← holds (not (is_left (cut_of table).1)) (InvalidMadt InvalidEntryLength)
   Ok (slice_get (filter_map distributor_in (entries_of table)) 0)
 
--- the lists beside a distributor; A is the allocator, of which they say nothing
+-- a distributor with the lists of a model; A is the allocator, of which they say nothing
 abbrev pub model_beside : {A : Type 0} → List ℕ → GicDistributor → GicModel A
 model_beside table distributor = record {
   distributor = distributor;
@@ -111,7 +111,7 @@ model_beside table distributor = record {
   msi_frames = items_of msi_frame_in table;
 }
 
--- the model; none where there is no distributor
+-- the model; none if there is no distributor
 abbrev pub gic_of : {A : Type 0} → List ℕ → Result (Option (GicModel A)) AcpiError
 gic_of table = do
   distributor ← distributor_of table
@@ -135,7 +135,7 @@ abbrev pub IsThere : Result (Option GicDistributor) AcpiError → Type 0
 IsThere (Ok (Some distributor)) = Unit {0}
 IsThere _ = ⊥
 
--- memory is asked for only where there is a distributor, and a list has an item
+-- memory is asked for only if there is a distributor, and a list has an item
 abbrev pub AsksMemory : List ℕ → Type 0
 AsksMemory table = IsThere (distributor_of table) × (0 < item_count table)
 
@@ -143,6 +143,6 @@ abbrev pub FoundAsks : Result (ℕ × List ℕ) AcpiError → Type 0
 FoundAsks (Ok found) = AsksMemory found.1
 FoundAsks (Err e) = ⊥
 
--- the same of the first valid MADT
+-- memory is asked for only if a valid MADT is found, and the first one has a distributor and an item of a list
 abbrev pub GicAsks : Memory → List ℕ → Type 0
 GicAsks m ps = FoundAsks (lookup m madt_kind ps)

@@ -128,7 +128,7 @@ structures_in count bytes = sound_front (cut (timers_grammar count) bytes).0
 abbrev pub timers_in : ℕ → List ℕ → List Timer
 timers_in count bytes = filter_map timer_of (structures_in count bytes)
 
--- how many of them are missing: the end is malformed where some are
+-- how many of them are missing: the end is malformed if some are
 abbrev pub missing_in : ℕ → List ℕ → ℕ
 missing_in count bytes = count - length (structures_in count bytes)
 

@@ -55,7 +55,7 @@ madt_layout = record {
 abbrev pub madt_grammar : Grammar 17
 madt_grammar = record { layout = madt_layout; most = None }
 
--- what an entry says; nothing where its type is after the last one
+-- what an entry says; nothing if its type is after the last one
 abbrev pub entry_of : List ℕ → Option MadtEntry
 entry_of e = option_map (λ k. k.1 e) (slice_get entry_types (slice_index e 0))
 

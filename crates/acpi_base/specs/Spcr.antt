@@ -125,7 +125,7 @@ flow_byte t = t.flow_control
 
 -- ---- the name in the namespace
 
--- the bytes, where they are a text
+-- the bytes, if they are a text
 abbrev pub name_of : List ℕ → Result (List ℕ) AcpiError
 name_of bytes = if is_utf8 bytes then Ok bytes else Err InvalidNamespaceString
 

@@ -35,7 +35,7 @@ brief_flags f = f.flags
 abbrev pub brief_timer_block : FadtBrief → Result (Option GenericAddress) AcpiError
 brief_timer_block f = timer_block_of f.pm_timer
 
--- what is read of a table so is what its whole record says
+-- what the brief record of a table says is what its whole record says
 abbrev pub IsBriefOf : FadtBrief → Fadt → Type 0
 IsBriefOf f whole =
     (brief_dsdt_address f ≡ dsdt_address_of whole)

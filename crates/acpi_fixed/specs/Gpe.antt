@@ -26,7 +26,7 @@ block_or None port byte_length =
     if port == 0 then Ok None
     else Ok (Some (record { space = SystemIo; address = port; byte_length = byte_length }))
 
--- the block of a pair of fields: nothing where its length is 0, before anything else
+-- the block of a pair of fields: nothing if its length is 0, before anything else
 abbrev pub gpe_of : RegisterBlock → Result (Option GpeBlock) AcpiError
 gpe_of r =
     if r.size == 0 then Ok None else block_or (usable_extended r.extended) r.address r.size

@@ -67,12 +67,12 @@ ports_at address size = do
     address = address;
   })
 
--- the extended block where its address is not 0, else the ports
+-- the extended block if its address is not 0, else the ports
 abbrev pub block_of : RegisterBlock → Result GenericAddress AcpiError
 block_of r =
     option_map_or generic_address_of (usable_extended r.extended) (ports_at r.address r.size)
 
--- the same for a block that a machine need not have: none where neither field gives an address
+-- a block that a machine need not have: none if neither field gives an address, else that of `block_of`
 abbrev pub optional_block_of : RegisterBlock → Result (Option GenericAddress) AcpiError
 optional_block_of r =
     if is_none (usable_extended r.extended) && r.address == 0 then Ok None
@@ -91,12 +91,12 @@ register_of (Some raw) = do
   register ← generic_address_of raw
   Ok (Some register)
 
--- the 64-bit address where it is there and not 0, else the 32-bit one
+-- the 64-bit address if it is there and not 0, else the 32-bit one
 abbrev pub preferred_address : Option ℕ → ℕ → ℕ
 preferred_address None narrow = narrow
 preferred_address (Some wide) narrow = if wide == 0 then narrow else wide
 
--- that address, where it is not 0
+-- the preferred address, if it is not 0
 abbrev pub address_or : AcpiError → Option ℕ → ℕ → Result ℕ AcpiError
 address_or refusal wide narrow =
     if preferred_address wide narrow == 0 then Err refusal else Ok (preferred_address wide narrow)

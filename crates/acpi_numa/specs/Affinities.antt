@@ -49,7 +49,7 @@ abbrev pub is_used_up : List ℕ → Bool
 is_used_up [] = true
 is_used_up (b ∷ rest) = false
 
--- the ranges, where the entries take all bytes of the table and each range ends below 2^64
+-- the ranges, if the entries take all bytes of the table and each range ends below 2^64
 abbrev pub affinities_of : List ℕ → Result (List MemoryRange) NumaError
 affinities_of table = do
   _ ← holds (is_used_up (cut_of table).1) InvalidEntryLength
@@ -76,7 +76,7 @@ found_affinities m ps = do
   found ← lookup m srat_kind ps
   Ok (affinities_of found.1)
 
--- memory is asked for only where a SRAT is found that isn't refused and has a range
+-- memory is asked for only if a SRAT is found that isn't refused and has a range
 abbrev pub AffinitiesAsk : Memory → List ℕ → Type 0
 AffinitiesAsk m ps = SomeRange (joined (found_affinities m ps))
 
@@ -102,7 +102,7 @@ abbrev pub IsDomainOf : List MemoryRange → ℕ → Option ℕ → Type 0
 IsDomainOf ranges address (Some domain) = IsFirstWith ranges address domain
 IsDomainOf ranges address None = AllByRecursion (λ r. LiesIn r address → ⊥) ranges
 
--- the same computed
+-- computed: whether an address lies in a range, and the domain of the first range in which it does
 abbrev pub lies_in : ℕ → MemoryRange → Bool
 lies_in address r = nat_le r.base address && nat_lt address (r.base + r.length)
 
