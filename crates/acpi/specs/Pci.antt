@@ -26,7 +26,7 @@ abbrev pub SomeRegion : Result (List McfgEntry) AcpiError → Type 0
 SomeRegion (Ok (r ∷ regions)) = Unit {0}
 SomeRegion _ = ⊥
 
--- memory is asked for only where an MCFG is found that has regions
+-- memory is asked for only if an MCFG is found that has regions
 abbrev pub RegionsAsk : Memory → List ℕ → Type 0
 RegionsAsk m ps = SomeRegion (found_regions m ps)
 

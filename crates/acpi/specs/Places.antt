@@ -67,7 +67,7 @@ led_by place m ps = do
   found ← lookup m fadt_kind ps
   place m (fadt_at found.1)
 
--- the valid members, then the DSDT and the FACS where a valid FADT leads to them
+-- the valid members, then the DSDT and the FACS if a valid FADT leads to them
 abbrev pub places_below : Memory → List ℕ → List AddressRange
 places_below m ps = filter_map (λ p. result_ok (place_at m p)) ps
     ++ cons_option (result_ok (led_by dsdt_place m ps))

@@ -55,8 +55,8 @@ pieces (suc n) width (b ∷ bs) = number (take width (b ∷ bs)) ∷ pieces n wi
 unfoldable pub pointers : ℕ → List ℕ → List ℕ
 pointers width bytes = pieces (length bytes) width bytes
 
--- the same numbers in the reader's words: they fit the width, and encoded one after the other they
--- are the bytes, followed by fewer zeros than a pointer has bytes
+-- the pointers in the reader's words: they fit the width, and encoded one after the other they are the bytes, followed
+-- by fewer zeros than a pointer has bytes
 pub record IsPointers (width : ℕ) (bytes ps : List ℕ) : Type 0 where
   pub fit : AllByRecursion (λ p. p < 256 ^ width) ps
   pub spelled : (zeros : ℕ) × (zeros < width)

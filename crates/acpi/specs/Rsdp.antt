@@ -62,7 +62,7 @@ root_of r =
     if r.revision == 0 || r.xsdt_address == 0 then root_pointer r.revision Rsdt r.rsdt_address
     else root_pointer r.revision Xsdt r.xsdt_address
 
--- the same, for the RSDP's bytes
+-- the root table that an RSDP's bytes lead to
 abbrev pub root_of_rsdp : List ℕ → RootPointer
 root_of_rsdp b = root_of (rsdp_of b)
 

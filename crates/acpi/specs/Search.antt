@@ -67,7 +67,7 @@ pub record HasNone (m : Memory) (s : Area) : Type 0 where
 abbrev pub IsSecond : Memory → Area → Type 0
 IsSecond m s = (b : List ℕ) × (at m 0x40e 2 ≡ Some b) × (s ≡ second_area (field_of b 0 2))
 
--- the least valid candidate of the first area, or where that has none, of the second
+-- the least valid candidate of the first area, or if that has none, of the second
 abbrev pub IsFound : Memory → ℕ × List ℕ → Type 0
 IsFound m found =
     (s : Area) × IsSecond m s
@@ -112,7 +112,7 @@ word_in m = do
   b ← lent m 0x40e 2
   Ok (field_of b 0 2)
 
--- what was found, or what comes later where nothing was
+-- what was found, or what comes later if nothing was
 abbrev pub or_else : {A E : Type 0} → Option A → Result A E → Result A E
 or_else (Some found) later = Ok found
 or_else None later = later

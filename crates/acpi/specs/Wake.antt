@@ -17,7 +17,7 @@ mailbox_found m ps = do
   found ← lookup m madt_kind ps
   mailbox_of found.1
 
--- what opening it answers, where each address has this answer
+-- what opening the mailbox answers, if each address has this answer
 abbrev pub opening : (ℕ → Result (Unit {0}) AcpiError) → Result ℕ AcpiError
     → Result (Unit {0}) AcpiError
 opening answers found = found >>= answers
