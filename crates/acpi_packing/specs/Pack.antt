@@ -81,7 +81,7 @@ abbrev pub unless_second : Region → List (ℕ × List ℕ) → Result (Option 
 unless_second r [] = Ok (Some r)
 unless_second r (second ∷ others) = Err (File second.0 fault.Overlap)
 
--- the DSDT at its address; it is left out where none is given
+-- the DSDT at its address; it is left out if none is given
 abbrev pub dsdt_at : Option ℕ → List (ℕ × List ℕ) → Result (Option Region) Refusal
 dsdt_at address [] = Ok None
 dsdt_at None (first ∷ others) = Ok None
@@ -127,6 +127,6 @@ file_of packed = do
   regions ← packed
   Ok (flat_map record_spelling regions)
 
--- a refusal is the one that is defined, or OutOfMemory where nothing is refused
+-- a refusal is the one that is defined, or OutOfMemory if nothing is refused
 abbrev pub RefusesOrRunsOut : Result Memory Refusal → Refusal → Type 0
 RefusesOrRunsOut packed e = (packed ≡ Err e) ⊎ ((e ≡ OutOfMemory) × IsOk packed)

@@ -70,7 +70,7 @@ check_length n bytes = do
   _ ← holds (nat_le (field_of bytes 4 4) (length bytes)) (File n fault.Short)
   holds (nat_le (length bytes) (field_of bytes 4 4)) (File n fault.Long)
 
--- the same of a table; what no root table lists is left out, whatever its length is
+-- the content and the length of a table; what no root table lists is left out, whatever its length is
 unfoldable pub check_table : ℕ → Option (List ℕ) → Result (Unit {0}) Refusal
 check_table n file = do
   _ ← check_content n file
