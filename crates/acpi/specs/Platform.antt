@@ -47,7 +47,7 @@ platform_of m ps = do
   fadt ← lookup m fadt_kind ps
   platform_beside m ps (profile_of (fadt_at fadt.1)) (timer_of (fadt_at fadt.1))
 
--- ---- lack of memory
+-- ---- out of memory
 
 -- whether the model of the table found asks for memory
 abbrev pub FoundAsks : Result (ℕ × List ℕ) AcpiError → Type 0

@@ -123,7 +123,7 @@ found_gic m ps = do
   found ← lookup m madt_kind ps
   gic_of found.1
 
--- ---- lack of memory
+-- ---- out of memory
 
 -- how many items the lists have
 abbrev pub item_count : List ℕ → ℕ

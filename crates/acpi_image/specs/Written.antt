@@ -20,7 +20,7 @@ pub record Plan : Type 0 where
   pub revision : ℕ
   pub tables : Memory
 
--- a table that a call was handed, as a region
+-- a table that a call was passed, as a region
 abbrev pub placed_region : PlacedTable → Region
 placed_region t = record { start = t.address; bytes = t.bytes.now }
 

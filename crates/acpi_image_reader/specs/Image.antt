@@ -71,7 +71,7 @@ records_in file = records_with ample file
 abbrev pub RunsOut : List ℕ → Type 0
 RunsOut file = (granted : ℕ → Bool) × (records_with granted file ≡ Err refusal.OutOfMemory)
 
--- a refusal is the one that is defined; lack of memory comes only if memory can run out
+-- a refusal is the one that is defined; OutOfMemory comes only if memory can run out
 abbrev pub Refuses : {Y : Type 0} → List ℕ → ImageError → Result Y ImageError → Type 0
 Refuses file refusal.OutOfMemory said = RunsOut file
 Refuses file refusal.Truncated said = said ≡ Err refusal.Truncated
