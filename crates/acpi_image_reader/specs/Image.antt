@@ -44,7 +44,7 @@ next_at earlier bytes = do
   _ ← holds (not (shares_any earlier found.0)) refusal.Overlap
   Ok found
 
--- ---- lack of memory in its place: granted says, for each number of regions that are kept, whether
+-- ---- OutOfMemory in its place among the refusals: granted says, for each number of regions that are kept, whether
 -- there is memory for one more
 
 -- the earlier regions, and then those of the bytes, at most n
