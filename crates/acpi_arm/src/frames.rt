@@ -6,7 +6,7 @@ use crate::interrupt::{polarity_in, trigger_in, unless_ones};
 use acpi_base::bytes::{field, has_bit, skip};
 use acpi_base::model::{Polarity, TriggerMode};
 
-/// How many bytes a frame, a GT Block Timer Structure, has (section 5.2.24.1.1).
+/// How many bytes a frame has.
 pub(crate) const FRAME_LENGTH: usize = 40;
 
 /// The interrupt of a timer (section 5.2.24.1).
