@@ -47,8 +47,8 @@ place_in e bus device function =
     e.base_address + (bus - e.bus_number_start) * 2 ^ 20 + device * 2 ^ 15 + function * 2 ^ 12
 
 -- that place, where it is an address
-abbrev pub address_in : ℕ → ℕ → ℕ → McfgEntry → Option ℕ
-address_in bus device function e =
+abbrev pub function_address : ℕ → ℕ → ℕ → McfgEntry → Option ℕ
+function_address bus device function e =
     if nat_lt (place_in e bus device function) (2 ^ 64) then Some (place_in e bus device function)
     else None
 
@@ -56,7 +56,7 @@ address_in bus device function e =
 unfoldable pub pci_address : List McfgEntry → ℕ → ℕ → ℕ → ℕ → Option ℕ
 pci_address regions segment bus device function =
     if nat_lt device 32 && nat_lt function 8
-    then option_and_then (address_in bus device function) (region_of regions segment bus)
+    then option_and_then (function_address bus device function) (region_of regions segment bus)
     else None
 
 -- a function of the same region whose address is less than 4096 from this one is this one

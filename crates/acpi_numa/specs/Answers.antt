@@ -12,4 +12,4 @@ joined (Err e) = Err (Acpi e)
 
 -- what a call answered is what is defined, or AllocError where memory may be asked for
 abbrev pub AnswersOrFull : {X : Type 0} → Type 0 → Result X NumaError → Result X NumaError → Type 0
-AnswersOrFull Asks said defined = (said ≡ defined) ⊎ (Asks × (said ≡ Err (Acpi AllocError)))
+AnswersOrFull Asks answer said = (answer ≡ said) ⊎ (Asks × (answer ≡ Err (Acpi AllocError)))
