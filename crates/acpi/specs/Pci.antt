@@ -46,7 +46,7 @@ abbrev pub place_in : McfgEntry → ℕ → ℕ → ℕ → ℕ
 place_in e bus device function =
     e.base_address + (bus - e.bus_number_start) * 2 ^ 20 + device * 2 ^ 15 + function * 2 ^ 12
 
--- that place, where it is an address
+-- that place, if it is an address
 abbrev pub function_address : ℕ → ℕ → ℕ → McfgEntry → Option ℕ
 function_address bus device function e =
     if nat_lt (place_in e bus device function) (2 ^ 64) then Some (place_in e bus device function)

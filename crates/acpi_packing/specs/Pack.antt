@@ -63,12 +63,12 @@ first_fadt [] = None
 first_fadt (table ∷ tables) =
     if begins table (codes "FACP") then Some table else first_fadt tables
 
--- the DSDT's address that a FADT gives, where it is as long as a FADT is and gives one
+-- the DSDT's address that a FADT gives, if it is as long as a FADT is and gives one
 unfoldable pub dsdt_address_in : List ℕ → Option ℕ
 dsdt_address_in fadt =
     if nat_le 116 (length fadt) then result_ok (dsdt_address_of (fadt_at fadt)) else None
 
--- the same of the first FADT among these
+-- the DSDT's address that a FADT gives, if there is a FADT
 abbrev pub address_by : Option (List ℕ) → Option ℕ
 address_by None = None
 address_by (Some fadt) = dsdt_address_in fadt
