@@ -21,8 +21,9 @@ const USAGE: &str = "usage: acpi_dump IMAGE rsdt REVISION ADDRESS | rsdp ADDRESS
        acpi_dump --help | --version";
 
 /// Runs the program on the arguments after its name, and answers the status: 0 if all is printed, 1
-/// if the file, its memory, the root table or a write is refused, memory runs out or no valid table
-/// has the signature that is asked for, and 2 if the arguments are not a command. Then no file is opened.
+/// if the file can't be read or encodes no memory, memory for its records runs out, the root table is
+/// refused, or no valid table has the signature that is asked for, and 2 if the arguments are not a command.
+/// Then no file is opened.
 ///
 /// Refuses with the refusal of the first write or flush that is refused, or if memory runs out for
 /// the list of files or for gathering an output.
