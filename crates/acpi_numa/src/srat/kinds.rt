@@ -27,7 +27,7 @@ pub struct LocalApicAffinity {
 }
 
 impl LocalApicAffinity {
-    /// What an entry's bytes mean in a table of a revision.
+    /// The entry that bytes mean in a table of a revision.
     pub(super) fn read(revision: u8, bytes: &[u8]) -> Self
         requires { 16 ≤ length bytes.now }
         ensures { result ≡ entries.local_apic_affinity_at revision bytes.now }
@@ -63,7 +63,7 @@ pub struct MemoryAffinity {
 }
 
 impl MemoryAffinity {
-    /// What an entry's bytes mean in a table of a revision.
+    /// The entry that bytes mean in a table of a revision.
     pub(super) fn read(revision: u8, bytes: &[u8]) -> Self
         requires { 40 ≤ length bytes.now }
         ensures { result ≡ entries.memory_affinity_at revision bytes.now }
@@ -108,7 +108,7 @@ pub struct LocalX2ApicAffinity {
 }
 
 impl LocalX2ApicAffinity {
-    /// What an entry's bytes mean.
+    /// The entry that bytes mean.
     pub(super) fn read(bytes: &[u8]) -> Self
         requires { 24 ≤ length bytes.now }
         ensures { result ≡ entries.local_x2apic_affinity_at bytes.now }
@@ -137,7 +137,7 @@ pub struct GiccAffinity {
 }
 
 impl GiccAffinity {
-    /// What an entry's bytes mean.
+    /// The entry that bytes mean.
     pub(super) fn read(bytes: &[u8]) -> Self
         requires { 18 ≤ length bytes.now }
         ensures { result ≡ entries.gicc_affinity_at bytes.now }
@@ -162,7 +162,7 @@ pub struct GicItsAffinity {
 }
 
 impl GicItsAffinity {
-    /// What an entry's bytes mean.
+    /// The entry that bytes mean.
     pub(super) fn read(bytes: &[u8]) -> Self
         requires { 12 ≤ length bytes.now }
         ensures { result ≡ entries.gic_its_affinity_at bytes.now }
@@ -192,7 +192,7 @@ pub struct GenericAffinity {
 }
 
 impl GenericAffinity {
-    /// What an entry's bytes mean.
+    /// The entry that bytes mean.
     pub(super) fn read(bytes: &[u8]) -> Self
         requires { 32 ≤ length bytes.now }
         ensures { result ≡ entries.generic_affinity_at bytes.now }
