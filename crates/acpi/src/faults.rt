@@ -1,4 +1,4 @@
-//! Why listed tables of a type were passed over.
+//! Why members were passed over in a lookup.
 ghost use Rattle.std.proofs.Props.{props};
 ghost use Rattle.acpi_base.specs.Ranges.{Allows};
 ghost use Rattle.acpi.specs.Footprint.{lookup_ranges};
@@ -10,9 +10,9 @@ use acpi_base::sdt::map_table;
 use acpi_base::{AcpiError, AcpiTable, Lender};
 use std::marker::PhantomData;
 
-/// The faults of the listed tables that a lookup of `T` passes over: of each one before the first
-/// that is valid for `T`, or of all where none is, in the order of the root table. A table of
-/// another signature is not a fault.
+/// The faults of the members that a lookup of `T` passes over, as `AcpiTables::faults` gives them: the
+/// members before the first one that is valid for `T`, or all members if none is, in the order of the root
+/// table. A member with another signature, refused with `SdtInvalidSignature`, is not a fault.
 #[derive(Drop)]
 pub struct TableFaults<'t, 'h, H: Lender, T: AcpiTable> {
     handler: &'h H,

@@ -1,4 +1,4 @@
-//! All tables of a type.
+//! All valid tables of a type.
 ghost use Rattle.std.proofs.Props.{props};
 ghost use Rattle.acpi_base.specs.Ranges.{Allows};
 ghost use Rattle.acpi.specs.Members.{kind_ranges};
@@ -9,8 +9,8 @@ use acpi_base::sdt::map_table;
 use acpi_base::{AcpiTable, Lender, PhysicalMapping};
 use std::marker::PhantomData;
 
-/// The listed tables that are valid for `T`, in the order of the root table. A table that is listed
-/// twice comes twice.
+/// The members of the root table that are valid for `T`, in its order, as `AcpiTables::find_tables` gives
+/// them: each is a mapping of the table. A table that is listed twice comes twice.
 #[derive(Drop)]
 pub struct FoundTables<'t, 'h, H: Lender, T: AcpiTable> {
     handler: &'h H,

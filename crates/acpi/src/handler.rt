@@ -1,4 +1,4 @@
-//! What lends physical memory, and records mapped in it.
+//! Handlers, which lend physical memory, and records mapped in it.
 
 mod region;
 mod regions;

@@ -8,8 +8,8 @@ use crate::pointers::Pointers;
 use acpi_base::Lender;
 use acpi_base::sdt::{SdtHeader, map_own_sdt};
 
-/// The headers of all listed tables that are valid under the signatures that they have, in the
-/// order of the root table. A table that is listed twice comes twice.
+/// The headers (section 5.2.6) of all members that are valid under the signatures that they have, in the
+/// order of the root table, as `AcpiTables::headers` gives them. A table that is listed twice comes twice.
 #[derive(Drop)]
 pub struct SdtHeaderIterator<'t, 'h, H: Lender> {
     handler: &'h H,

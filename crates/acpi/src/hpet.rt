@@ -1,4 +1,4 @@
-//! The High Precision Event Timer.
+//! The IA-PC High Precision Event Timer Table (HPET).
 ghost use Rattle.std.specs.Prelude.{◌≡◌};
 ghost use Rattle.acpi_base.specs.Bits.{bits_of};
 ghost use Rattle.acpi.specs.Hpet.{protection_of};
@@ -9,8 +9,8 @@ use acpi_base::sdt::SdtHeader;
 use acpi_base::table::sum_refusal;
 use acpi_base::{AcpiError, AcpiResult, AcpiTable, Lender, PhysicalRecord, Signature};
 
-/// The HPET, whose signature section 5.2.6 reserves and whose layout is the IA-PC HPET
-/// Specification's. `HpetInfo` shows what it says.
+/// The IA-PC High Precision Event Timer Table (HPET). Section 5.2.6 reserves its signature, and its layout
+/// is the IA-PC HPET Specification's. `HpetInfo` shows what it says.
 #[derive(Clone, Copy, Debug)]
 pub struct HpetTable {
     header: SdtHeader,
@@ -74,32 +74,35 @@ impl AcpiTable for HpetTable {
     ghost agrees = { (refl, refl) };
 }
 
-/// Whether the rest of the page may be accessed from the registers' base address on.
+/// Page Protection: whether accesses to the page of the timer's registers, after the registers, do no harm
+/// (the lowest 4 bits of Page Protection And OEM Attribute).
 #[derive(Clone, Copy, Debug, PartialEq, Eq)]
 pub enum PageProtection {
-    /// Nothing is promised.
+    /// Code 0: nothing is promised.
     None,
-    /// The rest of the 4 KiB may be: an access does no harm.
+    /// Code 1: the 4 KiB page is protected. An access to the rest of it does no harm.
     Protected4K,
-    /// The rest of the 64 KiB may be.
+    /// Code 2: the 64 KiB page is protected. An access to the rest of it does no harm.
     Protected64K,
-    /// Codes 3 to 15, which are reserved.
+    /// Codes 3 to 15: reserved.
     Other,
 }
 
-/// A block of event timers.
+/// An event timer block, as an HPET describes it (IA-PC HPET Specification; ACPI 6.4, section 5.2.6,
+/// reserves the signature).
 #[derive(Clone, Copy, Debug)]
 pub struct HpetInfo {
-    /// What the block is; `hardware_rev` and the calls after it show its parts.
+    /// Event Timer Block ID. `hardware_rev`, `num_comparators`, `main_counter_is_64bits`,
+    /// `legacy_irq_capable` and `pci_vendor_id` show its parts.
     pub event_timer_block_id: u32,
-    /// The physical address of its registers.
+    /// BASE_ADDRESS: the physical address of the block's registers.
     pub base_address: u64,
-    /// The number of the block, from 0 on.
+    /// HPET Number: the number of the block, counted from 0.
     pub hpet_number: u8,
-    /// How many ticks of the main counter a periodic timer takes at least, so that no interrupt is
-    /// lost.
+    /// Main Counter Minimum Clock_tick in Periodic Mode: the least period, in ticks of the main counter,
+    /// by which a periodic timer loses no interrupt.
     pub clock_tick_unit: u16,
-    /// Whether the rest of the page may be accessed.
+    /// Page Protection: whether the rest of the page of the registers may be accessed.
     pub page_protection: PageProtection,
 }
 
@@ -111,11 +114,11 @@ impl HpetInfo {
     ghost use Rattle.acpi.specs.Relocation.{Relocation};
     ghost use Rattle.acpi.specs.Tables.{of_tables};
 
-    /// What the first valid HPET says. Of the generic address in it only the space and the address
-    /// count.
+    /// The event timer block of the first valid HPET (section 5.2.6 reserves the signature). Of the
+    /// generic address in the table only the address space and the address count.
     ///
-    /// Refuses with `TableMissing` where no valid HPET is listed, and with `InvalidGenericAddress`
-    /// where its registers don't lie in memory.
+    /// Refuses, in this order, with `TableMissing` if no valid HPET is listed, and with
+    /// `InvalidGenericAddress` if the address space of its registers isn't 0, system memory.
     pub fn new<H: Lender>(tables: &AcpiTables<'_, H>) -> AcpiResult<HpetInfo>
         requires { AllowsBelow tables.now (λ m. lookup_ranges m hpet_kind) }
         ensures exact { result ≡ of_tables tables.now hpet_of }
@@ -137,7 +140,7 @@ impl HpetInfo {
         HpetInfo::of(&table)
     }
 
-    /// What a table says.
+    /// The event timer block that a table describes, or its refusal.
     fn of(table: &HpetTable) -> AcpiResult<HpetInfo>
         ensures { result ≡ info_of table.now }
     {
@@ -153,35 +156,38 @@ impl HpetInfo {
         })
     }
 
-    /// The revision of the hardware (bits 0 to 7 of the block's id).
+    /// Hardware Rev ID: the revision of the hardware (bits 0 to 7 of the Event Timer Block ID).
     pub fn hardware_rev(&self) -> u8
         ensures { result ≡ bits_of self.now.event_timer_block_id 0 8 }
     {
         bits(self.event_timer_block_id as u64, 0, 8) as u8 // Hardware Rev ID
     }
 
-    /// How many comparators the block has (bits 8 to 12 hold one less).
+    /// Number of Comparators: how many comparators the block has, from 1 to 32 (bits 8 to 12 of the Event
+    /// Timer Block ID, which have one less).
     pub fn num_comparators(&self) -> u8
         ensures { result ≡ bits_of self.now.event_timer_block_id 8 5 + 1 }
     {
         bits(self.event_timer_block_id as u64, 8, 5) as u8 + 1 // Number of Comparators in 1st Timer Block
     }
 
-    /// Whether the main counter has 64 bits, or else 32 (bit 13).
+    /// COUNT_SIZE_CAP: whether the main counter has 64 bits, or else 32 (bit 13 of the Event Timer Block
+    /// ID).
     pub fn main_counter_is_64bits(&self) -> bool
         ensures { result ≡ has_bit self.now.event_timer_block_id 13 }
     {
         has_bit(self.event_timer_block_id as u64, 13) // COUNT_SIZE_CAP counter size
     }
 
-    /// Whether it can stand in for the older timers' interrupts (bit 15).
+    /// LegacyReplacement IRQ Routing Capable: whether the block can replace the interrupts of the older
+    /// timers (bit 15 of the Event Timer Block ID).
     pub fn legacy_irq_capable(&self) -> bool
         ensures { result ≡ has_bit self.now.event_timer_block_id 15 }
     {
         has_bit(self.event_timer_block_id as u64, 15) // LegacyReplacement IRQ Routing Capable
     }
 
-    /// The PCI vendor id of its maker (bits 16 to 31).
+    /// PCI Vendor ID: the vendor id of the block's maker (bits 16 to 31 of the Event Timer Block ID).
     pub fn pci_vendor_id(&self) -> u16
         ensures { result ≡ bits_of self.now.event_timer_block_id 16 16 }
     {
@@ -189,7 +195,7 @@ impl HpetInfo {
     }
 }
 
-/// The page protection in the low four bits; the high four are the maker's.
+/// The page protection of the lowest 4 bits of Page Protection And OEM Attribute; the other 4 are the OEM's.
 fn protection_of(number: u8) -> PageProtection
     ensures { result ≡ protection_of (bits_of number 0 4) }
 {

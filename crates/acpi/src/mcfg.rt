@@ -1,4 +1,4 @@
-//! Where the configuration space of a PCI function lies.
+//! The addresses of the configuration space of PCI functions, by the MCFG.
 ghost use Rattle.std.specs.Prelude.{◌≡◌, ◌<◌, ◌≤◌, List, [], vec_capacity, vec_len, IfOk, IfSome, IsOk};
 ghost use Rattle.acpi_base.specs.Mcfg.{mcfg_entries_left};
 ghost use Rattle.acpi.specs.Pci.{function_address, is_of, region_of};
@@ -15,14 +15,15 @@ use std::alloc::{AllocError, Allocator, Global};
 use std::marker::Model;
 use std::ops::RangeInclusive;
 
-/// The regions of memory that hold the configuration space of PCI functions, each of them that of
-/// some buses of a segment group.
+/// The regions of memory that hold the configuration space of PCI functions, each that of some buses of a
+/// PCI segment group: the entries of an MCFG. Section 5.2.6 reserves the table's signature; its layout is
+/// the PCI Firmware Specification's (section 4.1.2).
 #[derive(Drop)]
 pub struct PciConfigRegions<A: Allocator> {
     regions: ManagedSlice<McfgEntry, A>,
 }
 
-/// In contracts it is the list of its regions.
+/// In contracts a `PciConfigRegions` is the list of its regions.
 impl<A: Allocator> Model for PciConfigRegions<A> {
     ghost Value = { List McfgEntry };
 
@@ -36,7 +37,11 @@ impl PciConfigRegions<Global> {
     ghost use Rattle.acpi.specs.Relocation.{Relocation};
     ghost use Rattle.acpi.specs.Tables.{of_tables};
 
-    /// `new_in` over the global allocator.
+    /// The regions of the first valid MCFG, in the order of the table, in memory of the global allocator
+    /// (section 5.2.6 reserves the signature).
+    ///
+    /// Refuses, in this order, with `TableMissing` if no valid MCFG is listed, and with `AllocError` if
+    /// memory is refused, and that only if the table has regions.
     pub fn new<H: Lender>(alloc: Global, tables: &AcpiTables<'_, H>) -> AcpiResult<Self>
         requires { AllowsBelow tables.now (λ m. lookup_ranges m mcfg_kind) }
         ensures exact { GivesOrFull (of_tables tables.now RegionsAsk)
@@ -60,10 +65,11 @@ impl<A: Allocator> PciConfigRegions<A> {
     ghost use Rattle.acpi.specs.Relocation.{Relocation};
     ghost use Rattle.acpi.specs.Tables.{of_tables};
 
-    /// The regions of the first valid MCFG, in the order of the table.
+    /// The regions of the first valid MCFG, in the order of the table, in memory of an allocator (section
+    /// 5.2.6 reserves the signature).
     ///
-    /// Refuses with `TableMissing` where no valid MCFG is listed, and with `AllocError` where a growth
-    /// is refused.
+    /// Refuses, in this order, with `TableMissing` if no valid MCFG is listed, and with `AllocError` if
+    /// memory is refused, and that only if the table has regions.
     pub fn new_in<H: Lender>(tables: &AcpiTables<'_, H>, allocator: A) -> AcpiResult<Self>
         requires { AllowsBelow tables.now (λ m. lookup_ranges m mcfg_kind) }
         ensures exact { GivesOrFull (of_tables tables.now RegionsAsk)
@@ -78,7 +84,7 @@ impl<A: Allocator> PciConfigRegions<A> {
         PciConfigRegions::new_in_exact(tables, allocator)
     }
 
-    /// What `new_in` answers: the first valid MCFG is looked up, and its entries are copied.
+    /// What `new_in` answers: it looks the first valid MCFG up, and copies its entries.
     fn new_in_exact<H: Lender>(tables: &AcpiTables<'_, H>, allocator: A) -> AcpiResult<Self>
         requires { AllowsBelow tables.now (λ m. lookup_ranges m mcfg_kind) }
         ensures { GivesOrFull (of_tables tables.now RegionsAsk) result
@@ -91,14 +97,13 @@ impl<A: Allocator> PciConfigRegions<A> {
         })
     }
 
-    /// The physical address of a function's configuration space: the base of the first region of the
-    /// segment group that holds the bus, and 2^20 bytes for each bus after that region's first, 2^15
-    /// for each device and 2^12 for each function.
+    /// The physical address of a PCI function's configuration space, if a region's base is that of the
+    /// region's first bus: the base of the first region of the segment group that holds the bus, plus 2^20
+    /// bytes for each bus after that region's first, 2^15 for each device and 2^12 for each function.
     ///
-    /// A base is that of the region's first bus here, as the Rust crate has it. The PCI Firmware
-    /// Specification (section 4.1.2) and Linux count it from bus 0, as `ecam_address` does, which is
-    /// what a kernel wants: the two agree only if the region's first bus is 0, and a wrong address is
-    /// another device's.
+    /// The Rust crate counts so. The PCI Firmware Specification (section 4.1.2) and Linux take the base for
+    /// that of bus 0, as `ecam_address` does, which is what a kernel wants: the two agree only if the
+    /// region's first bus is 0, and a wrong address is another device's.
     ///
     /// It is `None` if no region holds the bus, if the device is above 31 or the function above 7, and
     /// if the sum is 2^64 or more; no later region is then tried. Of the 4096 bytes of configuration
@@ -117,7 +122,7 @@ impl<A: Allocator> PciConfigRegions<A> {
         self.physical_address_exact(segment_group_no, bus, device, function)
     }
 
-    /// What `physical_address` answers: the region is found, and the sum taken in it.
+    /// What `physical_address` answers: it finds the region, and takes the sum in it.
     #[tactic(auto, unfolding(crate::specs::Pci::pci_address))]
     fn physical_address_exact(&self, segment: u16, bus: u8, device: u8, function: u8) -> Option<u64>
         ensures { result ≡ pci_address self.now segment bus device function }
@@ -129,7 +134,7 @@ impl<A: Allocator> PciConfigRegions<A> {
         function_address(&region, bus, device, function)
     }
 
-    /// Each region once, in the order of the table, those that hold no bus among them.
+    /// Each region once, in the order of the table, also those that hold no bus.
     pub fn iter(&self) -> PciConfigEntryIterator<'_>
         ensures { entries_left result ≡ self.now }
     {
@@ -139,7 +144,7 @@ impl<A: Allocator> PciConfigRegions<A> {
     }
 }
 
-/// The entries, in memory of an allocator, which is asked for once.
+/// The entries of an MCFG, in memory of an allocator, which is asked for once.
 fn collected<A: Allocator>(
     entries: McfgEntryIter<'_>,
     allocator: A,
@@ -178,7 +183,7 @@ fn is_of(region: &McfgEntry, segment: u16, bus: u8) -> bool
         && bus <= region.bus_number_end
 }
 
-/// A function's place in a region that holds its bus, where that is an address.
+/// The physical address of a function in a region that holds its bus, or `None` if it is 2^64 or more.
 fn function_address(region: &McfgEntry, bus: u8, device: u8, function: u8) -> Option<u64>
     requires bus { region.now.bus_number_start ≤ bus }
     requires device { device < 32 }
@@ -191,18 +196,20 @@ fn function_address(region: &McfgEntry, bus: u8, device: u8, function: u8) -> Op
     region.base_address.checked_add(offset)
 }
 
-/// A region of configuration space.
+/// A region of memory that holds the configuration space of PCI functions: an entry of an MCFG (PCI
+/// Firmware Specification, section 4.1.2).
 #[derive(Clone, Debug, Drop)]
 pub struct PciConfigEntry {
-    /// The segment group.
+    /// PCI Segment Group Number: the segment group of its buses.
     pub segment_group: u16,
-    /// Its buses: none where the last is under the first.
+    /// Start Bus Number and End Bus Number: its buses, none if the end is below the start.
     pub bus_range: RangeInclusive<u8>,
-    /// The region's base: by the PCI Firmware Specification that of bus 0, whatever its first bus is.
+    /// Base Address: the region's physical base. By the PCI Firmware Specification it is that of bus 0 of
+    /// the segment group, whatever the region's first bus is.
     pub physical_address: u64,
 }
 
-/// The regions of configuration space, in the order of the table.
+/// The regions of PCI configuration space, in the order of the MCFG, as `PciConfigRegions::iter` gives them.
 #[derive(Clone, Debug, Drop)]
 pub struct PciConfigEntryIterator<'a> {
     regions: &'a [McfgEntry],

@@ -1,4 +1,4 @@
-//! What each pointer of the root table leads to.
+//! The members of the root table, valid or not.
 ghost use Rattle.std.proofs.Props.{props};
 ghost use Rattle.acpi_base.specs.Ranges.{Allows};
 ghost use Rattle.acpi.specs.Footprint.{header_ranges};
@@ -8,18 +8,18 @@ use crate::pointers::Pointers;
 use acpi_base::sdt::{SdtHeader, map_own_sdt};
 use acpi_base::{AcpiResult, Lender};
 
-/// What a pointer of the root table leads to.
+/// A member of the root table: a pointer, and the header of the table there or why that is refused.
 #[derive(Clone, Copy, Debug)]
 pub struct TableMember {
-    /// The physical address that is listed.
+    /// The pointer: the physical address that the root table lists.
     pub address: u64,
-    /// The header of the table there, if that is valid under the signature that it has, or else
-    /// why it is refused.
+    /// The header of the table there (section 5.2.6), if that is valid under the signature that it has, or
+    /// else the first refusal.
     pub header: AcpiResult<SdtHeader>,
 }
 
-/// What each pointer of the root table leads to, one item for each, in order. A table that is listed
-/// twice comes twice.
+/// The members of the root table, one for each pointer, in order, as `AcpiTables::members` gives them. A
+/// table that is listed twice comes twice.
 #[derive(Drop)]
 pub struct TableMembers<'t, 'h, H: Lender> {
     handler: &'h H,

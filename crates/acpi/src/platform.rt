@@ -1,4 +1,4 @@
-//! What the platform has, as the tables say together.
+//! A machine's purpose, interrupt controllers, processors and timer, by the FADT and the MADT.
 ghost use Rattle.acpi_base.specs.Steps.{GivesOrFull};
 ghost use Rattle.acpi.specs.Footprint.{AllowsBelow, lookup_ranges, platform_ranges};
 ghost use Rattle.acpi.specs.Platform.{ModelAsks, madt_kind, model_in, platform_beside};
@@ -23,25 +23,32 @@ use std::alloc::{Allocator, Global};
 pub use timer::PmTimer;
 pub use wakeup::wakeup_aps;
 
-/// What a machine is for, its interrupt controllers and processors, and its timer.
+/// A machine's purpose, interrupt controllers, processors and power management timer, as its FADT (section
+/// 5.2.9) and its MADT (section 5.2.12) say.
 #[derive(Clone, Drop)]
 pub struct PlatformInfo<A: Allocator> {
-    /// What the FADT says the machine is for.
+    /// Preferred_PM_Profile: the machine's purpose, as the FADT says (section 5.2.9).
     pub power_profile: PowerProfile,
-    /// Which controllers interrupts come to, as the MADT says.
+    /// The interrupt controllers that the MADT describes (section 5.2.12), or `Unknown`.
     pub interrupt_model: InterruptModel<A>,
-    /// The processors that the MADT lists, or `None` where it lists none.
+    /// The processors that the MADT lists (section 5.2.12), or `None` if it lists none.
     pub processor_info: Option<ProcessorInfo<A>>,
-    /// The timer that the FADT describes, or `None` if it has none.
+    /// The power management timer that the FADT describes (section 4.8.3.3), or `None` if it has none.
     pub pm_timer: Option<PmTimer>,
 }
 
 impl PlatformInfo<Global> {
-    /// `new_in` over the global allocator.
+    /// The platform that the first valid FADT (section 5.2.9) and the first valid MADT (section 5.2.12)
+    /// describe, in memory of the global allocator. If no MADT is valid, the interrupt model is `Unknown`,
+    /// and there are no processors.
+    ///
+    /// Refuses, in this order, with `TableMissing` if no valid FADT is listed, with what
+    /// `parse_interrupt_model_in` refuses of the MADT, `AllocError` included, and with what
+    /// `PmTimer::new` refuses.
     pub fn new<H: Lender>(alloc: Global, tables: &AcpiTables<'_, H>) -> AcpiResult<Self>
         requires { AllowsBelow tables.now platform_ranges }
         ensures exact { GivesPlatform tables.now result }
-        // It depends on what the lookup of the FADT depends on, and where one is found, on what that
+        // It depends on what the lookup of the FADT depends on, and if one is found, on what that
         // of the MADT depends on.
         ensures footprint { PlatformFootprint tables.now result }
         // It is the same wherever the valid tables lie.
@@ -52,18 +59,19 @@ impl PlatformInfo<Global> {
 }
 
 impl<A: Allocator + Clone> PlatformInfo<A> {
-    /// What the first valid FADT and the first valid MADT say. If no MADT is valid, the interrupt
-    /// model is `Unknown`, and there are no processors. A MADT with a malformed remainder is refused
-    /// whole: a model of half the entries would be taken for the whole.
+    /// The platform that the first valid FADT (section 5.2.9) and the first valid MADT (section 5.2.12)
+    /// describe, in memory of an allocator. If no MADT is valid, the interrupt model is `Unknown`, and
+    /// there are no processors. A MADT with a malformed remainder is refused whole: a model of half the
+    /// entries would be taken for the whole.
     ///
-    /// Refuses, in this order, with `TableMissing` where no valid FADT is listed, with what
+    /// Refuses, in this order, with `TableMissing` if no valid FADT is listed, with what
     /// `parse_interrupt_model_in` refuses of the MADT, and with what `PmTimer::new` refuses. Memory is
-    /// asked for only where the MADT describes APICs; `AllocError` then comes before the timer is looked
-    /// at.
+    /// asked for only if the MADT describes APICs; `AllocError` then comes before any refusal of the
+    /// timer.
     pub fn new_in<H: Lender>(tables: &AcpiTables<'_, H>, allocator: A) -> AcpiResult<Self>
         requires { AllowsBelow tables.now platform_ranges }
         ensures exact { GivesPlatform tables.now result }
-        // It depends on what the lookup of the FADT depends on, and where one is found, on what that
+        // It depends on what the lookup of the FADT depends on, and if one is found, on what that
         // of the MADT depends on.
         ensures footprint { PlatformFootprint tables.now result }
         // It is the same wherever the valid tables lie.
@@ -72,7 +80,7 @@ impl<A: Allocator + Clone> PlatformInfo<A> {
         PlatformInfo::new_in_exact(tables, allocator)
     }
 
-    /// What `new_in` answers: the first valid FADT is looked up, and then what is said beside it.
+    /// What `new_in` answers: it looks the first valid FADT up, and then goes on with the MADT.
     #[tactic(auto, using(crate::proofs::Brief::profile_of_brief, crate::proofs::Brief::timer_in_brief))]
     fn new_in_exact<H: Lender>(tables: &AcpiTables<'_, H>, allocator: A) -> AcpiResult<Self>
         requires { AllowsBelow tables.now platform_ranges }
@@ -88,8 +96,8 @@ impl<A: Allocator + Clone> PlatformInfo<A> {
         }
     }
 
-    /// What the first valid MADT says, beside what the FADT says: a profile, and a timer or why
-    /// that is refused.
+    /// The platform of the first valid MADT, and of what the FADT says: a profile, and a timer or its
+    /// refusal.
     fn beside<H: Lender>(
         power_profile: PowerProfile,
         timer: AcpiResult<Option<PmTimer>>,
@@ -111,7 +119,8 @@ impl<A: Allocator + Clone> PlatformInfo<A> {
     }
 }
 
-/// What the first valid MADT says, or nothing where none is valid.
+/// The interrupt model and the processors of the first valid MADT, or `Unknown` without processors if none
+/// is valid.
 fn found_model<H: Lender, A: Allocator + Clone>(
     tables: &AcpiTables<'_, H>,
     allocator: A,

@@ -3,7 +3,7 @@ ghost use Rattle.std.specs.Prelude.{◌≤◌};
 
 use acpi_base::bytes::{field, skip};
 
-/// The pointers that bytes encode, in order; a short rest is one more pointer, filled up with zeros.
+/// The pointers that bytes encode, in order; a short remainder is one more pointer, filled up with zeros.
 #[derive(Drop)]
 pub(crate) struct Pointers<'t> {
     width: usize,

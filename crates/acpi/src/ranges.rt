@@ -1,4 +1,4 @@
-//! Where the tables lie.
+//! The ranges of physical memory in which the tables lie.
 ghost use Rattle.std.specs.Prelude.{◌≡◌, ◌≤◌, IfOk};
 ghost use Rattle.std.specs.Result.{result_ok};
 ghost use Rattle.std.proofs.Props.{props};
@@ -14,8 +14,9 @@ use acpi_base::{
     AcpiError, AcpiResult, AddressRange, Lender, PhysicalMapping, PhysicalRecord, Signature,
 };
 
-/// Where the root table lies, then each valid member in the order of the root table, then the DSDT
-/// and the FACS. A table that is listed twice comes twice.
+/// The ranges of physical memory in which the tables lie, as `AcpiTables::ranges` gives them: that of the
+/// root table, then that of each valid member in the order of the root table, then those of the DSDT and
+/// the FACS, if these are valid. A table that is listed twice comes twice.
 #[derive(Drop)]
 pub struct TableRanges<'t, 'h, H: Lender> {
     handler: &'h H,

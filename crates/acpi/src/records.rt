@@ -1,4 +1,4 @@
-//! Plain records that lookups answer.
+//! Plain records that lookups and lists answer.
 ghost use Rattle.std.specs.Prelude.{◌≡◌, ◌+◌, ◌^◌, ◌<◌, length};
 ghost use Rattle.acpi_base.specs.Mapping.{bytes_of, start_of};
 ghost use Rattle.acpi.specs.Lists.{stream_of};
@@ -6,32 +6,32 @@ ghost use Rattle.acpi.specs.Lists.{stream_of};
 use acpi_base::sdt::SdtHeader;
 use acpi_base::{AcpiError, Lender, PhysicalMapping, PhysicalRecord};
 
-/// A stream of AML, as it stands after a table's header.
+/// A stream of AML: the bytes after the header of a DSDT (section 5.2.11.1) or an SSDT (section 5.2.11.2).
 #[derive(Clone, Copy, Debug, PartialEq, Eq)]
 pub struct AmlTable {
-    /// The physical address of its first byte.
+    /// The physical address of the stream's first byte.
     pub address: u64,
-    /// How many bytes it has.
+    /// How many bytes the stream has.
     pub length: u32,
 }
 
-/// A listed table that is refused.
+/// A member of the root table that a lookup passes over as faulty.
 #[derive(Clone, Copy, Debug, PartialEq, Eq)]
 pub struct TableFault {
-    /// The physical address that is listed.
+    /// The physical address that the root table lists.
     pub address: u64,
-    /// Why the table there is refused.
+    /// The refusal of the table there: the first check that fails.
     pub error: AcpiError,
 }
 
-/// What is known of a table. No call makes one.
+/// A table by its address and length, and whether it was found valid. No function of this crate makes one.
 #[derive(Clone, Copy, Debug, PartialEq, Eq)]
 pub struct Sdt {
-    /// The physical address of its first byte.
+    /// The physical address of the table's first byte.
     pub physical_address: u64,
-    /// How many bytes it has with its header.
+    /// How many bytes the table has, with its header.
     pub length: u32,
-    /// Whether it was found valid.
+    /// Whether the table was found valid.
     pub validated: bool,
 }
 

@@ -1,4 +1,4 @@
-//! The kinds of root table, and what leads to one.
+//! The kinds of root table (sections 5.2.7 and 5.2.8), and what leads to one.
 ghost use Rattle.std.specs.Prelude.{◌≡◌, ◌≤◌};
 ghost use Rattle.acpi.specs.Root as root;
 
@@ -7,14 +7,15 @@ use acpi_base::Signature;
 /// The kind of a root table. Both list the tables that the firmware has, by their addresses.
 #[derive(Clone, Copy)]
 pub enum RootKind {
-    /// The RSDT, whose pointers have four bytes (section 5.2.7).
+    /// Root System Description Table (RSDT), whose pointers have four bytes (section 5.2.7).
     Rsdt,
-    /// The XSDT, whose pointers have eight (section 5.2.8).
+    /// Extended System Description Table (XSDT), whose pointers have eight bytes (section 5.2.8).
     Xsdt,
 }
 
 impl RootKind {
-    /// The kind that a revision stands for: the RSDT for 0, else the XSDT.
+    /// The kind of root table that a revision stands for if `AcpiTables::from_rsdt` is passed it: the RSDT
+    /// (section 5.2.7) for 0, else the XSDT (section 5.2.8).
     pub fn of_revision(revision: u8) -> RootKind
         ensures { result ≡ root.kind_of_revision revision }
     {
@@ -25,7 +26,7 @@ impl RootKind {
         }
     }
 
-    /// The signature of such a table.
+    /// The signature of a root table of this kind: `RSDT` (section 5.2.7) or `XSDT` (section 5.2.8).
     pub fn signature(self) -> Signature
         ensures { result ≡ root.signature_of self }
     {
@@ -35,7 +36,8 @@ impl RootKind {
         }
     }
 
-    /// How many bytes each of its pointers has.
+    /// How many bytes each pointer of a root table of this kind has: 4 in an RSDT (section 5.2.7), 8 in an
+    /// XSDT (section 5.2.8).
     pub fn width(self) -> usize
         ensures value { result ≡ root.width_of self }
         ensures some { 1 ≤ result }
@@ -48,7 +50,7 @@ impl RootKind {
     }
 }
 
-/// Where a root table is looked for, and as what.
+/// The address at which a root table is looked for, and its kind.
 #[derive(Clone, Copy)]
 pub(crate) struct RootPointer {
     /// The revision of what names the table.

@@ -1,4 +1,4 @@
-//! The Root System Description Pointer (RSDP), which leads to the root table.
+//! The Root System Description Pointer (RSDP), which leads to the root table (section 5.2.5).
 ghost use Rattle.std.specs.Prelude.{◌≡◌, ◌<◌, true, IfOk};
 ghost use Rattle.acpi_base.specs.Mapping.{IsOfMemory, start_of, bytes_of, handler_of};
 ghost use Rattle.acpi_base.specs.Ranges.{Allows};
@@ -17,8 +17,8 @@ use acpi_base::bytes::{byte_sum, field, text_of};
 use acpi_base::{AcpiError, AcpiResult, Lender, PhysicalMapping, PhysicalRecord};
 pub use given::bios_areas;
 
-/// The RSDP's 36 bytes (section 5.2.5.3). Revision 0 has only the first 20 of them: the fields
-/// after mean nothing there.
+/// The Root System Description Pointer (RSDP), by its 36 bytes (section 5.2.5.3). Revision 0 has only the
+/// first 20 of them: the fields after these mean nothing there.
 #[derive(Clone, Copy, Debug)]
 pub struct Rsdp {
     signature: [u8; 8],
@@ -70,63 +70,65 @@ impl Rsdp {
     ghost use Rattle.acpi.specs.Rsdp.{ext_checksum_of, unless_first, rsdp_of, root_of};
     ghost use Rattle.acpi.specs.Rsdp.{check_first, length_of, check_rsdp};
 
-    /// `RSD PTR ` where the RSDP is valid.
+    /// Signature: `RSD PTR ` if the RSDP is valid (section 5.2.5.3).
     pub fn signature(&self) -> [u8; 8]
         ensures { result ≡ signature_of self.now }
     {
         self.signature
     }
 
-    /// The byte that makes the first 20 bytes sum to 0 modulo 256.
+    /// Checksum: the byte by which the first 20 bytes of a valid RSDP sum to 0 modulo 256 (section
+    /// 5.2.5.3).
     pub fn checksum(&self) -> u8
         ensures { result ≡ checksum_of self.now }
     {
         self.checksum
     }
 
-    /// The OEM's name, or `None` if it is not valid UTF-8.
+    /// OEMID: the OEM's name, or `None` if it is not valid UTF-8 (section 5.2.5.3).
     pub fn oem_id(&self) -> Option<&str>
         ensures { IsTextOf result (oem_id_of self.now) }
     {
         text_of(&self.oem_id)
     }
 
-    /// The revision of this structure: 0 in ACPI 1.0, and 2 since.
+    /// Revision: the revision of the RSDP, 0 in ACPI 1.0 and 2 since (section 5.2.5.3).
     pub fn revision(&self) -> u8
         ensures { result ≡ revision_of self.now }
     {
         self.revision
     }
 
-    /// The physical address of the RSDT.
+    /// RsdtAddress: the physical address of the RSDT (section 5.2.5.3).
     pub fn rsdt_address(&self) -> u32
         ensures { result ≡ rsdt_address_of self.now }
     {
         self.rsdt_address
     }
 
-    /// How many bytes the whole RSDP has, or `None` for revision 0.
+    /// Length: how many bytes the whole RSDP has, or `None` for revision 0 (section 5.2.5.3).
     pub fn length(&self) -> Option<u32>
         ensures { result ≡ extended_length_of self.now }
     {
         self.unless_first(self.length)
     }
 
-    /// The physical address of the XSDT, or `None` for revision 0.
+    /// XsdtAddress: the physical address of the XSDT, or `None` for revision 0 (section 5.2.5.3).
     pub fn xsdt_address(&self) -> Option<u64>
         ensures { result ≡ xsdt_address_of self.now }
     {
         self.unless_first(self.xsdt_address)
     }
 
-    /// The byte that makes the whole RSDP sum to 0 modulo 256, or `None` for revision 0.
+    /// Extended Checksum: the byte by which all bytes of a valid RSDP sum to 0 modulo 256, or `None` for
+    /// revision 0 (section 5.2.5.3).
     pub fn ext_checksum(&self) -> Option<u8>
         ensures { result ≡ ext_checksum_of self.now }
     {
         self.unless_first(self.ext_checksum)
     }
 
-    /// A field that revision 0 does not have.
+    /// A field that revision 0 does not have, or `None` for that revision.
     fn unless_first<T: Copy>(&self, field: T) -> Option<T>
         ensures { result ≡ unless_first self.now field }
     {
@@ -137,8 +139,8 @@ impl Rsdp {
         }
     }
 
-    /// The root table that this leads to where it is valid: the RSDT where the revision or the
-    /// XSDT's address is 0, else the XSDT, however bad the table there is.
+    /// The root table that a valid RSDP leads to: the RSDT if the revision or the XSDT's address is 0,
+    /// else the XSDT, however bad the table there is.
     pub(crate) fn root(&self) -> RootPointer
         ensures { result ≡ root_of self.now }
     {
@@ -153,14 +155,14 @@ impl Rsdp {
         }
     }
 
-    /// Checks the RSDP that this was read from, whose bytes these are. Bytes after its length are
-    /// not looked at.
+    /// Checks an RSDP (section 5.2.5.3) by the bytes that it was read from. Bytes after its length don't
+    /// count.
     ///
-    /// Refuses, in this order, with `RsdpIncorrectSignature` where the signature is not `RSD PTR `,
-    /// `RsdpInvalidOemId` where the OEM id is not valid UTF-8, and `RsdpInvalidChecksum` where the first
+    /// Refuses, in this order, with `RsdpIncorrectSignature` if the signature is not `RSD PTR `,
+    /// `RsdpInvalidOemId` if the OEM id is not valid UTF-8, and `RsdpInvalidChecksum` if the first
     /// 20 bytes do not sum to 0 modulo 256. For a revision above 0 it also refuses with
-    /// `RsdpInvalidChecksum` where the length is under 36 or past the bytes, or where that many
-    /// bytes do not sum to 0.
+    /// `RsdpInvalidChecksum` if the length is under 36 or above the number of bytes, or if that many
+    /// bytes do not sum to 0 modulo 256.
     pub fn validate(&self, bytes: &[u8]) -> AcpiResult<()>
         requires least { 36 ≤ length bytes.now }
         requires read { self.now ≡ rsdp_of bytes.now }
@@ -207,8 +209,8 @@ impl Rsdp {
         check_sum(&bytes[..20])
     }
 
-    /// How many bytes are to sum to 0 beside the first 20, where the first checks hold: none for
-    /// revision 0.
+    /// How many bytes are to sum to 0 after the checks of the first 20 bytes, if these hold: `None` for
+    /// revision 0, else the length.
     #[tactic(auto, unfolding(crate::specs::Rsdp::length_of))]
     fn summed_length(&self, bytes: &[u8]) -> AcpiResult<Option<usize>>
         requires least { 36 ≤ length bytes.now }
@@ -225,7 +227,7 @@ impl Rsdp {
     }
 }
 
-/// Bytes of an RSDP that are to sum to 0 modulo 256.
+/// Checks that bytes of an RSDP sum to 0 modulo 256.
 #[tactic(auto, unfolding(crate::specs::Rsdp::check_sum))]
 fn check_sum(bytes: &[u8]) -> AcpiResult<()>
     ensures { result ≡ check_sum bytes.now }
@@ -236,7 +238,7 @@ fn check_sum(bytes: &[u8]) -> AcpiResult<()>
     Ok(())
 }
 
-/// The sum over the whole of an RSDP, whose length says that it has so many bytes.
+/// Checks that the bytes of a whole RSDP sum to 0 modulo 256, as many as its length says.
 fn check_whole<H: Lender>(handler: &H, address: u64, length: usize) -> AcpiResult<()>
     requires some { 0 < length }
     requires asked { H.may handler.now address length ≡ true }
@@ -246,13 +248,13 @@ fn check_whole<H: Lender>(handler: &H, address: u64, length: usize) -> AcpiResul
     check_sum(whole.bytes())
 }
 
-/// The RSDP at an address, where it is valid: a mapping of its 36 bytes.
+/// The valid RSDP at an address: a mapping of its 36 bytes.
 ///
-/// Refuses, in this order, with `MapFailed` where 36 bytes aren't lent, `RsdpIncorrectSignature`
-/// where the signature is not `RSD PTR `, `RsdpInvalidOemId` where the OEM id is not valid UTF-8, and
-/// `RsdpInvalidChecksum` where the first 20 bytes do not sum to 0 modulo 256. For a revision above
-/// 0 it goes on with `RsdpInvalidChecksum` where the length is under 36, `MapFailed` where that
-/// many bytes aren't lent, and `RsdpInvalidChecksum` where they do not sum to 0.
+/// Refuses, in this order, with `MapFailed` if 36 bytes aren't lent, `RsdpIncorrectSignature`
+/// if the signature is not `RSD PTR `, `RsdpInvalidOemId` if the OEM id is not valid UTF-8, and
+/// `RsdpInvalidChecksum` if the first 20 bytes do not sum to 0 modulo 256. For a revision above
+/// 0 it goes on with `RsdpInvalidChecksum` if the length is under 36, `MapFailed` if that
+/// many bytes aren't lent, and `RsdpInvalidChecksum` if they do not sum to 0 modulo 256.
 #[tactic(auto, unfolding(crate::specs::Rsdp::rsdp_at))]
 pub(crate) fn map_rsdp<'h, H: Lender>(
     handler: &'h H,

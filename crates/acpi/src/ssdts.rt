@@ -9,8 +9,8 @@ use crate::records::{AmlTable, aml_behind};
 use acpi_base::Lender;
 use acpi_base::sdt::{Signature, map_sdt};
 
-/// The AML of all listed tables that are valid SSDTs (section 5.2.11.2), in the order of the root
-/// table. A table that is listed twice comes twice.
+/// The AML of all members that are valid SSDTs (section 5.2.11.2), in the order of the root table, as
+/// `AcpiTables::ssdts` gives it. A table that is listed twice comes twice.
 #[derive(Drop)]
 pub struct SsdtIterator<'t, 'h, H: Lender> {
     handler: &'h H,

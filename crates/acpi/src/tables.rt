@@ -1,4 +1,4 @@
-//! The root table, and the tables that it leads to.
+//! The root table (sections 5.2.7 and 5.2.8), and the tables that it leads to.
 ghost use Rattle.std.specs.Prelude.{◌≡◌, ◌^◌, ◌<◌, length, Some};
 ghost use Rattle.std.specs.Result.{result_ok};
 ghost use Rattle.std.proofs.Props.{props};
@@ -23,7 +23,9 @@ use acpi_base::{AcpiError, AcpiResult, AcpiTable, Lender, PhysicalMapping, Signa
 use acpi_fixed::fadt::FadtBrief;
 use std::alloc::{Allocator, Global};
 
-/// The tables that a root table leads to. The root table stays mapped until this is dropped.
+/// The tables that a root table leads to: an RSDT (section 5.2.7) or an XSDT (section 5.2.8). Its pointers
+/// are physical addresses, and what they lead to are its members, in the order of the pointers. The root
+/// table stays mapped until this is dropped.
 #[derive(Drop)]
 pub struct AcpiTables<'h, H: Lender> {
     revision: u8,
@@ -54,7 +56,8 @@ impl<'h, H: Lender> AcpiTables<'h, H> {
     ghost use Rattle.acpi.specs.Tables.{lender_of, may_of, memory_of, of_tables, pointers_of, revision_of};
     ghost use Rattle.acpi.specs.Walks.{faults_left, headers_left, ssdts_left};
 
-    /// The revision that the tables were opened with.
+    /// The revision that the tables were opened with: that of the RSDP (section 5.2.5.3), or the one that
+    /// `from_rsdt` was passed.
     pub fn revision(&self) -> u8
         ensures { result ≡ revision_of self.now }
     {
@@ -68,7 +71,7 @@ impl<'h, H: Lender> AcpiTables<'h, H> {
         Pointers::new(self.kind.width(), skip(self.root.bytes(), 36))
     }
 
-    /// The bytes of the first member of the root list that is valid for `T`.
+    /// The bytes of the first member that is valid for `T`.
     #[inline(always)]
     fn first_valid<T: AcpiTable>(&self) -> AcpiResult<ValidTable<'h, H>>
         requires { AllowsBelow self.now (λ m. lookup_ranges m T.kind) }
@@ -99,10 +102,10 @@ impl<'h, H: Lender> AcpiTables<'h, H> {
         Ok(found.mapping())
     }
 
-    /// The first member of the root list that is valid for `T`: its address is the mapping's
-    /// `physical_start`, and its bytes are the mapping's.
+    /// The first member of the root table that is valid for `T` (sections 5.2.7 and 5.2.8): its address
+    /// is the mapping's `physical_start`, and its bytes are the mapping's.
     ///
-    /// Refuses with `TableMissing`, carrying `T::SIGNATURE`, where no member is valid for `T`. A
+    /// Refuses with `TableMissing`, carrying `T::SIGNATURE`, if no member is valid for `T`. A
     /// member that isn't lent, or fails another check, is passed over.
     pub fn find_table<T: AcpiTable>(&self) -> AcpiResult<PhysicalMapping<'h, H, T>>
         requires { AllowsBelow self.now (λ m. lookup_ranges m T.kind) }
@@ -124,15 +127,15 @@ impl<'h, H: Lender> AcpiTables<'h, H> {
         ensures absent { NoneValid (memory_of self.now) T.kind (pointers_of self.now)
             → result ≡ Err (TableMissing T.SIGNATURE) }
         // It depends on the root table, and of the members up to the one found on the header and,
-        // where this has the names and the least length, on the table.
+        // if this has the names and the least length, on the table.
         ensures footprint { FootprintBelow self.now (λ m. lookup_ranges m T.kind) (λ n. lookup n T.kind)
             (Gives (λ m. (start_of m, bytes_of m)) result) }
     {
         self.find_table_exact::<T>()
     }
 
-    /// The headers of all members that are valid under the signatures that they have, in order. It
-    /// gives at most one for each pointer.
+    /// The headers (section 5.2.6) of all members that are valid under the signatures that they have, in
+    /// order. It gives at most one for each pointer.
     pub fn headers(&self) -> SdtHeaderIterator<'_, 'h, H>
         requires { AllowsBelow self.now header_ranges }
         ensures items { headers_left H.memory result
@@ -167,9 +170,9 @@ impl<'h, H: Lender> AcpiTables<'h, H> {
     /// The AML of the DSDT (section 5.2.11.1): that of the table at the address that the first
     /// valid FADT gives (section 5.2.9).
     ///
-    /// Refuses, in this order, with `TableMissing` where no valid FADT is listed,
-    /// `InvalidDsdtAddress` where that gives no address, and with what the table there is refused
-    /// with: `MapFailed`, `SdtInvalidSignature` and so on, carrying the DSDT's signature.
+    /// Refuses, in this order, with `TableMissing` if no valid FADT is listed, `InvalidDsdtAddress` if
+    /// that FADT gives no address, and with the refusal of the table there: `MapFailed`,
+    /// `SdtInvalidSignature` and so on, carrying the DSDT's signature.
     pub fn dsdt(&self) -> AcpiResult<AmlTable>
         requires { AllowsBelow self.now dsdt_ranges }
         ensures exact { result ≡ of_tables self.now dsdt_stream }
@@ -180,7 +183,7 @@ impl<'h, H: Lender> AcpiTables<'h, H> {
         self.dsdt_exact()
     }
 
-    /// What `dsdt` answers: the first valid FADT is looked up, and the table that it leads to.
+    /// What `dsdt` answers: it looks the first valid FADT up, and the table that this leads to.
     #[tactic(auto, using(crate::proofs::Brief::dsdt_of_brief))]
     fn dsdt_exact(&self) -> AcpiResult<AmlTable>
         requires { AllowsBelow self.now dsdt_ranges }
@@ -205,7 +208,7 @@ impl<'h, H: Lender> AcpiTables<'h, H> {
     }
 
     /// Why members were passed over in a lookup of `T`: the address and the refusal of each member
-    /// before the first valid one (of all where none is valid) whose refusal isn't
+    /// before the first one that is valid for `T` (of all members if none is) whose refusal isn't
     /// `SdtInvalidSignature`, in order. It gives at most one for each pointer.
     pub fn faults<T: AcpiTable>(&self) -> TableFaults<'_, 'h, H, T>
         requires { AllowsBelow self.now (λ m. lookup_ranges m T.kind) }
@@ -220,7 +223,10 @@ impl<'h, H: Lender> AcpiTables<'h, H> {
         TableFaults::new(self.root.handler(), self.pointers())
     }
 
-    /// `PlatformInfo::new` over these tables.
+    /// The platform that the first valid FADT (section 5.2.9) and the first valid MADT (section 5.2.12)
+    /// describe, in memory of the global allocator: the answer of `PlatformInfo::new` over these tables.
+    ///
+    /// Refuses as `PlatformInfo::new` does.
     pub fn platform_info(&self, alloc: Global) -> AcpiResult<PlatformInfo<Global>>
         requires { AllowsBelow self.now platform_ranges }
         ensures exact { GivesPlatform self.now result }
@@ -230,7 +236,10 @@ impl<'h, H: Lender> AcpiTables<'h, H> {
         PlatformInfo::new(alloc, self)
     }
 
-    /// `PlatformInfo::new_in` over these tables.
+    /// The platform that the first valid FADT (section 5.2.9) and the first valid MADT (section 5.2.12)
+    /// describe, in memory of an allocator: the answer of `PlatformInfo::new_in` over these tables.
+    ///
+    /// Refuses as `PlatformInfo::new_in` does.
     pub fn platform_info_in<A: Allocator + Clone>(
         &self,
         allocator: A,

@@ -1,4 +1,4 @@
-//! The frames of a block of timers.
+//! The frames of a GT Block (section 5.2.24.1.1).
 ghost use Rattle.std.specs.Prelude.{◌≡◌, ◌≤◌};
 ghost use Rattle.acpi_arm.specs.Timers.{frame_at, interrupt_at};
 
@@ -6,36 +6,40 @@ use crate::interrupt::{polarity_in, trigger_in, unless_ones};
 use acpi_base::bytes::{field, has_bit, skip};
 use acpi_base::model::{Polarity, TriggerMode};
 
-/// How many bytes a frame has.
+/// How many bytes the structure of a frame has.
 pub(crate) const FRAME_LENGTH: usize = 40;
 
-/// The interrupt of a timer (section 5.2.24.1).
+/// The interrupt of a timer of a GT Block's frame (section 5.2.24.1.1).
 #[derive(Clone, Copy, Debug, PartialEq, Eq)]
 pub struct TimerInterrupt {
-    /// Its number at the GIC. 0: the timer isn't there.
+    /// GSIV: the number of the interrupt at the GIC. 0: the timer isn't there.
     pub interrupt: u32,
-    /// What raises it.
+    /// Timer Interrupt Mode (bit 0 of the timer's flags, set if it is edge-triggered): what raises the
+    /// interrupt.
     pub trigger_mode: TriggerMode,
-    /// The level at which it counts as raised.
+    /// Timer Interrupt Polarity (bit 1 of the timer's flags, set if it is active low): the level at which
+    /// the interrupt counts as raised.
     pub polarity: Polarity,
 }
 
-/// A frame of a block of timers, with a physical timer and a virtual one (section 5.2.24.1.1).
+/// GTx: a frame of a GT Block, with a physical timer and a virtual one (section 5.2.24.1.1).
 #[derive(Clone, Copy, Debug)]
 pub struct GtFrame {
-    /// Its number, from 0 to 7.
+    /// GT Frame Number: the number of the frame, from 0 to 7 by the specification. It is kept as it is.
     pub number: u8,
-    /// The physical address of its registers.
+    /// CntBaseX: the physical address of the frame's registers.
     pub base: u64,
-    /// The physical address of its registers as EL0 sees them, or `None` if EL0 sees none.
+    /// CntEL0BaseX: the physical address of the frame's registers as EL0 sees them, or `None` if all its
+    /// bits are ones: EL0 sees none.
     pub el0_base: Option<u64>,
-    /// The interrupt of its physical timer.
+    /// GTx Physical Timer GSIV and Flags: the interrupt of the frame's physical timer.
     pub physical_timer: TimerInterrupt,
-    /// The interrupt of its virtual timer.
+    /// GTx Virtual Timer GSIV and Flags: the interrupt of the frame's virtual timer.
     pub virtual_timer: TimerInterrupt,
-    /// Only secure software may use it.
+    /// Secure Timer (bit 0 of GTx Common Flags): only secure software may use the frame.
     pub is_secure: bool,
-    /// Its timers keep their state and raise their interrupts in every low power state.
+    /// Always-on Capability (bit 1 of GTx Common Flags): the frame's timers keep their state and raise
+    /// their interrupts in every low power state of the processors.
     pub is_always_on: bool,
 }
 
@@ -68,7 +72,7 @@ fn frame_in(bytes: &[u8]) -> GtFrame
     }
 }
 
-/// The frames of a block, in order.
+/// The frames of a GT Block (section 5.2.24.1.1), in order.
 #[derive(Clone, Copy, Debug)]
 pub struct GtFrameIter<'a> {
     rest: &'a [u8],
@@ -78,7 +82,7 @@ pub struct GtFrameIter<'a> {
 impl<'a> GtFrameIter<'a> {
     ghost use Rattle.acpi_arm.specs.Timers.{frames_in, frames_left};
 
-    /// So many frames, one after the other.
+    /// The frames that bytes have, `count` of them, one after the other.
     pub(crate) fn over(bytes: &'a [u8], count: u32) -> Self
         ensures { frames_left result ≡ frames_in count bytes.now }
     {

@@ -1,4 +1,5 @@
-//! The generic interrupt controller (GIC): what the entries of a MADT say of it together.
+//! The Generic Interrupt Controller (GIC), as the entries of a MADT describe it together (sections
+//! 5.2.12.14 to 5.2.12.18).
 ghost use Rattle.std.specs.Prelude.{◌≡◌, ◌<◌, IfOk, IfErr};
 ghost use Rattle.acpi_base.specs.Steps.{GivesOrFull};
 ghost use Rattle.acpi.specs.Footprint.{AllowsBelow, FootprintBelow, lookup_ranges};
@@ -21,23 +22,33 @@ pub use part::{
 };
 use std::alloc::{AllocError, Allocator, Global};
 
-/// The GIC of a machine, with the processors that have an interface to it.
+/// The Generic Interrupt Controller (GIC) of a machine, with the processors that have an interface to it
+/// (sections 5.2.12.14 to 5.2.12.18).
 #[derive(Drop)]
 pub struct GicModel<A: Allocator> {
-    /// The distributor: that of the first GICD entry.
+    /// GIC Distributor (GICD, section 5.2.12.15): that of the first such entry.
     pub distributor: GicDistributor,
-    /// The processors' interfaces, one for each GICC entry, in order.
+    /// GIC CPU Interface (GICC, section 5.2.12.14): the processors with their interfaces, one for each such
+    /// entry, in order.
     pub cpu_interfaces: ManagedSlice<GicCpuInterface, A>,
-    /// The ranges of redistributors, one for each GICR entry, in order.
+    /// GIC Redistributor (GICR, section 5.2.12.17): the ranges of redistributors, one for each such entry,
+    /// in order.
     pub redistributors: ManagedSlice<GicRedistributors, A>,
-    /// The services that translate interrupts, one for each GIC ITS entry, in order.
+    /// GIC Interrupt Translation Service (ITS, section 5.2.12.18): the services that translate messages to
+    /// interrupts, one for each such entry, in order.
     pub translation_services: ManagedSlice<GicTranslationService, A>,
-    /// The frames that turn messages into interrupts, one for each GIC MSI frame entry, in order.
+    /// GIC MSI Frame (section 5.2.12.16): the frames that turn messages into interrupts, one for each such
+    /// entry, in order.
     pub msi_frames: ManagedSlice<GicMsiFrame, A>,
 }
 
 impl GicModel<Global> {
-    /// `new_in` over the global allocator.
+    /// The GIC that the first valid MADT describes (sections 5.2.12.14 to 5.2.12.18), in memory of the
+    /// global allocator, or `None` if it describes no distributor.
+    ///
+    /// Refuses, in this order, with `TableMissing` if no valid MADT is listed, with
+    /// `InvalidMadt(InvalidEntryLength)` if the entries end malformed, and with `AllocError` if memory is
+    /// refused, and that only if there is a distributor and some list has an item.
     pub fn new<H: Lender>(alloc: Global, tables: &AcpiTables<'_, H>) -> AcpiResult<Option<Self>>
         requires { AllowsBelow tables.now (λ m. lookup_ranges m madt_kind) }
         ensures exact { GivesOrFull (of_tables tables.now GicAsks) result
@@ -54,13 +65,13 @@ impl GicModel<Global> {
 }
 
 impl<A: Allocator + Copy> GicModel<A> {
-    /// What a MADT's bytes say of a GIC, or `None` where no entry describes a distributor, as on a
-    /// machine with APICs. It knows no memory and no handler. Entries of all other kinds are skipped,
-    /// and of several distributors the first one counts.
+    /// The GIC that a MADT's bytes describe (sections 5.2.12.14 to 5.2.12.18), in memory of an allocator,
+    /// or `None` if no entry describes a distributor, as on a machine with APICs. It needs no handler.
+    /// Entries of all other types are skipped, and of several distributors the first one counts.
     ///
-    /// Refuses with `InvalidMadt(InvalidEntryLength)` where the entries end malformed: where bytes are
-    /// left in which no entry begins. Then with `AllocError` where a growth is refused, which is asked
-    /// for only where there is a distributor, once for each list that has an item.
+    /// Refuses, in this order, with `InvalidMadt(InvalidEntryLength)` if the entries end malformed, that
+    /// is, if bytes are left in which no entry begins, and with `AllocError` if memory is refused, and that
+    /// only if there is a distributor and some list has an item.
     pub fn of(table: &[u8], allocator: A) -> AcpiResult<Option<Self>>
         ensures { GivesOrFull (AsksMemory table.now) result (gic_of table.now) }
     {
@@ -70,7 +81,7 @@ impl<A: Allocator + Copy> GicModel<A> {
         }
     }
 
-    /// A distributor, and the lists of a MADT's bytes.
+    /// The GIC of a distributor, with the lists that a MADT's bytes say.
     fn beside(table: &[u8], distributor: GicDistributor, allocator: A) -> Result<Self, AllocError>
         ensures model { IfOk result (λ m. m ≡ model_beside table.now distributor) }
         ensures refused { IfErr result (λ e. 0 < item_count table.now) }
@@ -84,9 +95,12 @@ impl<A: Allocator + Copy> GicModel<A> {
         })
     }
 
-    /// What the first valid MADT says of a GIC, or `None` where it describes no distributor.
+    /// The GIC that the first valid MADT describes (sections 5.2.12.14 to 5.2.12.18), in memory of an
+    /// allocator, or `None` if it describes no distributor.
     ///
-    /// Refuses with `TableMissing` where no valid MADT is listed, and then as `of` does.
+    /// Refuses, in this order, with `TableMissing` if no valid MADT is listed, with
+    /// `InvalidMadt(InvalidEntryLength)` if the entries end malformed, and with `AllocError` if memory is
+    /// refused, and that only if there is a distributor and some list has an item.
     pub fn new_in<H: Lender>(tables: &AcpiTables<'_, H>, allocator: A) -> AcpiResult<Option<Self>>
         requires { AllowsBelow tables.now (λ m. lookup_ranges m madt_kind) }
         ensures exact { GivesOrFull (of_tables tables.now GicAsks) result
@@ -101,7 +115,7 @@ impl<A: Allocator + Copy> GicModel<A> {
         GicModel::new_in_exact(tables, allocator)
     }
 
-    /// What `new_in` answers: the first valid MADT is looked up, and its entries are collected.
+    /// What `new_in` answers: it looks the first valid MADT up, and collects its entries.
     fn new_in_exact<H: Lender>(tables: &AcpiTables<'_, H>, allocator: A) -> AcpiResult<Option<Self>>
         requires { AllowsBelow tables.now (λ m. lookup_ranges m madt_kind) }
         ensures { GivesOrFull (of_tables tables.now GicAsks) result
@@ -112,14 +126,17 @@ impl<A: Allocator + Copy> GicModel<A> {
     }
 }
 
-/// The calls of `GicModel`, over a mapping of a MADT.
+/// The function `GicModel::of`, as a method of a mapping of a MADT (section 5.2.12).
 pub trait GicCalls {
     ghost use Rattle.std.specs.Prelude.{ℕ, List};
 
     // The table's bytes.
     ghost table: { Self → List ℕ };
 
-    /// As `GicModel::of`.
+    /// The GIC that this MADT describes (sections 5.2.12.14 to 5.2.12.18), in memory of an allocator, or
+    /// `None` if it describes no distributor.
+    ///
+    /// Refuses as `GicModel::of` does.
     fn gic_model_in<A: Allocator + Copy>(&self, allocator: A) -> AcpiResult<Option<GicModel<A>>>
         ensures { GivesOrFull (AsksMemory (table self.now)) result (gic_of (table self.now)) };
 }

@@ -1,4 +1,5 @@
-//! The generic timers, and the timers of the platform beside them.
+//! The Generic Timer Description Table (GTDT): the timers of the processors, and those of the platform
+//! (section 5.2.24).
 ghost use Rattle.std.specs.Prelude.{◌≡◌, ◌+◌, ◌≤◌, length};
 ghost use Rattle.acpi_arm.specs.Gtdt.{arm_timer_at};
 
@@ -12,16 +13,18 @@ use acpi_base::sdt::SdtHeader;
 use acpi_base::table::sum_refusal;
 use acpi_base::{AcpiResult, AcpiTable, Lender, PhysicalMapping, PhysicalRecord, Signature};
 
-/// A timer of every processor (section 5.2.24).
+/// A timer that every processor has, by its GSIV and its flags in a GTDT (section 5.2.24).
 #[derive(Clone, Copy, Debug, PartialEq, Eq)]
 pub struct ArmTimer {
-    /// Its interrupt, as the number of the GIC. 0: the table names none.
+    /// GSIV: the number of the timer's interrupt at the GIC. 0: the table names none.
     pub interrupt: u32,
-    /// What raises the interrupt.
+    /// Timer Interrupt Mode (bit 0 of the flags, set if it is edge-triggered): what raises the interrupt.
     pub trigger_mode: TriggerMode,
-    /// The level at which it counts as raised.
+    /// Timer Interrupt Polarity (bit 1 of the flags, set if it is active low): the level at which the
+    /// interrupt counts as raised.
     pub polarity: Polarity,
-    /// It keeps its state and raises its interrupt in every low power state of the processor.
+    /// Always-on Capability (bit 2 of the flags): the timer keeps its state and raises its interrupt in
+    /// every low power state of the processor.
     pub always_on: bool,
 }
 
@@ -51,26 +54,26 @@ fn timer_in(bytes: &[u8], offset: usize) -> ArmTimer
     }
 }
 
-/// The GTDT (section 5.2.24). `PlatformTimerIter` gives the timers of the platform out of its bytes,
-/// and `GtdtCalls` out of a mapping of it.
+/// The Generic Timer Description Table (GTDT, section 5.2.24). `PlatformTimerIter` gives the timers of the
+/// platform out of its bytes, and `GtdtCalls` out of a mapping of it.
 #[derive(Clone, Copy, Debug)]
 pub struct Gtdt {
     /// The header that every table begins with.
     pub header: SdtHeader,
     control_base: u64,
-    /// The timer of secure EL1.
+    /// Secure EL1 Timer GSIV and Flags.
     pub secure_el1_timer: ArmTimer,
-    /// The timer of non-secure EL1.
+    /// Non-Secure EL1 Timer GSIV and Flags.
     pub non_secure_el1_timer: ArmTimer,
-    /// The virtual timer of EL1.
+    /// Virtual EL1 Timer GSIV and Flags.
     pub virtual_el1_timer: ArmTimer,
-    /// The timer of EL2.
+    /// EL2 Timer GSIV and Flags.
     pub el2_timer: ArmTimer,
     read_base: u64,
-    /// How many structures of platform timers there are. Tables below revision 2 have none, whatever
-    /// stands here.
+    /// Platform Timer Count: how many structures of platform timers there are. Tables below revision 2
+    /// have none, whatever number stands here.
     pub platform_timer_count: u32,
-    /// Where they begin, in bytes from the table's first one.
+    /// Platform Timer Offset: where these structures begin, in bytes from the table's first one.
     pub platform_timer_offset: u32,
     el2_virtual: ExtendedField<ArmTimer, 3>,
 }
@@ -133,16 +136,16 @@ impl AcpiTable for Gtdt {
 impl Gtdt {
     ghost use Rattle.acpi_arm.specs.Gtdt.{control_base_of, read_base_of, virtual_el2_of};
 
-    /// The physical address of the registers that control the counter, or `None` if all its bits are
-    /// ones: the system has them elsewhere.
+    /// CntControlBase Physical Address: that of the registers that control the counter, or `None` if all
+    /// its bits are ones: the table gives none (section 5.2.24).
     pub fn counter_control_base(&self) -> Option<u64>
         ensures { result ≡ control_base_of self.now }
     {
         unless_ones(self.control_base)
     }
 
-    /// The physical address of the registers from which the counter is read, or `None` if all its bits
-    /// are ones, or for a table below revision 2, which has another layout.
+    /// CntReadBase Physical Address: that of the registers from which the counter is read, or `None` if
+    /// all its bits are ones, or for a table below revision 2, which has another layout (section 5.2.24).
     pub fn counter_read_base(&self) -> Option<u64>
         ensures { result ≡ read_base_of self.now }
     {
@@ -153,8 +156,9 @@ impl Gtdt {
         }
     }
 
-    /// The virtual timer of EL2. It is `None` for a table below revision 3, for one that ends before
-    /// byte 104, and if platform timers begin before byte 104: these bytes are then theirs.
+    /// Virtual EL2 Timer GSIV and Flags (section 5.2.24). It is `None` for a table below revision 3, for
+    /// one that ends before byte 104, and if there are platform timers that begin before byte 104: these
+    /// bytes are then theirs.
     pub fn virtual_el2_timer(&self) -> Option<ArmTimer>
         ensures { result ≡ virtual_el2_of self.now }
     {
@@ -166,7 +170,7 @@ impl Gtdt {
     }
 }
 
-/// The calls of `PlatformTimerIter`, over a mapping of a GTDT.
+/// The function `PlatformTimerIter::over`, as a method of a mapping of a GTDT (section 5.2.24).
 pub trait GtdtCalls {
     ghost use Rattle.std.specs.Prelude.{ℕ, List, false};
     ghost use Rattle.acpi_arm.specs.Timers.{has_ended, missing_left, missing_of};
@@ -175,7 +179,8 @@ pub trait GtdtCalls {
     // The table's bytes.
     ghost table: { Self → List ℕ };
 
-    /// The timers of the platform, in order, as `PlatformTimerIter::over` gives them.
+    /// The Platform Timer Structures of this GTDT (section 5.2.24.1), in order, as
+    /// `PlatformTimerIter::over` gives them.
     fn platform_timers(&self) -> PlatformTimerIter<'_>
         ensures items { timers_left result ≡ timers_of (table self.now) }
         ensures missing { missing_left result ≡ missing_of (table self.now) }

@@ -4,42 +4,42 @@ ghost use Rattle.acpi_base.specs.Equality.{IsEquality};
 use crate::gic::{GicDistributor, GicRedistributors, GicTranslationService, SpiRange};
 use crate::gtdt::{ArmTimer, TimerInterrupt};
 
-/// Distributors are equal exactly if their fields are.
+/// Two `GicDistributor`s compare as equal exactly if all their fields are equal.
 pub fn distributor_equality(a: &GicDistributor, b: &GicDistributor) -> bool
     ensures { IsEquality result a.now b.now }
 {
     a == b
 }
 
-/// Ranges of redistributors are equal exactly if their fields are.
+/// Two `GicRedistributors` compare as equal exactly if all their fields are equal.
 pub fn redistributors_equality(a: &GicRedistributors, b: &GicRedistributors) -> bool
     ensures { IsEquality result a.now b.now }
 {
     a == b
 }
 
-/// Services that translate interrupts are equal exactly if their fields are.
+/// Two `GicTranslationService`s compare as equal exactly if all their fields are equal.
 pub fn translation_service_equality(a: &GicTranslationService, b: &GicTranslationService) -> bool
     ensures { IsEquality result a.now b.now }
 {
     a == b
 }
 
-/// Ranges of interrupts are equal exactly if their fields are.
+/// Two `SpiRange`s compare as equal exactly if all their fields are equal.
 pub fn spi_range_equality(a: &SpiRange, b: &SpiRange) -> bool
     ensures { IsEquality result a.now b.now }
 {
     a == b
 }
 
-/// Timers of processors are equal exactly if their fields are.
+/// Two `ArmTimer`s compare as equal exactly if all their fields are equal.
 pub fn arm_timer_equality(a: &ArmTimer, b: &ArmTimer) -> bool
     ensures { IsEquality result a.now b.now }
 {
     a == b
 }
 
-/// Interrupts of timers are equal exactly if their fields are.
+/// Two `TimerInterrupt`s compare as equal exactly if all their fields are equal.
 pub fn timer_interrupt_equality(a: &TimerInterrupt, b: &TimerInterrupt) -> bool
     ensures { IsEquality result a.now b.now }
 {

@@ -1,5 +1,5 @@
-//! What tables say of an Arm machine: its generic interrupt controller (GIC), by the MADT, and its
-//! generic timers, by the GTDT.
+//! An Arm machine as its tables describe it: the Generic Interrupt Controller (GIC), by the MADT (section
+//! 5.2.12), and the generic timers, by the GTDT (section 5.2.24).
 //!
 //! Section numbers are those of the ACPI Specification, version 6.4.
 #![tactic(auto)]

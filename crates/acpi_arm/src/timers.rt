@@ -1,4 +1,4 @@
-//! The timers of the platform, one at a time.
+//! The Platform Timer Structures of a GTDT, one at a time (section 5.2.24.1).
 ghost use Rattle.std.specs.Prelude.{◌≡◌};
 ghost use Rattle.std.specs.Option.{option_map};
 ghost use Rattle.acpi_arm.specs.Timers.{frames_fit, is_sound, shown_in, timer_bytes, timer_count, timer_of, timers_grammar, watchdog_at};
@@ -9,42 +9,44 @@ use acpi_base::bytes::{field, has_bit, skip};
 use acpi_base::entries::{EntryLayout, Grammar, Place, Width, split_front};
 use acpi_base::model::{Polarity, TriggerMode};
 
-/// A block of timers in memory (section 5.2.24.1.1).
+/// GT Block: a block of timers in memory (section 5.2.24.1.1).
 #[derive(Clone, Copy, Debug)]
 pub struct GtBlock<'a> {
-    /// The physical address of its control frame.
+    /// GT Block Physical address: that of the block's control frame.
     pub address: u64,
-    /// Its frames, in order.
+    /// The block's frames, in order: as many as GT Block Timer Count says, from GT Block Timer Offset on.
     pub frames: GtFrameIter<'a>,
 }
 
-/// A watchdog of the Server Base System Architecture (section 5.2.24.1.2).
+/// Arm Generic Watchdog: a watchdog of the Server Base System Architecture (section 5.2.24.1.2).
 #[derive(Clone, Copy, Debug)]
 pub struct SbsaWatchdog {
-    /// The physical address of its refresh frame.
+    /// RefreshFrame Physical Address: that of the watchdog's refresh frame.
     pub refresh_frame: u64,
-    /// The physical address of its control frame.
+    /// WatchdogControlFrame Physical Address: that of the watchdog's control frame.
     pub control_frame: u64,
-    /// Its interrupt, as the number of the GIC.
+    /// Watchdog Timer GSIV: the number of the watchdog's interrupt at the GIC.
     pub interrupt: u32,
-    /// What raises the interrupt.
+    /// Timer Interrupt Mode (bit 0 of Watchdog Timer Flags, set if it is edge-triggered): what raises the
+    /// interrupt.
     pub trigger_mode: TriggerMode,
-    /// The level at which it counts as raised.
+    /// Timer Interrupt Polarity (bit 1 of Watchdog Timer Flags, set if it is active low): the level at
+    /// which the interrupt counts as raised.
     pub polarity: Polarity,
-    /// Only secure software may use it.
+    /// Secure Timer (bit 2 of Watchdog Timer Flags): only secure software may use the watchdog.
     pub is_secure: bool,
 }
 
-/// A timer of the platform.
+/// A timer of the platform: a Platform Timer Structure of a GTDT (section 5.2.24.1).
 #[derive(Clone, Copy, Debug)]
 pub enum PlatformTimer<'a> {
-    /// Type 0.
+    /// GT Block, type 0 (section 5.2.24.1.1).
     GtBlock(GtBlock<'a>),
-    /// Type 1.
+    /// Arm Generic Watchdog, type 1 (section 5.2.24.1.2).
     SbsaWatchdog(SbsaWatchdog),
 }
 
-/// How so many structures are cut.
+/// How so many structures of platform timers are cut.
 #[inline(always)]
 fn timers_grammar(count: u32) -> Grammar<2>
     ensures { result ≡ timers_grammar count }
@@ -83,7 +85,7 @@ fn is_sound(structure: &[u8]) -> bool
 }
 
 impl<'a> PlatformTimer<'a> {
-    /// What a structure says, or `None` if its type isn't defined.
+    /// The timer that a structure describes, or `None` if its type isn't defined.
     fn read(structure: &'a [u8]) -> Option<PlatformTimer<'a>>
         ensures { option_map shown_in result ≡ timer_of structure.now }
     {
@@ -103,7 +105,7 @@ impl<'a> PlatformTimer<'a> {
     }
 }
 
-/// What a watchdog's structure says.
+/// The watchdog that a structure describes.
 fn watchdog_in(structure: &[u8]) -> SbsaWatchdog
     ensures { result ≡ watchdog_at structure.now }
 {
@@ -118,11 +120,12 @@ fn watchdog_in(structure: &[u8]) -> SbsaWatchdog
     }
 }
 
-/// The timers of the platform that a GTDT lists, in order: as many structures as it counts, one after
-/// the other. Those of undefined types count too, and are skipped. It ends once that many were taken,
-/// or at the first fault: where they begin before byte 96, where less than 4 bytes are left, where a
-/// length is less than the least of its type (20 for type 0, 28 for type 1, 4 for others) or goes past
-/// the table's end, and at a block whose frames begin before its byte 20 or end after it.
+/// The timers of the platform that a GTDT lists (section 5.2.24.1), in order: as many structures as Platform
+/// Timer Count says, one after the other. Those of undefined types count too, and are skipped. It ends when
+/// that many were taken, or at the first fault: if the structures begin before byte 96, if less than 4
+/// bytes are left, if a length is less than the least of its type (20 for type 0, 28 for type 1, 4 for
+/// others) or goes past the table's end, and at a block that has frames which begin before its byte 20 or
+/// end after its end.
 #[derive(Debug, Drop)]
 pub struct PlatformTimerIter<'a> {
     rest: &'a [u8],
@@ -135,7 +138,8 @@ impl<'a> PlatformTimerIter<'a> {
     ghost use Rattle.acpi_arm.specs.Timers.{has_ended, is_malformed, missing_left, missing_of};
     ghost use Rattle.acpi_arm.specs.Timers.{timers_left, timers_of};
 
-    /// The platform timers of a GTDT's bytes. It knows no memory and no handler.
+    /// The Platform Timer Structures of a GTDT's bytes (section 5.2.24.1), in order. It needs no handler. A
+    /// table below revision 2 has none.
     pub fn over(table: &'a [u8]) -> Self
         ensures items { timers_left result ≡ timers_of table.now }
         ensures missing { missing_left result ≡ missing_of table.now }
@@ -148,8 +152,8 @@ impl<'a> PlatformTimerIter<'a> {
         }
     }
 
-    /// Whether `next` has answered `None` at a fault, and not after as many structures as the table
-    /// counts. Before that answer it is false.
+    /// Whether `next` has answered `None` at a fault, before it took as many structures as Platform Timer
+    /// Count says (section 5.2.24). As long as `next` hasn't answered `None` it is false.
     pub fn ended_malformed(&self) -> bool
         ensures { result ≡ is_malformed self.now }
     {
@@ -169,7 +173,7 @@ fn timer_count(table: &[u8]) -> u32
     }
 }
 
-/// The bytes from which on they lie, or none if that is before byte 96.
+/// The bytes from Platform Timer Offset on, or none if that is before byte 96.
 fn timer_bytes(table: &[u8]) -> &[u8]
     ensures { result.now ≡ timer_bytes table.now }
 {

@@ -1,4 +1,5 @@
-//! Where a register lies: a number in one of several address spaces.
+//! The Generic Address Structure (GAS): a register, by a number in one of several address spaces (section
+//! 5.2.3.2).
 ghost use Rattle.std.specs.Prelude.{◌≡◌};
 ghost use Rattle.acpi_base.specs.Address.{generic_address_of};
 
@@ -6,35 +7,35 @@ use crate::bytes::{field, filled};
 use crate::error::{AcpiError, AcpiResult};
 use crate::memory::handler::PhysicalRecord;
 
-/// What the number of a generic address counts (section 5.2.3.2).
+/// Address Space ID: the space in which the number of a generic address counts (section 5.2.3.2).
 #[derive(Clone, Copy, Debug, PartialEq, Eq)]
 pub enum AddressSpace {
-    /// Memory, by its physical address.
+    /// System Memory, code 0x00: memory, by its physical address.
     SystemMemory,
-    /// The processor's ports.
+    /// System I/O, code 0x01: the processor's ports.
     SystemIo,
-    /// The configuration space of a PCI device on bus 0 of segment 0: the device in bits 32 to 47,
-    /// the function in bits 16 to 31, the offset in bits 0 to 15.
+    /// PCI Configuration space, code 0x02: that of a PCI device on bus 0 of segment 0, with the device in
+    /// bits 32 to 47, the function in bits 16 to 31, the offset in bits 0 to 15.
     PciConfigSpace,
-    /// The space of an embedded controller.
+    /// Embedded Controller, code 0x03: the space of an embedded controller.
     EmbeddedController,
-    /// The space of a system management bus.
+    /// SMBus, code 0x04: the space of a system management bus.
     SMBus,
-    /// The memory of the real time clock.
+    /// SystemCMOS, code 0x05: the memory of the real time clock.
     SystemCmos,
-    /// What a base address register of a PCI device points to.
+    /// PciBarTarget, code 0x06: the space that a base address register of a PCI device points to.
     PciBarTarget,
-    /// The space of an intelligent platform management interface.
+    /// IPMI, code 0x07: the space of an intelligent platform management interface.
     Ipmi,
-    /// The pins of a general purpose I/O controller.
+    /// General Purpose I/O, code 0x08: the pins of a general purpose I/O controller.
     GeneralIo,
-    /// The space of a device on a serial bus.
+    /// GenericSerialBus, code 0x09: the space of a device on a serial bus.
     GenericSerialBus,
-    /// A channel to the platform's controller.
+    /// Platform Communications Channel (PCC), code 0x0a: a channel to the platform's controller.
     PlatformCommunicationsChannel,
-    /// What the maker of the processor defines.
+    /// Functional Fixed Hardware, code 0x7f: a space that the maker of the processor defines.
     FunctionalFixedHardware,
-    /// A space of the maker's own, by its code of 0xc0 to 0xff.
+    /// OEM Defined, codes 0xc0 to 0xff: a space of the maker's own, with its code.
     OemDefined(u8),
 }
 
@@ -45,7 +46,9 @@ impl TryFrom<u8> for AddressSpace {
 
     ghost try_from_gives = { λ code r. r ≡ space_of code };
 
-    /// The space of a code. Refuses a reserved code with `InvalidGenericAddress`.
+    /// The space of a code of Address Space ID (section 5.2.3.2).
+    ///
+    /// Refuses a reserved code with `InvalidGenericAddress`: those from 0x0b to 0xbf, but for 0x7f.
     fn try_from(code: u8) -> AcpiResult<AddressSpace> {
         match code {
             0x00 => Ok(AddressSpace::SystemMemory),
@@ -66,18 +69,18 @@ impl TryFrom<u8> for AddressSpace {
     }
 }
 
-/// How many bytes a register is read and written at once (section 5.2.3.2).
+/// Access Size: how many bytes of a register are read and written at once (section 5.2.3.2).
 #[derive(Clone, Copy, Debug, PartialEq, Eq)]
 pub enum AccessSize {
-    /// As the space and the register ask for.
+    /// Undefined, code 0: as many as the space and the register ask for.
     Undefined,
-    /// One byte.
+    /// Byte access, code 1: one byte.
     ByteAccess,
-    /// Two bytes.
+    /// Word access, code 2: two bytes.
     WordAccess,
-    /// Four bytes.
+    /// Dword access, code 3: four bytes.
     DWordAccess,
-    /// Eight bytes.
+    /// QWord access, code 4: eight bytes.
     QWordAccess,
 }
 
@@ -88,7 +91,9 @@ impl TryFrom<u8> for AccessSize {
 
     ghost try_from_gives = { λ code r. r ≡ access_size_of code };
 
-    /// The access size of a code. Refuses a reserved code with `InvalidGenericAddress`.
+    /// The access size of a code of Access Size (section 5.2.3.2).
+    ///
+    /// Refuses a reserved code with `InvalidGenericAddress`: those above 4.
     fn try_from(code: u8) -> AcpiResult<AccessSize> {
         match code {
             0 => Ok(AccessSize::Undefined),
@@ -101,7 +106,7 @@ impl TryFrom<u8> for AccessSize {
     }
 }
 
-/// The twelve bytes of a generic address, as a table encodes them.
+/// The twelve bytes of a Generic Address Structure, as a table has them (section 5.2.3.2).
 pub type RawAddress = [u8; 12];
 
 impl PhysicalRecord for RawAddress {
@@ -118,25 +123,25 @@ impl PhysicalRecord for RawAddress {
     }
 }
 
-/// A register (section 5.2.3.2): `bit_width` bits, the first of them `bit_offset` bits into what
-/// lies at `address` in the address space.
+/// Generic Address Structure (GAS): a register (section 5.2.3.2). It has `bit_width` bits, the first of them
+/// `bit_offset` bits after the lowest one at `address` in the address space.
 #[derive(Clone, Copy, Debug, PartialEq, Eq)]
 pub struct GenericAddress {
-    /// What `address` counts.
+    /// Address Space ID: the space in which `address` counts.
     pub address_space: AddressSpace,
-    /// How many bits the register has.
+    /// Register Bit Width: how many bits the register has.
     pub bit_width: u8,
-    /// How many bits lie before it at `address`.
+    /// Register Bit Offset: how many bits lie before the register at `address`.
     pub bit_offset: u8,
-    /// How much of it is read and written at once.
+    /// Access Size: how many bytes of the register are read and written at once.
     pub access_size: AccessSize,
-    /// Where it lies in that space.
+    /// Address: the register's address in that space.
     pub address: u64,
 }
 
 impl GenericAddress {
-    /// The address that twelve bytes of a table encode: the codes of the space, the width, the
-    /// offset and the access size in one byte each, then the address (section 5.2.3.2).
+    /// The register that the twelve bytes of a Generic Address Structure encode: Address Space ID, Register
+    /// Bit Width, Register Bit Offset and Access Size in one byte each, then Address (section 5.2.3.2).
     ///
     /// Refuses a reserved code of the space, or else of the access size, with
     /// `InvalidGenericAddress`.

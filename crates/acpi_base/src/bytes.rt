@@ -7,7 +7,7 @@ ghost use Rattle.acpi_base.specs.Text.{IsTextOf};
 
 pub use crate::table::sum::byte_sum;
 
-/// The `N` bytes at an offset, filled up with zeros where the bytes end before.
+/// The `N` bytes at an offset, filled up with zeros if the bytes end before.
 #[inline(always)]
 pub fn filled<const N: usize>(bytes: &[u8], offset: usize) -> [u8; N]
     ensures { result ≡ filled_part bytes.now offset N }
@@ -19,7 +19,7 @@ pub fn filled<const N: usize>(bytes: &[u8], offset: usize) -> [u8; N]
     filled
 }
 
-/// The same of bytes that are all there: nothing is tested.
+/// The `N` bytes at an offset, all of which are there: nothing is tested.
 #[inline(always)]
 pub fn filled_in<const N: usize>(bytes: &[u8], offset: usize) -> [u8; N]
     requires { offset + N ≤ length bytes.now }
@@ -42,8 +42,8 @@ fn number_of(bytes: &[u8]) -> u64
     u64::from_le_bytes(filled(bytes, 0))
 }
 
-/// The same, out of line: few tables end inside a field, and where they don't, the length is known
-/// when this is compiled.
+/// The number that at most eight bytes encode, the lowest byte first, out of line: few tables end inside a
+/// field, and if they don't, the length is known when this is compiled.
 #[inline(never)]
 fn rest_of(bytes: &[u8]) -> u64
     requires { length bytes.now ≤ 8 }
@@ -73,7 +73,8 @@ pub fn field(bytes: &[u8], offset: usize, n: usize) -> u64
     }
 }
 
-/// The same of bytes that are all there: nothing is tested.
+/// The little-endian number of the `n` bytes at an offset, for `n` of at most 8, all of which are there:
+/// nothing is tested (numbers: section 5.2).
 #[inline(always)]
 #[tactic(auto, unfolding(crate::specs::Bytes::field_of))]
 pub fn field_in(bytes: &[u8], offset: usize, n: usize) -> u64
@@ -86,7 +87,7 @@ pub fn field_in(bytes: &[u8], offset: usize, n: usize) -> u64
     number_of(&rest[..n])
 }
 
-/// The text that the bytes encode in UTF-8, or `None` if they encode none.
+/// The text that the bytes encode in UTF-8, or `None` if they are not valid UTF-8.
 pub fn text_of(bytes: &[u8]) -> Option<&str>
     ensures { IsTextOf result bytes.now }
 {
@@ -96,7 +97,7 @@ pub fn text_of(bytes: &[u8]) -> Option<&str>
     }
 }
 
-/// The bytes after the first `n`, or none where there are no more.
+/// The bytes after the first `n`, or none if there are no more.
 pub fn skip(bytes: &[u8], n: usize) -> &[u8]
     ensures { result.now ≡ drop n bytes.now }
 {
@@ -131,8 +132,8 @@ pub fn bits(number: u64, low: u32, width: u32) -> u64
     (number >> low) % (1 << width)
 }
 
-/// Whether each byte is below 128. It is written without an early end, so that the compiler tests
-/// the bytes of an array all at once.
+/// Whether each byte is below 128. It has no early end, so that the compiler tests the bytes of an array all
+/// at once.
 #[inline(always)]
 fn are_plain(bytes: &[u8]) -> bool
     ensures { (result ≡ true) → IsAscii bytes.now }
@@ -144,7 +145,7 @@ fn are_plain(bytes: &[u8]) -> bool
     plain
 }
 
-/// Whether the bytes encode some text in UTF-8.
+/// Whether the bytes are valid UTF-8.
 #[inline(always)]
 pub fn is_text(bytes: &[u8]) -> bool
     ensures { result ≡ is_utf8 bytes.now }
@@ -155,7 +156,7 @@ pub fn is_text(bytes: &[u8]) -> bool
     is_other_text(bytes)
 }
 
-/// The same, out of line: few names have other bytes than plain ones.
+/// Whether the bytes are valid UTF-8, out of line: few names have bytes of 128 and above.
 #[inline(never)]
 fn is_other_text(bytes: &[u8]) -> bool
     ensures { result ≡ is_utf8 bytes.now }

@@ -14,21 +14,21 @@ pub enum Width {
     Two,
 }
 
-/// Where a number stands in an entry.
+/// The place of a number in an entry.
 #[derive(Clone, Copy, Debug)]
 pub struct Place {
     /// How many bytes of the entry stand before it.
     pub at: u8,
-    /// How many bytes it has.
+    /// How many bytes the number has.
     pub width: Width,
 }
 
-/// What an entry of a table has to be.
+/// The layout of a table's entries: the places of type and length, and the least lengths.
 #[derive(Clone, Copy, Debug)]
 pub struct EntryLayout<const KINDS: usize> {
-    /// Where its type stands.
+    /// The place of an entry's type.
     pub kind_place: Place,
-    /// Where its length stands, in bytes, with these two numbers.
+    /// The place of an entry's length, which is in bytes and counts these two numbers too.
     pub length_place: Place,
     /// The least length of an entry of each type, from type 0 on.
     pub least_lengths: [usize; KINDS],
@@ -36,12 +36,12 @@ pub struct EntryLayout<const KINDS: usize> {
     pub least_of_others: usize,
 }
 
-/// How a table's bytes are cut into entries.
+/// A grammar of entries: how a table's bytes are cut into entries.
 #[derive(Clone, Copy, Debug)]
 pub struct Grammar<const KINDS: usize> {
-    /// What each entry has to be.
+    /// The layout of each entry.
     pub layout: EntryLayout<KINDS>,
-    /// How many entries there are at most, whatever comes after them. `None`: as many as begin.
+    /// The greatest number of entries, whatever comes after them. `None`: there is no bound.
     pub most: Option<usize>,
 }
 
@@ -68,7 +68,7 @@ pub fn number_at(place: Place, bytes: &[u8]) -> usize
     }
 }
 
-/// Where a number ends.
+/// The offset after a number's last byte.
 #[inline(always)]
 fn end_of(place: Place) -> usize
     ensures { result ≡ end_of place }
@@ -110,7 +110,8 @@ fn front<const KINDS: usize>(layout: &EntryLayout<KINDS>, bytes: &[u8]) -> Optio
     }
 }
 
-/// The same, or `None` if no entry may come.
+/// The length of the entry that the bytes begin with, or `None` if they begin with none, or no more entries
+/// may come.
 #[inline(always)]
 #[tactic(auto, unfolding(crate::specs::Entries::next_front))]
 fn next_front<const KINDS: usize>(grammar: &Grammar<KINDS>, bytes: &[u8]) -> Option<usize>

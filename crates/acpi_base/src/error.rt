@@ -4,45 +4,48 @@ use crate::table::signature::Signature;
 use std::alloc::AllocError;
 use std::fmt;
 
-/// What a call that can refuse answers.
+/// The answer of a call that can refuse: a value, or an `AcpiError`.
 pub type AcpiResult<T> = Result<T, AcpiError>;
 
 /// Why a call refuses. A signature that is carried is the one that was asked for.
 #[derive(Clone, Copy, Debug, PartialEq, Eq)]
 pub enum AcpiError {
-    /// The BIOS areas hold no valid RSDP.
+    /// No valid RSDP lies in the areas that were searched (section 5.2.5.1).
     NoValidRsdp,
-    /// An RSDP does not begin with `RSD PTR `.
+    /// An RSDP does not begin with `RSD PTR ` (section 5.2.5.3).
     RsdpIncorrectSignature,
-    /// The OEM id of an RSDP is not valid UTF-8.
+    /// The OEM id of an RSDP is not valid UTF-8 (section 5.2.5.3).
     RsdpInvalidOemId,
-    /// A sum over an RSDP is not 0, or its length is too small.
+    /// The first 20 bytes of an RSDP, or all, do not sum to 0 modulo 256, or its length is under 36 or above
+    /// the number of bytes at hand (section 5.2.5.3).
     RsdpInvalidChecksum,
-    /// A table has another signature, or one that is not valid UTF-8.
+    /// A table has another signature, or one that is not valid UTF-8 (section 5.2.6).
     SdtInvalidSignature(Signature),
-    /// The OEM id of a table is not valid UTF-8.
+    /// The OEM id of a table is not valid UTF-8 (section 5.2.6).
     SdtInvalidOemId(Signature),
-    /// The OEM table id of a table is not valid UTF-8.
+    /// The OEM table id of a table is not valid UTF-8 (section 5.2.6).
     SdtInvalidTableId(Signature),
-    /// The bytes of a table do not sum to 0 modulo 256.
+    /// The bytes of a table do not sum to 0 modulo 256 (section 5.2.6).
     SdtInvalidChecksum(Signature),
-    /// No valid table of this signature is listed in the root table.
+    /// No valid table of this signature is listed in the root table (sections 5.2.7 and 5.2.8).
     TableMissing(Signature),
-    /// The FADT gives no address of the FACS.
+    /// The FADT gives no address of the FACS: X_FIRMWARE_CTRL and FIRMWARE_CTRL are 0 (section 5.2.9).
     InvalidFacsAddress,
-    /// The FADT gives no address of the DSDT.
+    /// The FADT gives no address of the DSDT: X_DSDT and DSDT are 0 (section 5.2.9).
     InvalidDsdtAddress,
-    /// The MADT is valid, but what it lists is refused.
+    /// The MADT is valid, but one of its entries is refused (section 5.2.12), or a processor isn't woken.
     InvalidMadt(MadtError),
-    /// A generic address has a reserved code, or a width that it cannot hold.
+    /// A generic address has a reserved code (section 5.2.3.2), the ports of a FADT's block are 32 bytes or
+    /// more (section 5.2.9), or the registers of an HPET don't lie in memory.
     InvalidGenericAddress,
-    /// The allocator refused to grow.
+    /// The allocator refused memory.
     AllocError,
-    /// The handler lends no such range of memory.
+    /// The handler doesn't lend the range of memory that was asked for.
     MapFailed,
-    /// The length in a table's header is under the least, or past the bytes.
+    /// The length in a table's header is under the least of its type, or above the number of bytes at hand
+    /// (section 5.2.6).
     SdtInvalidLength(Signature),
-    /// The namespace string of an SPCR lies outside the table, or is not valid UTF-8.
+    /// NamespaceString of an SPCR lies outside the table, or is not valid UTF-8.
     InvalidNamespaceString,
 }
 
@@ -52,13 +55,13 @@ impl From<AllocError> for AcpiError {
 
     ghost from_gives = { λ _ e. e ≡ NoMemory };
 
-    /// `AllocError`, for a growth that was refused.
+    /// Makes `AllocError`, if memory is refused.
     fn from(_refused: AllocError) -> AcpiError {
         AcpiError::AllocError
     }
 }
 
-/// The variant's name; after a space, the signature or the error that it carries.
+/// Prints the variant's name and, after a space, the signature or the error that it carries.
 impl fmt::Display for AcpiError {
     ghost use Rattle.std.specs.Prelude.{Some};
     ghost use Rattle.acpi_base.specs.ErrorText.{error_text};
@@ -99,26 +102,28 @@ impl fmt::Display for AcpiError {
     }
 }
 
-/// Why what a valid MADT lists is refused (section 5.2.12).
+/// Why an entry of a valid MADT is refused, or a processor isn't woken (section 5.2.12).
 #[derive(Clone, Copy, Debug, PartialEq, Eq)]
 pub enum MadtError {
-    /// An entry of a type that the model has no place for, or none of the type asked for.
+    /// There is an entry of a type that the model has no place for, or none of the type asked for.
     UnexpectedEntry,
-    /// An interrupt source override is for another bus than ISA.
+    /// Bus of an Interrupt Source Override isn't 0, ISA (section 5.2.12.5).
     InterruptOverrideEntryHasInvalidBus,
-    /// A local NMI is for another line than LINT0 or LINT1.
+    /// LINT# of a Local APIC NMI or a Local x2APIC NMI is neither 0 nor 1 (sections 5.2.12.7 and 5.2.12.13).
     InvalidLocalNmiLine,
-    /// The flags of an interrupt hold the reserved polarity.
+    /// Polarity of MPS INTI Flags is 2, which is reserved (section 5.2.12.5).
     MpsIntiInvalidPolarity,
-    /// The flags of an interrupt hold the reserved trigger mode.
+    /// Trigger Mode of MPS INTI Flags is 2, which is reserved (section 5.2.12.5).
     MpsIntiInvalidTriggerMode,
-    /// The firmware did not take the wakeup command in time.
+    /// The firmware did not take the Wakeup command within the reads that were asked for (section
+    /// 5.2.12.19).
     WakeupApsTimeout,
-    /// An entry is shorter than its type, or reaches past the table.
+    /// The entries of a MADT end before its bytes do: bytes are left in which no entry begins. One byte is
+    /// left, or the next length is under 2, under the least of its type, or past the table's end.
     InvalidEntryLength,
 }
 
-/// The variant's name.
+/// Prints the variant's name.
 impl fmt::Display for MadtError {
     ghost use Rattle.std.specs.Prelude.{Some};
     ghost use Rattle.acpi_base.specs.ErrorText.{madt_error_text};

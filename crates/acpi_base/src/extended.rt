@@ -4,9 +4,9 @@ ghost use Rattle.std.specs.Prelude.{◌≡◌};
 use crate::bytes::has_part;
 use crate::memory::handler::PhysicalRecord;
 
-/// A field that a table or an entry has from a revision on, and only where it is long enough: from
-/// `MIN_REVISION` on, the value that its bytes encode, if all of them lie in the table that it was
-/// read from.
+/// A field that a table or an entry has from a revision on, and only if it is long enough: from
+/// `MIN_REVISION` on, the value that its bytes encode, if all of them lie in the table or the entry that it
+/// was read from.
 #[derive(Clone, Copy, Debug)]
 pub struct ExtendedField<T: Copy, const MIN_REVISION: u8> {
     value: Option<T>,
@@ -23,7 +23,8 @@ impl<T: Copy, const MIN_REVISION: u8> ExtendedField<T, MIN_REVISION> {
         ExtendedField { value }
     }
 
-    /// The value, where a table of this revision has the field and all its bytes lie in the table.
+    /// The value, or `None` if the revision is below `MIN_REVISION` or the field's bytes don't all lie in the
+    /// table.
     #[inline(always)]
     pub fn access(&self, revision: u8) -> Option<T>
         ensures { result ≡ shown_of self.now revision }
@@ -39,7 +40,8 @@ impl<T: Copy, const MIN_REVISION: u8> ExtendedField<T, MIN_REVISION> {
 impl<T: Copy + PhysicalRecord, const MIN_REVISION: u8> ExtendedField<T, MIN_REVISION> {
     ghost use Rattle.acpi_base.specs.Extended.{extended_at};
 
-    /// The field of `T::MIN_LENGTH` bytes at an offset of a table or an entry.
+    /// The field of `T::MIN_LENGTH` bytes at an offset of a table or an entry, with a value if all of these
+    /// bytes are there.
     #[inline(always)]
     pub fn read(bytes: &[u8], offset: usize) -> Self
         ensures { result ≡ extended_at T.reading bytes.now offset T.MIN_LENGTH }

@@ -1,5 +1,5 @@
-//! Laws of the names of tables, of comparisons and of conversions. The laws of the definitions are in
-//! the crate `acpi_laws`.
+//! Laws of the names of tables, of comparisons and of conversions: each is the contract of a function. The
+//! laws of the definitions are in the crate `acpi_laws`.
 ghost use Rattle.std.specs.Prelude.{◌≡◌, ◌↔◌};
 ghost use Rattle.std.specs.Cmp.Lexicographic.{slice_cmp};
 ghost use Rattle.std.specs.Ordering.{nat_cmp};
@@ -16,7 +16,7 @@ use crate::tables::madt::MpProtectedModeWakeupCommand;
 use crate::tables::spcr::SpcrInterfaceType;
 use std::cmp::Ordering;
 
-/// Each constant of `Signature` has the four letters of its table.
+/// Each constant of `Signature` has the four letters of its table (section 5.2.6).
 pub fn names_are_spelled()
     ensures { NamesAreSpelled }
 {}
@@ -31,49 +31,49 @@ pub fn signature_order(a: &Signature, b: &Signature) -> Ordering
     a.cmp(b)
 }
 
-/// The signature of a signature's bytes is that signature.
+/// `Signature::from_bytes` of a signature's bytes is that signature.
 pub fn signature_of_its_bytes(signature: Signature) -> Signature
     ensures { result ≡ signature }
 {
     Signature::from_bytes(signature.to_bytes())
 }
 
-/// The bytes of the signature of four bytes are these bytes.
+/// The bytes of the signature that `Signature::from_bytes` makes of four bytes are these bytes.
 pub fn bytes_of_a_signature(bytes: [u8; 4]) -> [u8; 4]
     ensures { result ≡ bytes }
 {
     Signature::from_bytes(bytes).to_bytes()
 }
 
-/// Signatures compare as equal exactly if they are one.
+/// Two `Signature`s compare as equal exactly if their four bytes are the same.
 pub fn signature_equality(a: &Signature, b: &Signature) -> bool
     ensures { IsEquality result a.now b.now }
 {
     a == b
 }
 
-/// Refusals compare as equal exactly if they are one.
+/// Two `AcpiError`s compare as equal exactly if they are the same variant and carry the same.
 pub fn error_equality(a: &AcpiError, b: &AcpiError) -> bool
     ensures { IsEquality result a.now b.now }
 {
     a == b
 }
 
-/// Refusals of what a MADT lists compare as equal exactly if they are one.
+/// Two `MadtError`s compare as equal exactly if they are the same variant.
 pub fn madt_error_equality(a: &MadtError, b: &MadtError) -> bool
     ensures { IsEquality result a.now b.now }
 {
     a == b
 }
 
-/// Commands of the wakeup mailbox compare as equal exactly if they are one.
+/// Two `MpProtectedModeWakeupCommand`s compare as equal exactly if they are the same variant.
 pub fn command_equality(a: &MpProtectedModeWakeupCommand, b: &MpProtectedModeWakeupCommand) -> bool
     ensures { IsEquality result a.now b.now }
 {
     a == b
 }
 
-/// The command of a command's number is that command.
+/// The command that is made of a command's number is that command.
 pub fn command_of_its_number(
     command: MpProtectedModeWakeupCommand,
 ) -> Result<MpProtectedModeWakeupCommand, u16>
@@ -82,35 +82,35 @@ pub fn command_of_its_number(
     MpProtectedModeWakeupCommand::try_from(command as u16)
 }
 
-/// Address spaces compare as equal exactly if they are one.
+/// Two `AddressSpace`s compare as equal exactly if they are the same variant with the same code.
 pub fn space_equality(a: &AddressSpace, b: &AddressSpace) -> bool
     ensures { IsEquality result a.now b.now }
 {
     a == b
 }
 
-/// Access sizes compare as equal exactly if they are one.
+/// Two `AccessSize`s compare as equal exactly if they are the same variant.
 pub fn access_size_equality(a: &AccessSize, b: &AccessSize) -> bool
     ensures { IsEquality result a.now b.now }
 {
     a == b
 }
 
-/// Generic addresses compare as equal exactly if they are one.
+/// Two `GenericAddress`es compare as equal exactly if all their fields are equal.
 pub fn address_equality(a: &GenericAddress, b: &GenericAddress) -> bool
     ensures { IsEquality result a.now b.now }
 {
     a == b
 }
 
-/// Ranges compare as equal exactly if they are one.
+/// Two `AddressRange`s compare as equal exactly if all their fields are equal.
 pub fn range_equality(a: &AddressRange, b: &AddressRange) -> bool
     ensures { IsEquality result a.now b.now }
 {
     a == b
 }
 
-/// Interfaces of serial ports compare as equal exactly if they are one.
+/// Two `SpcrInterfaceType`s compare as equal exactly if they are the same variant with the same code.
 pub fn interface_equality(a: &SpcrInterfaceType, b: &SpcrInterfaceType) -> bool
     ensures { IsEquality result a.now b.now }
 {

@@ -6,14 +6,14 @@ use crate::error::AcpiResult;
 use std::alloc::{AllocError, Allocator, Global};
 use std::marker::Model;
 
-/// A slice of fixed length, which owns its items and the memory that they lie in. Both go with it:
-/// each item is dropped once.
+/// A slice of fixed length, which owns its items and the memory that they lie in. Both are given up with
+/// the slice: each item is dropped once.
 #[derive(Drop)]
 pub struct ManagedSlice<T, A: Allocator> {
     items: Vec<T, A>,
 }
 
-/// In contracts it is the list of its items.
+/// In contracts a `ManagedSlice` is the list of its items.
 impl<T, A: Allocator> Model for ManagedSlice<T, A> {
     ghost Value = { List T };
 
@@ -21,10 +21,9 @@ impl<T, A: Allocator> Model for ManagedSlice<T, A> {
 }
 
 impl<T: Clone + Drop, A: Allocator> ManagedSlice<T, A> {
-    /// `len` items, each of them equal to `value`, whose clones have to equal it. No memory is asked for
-    /// where `len` is 0.
+    /// `len` items, each of them equal to `value`, whose clones have to equal it, in memory of an allocator.
     ///
-    /// Refuses with `AllocError` where a growth is refused, or a clone of `value`.
+    /// Refuses with `AllocError` if memory is refused, or a clone of `value`, and that only if `len` isn't 0.
     pub fn new_in(len: usize, value: T, allocator: A) -> AcpiResult<ManagedSlice<T, A>>
         requires { (y : T) → T.is_clone value y → y ≡ value }
         ensures items { IfOk result (λ s. s ≡ replicate len value) }
@@ -42,7 +41,10 @@ impl<T: Clone + Drop, A: Allocator> ManagedSlice<T, A> {
 }
 
 impl<T: Clone + Drop> ManagedSlice<T, Global> {
-    /// `new_in` over the global allocator.
+    /// `len` items, each of them equal to `value`, whose clones have to equal it, in memory of the global
+    /// allocator.
+    ///
+    /// Refuses with `AllocError` if memory is refused, or a clone of `value`, and that only if `len` isn't 0.
     pub fn new(alloc: Global, len: usize, value: T) -> AcpiResult<ManagedSlice<T, Global>>
         requires { (y : T) → T.is_clone value y → y ≡ value }
         ensures items { IfOk result (λ s. s ≡ replicate len value) }
@@ -57,21 +59,21 @@ impl<T, A: Allocator> ManagedSlice<T, A> {
     ghost use Rattle.std.specs.Borrow.{sem};
     ghost use Rattle.acpi_base.specs.Lends.{lends_slice};
 
-    /// The items of a vector, with the memory that they lie in. For what gathers items one by one.
+    /// The items of a vector, in the memory that they lie in already.
     pub fn from_vec(items: Vec<T, A>) -> ManagedSlice<T, A>
         ensures { result ≡ items.items }
     {
         ManagedSlice { items }
     }
 
-    /// The items.
+    /// The items, in order.
     pub fn as_slice(&self) -> &[T]
         ensures { result.now ≡ self.now }
     {
         self.items.as_slice()
     }
 
-    /// The items, to be written. Their number stays.
+    /// The items, in order, to be written. Their number stays.
     pub fn as_mut_slice(&mut self) -> &mut [T]
         ensures* writes_back { sem 𝓛 (lends_slice T.row A.row A.Allocator self.entry result) }
         ensures value { result.now ≡ self.old }
@@ -83,8 +85,7 @@ impl<T, A: Allocator> ManagedSlice<T, A> {
 impl<T: Clone + Drop, A: Allocator + Clone> ManagedSlice<T, A> {
     /// Clones of the items, which have to equal them, in order, in memory of a clone of the allocator.
     ///
-    /// Refuses with `AllocError` where a growth is refused, or the clone of the allocator or of an
-    /// item.
+    /// Refuses with `AllocError` if memory is refused, or the clone of the allocator or of an item.
     pub fn clone(&self) -> Result<ManagedSlice<T, A>, AllocError>
         requires { (x y : T) → Contains self.now x → T.is_clone x y → y ≡ x }
         ensures { IfOk result (λ s. s ≡ self.now) }

@@ -1,4 +1,4 @@
-//! Physical memory: what lends it, what was lent until its notice, and records in it.
+//! Physical memory: handlers that lend it, claims of lent bytes until their notice, and records in it.
 
 pub(crate) mod claim;
 pub mod guarded;

@@ -1,4 +1,5 @@
-//! The interrupt model: what the entries of a MADT say of controllers and processors together.
+//! The interrupt model: the controllers and processors that the entries of a MADT describe together (section
+//! 5.2.12).
 //!
 //! The first entry that is refused decides. Without one, what the entries say is gathered, each sort
 //! into a list of its own.
@@ -25,5 +26,5 @@ pub use nmi_lines::LocalNmiLines;
 pub use pin::IoApicPin;
 pub use processor::{Processor, ProcessorInfo, ProcessorState};
 
-/// The interrupt model, and the processors, or `None` where none is listed.
+/// The interrupt model of a MADT (section 5.2.12), and the processors, or `None` if it lists none.
 pub type ModelAndProcessors<A> = (InterruptModel<A>, Option<ProcessorInfo<A>>);

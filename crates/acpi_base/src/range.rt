@@ -3,8 +3,8 @@
 /// A range of physical addresses: so many bytes from an address on.
 #[derive(Clone, Copy, Debug, PartialEq, Eq)]
 pub struct AddressRange {
-    /// The physical address of the first byte.
+    /// The physical address of the range's first byte.
     pub address: u64,
-    /// How many bytes it has.
+    /// How many bytes the range has.
     pub length: u64,
 }

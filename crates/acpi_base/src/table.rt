@@ -1,4 +1,4 @@
-//! Types of tables: what each asks for, and how it is checked.
+//! Types of tables: the signature and the least length of each, and how it is checked (section 5.2.6).
 ghost use Rattle.std.specs.Prelude.{◌≡◌, ℕ, ◌≤◌, List, length, Ok};
 ghost use Rattle.acpi_base.specs.Header.{check_names, check_table, header_at};
 ghost use Rattle.acpi_base.specs.Table.{Kind};
@@ -16,33 +16,34 @@ use header::SdtHeader;
 pub use lookup::{ValidTable, map_own_sdt, map_sdt, map_table, valid_at};
 use signature::Signature;
 
-/// A type of table, as a kernel may add its own. `kind` is what a lookup asks for: the signature, the
-/// least length, and what `validate` means, which is a function of the table's bytes alone.
+/// A type of table (section 5.2.6). A kernel may add types of its own. `kind` is what a lookup asks for: the
+/// signature, the least length, and what `validate` means, which is a function of the table's bytes alone.
 pub trait AcpiTable: PhysicalRecord {
-    /// The signature that names the table.
+    /// Signature: the four letters that name the table (section 5.2.6).
     const SIGNATURE: Signature;
 
     ghost SIGNATURE: { Signature };
 
     ghost kind: { Kind };
 
-    /// The header that the table begins with: that of any bytes that this value was read from.
+    /// The header that the table begins with (section 5.2.6): that of any bytes that this value was read
+    /// from.
     fn header(&self) -> &SdtHeader
         ensures { (b : List ℕ) → Self.MIN_LENGTH ≤ length b → self.now ≡ Self.reading b
             → result.now ≡ header_at b };
 
-    /// Checks the table that this value was read from, whose bytes these are. Most types answer
-    /// `self.header().validate(Self::SIGNATURE, bytes)`, and have an `sdt_kind` of that
+    /// Checks the table that this value was read from, by its bytes, and refuses as `kind.check` says. Most
+    /// types answer `self.header().validate(Self::SIGNATURE, bytes)`, and have an `sdt_kind` of that
     /// signature as their kind.
     fn validate(&self, bytes: &[u8]) -> AcpiResult<()>
         requires least { Self.MIN_LENGTH ≤ length bytes.now }
         requires read { self.now ≡ Self.reading bytes.now }
         ensures { result ≡ kind.check bytes.now };
 
-    /// What `validate` answers for the record that these bytes mean, where their header is known to
-    /// have the names that a table of this type has, and to give as long a table as they are. A
-    /// lookup asks it of each member that has such a header. A type whose kind is an `sdt_kind`
-    /// need only look at the sum: `sum_refusal` does.
+    /// What `validate` answers for the record that these bytes mean, if their header is known to have the
+    /// names of a table of this type, and a length that is their number. A lookup asks it of each member
+    /// that has such a header. A type whose kind is an `sdt_kind` need only look at the sum: `sum_refusal`
+    /// does.
     #[inline(always)]
     fn validate_rest(bytes: &[u8]) -> AcpiResult<()>
         requires least { Self.MIN_LENGTH ≤ length bytes.now }
@@ -59,8 +60,10 @@ pub trait AcpiTable: PhysicalRecord {
     ghost agrees: { (kind.signature ≡ SIGNATURE) × (kind.least ≡ Self.MIN_LENGTH) };
 }
 
-/// What is left to check of a table whose header has the names and gives the length: that its bytes
-/// sum to 0 modulo 256.
+/// Checks what is left to check of a table whose header has the names, and a length that is the number of
+/// its bytes: that these sum to 0 modulo 256 (section 5.2.6).
+///
+/// Refuses with `SdtInvalidChecksum`, carrying the signature, if they don't.
 #[inline(always)]
 #[tactic(auto, using(crate::proofs::TableByHeader::bad_rest, crate::proofs::TableByHeader::good_rest))]
 pub fn sum_refusal(signature: Signature, bytes: &[u8]) -> AcpiResult<()>

@@ -1,4 +1,5 @@
-//! The tables whose entries are read one by one, by calls of their mappings.
+//! The tables MADT (section 5.2.12), MCFG and SPCR (section 5.2.6 reserves their signatures), whose mappings
+//! have functions of their own.
 
 pub mod madt;
 pub mod mcfg;

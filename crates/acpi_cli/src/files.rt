@@ -1,4 +1,4 @@
-//! Files as a program asks for them: each name that it asks for is listed, with what was read.
+//! Files as a program asks for them: each name that it asks for is listed, with the bytes that were read.
 ghost use Rattle.std.specs.Prelude.{◌≡◌, ◌++◌, ◌∷◌, ℕ, List, [], IfOk, OnErr, OnOk, Option, drop, length, map};
 ghost use Rattle.std.specs.Option.{option_copied};
 ghost use Rattle.acpi_cli.specs.Reads.{Asks, AsksFront, FileRead, contents_of, read_of};
@@ -6,7 +6,7 @@ ghost use Rattle.acpi_cli.specs.Reads.{Asks, AsksFront, FileRead, contents_of, r
 use std::alloc::{AllocError, Global};
 use std::fs;
 
-/// A file that was asked for.
+/// A file that was asked for: its name, and the bytes that were read of it, if it can be read.
 #[derive(Drop)]
 pub struct Reading {
     name: String,
@@ -30,7 +30,7 @@ impl Reading {
 pub trait Files {
     ghost asked: { Self → List FileRead };
 
-    /// Asks for the file of a name, and keeps what is read of it.
+    /// Asks for the file of a name, and keeps the bytes that are read of it.
     ///
     /// Refuses if memory for the list is refused, and then asks for no file.
     fn read(&mut self, name: &str) -> Result<(), AllocError>
@@ -38,7 +38,7 @@ pub trait Files {
             ≡ asked self.old ++ record { name = name.now; content = content } ∷ [])) }
         ensures refused { OnErr result (asked self.new ≡ asked self.old) };
 
-    /// All files that were asked for, in order.
+    /// All files that were asked for, in order, each with the bytes that were read of it.
     fn readings(&self) -> &[Reading]
         ensures { map read_of result.now ≡ asked self.now };
 }
@@ -53,7 +53,7 @@ pub struct HostFiles<'r> {
 impl<'r> HostFiles<'r> {
     ghost use Rattle.std.specs.Prelude.{◌≡◌, []};
 
-    /// The files of this system, of which none was asked for.
+    /// The files of the system, of which none was asked for yet.
     pub fn new(rt: &'r HostRuntime) -> HostFiles<'r>
         ensures { ⟦<HostFiles<'r> as Files>⟧.asked result ≡ [] }
     {
@@ -64,7 +64,7 @@ impl<'r> HostFiles<'r> {
     }
 }
 
-/// The list is what is kept: the name, and the bytes that the system gave for it.
+/// Lists each name with the bytes that the system gave for it.
 impl Files for HostFiles<'_> {
     ghost use Rattle.std.specs.Prelude.{map};
     ghost use Rattle.acpi_cli.specs.Reads.{read_of};
@@ -97,7 +97,7 @@ pub fn count<F: Files>(files: &F) -> usize
     files.readings().len()
 }
 
-/// Asks for the files of these names, in order.
+/// Asks for the files of these names, each once and in order.
 ///
 /// Refuses if memory for the list is refused, and then asks for no further file.
 #[tactic(auto, using(crate::proofs::Asking::next_name, crate::proofs::Asking::all_names, crate::proofs::Asking::none_asked))]
@@ -111,7 +111,8 @@ pub fn read_all<F: Files>(files: &mut F, names: &[&str]) -> Result<(), AllocErro
     Ok(())
 }
 
-/// What was read of the files that were asked for, in order, after the first `start` of them.
+/// The bytes that were read of the files that were asked for after the first `start` of them, in order, each
+/// `None` if the file can't be read.
 ///
 /// Refuses if it runs out of memory.
 pub fn contents_from<F: Files>(
@@ -130,7 +131,7 @@ pub fn contents_from<F: Files>(
     }
 }
 
-/// What was read of these files.
+/// The bytes that were read of these files, in order.
 ///
 /// Refuses if it runs out of memory.
 fn contents(alloc: Global, readings: &[Reading]) -> Result<Vec<Option<&[u8]>>, AllocError>

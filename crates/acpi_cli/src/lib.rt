@@ -1,4 +1,4 @@
-//! What programs share: arguments, what they say that leads to the tables, and files that are read.
+//! Code that the programs share: arguments, the way to the root table that they say, and files that are read.
 #![tactic(auto)]
 
 pub mod files;
@@ -37,23 +37,26 @@ fn number_of(digits: &str, base: u32, most: usize) -> Option<u64>
     u64::from_str_radix(digits, base).ok()
 }
 
-/// The revision that an argument encodes: one to three decimal digits, at most 255.
+/// The revision that an argument encodes, by one to three decimal digits, or `None` if it is something else
+/// or above 255.
 pub fn parse_revision(word: &str) -> Option<u8>
     ensures { result ≡ revision_of word.now }
 {
     u8::try_from(number_of(word, 10, 3)?).ok()
 }
 
-/// The address that an argument encodes: `0x`, and one to sixteen hexadecimal digits of either case.
+/// The address that an argument encodes, by `0x` and one to sixteen hexadecimal digits of either case, or
+/// `None` if it is something else.
 pub fn parse_address(word: &str) -> Option<u64>
     ensures { result ≡ address_of word.now }
 {
     number_of(word.strip_prefix("0x")?, 16, 16)
 }
 
-/// The arguments as they were had, or none if they can't be had, as when one isn't valid UTF-8.
+/// These arguments, or no arguments if the system refused them for another reason than memory, as when one is
+/// not valid UTF-8.
 ///
-/// Refuses if memory for them is refused.
+/// Refuses if memory for the arguments was refused.
 pub fn args_or_none(alloc: Global, args: io::Result<Vec<String>>) -> io::Result<Vec<String>>
     ensures had { IfOk args (λ t. result ≡ Ok t) }
     // Memory that is refused doesn't make the arguments wrong.
@@ -80,21 +83,21 @@ fn after_name(mut args: Vec<String>) -> Vec<String>
 
 /// The process's arguments after the program's name, in order.
 ///
-/// Refuses if they can't be had.
+/// Refuses if the system refuses them.
 fn given_args(rt: &HostRuntime) -> io::Result<Vec<String>> {
     let args = env::args(rt)?.collect(rt.alloc())?;
     Ok(after_name(args))
 }
 
-/// The process's arguments after the program's name, in order, or none if they can't be had, as when
-/// one isn't valid UTF-8.
+/// The process's arguments after the program's name, in order, or no arguments if the system refuses them for
+/// another reason than memory, as when one is not valid UTF-8.
 ///
 /// Refuses if memory for them is refused.
 pub fn args(rt: &HostRuntime) -> io::Result<Vec<String>> {
     args_or_none(rt.alloc(), given_args(rt))
 }
 
-/// The same texts, borrowed.
+/// Owned texts, borrowed, in order.
 ///
 /// Refuses if it runs out of memory.
 pub fn borrowed(alloc: Global, texts: &[String]) -> Result<Vec<&str>, AllocError>

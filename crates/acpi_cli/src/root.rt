@@ -1,4 +1,4 @@
-//! What leads to the tables, as arguments say it, and the tables that it leads to.
+//! The way to the root table, as arguments say it, and the tables that it leads to.
 ghost use Rattle.std.specs.Prelude.{◌≡◌, map};
 ghost use Rattle.acpi_base.specs.Equality.{IsEquality};
 ghost use Rattle.acpi_cli.specs.Root.{bios_root, form_root, root_of, rsdp_root, rsdt_root};
@@ -6,19 +6,20 @@ ghost use Rattle.acpi_cli.specs.Root.{bios_root, form_root, root_of, rsdp_root, 
 use crate::{parse_address, parse_revision};
 use acpi::{AcpiHandler, AcpiResult, AcpiTables};
 
-/// What leads to the tables.
+/// The way to the root table.
 #[derive(Clone, Copy, PartialEq, Eq)]
 pub enum Root {
-    /// The root table at an address: the RSDT for revision 0, otherwise the XSDT.
+    /// The root table at an address: the RSDT (section 5.2.7) for revision 0, otherwise the XSDT (section
+    /// 5.2.8).
     Rsdt {
         /// The revision that the tables are opened with.
         revision: u8,
-        /// Where the root table starts.
+        /// The physical address of the root table's first byte.
         address: u64,
     },
-    /// The RSDP at an address.
+    /// The RSDP at an address (section 5.2.5.3).
     Rsdp {
-        /// Where the RSDP starts.
+        /// The physical address of the RSDP's first byte.
         address: u64,
     },
     /// The RSDP that is found in the BIOS areas (section 5.2.5.1).
@@ -32,9 +33,9 @@ impl Root {
     ghost use Rattle.acpi.specs.Tables.{lender_of};
     ghost use Rattle.acpi_cli.specs.Root.{opened_for};
 
-    /// The tables that it leads to.
+    /// The tables below the root table that this way leads to.
     ///
-    /// Refuses as `AcpiTables::from_rsdt`, `from_rsdp` and `search_for_rsdp_bios` do.
+    /// Refuses as `AcpiTables::from_rsdt`, `from_rsdp` or `search_for_rsdp_bios` does.
     pub fn open<H: AcpiHandler>(self, handler: &H) -> AcpiResult<AcpiTables<'_, H>>
         ensures lender { IfOk result (λ t. lender_of t ≡ handler.now) }
         ensures exact { Gives (λ t. opened_of t) result (opened_for (H.memory handler.now) self) }
@@ -47,7 +48,7 @@ impl Root {
     }
 }
 
-/// The arguments after `rsdt`: REVISION, then ADDRESS.
+/// The way that the arguments after `rsdt` say: REVISION, then ADDRESS.
 fn parse_rsdt(words: &[&str]) -> Option<Root>
     ensures { result ≡ rsdt_root (map (λ w. w.now) words.now) }
 {
@@ -59,7 +60,7 @@ fn parse_rsdt(words: &[&str]) -> Option<Root>
     Some(Root::Rsdt { revision, address })
 }
 
-/// The arguments after `rsdp`: ADDRESS.
+/// The way that the arguments after `rsdp` say: ADDRESS.
 fn parse_rsdp(words: &[&str]) -> Option<Root>
     ensures { result ≡ rsdp_root (map (λ w. w.now) words.now) }
 {
@@ -70,7 +71,7 @@ fn parse_rsdp(words: &[&str]) -> Option<Root>
     Some(Root::Rsdp { address })
 }
 
-/// The arguments after `bios`: none.
+/// The way that the arguments after `bios` say, of which there are none.
 fn parse_bios(words: &[&str]) -> Option<Root>
     ensures { result ≡ bios_root (map (λ w. w.now) words.now) }
 {
@@ -81,7 +82,7 @@ fn parse_bios(words: &[&str]) -> Option<Root>
     }
 }
 
-/// A form, and the arguments after it.
+/// The way that a form says, `rsdt`, `rsdp` or `bios`, with the arguments after it.
 fn parse_form(form: &str, words: &[&str]) -> Option<Root>
     ensures { result ≡ form_root form.now (map (λ w. w.now) words.now) }
 {
@@ -93,8 +94,8 @@ fn parse_form(form: &str, words: &[&str]) -> Option<Root>
     }
 }
 
-/// What the arguments `rsdt REVISION ADDRESS`, `rsdp ADDRESS` or `bios` say that leads to the tables,
-/// or `None` if they are none of these.
+/// The way to the root table that the arguments `rsdt REVISION ADDRESS`, `rsdp ADDRESS` or `bios` say, or
+/// `None` if they are none of these.
 pub fn parse_root(words: &[&str]) -> Option<Root>
     ensures { result ≡ root_of (map (λ w. w.now) words.now) }
 {
@@ -104,7 +105,7 @@ pub fn parse_root(words: &[&str]) -> Option<Root>
     parse_form(form, rest)
 }
 
-/// What leads to tables compares as equal exactly if it is one.
+/// Two `Root`s compare as equal exactly if they are the same variant with the same fields.
 pub fn root_equality(a: &Root, b: &Root) -> bool
     ensures { IsEquality result a.now b.now }
 {

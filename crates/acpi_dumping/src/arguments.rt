@@ -1,10 +1,10 @@
-//! What the arguments of the program ask for.
+//! The arguments of the program.
 
 use acpi::sdt::Signature;
 use acpi_cli::root::Root;
 use acpi_report::arguments::parse_command;
 
-/// How the tables of a signature are shown.
+/// The form in which the tables of a signature are shown.
 #[derive(Clone, Copy)]
 pub(crate) enum Contents {
     /// By their fields.
@@ -13,27 +13,27 @@ pub(crate) enum Contents {
     Bytes,
 }
 
-/// What is shown of the tables.
+/// The part of the tables that is shown.
 #[derive(Clone, Copy)]
 pub(crate) enum Shown {
     /// A line for each.
     Lines,
-    /// What each valid table of a signature holds.
+    /// The contents of each valid table of a signature.
     Tables(Signature, Contents),
 }
 
-/// What the arguments ask for.
+/// The request that the arguments make.
 #[derive(Clone, Copy)]
 pub(crate) enum Asked {
-    /// How the program is called.
+    /// The text that says how the program is called.
     Help,
-    /// Which version it is.
+    /// The version of the program.
     Version,
-    /// The tables of an image that this leads to.
+    /// The tables of an image, below the root table that this way leads to.
     Tables(Root, Shown),
 }
 
-/// The signature that an argument is: four bytes.
+/// The signature that an argument is, or `None` if it doesn't have four bytes.
 fn parse_signature(text: &str) -> Option<Signature> {
     match text.as_bytes() {
         [a, b, c, d] => Some(Signature::from_bytes([*a, *b, *c, *d])),
@@ -41,7 +41,7 @@ fn parse_signature(text: &str) -> Option<Signature> {
     }
 }
 
-/// How an argument asks for tables of a signature.
+/// The form in which an argument asks for tables of a signature.
 fn parse_contents(text: &str) -> Option<Contents> {
     match text {
         "--table" => Some(Contents::Fields),
@@ -50,7 +50,7 @@ fn parse_contents(text: &str) -> Option<Contents> {
     }
 }
 
-/// What a single argument asks for that names no image.
+/// The request of a single argument that names no image.
 fn parse_single(text: &str) -> Option<Asked> {
     match text {
         "--help" => Some(Asked::Help),
@@ -59,7 +59,7 @@ fn parse_single(text: &str) -> Option<Asked> {
     }
 }
 
-/// What the arguments after the program's name ask for, or `None` if they are no command.
+/// The request of the arguments after the program's name, or `None` if they are not a command.
 pub(crate) fn parse(arguments: &[&str]) -> Option<Asked> {
     if let [single] = arguments {
         return parse_single(single);

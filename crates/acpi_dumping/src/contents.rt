@@ -1,4 +1,4 @@
-//! What a table holds: its fields or its bytes.
+//! The contents of a table: its fields or its bytes.
 
 use crate::arguments::Contents;
 use crate::fields::{print_bytes, print_fields};
@@ -10,7 +10,7 @@ use acpi::sdt::{Signature, field};
 use std::io;
 use std::io::Write;
 
-/// Prints what a table holds.
+/// Prints the contents of a table.
 pub(crate) fn print_contents<W: Write>(
     signature: Signature,
     table: &[u8],
@@ -102,7 +102,7 @@ fn print_listing<W: Write>(table: &[u8], listing: Listing, out: &mut W) -> io::R
     print_bytes(offset, rest, 0, rest.len(), out)
 }
 
-/// Prints a SLIT, with a line for the distances from each locality. Bytes that are no whole line are
+/// Prints a SLIT, with a line for the distances from each locality. Bytes that are not a whole line are
 /// printed as bytes.
 fn print_slit<W: Write>(table: &[u8], out: &mut W) -> io::Result<()> {
     let (front, mut rest) = split(table, 44);

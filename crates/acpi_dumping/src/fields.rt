@@ -96,7 +96,7 @@ fn number_of(value: &[u8]) -> u64 {
     field(value, 0, value.len())
 }
 
-/// Prints what a field's value means, if it means more than itself.
+/// Prints the meaning of a field's value, if it means more than itself.
 fn print_meaning<W: Write>(value: &[u8], meaning: Meaning, out: &mut W) -> io::Result<()> {
     match meaning {
         Meaning::Plain => Ok(()),
@@ -124,7 +124,7 @@ pub(crate) fn print_text<W: Write>(bytes: &[u8], out: &mut W) -> io::Result<()> 
     Ok(())
 }
 
-/// Prints what a number stands for.
+/// Prints the meaning of a number that is a code.
 fn print_code<W: Write>(number: u64, codes: &[Code], out: &mut W) -> io::Result<()> {
     for code in codes {
         let Code(value, name) = *code;

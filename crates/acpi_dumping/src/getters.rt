@@ -1,4 +1,4 @@
-//! What a FADT's fields come to together: the answers of its getters.
+//! The answers of a FADT's getters, which take several fields together.
 
 use acpi::address::GenericAddress;
 use acpi::fadt::Fadt;
@@ -32,7 +32,7 @@ pub(crate) fn print_getters<W: Write>(table: &[u8], out: &mut W) -> io::Result<(
     print_block("sleep status register", fadt.sleep_status_register(), out)
 }
 
-/// Prints an address, or why there is none.
+/// Prints an address, or its refusal.
 fn print_address<W: Write>(name: &str, address: AcpiResult<u64>, out: &mut W) -> io::Result<()> {
     match address {
         Ok(address) => writeln!(out, "  {name}: 0x{address:x}"),
@@ -40,7 +40,7 @@ fn print_address<W: Write>(name: &str, address: AcpiResult<u64>, out: &mut W) ->
     }
 }
 
-/// Prints a block of registers, or why it is refused.
+/// Prints a block of registers, or its refusal.
 fn print_block<W: Write>(
     name: &str,
     block: AcpiResult<Option<GenericAddress>>,

@@ -1,4 +1,4 @@
-//! What a GTDT holds: its fields, and the structures of its platform timers.
+//! The contents of a GTDT: its fields, and the structures of its platform timers.
 
 use crate::fields::{cut, print_bytes, print_fields};
 use crate::layouts::HEADER;

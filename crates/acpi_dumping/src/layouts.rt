@@ -8,32 +8,32 @@ mod numa;
 
 use acpi::sdt::Signature;
 
-/// What a field's number means.
+/// The meaning of a field's number.
 #[derive(Clone, Copy)]
 pub(crate) enum Meaning {
-    /// Itself.
+    /// The number itself.
     Plain,
-    /// Itself, and it is easier read as a decimal number.
+    /// The number itself, which is easier read in decimal digits.
     Decimal,
     /// The bytes are a text.
     Text,
-    /// One of these.
+    /// The number is one of these codes.
     Codes(&'static [Code]),
-    /// Those of these bits that are set.
+    /// The number is a set of these bits.
     Bits(&'static [Bit]),
     /// The bytes are a generic address (section 5.2.3.2).
     Register,
 }
 
-/// A number, and what it stands for.
+/// A code: a number, and its meaning.
 #[derive(Clone, Copy)]
 pub(crate) struct Code(pub(crate) u64, pub(crate) &'static str);
 
-/// The number of a bit, and what it says if it is set.
+/// A bit: its number, and its meaning if it is set.
 #[derive(Clone, Copy)]
 pub(crate) struct Bit(pub(crate) u32, pub(crate) &'static str);
 
-/// A field: its offset, its length in bytes, its name and what its number means.
+/// A field: its offset and its length in bytes, its name, and the meaning of its number.
 #[derive(Clone, Copy)]
 pub(crate) struct Field(
     pub(crate) usize,
@@ -86,7 +86,7 @@ pub(crate) enum Listing {
     Srat,
 }
 
-/// Which such table has this signature.
+/// The listing of a table with this signature, or `None` if it has no such entries.
 pub(crate) fn listing_of(signature: Signature) -> Option<Listing> {
     if signature == Signature::MADT {
         Some(Listing::Madt)
@@ -106,7 +106,7 @@ impl Listing {
         }
     }
 
-    /// What each entry begins with, and the fields after that of an entry of this kind.
+    /// The fields that each entry begins with, and those after them of an entry of this kind.
     pub(crate) fn entry(self, kind: u8) -> [&'static [Field]; 2] {
         match self {
             Listing::Madt => [madt::ENTRY, madt::entry_fields(kind)],

@@ -30,7 +30,7 @@ pub(crate) fn print_lines<H: AcpiHandler, W: Write>(
     }
 }
 
-/// Prints the lines of what a FADT leads to.
+/// Prints the lines of the DSDT and the FACS that a FADT leads to.
 fn print_led<H: AcpiHandler, W: Write>(handler: &H, fadt: &Fadt, out: &mut W) -> io::Result<()> {
     match fadt.dsdt_address() {
         Ok(address) => {
@@ -59,8 +59,8 @@ fn print_facs<H: AcpiHandler, W: Write>(handler: &H, address: u64, out: &mut W) 
     print_status(map_facs(handler, address).err(), out)
 }
 
-/// Prints the line of a table with a header: what the header says if its 36 bytes are lent, and why
-/// the table is refused.
+/// Prints the line of a table with a header: the header's fields if its 36 bytes are lent, and the refusal of
+/// the table, if it is refused.
 fn print_header<H: AcpiHandler, W: Write>(
     handler: &H,
     address: Option<u64>,

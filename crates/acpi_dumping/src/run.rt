@@ -21,10 +21,11 @@ const USAGE: &str = "usage: acpi_dump IMAGE rsdt REVISION ADDRESS | rsdp ADDRESS
        acpi_dump --help | --version";
 
 /// Runs the program on the arguments after its name, and answers the status: 0 if all is printed, 1
-/// if the file, its memory, the root table or a write is refused, memory runs out or no valid table
-/// has the signature that is asked for, and 2 if the arguments are not a command. Then no file is opened.
+/// if the file can't be read or encodes no memory, memory for its records runs out, the root table is
+/// refused, or no valid table has the signature that is asked for, and 2 if the arguments are not a command.
+/// Then no file is opened.
 ///
-/// Refuses with what the first refused write or flush is refused with, or if memory runs out for
+/// Refuses with the refusal of the first write or flush that is refused, or if memory runs out for
 /// the list of files or for gathering an output.
 pub fn dump<F: Files, W: Write + Drop, E: Write + Drop>(
     alloc: Global,
@@ -44,7 +45,7 @@ pub fn dump<F: Files, W: Write + Drop, E: Write + Drop>(
     Ok(status)
 }
 
-/// Prints what the arguments ask for.
+/// Prints the text that the arguments ask for.
 fn print_asked<F: Files, W: Write, E: Write>(
     alloc: Global,
     arguments: &[&str],
@@ -71,7 +72,7 @@ fn print_asked<F: Files, W: Write, E: Write>(
     }
 }
 
-/// Prints what is asked for of the file that the first argument names.
+/// Prints the part that is asked for of the file that the first argument names.
 fn print_file<F: Files, W: Write, E: Write>(
     alloc: Global,
     arguments: &[&str],
@@ -96,13 +97,13 @@ fn print_file<F: Files, W: Write, E: Write>(
     }
 }
 
-/// Prints why a file is refused, and answers the status.
+/// Prints the refusal of a file, and answers the status.
 fn refuse<E: Write>(name: &str, refusal: &impl Display, err: &mut E) -> io::Result<u8> {
     writeln!(err, "refused: {name}: {refusal}")?;
     Ok(1)
 }
 
-/// Prints what is asked for of a memory.
+/// Prints the part that is asked for of a memory.
 fn print_image<H: AcpiHandler, W: Write, E: Write>(
     handler: &H,
     name: &str,
@@ -125,7 +126,7 @@ fn print_image<H: AcpiHandler, W: Write, E: Write>(
     }
 }
 
-/// Prints what is asked for of tables.
+/// Prints the part that is asked for of tables.
 fn print_shown<H: AcpiHandler, W: Write, E: Write>(
     handler: &H,
     tables: &AcpiTables<'_, H>,

@@ -96,7 +96,7 @@ fn print_facs<H: AcpiHandler, W: Write>(
     }
 }
 
-/// Prints what a table holds, under its address, if it was found.
+/// Prints the contents of a table, under its address, if it was found.
 fn print_found<H: AcpiHandler, W: Write>(
     found: &AcpiResult<PhysicalMapping<'_, H, SdtHeader>>,
     contents: Contents,

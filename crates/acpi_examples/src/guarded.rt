@@ -6,8 +6,8 @@ ghost use Rattle.acpi_examples.specs.Guarded.{graphic_ranges};
 use acpi::bgrt::Bgrt;
 use acpi::{AcpiHandler, AcpiResult, AcpiTables, Guarded, Lender};
 
-/// Where the boot graphic lies, found from the RSDT at an address. It asks for the RSDT, and for
-/// each table listed there up to the boot graphic's, and for nothing else.
+/// The physical address of the boot graphic, found from the RSDT at an address. It asks for the RSDT, and
+/// for each table listed there up to the boot graphic's, and for nothing else.
 pub fn graphic_of<L: Lender>(lender: &L, rsdt: u64) -> AcpiResult<u64>
     requires { Allows (L.may lender.now) (graphic_ranges (L.memory lender.now) rsdt) }
 {
@@ -16,7 +16,8 @@ pub fn graphic_of<L: Lender>(lender: &L, rsdt: u64) -> AcpiResult<u64>
     Ok(graphic.image_address)
 }
 
-/// The same over a handler that may be asked for these ranges alone.
+/// The physical address of the boot graphic, found from the RSDT at an address, over a handler that may be
+/// asked for these ranges alone.
 pub fn graphic_within<H: AcpiHandler>(
     memory: &H,
     ranges: &[(u64, usize)],

@@ -1,7 +1,7 @@
-//! What callers of the library write, proved: the least of it (`caller`), a table type of one's own
-//! (`table_type`), a lookup that may ask for named ranges alone (`guarded`), what is asked of
-//! interrupts and of PCI (`resolved`), what a boot loader reserves (`reserved`), and a writer of a
-//! guest's tables (`writer`). The documents show these files.
+//! Callers of the library, proved: the least one (`caller`), one with a table type of its own
+//! (`table_type`), one with a lookup that may ask for named ranges alone (`guarded`), one that resolves
+//! interrupts and PCI functions (`resolved`), a boot loader that reserves the tables' memory (`reserved`), and
+//! a writer of a guest's tables (`writer`). The documents show these files.
 #![tactic(auto)]
 
 pub mod caller;

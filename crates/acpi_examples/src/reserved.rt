@@ -1,10 +1,10 @@
-//! What a boot loader reserves.
+//! A boot loader that reserves the memory of the tables.
 
 use acpi::{AcpiHandler, AcpiTables};
 
 /// A boot loader's map of memory.
 pub trait MemoryMap {
-    /// Keeps a range from being used for anything else.
+    /// Keeps a range of physical memory, `length` bytes from an address on, from being used for anything else.
     fn reserve(&mut self, address: u64, length: u64);
 }
 

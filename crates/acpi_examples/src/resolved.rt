@@ -1,4 +1,4 @@
-//! What a kernel asks of interrupts and of PCI.
+//! The questions of a kernel about interrupts and PCI.
 
 use acpi::PciConfigRegions;
 use acpi::platform::interrupt::Apic;
@@ -11,7 +11,7 @@ pub fn isa_pin<A: Allocator>(apic: &Apic<A>, irq: u8) -> Option<(u8, u32)> {
     Some((wired.io_apic.id, wired.pin))
 }
 
-/// Where the configuration space of the first function of a device on bus 0 lies.
+/// The physical address of the configuration space of the first function of a device on bus 0.
 pub fn device_address<A: Allocator>(regions: &PciConfigRegions<A>, device: u8) -> Option<u64> {
     regions.ecam_address(0, 0, device, 0)
 }

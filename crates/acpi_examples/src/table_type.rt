@@ -1,15 +1,15 @@
-//! A type of table of the kernel's own, and what a kernel finds.
+//! A type of table of the kernel's own, and a lookup of it.
 
 use acpi::bgrt::Bgrt;
 use acpi::sdt::{SdtHeader, Signature, field};
 use acpi::{AcpiHandler, AcpiResult, AcpiTable, AcpiTables, PhysicalRecord};
 
-/// The Windows security mitigations table: what the firmware protects in system management mode.
+/// The Windows Security Mitigations Table (WSMT): what the firmware protects in system management mode.
 #[derive(Clone, Copy)]
 pub struct Wsmt {
     header: SdtHeader,
-    /// Bit 0: only fixed buffers are taken. Bit 1: pointers in them are checked. Bit 2: system
-    /// resources are protected.
+    /// Protection Flags: bit 0, only fixed buffers are taken. Bit 1, pointers in them are checked. Bit 2,
+    /// system resources are protected.
     pub protections: u32,
 }
 
@@ -55,7 +55,7 @@ impl AcpiTable for Wsmt {
     ghost agrees = { (refl, refl) };
 }
 
-/// Where the boot graphic lies, and what the firmware protects.
+/// The physical address of the boot graphic, and Protection Flags.
 pub fn find_both<H: AcpiHandler>(memory: &H, rsdt: u64) -> AcpiResult<(u64, u32)> {
     let tables = AcpiTables::from_rsdt(memory, 0, rsdt)?;
     let graphic = tables.find_table::<Bgrt>()?;

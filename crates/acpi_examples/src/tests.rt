@@ -1,4 +1,4 @@
-//! What the callers find and write.
+//! Tests of the callers: the tables that they find and write.
 
 use crate::caller::graphic_address;
 use crate::reserved::{MemoryMap, reserve_tables};
@@ -19,7 +19,7 @@ use std::alloc::Global;
 use std::fmt::Debug;
 use std::process::Abort;
 
-/// Checks what was found against what is wanted.
+/// Checks that the value that was found is the one that is wanted.
 fn check<T: Copy + Debug + PartialEq>(rt: &impl Abort, name: &str, found: T, wanted: T) {
     assert!(rt;
         found == wanted,
@@ -27,7 +27,8 @@ fn check<T: Copy + Debug + PartialEq>(rt: &impl Abort, name: &str, found: T, wan
     );
 }
 
-/// How many bytes a kernel maps from 0x1000 on, where it looks for the root table, and what it finds.
+/// How many bytes a kernel maps from 0x1000 on, the address at which it looks for the root table, and its
+/// answer.
 static KERNELS: [(usize, u64, AcpiResult<(u64, u32)>); 3] = [
     (168, 0x1000, Ok((0xC0_0000, 7))),
     (
@@ -38,7 +39,7 @@ static KERNELS: [(usize, u64, AcpiResult<(u64, u32)>); 3] = [
     (128, 0x1000, Err(AcpiError::TableMissing(Signature::WSMT))),
 ];
 
-/// What a kernel finds whose memory lies from 0x1000 on.
+/// The answer of a kernel whose memory lies from 0x1000 on.
 fn found(memory: &[u8], root: u64) -> Result<AcpiResult<(u64, u32)>, RegionError> {
     let region = MappedRegion::new(0x1000, memory)?;
     Ok(find_both(&region, root))
@@ -95,14 +96,14 @@ fn the_memory_of_the_tables_is_reserved(rt: HostRuntime) {
     check(&rt, "reserved", reserved_in(&two_tables()), Ok(wanted));
 }
 
-/// RSDPs, and what is found from them.
+/// Addresses of RSDPs, and the answers that are found from them.
 static FOUND: [(u64, AcpiResult<u64>); 3] = [
     (0x600, Ok(0xC0_0000)),
     (0x700, Ok(0xC0_0000)),
     (0x601, Err(AcpiError::MapFailed)),
 ];
 
-/// Checks what is found in an image.
+/// Checks the answers that are found in an image.
 fn check_found(rt: &impl Abort, image: &MemoryImage<'_>) {
     for (rsdp, wanted) in &FOUND {
         check(rt, "found", graphic_address(image, *rsdp), *wanted);
@@ -138,7 +139,7 @@ fn pin_found<H: AcpiHandler>(alloc: Global, memory: &H, irq: u8) -> AcpiResult<O
     }
 }
 
-/// Checks what is found in an image.
+/// Checks the pins that are found in an image.
 fn check_pins(rt: &impl Abort, alloc: Global, image: &MemoryImage<'_>) {
     for (irq, wanted) in &PINS {
         check(rt, "pin", pin_found(alloc, image, *irq), Ok(*wanted));
@@ -155,7 +156,7 @@ fn an_isa_interrupt_comes_to_a_pin(rt: HostRuntime) {
     }
 }
 
-/// How many tables are placed, where the second lies, and how many are found. The first lies from
+/// How many tables are placed, the address of the second, and how many are found. The first lies from
 /// 0x2000 to 0x2038.
 static GUESTS: [(usize, u64, Result<usize, GuestError>); 3] = [
     (2, 0x3000, Ok(2)),

@@ -1,18 +1,18 @@
-//! A caller that writes a guest's tables, and looks at them as the guest will.
+//! A caller that writes a guest's tables, and reads them as the guest will.
 ghost use Rattle.std.specs.Prelude.{◌≡◌, length, IfOk};
 
 use acpi::{AcpiError, AcpiTables};
 use acpi_image::{ImageError, MemoryImage, PlacedTable, WriteError, write_image};
 use std::alloc::Global;
 
-/// Why a guest's tables can't be looked at.
+/// Why a guest's tables can't be written or read.
 #[derive(Clone, Copy, Debug, PartialEq, Eq)]
 pub enum GuestError {
     /// No image is written.
     Unwritten(WriteError),
     /// The image is not read back.
     Unread(ImageError),
-    /// Its root table is not opened.
+    /// The image's root table is not opened.
     Unopened(AcpiError),
 }
 
@@ -34,7 +34,7 @@ impl From<AcpiError> for GuestError {
     }
 }
 
-/// How many tables a guest finds that starts from the RSDP at 0x500, where these are placed: all.
+/// How many tables a guest finds that starts from the RSDP at 0x500, if these are placed: all.
 pub fn tables_of_guest(alloc: Global, placed: &[PlacedTable<'_>]) -> Result<usize, GuestError>
     ensures { IfOk result (λ n. n ≡ length placed.now) }
 {

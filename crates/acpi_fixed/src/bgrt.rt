@@ -1,4 +1,5 @@
-//! The image that the firmware showed while it started the machine.
+//! The Boot Graphics Resource Table (BGRT): the image that the firmware showed while it started the machine
+//! (section 5.2.22).
 ghost use Rattle.std.specs.Prelude.{◌≡◌, ◌*◌};
 
 use acpi_base::bytes::{bits, field_in, has_bit};
@@ -6,16 +7,17 @@ use acpi_base::sdt::SdtHeader;
 use acpi_base::table::sum_refusal;
 use acpi_base::{AcpiResult, AcpiTable, PhysicalRecord, Signature};
 
-/// The Boot Graphics Resource Table (section 5.2.22): an image in memory, and where on the screen
-/// it was drawn.
+/// The Boot Graphics Resource Table (BGRT, section 5.2.22): an image in memory, and its place on the
+/// screen.
 #[derive(Clone, Copy, Debug)]
 pub struct Bgrt {
     header: SdtHeader,
-    /// The version of this layout, which is 1.
+    /// Version: that of the table's layout, 1 by the specification. It is kept as it is.
     pub version: u16,
     status: u8,
     image_type: u8,
-    /// The physical address of the image.
+    /// Image Address: the physical address of the image's first byte. The table doesn't say how many bytes
+    /// the image has.
     pub image_address: u64,
     x: u32,
     y: u32,
@@ -77,22 +79,24 @@ impl Bgrt {
     ghost use Rattle.acpi_base.specs.Bits.{bits_of, has_bit};
     ghost use Rattle.acpi_fixed.specs.Bgrt.{image_type_of, offset_of, status_of};
 
-    /// Whether the image is on the screen still, as far as the firmware knows (status bit 0).
+    /// Displayed (bit 0 of Status, section 5.2.22): whether the image is still on the screen, as far as the
+    /// firmware knows.
     pub fn was_displayed(&self) -> bool
         ensures { result ≡ has_bit (status_of self.now) 0 }
     {
         has_bit(self.status as u64, 0) // Displayed
     }
 
-    /// By how many degrees the image was turned clockwise before it was drawn: 0, 90, 180 or 270
-    /// (status bits 1 and 2).
+    /// Orientation Offset (bits 1 and 2 of Status, section 5.2.22): by how many degrees the image was turned
+    /// clockwise before it was drawn, 0, 90, 180 or 270.
     pub fn orientation_offset(&self) -> u16
         ensures { result ≡ bits_of (status_of self.now) 1 2 * 90 }
     {
         bits(self.status as u64, 1, 2) as u16 * 90 // Orientation Offset
     }
 
-    /// The form of the image.
+    /// Image Type (section 5.2.22): the format of the image, `Bitmap` for code 0 and `Reserved` for all
+    /// others.
     pub fn image_type(&self) -> ImageType
         ensures { result ≡ image_type_of self.now }
     {
@@ -102,8 +106,8 @@ impl Bgrt {
         }
     }
 
-    /// How far right and how far down of the screen's upper left corner the image's upper left
-    /// corner is, in pixels.
+    /// Image Offset X and Image Offset Y (section 5.2.22): how far right and how far down of the screen's
+    /// upper left corner the image's upper left corner is, in pixels.
     pub fn image_offset(&self) -> (u32, u32)
         ensures { result ≡ offset_of self.now }
     {
@@ -111,11 +115,11 @@ impl Bgrt {
     }
 }
 
-/// The form of a boot graphic, in the order of their codes.
+/// Image Type: the format of a boot image (section 5.2.22). `Bitmap` is ordered before `Reserved`.
 #[derive(Clone, Copy, Debug, PartialEq, Eq, PartialOrd, Ord, Hash)]
 pub enum ImageType {
-    /// A bitmap file, as of Windows.
+    /// Bitmap, code 0: a file in the format BMP.
     Bitmap,
-    /// Any other code, which has no meaning yet.
+    /// Any other code, which is reserved.
     Reserved,
 }

@@ -1,4 +1,5 @@
-//! The fixed hardware: where its registers lie, and what it can do.
+//! The Fixed ACPI Description Table (FADT): the registers of the fixed hardware, and its features (section
+//! 5.2.9).
 ghost use Rattle.std.specs.Prelude.{◌≡◌};
 ghost use Rattle.acpi_fixed.specs.Fadt.{profile_for};
 
@@ -18,36 +19,36 @@ pub use flags::{ArmBootArchFlags, FixedFeatureFlags, IaPcBootArchFlags};
 pub use registers::GpeBlock;
 use registers::{Registers, address_from, register_from};
 
-/// Preferred_PM_Profile: what the machine is for (ACPI 6.4, section 5.2.9).
+/// Preferred_PM_Profile: the machine's purpose (ACPI 6.4, section 5.2.9).
 #[derive(Clone, Copy, Debug, PartialEq, Eq)]
 pub enum PowerProfile {
-    /// Code 0: the firmware doesn't say.
+    /// Unspecified, code 0: the firmware doesn't say.
     Unspecified,
-    /// Code 1: one user, on a desk, always on the mains.
+    /// Desktop, code 1: one user, on a desk, always on the mains.
     Desktop,
-    /// Code 2: carried about, on its battery at times.
+    /// Mobile, code 2: carried about, on its battery at times.
     Mobile,
-    /// Code 3: one user, on a desk, with more to compute than a desktop.
+    /// Workstation, code 3: one user, on a desk, with more to compute than a desktop.
     Workstation,
-    /// Code 4: many users, in a room of its own.
+    /// Enterprise Server, code 4: many users, in a room of its own.
     EnterpriseServer,
-    /// Code 5: a server for a small office or a home.
+    /// SOHO Server, code 5: a server for a small office or a home.
     SohoServer,
-    /// Code 6: a quiet device for the home, as a set-top box or a gateway.
+    /// Appliance PC, code 6: a quiet device for the home, as a set-top box or a gateway.
     AppliancePc,
-    /// Code 7: a server that may spend power for speed.
+    /// Performance Server, code 7: a server that may spend power for speed.
     PerformanceServer,
-    /// Code 8: carried about, and used by touch.
+    /// Tablet, code 8: carried about, and used by touch.
     Tablet,
-    /// Any other code.
+    /// Any other code, which is reserved, with that code.
     Reserved(u8),
 }
 
 /// The Fixed ACPI Description Table, FADT (ACPI 6.4, section 5.2.9). A public field that reaches
 /// past the end of a short table is read as if zeros followed.
 ///
-/// Later versions of the table give an address a second time in a wider field. The calls here take
-/// that one where a table of revision 2 or above has it whole and it isn't 0.
+/// Later versions of the table give an address a second time in a wider field. The functions here take
+/// that one if a table of revision 2 or above has it whole and it isn't 0.
 #[derive(Clone, Copy, Debug)]
 pub struct Fadt {
     header: SdtHeader,
@@ -55,7 +56,7 @@ pub struct Fadt {
     dsdt_address: u32,
     preferred_pm_profile: u8,
     /// SCI_INT: the interrupt that carries the machine's events: a vector of the 8259, or a global
-    /// system interrupt where the machine has none.
+    /// system interrupt if the machine has no 8259.
     pub sci_interrupt: u16,
     /// SMI_CMD: the port that the commands below are written to. 0: the machine has no system
     /// management mode.
@@ -82,7 +83,7 @@ pub struct Fadt {
     pub flush_size: u16,
     /// FLUSH_STRIDE: the width of a cache line, in bytes, for the reads of FLUSH_SIZE.
     pub flush_stride: u16,
-    /// DUTY_OFFSET: where the duty cycle's setting lies in the processor's control register, in
+    /// DUTY_OFFSET: the place of the duty cycle's setting in the processor's control register P_CNT, in
     /// bits.
     pub duty_offset: u8,
     /// DUTY_WIDTH: how wide the duty cycle's setting is, in bits.
@@ -93,13 +94,13 @@ pub struct Fadt {
     pub month_alarm: u8,
     /// CENTURY: the clock's register of the century. 0: there is none.
     pub century: u8,
-    /// IAPC_BOOT_ARCH: what a PC has.
+    /// IAPC_BOOT_ARCH: the devices of a PC (section 5.2.9.3).
     pub iapc_boot_arch: IaPcBootArchFlags,
     /// Flags (Fixed Feature Flags): what the fixed hardware does and needs.
     pub flags: FixedFeatureFlags,
-    /// RESET_VALUE: what to write to the reset register to reset the machine.
+    /// RESET_VALUE: the value that resets the machine if it is written to RESET_REG.
     pub reset_value: u8,
-    /// ARM_BOOT_ARCH: how an Arm machine is called.
+    /// ARM_BOOT_ARCH: the way in which the firmware of an Arm machine is called (section 5.2.9.4).
     pub arm_boot_arch: ArmBootArchFlags,
     x_firmware_ctrl: Option<u64>,
     x_dsdt_address: Option<u64>,
@@ -204,17 +205,17 @@ impl Fadt {
     ghost use Rattle.acpi_fixed.specs.Fadt.{pm_timer_of, registers_of};
     ghost use Rattle.acpi_fixed.specs.Registers.{block_of, optional_block_of, register_of};
 
-    /// Preferred_PM_Profile: what the machine is for.
+    /// Preferred_PM_Profile: the machine's purpose (section 5.2.9).
     pub fn power_profile(&self) -> PowerProfile
         ensures { result ≡ profile_of self.now }
     {
         profile_from(self.preferred_pm_profile)
     }
 
-    /// X_FIRMWARE_CTRL or FIRMWARE_CTRL, the physical address of the FACS: the 64-bit one where it
-    /// is there and not 0, else the 32-bit one.
+    /// X_FIRMWARE_CTRL or FIRMWARE_CTRL, the physical address of the FACS: the 64-bit field if it
+    /// is there and not 0, else the 32-bit one (sections 5.2.9 and 5.2.10).
     ///
-    /// Refuses with `InvalidFacsAddress` where that is 0.
+    /// Refuses with `InvalidFacsAddress` if that is 0.
     pub fn facs_address(&self) -> AcpiResult<u64>
         ensures { result ≡ facs_address_of self.now }
     {
@@ -222,10 +223,10 @@ impl Fadt {
         address_from(refusal, self.x_firmware_ctrl, self.firmware_ctrl)
     }
 
-    /// X_DSDT or DSDT, the physical address of the DSDT: the 64-bit one where it is there and not
-    /// 0, else the 32-bit one.
+    /// X_DSDT or DSDT, the physical address of the DSDT: the 64-bit field if it is there and not
+    /// 0, else the 32-bit one (sections 5.2.9 and 5.2.11.1).
     ///
-    /// Refuses with `InvalidDsdtAddress` where that is 0.
+    /// Refuses with `InvalidDsdtAddress` if that is 0.
     pub fn dsdt_address(&self) -> AcpiResult<u64>
         ensures { result ≡ dsdt_address_of self.now }
     {
@@ -233,22 +234,22 @@ impl Fadt {
         address_from(refusal, self.x_dsdt_address, self.dsdt_address)
     }
 
-    /// X_PM1a_EVT_BLK or PM1a_EVT_BLK: the status and enable registers of the fixed events: the
-    /// extended block where its address isn't 0, else the ports, at address 0 too.
+    /// X_PM1a_EVT_BLK or PM1a_EVT_BLK: the status and enable registers of the fixed events (section 5.2.9):
+    /// the extended block if its address isn't 0, else the ports, at address 0 too.
     ///
     /// A machine of reduced hardware has none, whatever is answered here: ask
     /// `flags.system_is_hw_reduced_acpi()` first.
     ///
     /// Refuses with `InvalidGenericAddress` a reserved code in the extended block, and a length of
-    /// 32 bytes and more where the ports count.
+    /// 32 bytes and more if the ports count.
     pub fn pm1a_event_block(&self) -> AcpiResult<GenericAddress>
         ensures { result ≡ block_of (registers_of self.now).pm1a_event }
     {
         self.registers.pm1a_event.block()
     }
 
-    /// X_PM1b_EVT_BLK or PM1b_EVT_BLK: the second block of event registers, or `None` where neither
-    /// field gives an address.
+    /// X_PM1b_EVT_BLK or PM1b_EVT_BLK: the second block of event registers, or `None` if neither
+    /// field gives an address (section 5.2.9).
     ///
     /// Refuses as `pm1a_event_block` does.
     pub fn pm1b_event_block(&self) -> AcpiResult<Option<GenericAddress>>
@@ -257,8 +258,8 @@ impl Fadt {
         self.registers.pm1b_event.optional_block()
     }
 
-    /// X_PM1a_CNT_BLK or PM1a_CNT_BLK: the control registers of the fixed hardware: the extended
-    /// block where its address isn't 0, else the ports, at address 0 too.
+    /// X_PM1a_CNT_BLK or PM1a_CNT_BLK: the control registers of the fixed hardware (section 5.2.9): the
+    /// extended block if its address isn't 0, else the ports, at address 0 too.
     ///
     /// A machine of reduced hardware has none, whatever is answered here: ask
     /// `flags.system_is_hw_reduced_acpi()` first.
@@ -270,8 +271,8 @@ impl Fadt {
         self.registers.pm1a_control.block()
     }
 
-    /// X_PM1b_CNT_BLK or PM1b_CNT_BLK: the second block of control registers, or `None` where
-    /// neither field gives an address.
+    /// X_PM1b_CNT_BLK or PM1b_CNT_BLK: the second block of control registers, or `None` if
+    /// neither field gives an address (section 5.2.9).
     ///
     /// Refuses as `pm1a_event_block` does.
     pub fn pm1b_control_block(&self) -> AcpiResult<Option<GenericAddress>>
@@ -280,8 +281,8 @@ impl Fadt {
         self.registers.pm1b_control.optional_block()
     }
 
-    /// X_PM2_CNT_BLK or PM2_CNT_BLK: the second control register, or `None` where neither field
-    /// gives an address.
+    /// X_PM2_CNT_BLK or PM2_CNT_BLK: the second control register, or `None` if neither field
+    /// gives an address (section 5.2.9).
     ///
     /// Refuses as `pm1a_event_block` does.
     pub fn pm2_control_block(&self) -> AcpiResult<Option<GenericAddress>>
@@ -290,8 +291,8 @@ impl Fadt {
         self.registers.pm2_control.optional_block()
     }
 
-    /// X_PM_TMR_BLK or PM_TMR_BLK: the power management timer, or `None` where its length isn't 4
-    /// or neither field gives an address.
+    /// X_PM_TMR_BLK or PM_TMR_BLK: the register of the power management timer, or `None` if PM_TMR_LEN isn't
+    /// 4 or neither field gives an address (sections 4.8.3.3 and 5.2.9).
     ///
     /// Refuses a reserved code in the extended block with `InvalidGenericAddress`.
     pub fn pm_timer_block(&self) -> AcpiResult<Option<GenericAddress>>
@@ -324,7 +325,8 @@ impl Fadt {
         self.registers.gpe1.optional_block()
     }
 
-    /// RESET_REG: the register that resets the machine, if the flags say that there is one.
+    /// RESET_REG: the register that resets the machine, if `flags.supports_system_reset_via_fadt()` says
+    /// that there is one (section 5.2.9). The flag isn't tested here.
     ///
     /// Refuses a reserved code with `InvalidGenericAddress`.
     pub fn reset_register(&self) -> AcpiResult<GenericAddress>
@@ -334,7 +336,7 @@ impl Fadt {
     }
 
     /// SLEEP_CONTROL_REG: the register that puts a machine of reduced hardware to sleep, or `None`
-    /// where the table has no field for it.
+    /// if the table has no field for it (section 5.2.9).
     ///
     /// Refuses a reserved code with `InvalidGenericAddress`.
     pub fn sleep_control_register(&self) -> AcpiResult<Option<GenericAddress>>
@@ -344,7 +346,7 @@ impl Fadt {
     }
 
     /// SLEEP_STATUS_REG: the register that says how a machine of reduced hardware woke, or `None`
-    /// where the table has no field for it.
+    /// if the table has no field for it (section 5.2.9).
     ///
     /// Refuses a reserved code with `InvalidGenericAddress`.
     pub fn sleep_status_register(&self) -> AcpiResult<Option<GenericAddress>>

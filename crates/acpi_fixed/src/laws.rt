@@ -1,4 +1,5 @@
-//! Laws of the types' comparisons, each the contract of a call that compares, and of where registers lie.
+//! Laws of comparisons, orders and hashes, and of the registers of a FADT: each is the contract of a
+//! function.
 ghost use Rattle.std.specs.Prelude.{◌≡◌, fold, pos};
 ghost use Rattle.std.specs.Hash.{isize};
 ghost use Rattle.std.specs.Ordering.{nat_cmp};
@@ -13,40 +14,42 @@ use crate::fadt::PowerProfile;
 use std::cmp::Ordering;
 use std::hash::{Hash, Hasher};
 
-/// Profiles compare as equal exactly if they are one.
+/// Two `PowerProfile`s compare as equal exactly if they are the same variant with the same code.
 pub fn power_profile_equality(a: &PowerProfile, b: &PowerProfile) -> bool
     ensures { IsEquality result a.now b.now }
 {
     a == b
 }
 
-/// Forms of images compare as equal exactly if they are one.
+/// Two `ImageType`s compare as equal exactly if they are the same variant.
 pub fn image_type_equality(a: &ImageType, b: &ImageType) -> bool
     ensures { IsEquality result a.now b.now }
 {
     a == b
 }
 
-/// `Bitmap` is below `Reserved`.
+/// `ImageType`s are ordered `Bitmap` before `Reserved`.
 pub fn image_type_order(a: &ImageType, b: &ImageType) -> Ordering
     ensures { result ≡ nat_cmp (rank_of a.now) (rank_of b.now) }
 {
     a.cmp(b)
 }
 
-/// What a hasher is fed of a form is its place in the order, and so equal forms hash alike.
+/// An `ImageType` feeds a hasher its place in the order, 0 for `Bitmap` and 1 for `Reserved`, so equal ones
+/// hash alike.
 pub fn image_type_hash<H: Hasher>(form: &ImageType, state: &mut H)
     ensures { state.new ≡ fold H.write state.old (isize (pos (rank_of form.now))) }
 {
     form.hash(state);
 }
 
-/// The registers that a table's record gives are those that the table says.
+/// The registers in the record of a FADT are those that the table's bytes give.
 pub fn registers_are_the_tables(table: &[u8])
     ensures { registers_of (fadt_at table.now) ≡ registers_at table.now }
 {}
 
-/// What is read of a FADT to go on from it is what its whole record says.
+/// A `FadtBrief` says of a table's bytes what the whole `Fadt` says: the address of the DSDT, the profile,
+/// the flags and the timer's block.
 pub fn a_brief_is_of_its_table()
     ensures { BriefIsBrief }
 {}

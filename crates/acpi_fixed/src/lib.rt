@@ -1,5 +1,5 @@
-//! Tables of one fixed layout: the fixed hardware (FADT), and the graphic that the firmware left on
-//! the screen (BGRT).
+//! Tables of one fixed layout: the Fixed ACPI Description Table (FADT, section 5.2.9), and the Boot Graphics
+//! Resource Table (BGRT, section 5.2.22).
 //!
 //! Section numbers are those of the ACPI Specification, version 6.4.
 #![tactic(auto)]

@@ -1,5 +1,5 @@
-//! Physical memory from a file of bytes, as a handler that lends it, and files of memory that hold
-//! given tables.
+//! Physical memory from a file of bytes, as a handler that lends it, and files of memory that are written
+//! with given tables.
 #![tactic(auto)]
 
 mod error;

@@ -1,4 +1,4 @@
-//! Files of memory that hold given tables.
+//! Files of memory that are written with given tables.
 ghost use Rattle.std.specs.Prelude.{IfOk};
 ghost use Rattle.acpi_base.specs.Bytes.{IsBytes};
 ghost use Rattle.acpi_image.specs.WriteChecks.{WritesOrRunsOut, written};
@@ -16,16 +16,19 @@ use records::put_records;
 pub use records::{put_region, put_root_table, put_rsdp};
 use std::alloc::{Allocator, Global};
 
-/// A table, and where it is to lie.
+/// A table that is to be written, and its place.
 #[derive(Clone, Copy)]
 pub struct PlacedTable<'a> {
-    /// Its physical address.
+    /// The physical address that the table is to lie at.
     pub address: u64,
-    /// Its bytes. Whatever its byte 9 is, the table that is written has the one that makes its sum 0.
+    /// The bytes of the table. Whatever byte 9, Checksum, is here, it is written so that all sum to 0 modulo
+    /// 256.
     pub bytes: &'a [u8],
 }
 
-/// The file that `write_image` answers, or its refusal, in memory of this allocator.
+/// The file of memory that `write_image` answers, in memory of an allocator.
+///
+/// Refuses as `write_image` does.
 #[tactic(auto, unfolding(crate::specs::WriteChecks::written))]
 pub fn write_in<A: Allocator + Copy>(
     alloc: A,
@@ -44,17 +47,17 @@ pub fn write_in<A: Allocator + Copy>(
     Ok(file)
 }
 
-/// A file of memory, as `MemoryImage` reads it, that holds an RSDP of this revision, the root table
-/// that it leads to, an RSDT for revision 0 and otherwise an XSDT, and these tables, which the root
-/// table lists in order. Byte 9 of each table is set so that the table sums to 0.
+/// A file of memory, as `MemoryImage` reads it, that has an RSDP of this revision (section 5.2.5.3), the root
+/// table that it leads to, an RSDT for revision 0 and otherwise an XSDT (sections 5.2.7 and 5.2.8), and these
+/// tables, which the root table lists in order. Addresses are physical. Byte 9 of each table is set so that
+/// the table sums to 0 modulo 256.
 ///
-/// Refuses, in this order, with `ZeroRoot` where the root table's address is 0, `BadTable` for the
+/// Refuses, in this order, with `ZeroRoot` if the root table's address is 0, `BadTable` for the
 /// first table that has under 36 bytes, or whose length field is not the number of its bytes, or
-/// whose signature or ids are no UTF-8, `TooMany` where the root table's length is 2^32 or above,
-/// `PointerTooLarge` where for revision 0 the root table's address or a table's is 2^32 or above,
-/// `EndTooLarge` where a record's start and length add up to more than 2^64 - 1, `Overlap` where two
-/// records share a byte, and `OutOfMemory` where a growth is refused (sections 5.2.5.3, 5.2.7 and
-/// 5.2.8).
+/// whose signature or ids are not valid UTF-8, `TooMany` if the root table's length is 2^32 or above,
+/// `PointerTooLarge` if for revision 0 the root table's address or a table's is 2^32 or above,
+/// `EndTooLarge` if a record's start and length add up to more than 2^64 - 1, `Overlap` if two
+/// records share a byte, and `OutOfMemory` if memory is refused.
 pub fn write_image(
     alloc: Global,
     rsdp_address: u64,
@@ -62,7 +65,7 @@ pub fn write_image(
     revision: u8,
     tables: &[PlacedTable<'_>],
 ) -> Result<Vec<u8>, WriteError>
-    // The file, or the first refusal, is the one that is defined; memory runs out only where nothing
+    // The file, or the first refusal, is the one that is defined; memory runs out only if nothing
     // is refused.
     ensures exact { WritesOrRunsOut (λ v. v.items) result
         (written (plan rsdp_address root_address revision tables.now)) }
@@ -70,7 +73,7 @@ pub fn write_image(
     // these, each with byte 9 set.
     ensures law { let p = plan rsdp_address root_address revision tables.now in
         IfOk result (λ v. IsWritten p v.items) }
-    // Each number in it is a byte.
+    // Each number in the file is a byte.
     ensures bytes { IfOk result (λ v. IsBytes v.items) }
 {
     write_in(alloc, rsdp_address, root_address, revision, tables)

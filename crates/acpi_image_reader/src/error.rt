@@ -1,22 +1,22 @@
-//! The refusals of a file.
+//! The refusals of a file of memory.
 
 use std::fmt;
 
-/// Why a file encodes no memory. Each is about one of its records.
+/// Why a file encodes no memory, by the first record that is refused.
 #[derive(Clone, Copy, Debug, PartialEq, Eq)]
 pub enum ImageError {
-    /// Fewer than 16 bytes are left for a start and a length, or fewer bytes than that length
+    /// Fewer than 16 bytes are left for the record's start and length, or fewer bytes than that length
     /// after them.
     Truncated,
-    /// Start and length add up to more than 2^64 - 1.
+    /// The record's start and length add up to more than 2^64 - 1.
     EndTooLarge,
-    /// It shares a byte with an earlier record.
+    /// The record shares a byte with an earlier one.
     Overlap,
-    /// The allocator refused to grow.
+    /// The allocator refused memory for the record.
     OutOfMemory,
 }
 
-/// The variant's name.
+/// Prints the variant's name.
 impl fmt::Display for ImageError {
     ghost use Rattle.std.specs.Prelude.{Some};
     ghost use Rattle.acpi_image_reader.specs.ErrorText.{image_error_text};

@@ -1,4 +1,4 @@
-//! Memory from a file.
+//! Physical memory from a file.
 //!
 //! A file is a sequence of records without a header, one after the other to its end. A record is
 //! a start (8 bytes), a length (8 bytes), both little-endian, and that many bytes: the memory from
@@ -27,7 +27,7 @@ impl<'a> MemoryImage<'a> {
     ghost use Rattle.acpi_image_reader.specs.Image.{GivesOrRunsOut, IsImage, records_in};
     ghost use Rattle.acpi_image_reader.specs.Held.{memory_of};
 
-    /// What `from_bytes` answers: the records are read, and kept as the memory.
+    /// What `from_bytes` answers: it reads the records, and keeps them as the memory.
     #[tactic(auto, using(crate::proofs::Images::image_memory))]
     fn from_bytes_exact(alloc: Global, bytes: &'a [u8]) -> Result<MemoryImage<'a>, ImageError>
         ensures { GivesOrRunsOut bytes.now (λ i. memory_of i) result (records_in bytes.now) }
@@ -39,11 +39,10 @@ impl<'a> MemoryImage<'a> {
     /// The memory that a file encodes. It allocates only a list of the records and
     /// a map of their starts.
     ///
-    /// Refuses, records in order, and for each in this order, with `Truncated` where fewer than 16
-    /// bytes are left or fewer than `length` after them, `EndTooLarge` where `start + length` is
-    /// above 2^64 - 1, `Overlap` where it shares a byte with an earlier record, and `OutOfMemory`
-    /// where a growth is refused. Records that only touch share no byte, and one without bytes
-    /// shares none.
+    /// Refuses at the first record that fails, and of that one, in this order, with `Truncated` if fewer
+    /// than 16 bytes are left or fewer than `length` after them, `EndTooLarge` if `start + length` is
+    /// above 2^64 - 1, `Overlap` if it shares a byte with an earlier record, and `OutOfMemory`
+    /// if memory is refused. Records that only adjoin share no byte, and one without bytes shares none.
     #[tactic(auto, using(crate::proofs::Images::image_found, crate::proofs::Images::image_only, crate::proofs::Images::image_law))]
     pub fn from_bytes(alloc: Global, bytes: &'a [u8]) -> Result<MemoryImage<'a>, ImageError>
         // The file is the records of the memory, and nothing else.
@@ -61,7 +60,7 @@ impl<'a> MemoryImage<'a> {
         MemoryImage::from_bytes_exact(alloc, bytes)
     }
 
-    /// Its regions, in the order of the file's records.
+    /// The regions of the memory, in the order of the file's records.
     pub fn records(&self) -> &[Record<'a>]
         ensures { regions_of result.now ≡ memory_of self.now }
     {
@@ -78,16 +77,16 @@ impl AcpiHandler for MemoryImage<'_> {
 
     ghost memory = { λ i. memory_of i };
 
-    /// All bytes from an address to the end of its record, where these are `size` or more.
+    /// Lends all bytes from a physical address to the end of its record.
     ///
-    /// Refuses with `MapFailed` otherwise.
+    /// Refuses with `MapFailed` if no record has `size` bytes from that address on.
     #[tactic(auto, using(crate::proofs::Rest::at_rest, crate::proofs::Rest::at_none))]
     fn map_physical_region(&self, address: u64, size: usize) -> AcpiResult<&[u8]>
         requires { 0 < size }
         ensures enough { IfOk result (λ s. size ≤ length s.now) }
         ensures lent { IfOk result
             (λ s. at (memory_of self.now) address (length s.now) ≡ Some s.now) }
-        // The whole rest of the record is lent, however little is asked for.
+        // All the rest of the record is lent, however little is asked for.
         ensures whole { IfOk result (λ s. s.now ≡ rest_from (memory_of self.now) address) }
         ensures refused { IfErr result (λ e. at (memory_of self.now) address size ≡ None) }
         ensures name { IfErr result (λ e. e ≡ MapFailed) }

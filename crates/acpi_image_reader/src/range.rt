@@ -1,4 +1,4 @@
-//! Where records lie: whether a range ends below 2^64, and whether two share a byte.
+//! The ranges of records: whether one ends below 2^64, and whether two share a byte.
 ghost use Rattle.std.specs.Prelude.{◌≡◌, ◌^◌, nat_lt};
 ghost use Rattle.acpi_base.specs.Memory.{end_of, lies_in};
 ghost use Rattle.acpi_image_reader.specs.Image.{share};
@@ -6,7 +6,7 @@ ghost use Rattle.acpi_image_reader.specs.Regions.{region_in};
 
 use acpi_base::AddressRange;
 
-/// Whether a range ends below 2^64.
+/// Whether a range of addresses ends below 2^64: its address and its length add up to at most 2^64 - 1.
 pub fn fits(range: AddressRange) -> bool
     ensures { result ≡ nat_lt (end_of (region_in range)) (2 ^ 64) }
 {
@@ -20,7 +20,7 @@ fn holds(range: AddressRange, address: u64) -> bool
     address >= range.address && address - range.address < range.length
 }
 
-/// Whether some byte lies in two ranges. One without bytes shares none.
+/// Whether some byte lies in both of two ranges of addresses. One without bytes shares none.
 #[tactic(auto, unfolding(crate::specs::Image::share))]
 pub fn shares_byte(one: AddressRange, other: AddressRange) -> bool
     ensures { result ≡ share (region_in one) (region_in other) }

@@ -1,4 +1,4 @@
-//! The records of a file, in order.
+//! Reading the records of a file, in order.
 ghost use Rattle.std.specs.Prelude.{◌≡◌, ◌<◌, false, length, IfOk};
 ghost use Rattle.acpi_base.specs.Steps.{Gives};
 ghost use Rattle.acpi_image_reader.specs.Image.{GivesOrRunsOut, next_at, records_in, shares_any};
@@ -31,10 +31,12 @@ fn next_record<'a, A: Allocator>(
     Ok((record, rest))
 }
 
-/// The records of a file, kept in memory of this allocator.
+/// The records of a file, kept in memory of an allocator.
 ///
-/// Refuses, records in order, and for each in this order, with `Truncated`, `EndTooLarge` and
-/// `Overlap`, and with `OutOfMemory` if there is none for a record that is accepted.
+/// Refuses at the first record that fails, and of that one, in this order, with `Truncated` if fewer than 16
+/// bytes are left or fewer than the record's length after them, `EndTooLarge` if its start and its length add
+/// up to more than 2^64 - 1, `Overlap` if it shares a byte with an earlier record, and `OutOfMemory` if memory
+/// for it is refused.
 pub fn records_of<'a, A: Allocator + Copy>(
     alloc: A,
     bytes: &'a [u8],

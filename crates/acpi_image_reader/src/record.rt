@@ -10,12 +10,12 @@ use crate::range::shares_byte;
 use acpi_base::AddressRange;
 use acpi_base::bytes::field;
 
-/// A region that a file encodes, by one of its records.
+/// A region of memory that a file encodes by one of its records.
 #[derive(Clone, Copy)]
 pub struct Record<'a> {
-    /// Its first address.
+    /// The physical address of the region's first byte.
     pub start: u64,
-    /// Its bytes, which lie in the file.
+    /// The bytes of the region, which lie in the file.
     pub bytes: &'a [u8],
 }
 
@@ -24,7 +24,7 @@ impl<'a> Record<'a> {
     ghost use Rattle.acpi_base.specs.Memory.{AreApart, lies_in};
     ghost use Rattle.acpi_image_reader.specs.Image.{share};
 
-    /// The bytes from an address on, where it lies in this record.
+    /// The bytes from an address on, or `None` if it doesn't lie in this record.
     #[tactic(auto, using(crate::proofs::Rest::is_inside, crate::proofs::Rest::is_above, crate::proofs::Rest::is_below))]
     pub(crate) fn rest(&self, address: u64) -> Option<&'a [u8]>
         ensures inside { IfSome result (λ s. lies_in (region_of self.now) address ≡ true) }

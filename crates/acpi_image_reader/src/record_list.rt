@@ -15,7 +15,7 @@ use std::collections::BTreeMap;
 
 /// Keeps one more record, after the others.
 ///
-/// Refuses with `OutOfMemory` where there is none for it.
+/// Refuses with `OutOfMemory` if memory for it is refused.
 fn keep<'a, A: Allocator>(
     records: &mut Vec<Record<'a>, A>,
     added: Record<'a>,
@@ -30,9 +30,9 @@ fn keep<'a, A: Allocator>(
     }
 }
 
-/// Keeps the start of one more record, which shares no byte with the others, where it has bytes.
+/// Keeps the start of one more record, which shares no byte with the others, if it has bytes.
 ///
-/// Refuses with `OutOfMemory` where there is none for it.
+/// Refuses with `OutOfMemory` if memory for it is refused.
 fn keep_start<'a, A: Allocator + Clone>(
     starts: &mut BTreeMap<u64, &'a [u8], A>,
     added: Record<'a>,
@@ -51,10 +51,10 @@ fn keep_start<'a, A: Allocator + Clone>(
     Ok(())
 }
 
-/// Records of which no two share a byte.
+/// The records of a file, of which no two share a byte.
 #[derive(Drop)]
 pub struct Records<'a, A: Allocator> {
-    /// In the order of the file.
+    /// The records, in the order of the file.
     pub(crate) list: Vec<Record<'a>, A>,
     /// The bytes of those that have some, by their starts: one more record, and an address, are
     /// compared with one of these, and not with each.
@@ -80,9 +80,9 @@ impl<'a, A: Allocator> Records<'a, A> {
         }
     }
 
-    /// One more record, after the others.
+    /// These records, with one more after them.
     ///
-    /// Refuses with `OutOfMemory` where there is none for it.
+    /// Refuses with `OutOfMemory` if memory for it is refused.
     pub(crate) fn with(self, added: Record<'a>) -> Result<Records<'a, A>, ImageError>
     where
         A: Clone,
@@ -131,7 +131,8 @@ impl<'a, A: Allocator> Records<'a, A> {
         }
     }
 
-    /// The bytes from an address to the end of the record that it lies in, or none.
+    /// The bytes from a physical address to the end of the record that it lies in, or none if it lies in no
+    /// record.
     pub fn rest_at(&self, address: u64) -> &'a [u8]
         ensures { result.now ≡ rest_from (regions_of self.now.list.items) address }
     {

@@ -1,4 +1,4 @@
-//! Where regions start, in ascending order: the one that an address can lie in is found without a
+//! The starts of regions, in ascending order: the region that an address can lie in is found without a
 //! walk along the others.
 ghost use Rattle.std.specs.Prelude.{◌≡◌, ◌<◌, ◌≤◌, ℕ, List, Some, None, IsSome, IfSome, IfNone, OnOk, IfErr};
 ghost use Rattle.std.specs.Prelude.{[], ◌∷◌, ◌++◌, false, length};
@@ -11,7 +11,8 @@ ghost use Rattle.acpi_image_reader.specs.Starts.{ListsStarts};
 use std::alloc::{AllocError, Allocator};
 use std::collections::BTreeMap;
 
-/// The greatest start that is at an address or below it, with what is kept there.
+/// The greatest start that is at an address or below it, with the value that is kept there, or `None` if
+/// every start is above the address.
 pub fn last_up_to<V, A: Allocator>(starts: &BTreeMap<u64, V, A>, address: u64) -> Option<(u64, &V)>
     ensures kept { IfSome result (λ x. get nat_cmp starts.now x.0 ≡ Some x.1.now) }
     ensures low { IfSome result (λ x. x.0 ≤ address) }
@@ -25,9 +26,9 @@ pub fn last_up_to<V, A: Allocator>(starts: &BTreeMap<u64, V, A>, address: u64) -
     }
 }
 
-/// Adds the start of one more region, which shares no byte with those that are listed.
+/// Adds the start of one more region, which has bytes and shares none with those that are listed.
 ///
-/// Refuses if there is no memory for it.
+/// Refuses if memory for it is refused.
 pub fn add_start<V: Drop, A: Allocator + Clone>(
     starts: &mut BTreeMap<u64, V, A>,
     start: u64,

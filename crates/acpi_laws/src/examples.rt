@@ -1,5 +1,5 @@
-//! The laws at memories that are written out: two memories that differ after every table, and one that
-//! has the same tables elsewhere.
+//! Instances of the laws at memories that are written out byte by byte: two memories that differ after every
+//! table, and one that has the same tables elsewhere.
 ghost use Rattle.acpi_laws.specs.Examples.{AreMemories, TheyDiffer, TheyList};
 ghost use Rattle.acpi_laws.specs.ExampleLaws.{AskedInstance, DsdtInstance, FaultsInstance, HeadersInstance};
 ghost use Rattle.acpi_laws.specs.ExampleLaws.{HpetInstance, LookupInstance, MailboxInstance};
@@ -12,13 +12,13 @@ pub mod tables;
 
 use std::alloc::Allocator;
 
-/// All of them are memories: their regions are made of bytes and share no address.
+/// The memories of the examples are memories: their regions are made of bytes and share no address.
 #[tactic(auto, using(crate::proofs::Instances::are_memories))]
 pub fn are_memories()
     ensures { AreMemories }
 {}
 
-/// The two memories differ after each table.
+/// The two memories of the examples differ after each table.
 #[tactic(auto, using(crate::proofs::Instances::they_differ))]
 pub fn they_differ()
     ensures { TheyDiffer }
@@ -65,7 +65,7 @@ pub fn platform_instance<A: Allocator>()
     ensures { PlatformInstance A }
 {}
 
-/// The two memories that differ agree on the ranges of the HPET.
+/// The two memories that differ agree on the ranges of the HPET's lookup.
 #[tactic(auto, using(crate::proofs::Instances::hpet_instance))]
 pub fn hpet_instance()
     ensures { HpetInstance }
@@ -119,12 +119,12 @@ pub fn headers_moved()
     ensures { HeadersMoved }
 {}
 
-/// If the same tables lie elsewhere, the same is said of the platform.
+/// If the same tables lie elsewhere, the platform is the same.
 pub fn platform_moved<A: Allocator>()
     ensures { PlatformMoved A }
 {}
 
-/// If the same tables lie elsewhere, the HPET says the same.
+/// If the same tables lie elsewhere, the event timer block of the HPET is the same.
 #[tactic(auto, using(crate::proofs::Instances::hpet_moved))]
 pub fn hpet_moved()
     ensures { HpetMoved }
@@ -142,8 +142,7 @@ pub fn search_instance()
     ensures { SearchInstance }
 {}
 
-/// The two memories that differ agree on the ranges of the root table that the RSDP leads to which the
-/// search finds.
+/// The two memories that differ agree on the ranges of the root table of the RSDP that the search finds.
 #[tactic(auto, using(crate::proofs::Searched::opened_by_search_instance))]
 pub fn opened_by_search_instance()
     ensures { OpenedBySearchInstance }

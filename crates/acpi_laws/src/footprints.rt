@@ -1,6 +1,5 @@
-//! Which bytes of a memory the definitions depend on. Of each definition it is said that it is the
-//! same over every memory that agrees on its ranges, and of some that they follow the valid tables
-//! alone, wherever these lie.
+//! The bytes of a memory that the definitions depend on. Each definition is the same over every memory that
+//! agrees on its ranges, and some follow the valid tables alone, wherever these lie.
 ghost use Rattle.acpi_base.specs.Ranges.{OwnTableDependsOn, TableDependsOn};
 ghost use Rattle.acpi.specs.FootprintLaws.{DsdtDependsOn, FaultsDependOn, HeadersDependOn};
 ghost use Rattle.acpi.specs.FootprintLaws.{HpetDependsOn, LookupDependsOn, MailboxDependsOn};
@@ -12,14 +11,14 @@ ghost use Rattle.acpi.specs.Relocation.{PlatformFollows, RegionsFollow};
 
 use std::alloc::Allocator;
 
-/// The table at an address, or what refuses it, is the same over every memory that agrees on its
+/// The table at an address, or its refusal, is the same over every memory that agrees on its
 /// ranges.
 #[tactic(auto, using(acpi_base::proofs::TableFootprints::same_table))]
 pub fn table_depends_on()
     ensures { TableDependsOn }
 {}
 
-/// The table at an address under the signature that it has, or what refuses it, is the same over
+/// The table at an address under the signature that it has, or its refusal, is the same over
 /// every memory that agrees on its ranges.
 #[tactic(auto, using(acpi_base::proofs::TableFootprints::same_own_table))]
 pub fn own_table_depends_on()
@@ -52,70 +51,71 @@ pub fn ssdts_depend_on()
     ensures { SsdtsDependOn }
 {}
 
-/// Where the DSDT's AML lies, or what refuses it, is the same over every memory that agrees on its
-/// ranges.
+/// The AML of the DSDT, by its address and length, or its refusal, is the same over every memory that agrees
+/// on its ranges.
 #[tactic(auto, using(acpi::proofs::Agreed::same_dsdt))]
 pub fn dsdt_depends_on()
     ensures { DsdtDependsOn }
 {}
 
-/// What the FADT and the MADT say of the platform, or what refuses it, is the same over every memory
+/// The platform that the FADT and the MADT describe, or its refusal, is the same over every memory
 /// that agrees on its ranges.
 #[tactic(auto, using(acpi::proofs::Agreed::same_platform))]
 pub fn platform_depends_on<A: Allocator>()
     ensures { PlatformDependsOn A }
 {}
 
-/// What the HPET says, or what refuses it, is the same over every memory that agrees on its ranges.
+/// The event timer block of the HPET, or its refusal, is the same over every memory that agrees on its
+/// ranges.
 #[tactic(auto, using(acpi::proofs::Agreed::same_hpet))]
 pub fn hpet_depends_on()
     ensures { HpetDependsOn }
 {}
 
-/// The list of the regions of the MCFG, or what refuses it, is the same over every memory that agrees
+/// The list of the regions of the MCFG, or its refusal, is the same over every memory that agrees
 /// on its ranges.
 #[tactic(auto, using(acpi::proofs::Agreed::same_regions))]
 pub fn regions_depend_on()
     ensures { RegionsDependOn }
 {}
 
-/// The address of the wakeup mailbox, or what refuses it, is the same over every memory that agrees
+/// The address of the wakeup mailbox, or its refusal, is the same over every memory that agrees
 /// on its ranges.
 #[tactic(auto, using(acpi::proofs::Agreed::same_mailbox))]
 pub fn mailbox_depends_on()
     ensures { MailboxDependsOn }
 {}
 
-/// The RSDP at an address, or what refuses it, is the same over every memory that agrees on its
+/// The RSDP at an address, or its refusal, is the same over every memory that agrees on its
 /// ranges.
 #[tactic(auto, using(acpi::proofs::AgreedOpened::same_rsdp))]
 pub fn rsdp_depends_on()
     ensures { RsdpDependsOn }
 {}
 
-/// The RSDP that the search finds, or what refuses it, is the same over every memory that agrees on
+/// The RSDP that the search finds, or its refusal, is the same over every memory that agrees on
 /// its ranges.
 #[tactic(auto, using(acpi::proofs::AgreedOpened::same_search))]
 pub fn search_depends_on()
     ensures { SearchDependsOn }
 {}
 
-/// The root table that is opened, or what refuses it, is the same over every memory that agrees on
+/// The root table that is opened, or its refusal, is the same over every memory that agrees on
 /// its ranges.
 #[tactic(auto, using(acpi::proofs::AgreedOpened::same_opened))]
 pub fn opened_depends_on()
     ensures { OpenedDependsOn }
 {}
 
-/// The root table that the RSDP at an address leads to, or what refuses it, is the same over every
+/// The root table that the RSDP at an address leads to, or its refusal, is the same over every
 /// memory that agrees on its ranges.
 #[tactic(auto, using(acpi::proofs::AgreedOpened::same_opened_by_rsdp))]
 pub fn opened_by_rsdp_depends_on()
     ensures { OpenedByRsdpDependsOn }
 {}
 
-/// The root table that the RSDP leads to which the search finds, or what refuses it, is the same over
-/// every memory that agrees on its ranges.
+/// The root table of the RSDP that the search finds, or its refusal, is the same over every memory that
+/// agrees on its ranges.
 #[tactic(auto, using(acpi::proofs::AgreedOpened::same_opened_by_search))]
 pub fn opened_by_search_depends_on()
     ensures { OpenedBySearchDependsOn }
@@ -134,14 +134,14 @@ pub fn headers_follow()
     ensures { HeadersFollow }
 {}
 
-/// What is said of the platform is the same in every memory that has the same valid tables, wherever
-/// they lie.
+/// The platform is the same in every memory that has the same valid tables, wherever they lie.
 #[tactic(auto, using(acpi::proofs::Moved::platform_follows))]
 pub fn platform_follows<A: Allocator>()
     ensures { PlatformFollows A }
 {}
 
-/// What the HPET says is the same in every memory that has the same valid tables, wherever they lie.
+/// The event timer block of the HPET is the same in every memory that has the same valid tables, wherever
+/// they lie.
 #[tactic(auto, using(acpi::proofs::Moved::hpet_follows))]
 pub fn hpet_follows()
     ensures { HpetFollows }

@@ -1,4 +1,4 @@
-//! What holds of the members of a root table, and of the ranges in which the tables lie.
+//! Laws of the members of a root table, and of the ranges in which the tables lie.
 ghost use Rattle.acpi_laws.specs.PlaceLaws.{FirstIsFound, FoundBySignature, HeadersOfMembers};
 ghost use Rattle.acpi_laws.specs.PlaceLaws.{OneForEach, RootLiesInRange, TablesLieInRanges};
 
@@ -27,8 +27,8 @@ pub fn found_by_signature()
 
 /// Each range that a lookup, `faults`, `find_tables`, `headers`, `members`, `ssdts`, `dsdt` or a
 /// summary depends on or asks for lies in one of those that `ranges` gives. Excepted are those that
-/// begin at a member that `members` refuses, or where the first valid FADT has the DSDT and no valid
-/// one is.
+/// begin at a member that `members` refuses, or at the address of the DSDT in the first valid FADT, if no
+/// valid DSDT is there.
 pub fn tables_lie_in_ranges()
     ensures { TablesLieInRanges }
 {}

@@ -4,17 +4,20 @@ use acpi_base::AcpiError;
 use std::alloc::AllocError;
 use std::fmt;
 
-/// What a call of this crate that can refuse answers.
+/// The answer of a call of this crate that can refuse: a value, or a `NumaError`.
 pub type NumaResult<T> = Result<T, NumaError>;
 
 /// Why a call of this crate refuses.
 #[derive(Clone, Copy, Debug, PartialEq, Eq)]
 pub enum NumaError {
-    /// A table isn't found, or memory runs out.
+    /// The lookup of the table refuses, with `TableMissing`, or memory runs out, with `AllocError`.
     Acpi(AcpiError),
-    /// An entry is shorter than its kind, or reaches past the table.
+    /// The entries of a SRAT end before its bytes do (section 5.2.16): after the last entry that was cut,
+    /// bytes are left in which no entry begins. One byte is left, or the next length is under 2, under
+    /// the least of its type (16, 40, 24, 18, 12, 32 and 32 for types 0 to 6), or past the table's end.
     InvalidEntryLength,
-    /// A range of memory ends above 2^64 - 1.
+    /// The base and the length of an enabled Memory Affinity Structure that has bytes (section 5.2.16.2) add
+    /// up to more than 2^64 - 1.
     InvalidMemoryRange,
 }
 
@@ -24,7 +27,7 @@ impl From<AcpiError> for NumaError {
 
     ghost from_gives = { λ refused e. e ≡ Acpi refused };
 
-    /// `Acpi`, with the refusal.
+    /// Makes `Acpi` of a refusal.
     fn from(refused: AcpiError) -> NumaError {
         NumaError::Acpi(refused)
     }
@@ -37,13 +40,13 @@ impl From<AllocError> for NumaError {
 
     ghost from_gives = { λ _ e. e ≡ Acpi NoMemory };
 
-    /// `Acpi` of `AllocError`, for a growth that was refused.
+    /// Makes `Acpi` of `AllocError`, if memory is refused.
     fn from(_refused: AllocError) -> NumaError {
         NumaError::Acpi(AcpiError::AllocError)
     }
 }
 
-/// The variant's name; of `Acpi`, what the refusal in it prints.
+/// Prints the variant's name, or of `Acpi` what the refusal in it prints.
 impl fmt::Display for NumaError {
     ghost use Rattle.std.specs.Prelude.{Some};
     ghost use Rattle.acpi_numa.specs.ErrorText.{numa_error_text};

@@ -1,5 +1,5 @@
-//! Where memory and processors are near: the domains that the SRAT puts them into, and how far these
-//! are from each other by the SLIT.
+//! Proximity domains: those that the SRAT puts processors and memory into (section 5.2.16), and how far
+//! localities are from each other by the SLIT (section 5.2.17).
 //!
 //! Section numbers are those of the ACPI Specification, version 6.4.
 #![tactic(auto)]

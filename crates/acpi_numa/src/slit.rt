@@ -1,4 +1,4 @@
-//! The System Locality Information Table (SLIT): how far localities are from each other.
+//! The System Locality Information Table (SLIT): how far localities are from each other (section 5.2.17).
 ghost use Rattle.std.specs.Prelude.{◌≡◌};
 ghost use Rattle.acpi_numa.specs.Slit.{fits};
 
@@ -7,13 +7,14 @@ use acpi_base::sdt::SdtHeader;
 use acpi_base::table::sum_refusal;
 use acpi_base::{AcpiResult, AcpiTable, Lender, PhysicalMapping, PhysicalRecord, Signature};
 
-/// The SLIT (section 5.2.17). After these fields it has a byte for each pair of localities;
-/// `Distances` reads them, and `SlitCalls` gives a mapping of it the same calls.
+/// The System Locality Information Table (SLIT, section 5.2.17). After these fields it has a byte for each
+/// pair of localities; `Distances` reads them, and `SlitCalls` gives a mapping of it the same calls.
 #[derive(Debug, Drop)]
 pub struct Slit {
     /// The header that every table begins with.
     pub header: SdtHeader,
-    /// How many localities there are. Nothing promises that the table has the distances of so many.
+    /// Number of System Localities: how many localities there are. Nothing promises that the table has the
+    /// distances of so many.
     pub localities: u64,
 }
 
@@ -64,7 +65,7 @@ impl AcpiTable for Slit {
     ghost agrees = { (refl, refl) };
 }
 
-/// The distances in a SLIT's bytes. It knows no memory and no handler.
+/// The distances in a SLIT's bytes (section 5.2.17). It needs no handler.
 #[derive(Clone, Copy, Debug)]
 pub struct Distances<'a> {
     table: &'a [u8],
@@ -74,26 +75,26 @@ impl<'a> Distances<'a> {
     ghost use Rattle.std.specs.Prelude.{◌≡◌, ◌↔◌, ◌+◌, ◌*◌, nat_le, length, IsTrue};
     ghost use Rattle.acpi_numa.specs.Slit.{IsRowSane, IsSane, distance_of, localities_of, slit_bytes};
 
-    /// The distances in a table's bytes, from the table's first byte on. Of fewer than 44 bytes there
-    /// is none.
+    /// The distances in a SLIT's bytes (section 5.2.17), from the table's first byte on. In fewer than 45
+    /// bytes there is none.
     pub fn over(table: &'a [u8]) -> Self
         ensures { slit_bytes result ≡ table.now }
     {
         Distances { table }
     }
 
-    /// How many localities the table says that there are (offset 36; eight bytes). A byte past the
-    /// end is read as zero.
+    /// Number of System Localities: how many localities the table says that there are (section 5.2.17;
+    /// eight bytes at offset 36). A byte past the table's end is read as zero.
     pub fn localities(&self) -> u64
         ensures { result ≡ localities_of (slit_bytes self.now) }
     {
         field(self.table, 36, 8) // Number of System Localities
     }
 
-    /// How far it is from one locality to another, in the table's units, of which 10 is the distance
-    /// of a locality from itself. 255 stands for 'unreachable', and is given as it is.
+    /// The entry of a pair: how far it is from one locality to another (section 5.2.17), in units of which
+    /// 10 are the distance of a locality from itself. 255 stands for 'unreachable', and is given as it is.
     ///
-    /// It is `None` if one of the two isn't below the number of localities, or if the byte of the
+    /// It is `None` if one of the two isn't below Number of System Localities, or if the byte of the
     /// pair, at 44 + from * localities + to, doesn't lie in the table.
     #[tactic(auto, unfolding(crate::specs::Slit::distance_of))]
     pub fn distance(&self, from: u64, to: u64) -> Option<u8>
@@ -111,11 +112,12 @@ impl<'a> Distances<'a> {
         }
     }
 
-    /// Whether the table can be believed: there are localities, the table has the distances of all
-    /// pairs (more bytes may follow), each locality is at 10 from itself, and at more than 10 from
-    /// every other.
+    /// Whether the table is sane (section 5.2.17). Sane means: there is at least one locality, the table
+    /// has the distances of all pairs (more bytes may follow), each locality is at 10 from itself, and
+    /// each is at more than 10 from every other. The distances of a pair need not be the same both ways.
     ///
-    /// It looks at each byte of the table at most once, however many localities the table names.
+    /// It looks at the byte of each distance at most once, and at none if the table doesn't have them all,
+    /// however many localities the table names.
     pub fn is_sane(&self) -> bool
         ensures { IsTrue result ↔ IsSane (slit_bytes self.now) }
     {
@@ -141,7 +143,7 @@ impl<'a> Distances<'a> {
         }
     }
 
-    /// Whether the distances from one locality can be believed.
+    /// Whether the distances from one locality are sane: 10 to itself, and more than 10 to every other.
     fn is_row_sane(&self, from: u64, count: u64) -> bool
         requires { count ≡ localities_of (slit_bytes self.now) }
         ensures { IsTrue result ↔ IsRowSane (slit_bytes self.now) from }
@@ -155,7 +157,8 @@ impl<'a> Distances<'a> {
     }
 }
 
-/// Whether the distance from one locality to another can be believed.
+/// Whether the distance from one locality to another is sane: there is one, 10 if the two are one and else
+/// more than 10.
 fn fits(from: u64, to: u64, distance: Option<u8>) -> bool
     ensures { result ≡ fits from to distance }
 {
@@ -166,7 +169,7 @@ fn fits(from: u64, to: u64, distance: Option<u8>) -> bool
     }
 }
 
-/// The calls of `Distances`, over a mapping of a SLIT.
+/// The functions of `Distances`, as methods of a mapping of a SLIT (section 5.2.17).
 pub trait SlitCalls {
     ghost use Rattle.std.specs.Prelude.{◌↔◌, ℕ, List, IsTrue};
     ghost use Rattle.acpi_numa.specs.Slit.{IsSane, distance_of, slit_bytes};
@@ -174,15 +177,18 @@ pub trait SlitCalls {
     // The table's bytes.
     ghost table: { Self → List ℕ };
 
-    /// The distances in the table's bytes.
+    /// The distances in this SLIT's bytes (section 5.2.17).
     fn distances(&self) -> Distances<'_>
         ensures { slit_bytes result ≡ table self.now };
 
-    /// As `Distances::distance`.
+    /// The entry of a pair: how far it is from one locality to another (section 5.2.17), of which 10 is the
+    /// distance of a locality from itself, and 255 stands for 'unreachable'. It is `None` if one of the two
+    /// is no locality, or if the table ends before the byte of the pair, as `Distances::distance` says.
     fn distance(&self, from: u64, to: u64) -> Option<u8>
         ensures { result ≡ distance_of (table self.now) from to };
 
-    /// As `Distances::is_sane`.
+    /// Whether the table is sane (section 5.2.17), as `Distances::is_sane` says: there is a locality, the
+    /// table has all distances, each locality is at 10 from itself, and at more than 10 from every other.
     fn is_sane(&self) -> bool
         ensures { IsTrue result ↔ IsSane (table self.now) };
 }

@@ -1,4 +1,5 @@
-//! The System Resource Affinity Table (SRAT): the domains that processors and memory are in.
+//! The System Resource Affinity Table (SRAT): the proximity domains of processors and memory (section
+//! 5.2.16).
 
 mod affinities;
 mod domains;
@@ -18,8 +19,8 @@ pub use kinds::{
 };
 pub use walk::SratEntryIter;
 
-/// The SRAT (section 5.2.16). Its entries stand after 48 fixed bytes; `Domains` reads them, and
-/// `SratCalls` gives a mapping of it the same calls.
+/// The System Resource Affinity Table (SRAT, section 5.2.16). Its entries stand after 48 fixed bytes;
+/// `Domains` reads them, and `SratCalls` gives a mapping of it the same calls.
 #[derive(Debug, Drop)]
 pub struct Srat {
     /// The header that every table begins with.

@@ -1,27 +1,27 @@
-//! What the arguments ask for.
+//! The arguments of the program, as a command.
 ghost use Rattle.std.specs.Prelude.{◌≡◌, IfOk, map, option_map};
 ghost use Rattle.acpi_packing.specs.Arguments.{form_request, memory_request, request_in, request_of, tables_request};
 
 use acpi_cli::parse_address;
 use std::alloc::{AllocError, Global};
 
-/// What the files that are packed are.
+/// The form of the files that are packed.
 #[derive(Drop)]
 pub enum Form {
-    /// Ranges of memory, from these addresses on.
+    /// Ranges of memory, from these physical addresses on, one for each file.
     Memory(Vec<u64>),
-    /// Tables.
+    /// Tables, one in each file.
     Tables,
 }
 
-/// What the arguments ask for.
+/// The command that the arguments are.
 #[derive(Drop)]
 pub struct Command<'w> {
-    /// The file that is to be made.
+    /// The name of the file that is to be made.
     pub out: &'w str,
-    /// The files that it is made from.
+    /// The names of the files that it is made from, in order.
     pub names: Vec<&'w str>,
-    /// What these are.
+    /// The form of these files.
     pub form: Form,
 }
 
@@ -94,7 +94,7 @@ fn parse_form<'w>(
     }
 }
 
-/// The command that the arguments after the program's name are, or `None` if they are none: OUT,
+/// The command that the arguments after the program's name are, or `None` if they are not a command: OUT,
 /// which may be any text, a form, and the arguments of that form, at least one.
 ///
 /// Refuses if it runs out of memory.

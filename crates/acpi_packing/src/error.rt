@@ -1,27 +1,27 @@
-//! Why nothing is packed.
+//! The refusals of files that are packed.
 
 use acpi_image::WriteError;
 use std::alloc::AllocFailed;
 use std::fmt;
 
-/// Why a file is refused.
+/// Why a file that is to be packed is refused.
 #[derive(Clone, Copy, Debug, PartialEq, Eq)]
 pub enum FileError {
-    /// It can't be read.
+    /// The file can't be read.
     Unreadable,
-    /// It has no bytes.
+    /// The file has no bytes.
     Empty,
-    /// It has fewer bytes than a table's header, or ends before the length that it gives.
+    /// The file of a table has fewer than the 36 bytes of a header, or ends before the length in it.
     Short,
-    /// It goes on after the length that it gives.
+    /// The file of a table goes on after the length in its header.
     Long,
-    /// It would end above 2^64 - 1.
+    /// The file's address and the number of its bytes add up to more than 2^64 - 1.
     EndTooLarge,
-    /// It would share a byte with another one, or with the RSDP.
+    /// The file would share a byte with an earlier one, or as the DSDT with the RSDP; or it is a second DSDT.
     Overlap,
 }
 
-/// The variant's name.
+/// Prints the variant's name.
 impl fmt::Display for FileError {
     ghost use Rattle.std.specs.Prelude.{Some};
     ghost use Rattle.acpi_packing.specs.Texts.{file_error_text};
@@ -45,13 +45,13 @@ impl fmt::Display for FileError {
 pub enum Refusal {
     /// The file of this index, counted from 0, is refused.
     File(usize, FileError),
-    /// The tables are more than the XSDT can list, or end above 2^64 - 1 where they are placed.
+    /// The tables are more than the XSDT can list, or one would be placed so that it ends above 2^64 - 1.
     NoRoom,
-    /// The allocator refused to grow.
+    /// The allocator refused memory.
     OutOfMemory,
 }
 
-/// What a file is refused for, or the variant's name.
+/// Prints the refusal of the file, or the variant's name.
 impl fmt::Display for Refusal {
     ghost use Rattle.std.specs.Prelude.{Some};
     ghost use Rattle.acpi_packing.specs.Texts.{refusal_text};
@@ -67,7 +67,7 @@ impl fmt::Display for Refusal {
     }
 }
 
-/// Memory is refused for one more item.
+/// Makes `OutOfMemory`, if memory is refused for one more item.
 impl<T: Drop> From<AllocFailed<T>> for Refusal {
     ghost use Rattle.std.specs.Prelude.{◌≡◌};
     ghost use Rattle.acpi_packing.specs.declared.error.Refusal.TheVariants.{OutOfMemory};
@@ -79,7 +79,8 @@ impl<T: Drop> From<AllocFailed<T>> for Refusal {
     }
 }
 
-/// Memory is refused for one more record: the only refusal of what puts records into a file.
+/// Makes `OutOfMemory`, if memory is refused for one more record: the only refusal of functions that put
+/// records into a file.
 impl From<WriteError> for Refusal {
     ghost use Rattle.std.specs.Prelude.{◌≡◌};
     ghost use Rattle.acpi_packing.specs.declared.error.Refusal.TheVariants.{OutOfMemory};

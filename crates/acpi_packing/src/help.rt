@@ -1,16 +1,16 @@
-//! What the program tells of itself.
+//! The texts that the program tells of itself.
 ghost use Rattle.std.specs.Prelude.{◌≡◌, map, option_map};
 ghost use Rattle.acpi_packing.specs.Told.{told_of, told_to};
 
-/// How the program is called.
+/// The text that says how the program is called.
 const HELP: &str = "usage: acpi_pack OUT memory ADDRESS FILE [ADDRESS FILE]... | tables FILE...
        acpi_pack --help | --version
 ";
 
-/// Which version the program is.
+/// The text that says the program's version.
 const VERSION: &str = "acpi_pack 5.2.0\n";
 
-/// What is told to an argument that asks for it, or `None` if it asks for something else.
+/// The text that an argument asks for, or `None` if it asks for none.
 fn told_to(argument: &str) -> Option<&'static str>
     ensures { option_map (λ t. t.now) result ≡ told_to argument.now }
 {
@@ -21,8 +21,8 @@ fn told_to(argument: &str) -> Option<&'static str>
     }
 }
 
-/// What is told to arguments that ask for it, or `None` if they ask for something else: how the
-/// program is called for `--help` alone, and its version for `--version` alone.
+/// The text that arguments ask for, or `None` if they ask for none: how the program is called for `--help`
+/// alone, and its version for `--version` alone.
 pub(crate) fn told(arguments: &[&str]) -> Option<&'static str>
     ensures { option_map (λ t. t.now) result ≡ told_of (map (λ w. w.now) arguments.now) }
 {

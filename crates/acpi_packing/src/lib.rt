@@ -1,5 +1,5 @@
-//! Images of memory from files: what the arguments ask for, where the files lie, and
-//! the file that is made.
+//! Images of memory from files: the command that the arguments are, the places of the files, and the file
+//! that is made.
 #![tactic(auto)]
 
 pub mod arguments;

@@ -1,4 +1,4 @@
-//! What lies where in an image that is packed.
+//! The lines of the records of an image that is packed.
 ghost use Rattle.std.specs.Prelude.{◌≡◌, ◌≢◌, ◌++◌, IfErr, IfOk, None, OnOk, Ok, Err, map, string_bytes};
 ghost use Rattle.acpi_base.specs.Memory.{Memory};
 ghost use Rattle.acpi_image_reader.specs.Image.{records_in};
@@ -19,7 +19,7 @@ use std::alloc::{AllocError, Global};
 use std::fmt;
 use std::fmt::Write;
 
-/// What is said of a record.
+/// The label of a record.
 #[derive(Clone, Copy)]
 pub(crate) enum Label<'w> {
     /// A name alone.
@@ -51,7 +51,7 @@ pub(crate) fn name_of<'w>(names: &[&'w str], index: usize) -> &'w str
     }
 }
 
-/// What is said of a table.
+/// The label of a table.
 fn table_label<'w>(names: &[&'w str], entry: IndexedFile<'_>) -> Label<'w>
     ensures { label_text result ≡ table_label (map (λ n. n.now) names.now) (entry_of entry.entry) }
 {
@@ -59,7 +59,7 @@ fn table_label<'w>(names: &[&'w str], entry: IndexedFile<'_>) -> Label<'w>
     Label::Table(signature, name_of(names, entry.index))
 }
 
-/// Puts what is said of the files of a role after what is there.
+/// Puts the labels of the files of a role after those that are there.
 ///
 /// Refuses if it runs out of memory.
 fn put_labels<'w>(
@@ -76,7 +76,7 @@ fn put_labels<'w>(
     Ok(())
 }
 
-/// The names of files, each by itself.
+/// The labels of files at addresses: their names.
 ///
 /// Refuses if it runs out of memory.
 fn range_labels<'w>(alloc: Global, names: &[&'w str]) -> Result<Vec<Label<'w>>, AllocError>
@@ -89,7 +89,7 @@ fn range_labels<'w>(alloc: Global, names: &[&'w str]) -> Result<Vec<Label<'w>>, 
     Ok(labels)
 }
 
-/// What is said of the records of an image of tables.
+/// The labels of the records of an image of tables.
 ///
 /// Refuses if it runs out of memory.
 fn tables_labels<'w>(
@@ -108,7 +108,7 @@ fn tables_labels<'w>(
     Ok(labels)
 }
 
-/// What is said of the records of an image, in order.
+/// The labels of the records of an image, in order.
 ///
 /// Refuses if it runs out of memory.
 fn labels_of<'w>(
@@ -125,7 +125,7 @@ fn labels_of<'w>(
     }
 }
 
-/// What is said of the record of this index, or nothing.
+/// The label of the record of this index, or an empty one.
 fn label_at<'w>(labels: &[Label<'w>], index: usize) -> Label<'w>
     ensures { label_text result ≡ name_of (map label_text labels.now) index }
 {
@@ -135,7 +135,7 @@ fn label_at<'w>(labels: &[Label<'w>], index: usize) -> Label<'w>
     }
 }
 
-/// A line for each of these records.
+/// The lines of these records, one for each, in order.
 ///
 /// Refuses if it runs out of memory.
 fn lines_of(
@@ -154,7 +154,7 @@ fn lines_of(
     Ok(text)
 }
 
-/// What `record_lines` answers: the image is read, and a line made of each of its records.
+/// What `record_lines` answers: it reads the image, and makes a line of each of its records.
 fn record_lines_exact(
     alloc: Global,
     command: &Command<'_>,
@@ -176,8 +176,9 @@ fn record_lines_exact(
     }
 }
 
-/// A line for each record of an image that a command packed of these files, in order: where it
-/// lies, what it is, and the file that it comes from.
+/// The lines of the records of an image that a command packed of these files, one for each, in order: the
+/// physical address, in hexadecimal digits, and the label. For files at addresses that is the file's name;
+/// for tables it is `RSDP`, `XSDT`, or the signature and the file's name.
 ///
 /// Refuses as `MemoryImage::from_bytes` does.
 pub fn record_lines(
@@ -191,7 +192,7 @@ pub fn record_lines(
         (labels_of (addresses_of command.now.form) (map (λ n. n.now) command.now.names.items)
         (contents files.now)) image.now ≡ Ok (string_bytes t)) }
     ensures refused { IfErr result (λ e. e ≢ OutOfMemory → records_in image.now ≡ Err e) }
-    // What is packed of these files has the bytes of the files that the lines name.
+    // The image that is packed of these files has the bytes of the files that the lines name.
     ensures law { (m : Memory)
         → packed_by (addresses_of command.now.form) (contents files.now) ≡ Ok m
         → AreNamed (addresses_of command.now.form) (contents files.now) m }

@@ -28,10 +28,10 @@ use acpi_image::write::{put_region, put_root_table, put_rsdp, range_of};
 use acpi_image_reader::range;
 use std::alloc::Global;
 
-/// Where the RSDP lies: where the BIOS areas begin that are searched for it (section 5.2.5.1).
+/// The address of the RSDP: the start of the BIOS area that is searched for it first (section 5.2.5.1).
 const RSDP: u64 = 0xe0000;
 
-/// From where on the other tables lie: after the BIOS areas.
+/// The address from which on the other tables lie: after the BIOS areas.
 const FIRST: u64 = 0x100000;
 
 /// Whether two tables share a byte.
@@ -58,7 +58,7 @@ fn shares_byte(addresses: &[u64], files: &[FileBytes<'_>], table: &PlacedTable<'
     false
 }
 
-/// Tests where a file is put, of this index, after earlier ones, at their addresses.
+/// Tests the place of the file of this index, after earlier files at their addresses.
 ///
 /// Refuses, in this order, with `EndTooLarge` and `Overlap`.
 #[tactic(auto, unfolding(crate::specs::Pack::check_place))]
@@ -81,7 +81,7 @@ fn check_place(
     Ok(())
 }
 
-/// Tests where each file is put.
+/// Tests the place of each file.
 ///
 /// Refuses, files in order, as `check_place` does.
 fn check_places(addresses: &[u64], files: &[FileBytes<'_>]) -> Result<(), Refusal>
@@ -97,7 +97,7 @@ fn check_places(addresses: &[u64], files: &[FileBytes<'_>]) -> Result<(), Refusa
     Ok(())
 }
 
-/// The records of files at their addresses, one after the other.
+/// Puts the records of files at their addresses, one after the other.
 ///
 /// Refuses with `OutOfMemory`.
 fn put_files(file: &mut Vec<u8>, addresses: &[u64], files: &[FileBytes<'_>]) -> Result<(), Refusal>
@@ -112,7 +112,7 @@ fn put_files(file: &mut Vec<u8>, addresses: &[u64], files: &[FileBytes<'_>]) -> 
     Ok(())
 }
 
-/// What `pack_files` answers: the files are tested, and then put into the image.
+/// What `pack_files` answers: it tests the files, and then puts them into the image.
 #[tactic(auto, unfolding(crate::specs::Pack::packed_files))]
 fn pack_files_exact(
     alloc: Global,
@@ -132,16 +132,18 @@ fn pack_files_exact(
     Ok(file)
 }
 
-/// A file of memory that holds each of these files at its address, as it is.
+/// A file of memory that has each of these files at its physical address, as it is.
 ///
-/// Refuses, files in order, with `Unreadable` and `Empty`; then, files in order, with `EndTooLarge`
-/// and `Overlap`; and if nothing is refused so, with `OutOfMemory` where a growth is refused.
+/// Refuses with the first of these that holds: of a file, in order, `Unreadable` if it can't be read or
+/// `Empty` if it has no bytes; then of a file, in order, `EndTooLarge` if its address and the number of its
+/// bytes add up to more than 2^64 - 1, or `Overlap` if it shares a byte with an earlier one; and if no file
+/// is refused, `OutOfMemory` if memory is refused.
 pub fn pack_files(
     alloc: Global,
     addresses: &[u64],
     files: &[FileBytes<'_>],
 ) -> Result<Vec<u8>, Refusal>
-    // The file, or the first refusal, is the one that is defined; memory runs out only where nothing
+    // The file, or the first refusal, is the one that is defined; memory runs out only if nothing
     // is refused.
     ensures exact { IfOk result (λ v.
         file_of (packed_files addresses.now (contents files.now)) ≡ Ok v.items) }
@@ -150,13 +152,13 @@ pub fn pack_files(
     // The file is the records of the files at their addresses, and is read as the memory of these.
     ensures law { IfOk result (λ v.
         IsMemoryFile (regions addresses.now (contents files.now)) v.items) }
-    // Each number in it is a byte.
+    // Each number in the file is a byte.
     ensures bytes { IfOk result (λ v. IsBytes v.items) }
 {
     pack_files_exact(alloc, addresses, files)
 }
 
-/// The address that a FADT gives for the DSDT, its 64-bit field first, where it is as long as a
+/// The address that a FADT gives for the DSDT, its 64-bit field first, or `None` if it isn't as long as a
 /// FADT is (section 5.2.9).
 #[tactic(auto, unfolding(crate::specs::Pack::dsdt_address_in))]
 fn dsdt_address_in(fadt: &[u8]) -> Option<u64>
@@ -180,9 +182,9 @@ pub(crate) fn dsdt_address(files: &[FileBytes<'_>]) -> Option<u64>
     None
 }
 
-/// The DSDT, where it is to lie. It is left out where no address is given.
+/// The DSDT at the address at which it is to lie. It is left out if no address is given.
 ///
-/// Refuses, in this order, with `EndTooLarge`, `Overlap` where it shares a byte with the RSDP, and
+/// Refuses, in this order, with `EndTooLarge`, `Overlap` if it shares a byte with the RSDP, and
 /// `Overlap` for a second DSDT.
 fn dsdt_at<'a>(
     address: Option<u64>,
@@ -207,7 +209,7 @@ fn dsdt_at<'a>(
     }
 }
 
-/// What the other tables keep away from: the DSDT, or where there is none, nothing.
+/// The place that the other tables keep away from: that of the DSDT, or no bytes if there is none.
 fn fixed_of<'a>(dsdt: Option<PlacedTable<'a>>) -> PlacedTable<'a>
     ensures { placed_region result ≡ fixed_of (option_map placed_region dsdt.entry) }
 {
@@ -220,7 +222,7 @@ fn fixed_of<'a>(dsdt: Option<PlacedTable<'a>>) -> PlacedTable<'a>
     }
 }
 
-/// The records of tables, one after the other.
+/// Puts the records of tables, one after the other.
 ///
 /// Refuses with `OutOfMemory`.
 fn put_tables(file: &mut Vec<u8>, tables: &[PlacedTable<'_>]) -> Result<(), Refusal>
@@ -235,7 +237,7 @@ fn put_tables(file: &mut Vec<u8>, tables: &[PlacedTable<'_>]) -> Result<(), Refu
     Ok(())
 }
 
-/// The records of an RSDP of revision 2, the XSDT at an address, the tables that it lists, and the
+/// Puts the records of an RSDP of revision 2, the XSDT at an address, the tables that it lists, and the
 /// DSDT.
 ///
 /// Refuses with `OutOfMemory`.
@@ -260,7 +262,7 @@ fn put_all(
     Ok(())
 }
 
-/// The number of bytes of an XSDT that lists so many tables, where that is below 2^32.
+/// The number of bytes of an XSDT that lists so many tables, or `None` if that is 2^32 or above.
 fn root_length(count: usize) -> Option<usize>
     ensures there { IfSome result (λ n. n ≡ root_length Xsdt count) }
     ensures low { IfSome result (λ n. n < 2 ^ 32) }
@@ -274,7 +276,7 @@ fn root_length(count: usize) -> Option<usize>
     }
 }
 
-/// The file that lists the tables among files, and holds the DSDT at its address.
+/// The file of memory that lists the tables among files, and has the DSDT at its address.
 ///
 /// Refuses with `NoRoom`, and if nothing is refused so, with `OutOfMemory`.
 #[tactic(auto, unfolding(crate::specs::Pack::laid_out))]
@@ -305,7 +307,7 @@ fn lay_out(
     Ok(file)
 }
 
-/// What `pack_tables` answers: the files are tested, the tables placed, and then put into the image.
+/// What `pack_tables` answers: it tests the files, places the tables, and then puts them into the image.
 #[tactic(auto, unfolding(crate::specs::Pack::packed_tables))]
 fn pack_tables_exact(alloc: Global, files: &[FileBytes<'_>]) -> Result<Vec<u8>, Refusal>
     ensures exact { IfOk result (λ v. file_of (packed_tables (contents files.now)) ≡ Ok v.items) }
@@ -317,23 +319,26 @@ fn pack_tables_exact(alloc: Global, files: &[FileBytes<'_>]) -> Result<Vec<u8>, 
     lay_out(alloc, files, dsdt)
 }
 
-/// A file of memory that holds an RSDP of revision 2 at 0xe0000, an XSDT that lists these tables in
-/// order, each at a multiple of 16 from 0x100000 on and away from all others, and the DSDT where
-/// the first FADT says. The bytes of tables are kept as they are. What no root table lists is left
-/// out, and so is a DSDT for which no FADT gives an address.
+/// A file of memory that has an RSDP of revision 2 at 0xe0000 (section 5.2.5.3), an XSDT (section 5.2.8) that
+/// lists these tables in order, each at a multiple of 16 from 0x100000 on and away from all others, and the
+/// DSDT at the address that the first FADT gives (section 5.2.9). The bytes of tables are kept as they are.
+/// A file that no root table lists is left out, as a FACS, a root table and an RSDP, and so is a DSDT for
+/// which no FADT gives an address.
 ///
-/// Refuses, files in order, with `Unreadable`, `Empty`, `Short` and `Long`; then for the DSDT with
-/// `EndTooLarge` and `Overlap`; then with `NoRoom`; and if nothing is refused so, with `OutOfMemory`
-/// where a growth is refused (sections 5.2.5.3, 5.2.8 and 5.2.9).
+/// Refuses with the first of these that holds: of a file, in order, `Unreadable` if it can't be read, `Empty`
+/// if it has no bytes, and, unless it is left out as unlisted, `Short` if it has under 36 bytes or fewer than
+/// its length field says, or `Long` if it has more; of the DSDT `EndTooLarge` or `Overlap`; `NoRoom` if the
+/// tables can't all be listed and placed; and if nothing of this is refused, `OutOfMemory` if memory is
+/// refused.
 pub fn pack_tables(alloc: Global, files: &[FileBytes<'_>]) -> Result<Vec<u8>, Refusal>
-    // The file, or the first refusal, is the one that is defined; memory runs out only where nothing
+    // The file, or the first refusal, is the one that is defined; memory runs out only if nothing
     // is refused.
     ensures exact { IfOk result (λ v. file_of (packed_tables (contents files.now)) ≡ Ok v.items) }
     ensures refused { IfErr result (λ e. RefusesOrRunsOut (packed_tables (contents files.now)) e) }
     // The file is the records of a memory and nothing else; it is read and opened, and with every
     // sum right its valid tables are the files that are listed, in order.
     ensures law { IfOk result (λ v. IsPacked (contents files.now) v.items) }
-    // Each number in it is a byte.
+    // Each number in the file is a byte.
     ensures bytes { IfOk result (λ v. IsBytes v.items) }
 {
     pack_tables_exact(alloc, files)

@@ -1,4 +1,4 @@
-//! Where tables lie.
+//! The placement of tables.
 ghost use Rattle.std.specs.Prelude.{◌≡◌, ◌≢◌, ◌+◌, ◌^◌, ◌<◌, length, IfErr, IfOk, IfSome, Ok, Err};
 ghost use Rattle.acpi_image.specs.Written.{placed, placed_region};
 ghost use Rattle.acpi_base.specs.Memory.{end_of};
@@ -20,8 +20,8 @@ fn aligned(address: u128) -> u128
     (address + 15) / 16 * 16
 }
 
-/// The address of so many bytes: the least multiple of 16 from an address on, or where they would
-/// touch what lies already, the least one after that; `None` where they end above 2^64 - 1.
+/// The address of so many bytes: the least multiple of 16 from an address on, or if they would
+/// touch the place that is taken, the least one after that; `None` if they end above 2^64 - 1.
 #[tactic(auto, unfolding(crate::specs::Place::place_at, crate::specs::Place::start_at))]
 pub(crate) fn place_one(fixed: &PlacedTable<'_>, from: u64, count: usize) -> Option<u64>
     requires { end_of (placed_region fixed.now) < 2 ^ 64 }
@@ -80,7 +80,7 @@ pub(crate) fn place<'a>(
     ensures refused { IfErr result (λ e. e ≢ OutOfMemory
         → placed_from (placed_region fixed.now) from (listed (contents files.now)) ≡ Err e) }
     ensures count { IfOk result (λ v. length v.items ≡ length (listed (contents files.now))) }
-    // They are aligned, lie one after the other and away from what lies already, and fit.
+    // They are aligned, lie one after the other and away from the place that is taken, and fit.
     ensures law { IfOk result (λ v. ArePlaced (placed_region fixed.now) from (placed v.items)) }
 {
     let mut placed = Vec::new(alloc);

@@ -26,7 +26,7 @@ fn files_named<'c, 'w>(asked: &'c Option<Command<'w>>) -> &'c [&'w str]
     }
 }
 
-/// Saves an image, and prints what lies where in it, or why it isn't saved. It answers the status: 0
+/// Saves an image, and prints the lines of its records, or why it isn't saved. It answers the status: 0
 /// if it is saved, and else 1.
 ///
 /// Refuses if a write is refused or memory runs out.
@@ -59,7 +59,7 @@ fn save_image<S: Storage, W: Write, E: Write>(
     }
 }
 
-/// Does what follows of what a run comes to: saves the image, if there is one. It answers the status.
+/// Does what follows of a run's outcome: saves the image, if there is one. It answers the status.
 ///
 /// Refuses if a write is refused or memory runs out.
 fn finish<S: Storage, W: Write, E: Write>(
@@ -84,10 +84,10 @@ fn finish<S: Storage, W: Write, E: Write>(
     }
 }
 
-/// Packs what the arguments ask for. They are judged first; for a command the files that they name
-/// are read, in order, and for no command none. If `run` answers an image, it is saved, and then what
-/// lies where in it is printed on the output. It answers the status: 0 if the image is saved, 1 if
-/// something is refused, and 2 if the arguments are not a command.
+/// Packs the files that the arguments name. They are judged first; if they are a command, the files that they
+/// name are read, in order, and else none. If `run` answers an image, it is saved, and then the lines of its
+/// records are printed on the output. It answers the status: 0 if the image is saved, 1 if something is
+/// refused, and 2 if the arguments are not a command.
 ///
 /// Refuses if a write is refused, or memory for anything but the image itself.
 fn pack_asked<F: Files, S: Storage, W: Write, E: Write>(
@@ -113,12 +113,11 @@ fn pack_asked<F: Files, S: Storage, W: Write, E: Write>(
     finish(alloc, &asked, &sources, outcome, storage, out, err)
 }
 
-/// Runs the program on the arguments after its name. `--help` and `--version` alone print how the
-/// program is called and which version it is, on the output, and nothing else is done: the status is
-/// 0. Other arguments are a command, or none. For a command the files that it names are read, in
-/// order, and the image that is made of them is saved; then what lies where in it is printed on the
-/// output. The status is 0 if the image is saved, 1 if something is refused, and 2 if the arguments
-/// are not a command.
+/// Runs the program on the arguments after its name, and answers the status. `--help` and `--version` alone
+/// print how the program is called and its version, on the output, and nothing else is done: the status is
+/// 0. If other arguments are a command, the files that it names are read, in order, and the image that is
+/// made of them is saved; then the lines of its records are printed on the output. The status is 0 if the
+/// image is saved, 1 if something is refused, and 2 if the arguments are not a command.
 ///
 /// Refuses if a write is refused, or memory for anything but the image itself.
 pub fn pack<F: Files, S: Storage, W: Write, E: Write>(

@@ -15,14 +15,14 @@ use std::alloc::{AllocError, Global};
 use std::io;
 use std::io::Write;
 
-/// What a run comes to.
+/// The outcome of a run.
 #[derive(Drop)]
 pub enum Outcome {
-    /// The bytes of the image that is to be written.
+    /// The bytes of the image that is to be saved.
     Image(Vec<u8>),
-    /// Nothing is packed.
+    /// Nothing is packed, for this refusal.
     Refused(Refusal),
-    /// The arguments are no command.
+    /// The arguments are not a command.
     NoCommand,
 }
 
@@ -118,9 +118,9 @@ fn usage_line(alloc: Global) -> Result<String, AllocError>
     String::from_str(alloc, usage)
 }
 
-/// What a command comes to, and what is printed of it.
+/// The outcome of a command, and the text that is printed of it.
 ///
-/// Refuses where memory for what is printed is refused.
+/// Refuses if memory for the text is refused.
 fn report_command(
     alloc: Global,
     command: &Command<'_>,
@@ -140,9 +140,9 @@ fn report_command(
     Ok((Outcome::Image(image), text))
 }
 
-/// What the command that is asked for comes to, if any, and what is printed of it.
+/// The outcome of the command that is asked for, if any, and the text that is printed of it.
 ///
-/// Refuses if memory for what is printed is refused.
+/// Refuses if memory for the text is refused.
 fn report(
     alloc: Global,
     asked: &Option<Command<'_>>,
@@ -157,19 +157,21 @@ fn report(
     }
 }
 
-/// Runs the program on a command, or on `None` if the arguments are none, and on the files that it
-/// names, in order, `None` for one that can't be read. It answers what is to be written, and prints
-/// lines: one for each file that is left out, or one that says why nothing is packed, or the usage.
+/// Runs the program on a command, or on `None` if the arguments are not a command, and on the files that it
+/// names, in order, `None` for one that can't be read. It answers the outcome, and prints lines: one for each
+/// file that is left out, or one that says why nothing is packed, or the usage.
 ///
-/// Faults are found in this order: no command, then what `pack_files` or `pack_tables` refuses.
-/// Refuses if a write to standard error, or memory for what is printed, is refused.
+/// Faults are found in this order: arguments that are not a command, then the refusals of `pack_files` or
+/// `pack_tables`.
+///
+/// Refuses if a write to standard error, or memory for the lines, is refused.
 pub fn run<E: Write>(
     alloc: Global,
     asked: &Option<Command<'_>>,
     files: &[FileBytes<'_>],
     err: &mut E,
 ) -> io::Result<Outcome>
-    // What it comes to is what is defined, and so is all that is printed.
+    // The outcome is the one that is defined, and so is all that is printed.
     ensures exact { IfOk result (λ o. Ends (option_map request_of asked.now) (contents files.now) o
         (E.contents err.old) (E.contents err.new)) }
 {

@@ -1,4 +1,4 @@
-//! The file that is made.
+//! Saving the file that is made.
 ghost use Rattle.std.specs.Prelude.{◌≡◌, ◌≢◌, IfErr, IfOk};
 ghost use Rattle.std.specs.Fs.{IsFile, file_type};
 ghost use Rattle.std.specs.IoError.{error_kind};
@@ -11,25 +11,25 @@ use std::fs::{self, File, Metadata, OpenOptions};
 use std::io::{self, ErrorKind, Write};
 use std::os::unix::fs::{MetadataExt, OpenOptionsExt};
 
-/// Why a file is not written, in the order in which that is tested; but what can't be looked at is
-/// refused before a file beside it is.
+/// Why a file is not saved, in the order in which that is tested; but a name about which the system doesn't
+/// answer is refused, with `Unwritable`, before `PartExists` is tested.
 #[derive(Clone, Copy, Debug, PartialEq, Eq)]
 pub enum SaveError {
-    /// What has its name is not a regular file: a folder, a device, a pipe, a socket, or a symbolic
+    /// Something else than a regular file has the name: a folder, a device, a pipe, a socket, or a symbolic
     /// link, wherever that leads.
     NotAFile,
-    /// It is one of the files that are packed.
+    /// The file of that name is one of the files that are packed.
     SameFile,
-    /// There is something of its name and `.part`: another run is at work, or was stopped. If none
+    /// Something has the name with `.part` after it: another run is at work, or was stopped. If none
     /// is at work, that file is to be removed.
     PartExists,
-    /// It can't be looked at, made, written or renamed.
+    /// The system doesn't answer about the name, or the file can't be made, written or renamed.
     Unwritable,
-    /// The allocator refused to grow.
+    /// The allocator refused memory.
     OutOfMemory,
 }
 
-/// The variant's name.
+/// Prints the variant's name.
 impl fmt::Display for SaveError {
     ghost use Rattle.std.specs.Prelude.{Some};
     ghost use Rattle.acpi_packing.specs.Save.{save_error_text};
@@ -47,20 +47,20 @@ impl fmt::Display for SaveError {
     }
 }
 
-/// What has a name.
+/// The thing that has a name.
 #[derive(Drop)]
 pub(crate) enum Found {
-    /// Nothing.
+    /// Nothing has the name.
     Nothing,
-    /// A regular file.
+    /// A regular file has the name.
     File(Metadata),
-    /// Something else.
+    /// Something else has the name.
     Other,
     /// The system doesn't say.
     Unknown,
 }
 
-/// What has a name, by what the system answers about it, symbolic links not followed.
+/// The thing that has a name, by the system's answer about it, symbolic links not followed.
 fn found_by(answer: io::Result<Metadata>) -> Found
     ensures file { IfOk answer (λ m. IsFile (file_type m) → result ≡ found.File m) }
     ensures other { IfOk answer (λ m. ¬ (IsFile (file_type m)) → result ≡ found.Other) }
@@ -77,14 +77,14 @@ fn found_by(answer: io::Result<Metadata>) -> Found
     }
 }
 
-/// Which file this is: its device, and its number there.
+/// The identity of a file: its device, and its number there.
 #[derive(Clone, Copy)]
 pub(crate) struct Identity {
     device: u64,
     number: u64,
 }
 
-/// Which file this is.
+/// The identity of the file of this metadata.
 fn identity_of(metadata: &Metadata) -> Identity {
     Identity {
         device: metadata.dev(),
@@ -120,9 +120,9 @@ fn is_source(rt: &HostRuntime, name: &str, found: &Found, sources: &[&str]) -> b
     false
 }
 
-/// Tests what has the name of the file that is to be made.
+/// Tests the thing that has the name of the file that is to be made.
 ///
-/// Refuses, in this order, with `NotAFile`, `SameFile`, and `Unwritable` if it isn't known what has
+/// Refuses, in this order, with `NotAFile`, `SameFile`, and `Unwritable` if the system doesn't say what has
 /// that name.
 fn check_found(found: &Found, is_source: bool) -> Result<(), SaveError>
     ensures { result ≡ check_found found.now is_source }
@@ -135,7 +135,7 @@ fn check_found(found: &Found, is_source: bool) -> Result<(), SaveError>
     }
 }
 
-/// Why a file isn't written or renamed.
+/// The refusal of a file that isn't written or renamed.
 fn write_refusal(error: io::Error) -> SaveError
     ensures memory { error_kind error ≡ ErrorKind.OutOfMemory → result ≡ refusal.OutOfMemory }
     ensures other { error_kind error ≢ ErrorKind.OutOfMemory → result ≡ refusal.Unwritable }
@@ -147,7 +147,7 @@ fn write_refusal(error: io::Error) -> SaveError
     }
 }
 
-/// Why a new file isn't made.
+/// The refusal of a new file that isn't made.
 fn make_refusal(error: io::Error) -> SaveError
     ensures there { error_kind error ≡ ErrorKind.AlreadyExists → result ≡ refusal.PartExists }
     ensures memory { error_kind error ≡ ErrorKind.OutOfMemory → result ≡ refusal.OutOfMemory }
@@ -180,16 +180,16 @@ fn put(mut file: File, bytes: &[u8], found: &Found) -> io::Result<()> {
     file.sync_all()
 }
 
-/// Writes a file of this name, in place of a regular file that is there. It is written whole beside
-/// that, with `.part` after the name, and then renamed, so that a reader finds the old file or the
-/// new one and no front of it. It has the mode of the file that it replaces, and if there is none,
-/// only its owner may read and write it. `sources` are the names of the files that it was made
-/// from.
+/// Saves bytes under a name, in place of a regular file that has it. They are written whole into a file with
+/// `.part` after the name, which is then renamed, so that a reader finds the old file or the new one and no
+/// prefix of it. The file has the mode of the one that it replaces, and if there is none, only its owner may
+/// read and write it. `sources` are the names of the files that the bytes were made from.
 ///
 /// Refuses, in this order, with `NotAFile` if something else than a regular file has this name,
-/// `SameFile` if it is one of the sources, `Unwritable` if it can't be looked at, `PartExists` if
-/// there is a file beside it already, and `Unwritable` if it can't be made, written or renamed; and
-/// with `OutOfMemory`. Nothing that was written is left then, and what has this name is as it was.
+/// `SameFile` if it is one of the sources, `Unwritable` if the system doesn't say what has this name,
+/// `PartExists` if something has the name with `.part` after it, and `Unwritable` if the file can't be made,
+/// written or renamed; and with `OutOfMemory` if memory is refused. If a file with `.part` was made, it is then
+/// removed, if the system allows that, and the file that has this name is as it was.
 pub fn save(rt: &HostRuntime, name: &str, sources: &[&str], bytes: &[u8]) -> Result<(), SaveError> {
     let found = found_by(fs::symlink_metadata(rt, name));
     check_found(&found, is_source(rt, name, &found, sources))?;

@@ -1,4 +1,4 @@
-//! What files hold, which of them are tables, and why one is refused by itself.
+//! The bytes of files, their roles as tables, and the refusals of each file by itself.
 ghost use Rattle.std.specs.Prelude.{◌≡◌, ◌≤◌, length};
 ghost use Rattle.acpi_packing.specs.Held.{content, contents, entries_left};
 ghost use Rattle.acpi_packing.specs.Sources as sources;
@@ -7,17 +7,17 @@ ghost use Rattle.acpi_packing.specs.Sources.{bytes_in, is_of, is_unlisted, is_ds
 use crate::error::{FileError, Refusal};
 use acpi_base::bytes::field;
 
-/// The bytes of a file, `None` where it can't be read.
+/// The bytes of a file, or `None` if it can't be read.
 pub type FileBytes<'a> = Option<&'a [u8]>;
 
-/// What is done with a file of tables.
+/// The role of a file of tables.
 #[derive(Clone, Copy)]
 pub(crate) enum FileRole {
-    /// The XSDT lists it.
+    /// The XSDT lists the file.
     Listed,
-    /// It lies where the FADT says.
+    /// The file is a DSDT, which lies at the address that the FADT gives.
     Dsdt,
-    /// It is left out.
+    /// The file is left out.
     Unlisted,
 }
 
@@ -28,7 +28,7 @@ pub(crate) struct IndexedFile<'a> {
     pub(crate) bytes: &'a [u8],
 }
 
-/// The bytes of a file, or none where it can't be read.
+/// The bytes of a file, or no bytes if it can't be read.
 pub(crate) fn bytes_of<'a>(file: FileBytes<'a>) -> &'a [u8]
     ensures { result.now ≡ bytes_in (content file.entry) }
 {
@@ -45,7 +45,7 @@ fn is_dsdt(bytes: &[u8]) -> bool
     bytes.starts_with(b"DSDT")
 }
 
-/// Whether bytes are what no root table lists: the FACS, a root table, or the RSDP.
+/// Whether bytes begin as a table that no root table lists: the FACS, a root table, or the RSDP.
 fn is_unlisted(bytes: &[u8]) -> bool
     ensures { result ≡ is_unlisted bytes.now }
 {
@@ -164,7 +164,7 @@ fn check_length(index: usize, bytes: &[u8]) -> Result<(), Refusal>
 
 /// Tests a file of tables.
 ///
-/// Refuses, in this order, with `Unreadable`, `Empty`, and for what is not left out `Short` and
+/// Refuses, in this order, with `Unreadable`, `Empty`, and unless the file is left out with `Short` and
 /// `Long`.
 #[tactic(auto, unfolding(crate::specs::Sources::check_table))]
 fn check_table(index: usize, file: FileBytes<'_>) -> Result<(), Refusal>

@@ -1,17 +1,17 @@
-//! Where a file is saved: each one that was to be saved is listed, with what came of it.
+//! Storages, in which files are saved: each file that was to be saved is listed, with the answer.
 ghost use Rattle.std.specs.Prelude.{◌≡◌, ◌++◌, ◌∷◌, List, [], IfOk, OnErr, map, string_bytes};
 ghost use Rattle.acpi_packing.specs.Saves.{FileSaved};
 
 use crate::save::{SaveError, save};
 use std::alloc::{AllocError, Global};
 
-/// Where files are saved, as a program or a test reaches it. It means one thing: the list of all
-/// files that were to be saved, in order, each with what came of it.
+/// A storage in which files are saved, as a program or a test reaches it. It means one thing: the list of all
+/// files that were to be saved, in order, each with the answer.
 pub trait Storage {
     ghost saved: { Self → List FileSaved };
 
     /// Saves these bytes, which were made of the files of the names in `sources`, under a name, and
-    /// answers what came of it, as `save` does.
+    /// answers that they are saved, or the refusal, as the function `save` does.
     ///
     /// Refuses if memory for the list is refused, and then saves nothing.
     fn save(
@@ -29,7 +29,7 @@ pub trait Storage {
         ensures refused { OnErr result (saved self.new ≡ saved self.old) };
 }
 
-/// A file that was to be saved.
+/// A file that was to be saved, with the answer of `save`.
 #[derive(Drop)]
 pub(crate) struct Saved {
     name: String,
@@ -38,7 +38,7 @@ pub(crate) struct Saved {
     answer: Result<(), SaveError>,
 }
 
-/// The system that the program runs on.
+/// The storage of the system that the program runs on.
 #[derive(Drop)]
 pub struct HostStorage<'r> {
     rt: &'r HostRuntime,
@@ -48,7 +48,7 @@ pub struct HostStorage<'r> {
 impl<'r> HostStorage<'r> {
     ghost use Rattle.std.specs.Prelude.{◌≡◌, []};
 
-    /// This system, where nothing was saved yet.
+    /// The storage of the system, in which nothing was saved yet.
     pub fn new(rt: &'r HostRuntime) -> HostStorage<'r>
         ensures { ⟦<HostStorage<'r> as Storage>⟧.saved result ≡ [] }
     {
@@ -72,7 +72,7 @@ fn copies_of(alloc: Global, texts: &[&str]) -> Result<Vec<String>, AllocError>
     Ok(copies)
 }
 
-/// The list is what is kept: the names, the bytes, and what `save` answered.
+/// Lists each file with its name, its sources, its bytes, and the answer of `save`.
 impl Storage for HostStorage<'_> {
     ghost use Rattle.std.specs.Prelude.{map};
     ghost use Rattle.acpi_packing.specs.Saves.{saved_of};

@@ -1,10 +1,10 @@
-//! What the program's arguments ask for: a file, and what leads to the tables in it.
+//! The program's arguments: a file, and the way to the root table in it.
 ghost use Rattle.std.specs.Prelude.{◌≡◌, map};
 ghost use Rattle.acpi_report.specs.Command.{files_for, root_for};
 
 use acpi_cli::root::{Root, parse_root};
 
-/// What leads to the tables, by the arguments after the program's name, or `None` if these are no
+/// The way to the root table that the arguments after the program's name say, or `None` if they are not a
 /// command: IMAGE, which may be any text, and the arguments of `parse_root`.
 pub fn parse_command(arguments: &[&str]) -> Option<Root>
     ensures { result ≡ root_for (map (λ w. w.now) arguments.now) }
@@ -15,8 +15,8 @@ pub fn parse_command(arguments: &[&str]) -> Option<Root>
     parse_root(rest)
 }
 
-/// The files that are read for a command of these arguments: the one that the first of them names,
-/// or none if they are no command.
+/// The names of the files that are read for these arguments: the first argument, or none if they are not a
+/// command.
 pub fn files_named<'a, 'w>(asked: Option<Root>, arguments: &'a [&'w str]) -> &'a [&'w str]
     ensures { map (λ n. n.now) result.now ≡ files_for asked (map (λ w. w.now) arguments.now) }
 {

@@ -1,4 +1,4 @@
-//! What the ACPI tables in a file of memory say, as lines, and the command that asks for them.
+//! The ACPI tables in a file of memory as lines, and the command that asks for them.
 #![tactic(auto)]
 
 pub mod arguments;

@@ -35,7 +35,11 @@ use std::alloc::{Allocator, Global};
 use std::io;
 use std::io::Write;
 
-/// Prints each part of the tables.
+/// Prints the lines of each part of the tables, in this order: the revision, the valid tables' headers, the
+/// AML of the DSDT and of the SSDTs, the platform, the HPET, the regions of PCI configuration space, the boot
+/// graphic (BGRT) and the serial console (SPCR). A part that is refused is one line that says why.
+///
+/// Refuses with the refusal of the first write that is refused.
 pub fn print_parts<H: AcpiHandler, W: Write>(
     alloc: Global,
     tables: &AcpiTables<'_, H>,
@@ -55,7 +59,10 @@ pub fn print_parts<H: AcpiHandler, W: Write>(
     print_spcr(tables, out)
 }
 
-/// Prints why tables were passed over, for each type of table that the program looks for.
+/// Prints a line for each table that a lookup passes over as faulty, with the refusal, for FADT, MADT, MCFG,
+/// HPET, BGRT and SPCR, in this order.
+///
+/// Refuses with the refusal of the first write that is refused.
 #[tactic(auto, using(crate::proofs::Writing::then_more))]
 pub fn print_skipped_tables<H: AcpiHandler, E: Write>(
     tables: &AcpiTables<'_, H>,
@@ -72,8 +79,7 @@ pub fn print_skipped_tables<H: AcpiHandler, E: Write>(
     print_skipped::<H, Spcr, E>(tables, err)
 }
 
-/// The line of each table that the lookup of a type passes over, but for
-/// those of another signature.
+/// Prints the line of each table that the lookup of a type passes over, but for those of another signature.
 #[tactic(auto, using(crate::proofs::Writing::still_all, crate::proofs::Writing::still_less, crate::proofs::Writing::still_none))]
 fn print_skipped<H: AcpiHandler, T: AcpiTable, E: Write>(
     tables: &AcpiTables<'_, H>,
@@ -88,7 +94,7 @@ fn print_skipped<H: AcpiHandler, T: AcpiTable, E: Write>(
     Ok(())
 }
 
-/// `skipped SIG ADDRESS: REFUSAL`.
+/// Prints `skipped SIG ADDRESS: REFUSAL`.
 fn print_fault<E: Write>(signature: Signature, fault: TableFault, err: &mut E) -> io::Result<()>
     ensures { OnOk result (Appends (E.contents err.old) (E.contents err.new)
         (skipped_line signature fault)) }
@@ -101,7 +107,7 @@ fn print_fault<E: Write>(signature: Signature, fault: TableFault, err: &mut E) -
     write_line(&pieces, err)
 }
 
-/// `revision R`, the one that the tables were opened with.
+/// Prints `revision R`, the one that the tables were opened with.
 #[tactic(auto, unfolding(crate::specs::Lines::revision_line))]
 fn print_revision<H: AcpiHandler, W: Write>(
     tables: &AcpiTables<'_, H>,
@@ -114,7 +120,7 @@ fn print_revision<H: AcpiHandler, W: Write>(
     write_line(&[Piece::Number("revision ", revision)], out)
 }
 
-/// `table SIG length L revision R` for each valid table.
+/// Prints `table SIG length L revision R` for each valid table.
 #[tactic(auto, using(crate::proofs::Writing::still_all, crate::proofs::Writing::still_less, crate::proofs::Writing::still_none))]
 fn print_headers<H: AcpiHandler, W: Write>(
     tables: &AcpiTables<'_, H>,
@@ -129,7 +135,7 @@ fn print_headers<H: AcpiHandler, W: Write>(
     Ok(())
 }
 
-/// `table SIG length L revision R`.
+/// Prints `table SIG length L revision R`.
 fn print_header<W: Write>(header: &SdtHeader, out: &mut W) -> io::Result<()>
     ensures { OnOk result (Appends (W.contents out.old) (W.contents out.new)
         (header_line header.now)) }
@@ -142,7 +148,7 @@ fn print_header<W: Write>(header: &SdtHeader, out: &mut W) -> io::Result<()>
     write_line(&pieces, out)
 }
 
-/// `dsdt ADDRESS length L` for the AML of the DSDT.
+/// Prints `dsdt ADDRESS length L` for the AML of the DSDT, or its refusal.
 fn print_dsdt<H: AcpiHandler, W: Write>(tables: &AcpiTables<'_, H>, out: &mut W) -> io::Result<()>
     ensures { OnOk result (Appends (W.contents out.old) (W.contents out.new)
         (dsdt_lines (memory_of tables.now) (pointers_of tables.now))) }
@@ -153,7 +159,7 @@ fn print_dsdt<H: AcpiHandler, W: Write>(tables: &AcpiTables<'_, H>, out: &mut W)
     }
 }
 
-/// `ssdt ADDRESS length L` for the AML of each valid SSDT.
+/// Prints `ssdt ADDRESS length L` for the AML of each valid SSDT.
 #[tactic(auto, using(crate::proofs::Writing::still_all, crate::proofs::Writing::still_less, crate::proofs::Writing::still_none))]
 fn print_ssdts<H: AcpiHandler, W: Write>(tables: &AcpiTables<'_, H>, out: &mut W) -> io::Result<()>
     ensures { OnOk result (Appends (W.contents out.old) (W.contents out.new)
@@ -165,7 +171,7 @@ fn print_ssdts<H: AcpiHandler, W: Write>(tables: &AcpiTables<'_, H>, out: &mut W
     Ok(())
 }
 
-/// The line of the block of event timers, or why it is refused.
+/// Prints the line of the event timer block, or its refusal.
 fn print_hpet<H: AcpiHandler, W: Write>(tables: &AcpiTables<'_, H>, out: &mut W) -> io::Result<()>
     ensures { OnOk result (Appends (W.contents out.old) (W.contents out.new)
         (hpet_lines (memory_of tables.now) (pointers_of tables.now))) }
@@ -176,7 +182,7 @@ fn print_hpet<H: AcpiHandler, W: Write>(tables: &AcpiTables<'_, H>, out: &mut W)
     }
 }
 
-/// `hpet ADDRESS number N tick T`.
+/// Prints `hpet ADDRESS number N tick T`.
 fn print_timers<W: Write>(info: &HpetInfo, out: &mut W) -> io::Result<()>
     ensures { OnOk result (Appends (W.contents out.old) (W.contents out.new)
         (hpet_line info.now)) }
@@ -189,7 +195,10 @@ fn print_timers<W: Write>(info: &HpetInfo, out: &mut W) -> io::Result<()>
     write_line(&pieces, out)
 }
 
-/// The lines of the regions of configuration space.
+/// Prints the lines of the regions of PCI configuration space, or the one line of their refusal. Memory for
+/// them is an allocator's.
+///
+/// Refuses with the refusal of the first write that is refused.
 #[tactic(auto, using(crate::proofs::Writing::said_or_full))]
 pub fn print_pci<H: AcpiHandler, A: Allocator + Clone, W: Write>(
     alloc: A,
@@ -202,7 +211,7 @@ pub fn print_pci<H: AcpiHandler, A: Allocator + Clone, W: Write>(
     print_regions(PciConfigRegions::new_in(tables, alloc), out)
 }
 
-/// The lines of the regions that are found, or why they are refused.
+/// Prints the lines of the regions that are found, or their refusal.
 #[tactic(auto, using(crate::proofs::Writing::still_all, crate::proofs::Writing::still_less, crate::proofs::Writing::still_none, crate::proofs::Regions::shown_lines))]
 fn print_regions<A: Allocator, W: Write>(
     found: AcpiResult<PciConfigRegions<A>>,
@@ -221,7 +230,7 @@ fn print_regions<A: Allocator, W: Write>(
     Ok(())
 }
 
-/// `pci SEGMENT FIRST LAST ADDRESS`.
+/// Prints `pci SEGMENT FIRST LAST ADDRESS`.
 fn print_region<W: Write>(region: PciConfigEntry, out: &mut W) -> io::Result<()>
     ensures { OnOk result (Appends (W.contents out.old) (W.contents out.new)
         (region_line (shown_in region).0)) }
@@ -236,7 +245,7 @@ fn print_region<W: Write>(region: PciConfigEntry, out: &mut W) -> io::Result<()>
     write_line(&pieces, out)
 }
 
-/// The line of the boot graphic, or why it is refused.
+/// Prints the line of the boot graphic, or its refusal.
 fn print_bgrt<H: AcpiHandler, W: Write>(tables: &AcpiTables<'_, H>, out: &mut W) -> io::Result<()>
     ensures { OnOk result (Appends (W.contents out.old) (W.contents out.new)
         (bgrt_lines (memory_of tables.now) (pointers_of tables.now))) }
@@ -247,7 +256,7 @@ fn print_bgrt<H: AcpiHandler, W: Write>(tables: &AcpiTables<'_, H>, out: &mut W)
     }
 }
 
-/// `bgrt displayed yes|no angle A offset X Y`.
+/// Prints `bgrt displayed yes|no angle A offset X Y`.
 fn print_graphic<W: Write>(graphic: &Bgrt, out: &mut W) -> io::Result<()>
     ensures { OnOk result (Appends (W.contents out.old) (W.contents out.new)
         (graphic_line graphic.now)) }
@@ -264,14 +273,14 @@ fn print_graphic<W: Write>(graphic: &Bgrt, out: &mut W) -> io::Result<()>
     write_line(&pieces, out)
 }
 
-/// `yes` or `no`.
+/// `yes` if it holds, else `no`.
 fn yes_or_no(holds: bool) -> &'static str
     ensures { result.now ≡ yes_or_no holds }
 {
     if holds { "yes" } else { "no" }
 }
 
-/// The line of the serial console, or why it is refused.
+/// Prints the line of the serial console, or its refusal.
 fn print_spcr<H: AcpiHandler, W: Write>(tables: &AcpiTables<'_, H>, out: &mut W) -> io::Result<()>
     ensures { OnOk result (Appends (W.contents out.old) (W.contents out.new)
         (spcr_lines (memory_of tables.now) (pointers_of tables.now))) }
@@ -282,7 +291,7 @@ fn print_spcr<H: AcpiHandler, W: Write>(tables: &AcpiTables<'_, H>, out: &mut W)
     }
 }
 
-/// `spcr baud B irq I gsi G`.
+/// Prints `spcr baud B irq I gsi G`.
 fn print_console<W: Write>(console: &Spcr, out: &mut W) -> io::Result<()>
     ensures { OnOk result (Appends (W.contents out.old) (W.contents out.new)
         (console_line console.now)) }
@@ -306,7 +315,7 @@ fn widened(number: Option<u8>) -> Option<u32>
     }
 }
 
-/// `PART ADDRESS length L` for a stream of AML.
+/// Prints `PART ADDRESS length L` for a stream of AML.
 fn print_stream<W: Write>(part: &str, stream: AmlTable, out: &mut W) -> io::Result<()>
     ensures { OnOk result (Appends (W.contents out.old) (W.contents out.new)
         (stream_line part.now stream)) }
@@ -319,7 +328,7 @@ fn print_stream<W: Write>(part: &str, stream: AmlTable, out: &mut W) -> io::Resu
     write_line(&pieces, out)
 }
 
-/// `PART: `, and why this part is refused.
+/// Prints `PART: REFUSAL`, if this part is refused.
 fn print_refused<W: Write>(part: &str, refusal: AcpiError, out: &mut W) -> io::Result<()>
     ensures { OnOk result (Appends (W.contents out.old) (W.contents out.new)
         (refused_line part.now refusal)) }

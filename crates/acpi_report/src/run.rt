@@ -22,10 +22,10 @@ const BUFFERED: usize = 32768;
 
 /// Runs the program on the arguments after its name, and on the bytes of the file that the first of
 /// them names, which are `None` if it can't be read. It answers the status: 0 if all is printed, 1 if
-/// something is refused, and 2 if the arguments are no command.
+/// something is refused, and 2 if the arguments are not a command.
 ///
-/// Faults are found in this order: arguments that are no command, a file that can't be read, what
-/// `MemoryImage::from_bytes` refuses, and what opening the root table refuses. A write or a flush
+/// Faults are found in this order: arguments that are not a command, a file that can't be read, the
+/// refusals of `MemoryImage::from_bytes`, and those of opening the root table. A write or a flush
 /// that is refused ends it with status 1. Memory that is refused for the platform or for the regions
 /// of configuration space ends nothing: that part is refused, as `platform: AllocError` or
 /// `pci: AllocError`.
@@ -39,11 +39,11 @@ pub fn run<W: Write, E: Write>(
     // The status is the one that is defined, or 1 if a write is refused or memory runs out.
     ensures status { result ≢ 1 →
         result ≡ status_for (map (λ w. w.now) words.now) (option_copied image.entry) }
-    // What is printed then is what is defined, and nothing else.
+    // The text that is printed then is the one that is defined, and nothing else.
     ensures printed { result ≢ 1 →
         Prints (found_for (map (λ w. w.now) words.now) (option_copied image.entry))
         (W.contents out.old) (W.contents out.new) (E.contents err.old) (E.contents err.new) }
-    // So arguments that are no command give 2, unless the line on the usage can't be written.
+    // Arguments that are not a command give 2, unless the line on the usage can't be written.
     ensures no_command { root_for (map (λ w. w.now) words.now) ≡ None →
         (result ≡ 2) ⊎ (result ≡ 1) }
     // And nothing else gives 2.
@@ -52,10 +52,10 @@ pub fn run<W: Write, E: Write>(
     print_run(alloc, parse_command(words), image, out, err).unwrap_or(1)
 }
 
-/// `run` of what leads to the tables, or of `None` if the arguments are no command. It flushes both
-/// outputs, whatever is refused, and answers the status.
+/// Runs the program, as `run` does, on the way to the root table, or on `None` if the arguments are not a
+/// command. It flushes both outputs, whatever is refused, and answers the status.
 ///
-/// Refuses with what the first refused write or flush is refused with.
+/// Refuses with the refusal of the first write or flush that is refused.
 #[tactic(auto, using(crate::proofs::Flushed::ends_kept))]
 pub fn print_run<W: Write, E: Write>(
     alloc: Global,
@@ -64,8 +64,8 @@ pub fn print_run<W: Write, E: Write>(
     out: &mut W,
     err: &mut E,
 ) -> io::Result<u8>
-    // Where each write is taken, the status is the one that is defined, and so is what is printed; or
-    // memory for the image is refused, and one line says so.
+    // If each write is accepted, the status is the one that is defined, and so is the text that is printed;
+    // or memory for the image is refused, and one line says so.
     ensures { IfOk result (λ s. EndsWith asked (option_copied image.entry) s
         (W.contents out.old) (W.contents out.new) (E.contents err.old) (E.contents err.new)) }
 {
@@ -78,11 +78,11 @@ pub fn print_run<W: Write, E: Write>(
     Ok(status)
 }
 
-/// `print_run` over writers that are gathered in 32 KiB each before they are written. It answers the
-/// status and gives the writers back.
+/// Runs the program, as `print_run` does, over writers of which 32 KiB each are gathered before they are
+/// written. It answers the status and returns the writers.
 ///
-/// Refuses with what the first refused write or flush is refused with, or if memory for gathering is
-/// refused. A refused write leaves a front of what an output would have got.
+/// Refuses with the refusal of the first write or flush that is refused, or if memory for gathering is
+/// refused. If a write is refused, an output has a prefix of the text that it would have got.
 pub fn run_gathered<W: Write + Drop, E: Write + Drop>(
     alloc: Global,
     asked: Option<Root>,
@@ -90,7 +90,7 @@ pub fn run_gathered<W: Write + Drop, E: Write + Drop>(
     out: W,
     err: E,
 ) -> io::Result<(u8, W, E)>
-    // The outputs that are given back have grown by what is defined, and by nothing else.
+    // The outputs that are returned have grown by the text that is defined, and by nothing else.
     ensures { IfOk result (λ r. EndsWith asked (option_copied image.entry) r.0
         (W.contents out) (W.contents r.1) (E.contents err) (E.contents r.2)) }
 {
@@ -127,7 +127,9 @@ fn print_all<W: Write, E: Write>(
     }
 }
 
-/// Prints why the whole run is refused, and answers its status.
+/// Prints `refused: REFUSAL`, the line of a run that is refused, and answers its status, 1.
+///
+/// Refuses if the write is refused.
 pub fn refuse<D: Display + Drop, E: Write>(refusal: D, err: &mut E) -> io::Result<u8>
     ensures status { IfOk result (λ s. s ≡ 1) }
     ensures line { OnOk result (IfSome (D.output refusal) (λ name.
@@ -137,7 +139,7 @@ pub fn refuse<D: Display + Drop, E: Write>(refusal: D, err: &mut E) -> io::Resul
     Ok(1)
 }
 
-/// Prints what the tables in a memory say, and answers the status.
+/// Prints the lines of the tables in a memory, and answers the status.
 #[tactic(auto, using(crate::proofs::Output::no_lines))]
 fn print_image<H: AcpiHandler, W: Write, E: Write>(
     alloc: Global,

@@ -22,11 +22,11 @@ fn first_of<'f>(contents: &[Option<&'f [u8]>]) -> Option<&'f [u8]>
     }
 }
 
-/// Runs the program on the arguments after its name. They are judged first; for a command the file
-/// that the first of them names is read, and no other, and for no command none. It answers the
-/// status, which is that of `run`, and gives the outputs back.
+/// Runs the program on the arguments after its name. They are judged first. If they are a command, the file
+/// that the first of them names is read, and no other; if they are not, no file is read. It answers the
+/// status, which is that of `run`, and returns the outputs.
 ///
-/// Refuses with what the first refused write or flush is refused with, or if memory runs out for
+/// Refuses with the refusal of the first write or flush that is refused, or if memory runs out for
 /// the list of files or for gathering the outputs.
 pub fn view<F: Files, W: Write + Drop, E: Write + Drop>(
     alloc: Global,

@@ -1,8 +1,10 @@
-//! What tests ask of an answer.
+//! Answers that several tests ask for.
 
 use acpi::{AcpiHandler, AcpiResult, AcpiTable, AcpiTables};
 
-/// Where the first valid table of a type lies, and how many bytes it has.
+/// The physical address of the first valid table of a type, and how many bytes it has.
+///
+/// Refuses as `AcpiTables::find_table` does.
 pub fn place_of<T: AcpiTable, H: AcpiHandler>(
     tables: &AcpiTables<'_, H>,
 ) -> AcpiResult<(u64, usize)> {

@@ -5,14 +5,14 @@ use acpi::sdt::field;
 use acpi::{AcpiHandler, AcpiResult};
 use std::cell::Cell;
 
-/// A handler that lends just what is asked for.
+/// A handler that lends exactly as many bytes as are asked for, of what another one lends.
 #[derive(Drop)]
 pub struct Exact<'a, H: AcpiHandler> {
     inner: &'a H,
 }
 
 impl<'a, H: AcpiHandler> Exact<'a, H> {
-    /// Over this handler.
+    /// A handler that lends exactly as many bytes as are asked for, of what this one lends.
     pub fn new(inner: &'a H) -> Self {
         Exact { inner }
     }
@@ -35,7 +35,7 @@ impl<'a, H: AcpiHandler> AcpiHandler for Exact<'a, H> {
     ghost regions = { λ e. H.regions e.inner.now };
 }
 
-/// How many bytes the table has whose header was asked for, where all of it is lent, or else as
+/// How many bytes the table has whose header was asked for, if all of it is lent, or else as
 /// many as were asked for.
 fn whole_of(lent: &[u8], size: usize) -> usize {
     let length = field(lent, 4, 4) as usize;
@@ -46,7 +46,7 @@ fn whole_of(lent: &[u8], size: usize) -> usize {
     }
 }
 
-/// A handler that records what another is asked for, what it grants, and what it is told.
+/// A handler that records the requests to another one, its grants, and the notices that it gets.
 #[derive(Drop)]
 pub struct Recording<'a, H: AcpiHandler> {
     inner: &'a H,
@@ -54,7 +54,8 @@ pub struct Recording<'a, H: AcpiHandler> {
 }
 
 impl<'a, H: AcpiHandler> Recording<'a, H> {
-    /// For a scenario in which each mapping shows what was asked for, or the whole table.
+    /// A handler that records the requests to this one, and the notices that it gets, for a scenario in which
+    /// each mapping shows as many bytes as were asked for, or the whole table.
     pub fn new(inner: &'a H) -> Self {
         Recording {
             inner,
@@ -62,17 +63,18 @@ impl<'a, H: AcpiHandler> Recording<'a, H> {
         }
     }
 
-    /// What happened so far.
+    /// The history so far.
     pub fn history(&self) -> History {
         self.history.get()
     }
 
-    /// Where the history is kept. What is put there in its place is gone on with.
+    /// The cell that the history is kept in. If another history is put there, it is continued.
     pub fn cell(&self) -> &Cell<History> {
         &self.history
     }
 
-    /// What is wrong, if anything is, now that all loans should have ended.
+    /// The first flaw of the history, or `None` if each loan has its one notice, now that all loans should
+    /// have ended.
     pub fn flaw(&self) -> Option<Flaw> {
         self.history.get().flaw(Shown::AsAsked)
     }

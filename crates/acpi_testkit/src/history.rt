@@ -1,4 +1,4 @@
-//! What a handler was asked for and told, in order, and whether each loan has its one notice.
+//! The history of a handler: its requests and notices, in order, and whether each loan has its one notice.
 
 /// How many events there is room for.
 const ROOM: usize = 64;
@@ -6,23 +6,24 @@ const ROOM: usize = 64;
 /// How many loans there is room for at one time.
 const LOANS: usize = 8;
 
-/// One thing that happened at a handler.
+/// An event at a handler: a request, or a notice.
 #[derive(Clone, Copy, Debug, PartialEq, Eq)]
 pub enum Event {
-    /// A request for `size` bytes was granted, and `lent` were lent. Where a table's header was
-    /// asked for and all of the table was lent, that has `whole` bytes; else these are `size`.
+    /// A request for `size` bytes from an address on was granted, and `lent` bytes were lent. If a table's
+    /// header was asked for and all of the table was lent, `whole` is how many bytes the table has, else it
+    /// is `size`.
     Lent {
         address: u64,
         size: usize,
         whole: usize,
         lent: usize,
     },
-    /// A request was refused.
+    /// A request for `size` bytes from an address on was refused.
     Refused {
         address: u64,
         size: usize,
     },
-    /// A notice came: a mapping showed the first `shown` of `lent` bytes.
+    /// A notice came for the `lent` bytes from an address on, of which a mapping showed the first `shown`.
     Ended {
         address: u64,
         shown: usize,
@@ -40,8 +41,8 @@ pub enum Shown<'s> {
 }
 
 impl Shown<'_> {
-    /// How many bytes of a loan, before which so many were granted, if the scenario has that many:
-    /// the fewest and the most.
+    /// The least and the greatest number of bytes that a mapping of a loan should show, before which so many
+    /// were granted, or `None` if the scenario has fewer.
     fn of(self, earlier: usize, size: usize, whole: usize) -> Option<(usize, usize)> {
         match self {
             Shown::AsAsked => Some((size, whole)),
@@ -50,10 +51,10 @@ impl Shown<'_> {
     }
 }
 
-/// What is wrong with a history.
+/// A flaw of a history.
 #[derive(Clone, Copy, Debug, PartialEq, Eq)]
 pub enum Flaw {
-    /// More happened than there is room for, or more was lent than the scenario has.
+    /// There were more events than there is room for, or more loans than the scenario has.
     Full,
     /// This notice names no loan that is open: another address or length, or it came before.
     Unmatched(Event),
@@ -61,7 +62,7 @@ pub enum Flaw {
     StillLent(u64, usize),
 }
 
-/// A loan, as its notice should name it: with one of these two lengths.
+/// A loan, as its notice should name it: by its address, one of these two lengths, and how much was lent.
 #[derive(Clone, Copy)]
 struct Loan {
     address: u64,
@@ -70,7 +71,7 @@ struct Loan {
 }
 
 impl Loan {
-    /// Whether a notice with this address and these lengths is right for it.
+    /// Whether a notice with this address and these lengths is right for the loan.
     fn is_named(&self, (address, shown, lent): (u64, usize, usize)) -> bool {
         let right = shown == self.shown.0 || shown == self.shown.1;
         address == self.address && lent == self.lent && right
@@ -81,7 +82,7 @@ impl Loan {
 /// mapping of it should show. Zeros follow.
 pub type Places = [(u64, usize); LOANS];
 
-/// These loans, as `History::open` answers them.
+/// These loans, by their addresses and lengths, in the form in which `History::open` answers them.
 pub fn places(loans: &[(u64, usize)]) -> Result<Places, Flaw> {
     let mut places = [(0, 0); LOANS];
     for (place, loan) in places.iter_mut().zip(loans) {
@@ -93,7 +94,7 @@ pub fn places(loans: &[(u64, usize)]) -> Result<Places, Flaw> {
 /// The loans that are open, in the order of the grants.
 #[derive(Clone, Copy)]
 struct Loans {
-    /// Nothing follows the first that is none.
+    /// The open loans. After the first `None` all others are `None`.
     open: [Option<Loan>; LOANS],
     /// How many requests were granted so far.
     granted: usize,
@@ -117,7 +118,7 @@ impl Loans {
         false
     }
 
-    /// Takes out the first that a notice names, and says whether there is one.
+    /// Takes out the first loan that a notice names, and says whether there is one.
     fn end(&mut self, notice: (u64, usize, usize)) -> bool {
         let mut is_found = false;
         for i in 0..LOANS {
@@ -135,7 +136,7 @@ impl Loans {
         is_found
     }
 
-    /// Goes on with what happened next.
+    /// Takes the next event into account.
     fn follow(&mut self, event: Event, shown: Shown<'_>) -> Result<(), Flaw> {
         let (is_right, flaw) = match event {
             Event::Refused { .. } => return Ok(()),
@@ -175,7 +176,7 @@ impl Loans {
     }
 }
 
-/// What happened at a handler, in order.
+/// The history of a handler: the events there, in order, of which the first 64 are kept.
 #[derive(Clone, Copy)]
 pub struct History {
     events: [Event; ROOM],
@@ -183,7 +184,7 @@ pub struct History {
 }
 
 impl History {
-    /// The history in which nothing happened.
+    /// The history without an event.
     pub const NOTHING: History = History {
         events: [Event::Refused {
             address: 0,
@@ -192,7 +193,7 @@ impl History {
         count: 0,
     };
 
-    /// The same, and then this.
+    /// This history, with one more event after the others.
     pub fn with(mut self, event: Event) -> History {
         if self.count < ROOM {
             self.events[self.count] = event;
@@ -201,7 +202,7 @@ impl History {
         self
     }
 
-    /// All that happened, as far as there is room.
+    /// All events, in order, as far as there was room: the first 64.
     pub fn events(&self) -> &[Event] {
         &self.events[..self.count.min(ROOM)]
     }
@@ -236,13 +237,16 @@ impl History {
         Ok(loans)
     }
 
-    /// Address and length of the loans that are open at the end, where each notice so far ended
-    /// one.
+    /// Address and length of the loans that are open at the end, if each notice so far ended one.
+    ///
+    /// Refuses with `Full` if there were more events than there is room for, and with `Unmatched` for the
+    /// first notice that names no open loan.
     pub fn open(&self, shown: Shown<'_>) -> Result<Places, Flaw> {
         Ok(self.loans(shown)?.places())
     }
 
-    /// What is wrong, if anything is, once all should have ended.
+    /// The first flaw of the history, or `None` if each loan has its one notice, at a time when all loans
+    /// should have ended.
     pub fn flaw(&self, shown: Shown<'_>) -> Option<Flaw> {
         match self.loans(shown) {
             Err(flaw) => Some(flaw),

@@ -1,5 +1,5 @@
-//! What tests stand on: handlers over another handler, the history of what one was asked for, and
-//! memory that is spelled out byte by byte.
+//! Support for tests: handlers over another handler, the history of what one was asked for, rows of
+//! questions, and memory that is spelled out byte by byte.
 #![tactic(auto)]
 
 pub mod answers;

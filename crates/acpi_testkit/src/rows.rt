@@ -28,11 +28,12 @@ pub use regions::Region;
 use std::alloc::{AllocError, Global};
 use std::mem;
 
-/// What is asked about.
+/// A row: the bytes that questions are about.
 #[derive(Drop)]
 pub struct Row {
+    /// The name of the row.
     pub name: String,
-    /// What kind of table the bytes are. It is empty if they are memory.
+    /// The kind of table that the bytes are. It is empty if they are memory.
     pub kind: String,
     /// The table, or the regions of memory. The last is the one that bytes are put into.
     pub regions: Vec<Region>,
@@ -48,7 +49,7 @@ impl Row {
         }
     }
 
-    /// The bytes of the table.
+    /// The bytes of the row's table, or none if the row has no bytes.
     pub fn table(&self) -> &[u8] {
         match self.regions.last() {
             None => &[],
@@ -56,7 +57,9 @@ impl Row {
         }
     }
 
-    /// A file of the regions, as an image of memory has it.
+    /// A file of memory with the row's regions, as `MemoryImage` reads it.
+    ///
+    /// Refuses if memory for it is refused.
     pub fn file(&self, alloc: Global) -> Result<Vec<u8>, AllocError> {
         let mut file = Vec::new(alloc);
         for region in &self.regions {
@@ -130,7 +133,7 @@ impl Row {
         Some(self.regions.remove(index))
     }
 
-    /// Puts what a text encodes.
+    /// Puts the bytes that a text encodes, and says whether they all have a place.
     fn put(&mut self, offset: usize, text: &str) -> bool {
         match self.regions.last_mut() {
             None => false,
@@ -138,7 +141,7 @@ impl Row {
         }
     }
 
-    /// Changes a checksum.
+    /// Changes the checksum of the region that bytes are put into, and says whether it has one.
     fn sum(&mut self, count: &str) -> bool {
         match self.regions.last_mut() {
             None => false,
@@ -166,7 +169,9 @@ impl Rows {
         }
     }
 
-    /// Does what a line says that asks nothing, and answers whether it is understood.
+    /// Takes a line that asks nothing, and answers whether it is understood.
+    ///
+    /// Refuses if memory for it is refused.
     pub fn take(&mut self, line: &str) -> Result<bool, AllocError> {
         let (first, rest) = line.split_once(' ').unwrap_or((line, ""));
         match first {

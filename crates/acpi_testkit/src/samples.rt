@@ -15,14 +15,14 @@ pub fn put(file: &mut [u8], offset: usize, bytes: &[u8])
     }
 }
 
-/// The first bytes, at most so many.
+/// The first `count` bytes, or all if there are fewer.
 pub fn front(memory: &[u8], count: usize) -> &[u8]
     ensures { length result.now ≤ count }
 {
     &memory[..count.min(memory.len())]
 }
 
-/// Writes what a record begins with: where it starts, and how many bytes it has.
+/// Writes the two numbers that a record begins with, at an offset: its start, and how many bytes it has.
 pub fn put_head(file: &mut [u8], offset: usize, start: u64, count: u64)
     requires { offset + 16 ≤ length file.old }
 {
@@ -30,7 +30,7 @@ pub fn put_head(file: &mut [u8], offset: usize, start: u64, count: u64)
     put(file, offset + 8, &count.to_le_bytes());
 }
 
-/// Writes what a table begins with: its signature and its length.
+/// Writes the signature and the length of a table's header at an offset.
 pub fn put_table(file: &mut [u8], offset: usize, name: &[u8; 4], count: u8)
     requires { offset + 36 ≤ length file.old }
 {
@@ -38,8 +38,7 @@ pub fn put_table(file: &mut [u8], offset: usize, name: &[u8; 4], count: u8)
     put(file, offset + 4, &[count]);
 }
 
-/// Changes the checksum of what lies at an offset, one of so many bytes, so that these sum to 0
-/// modulo 256.
+/// Changes byte `checksum` of the `count` bytes at an offset, so that these sum to 0 modulo 256.
 pub fn seal(file: &mut [u8], offset: usize, count: usize, checksum: usize)
     requires bytes { offset + count ≤ length file.old }
     requires checksum { checksum < count }
@@ -59,7 +58,7 @@ pub fn seal_table(file: &mut [u8], offset: usize, count: usize)
     seal(file, offset, count, 9);
 }
 
-/// Writes a boot graphic: version 1, displayed, turned by 180 degrees.
+/// Writes a boot graphic (BGRT, section 5.2.22) at an offset: version 1, displayed, turned by 180 degrees.
 pub fn put_graphic(file: &mut [u8], offset: usize)
     requires { offset + 56 ≤ length file.old }
 {

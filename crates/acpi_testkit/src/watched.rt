@@ -5,7 +5,7 @@ use acpi::{AcpiResult, AcpiTable, PhysicalRecord};
 use std::cell::Cell;
 
 /// A boot graphic that counts how often it was checked. A cell's value counts for nothing in a
-/// contract, so that this is a table type as any other.
+/// contract, so this is a table type like any other.
 #[derive(Drop)]
 pub struct Watched {
     header: SdtHeader,

@@ -1,22 +1,22 @@
-//! One region of physical memory, as it is mapped.
+//! A handler over one region of physical memory that the caller has mapped.
 ghost use Rattle.acpi_base.specs.Memory.{IsMemory, IsMemory-prop};
 ghost use Rattle.acpi_base.specs.OneRegion.{one_region};
 
 use acpi_base::{AcpiError, AcpiHandler, AcpiResult};
 use std::fmt;
 
-/// Why regions are no memory.
+/// The refusals of `MappedRegion::new` and `MappedRegions::new`: why regions are no memory.
 #[derive(Clone, Copy, Debug, PartialEq, Eq)]
 pub enum RegionError {
-    /// A region's start and its length add up to more than 2^64 - 1.
+    /// A region's start and its length in bytes add up to more than 2^64 - 1.
     EndTooLarge,
-    /// A region starts below the one before it.
+    /// A region starts below the start of the one before it.
     NotAscending,
     /// A region starts below the end of the one before it.
     Overlap,
 }
 
-/// The variant's name.
+/// Prints the variant's name.
 impl fmt::Display for RegionError {
     ghost use Rattle.std.specs.Prelude.{Some};
     ghost use Rattle.acpi.specs.Regions.{region_error_text};
@@ -32,12 +32,12 @@ impl fmt::Display for RegionError {
     }
 }
 
-/// One region of physical memory, as a kernel or a boot loader has it mapped: a handler that lends
-/// its bytes.
+/// A handler that lends the bytes of one region of physical memory, which a kernel or a boot loader has
+/// mapped.
 ///
-/// The caller keeps three things, which nothing here can see. The bytes are those of the physical
-/// memory from `start` on. They stay mapped as long as this is used, which the compiler sees by `'k`.
-/// And nobody writes to them meanwhile, neither the firmware nor another processor.
+/// The caller keeps three things. The bytes are those of the physical memory from `start` on. They stay
+/// mapped as long as the handler is used, which the compiler checks by `'k`. And nobody writes to them
+/// meanwhile, neither the firmware nor another processor. The first and the last can't be checked here.
 #[derive(Clone, Copy, Drop)]
 pub struct MappedRegion<'k> {
     pub(super) start: u64,
@@ -49,9 +49,9 @@ impl<'k> MappedRegion<'k> {
     ghost use Rattle.acpi_base.specs.Steps.{Gives};
     ghost use Rattle.acpi.specs.Regions.{one_memory, region_memory};
 
-    /// These bytes, which lie from the physical address `start` on.
+    /// A handler that lends these bytes, which lie from the physical address `start` on.
     ///
-    /// Refuses with `EndTooLarge` where `start` and the length add up to more than 2^64 - 1.
+    /// Refuses with `EndTooLarge` if `start` and the number of bytes add up to more than 2^64 - 1.
     pub fn new(start: u64, bytes: &'k [u8]) -> Result<Self, RegionError>
         ensures exact { Gives (λ r. region_memory r) result (one_memory start bytes.now) }
     {
@@ -68,9 +68,9 @@ impl AcpiHandler for MappedRegion<'_> {
 
     ghost memory = { λ r. region_memory r };
 
-    /// All bytes from an address to the end of the region, where these are `size` or more.
+    /// Lends all bytes from a physical address to the end of the region.
     ///
-    /// Refuses with `MapFailed` otherwise.
+    /// Refuses with `MapFailed` if the region doesn't have `size` bytes from that address on.
     #[tactic(auto, using(acpi_base::proofs::OneRegion::one_region_lends))]
     fn map_physical_region(&self, address: u64, size: usize) -> AcpiResult<&[u8]> {
         if address < self.start {

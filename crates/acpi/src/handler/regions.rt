@@ -1,4 +1,4 @@
-//! Several regions of physical memory, as they are mapped.
+//! A handler over several regions of physical memory that the caller has mapped.
 ghost use Rattle.std.specs.Prelude.{◌≡◌, [], IfOk, IfNone, IfSome};
 ghost use Rattle.acpi_base.specs.Memory.{IsMemory, IsMemory-prop, rest_from};
 ghost use Rattle.acpi.specs.Regions.{IsAscending, IsAscending-prop, check_regions, region_memory, regions_of};
@@ -6,10 +6,10 @@ ghost use Rattle.acpi.specs.Regions.{IsAscending, IsAscending-prop, check_region
 use super::region::{MappedRegion, RegionError};
 use acpi_base::{AcpiError, AcpiHandler, AcpiResult};
 
-/// Several regions of physical memory, as a kernel or a boot loader has them mapped: a handler that
-/// lends their bytes. Two regions that adjoin are still two: a range across their border is not lent.
+/// A handler that lends the bytes of several regions of physical memory, which a kernel or a boot loader
+/// has mapped. Two regions that adjoin are still two: a range across their border is not lent.
 ///
-/// The caller keeps for each region what `MappedRegion` says.
+/// The caller keeps for each region the three things that `MappedRegion` names.
 #[derive(Clone, Copy, Drop)]
 pub struct MappedRegions<'k> {
     regions: &'k [MappedRegion<'k>],
@@ -22,12 +22,13 @@ impl<'k> MappedRegions<'k> {
     ghost use Rattle.acpi.specs.Mapped.{regions_memory};
     ghost use Rattle.acpi.specs.Regions.{several_memory};
 
-    /// These regions, which stand in the order of their addresses, each of them after the end of the
-    /// one before it. There is no heap to sort them in: a kernel sorts its list once.
+    /// A handler that lends the bytes of these regions. They stand in the order of their addresses, each
+    /// at or after the end of the one before it. There is no heap to sort them in: the caller sorts its
+    /// list once.
     ///
-    /// Refuses, regions in order, and for each in this order, with `NotAscending` where it starts
-    /// below the start of the one before it, and `Overlap` where it starts below that one's end.
-    /// Regions that only touch are taken.
+    /// Refuses at the first region that fails, and of that one, in this order, with `NotAscending` if it
+    /// starts below the start of the one before it, and `Overlap` if it starts below that one's end.
+    /// Regions that adjoin are accepted.
     #[tactic(auto, using(crate::proofs::Ascending::is_memory))]
     pub fn new(regions: &'k [MappedRegion<'k>]) -> Result<Self, RegionError>
         ensures exact { Gives (λ r. regions_memory r) result (several_memory (regions_of regions.now)) }
@@ -82,10 +83,9 @@ impl AcpiHandler for MappedRegions<'_> {
 
     ghost memory = { λ r. regions_memory r };
 
-    /// All bytes from an address to the end of the region that it lies in, where these are `size` or
-    /// more.
+    /// Lends all bytes from a physical address to the end of the region that it lies in.
     ///
-    /// Refuses with `MapFailed` otherwise.
+    /// Refuses with `MapFailed` if no region has `size` bytes from that address on.
     #[tactic(auto, using(crate::proofs::Ascending::at_same, crate::proofs::Ascending::at_none))]
     fn map_physical_region(&self, address: u64, size: usize) -> AcpiResult<&[u8]> {
         match region_for(self.regions, address) {

@@ -1,4 +1,4 @@
-//! The configuration space of a PCI function by the base of bus 0.
+//! The addresses of the configuration space of PCI functions, by the base of bus 0.
 ghost use Rattle.std.specs.Prelude.{◌≡◌};
 
 use super::{McfgEntry, PciConfigRegions, region_for};
@@ -9,13 +9,13 @@ impl<A: Allocator> PciConfigRegions<A> {
     ghost use Rattle.std.specs.Prelude.{IfSome};
     ghost use Rattle.acpi.specs.Ecam.{IsBeside, ecam_address, spans_left, spans_of};
 
-    /// The physical address of a function's configuration space, as a kernel wants it: a region's
+    /// The physical address of a PCI function's configuration space, as a kernel wants it: a region's
     /// base is that of bus 0 of its segment group (PCI Firmware Specification, section 4.1.2), and
     /// Linux reads it so. It is the base of the first region of the segment group that holds the bus,
-    /// and 2^20 bytes for each bus, 2^15 for each device and 2^12 for each function.
+    /// plus 2^20 bytes for each bus, 2^15 for each device and 2^12 for each function.
     ///
     /// `physical_address` counts from the region's first bus, as the Rust crate does. The two differ
-    /// by 2^20 bytes for each bus before the first, and agree where the first bus is 0.
+    /// by 2^20 bytes for each bus before the first, and agree if the first bus is 0.
     ///
     /// It is `None` if no region holds the bus, if the device is above 31 or the function above 7, and
     /// if the sum is 2^64 or more; no later region is then tried. Of the 4096 bytes of configuration
@@ -34,7 +34,7 @@ impl<A: Allocator> PciConfigRegions<A> {
         self.ecam_address_exact(segment_group_no, bus, device, function)
     }
 
-    /// What `ecam_address` answers: the region is found, and the sum taken in it.
+    /// What `ecam_address` answers: it finds the region, and takes the sum in it.
     fn ecam_address_exact(&self, segment: u16, bus: u8, device: u8, function: u8) -> Option<u64>
         ensures { result ≡ ecam_address self.now segment bus device function }
     {
@@ -42,9 +42,9 @@ impl<A: Allocator> PciConfigRegions<A> {
         region.ecam_address(bus, device, function)
     }
 
-    /// The memory that the configuration space of each region takes, by the base of bus 0, in the order
-    /// of the table: the segment group, and the range of the buses from the first to the last, 2^20
-    /// bytes each.
+    /// The memory that the configuration space of each region takes, in the order of the table, by the
+    /// base of bus 0 (PCI Firmware Specification, section 4.1.2): the segment group, and the range of
+    /// physical memory of the buses from the first to the last, 2^20 bytes each.
     ///
     /// There is no range if the last bus is below the first, and if the range ends at 2^64 or above.
     /// Some address in it may then be answered by `ecam_address` all the same.
@@ -57,7 +57,8 @@ impl<A: Allocator> PciConfigRegions<A> {
     }
 }
 
-/// The memory that the configuration space of each region takes, in the order of the table.
+/// The memory that the configuration space of each region takes, in the order of the table, as
+/// `PciConfigRegions::ecam_ranges` gives it: each region's segment group, and its range, if it has one.
 #[derive(Clone, Debug, Drop)]
 pub struct EcamRanges<'a> {
     regions: &'a [McfgEntry],

@@ -1,4 +1,4 @@
-//! The mailbox by which the firmware wakes processors.
+//! The Multiprocessor Wakeup Mailbox, by which the firmware wakes processors (section 5.2.12.19).
 ghost use Rattle.std.specs.Prelude.{◌≡◌, ◌+◌, ◌++◌, ◌<◌, ◌∷◌, ℕ, List, [], length};
 ghost use Rattle.std.specs.Prelude.{OnErr, OnOk, Option, Result, Some};
 ghost use Rattle.acpi_base.specs.declared.error.AcpiError.{AcpiError};
@@ -7,37 +7,37 @@ ghost use Rattle.acpi.specs.declared.platform.mailbox.MailboxWrite.{MailboxWrite
 
 use acpi_base::AcpiResult;
 
-/// One write to a mailbox (section 5.2.12.19).
+/// One write to a field of a Multiprocessor Wakeup Mailbox (section 5.2.12.19).
 #[derive(Clone, Copy, Debug, PartialEq, Eq)]
 pub enum MailboxWrite {
-    /// To the command.
+    /// Command: what the firmware is asked to do.
     Command(u16),
-    /// To the id of the local APIC that the command is for.
+    /// ApicId: the id of the local APIC of the processor that the command is for.
     ApicId(u32),
-    /// To the address that the processor begins to run at.
+    /// WakeupVector: the physical address that the processor begins to run at.
     WakeupVector(u64),
 }
 
-/// One call of a mailbox.
+/// One call of a Multiprocessor Wakeup Mailbox (section 5.2.12.19): it is opened, written to, or read.
 #[derive(Clone, Copy, Debug, PartialEq, Eq)]
 pub enum MailboxCall {
-    /// It was opened at this physical address.
+    /// The mailbox was opened at this physical address.
     Opened(u64),
-    /// This was written to it.
+    /// This field of the mailbox was written, with this value.
     Wrote(MailboxWrite),
-    /// Its command was read.
+    /// Command was read.
     Read,
 }
 
-/// A mailbox (section 5.2.12.19), as a kernel or a test reaches it.
+/// A Multiprocessor Wakeup Mailbox (section 5.2.12.19), as a kernel or a test reaches it.
 ///
 /// It means five things: for each address the answer that `open` gives there, the address that was
 /// opened, the writes since then, for each number i the answer of the i-th read from now, and to
 /// which state a call leads from which one. Only `open` can fail.
 ///
-/// The answers of reads are those that the mailbox still has to give, whatever is written to it. So
-/// of a real mailbox it is asked that its implementor says beforehand what the firmware is going to
-/// answer; no proof shows that a real one answers so, or at all.
+/// The answers of reads are those that the mailbox still has to give, whatever is written to it. Who
+/// implements this over a real mailbox therefore says beforehand what the firmware is going to answer.
+/// No proof shows that a real mailbox answers so, or at all.
 pub trait Mailbox {
     // What `open` answers at each address.
     ghost open_answer: { Self → ℕ → Result (Unit {0}) AcpiError };
@@ -45,7 +45,7 @@ pub trait Mailbox {
     // The address that was opened.
     ghost opened: { Self → Option ℕ };
 
-    // The writes since then, in order.
+    // The writes since it was opened, in order.
     ghost writes: { Self → List MailboxWrite };
 
     // The answer of the i-th read from now, counted from 0.
@@ -54,9 +54,10 @@ pub trait Mailbox {
     // This call leads from the one state to the other.
     ghost called: { Self → MailboxCall → Self → Type 0 };
 
-    /// Opens the mailbox at a physical address, with no writes yet.
+    /// Opens the mailbox at a physical address, the MailBoxAddress of a Multiprocessor Wakeup entry
+    /// (section 5.2.12.19). It then has no writes.
     ///
-    /// Refuses as it likes, and then changes nothing.
+    /// Refuses with any refusal that its implementor chooses, and then changes nothing.
     fn open(&mut self, address: u64) -> AcpiResult<()>
         ensures answered { result ≡ open_answer self.old address }
         ensures made { OnOk result (called self.old (MailboxCall.Opened address) self.new) }
@@ -67,7 +68,7 @@ pub trait Mailbox {
         ensures reads_kept { (i : ℕ) → answer self.new i ≡ answer self.old i }
         ensures answers_kept { (a : ℕ) → open_answer self.new a ≡ open_answer self.old a };
 
-    /// Writes the command.
+    /// Writes Command, of two bytes (section 5.2.12.19).
     fn write_command(&mut self, command: u16)
         requires { length (writes self.old) < 4 }
         ensures made { called self.old (MailboxCall.Wrote (MailboxWrite.Command command)) self.new }
@@ -76,7 +77,8 @@ pub trait Mailbox {
         ensures reads_kept { (i : ℕ) → answer self.new i ≡ answer self.old i }
         ensures answers_kept { (a : ℕ) → open_answer self.new a ≡ open_answer self.old a };
 
-    /// Writes the id of the local APIC that the command is for.
+    /// Writes ApicId: the id of the local APIC of the processor that the command is for (section
+    /// 5.2.12.19).
     fn write_apic_id(&mut self, id: u32)
         requires { length (writes self.old) < 4 }
         ensures made { called self.old (MailboxCall.Wrote (MailboxWrite.ApicId id)) self.new }
@@ -85,7 +87,7 @@ pub trait Mailbox {
         ensures reads_kept { (i : ℕ) → answer self.new i ≡ answer self.old i }
         ensures answers_kept { (a : ℕ) → open_answer self.new a ≡ open_answer self.old a };
 
-    /// Writes the physical address that the processor begins to run at.
+    /// Writes WakeupVector: the physical address that the processor begins to run at (section 5.2.12.19).
     fn write_wakeup_vector(&mut self, vector: u64)
         requires { length (writes self.old) < 4 }
         ensures made { called self.old (MailboxCall.Wrote (MailboxWrite.WakeupVector vector)) self.new }
@@ -95,7 +97,7 @@ pub trait Mailbox {
         ensures reads_kept { (i : ℕ) → answer self.new i ≡ answer self.old i }
         ensures answers_kept { (a : ℕ) → open_answer self.new a ≡ open_answer self.old a };
 
-    /// Reads the command. The firmware sets it to 0 once it has taken it.
+    /// Reads Command (section 5.2.12.19). The firmware sets it to 0, Noop, when it has taken the command.
     fn read_command(&mut self) -> u16
         ensures answered { result ≡ answer self.old 0 }
         ensures made { called self.old MailboxCall.Read self.new }

@@ -1,12 +1,12 @@
-//! A mailbox that answers from a script, for tests and dry runs.
+//! A Multiprocessor Wakeup Mailbox that answers from a script, for tests and dry runs.
 ghost use Rattle.std.specs.Prelude.{◌≤◌};
 
 use super::mailbox::{Mailbox, MailboxCall, MailboxWrite};
 use acpi_base::AcpiResult;
 
-/// A mailbox that can be opened anywhere, gives these answers to the reads, and then 1 for ever. It
-/// shows what was done to it: the first 32 calls, the address opened last, the writes since then, and
-/// how many reads there were.
+/// A `Mailbox` (section 5.2.12.19) for tests and dry runs. It can be opened at every address, answers reads
+/// with the numbers of its script, in order, and after these with 1 each time. It shows what was done to
+/// it: the first 32 calls, the address opened last, the writes since then, and how many reads there were.
 #[derive(Drop)]
 pub struct ScriptedMailbox<'a> {
     answers: &'a [u16],
@@ -25,7 +25,8 @@ impl<'a> ScriptedMailbox<'a> {
     ghost use Rattle.acpi.specs.Scripted.{Lists, calls_of, reads_of};
     ghost use Rattle.acpi.specs.declared.platform.mailbox.MailboxCall.{MailboxCall};
 
-    /// A mailbox that gives these answers, from the first on. It isn't opened yet.
+    /// A mailbox that answers reads with these numbers, in order, and after these with 1 each time. It
+    /// isn't opened yet.
     pub fn new(answers: &'a [u16]) -> ScriptedMailbox<'a>
         ensures answers { (i : ℕ) → ⟦<ScriptedMailbox<'a> as Mailbox>⟧.answer result i
             ≡ slice_index_or answers.now i 1 }
@@ -45,28 +46,28 @@ impl<'a> ScriptedMailbox<'a> {
         }
     }
 
-    /// The address that was opened last, if any.
+    /// The physical address that was opened last, or `None` if none was.
     pub fn opened(&self) -> Option<u64>
         ensures { result ≡ ⟦<ScriptedMailbox<'a> as Mailbox>⟧.opened self.now }
     {
         self.opened
     }
 
-    /// The writes since then, in order.
+    /// The writes since the mailbox was opened last, in order.
     pub fn writes(&self) -> &[MailboxWrite]
         ensures { result.now ≡ ⟦<ScriptedMailbox<'a> as Mailbox>⟧.writes self.now }
     {
         &self.writes[..self.written]
     }
 
-    /// The calls that were made of it, in order: all of them, or the first 32 if there were more.
+    /// The calls that were made of the mailbox, in order: all of them, or the first 32 if there were more.
     pub fn calls(&self) -> &[MailboxCall]
         ensures { result.now ≡ calls_of self.now }
     {
         &self.calls[..self.called]
     }
 
-    /// How many reads there were, since it was made; it stays at the greatest `u64`.
+    /// How many reads there were since the mailbox was made. At 2^64 - 1 the number stays.
     pub fn reads(&self) -> u64
         ensures { result ≡ reads_of self.now }
     {

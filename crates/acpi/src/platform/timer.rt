@@ -1,16 +1,16 @@
-//! The power management timer.
+//! The Power Management Timer (section 4.8.3.3).
 ghost use Rattle.std.specs.Prelude.{◌≡◌};
 
 use acpi_base::AcpiResult;
 use acpi_base::address::GenericAddress;
 use acpi_fixed::fadt::{Fadt, FadtBrief, FixedFeatureFlags};
 
-/// The power management timer (section 4.8.3.3).
+/// The Power Management Timer (section 4.8.3.3), as the FADT describes it (section 5.2.9).
 #[derive(Clone, Copy, Debug, PartialEq, Eq)]
 pub struct PmTimer {
-    /// Where its register lies.
+    /// PM_TMR_BLK or X_PM_TMR_BLK: the address of its register.
     pub base: GenericAddress,
-    /// Whether it counts in 32 bits, or else in 24.
+    /// TMR_VAL_EXT (bit 8 of the FADT's flags): whether it counts in 32 bits, or else in 24.
     pub supports_32bit: bool,
 }
 
@@ -18,24 +18,26 @@ impl PmTimer {
     ghost use Rattle.acpi_fixed.specs.Brief.{brief_flags, brief_timer_block};
     ghost use Rattle.acpi.specs.Timer.{timer_from, timer_of};
 
-    /// The timer that a FADT describes, or `None` if it has none: the block of
-    /// `Fadt::pm_timer_block`, and bit 8 of the flags.
+    /// The Power Management Timer that a FADT describes (sections 4.8.3.3 and 5.2.9), or `None` if it has
+    /// none: the block of `Fadt::pm_timer_block`, and TMR_VAL_EXT, bit 8 of the flags.
     ///
-    /// Refuses with `InvalidGenericAddress` where that block is refused.
+    /// Refuses with `InvalidGenericAddress` if that block is refused.
     pub fn new(fadt: &Fadt) -> AcpiResult<Option<PmTimer>>
         ensures { result ≡ timer_of fadt.now }
     {
         PmTimer::from_block(fadt.pm_timer_block(), fadt.flags)
     }
 
-    /// The same of what is read of a FADT to go on from it.
+    /// The Power Management Timer that a FADT describes, by the part of it that a platform needs.
+    ///
+    /// Refuses with `InvalidGenericAddress` if the timer's block is refused.
     pub(super) fn of(fadt: &FadtBrief) -> AcpiResult<Option<PmTimer>>
         ensures { result ≡ timer_from (brief_timer_block fadt.now) (brief_flags fadt.now) }
     {
         PmTimer::from_block(fadt.pm_timer_block(), fadt.flags())
     }
 
-    /// The timer of the block that there is, if any.
+    /// The timer of a block and of flags, or `None` if there is no block.
     fn from_block(
         block: AcpiResult<Option<GenericAddress>>,
         flags: FixedFeatureFlags,

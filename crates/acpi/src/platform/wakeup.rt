@@ -1,4 +1,4 @@
-//! Waking a processor by the mailbox.
+//! Waking a processor by the Multiprocessor Wakeup Mailbox (section 5.2.12.19).
 ghost use Rattle.std.specs.Prelude.{◌≡◌, ℕ, ◌++◌, [], ◌∷◌, OnOk, MatchResult, Some, Ok, Err};
 ghost use Rattle.acpi_base.specs.declared.error.AcpiError.{AcpiError};
 ghost use Rattle.acpi_base.specs.declared.error.AcpiError.TheVariants.{InvalidMadt};
@@ -15,14 +15,14 @@ use crate::tables::AcpiTables;
 use acpi_base::madt::{Madt, MadtError, MpProtectedModeWakeupCommand};
 use acpi_base::{AcpiError, AcpiResult, Lender};
 
-/// Wakes the processor with a local APIC id: it then begins to run at the vector, a physical
-/// address (section 5.2.12.19). The mailbox is that of the first wakeup entry of the first valid
-/// MADT. It gets the command 0, the id, the vector, the command 1; then the command is read until
-/// it is 0, at most `timeout_loops` times. A command that has no meaning counts as not yet 0.
+/// Wakes the processor with a local APIC id by the Multiprocessor Wakeup Mailbox (section 5.2.12.19): the
+/// firmware is asked to let it run at the vector, a physical address. The mailbox is that of the first
+/// Multiprocessor Wakeup entry of the first valid MADT. It gets Command 0 (Noop), ApicId, WakeupVector and
+/// Command 1 (Wakeup), in this order; then Command is read until it is 0, at most `timeout_loops` times.
 ///
-/// Refuses, in this order, with `TableMissing` where no valid MADT is listed, with what
+/// Refuses, in this order, with `TableMissing` if no valid MADT is listed, with what
 /// `get_mpwk_mailbox_addr` refuses, with what the mailbox's `open` refuses, each without a write or
-/// a read, and with `InvalidMadt(WakeupApsTimeout)` where no read is 0.
+/// a read, and with `InvalidMadt(WakeupApsTimeout)` if no read is 0.
 #[tactic(auto, using(crate::proofs::Agreed::mailbox_from_tables))]
 pub fn wakeup_aps<H: Lender, M: Mailbox>(
     tables: &AcpiTables<'_, H>,
@@ -114,7 +114,7 @@ fn wake<M: Mailbox>(
 }
 
 /// Reads the command until it is 0, at most `timeout_loops` times. Refuses with
-/// `InvalidMadt(WakeupApsTimeout)` where no read is 0.
+/// `InvalidMadt(WakeupApsTimeout)` if no read is 0.
 #[tactic(auto, using(crate::proofs::Calls::one_read, crate::proofs::Calls::woken))]
 fn wait<M: Mailbox>(mailbox: &mut M, timeout_loops: u64) -> AcpiResult<()>
     ensures answered { MatchResult result

@@ -1,4 +1,4 @@
-//! Where the search for the RSDP looks.
+//! The areas in which a BIOS is searched for the RSDP (section 5.2.5.1).
 ghost use Rattle.std.specs.Prelude.{◌≡◌, ◌<◌, ◌≤◌, ◌^◌, ◌+◌};
 ghost use Rattle.acpi.specs.Search as search;
 
@@ -15,8 +15,8 @@ pub(crate) const FIRST_AREA: Area = Area {
     end: 0x100000,
 };
 
-/// What is searched second: the first KiB of the extended BIOS data area (EBDA), whose address is
-/// 16 times the word; where that area can't be there, all of the memory that it may lie in.
+/// The area that is searched second: the first KiB of the extended BIOS data area (EBDA), whose address is
+/// 16 times the word; if that area can't be there, all of the memory that it may lie in.
 pub(crate) fn second_area(word: u16) -> Area
     ensures value { result ≡ search.second_area word }
     ensures some { result.start + 20 ≤ result.end }

@@ -1,4 +1,4 @@
-//! The search for the RSDP in areas that a caller gives, where firmware lends less than whole areas.
+//! The search for the RSDP in areas that a caller gives, if firmware lends less than whole areas.
 ghost use Rattle.std.specs.Prelude.{◌≡◌, ◌<◌, ◌≤◌, ◌^◌, ◌+◌, ◌*◌, ℕ, Ok, true, IfErr, IfOk, IfSome};
 ghost use Rattle.std.specs.Option.{option_map};
 ghost use Rattle.acpi_base.specs.Mapping.{IsOfMemory, bytes_of, handler_of, start_of};
@@ -21,8 +21,8 @@ use acpi_base::{AcpiError, AcpiResult, AddressRange, Lender, PhysicalMapping, Ph
 /// word. Its KiB is cut at 0xa0000, where video memory begins. The first area has no bytes, at address
 /// 0, if the EBDA isn't given or doesn't begin within 0x400..0xa0000.
 ///
-/// `Rsdp::search_for_on_bios` looks at these in the other order, so where both have an RSDP a search in
-/// these areas may answer another one.
+/// `Rsdp::search_for_on_bios` looks at the EBDA last, so if both areas have a valid RSDP a search in these
+/// areas may answer another one.
 pub fn bios_areas(ebda: Option<u64>) -> [AddressRange; 2]
     ensures { result ≡ areas.bios_areas ebda }
 {
@@ -111,7 +111,7 @@ fn check_mapped<H: Lender>(handler: &H, rsdp: &PhysicalMapping<'_, H, Rsdp>) -> 
     Ok(())
 }
 
-/// The RSDP at an address, where it is valid, or else how many candidates from there on are refused,
+/// The RSDP at an address, if it is valid, or else how many candidates from there on are refused,
 /// as far as is known from what was lent there: each 16 bytes after the one before.
 fn tried<'h, H: Lender>(
     handler: &'h H,
@@ -210,8 +210,8 @@ impl Rsdp {
     /// The areas are looked at in their order, and the candidates of one from the lowest on: they are
     /// the multiples of 16 in it with 20 bytes before its end, and an end above 2^64 counts as 2^64. A
     /// candidate that fails any check of an RSDP at an address is passed over, also one whose bytes
-    /// aren't lent. Its 36 bytes, and as many as its length says, may reach past the area's end; no other
-    /// byte there is asked for.
+    /// aren't lent. A candidate's 36 bytes, and as many as its length says, may reach past the area's end;
+    /// no other byte there is asked for.
     ///
     /// No area is asked for as a whole. A candidate takes at most two requests, and none if the bytes
     /// that were lent for one before it hold its 36 bytes, and these show that it isn't valid.

@@ -1,4 +1,4 @@
-//! The search for the RSDP in the firmware's areas, on systems that boot by a BIOS.
+//! The search for the RSDP in the firmware's areas, on systems that boot by a BIOS (section 5.2.5.1).
 ghost use Rattle.std.specs.Prelude.{◌≡◌, true, ◌<◌, ◌≤◌, ◌^◌, ◌+◌, length, Ok, IfOk, IfSome};
 ghost use Rattle.std.specs.Option.{option_map};
 ghost use Rattle.std.specs.Str.{bytes_eq};
@@ -59,7 +59,7 @@ fn first_candidate<'h, H: Lender>(
 
 /// The least valid candidate of an area, if it has one.
 ///
-/// Refuses with `MapFailed` where the area isn't lent with the 16 bytes after it.
+/// Refuses with `MapFailed` if the area isn't lent with the 16 bytes after it.
 #[tactic(auto, using(crate::proofs::Asked::asked_area, crate::proofs::Asked::asked_walk), unfolding(crate::specs::Search::found_in))]
 fn search_area<'h, H: Lender>(
     handler: &'h H,
@@ -112,17 +112,17 @@ impl Rsdp {
     ghost use Rattle.acpi.specs.Search.{IsSearched};
 
     /// The RSDP of a system that boots by a BIOS (section 5.2.5.1): a mapping of the 36 bytes of
-    /// the least valid candidate.
+    /// the least valid candidate of the first area, or of the second if the first has none.
     ///
     /// Candidates stand every 16 bytes from the start of an area, with 20 bytes inside it. The
     /// first area is 0xe0000..0x100000. The second is the first 1024 bytes of the extended BIOS
-    /// data area, which begins at 16 times the word at 0x40e; where that is under 0x80000, or
-    /// 0x9ffff or above, it is 0x80000..0xa0000. The second area is asked for only where the first
+    /// data area, which begins at 16 times the word at 0x40e; if that address is under 0x80000, or
+    /// 0x9ffff or above, the second area is 0x80000..0xa0000. It is asked for only if the first area
     /// has no valid RSDP, and each is asked for with 16 bytes after it. A candidate that fails any
     /// check is skipped, also one that isn't lent as far as its length says.
     ///
     /// Each area is asked for in one piece, so a handler whose regions follow the firmware's memory
-    /// map, where video memory cuts the second area, lends too little: give the search one that has
+    /// map, in which video memory cuts the second area, lends too little: give the search one that has
     /// each area in one region. It takes at most as many steps as there are candidates times the
     /// length that one claims, as far as that is lent.
     ///

@@ -1,4 +1,4 @@
-//! How the root table is opened: by its address, by an RSDP, by the search for one.
+//! Opening the root table: by its address, by an RSDP, by the search for one.
 ghost use Rattle.std.specs.Prelude.{◌≡◌, ◌^◌, ◌<◌, length, IfOk};
 ghost use Rattle.acpi_base.specs.Mapping.{start_of, bytes_of, handler_of};
 ghost use Rattle.acpi_base.specs.Steps.{Gives};
@@ -14,7 +14,7 @@ use crate::rsdp::{Rsdp, map_rsdp};
 use acpi_base::sdt::{SdtHeader, map_sdt};
 use acpi_base::{AcpiResult, Lender, PhysicalMapping, PhysicalRecord};
 
-/// The root table of a kind at an address, where it is valid.
+/// The root table of a kind at an address, if it is valid.
 fn map_root<'h, H: Lender>(
     handler: &'h H,
     kind: RootKind,
@@ -42,13 +42,14 @@ impl<'h, H: Lender> AcpiTables<'h, H> {
     ghost use Rattle.acpi.specs.Rsdp.{root_of_rsdp, rsdp_at};
     ghost use Rattle.acpi.specs.Tables.{SpellsPointers, lender_of};
 
-    /// The tables below the root table that the RSDP at an address leads to: the RSDT where its
-    /// revision or its XSDT address is 0, else the XSDT (sections 5.2.5.3, 5.2.7 and 5.2.8).
+    /// The tables below the root table that the RSDP at a physical address leads to: the RSDT if the
+    /// RSDP's revision or XSDT address is 0, else the XSDT (sections 5.2.5.3, 5.2.7 and 5.2.8).
     ///
-    /// Refuses first with what the RSDP is refused with: `MapFailed` where 36 bytes aren't lent,
-    /// `RsdpIncorrectSignature`, `RsdpInvalidOemId`, `RsdpInvalidChecksum` where the first 20 bytes
-    /// don't sum to 0 or, above revision 0, the length is under 36, `MapFailed` where that many
-    /// bytes aren't lent, and `RsdpInvalidChecksum` where they don't sum to 0. Then as `from_rsdt`.
+    /// Refuses first with the refusal of the RSDP, in this order: `MapFailed` if 36 bytes aren't lent,
+    /// `RsdpIncorrectSignature` if it doesn't begin with `RSD PTR `, `RsdpInvalidOemId` if the OEM id is
+    /// not valid UTF-8, `RsdpInvalidChecksum` if the first 20 bytes don't sum to 0 modulo 256 or, above
+    /// revision 0, the length is under 36, `MapFailed` if that many bytes aren't lent, and
+    /// `RsdpInvalidChecksum` if they don't sum to 0 modulo 256. Then it refuses as `from_rsdt` does.
     pub fn from_rsdp(handler: &'h H, address: u64) -> AcpiResult<Self>
         requires { Allows (H.may handler.now) (opened_by_rsdp_ranges (H.memory handler.now) address) }
         ensures handler { IfOk result (λ t. lender_of t ≡ handler.now) }
@@ -64,7 +65,7 @@ impl<'h, H: Lender> AcpiTables<'h, H> {
         AcpiTables::from_rsdp_exact(handler, address)
     }
 
-    /// What `from_rsdp` answers: the RSDP is mapped, and the root table that it leads to opened.
+    /// What `from_rsdp` answers: it maps the RSDP, and opens the root table that this leads to.
     fn from_rsdp_exact(handler: &'h H, address: u64) -> AcpiResult<Self>
         requires { Allows (H.may handler.now) (opened_by_rsdp_ranges (H.memory handler.now) address) }
         ensures handler { IfOk result (λ t. lender_of t ≡ handler.now) }
@@ -76,11 +77,11 @@ impl<'h, H: Lender> AcpiTables<'h, H> {
         AcpiTables::from_root(handler, rsdp)
     }
 
-    /// The tables below the root table that the RSDP leads to which `Rsdp::search_for_on_bios`
-    /// finds (section 5.2.5.1). No later candidate is tried where the root table is bad.
+    /// The tables below the root table of the RSDP that `Rsdp::search_for_on_bios` finds (section
+    /// 5.2.5.1): the RSDT if the RSDP's revision or XSDT address is 0, else the XSDT. No later candidate
+    /// is tried if the root table is bad.
     ///
-    /// Refuses first as that search does, with `MapFailed` or `NoValidRsdp`, and then as
-    /// `from_rsdt`.
+    /// Refuses first as that search does, with `MapFailed` or `NoValidRsdp`, and then as `from_rsdt` does.
     pub fn search_for_rsdp_bios(handler: &'h H) -> AcpiResult<Self>
         requires { Allows (H.may handler.now) (opened_by_search_ranges (H.memory handler.now)) }
         ensures handler { IfOk result (λ t. lender_of t ≡ handler.now) }
@@ -95,7 +96,7 @@ impl<'h, H: Lender> AcpiTables<'h, H> {
         AcpiTables::search_for_rsdp_bios_exact(handler)
     }
 
-    /// What `search_for_rsdp_bios` answers: the RSDP is searched for, and the root table opened.
+    /// What `search_for_rsdp_bios` answers: it searches for the RSDP, and opens the root table.
     fn search_for_rsdp_bios_exact(handler: &'h H) -> AcpiResult<Self>
         requires { Allows (H.may handler.now) (opened_by_search_ranges (H.memory handler.now)) }
         ensures handler { IfOk result (λ t. lender_of t ≡ handler.now) }
@@ -106,11 +107,11 @@ impl<'h, H: Lender> AcpiTables<'h, H> {
         AcpiTables::from_root(handler, rsdp)
     }
 
-    /// The tables below the root table that a valid RSDP leads to. Of the mapping only the address
-    /// counts: the fields are read from the handler's memory there, where all checks of the RSDP
-    /// hold.
+    /// The tables below the root table that a valid RSDP leads to (sections 5.2.5.3, 5.2.7 and 5.2.8). Of
+    /// the mapping only the address counts: the fields are read from the handler's memory there, which
+    /// passes all checks of the RSDP.
     ///
-    /// Refuses as `from_rsdt`.
+    /// Refuses as `from_rsdt` does.
     pub fn from_validated_rsdp(
         handler: &'h H,
         mapping: PhysicalMapping<'h, H, Rsdp>,
@@ -131,7 +132,7 @@ impl<'h, H: Lender> AcpiTables<'h, H> {
         AcpiTables::from_validated_rsdp_exact(handler, mapping)
     }
 
-    /// What `from_validated_rsdp` answers: the RSDP is mapped again, and the root table opened.
+    /// What `from_validated_rsdp` answers: it maps the RSDP again, and opens the root table.
     #[tactic(auto, using(crate::proofs::Led::valid_lent))]
     fn from_validated_rsdp_exact(
         handler: &'h H,
@@ -165,12 +166,13 @@ impl<'h, H: Lender> AcpiTables<'h, H> {
         AcpiTables::open(handler, root_pointer)
     }
 
-    /// The tables below the root table at an address: the RSDT, with pointers of four bytes, for
-    /// revision 0, else the XSDT, with pointers of eight (sections 5.2.7 and 5.2.8).
+    /// The tables below the root table at a physical address: an RSDT, with pointers of four bytes, for
+    /// revision 0, else an XSDT, with pointers of eight bytes (sections 5.2.7 and 5.2.8).
     ///
-    /// Refuses, in this order, with `MapFailed` where 36 bytes aren't lent there,
-    /// `SdtInvalidSignature`, `SdtInvalidOemId`, `SdtInvalidTableId`, `SdtInvalidLength` where the
-    /// length is under 36, `MapFailed` where `length` bytes aren't lent, and `SdtInvalidChecksum`.
+    /// Refuses, in this order, with `MapFailed` if 36 bytes aren't lent there, `SdtInvalidSignature` if
+    /// the signature isn't `RSDT` or `XSDT` by the kind, `SdtInvalidOemId` and `SdtInvalidTableId` if that
+    /// id is not valid UTF-8, `SdtInvalidLength` if the length is under 36, `MapFailed` if that many bytes
+    /// aren't lent, and `SdtInvalidChecksum` if they don't sum to 0 modulo 256.
     pub fn from_rsdt(handler: &'h H, revision: u8, address: u64) -> AcpiResult<Self>
         requires { Allows (H.may handler.now)
             (opened_ranges (H.memory handler.now) (root_of_revision revision address)) }
@@ -187,7 +189,7 @@ impl<'h, H: Lender> AcpiTables<'h, H> {
         AcpiTables::from_rsdt_exact(handler, revision, address)
     }
 
-    /// What `from_rsdt` answers: the root table of the revision's kind is opened.
+    /// What `from_rsdt` answers: it opens the root table of the revision's kind.
     fn from_rsdt_exact(handler: &'h H, revision: u8, address: u64) -> AcpiResult<Self>
         requires { Allows (H.may handler.now)
             (opened_ranges (H.memory handler.now) (root_of_revision revision address)) }

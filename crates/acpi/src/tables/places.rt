@@ -1,4 +1,4 @@
-//! Where the tables lie, and all of a kind.
+//! The places of the tables, all tables of a type, and a lookup by a signature.
 
 use super::AcpiTables;
 use crate::found::FoundTables;
@@ -34,23 +34,23 @@ impl<'h, H: Lender> AcpiTables<'h, H> {
         self.root.physical_start()
     }
 
-    /// How many bytes the root table has, with its header.
+    /// How many bytes the root table has, with its header (sections 5.2.7 and 5.2.8).
     pub fn root_length(&self) -> u32
         ensures { result ≡ length (root_of self.now) }
     {
         self.root.region_length() as u32
     }
 
-    /// The signature of the root table: `RSDT` or `XSDT`.
+    /// The signature of the root table: `RSDT` (section 5.2.7) or `XSDT` (section 5.2.8).
     pub fn root_signature(&self) -> Signature
         ensures { result ≡ signature_of (kind_of self.now) }
     {
         self.kind.signature()
     }
 
-    /// What each pointer of the root table leads to, in order: its address, and the header of the
-    /// table there if that is valid under the signature that it has, or else the first refusal.
-    /// There is exactly one item for each pointer.
+    /// The members of the root table, in order: the address that each pointer gives, and the header
+    /// (section 5.2.6) of the table there if that is valid under the signature that it has, or else the
+    /// first refusal. There is exactly one item for each pointer.
     pub fn members(&self) -> TableMembers<'_, 'h, H>
         requires { AllowsBelow self.now header_ranges }
         ensures items { members_left H.memory result
@@ -65,7 +65,8 @@ impl<'h, H: Lender> AcpiTables<'h, H> {
         TableMembers::new(self.root.handler(), self.pointers())
     }
 
-    /// All members that are valid for `T`, in order. It gives at most one for each pointer.
+    /// All members of the root table that are valid for `T`, in order. It gives at most one for each
+    /// pointer.
     pub fn find_tables<T: AcpiTable>(&self) -> FoundTables<'_, 'h, H, T>
         requires { AllowsBelow self.now (λ m. kind_ranges m T.kind) }
         ensures items { found_left H.memory T.kind result
@@ -80,8 +81,8 @@ impl<'h, H: Lender> AcpiTables<'h, H> {
         FoundTables::new(self.root.handler(), self.pointers())
     }
 
-    /// The first member that is valid under a signature that is known only at run time, with at
-    /// least the 36 bytes of a header, mapped as its header.
+    /// The first member of the root table that is valid under a signature that is known only at run time
+    /// (section 5.2.6), with at least the 36 bytes of a header, mapped as its header.
     ///
     /// Refuses with `TableMissing`, carrying the signature, if no member is valid so. A member that
     /// isn't lent, or fails another check, is passed over.
@@ -100,7 +101,7 @@ impl<'h, H: Lender> AcpiTables<'h, H> {
         self.find_sdt_exact(signature)
     }
 
-    /// What `find_sdt` answers: the members are walked to the first one that is valid so.
+    /// What `find_sdt` answers: it walks the members to the first one that is valid so.
     fn find_sdt_exact(&self, signature: Signature) -> AcpiResult<PhysicalMapping<'h, H, SdtHeader>>
         requires { AllowsBelow self.now (λ m. lookup_ranges m (plain_kind signature)) }
         ensures handler { IfOk result (λ m. handler_of m ≡ lender_of self.now) }
@@ -116,12 +117,12 @@ impl<'h, H: Lender> AcpiTables<'h, H> {
         Err(AcpiError::TableMissing(signature))
     }
 
-    /// Where the root table lies, then each valid member in order, then, if a valid FADT is listed,
-    /// the DSDT that the first one leads to if that is valid, and the FACS at its `facs_address` if
-    /// 36 bytes are lent there that begin with `FACS` and give a length of at least 64, and so many
-    /// bytes are lent (sections 5.2.6, 5.2.9 and 5.2.10). It gives at most three more than there
-    /// are pointers. The FADT, the DSDT and the FACS are looked at by this call, and each member when
-    /// it comes.
+    /// The ranges of physical memory in which the tables lie (sections 5.2.6, 5.2.9 and 5.2.10): the root
+    /// table, then each valid member in order, then, if a valid FADT is listed, the DSDT that the first
+    /// FADT leads to if that is valid, and the FACS at that FADT's `facs_address` if 36 bytes are lent
+    /// there that begin with `FACS` and give a length of at least 64, and so many bytes are lent. It gives
+    /// at most three more ranges than there are pointers. The FADT, the DSDT and the FACS are looked at by
+    /// this call, and each member when its range is asked for.
     ///
     /// A boot loader that reserves these reserves besides what is no table: the RSDP, the image of
     /// the boot graphic, and the mailbox by which processors are woken. A FACS is written by the
@@ -141,7 +142,7 @@ impl<'h, H: Lender> AcpiTables<'h, H> {
         self.ranges_exact()
     }
 
-    /// What `ranges` answers: the FADT is looked up here, and each member when it comes.
+    /// What `ranges` answers: it looks the FADT up here, and each member when its range is asked for.
     fn ranges_exact(&self) -> TableRanges<'_, 'h, H>
         requires { AllowsBelow self.now place_ranges }
         ensures { places_left H.memory result

@@ -12,7 +12,8 @@ use std::alloc::{AllocError, Allocator};
 
 /// The first distributor of a MADT's bytes, or `None` if it lists none.
 ///
-/// Refuses with `InvalidEntryLength` where the entries end malformed, wherever the distributor stands.
+/// Refuses with `InvalidMadt(InvalidEntryLength)` if the entries end malformed, wherever the distributor
+/// stands.
 pub(super) fn distributor_of(table: &[u8]) -> AcpiResult<Option<GicDistributor>>
     ensures { result ≡ distributor_of table.now }
 {
@@ -44,7 +45,7 @@ fn count_of<T: GicPart>(table: &[u8], revision: u8) -> usize
     count
 }
 
-/// An empty list with room for so many items. No memory is asked for where there are none.
+/// An empty list with room for so many items. No memory is asked for if there are none.
 fn room<T, A: Allocator>(count: usize, allocator: A) -> Result<Vec<T, A>, AllocError>
     ensures items { IfOk result (λ v. v.items ≡ []) }
     ensures len { IfOk result (λ v. vec_len v ≡ 0) }

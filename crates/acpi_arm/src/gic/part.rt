@@ -1,4 +1,4 @@
-//! What one entry of a MADT says of a GIC.
+//! The parts of a GIC, each as one entry of a MADT describes it (sections 5.2.12.14 to 5.2.12.18).
 ghost use Rattle.std.specs.Prelude.{◌≡◌};
 ghost use Rattle.acpi_arm.specs.Gic.{cpu_interface_of, distributor_in, spis_of};
 
@@ -7,100 +7,104 @@ use acpi_base::bytes::has_bit;
 use acpi_base::madt::{GicMsiFrameEntry, GiccEntry, MadtEntry};
 use acpi_base::model::TriggerMode;
 
-/// The distributor of interrupts (section 5.2.12.15).
+/// GIC Distributor (GICD): the distributor of interrupts (section 5.2.12.15).
 #[derive(Clone, Copy, Debug, PartialEq, Eq)]
 pub struct GicDistributor {
-    /// Its id.
+    /// GIC ID: the id of the distributor.
     pub id: u32,
-    /// The physical address of its registers.
+    /// Physical Base Address: that of the distributor's registers.
     pub address: u64,
-    /// The version of the GIC, from 1 to 4. 0: the hardware tells. Others are kept as they are.
+    /// GIC version: that of the controller, 1 to 4. 0: the hardware tells. Others are kept as they are.
     pub version: u8,
-    /// Reserved by the specification, which has it be 0. It is kept as it is.
+    /// System Vector Base: reserved, and 0 by the specification. It is kept as it is.
     pub system_vector_base: u32,
 }
 
-/// A processor, and its interface to the GIC (section 5.2.12.14). A field past the end of a short
-/// entry is 0.
+/// GIC CPU Interface (GICC): a processor, and its interface to the GIC (section 5.2.12.14). A field that
+/// reaches past the end of a short entry is read as if zeros followed.
 #[derive(Clone, Copy, Debug)]
 pub struct GicCpuInterface {
-    /// The number of the interface. In a GIC of version 1 or 2 it is the processor's bit in the
-    /// distributor's registers.
+    /// CPU Interface Number: the number of the interface. In a GIC of version 1 or 2 it is the processor's
+    /// bit in the distributor's registers.
     pub number: u32,
-    /// The processor's ACPI id: the `_UID` of its object in the namespace.
+    /// ACPI Processor UID: the `_UID` of the processor's object in the namespace.
     pub processor_uid: u32,
-    /// The processor's affinity, as in its register MPIDR.
+    /// MPIDR: the processor's affinity, as in its register of that name.
     pub mpidr: u64,
-    /// The processor can be used (bit 0 of the flags).
+    /// Enabled (bit 0 of the flags): the processor can be used.
     pub is_enabled: bool,
-    /// A processor that isn't enabled can be enabled later (bit 3, since ACPI 6.5).
+    /// Online Capable (bit 3 of the flags, since ACPI 6.5): a processor that isn't enabled can be enabled
+    /// later.
     pub is_online_capable: bool,
-    /// The interrupt of the performance counters. 0: there is none.
+    /// Performance Interrupt GSIV: the interrupt of the performance counters. 0: there is none.
     pub performance_interrupt: u32,
-    /// What raises it (bit 1: 1 is edge-triggered).
+    /// Performance Interrupt Mode (bit 1 of the flags, set if it is edge-triggered): what raises the
+    /// performance interrupt.
     pub performance_trigger: TriggerMode,
-    /// The version of the parking protocol. 0: there is none, and processors are woken by PSCI.
+    /// Parking Protocol Version: that of the processor. 0: it has none, and is woken by PSCI.
     pub parking_protocol_version: u32,
-    /// The physical address of the parking protocol's mailbox.
+    /// Parked Address: the physical address of the parking protocol's mailbox.
     pub parked_address: u64,
-    /// The physical address of the interface's registers. 0: there are none in memory.
+    /// Physical Base Address (GICC): that of the interface's registers. 0: there are none in memory.
     pub address: u64,
-    /// The physical address of the virtual interface's registers (GICV). 0: there are none.
+    /// GICV: the physical address of the virtual interface's registers. 0: there are none.
     pub virtual_address: u64,
-    /// The physical address of the registers that control the virtual interface (GICH). 0: there are
-    /// none.
+    /// GICH: the physical address of the registers that control the virtual interface. 0: there are none.
     pub hypervisor_address: u64,
-    /// The maintenance interrupt of the virtual interface. 0: there is none.
+    /// VGIC Maintenance interrupt: that of the virtual interface. 0: there is none.
     pub maintenance_interrupt: u32,
-    /// What raises it (bit 2: 1 is edge-triggered).
+    /// VGIC Maintenance Interrupt Mode (bit 2 of the flags, set if it is edge-triggered): what raises the
+    /// maintenance interrupt.
     pub maintenance_trigger: TriggerMode,
-    /// The physical address of the processor's redistributor. 0: there is none, or it lies in one of
-    /// the ranges of redistributors.
+    /// GICR Base Address: that of the processor's redistributor. 0: there is none, or it lies in one of
+    /// the ranges of `GicRedistributors`.
     pub redistributor_address: u64,
-    /// How much power the processor takes beside the others: less is less.
+    /// Processor Power Efficiency Class: how much power the processor takes next to the others; less is
+    /// less.
     pub efficiency_class: u8,
-    /// The interrupt of the profiling extension. 0: there is none.
+    /// SPE overflow Interrupt: that of the statistical profiling extension. 0: there is none.
     pub spe_overflow_interrupt: u16,
-    /// The interrupt of the trace buffer, or `None` for a MADT below revision 6 and for an entry that
-    /// ends before its byte 82. 0: there is none.
+    /// TRBE Interrupt: that of the trace buffer, or `None` for a MADT below revision 6 and for an entry
+    /// that ends before its byte 82. 0: there is none.
     pub trace_buffer_interrupt: Option<u16>,
 }
 
-/// A range of memory that holds redistributors (section 5.2.12.17).
+/// GIC Redistributor (GICR): a range of memory that holds redistributors (section 5.2.12.17).
 #[derive(Clone, Copy, Debug, PartialEq, Eq)]
 pub struct GicRedistributors {
-    /// The physical address of its first byte.
+    /// Discovery Range Base Address: the physical address of the range's first byte.
     pub address: u64,
-    /// How many bytes it has, as the entry says: it can be 0.
+    /// Discovery Range Length: how many bytes the range has, as the entry says; it can be 0.
     pub length: u32,
 }
 
-/// A service that translates interrupts (section 5.2.12.18).
+/// GIC Interrupt Translation Service (ITS): it translates messages to interrupts (section 5.2.12.18).
 #[derive(Clone, Copy, Debug, PartialEq, Eq)]
 pub struct GicTranslationService {
-    /// Its id.
+    /// GIC ITS ID: the id of the service.
     pub id: u32,
-    /// The physical address of its registers.
+    /// Physical Base Address: that of the service's registers.
     pub address: u64,
 }
 
-/// Shared peripheral interrupts (SPIs) of a frame.
+/// SPI Base and SPI Count: the shared peripheral interrupts (SPIs) of a GIC MSI Frame (section 5.2.12.16).
 #[derive(Clone, Copy, Debug, PartialEq, Eq)]
 pub struct SpiRange {
-    /// The first of them.
+    /// SPI Base: the number of the first interrupt.
     pub base: u16,
-    /// How many there are.
+    /// SPI Count: how many interrupts there are.
     pub count: u16,
 }
 
-/// A frame that turns messages into interrupts (section 5.2.12.16).
+/// GIC MSI Frame: a frame that turns messages into interrupts (section 5.2.12.16).
 #[derive(Clone, Copy, Debug)]
 pub struct GicMsiFrame {
-    /// Its id.
+    /// GIC MSI Frame ID: the id of the frame.
     pub id: u32,
-    /// The physical address of its registers.
+    /// Physical Base Address: that of the frame's registers.
     pub address: u64,
-    /// Its interrupts, or `None` if bit 0 of the flags isn't set: the registers then tell.
+    /// SPI Base and SPI Count: the frame's interrupts, or `None` if SPI Count/Base Select (bit 0 of the
+    /// flags) isn't set: the registers then tell.
     pub spis: Option<SpiRange>,
 }
 
@@ -221,7 +225,7 @@ fn cpu_interface_of(entry: &GiccEntry, revision: u8) -> GicCpuInterface
     }
 }
 
-/// The interrupts of a frame, where its entry has them.
+/// The interrupts of a frame, or `None` if its entry doesn't give them.
 fn spis_of(entry: &GicMsiFrameEntry) -> Option<SpiRange>
     ensures { result ≡ spis_of entry.now }
 {

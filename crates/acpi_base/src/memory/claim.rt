@@ -1,10 +1,10 @@
-//! What a handler lent, until it is told that this ends.
+//! Claims: bytes that a handler lent, until its notice.
 ghost use Rattle.std.specs.Prelude.{◌≤◌, length};
 
 use crate::error::AcpiResult;
 use crate::memory::handler::Lender;
 
-/// What was lent, and how many bytes of it are shown. It is no `Drop`, and only `end` takes it
+/// Bytes that a handler lent, and how many of them are shown. A claim is no `Drop`, and only `end` takes it
 /// apart: so the compiler refuses a path that lets one go out of scope or ends one twice, and the
 /// notice names the range that was granted.
 pub(crate) struct Claim<'h, H: Lender> {
@@ -20,7 +20,7 @@ impl<'h, H: Lender> Claim<'h, H> {
     ghost use Rattle.acpi_base.specs.Claim.{IsLentOf, all_of, claimed_at, claimed_from, shown_by};
     ghost use Rattle.acpi_base.specs.Steps.{Gives, lent};
 
-    /// What was lent already, of which the first `region_length` bytes are shown.
+    /// A claim of bytes that were lent already, of which the first `region_length` are shown.
     pub(crate) fn new(start: u64, lent: &'h [u8], region_length: usize, handler: &'h H) -> Self
         requires { region_length ≤ length lent.now }
         ensures start { claimed_at result ≡ start }
@@ -36,7 +36,7 @@ impl<'h, H: Lender> Claim<'h, H> {
         }
     }
 
-    /// The `size` bytes at an address, shown of what the handler lends there.
+    /// A claim of the bytes that the handler lends at an address, of which the first `size` are shown.
     #[tactic(auto, using(crate::proofs::LentFronts::lent_front, crate::proofs::LentFronts::lent_none))]
     pub(crate) fn request(handler: &'h H, address: u64, size: usize) -> AcpiResult<Self>
         requires some { 0 < size }
@@ -51,8 +51,8 @@ impl<'h, H: Lender> Claim<'h, H> {
         Ok(Claim::new(address, granted, size, handler))
     }
 
-    /// The `size` bytes where a claim starts: of the bytes that are lent already, if these are as
-    /// many, or else asked for anew, after the notice for what was lent.
+    /// A claim that shows the `size` bytes from this one's start on: of the bytes that are lent already, if
+    /// these are as many, or else asked for anew, after the notice for what was lent.
     #[tactic(auto, using(crate::proofs::LentFronts::lent_front))]
     pub(crate) fn widen(self, size: usize) -> AcpiResult<Self>
         requires some { 0 < size }
@@ -97,7 +97,7 @@ impl<'h, H: Lender> Claim<'h, H> {
         self.lent
     }
 
-    /// The bytes that are shown: the first `region_length` of them.
+    /// The bytes that are shown: the first `region_length` of those lent.
     pub(crate) fn shown(&self) -> &[u8]
         ensures { result.now ≡ shown_by self.now }
     {
@@ -110,7 +110,7 @@ impl<'h, H: Lender> Claim<'h, H> {
         self.handler
     }
 
-    /// Tells the handler that this ends.
+    /// Gives the handler the notice for what was lent.
     pub(crate) fn end(self) {
         let Claim {
             start,

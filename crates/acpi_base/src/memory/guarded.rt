@@ -4,7 +4,7 @@ ghost use Rattle.acpi_base.specs.Ranges.{is_listed};
 use crate::error::AcpiResult;
 use crate::memory::handler::{AcpiHandler, Lender};
 
-/// A handler that may be asked for the ranges of a list and for no other, each an address and a
+/// A handler that may be asked for the ranges of a list and for no other, each a physical address and a
 /// number of bytes. Nothing is tested when it runs: a call over it is proved only if it asks for no
 /// range that isn't listed.
 #[derive(Drop)]
@@ -17,7 +17,8 @@ impl<'h, H: AcpiHandler> Guarded<'h, H> {
     ghost use Rattle.std.specs.Prelude.{◌≡◌};
     ghost use Rattle.acpi_base.specs.Guarded.{guarded_by, listed_by};
 
-    /// The handler, which may be asked for these ranges.
+    /// A lender over a handler that may be asked for these ranges alone: physical addresses, and how many
+    /// bytes from each on.
     pub fn new(handler: &'h H, ranges: &'h [(u64, usize)]) -> Self
         ensures handler { guarded_by result ≡ handler.now }
         ensures ranges { listed_by result ≡ ranges.now }

@@ -1,4 +1,4 @@
-//! What lends physical memory, and what is read from it.
+//! Handlers and lenders of physical memory, and records that are read from it.
 ghost use Rattle.std.specs.Prelude.{◌≡◌, ℕ, ◌<◌, ◌≤◌, Bool, true, List, length, Some, None, IfOk, IfErr};
 ghost use Rattle.acpi_base.specs.Memory.{Memory, IsMemory, at};
 ghost use Rattle.acpi_base.specs.declared.error.AcpiError.TheVariants.{MapFailed};
@@ -17,10 +17,10 @@ use crate::error::AcpiResult;
 pub trait AcpiHandler {
     ghost memory: { Self → Memory };
 
-    /// The bytes from an address on, at least `size` of them, all from one region. It answers `Ok`
-    /// exactly if the `size` bytes from that address lie whole inside one region.
+    /// Lends the bytes from a physical address on, at least `size` of them, all from one region.
     ///
-    /// Refuses with `MapFailed` otherwise.
+    /// Refuses with `MapFailed` exactly if the `size` bytes from that address on don't lie whole inside one
+    /// region.
     fn map_physical_region(&self, address: u64, size: usize) -> AcpiResult<&[u8]>
         requires { 0 < size }
         ensures enough { IfOk result (λ s. size ≤ length s.now) }
@@ -28,23 +28,27 @@ pub trait AcpiHandler {
         ensures refused { IfErr result (λ e. at (memory self.now) address size ≡ None) }
         ensures name { IfErr result (λ e. e ≡ MapFailed) };
 
-    /// A notice: what was lent from `address` on, `mapped_length` bytes of which a mapping showed
-    /// the first `region_length`, is read no more.
+    /// A notice: the `mapped_length` bytes that were lent from `address` on, of which a mapping showed the
+    /// first `region_length`, are no longer read.
     fn unmap_physical_region(&self, address: u64, region_length: usize, mapped_length: usize)
         requires { region_length ≤ mapped_length };
 
     ghost regions: { (h : Self) → IsMemory (memory h) };
 }
 
-/// Lends physical memory, as `AcpiHandler` does, where `may` says which ranges it may be asked for.
-/// Each `AcpiHandler` is one that may be asked for any.
+/// Lends physical memory, as `AcpiHandler` does, if `may` says that it may be asked for the range.
+/// Each `AcpiHandler` is a lender that may be asked for any range.
 pub trait Lender {
     ghost memory: { Self → Memory };
 
     // Whether it may be asked for so many bytes at an address.
     ghost may: { Self → ℕ → ℕ → Bool };
 
-    /// As `AcpiHandler::map_physical_region`.
+    /// Lends the bytes from a physical address on, at least `size` of them, all from one region, as
+    /// `AcpiHandler::map_physical_region` does. It may be asked only for ranges that `may` allows.
+    ///
+    /// Refuses with `MapFailed` exactly if the `size` bytes from that address on don't lie whole inside one
+    /// region.
     fn lend(&self, address: u64, size: usize) -> AcpiResult<&[u8]>
         requires some { 0 < size }
         requires asked { may self.now address size ≡ true }
@@ -53,7 +57,8 @@ pub trait Lender {
         ensures refused { IfErr result (λ e. at (memory self.now) address size ≡ None) }
         ensures name { IfErr result (λ e. e ≡ MapFailed) };
 
-    /// As `AcpiHandler::unmap_physical_region`.
+    /// A notice, as `AcpiHandler::unmap_physical_region`: the `mapped_length` bytes that were lent from
+    /// `address` on, of which a mapping showed the first `region_length`, are no longer read.
     fn end_loan(&self, address: u64, region_length: usize, mapped_length: usize)
         requires { region_length ≤ mapped_length };
 
@@ -76,9 +81,9 @@ impl<H: AcpiHandler> Lender for H {
     ghost regions = { λ h. H.regions h };
 }
 
-/// A record that is read from bytes.
+/// A record that is read from bytes of a table: a table, an entry, or a number.
 pub trait PhysicalRecord: Drop {
-    /// The fewest bytes that it is read from.
+    /// The least number of bytes that the record is read from.
     const MIN_LENGTH: usize;
 
     ghost MIN_LENGTH: { ℕ };
@@ -86,7 +91,7 @@ pub trait PhysicalRecord: Drop {
     // What the bytes mean.
     ghost reading: { List ℕ → Self };
 
-    /// The record that the bytes mean.
+    /// The record that bytes mean, of which there are at least `MIN_LENGTH`.
     fn read(bytes: &[u8]) -> Self
         requires { MIN_LENGTH ≤ length bytes.now }
         ensures { result ≡ reading bytes.now };

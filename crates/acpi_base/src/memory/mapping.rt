@@ -10,8 +10,8 @@ use crate::memory::claim::Claim;
 use crate::memory::handler::{Lender, PhysicalRecord};
 use std::ops::Deref;
 
-/// A record in lent memory: its bytes, and the value that they mean. While it lives the bytes stay
-/// lent; dropping it tells the handler by `unmap_physical_region`.
+/// A record in lent memory: its bytes, and the value that they mean. The bytes stay lent until the mapping is
+/// dropped, which gives the handler the notice by `unmap_physical_region`.
 pub struct PhysicalMapping<'h, H: Lender, T: PhysicalRecord> {
     claim: Claim<'h, H>,
     value: T,
@@ -26,9 +26,9 @@ impl<'h, H: Lender, T: PhysicalRecord> PhysicalMapping<'h, H, T> {
     ghost use Rattle.acpi_base.specs.Memory.{at};
     ghost use Rattle.acpi_base.specs.Steps.{Gives, lent};
 
-    /// The mapping of the first `region_length` of bytes that lie from `physical_start` on. It
-    /// reads the record from them. The bytes may come from anywhere; when it is dropped, the
-    /// handler gets the notice.
+    /// The mapping of the first `region_length` of these bytes, which lie from the physical address
+    /// `physical_start` on. It reads the record from them. The bytes may come from anywhere; when the
+    /// mapping is dropped, the handler gets the notice.
     pub fn new(physical_start: u64, bytes: &'h [u8], region_length: usize, handler: &'h H) -> Self
         requires fits { region_length ≤ length bytes.now }
         requires least { T.MIN_LENGTH ≤ region_length }
@@ -40,7 +40,7 @@ impl<'h, H: Lender, T: PhysicalRecord> PhysicalMapping<'h, H, T> {
         PhysicalMapping::of_claim(Claim::new(physical_start, bytes, region_length, handler))
     }
 
-    /// The record that a claim shows.
+    /// The mapping of the bytes that a claim shows.
     pub(crate) fn of_claim(claim: Claim<'h, H>) -> Self
         requires { T.MIN_LENGTH ≤ length (shown_by claim) }
         ensures start { start_of result ≡ claimed_at claim.entry }
@@ -52,9 +52,9 @@ impl<'h, H: Lender, T: PhysicalRecord> PhysicalMapping<'h, H, T> {
         PhysicalMapping { claim, value }
     }
 
-    /// The mapping of the `size` bytes at an address, as the handler lends them.
+    /// The mapping of the `size` bytes at a physical address, as the handler lends them.
     ///
-    /// Refuses with `MapFailed` where they don't lie whole inside one region.
+    /// Refuses with `MapFailed` if they don't lie whole inside one region.
     pub fn map(handler: &'h H, address: u64, size: usize) -> AcpiResult<Self>
         requires some { 0 < size }
         requires asked { H.may handler.now address size ≡ true }
@@ -72,14 +72,14 @@ impl<'h, H: Lender, T: PhysicalRecord> PhysicalMapping<'h, H, T> {
         Ok(PhysicalMapping::of_claim(claim))
     }
 
-    /// The physical address of the first byte.
+    /// The physical address of the first mapped byte.
     pub fn physical_start(&self) -> u64
         ensures { result ≡ start_of self.now }
     {
         self.claim.start()
     }
 
-    /// How many bytes are mapped as the record's.
+    /// How many bytes are mapped as the record's: as many as `bytes` has.
     pub fn region_length(&self) -> usize
         ensures { result ≡ length (bytes_of self.now) }
     {
@@ -101,7 +101,7 @@ impl<'h, H: Lender, T: PhysicalRecord> PhysicalMapping<'h, H, T> {
         self.claim.shown()
     }
 
-    /// The handler that gets the notice.
+    /// The handler that gets the notice when the mapping is dropped.
     pub fn handler(&self) -> &'h H
         ensures { result.now ≡ handler_of self.now }
     {

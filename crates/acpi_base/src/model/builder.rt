@@ -13,7 +13,7 @@ use crate::managed_slice::ManagedSlice;
 use crate::tables::madt::Madt;
 use std::alloc::{AllocError, Allocator};
 
-/// What the entries so far say.
+/// The model that the entries so far describe.
 #[derive(Drop)]
 pub(super) struct ModelBuilder<A: Allocator> {
     local_apic_address: u64,
@@ -33,9 +33,9 @@ impl<A: Allocator + Clone> ModelBuilder<A> {
     ghost use Rattle.acpi_base.specs.Items.{counts_of};
     ghost use Rattle.acpi_base.specs.declared.model.item.MadtItem.{MadtItem};
 
-    /// Nothing yet, with room for exactly as many as are counted.
+    /// A model of no entries yet, with room for exactly as many items as are counted.
     ///
-    /// Refuses with `AllocError` where a growth is refused, or a clone of the allocator.
+    /// Refuses with `AllocError` if memory is refused, or a clone of the allocator.
     pub(super) fn with_room(madt: &Madt, counts: Counts, allocator: A) -> AcpiResult<Self>
         ensures room { IfOk result (λ d. (items : List MadtItem) → counts_of items ≡ counts
             → HasRoom d items) }
@@ -65,7 +65,7 @@ impl<A: Allocator> ModelBuilder<A> {
     ghost use Rattle.acpi_base.specs.ModelBuilder.{HasRoom, model_behind};
     ghost use Rattle.acpi_base.specs.declared.model.item.MadtItem.{MadtItem};
 
-    /// What one more entry says, after the others. There is room for it.
+    /// Adds the item of one more entry after the others. There is room for it.
     pub(super) fn add(&mut self, item: MadtItem)
         requires { HasRoom self.old (item ∷ []) }
         ensures added { (items : List MadtItem)
@@ -137,9 +137,9 @@ impl<A: Allocator> ModelBuilder<A> {
     }
 }
 
-/// An empty list with room for just so many items.
+/// An empty list with room for exactly so many items.
 ///
-/// Refuses where a growth is refused, or the clone of the allocator.
+/// Refuses if memory is refused, or the clone of the allocator.
 fn room<T, A: Allocator + Clone>(allocator: &A, count: usize) -> Result<Vec<T, A>, AllocError>
     ensures items { IfOk result (λ v. v.items ≡ []) }
     ensures len { IfOk result (λ v. vec_len v ≡ 0) }
@@ -148,7 +148,7 @@ fn room<T, A: Allocator + Clone>(allocator: &A, count: usize) -> Result<Vec<T, A
     Vec::with_capacity(allocator.clone()?, count)
 }
 
-/// What a processor does, by what it is and by whether it can be used.
+/// The state of a processor, by whether it is an application processor and whether it can be used.
 fn state_of(is_ap: bool, is_enabled: bool) -> ProcessorState
     ensures { result ≡ state_of is_ap is_enabled }
 {

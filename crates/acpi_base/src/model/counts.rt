@@ -1,4 +1,4 @@
-//! How much there is to gather, or why there is nothing.
+//! The number of items to gather, or the refusal.
 ghost use Rattle.std.specs.Prelude.{◌≡◌};
 ghost use Rattle.acpi_base.specs.Items.{counted};
 
@@ -9,7 +9,7 @@ use crate::error::MadtError;
 use crate::memory::handler::PhysicalRecord;
 use crate::tables::madt::{MADT_GRAMMAR, Madt};
 
-/// How many there are of each, and whether any entry is of a model of APICs.
+/// How many items of each sort the entries have, and whether any entry is of a model of APICs.
 #[derive(Clone, Copy)]
 pub(super) struct Counts {
     pub(super) processors: usize,
@@ -21,8 +21,8 @@ pub(super) struct Counts {
 }
 
 impl Counts {
-    /// The counts of what a MADT's bytes say, or their first fault: that of an entry, or
-    /// `InvalidEntryLength` where no entry begins and the bytes aren't at their end.
+    /// The counts of the items in a MADT's bytes, or the first fault: that of an entry, or
+    /// `InvalidEntryLength` if bytes are left in which no entry begins.
     pub(super) fn of(table: &[u8]) -> Result<Counts, MadtError>
         ensures { result ≡ counted table.now }
     {

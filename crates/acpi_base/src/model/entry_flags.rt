@@ -1,4 +1,4 @@
-//! What the flags of a MADT's entries say, so that no caller masks bits.
+//! The flags of a MADT's entries by name, so that no caller masks bits (section 5.2.12).
 ghost use Rattle.std.specs.Prelude.{◌≡◌};
 ghost use Rattle.acpi_base.specs.Bits.{has_bit};
 ghost use Rattle.acpi_base.specs.Interrupts.{polarity_of, trigger_mode_of};
@@ -10,15 +10,15 @@ use crate::error::MadtError;
 use crate::tables::madt::{LocalApicEntry, LocalApicNmiEntry, LocalX2ApicEntry, X2ApicNmiEntry};
 
 impl LocalApicEntry {
-    /// Whether the processor can be used: bit 0 of the flags (section 5.2.12.2).
+    /// Enabled (bit 0 of the flags, section 5.2.12.2): whether the processor can be used.
     pub fn is_enabled(&self) -> bool
         ensures { result ≡ has_bit self.now.flags 0 }
     {
         has_bit(self.flags as u64, 0) // Enabled
     }
 
-    /// Whether the processor can be enabled later, if it isn't now: bit 1 of the flags (section
-    /// 5.2.12.2). The bit has a meaning from revision 5 of the MADT on, and is reserved before.
+    /// Online Capable (bit 1 of the flags, section 5.2.12.2): whether the processor can be enabled later, if
+    /// it isn't now. The bit has a meaning from revision 5 of the MADT on, and is reserved before.
     pub fn is_online_capable(&self) -> bool
         ensures { result ≡ has_bit self.now.flags 1 }
     {
@@ -27,15 +27,15 @@ impl LocalApicEntry {
 }
 
 impl LocalX2ApicEntry {
-    /// Whether the processor can be used: bit 0 of the flags (section 5.2.12.12).
+    /// Enabled (bit 0 of the flags, section 5.2.12.12): whether the processor can be used.
     pub fn is_enabled(&self) -> bool
         ensures { result ≡ has_bit self.now.flags 0 }
     {
         has_bit(self.flags as u64, 0) // Enabled
     }
 
-    /// Whether the processor can be enabled later, if it isn't now: bit 1 of the flags (section
-    /// 5.2.12.12). The bit has a meaning from revision 5 of the MADT on, and is reserved before.
+    /// Online Capable (bit 1 of the flags, section 5.2.12.12): whether the processor can be enabled later, if
+    /// it isn't now. The bit has a meaning from revision 5 of the MADT on, and is reserved before.
     pub fn is_online_capable(&self) -> bool
         ensures { result ≡ has_bit self.now.flags 1 }
     {
@@ -44,8 +44,8 @@ impl LocalX2ApicEntry {
 }
 
 impl LocalApicNmiEntry {
-    /// The level at which the NMI counts as raised: bits 0 and 1 of the flags (section 5.2.12.7), by
-    /// the codes of an override's flags.
+    /// Polarity (bits 0 and 1 of MPS INTI Flags, section 5.2.12.7): the level at which the NMI counts as
+    /// raised.
     ///
     /// Refuses the reserved code 2 with `MpsIntiInvalidPolarity`.
     pub fn polarity(&self) -> Result<Polarity, MadtError>
@@ -54,8 +54,7 @@ impl LocalApicNmiEntry {
         polarity_of(self.flags)
     }
 
-    /// What raises the NMI: bits 2 and 3 of the flags (section 5.2.12.7), by the codes of an
-    /// override's flags.
+    /// Trigger Mode (bits 2 and 3 of MPS INTI Flags, section 5.2.12.7): what raises the NMI.
     ///
     /// Refuses the reserved code 2 with `MpsIntiInvalidTriggerMode`.
     pub fn trigger_mode(&self) -> Result<TriggerMode, MadtError>
@@ -66,8 +65,8 @@ impl LocalApicNmiEntry {
 }
 
 impl X2ApicNmiEntry {
-    /// The level at which the NMI counts as raised: bits 0 and 1 of the flags (section 5.2.12.13), by
-    /// the codes of an override's flags.
+    /// Polarity (bits 0 and 1 of MPS INTI Flags, section 5.2.12.13): the level at which the NMI counts as
+    /// raised.
     ///
     /// Refuses the reserved code 2 with `MpsIntiInvalidPolarity`.
     pub fn polarity(&self) -> Result<Polarity, MadtError>
@@ -76,8 +75,7 @@ impl X2ApicNmiEntry {
         polarity_of(self.flags)
     }
 
-    /// What raises the NMI: bits 2 and 3 of the flags (section 5.2.12.13), by the codes of an
-    /// override's flags.
+    /// Trigger Mode (bits 2 and 3 of MPS INTI Flags, section 5.2.12.13): what raises the NMI.
     ///
     /// Refuses the reserved code 2 with `MpsIntiInvalidTriggerMode`.
     pub fn trigger_mode(&self) -> Result<TriggerMode, MadtError>

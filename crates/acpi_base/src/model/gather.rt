@@ -17,9 +17,9 @@ use crate::memory::handler::PhysicalRecord;
 use crate::tables::madt::{MADT_GRAMMAR, Madt};
 use std::alloc::Allocator;
 
-/// The model of APICs, with room for just what is counted.
+/// The model of APICs, with room for exactly what is counted.
 ///
-/// Refuses with `AllocError` where a growth is refused, or a clone of the allocator.
+/// Refuses with `AllocError` if memory is refused, or a clone of the allocator.
 #[tactic(auto, using(crate::proofs::MadtItems::said_items))]
 fn gather<A: Allocator + Clone>(
     madt: &Madt,
@@ -44,8 +44,8 @@ fn gather<A: Allocator + Clone>(
 
 /// The interrupt model and the processors of a MADT, out of its bytes.
 ///
-/// Refuses with `InvalidMadt` for the first fault, and then with `AllocError` where a model of APICs
-/// can't be held.
+/// Refuses with `InvalidMadt` for the first fault, and then with `AllocError` if memory for a model of APICs
+/// is refused.
 pub(crate) fn model_in<A: Allocator + Clone>(
     madt: &Madt,
     table: &[u8],

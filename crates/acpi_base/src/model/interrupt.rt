@@ -1,4 +1,4 @@
-//! Interrupt controllers, and how interrupts come to them.
+//! Interrupt controllers, and how interrupts come to them (section 5.2.12).
 
 use crate::managed_slice::ManagedSlice;
 use std::alloc::{AllocError, Allocator};
@@ -24,44 +24,44 @@ pub struct NmiLine {
     pub line: LocalInterruptLine,
 }
 
-/// LINT#: a pin of a local APIC.
+/// LINT#: a pin of a local APIC (ACPI 6.4, sections 5.2.12.7 and 5.2.12.13).
 #[derive(Clone, Copy, Debug, PartialEq, Eq)]
 pub enum LocalInterruptLine {
-    /// LINT0.
+    /// LINT0, number 0.
     Lint0,
-    /// LINT1.
+    /// LINT1, number 1.
     Lint1,
 }
 
-/// The processor to whose local APIC an NMI comes.
+/// ACPI Processor UID of a Local APIC NMI or a Local x2APIC NMI: the processor to whose local APIC the NMI
+/// comes (ACPI 6.4, sections 5.2.12.7 and 5.2.12.13).
 #[derive(Clone, Copy, Debug, PartialEq, Eq)]
 pub enum NmiProcessor {
-    /// That of every processor: the id is 0xff in an entry of a local APIC, and 0xffffffff in one of a
-    /// local x2APIC.
+    /// Every processor: the UID is 0xff in a Local APIC NMI, and 0xffffffff in a Local x2APIC NMI.
     All,
-    /// That of the processor with this ACPI id.
+    /// The processor with this ACPI Processor UID.
     ProcessorUid(u32),
 }
 
 /// Polarity: the level at which an interrupt counts as raised (MPS INTI Flags; ACPI 6.4, section 5.2.12.5).
 #[derive(Clone, Copy, Debug, PartialEq, Eq)]
 pub enum Polarity {
-    /// Conforms to the bus: the level of the bus that the interrupt comes from.
+    /// Conforms to the bus, code 0: the level of the bus that the interrupt comes from.
     SameAsBus,
-    /// Active high.
+    /// Active high, code 1.
     ActiveHigh,
-    /// Active low.
+    /// Active low, code 3.
     ActiveLow,
 }
 
 /// Trigger Mode: what raises an interrupt (MPS INTI Flags; ACPI 6.4, section 5.2.12.5).
 #[derive(Clone, Copy, Debug, PartialEq, Eq)]
 pub enum TriggerMode {
-    /// Conforms to the bus: what raises an interrupt on the bus that it comes from.
+    /// Conforms to the bus, code 0: what raises an interrupt on the bus that it comes from.
     SameAsBus,
-    /// Edge-triggered: by the change to the level of its polarity.
+    /// Edge-triggered, code 1: by the change to the level of its polarity.
     Edge,
-    /// Level-triggered: by the level of its polarity, for as long as it stays.
+    /// Level-triggered, code 3: by the level of its polarity, for as long as it stays.
     Level,
 }
 
@@ -91,13 +91,13 @@ pub struct NmiSource {
     pub trigger_mode: TriggerMode,
 }
 
-/// The model of APICs: one local APIC for each processor, and I/O APICs.
+/// The model of APICs: one local APIC for each processor, and I/O APICs (ACPI 6.4, section 5.2.12).
 #[derive(Drop)]
 pub struct Apic<A: Allocator> {
     /// Local APIC Address: the physical address of each processor's local APIC. It is that of the last
-    /// entry that overrides it, else the table's own.
+    /// Local APIC Address Override, else the table's own.
     pub local_apic_address: u64,
-    /// The I/O APICs, in the order of their entries.
+    /// I/O APICs, in the order of their entries.
     pub io_apics: ManagedSlice<IoApic, A>,
     /// Local APIC NMIs and Local x2APIC NMIs: the LINT pins of NMIs, in the order of their entries.
     pub local_apic_nmi_lines: ManagedSlice<NmiLine, A>,
@@ -109,7 +109,7 @@ pub struct Apic<A: Allocator> {
     pub also_has_legacy_pics: bool,
 }
 
-/// Clones with the fields of the original, or `AllocError` where a growth is refused, or a clone of the
+/// Clones with the fields of the original, or `AllocError` if memory is refused, or a clone of the
 /// allocator.
 impl<A: Allocator + Clone> Clone for Apic<A> {
     ghost use Rattle.std.specs.Prelude.{◌≡◌};
@@ -128,11 +128,12 @@ impl<A: Allocator + Clone> Clone for Apic<A> {
     }
 }
 
-/// Which controllers a machine's interrupts come to.
+/// The controllers that a machine's interrupts come to, as its MADT describes them (ACPI 6.4, section
+/// 5.2.12).
 #[derive(Clone, Drop)]
 pub enum InterruptModel<A: Allocator> {
-    /// The tables describe none: on a PC it has the pair of 8259 controllers alone.
+    /// The tables describe no APICs: a PC then has the pair of 8259 controllers alone.
     Unknown,
-    /// APICs.
+    /// Local APICs and I/O APICs.
     Apic(Apic<A>),
 }

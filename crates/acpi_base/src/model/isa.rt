@@ -1,18 +1,20 @@
-//! ISA interrupts, and the one that carries the machine's events, as the overrides wire them.
+//! ISA interrupts, and the one that carries the machine's events, as Interrupt Source Overrides wire them
+//! (section 5.2.12.5).
 ghost use Rattle.std.specs.Prelude.{◌≡◌};
 ghost use Rattle.acpi_base.specs.Isa.{is_taken, isa_interrupt, leads_to, override_for, straight, wired};
 
 use super::interrupt::{Apic, InterruptSourceOverride, Polarity, TriggerMode};
 use std::alloc::Allocator;
 
-/// How an interrupt comes to the I/O APICs.
+/// An interrupt as it comes to the I/O APICs: an ISA interrupt, or the one that carries the machine's events
+/// (sections 5.2.9 and 5.2.12.5).
 #[derive(Clone, Copy, Debug)]
 pub struct IsaInterrupt {
-    /// The global system interrupt, of which `io_apic_for` says the I/O APIC and the pin.
+    /// Global System Interrupt: its number. `Apic::io_apic_for` says the I/O APIC and the pin.
     pub global_system_interrupt: u32,
-    /// The level at which it counts as raised: `ActiveHigh` or `ActiveLow`.
+    /// Polarity: the level at which the interrupt counts as raised, `ActiveHigh` or `ActiveLow`.
     pub polarity: Polarity,
-    /// What raises it: `Edge` or `Level`.
+    /// Trigger Mode: what raises the interrupt, `Edge` or `Level`.
     pub trigger_mode: TriggerMode,
 }
 
@@ -20,18 +22,19 @@ impl<A: Allocator> Apic<A> {
     ghost use Rattle.std.specs.Prelude.{IfSome};
     ghost use Rattle.acpi_base.specs.Isa.{SharedByOverrides, sci_interrupt};
 
-    /// The global system interrupt of one of the 16 ISA interrupts (section 5.2.12.5).
+    /// Global System Interrupt of one of the 16 ISA interrupts, by the Interrupt Source Overrides (section
+    /// 5.2.12.5).
     ///
-    /// Of the overrides of a source the last one counts. If `irq` has an override, it is that, with
-    /// ISA's own `ActiveHigh` and `Edge` in place of `SameAsBus`. Otherwise it is the interrupt of
-    /// the same number, `ActiveHigh` and `Edge`.
+    /// Of the overrides of a source the last one counts. If `irq` has an override, the answer is what that
+    /// says, with ISA's own `ActiveHigh` and `Edge` in place of `SameAsBus`. Otherwise it is the interrupt
+    /// of the same number, `ActiveHigh` and `Edge`.
     ///
     /// It is `None` if `irq` is above 15. It is `None` too if `irq` has no override, but that of
     /// another source leads to the interrupt of the number `irq`, since that input is taken: here
     /// too only the last override of a source counts, and sources above 15 count as well.
     ///
-    /// The interrupt that the FADT gives as `sci_interrupt` is asked for by the call of that name:
-    /// it is not of the ISA bus, and is otherwise raised.
+    /// The interrupt that the FADT gives as `sci_interrupt` is asked for by the function of that name:
+    /// it is not of the ISA bus, and is raised in another way.
     pub fn isa_interrupt(&self, irq: u8) -> Option<IsaInterrupt>
         ensures value { result ≡ isa_interrupt self.now.interrupt_source_overrides irq }
         // Another ISA interrupt shares its global system interrupt only by overrides of both.
@@ -41,13 +44,13 @@ impl<A: Allocator> Apic<A> {
         isa_interrupt(self.interrupt_source_overrides.as_slice(), irq)
     }
 
-    /// The global system interrupt that carries the machine's events (the SCI), of the number that
-    /// the FADT gives as `sci_interrupt` (section 5.2.9: it may be shared, and is raised by the low
-    /// level).
+    /// Global System Interrupt of the SCI, the interrupt that carries the machine's events, of the number
+    /// that the FADT gives as SCI_INT (`Fadt::sci_interrupt`; section 5.2.9: it may be shared, and is
+    /// raised by the low level).
     ///
-    /// Below 16 it is wired as the last override of that ISA source says, with `ActiveLow` and
-    /// `Level` in place of `SameAsBus`. Without an override, and from 16 on, it is the interrupt of
-    /// that number, `ActiveLow` and `Level`.
+    /// Below 16 it is wired as the last Interrupt Source Override of that ISA source says (section
+    /// 5.2.12.5), with `ActiveLow` and `Level` in place of `SameAsBus`. Without an override, and from 16
+    /// on, it is the interrupt of that number, `ActiveLow` and `Level`.
     pub fn sci_interrupt(&self, sci: u16) -> IsaInterrupt
         ensures { result ≡ sci_interrupt self.now.interrupt_source_overrides sci }
     {

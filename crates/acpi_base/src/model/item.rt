@@ -1,4 +1,4 @@
-//! What one entry says of the interrupt model.
+//! One entry of a MADT as an item of the interrupt model (section 5.2.12).
 ghost use Rattle.std.specs.Prelude.{◌≡◌, Ok};
 ghost use Rattle.acpi_base.specs.Entries.{IsEntry};
 ghost use Rattle.acpi_base.specs.Interrupts.{io_apic_of, nmi_line_of, nmi_source_of, override_of, item_of, polarity_of, processor_for, trigger_mode_of};
@@ -18,7 +18,7 @@ use crate::tables::madt::{
     LocalApicNmiEntry, LocalX2ApicEntry, NmiSourceEntry, X2ApicNmiEntry,
 };
 
-/// What an entry that isn't refused says.
+/// The item of the interrupt model that an entry gives, if it isn't refused.
 #[derive(Clone, Copy)]
 pub(super) enum MadtItem {
     /// Processor Local APIC or Local x2APIC: there is a processor.
@@ -42,8 +42,8 @@ pub(super) enum MadtItem {
 }
 
 impl MadtItem {
-    /// What an entry's bytes say, or `None` where its type is reserved or the maker's. Only what the
-    /// model has is read of them, and no `MadtEntry` is made.
+    /// The item that an entry's bytes give, or `None` if its type isn't one of 0 to 0x10. Only the fields
+    /// that the model has are read, and no `MadtEntry` is made.
     ///
     /// Refuses the types of SAPICs and of the GIC with `UnexpectedEntry`, an override of another
     /// bus than ISA with `InterruptOverrideEntryHasInvalidBus`, reserved flags with

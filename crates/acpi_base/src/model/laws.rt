@@ -1,5 +1,5 @@
-//! Laws of the model's types, each the contract of a call that does nothing else: of comparisons and
-//! of clones.
+//! Laws of comparisons and clones of the model's types: each is the contract of a function that compares or
+//! clones.
 ghost use Rattle.std.specs.Prelude.{◌≡◌, IfOk, IsOk};
 ghost use Rattle.acpi_base.specs.Equality.{IsEquality};
 ghost use Rattle.acpi_base.specs.declared.model.interrupt.InterruptModel.TheVariants.{Unknown};
@@ -10,56 +10,57 @@ use super::interrupt::{
 use super::processor::{Processor, ProcessorInfo, ProcessorState};
 use std::alloc::{AllocError, Allocator};
 
-/// Inputs of local APICs compare as equal exactly if they are one.
+/// Two `LocalInterruptLine`s compare as equal exactly if they are the same variant.
 pub fn line_equality(a: &LocalInterruptLine, b: &LocalInterruptLine) -> bool
     ensures { IsEquality result a.now b.now }
 {
     a == b
 }
 
-/// Whose local APIC an NMI comes to compares as equal exactly if it is one.
+/// Two `NmiProcessor`s compare as equal exactly if they are the same variant with the same UID.
 pub fn nmi_processor_equality(a: &NmiProcessor, b: &NmiProcessor) -> bool
     ensures { IsEquality result a.now b.now }
 {
     a == b
 }
 
-/// Polarities compare as equal exactly if they are one.
+/// Two `Polarity`s compare as equal exactly if they are the same variant.
 pub fn polarity_equality(a: &Polarity, b: &Polarity) -> bool
     ensures { IsEquality result a.now b.now }
 {
     a == b
 }
 
-/// Trigger modes compare as equal exactly if they are one.
+/// Two `TriggerMode`s compare as equal exactly if they are the same variant.
 pub fn trigger_mode_equality(a: &TriggerMode, b: &TriggerMode) -> bool
     ensures { IsEquality result a.now b.now }
 {
     a == b
 }
 
-/// States of processors compare as equal exactly if they are one.
+/// Two `ProcessorState`s compare as equal exactly if they are the same variant.
 pub fn state_equality(a: &ProcessorState, b: &ProcessorState) -> bool
     ensures { IsEquality result a.now b.now }
 {
     a == b
 }
 
-/// Processors compare as equal exactly if their fields are.
+/// Two `Processor`s compare as equal exactly if all their fields are equal.
 pub fn processor_equality(a: &Processor, b: &Processor) -> bool
     ensures { IsEquality result a.now b.now }
 {
     a == b
 }
 
-/// A clone of a model of APICs has its fields, slices item by item.
+/// A clone of an `Apic` has the same fields, slices item by item.
 pub fn apic_clone<A: Allocator + Clone>(apic: &Apic<A>) -> Result<Apic<A>, AllocError>
     ensures { IfOk result (λ c. c ≡ apic.now) }
 {
     apic.clone()
 }
 
-/// A clone of an interrupt model is of its variant, with its fields.
+/// A clone of an `InterruptModel` is the same variant with the same fields. Cloning `Unknown` always
+/// succeeds.
 pub fn model_clone<A: Allocator + Clone>(
     model: &InterruptModel<A>,
 ) -> Result<InterruptModel<A>, AllocError>
@@ -70,7 +71,7 @@ pub fn model_clone<A: Allocator + Clone>(
     model.clone()
 }
 
-/// A clone of the processors has their fields, slices item by item.
+/// A clone of a `ProcessorInfo` has the same fields, slices item by item.
 pub fn processors_clone<A: Allocator + Clone>(
     processors: &ProcessorInfo<A>,
 ) -> Result<ProcessorInfo<A>, AllocError>

@@ -1,12 +1,12 @@
-//! The LINT pins of one processor's local APIC that NMIs are connected to.
+//! The LINT pins of one processor's local APIC that NMIs are connected to (sections 5.2.12.7 and 5.2.12.13).
 ghost use Rattle.std.specs.Prelude.{◌≡◌};
 ghost use Rattle.acpi_base.specs.NmiLines.{is_line_of};
 
 use super::interrupt::{Apic, NmiLine, NmiProcessor};
 use std::alloc::Allocator;
 
-/// The LINT pins of one processor's local APIC that NMIs are connected to, in the order of their
-/// entries.
+/// The LINT pins of one processor's local APIC that NMIs are connected to (ACPI 6.4, sections 5.2.12.7 and
+/// 5.2.12.13), in the order of their entries, as `Apic::local_nmi_lines_for` gives them.
 #[derive(Debug, Drop)]
 pub struct LocalNmiLines<'a> {
     lines: &'a [NmiLine],

@@ -1,4 +1,4 @@
-//! The I/O APIC and its pin that a global system interrupt comes to.
+//! The I/O APIC and its pin that a global system interrupt comes to (section 5.2.12.3).
 ghost use Rattle.std.specs.Prelude.{◌≡◌};
 ghost use Rattle.std.specs.Option.{option_map};
 ghost use Rattle.acpi_base.specs.Pin.{IsNearest, io_apic_for, pin_of};
@@ -6,22 +6,23 @@ ghost use Rattle.acpi_base.specs.Pin.{IsNearest, io_apic_for, pin_of};
 use super::interrupt::{Apic, IoApic};
 use std::alloc::Allocator;
 
-/// A pin of an I/O APIC.
+/// A pin of an I/O APIC, that a global system interrupt comes to (section 5.2.12.3).
 #[derive(Clone, Copy, Debug)]
 pub struct IoApicPin<'a> {
-    /// The I/O APIC.
+    /// I/O APIC: the controller.
     pub io_apic: &'a IoApic,
-    /// The number of its pin, from 0 on.
+    /// The number of the controller's pin, counted from 0: the interrupt less Global System Interrupt Base.
     pub pin: u32,
 }
 
 impl<A: Allocator> Apic<A> {
-    /// The I/O APIC that a global system interrupt comes to, and the pin there (section 5.2.12.3):
-    /// of those whose base is at most the interrupt the first one with the greatest base, and how far
-    /// the interrupt is above that. It is `None` if every base is above the interrupt.
+    /// The I/O APIC that a global system interrupt comes to, and the pin there (section 5.2.12.3). Of the
+    /// I/O APICs whose Global System Interrupt Base is at most the interrupt, it is the first one with the
+    /// greatest base; the pin is the interrupt less that base. It is `None` if every base is above the
+    /// interrupt.
     ///
-    /// How many pins an I/O APIC has is in its own registers, and no table tells. Compare the pin with
-    /// that number: if it is not below it, the interrupt comes to none.
+    /// The number of pins of an I/O APIC is in its own registers, and in no table. Compare the pin with
+    /// that number: if it is not below it, the interrupt comes to no pin.
     pub fn io_apic_for(&self, global_system_interrupt: u32) -> Option<IoApicPin<'_>>
         ensures value { option_map pin_of result
             ≡ io_apic_for self.now.io_apics global_system_interrupt }

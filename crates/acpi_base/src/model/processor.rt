@@ -1,43 +1,44 @@
-//! Processors.
+//! The processors that a MADT lists (sections 5.2.12.2 and 5.2.12.12).
 
 use crate::managed_slice::ManagedSlice;
 use std::alloc::{AllocError, Allocator};
 
-/// What a processor does when the firmware hands over: bit 0 of its entry's flags says whether it can be
-/// used.
+/// The state of a processor when the firmware starts the operating system, by Enabled, bit 0 of its entry's
+/// flags (sections 5.2.12.2 and 5.2.12.12), and by whether it is the boot processor.
 #[derive(Clone, Copy, Debug, PartialEq, Eq)]
 pub enum ProcessorState {
-    /// It can't be used, and is not to be started.
+    /// Enabled isn't set: the processor can't be used, and is not to be started.
     Disabled,
-    /// It waits for the interrupt by which it is started.
+    /// Enabled is set: the application processor waits for the interrupt by which it is started, the SIPI.
     WaitingForSipi,
-    /// It runs.
+    /// Enabled is set: the boot processor runs.
     Running,
 }
 
-/// A processor and its local APIC (sections 5.2.12.2 and 5.2.12.12).
+/// Processor Local APIC or Processor Local x2APIC: a processor and its local APIC (sections 5.2.12.2 and
+/// 5.2.12.12).
 #[derive(Clone, Copy, Debug, PartialEq, Eq)]
 pub struct Processor {
-    /// Its ACPI id: the `_UID` of its object in the namespace.
+    /// ACPI Processor UID: the `_UID` of the processor's object in the namespace.
     pub processor_uid: u32,
-    /// The id of its local APIC, or of its x2APIC.
+    /// APIC ID or X2APIC ID: the id of the processor's local APIC.
     pub local_apic_id: u32,
-    /// What it does.
+    /// Whether the processor can be used, and whether it runs already.
     pub state: ProcessorState,
-    /// Whether it is another one than the boot processor.
+    /// Whether it is an application processor, that is, another one than the boot processor.
     pub is_ap: bool,
 }
 
-/// The processors of a machine.
+/// The processors of a machine, as its MADT lists them (sections 5.2.12.2 and 5.2.12.12).
 #[derive(Drop)]
 pub struct ProcessorInfo<A: Allocator> {
-    /// That of the first entry of a processor, even where the entry says that it can't be used.
+    /// The boot processor: that of the first entry of a processor, even if Enabled isn't set there.
     pub boot_processor: Processor,
-    /// All others, in the order of their entries.
+    /// The application processors: those of all other entries, in their order.
     pub application_processors: ManagedSlice<Processor, A>,
 }
 
-/// Clones with the fields of the original, or `AllocError` where a growth is refused, or a clone of the
+/// Clones with the fields of the original, or `AllocError` if memory is refused, or a clone of the
 /// allocator.
 impl<A: Allocator + Clone> Clone for ProcessorInfo<A> {
     ghost use Rattle.std.specs.Prelude.{◌≡◌};

@@ -1,4 +1,4 @@
-//! The header that every table begins with, and its checks.
+//! The header that every table begins with, and its checks (section 5.2.6).
 ghost use Rattle.std.specs.Prelude.{◌≡◌, ◌^◌, ◌<◌, ◌≤◌, IfOk, IsOk};
 ghost use Rattle.acpi_base.specs.Header.{header_at, check_names, check_table};
 ghost use Rattle.acpi_base.specs.Laws.{DamageShows};
@@ -14,26 +14,26 @@ use crate::memory::handler::PhysicalRecord;
 pub use crate::table::signature::Signature;
 pub use crate::table::{AcpiTable, map_own_sdt, map_sdt, map_table};
 
-/// The header of 36 bytes that every table begins with (section 5.2.6).
+/// DESCRIPTION_HEADER: the header of 36 bytes that every table begins with (section 5.2.6, table 5.4).
 #[derive(Clone, Copy, Debug)]
 pub struct SdtHeader {
-    /// Which table it is.
+    /// Signature: the four letters that name the table.
     pub signature: Signature,
-    /// How many bytes the whole table has, with this header.
+    /// Length: how many bytes the whole table has, with this header.
     pub length: u32,
-    /// The revision of the table's layout.
+    /// Revision: that of the table's layout.
     pub revision: u8,
-    /// The byte that makes the whole table sum to 0 modulo 256.
+    /// Checksum: the byte by which the whole of a valid table sums to 0 modulo 256.
     pub checksum: u8,
-    /// The bytes of the OEM's name. `oem_id()` is their text.
+    /// OEMID: the bytes of the OEM's name. `oem_id()` is their text.
     pub oem_id: [u8; 6],
-    /// The bytes of the OEM's name for this table. `oem_table_id()` is their text.
+    /// OEM Table ID: the bytes of the OEM's name for this table. `oem_table_id()` is their text.
     pub oem_table_id: [u8; 8],
-    /// The OEM's revision of this table.
+    /// OEM Revision: the OEM's revision of this table.
     pub oem_revision: u32,
-    /// Which program made the table: four letters, as a number.
+    /// Creator ID: the program that made the table, as a number of four letters.
     pub creator_id: u32,
-    /// The revision of that program.
+    /// Creator Revision: the revision of that program.
     pub creator_revision: u32,
 }
 
@@ -68,13 +68,14 @@ impl PhysicalRecord for SdtHeader {
 }
 
 impl SdtHeader {
-    /// Checks the table that this header was read from, whose bytes these are: the signature is the
-    /// one given, the ids are texts, the length fits, and that many bytes sum to 0 modulo 256.
-    /// Bytes after the length are not looked at.
+    /// Checks the table that this header was read from, by its bytes (section 5.2.6): the signature is the
+    /// one that is passed, the ids are texts, the length fits, and that many bytes sum to 0 modulo 256.
+    /// Bytes after the length don't count.
     ///
-    /// Refuses, in this order, with `SdtInvalidSignature` where the signature is another or no
-    /// UTF-8, `SdtInvalidOemId` and `SdtInvalidTableId` where that id is not valid UTF-8,
-    /// `SdtInvalidLength` where the length is under 36 or past the bytes, and `SdtInvalidChecksum`.
+    /// Refuses, in this order, with `SdtInvalidSignature` if the signature is another or is not valid
+    /// UTF-8, `SdtInvalidOemId` and `SdtInvalidTableId` if that id is not valid UTF-8,
+    /// `SdtInvalidLength` if the length is under 36 or above the number of bytes, and `SdtInvalidChecksum`
+    /// if that many bytes don't sum to 0 modulo 256.
     pub fn validate(&self, signature: Signature, bytes: &[u8]) -> AcpiResult<()>
         requires { self.now ≡ header_at bytes.now }
         ensures exact { result ≡ check_table signature bytes.now }
@@ -100,14 +101,14 @@ impl SdtHeader {
         Ok(())
     }
 
-    /// The OEM's name, or `None` if it is not valid UTF-8.
+    /// OEMID: the OEM's name, or `None` if it is not valid UTF-8 (section 5.2.6).
     pub fn oem_id(&self) -> Option<&str>
         ensures { IsTextOf result self.now.oem_id }
     {
         text_of(&self.oem_id)
     }
 
-    /// The OEM's name for this table, or `None` if it is not valid UTF-8.
+    /// OEM Table ID: the OEM's name for this table, or `None` if it is not valid UTF-8 (section 5.2.6).
     pub fn oem_table_id(&self) -> Option<&str>
         ensures { IsTextOf result self.now.oem_table_id }
     {
@@ -130,7 +131,7 @@ impl SdtHeader {
         Ok(())
     }
 
-    /// The length of the table, where the header has the names and the least length.
+    /// The length of the table, if the header has the names and the least length.
     #[tactic(auto, unfolding(crate::specs::Table::length_in))]
     pub(crate) fn table_length(&self, signature: Signature, least: usize) -> AcpiResult<usize>
         ensures long { IfOk result (λ n. least ≤ n) }

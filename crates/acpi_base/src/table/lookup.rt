@@ -1,4 +1,4 @@
-//! The table at an address.
+//! The table at an address (section 5.2.6).
 ghost use Rattle.std.specs.Prelude.{◌≡◌, true, ◌+◌, ◌^◌, ◌<◌, ◌≤◌, length, IfErr, IfOk, Ok, Err};
 ghost use Rattle.acpi_base.specs.Claim.{IsLentOf, claimed_at, claimed_from, shown_by};
 ghost use Rattle.acpi_base.specs.Mapping.{IsOfMemory, start_of, bytes_of, handler_of};
@@ -16,7 +16,7 @@ use crate::memory::claim::Claim;
 use crate::memory::handler::{Lender, PhysicalRecord};
 use crate::memory::mapping::PhysicalMapping;
 
-/// The header's bytes at an address, where they begin with this signature. Most members that a
+/// The header's bytes at an address, if they begin with this signature. Most members that a
 /// lookup passes over have another one: so that is compared before anything else is made of them.
 #[inline(always)]
 #[tactic(auto, using(crate::proofs::TableByHeader::no_header, crate::proofs::TableByHeader::another_signature))]
@@ -42,9 +42,9 @@ fn claim_header<'h, H: Lender>(
     Ok(head)
 }
 
-/// What lies where a header is claimed, as long as that header says, where it has these names and
-/// the least length. The sum is still to be checked. Where the bytes lent for the header hold all
-/// of it, they are shown; else the header's claim ends before the request.
+/// The bytes of the table whose header is claimed, as many as that header says, if it has these names and
+/// the least length. The sum is still to be checked. If the bytes lent for the header hold the whole table,
+/// they are shown; else the header's claim ends before the request.
 #[inline(always)]
 #[tactic(auto, using(crate::proofs::AllowedRanges::asked_length), unfolding(crate::specs::Table::whole_of))]
 fn claim_whole<'h, H: Lender>(
@@ -75,8 +75,8 @@ fn claim_whole<'h, H: Lender>(
     }
 }
 
-/// What lies where a header is claimed, where it is a table that is valid for `T`. No record is made
-/// of it here: it is small to hand on, and the record is read where it is to lie.
+/// The bytes of the table whose header is claimed, if it is valid for `T`. No record is made of them here:
+/// they are small to pass on, and the record is read where it is to lie.
 #[inline(never)]
 #[tactic(auto, using(crate::proofs::TableByHeader::names_there, crate::proofs::TableByHeader::length_there), unfolding(crate::specs::Table::table_of))]
 fn claim_valid<'h, H: Lender, T: AcpiTable>(head: Claim<'h, H>) -> AcpiResult<Claim<'h, H>>
@@ -112,7 +112,7 @@ impl<'h, H: Lender> ValidTable<'h, H> {
     ghost use Rattle.acpi_base.specs.Claim.{all_of};
     ghost use Rattle.acpi_base.specs.Mapping.{lent_of};
 
-    /// The table's record, and its bytes.
+    /// The mapping of these bytes: the table's record, and its bytes.
     #[inline(always)]
     pub fn mapping<T: PhysicalRecord>(self) -> PhysicalMapping<'h, H, T>
         requires { T.MIN_LENGTH ≤ length (shown_by self.claim) }
@@ -126,7 +126,7 @@ impl<'h, H: Lender> ValidTable<'h, H> {
     }
 }
 
-/// The bytes of the table at an address, where it is valid for `T`.
+/// The bytes of the table at a physical address, if it is valid for `T` (section 5.2.6).
 ///
 /// Refuses as `map_table` does.
 #[inline(always)]
@@ -149,12 +149,12 @@ pub fn valid_at<'h, H: Lender, T: AcpiTable>(
     Ok(ValidTable { claim })
 }
 
-/// The table at an address, where it is valid for `T` (sections 5.2.5 and 5.2.6).
+/// The table at a physical address, if it is valid for `T` (sections 5.2.5 and 5.2.6).
 ///
-/// Refuses, in this order, with `MapFailed` where 36 bytes aren't lent, `SdtInvalidSignature`,
-/// `SdtInvalidOemId`, `SdtInvalidTableId`, `SdtInvalidLength` where the length in the header is
-/// under `T::MIN_LENGTH`, `MapFailed` where `length` bytes aren't lent, and with what
-/// `T::validate` refuses these bytes with.
+/// Refuses, in this order, with `MapFailed` if 36 bytes aren't lent, `SdtInvalidSignature` if the signature
+/// is another or is not valid UTF-8, `SdtInvalidOemId` and `SdtInvalidTableId` if that id is not valid
+/// UTF-8, `SdtInvalidLength` if the length in the header is under `T::MIN_LENGTH`, `MapFailed` if that many
+/// bytes aren't lent, and with the refusal of `T::validate` for these bytes.
 #[inline(always)]
 pub fn map_table<'h, H: Lender, T: AcpiTable>(
     handler: &'h H,
@@ -172,7 +172,7 @@ pub fn map_table<'h, H: Lender, T: AcpiTable>(
     Ok(valid.mapping())
 }
 
-/// The table whose header is claimed, where it is valid under this signature as one of which only
+/// The table whose header is claimed, if it is valid under this signature as one of which only
 /// the header and the sum matter.
 #[inline(never)]
 #[tactic(auto, using(crate::proofs::TableByHeader::bad_sum, crate::proofs::TableByHeader::good_sum), unfolding(crate::specs::Table::table_of))]
@@ -202,10 +202,10 @@ fn map_by_header_and_sum<'h, H: Lender>(
     Ok(PhysicalMapping::of_claim(whole))
 }
 
-/// The table at an address under a signature that is known only at run time, mapped as its header:
-/// of least length 36, and with nothing but `SdtHeader::validate` to pass.
+/// The table at a physical address under a signature that is known only at run time, mapped as its header
+/// (section 5.2.6): of least length 36, and with only the checks of `SdtHeader::validate`.
 ///
-/// Refuses as `map_table` does for such a type.
+/// Refuses as `map_table` does for a type with that signature, the least length 36 and these checks.
 #[inline(always)]
 #[tactic(auto, using(crate::proofs::AllowedRanges::asked_header, crate::proofs::AllowedRanges::asked_whole), unfolding(crate::specs::Table::table_at))]
 pub fn map_sdt<'h, H: Lender>(
@@ -228,8 +228,8 @@ pub fn map_sdt<'h, H: Lender>(
     map_by_header_and_sum(head, signature)
 }
 
-/// The table at an address under the signature that it has itself, whatever that is, mapped as
-/// its header.
+/// The table at a physical address under the signature that it has itself, whatever that is, mapped as
+/// its header (section 5.2.6).
 ///
 /// Refuses as `map_sdt` does for that signature.
 #[tactic(auto, using(crate::proofs::TableByHeader::own_table, crate::proofs::AllowedRanges::asked_own_header, crate::proofs::AllowedRanges::asked_own), unfolding(crate::specs::Table::own_table_at))]

@@ -1,4 +1,4 @@
-//! The four bytes that name a table.
+//! Signatures: the four bytes that name a table (section 5.2.6).
 ghost use Rattle.std.specs.Prelude.{◌≡◌, ◌<◌, ◌≤◌, length, Some};
 ghost use Rattle.std.specs.Str.{bytes_eq};
 ghost use Rattle.acpi_base.specs.Bytes.{part};
@@ -7,43 +7,43 @@ ghost use Rattle.acpi_base.specs.Text.{IsTextOf, hex_digit, letters_of, signatur
 use crate::bytes::text_of;
 use std::fmt;
 
-/// Four bytes that name a table (section 5.2.6, table 5.5 and table 5.6). Signatures are ordered
-/// as their four bytes are.
+/// Signature: four bytes that name a table (section 5.2.6, table 5.5 and table 5.6). Signatures are ordered
+/// as their four bytes are, the first byte first.
 #[derive(Clone, Copy, PartialEq, Eq, PartialOrd, Ord)]
 pub struct Signature(pub(crate) [u8; 4]);
 
 impl Signature {
-    /// Root System Description Table.
+    /// Root System Description Table (section 5.2.7).
     pub const RSDT: Signature = Signature(*b"RSDT");
 
-    /// Extended System Description Table.
+    /// Extended System Description Table (section 5.2.8).
     pub const XSDT: Signature = Signature(*b"XSDT");
 
-    /// Fixed ACPI Description Table, which is named `FACP`.
+    /// Fixed ACPI Description Table, which is named `FACP` (section 5.2.9).
     pub const FADT: Signature = Signature(*b"FACP");
 
     /// IA-PC High Precision Event Timer Table.
     pub const HPET: Signature = Signature(*b"HPET");
 
-    /// Multiple APIC Description Table, which is named `APIC`.
+    /// Multiple APIC Description Table, which is named `APIC` (section 5.2.12).
     pub const MADT: Signature = Signature(*b"APIC");
 
     /// PCI Express memory mapped configuration space base address description table.
     pub const MCFG: Signature = Signature(*b"MCFG");
 
-    /// Secondary System Description Table.
+    /// Secondary System Description Table (section 5.2.11.2).
     pub const SSDT: Signature = Signature(*b"SSDT");
 
     /// Boot Error Record Table.
     pub const BERT: Signature = Signature(*b"BERT");
 
-    /// Boot Graphics Resource Table.
+    /// Boot Graphics Resource Table (section 5.2.22).
     pub const BGRT: Signature = Signature(*b"BGRT");
 
     /// Corrected Platform Error Polling Table.
     pub const CPEP: Signature = Signature(*b"CPEP");
 
-    /// Differentiated System Description Table.
+    /// Differentiated System Description Table (section 5.2.11.1).
     pub const DSDT: Signature = Signature(*b"DSDT");
 
     /// Embedded Controller Boot Resources Table.
@@ -55,13 +55,13 @@ impl Signature {
     /// Error Record Serialization Table.
     pub const ERST: Signature = Signature(*b"ERST");
 
-    /// Firmware ACPI Control Structure.
+    /// Firmware ACPI Control Structure (section 5.2.10).
     pub const FACS: Signature = Signature(*b"FACS");
 
     /// Firmware Performance Data Table.
     pub const FPDT: Signature = Signature(*b"FPDT");
 
-    /// Generic Timer Description Table.
+    /// Generic Timer Description Table (section 5.2.24).
     pub const GTDT: Signature = Signature(*b"GTDT");
 
     /// Hardware Error Source Table.
@@ -97,10 +97,10 @@ impl Signature {
     /// Secure Devices Table.
     pub const SDEV: Signature = Signature(*b"SDEV");
 
-    /// System Locality Distance Information Table.
+    /// System Locality Distance Information Table (section 5.2.17).
     pub const SLIT: Signature = Signature(*b"SLIT");
 
-    /// System Resource Affinity Table.
+    /// System Resource Affinity Table (section 5.2.16).
     pub const SRAT: Signature = Signature(*b"SRAT");
 
     /// Arm Error Source Table.
@@ -208,14 +208,14 @@ impl Signature {
     /// Xen Project table.
     pub const XENV: Signature = Signature(*b"XENV");
 
-    /// The signature of these bytes.
+    /// The signature of these four bytes, whatever they are.
     pub const fn from_bytes(bytes: [u8; 4]) -> Signature
         ensures { letters_of result ≡ bytes }
     {
         Signature(bytes)
     }
 
-    /// The four that bytes begin with.
+    /// The signature of the four bytes that bytes begin with.
     #[inline(always)]
     pub(crate) fn leading(bytes: &[u8]) -> Signature
         requires { 4 ≤ length bytes.now }
@@ -224,14 +224,14 @@ impl Signature {
         Signature([bytes[0], bytes[1], bytes[2], bytes[3]])
     }
 
-    /// Its four bytes.
+    /// The four bytes of this signature.
     pub fn to_bytes(self) -> [u8; 4]
         ensures { result ≡ letters_of self }
     {
         self.0
     }
 
-    /// The text of its four bytes, or `None` if they are no UTF-8.
+    /// The text of the signature's four bytes, or `None` if they are not valid UTF-8.
     pub fn as_str(&self) -> Option<&str>
         ensures { IsTextOf result (letters_of self.now) }
     {
@@ -274,7 +274,7 @@ impl fmt::Display for HexByte {
     }
 }
 
-/// The text of the four bytes, or eight hexadecimal digits where they are no UTF-8.
+/// Prints the text of the four bytes, or eight hexadecimal digits in lower case if they are not valid UTF-8.
 impl fmt::Display for Signature {
     ghost output = { λ s. Some (signature_text s) };
 
@@ -290,7 +290,7 @@ impl fmt::Display for Signature {
     }
 }
 
-/// What `Display` prints, in quotes.
+/// Prints the text that `Display` prints, in quotes.
 impl fmt::Debug for Signature {
     fn fmt<W: fmt::Write>(&self, f: &mut fmt::Formatter<W>) -> fmt::Result {
         write!(f, "\"{self}\"")

@@ -1,4 +1,4 @@
-//! The sum of bytes, in lanes: sixteen bytes are added at once, each to a sum of its own.
+//! The sum of bytes modulo 256, in lanes: sixteen bytes are added at once, each to a sum of its own.
 ghost use Rattle.std.specs.Prelude.{◌≡◌, ◌⊎◌, ◌-◌, ◌+◌, ◌<◌, ◌≤◌, length, take, drop};
 ghost use Rattle.std.specs.Simd.Lanes.{chunk};
 ghost use Rattle.acpi_base.specs.Bytes.{sum_of};
@@ -17,7 +17,7 @@ static TAIL_MASKS: [u8; 32] = [
     255, 255, 255, 255, 255, 255, 255,
 ];
 
-/// The sum of the bytes modulo 256, which is 0 over a whole table (section 5.2.6).
+/// The sum of the bytes modulo 256, which is 0 over the whole of a valid table (section 5.2.6).
 #[inline]
 pub fn byte_sum(bytes: &[u8]) -> u8
     ensures { result ≡ sum_of bytes.now }
@@ -31,7 +31,7 @@ pub fn byte_sum(bytes: &[u8]) -> u8
     }
 }
 
-/// The same of few bytes, one at a time.
+/// The sum of few bytes modulo 256, one at a time.
 #[inline(always)]
 #[tactic(auto, unfolding(crate::specs::Bytes::sum_of))]
 fn plain_sum(bytes: &[u8]) -> u8
@@ -44,7 +44,7 @@ fn plain_sum(bytes: &[u8]) -> u8
     total
 }
 
-/// The same of many bytes, out of line, so that callers hold the code for few alone.
+/// The sum of many bytes modulo 256, out of line, so that callers hold the code for few alone.
 #[inline(never)]
 fn long_sum(bytes: &[u8]) -> u8
     requires { BLOCK ≤ length bytes.now }
@@ -76,7 +76,7 @@ fn summed_blocks(bytes: &[u8]) -> (u8x16, usize)
     ((first + second) + (third + fourth), at)
 }
 
-/// The sum of all bytes, where lanes hold that of the bytes before a place and less than a block
+/// The sum of all bytes, if lanes hold that of the bytes before a place and less than a block
 /// stands after it.
 #[inline(always)]
 fn finished(begun: u8x16, bytes: &[u8], begin: usize) -> u8
@@ -93,7 +93,7 @@ fn finished(begun: u8x16, bytes: &[u8], begin: usize) -> u8
     (lanes + last_lanes(bytes, bytes.len() - at)).reduce_sum()
 }
 
-/// One vector more, where a whole one stands at the place.
+/// One vector more, if a whole one stands at the place.
 #[inline(always)]
 fn one_more(lanes: u8x16, bytes: &[u8], at: usize) -> (u8x16, usize)
     requires within { at ≤ length bytes.now }

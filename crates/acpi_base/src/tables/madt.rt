@@ -1,4 +1,4 @@
-//! The Multiple APIC Description Table (MADT): interrupt controllers and processors.
+//! The Multiple APIC Description Table (MADT): interrupt controllers and processors (section 5.2.12).
 ghost use Rattle.std.specs.Prelude.{◌≡◌};
 ghost use Rattle.acpi_base.specs.Madt.{mailbox_of};
 
@@ -35,14 +35,16 @@ pub use wakeup::{
 };
 pub use walk::MadtEntryIter;
 
-/// The MADT (section 5.2.12). Its entries stand after these fields; a mapping of it gives them.
+/// The Multiple APIC Description Table (MADT, section 5.2.12, table 5.19). Its entries stand after these
+/// fields; a mapping of it gives them.
 #[derive(Debug, Drop)]
 pub struct Madt {
     /// The header that every table begins with.
     pub header: SdtHeader,
-    /// The physical address of each processor's local APIC, unless an entry gives another.
+    /// Local Interrupt Controller Address: the physical address of each processor's local APIC, unless a
+    /// Local APIC Address Override gives another.
     pub local_apic_address: u32,
-    /// Bit 0: the machine has a pair of 8259 controllers too. `supports_8259()` says so.
+    /// Flags: bit 0 PCAT_COMPAT, the machine has a pair of 8259 controllers too. `supports_8259()` says so.
     pub flags: u32,
 }
 
@@ -97,8 +99,8 @@ impl AcpiTable for Madt {
 impl Madt {
     ghost use Rattle.acpi_base.specs.Bits.{has_bit};
 
-    /// Whether the machine has a pair of 8259 controllers too, which are to be masked where the
-    /// APICs are used.
+    /// PCAT_COMPAT (bit 0 of the flags, section 5.2.12): whether the machine has a pair of 8259 controllers
+    /// too, which are to be masked if the APICs are used.
     pub fn supports_8259(&self) -> bool
         ensures { result ≡ has_bit self.now.flags 0 }
     {
@@ -132,7 +134,8 @@ impl<'h, H: Lender> PhysicalMapping<'h, H, Madt> {
     ghost use Rattle.acpi_base.specs.Model.{AsksMemory, model_of};
     ghost use Rattle.acpi_base.specs.Steps.{GivesOrFull};
 
-    /// The table's entries, in order: at most half as many as it has bytes after the 44 fixed ones.
+    /// The entries of this MADT, of types 0 to 0x10, in order (section 5.2.12): at most half as many as the
+    /// table has bytes after its 44 fixed ones.
     pub fn entries(&self) -> MadtEntryIter<'_>
         ensures items { entries_left result ≡ entries_of (bytes_of self.now) }
         ensures rest { rest_left result ≡ (cut_of (bytes_of self.now)).1 }
@@ -142,28 +145,32 @@ impl<'h, H: Lender> PhysicalMapping<'h, H, Madt> {
         MadtEntryIter::over(self.bytes())
     }
 
-    /// The physical address of the mailbox by which processors are woken (section 5.2.12.19): that
-    /// of the first wakeup entry.
+    /// MailBoxAddress: the physical address of the mailbox by which processors are woken, that of the first
+    /// Multiprocessor Wakeup entry (section 5.2.12.19).
     ///
-    /// Refuses with `InvalidMadt`: `InvalidEntryLength` where a malformed entry comes before one,
-    /// and `UnexpectedEntry` where there is none.
+    /// Refuses, if no such entry is found, with `InvalidMadt(InvalidEntryLength)` if the entries end
+    /// malformed, and else with `InvalidMadt(UnexpectedEntry)`. Entries after a malformed one aren't found.
     pub fn get_mpwk_mailbox_addr(&self) -> AcpiResult<u64>
         ensures { result ≡ mailbox_of (bytes_of self.now) }
     {
         mailbox_address(self.bytes())
     }
 
-    /// The interrupt model that the entries describe (section 5.2.12), and the processors, where there
-    /// are any. It is `Unknown`, without processors, where no entry is of APICs; no memory is then asked
-    /// for.
+    /// The interrupt model that the entries describe (section 5.2.12), and the processors, if there
+    /// are any, in memory of an allocator. It is `Unknown`, without processors, if no entry is of APICs; no
+    /// memory is then asked for.
     ///
-    /// Refuses with `InvalidMadt` for the first entry that is at fault: `InvalidEntryLength` where it
-    /// is malformed, `UnexpectedEntry` for the types of SAPICs and of the GIC (6 to 8, and 0xb to
-    /// 0xf), for an override `InterruptOverrideEntryHasInvalidBus` where its bus isn't 0, for one and
-    /// for an NMI source `MpsIntiInvalidPolarity` where bits 0 and 1 of its flags are 2 and then
-    /// `MpsIntiInvalidTriggerMode` where bits 2 and 3 are, and `InvalidLocalNmiLine` for a local NMI
-    /// whose line is neither 0 nor 1. Then with `AllocError` where a growth is refused, or a clone of the
-    /// allocator.
+    /// Refuses with `InvalidMadt` for the first entry that is at fault, with the first of these that holds:
+    ///
+    /// - `InvalidEntryLength` if it is malformed;
+    /// - `UnexpectedEntry` for the types of SAPICs and of the GIC (6 to 8, and 0xb to 0xf);
+    /// - `InterruptOverrideEntryHasInvalidBus` for an Interrupt Source Override whose bus isn't 0;
+    /// - `MpsIntiInvalidPolarity` for an Interrupt Source Override or an NMI Source if bits 0 and 1 of its
+    ///   flags are 2;
+    /// - `MpsIntiInvalidTriggerMode` for one of these two if bits 2 and 3 of its flags are 2;
+    /// - `InvalidLocalNmiLine` for a Local APIC NMI or a Local x2APIC NMI whose LINT# is neither 0 nor 1.
+    ///
+    /// Then it refuses with `AllocError` if memory is refused, or a clone of the allocator.
     pub fn parse_interrupt_model_in<A: Allocator + Clone>(
         &self,
         allocator: A,

@@ -1,4 +1,5 @@
-//! Where the configuration space of PCI devices lies in memory.
+//! The MCFG: the regions of memory that hold the configuration space of PCI functions (PCI Firmware
+//! Specification; ACPI 6.4, section 5.2.6, reserves the signature).
 
 mod ecam;
 
@@ -10,9 +11,9 @@ use crate::table::header::SdtHeader;
 use crate::table::signature::Signature;
 use crate::table::{AcpiTable, sum_refusal};
 
-/// The MCFG, whose signature section 5.2.6 reserves and whose layout is the PCI Firmware
-/// Specification's: regions of memory, each with the configuration space of some buses. Its entries
-/// stand after 44 fixed bytes; a mapping of it gives them.
+/// The MCFG: regions of memory, each with the configuration space of some PCI buses. Section 5.2.6 reserves
+/// its signature, and its layout is the PCI Firmware Specification's (section 4.1.2). Its entries stand after
+/// 44 fixed bytes; a mapping of it gives them.
 #[derive(Drop)]
 pub struct Mcfg {
     header: SdtHeader,
@@ -64,19 +65,20 @@ impl AcpiTable for Mcfg {
     ghost agrees = { (refl, refl) };
 }
 
-/// A region with the configuration space of the buses of one segment group, from the first to the
-/// last. It holds no bus where the last is under the first.
+/// An entry of an MCFG: a region of memory with the configuration space of the buses of one PCI segment
+/// group, from the first to the last (PCI Firmware Specification, section 4.1.2). It holds no bus if the
+/// last is below the first.
 #[derive(Clone, Copy, Debug)]
 pub struct McfgEntry {
-    /// The physical address that the addresses of functions are counted from: that of bus 0 by the
-    /// PCI Firmware Specification (section 4.1.2), and so in `ecam_address`; that of the first bus as
-    /// the Rust crate has it, and so in `PciConfigRegions::physical_address`.
+    /// Base Address: the physical address that the addresses of functions are counted from. It is that of
+    /// bus 0 by the PCI Firmware Specification (section 4.1.2) and in `ecam_address`, and that of the first
+    /// bus by the Rust crate and in `PciConfigRegions::physical_address`.
     pub base_address: u64,
-    /// The segment group.
+    /// PCI Segment Group Number: the segment group of the buses.
     pub pci_segment_group: u16,
-    /// The first bus.
+    /// Start Bus Number: the first bus.
     pub bus_number_start: u8,
-    /// The last bus.
+    /// End Bus Number: the last bus.
     pub bus_number_end: u8,
 }
 
@@ -99,7 +101,8 @@ impl PhysicalRecord for McfgEntry {
     }
 }
 
-/// The entries of an MCFG, in order. A rest that is shorter than an entry is none.
+/// The entries of an MCFG, of 16 bytes each, in order (section 5.2.6 reserves the signature). A remainder
+/// that is shorter than an entry is none.
 #[derive(Debug, Drop)]
 pub struct McfgEntryIter<'a> {
     rest: &'a [u8],
@@ -109,7 +112,7 @@ impl<'a> McfgEntryIter<'a> {
     ghost use Rattle.std.specs.Prelude.{◌≡◌, ◌-◌, ◌/◌, length};
     ghost use Rattle.acpi_base.specs.Mcfg.{mcfg_entries_left, mcfg_entries_of};
 
-    /// The entries of an MCFG's bytes: those after its 44 fixed ones. It knows no memory and no
+    /// The entries of an MCFG's bytes: as many as there are whole ones after its 44 fixed bytes. It needs no
     /// handler.
     #[tactic(auto, using(crate::proofs::McfgEntries::length_entries_of))]
     pub fn over(table: &'a [u8]) -> Self
@@ -143,7 +146,7 @@ impl Iterator for McfgEntryIter<'_> {
 }
 
 impl ExactSizeIterator for McfgEntryIter<'_> {
-    /// How many are left.
+    /// How many entries are still to come.
     #[tactic(auto, using(crate::proofs::McfgEntries::length_whole_entries))]
     fn len(&self) -> usize {
         self.rest.len() / McfgEntry::MIN_LENGTH
@@ -155,7 +158,8 @@ impl<'h, H: Lender> PhysicalMapping<'h, H, Mcfg> {
     ghost use Rattle.acpi_base.specs.Mapping.{bytes_of};
     ghost use Rattle.acpi_base.specs.Mcfg.{mcfg_entries_left, mcfg_entries_of};
 
-    /// The table's entries, in order: as many as there are whole ones after the 44 fixed bytes.
+    /// The entries of this MCFG, in order: as many as there are whole ones after its 44 fixed bytes (section
+    /// 5.2.6 reserves the signature).
     pub fn entries(&self) -> McfgEntryIter<'_>
         ensures items { mcfg_entries_left result ≡ mcfg_entries_of (bytes_of self.now) }
         ensures count { length (mcfg_entries_left result) ≡ (length (bytes_of self.now) - 44) / 16 }

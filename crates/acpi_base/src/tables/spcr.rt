@@ -1,4 +1,4 @@
-//! The Serial Port Console Redirection table: the serial console that the firmware used.
+//! The Serial Port Console Redirection Table (SPCR): the serial console that the firmware used.
 ghost use Rattle.std.specs.Prelude.{◌≡◌, Some, None, if◌then◌else◌};
 ghost use Rattle.acpi_base.specs.Spcr.{name_of, namespace_in};
 ghost use Rattle.acpi_base.specs.Text.{Shows};
@@ -18,8 +18,9 @@ use bitflags::Flags;
 pub use flags::{SpcrFlowControl, SpcrInterruptType, SpcrTerminalType};
 pub use interface::SpcrInterfaceType;
 
-/// The SPCR, whose signature section 5.2.6 reserves and whose layout is Microsoft's. A field that
-/// reaches past the table's end is read as if zeros followed.
+/// The Serial Port Console Redirection Table (SPCR): the serial console that the firmware used. Section
+/// 5.2.6 reserves its signature, and its layout is Microsoft's. A field that reaches past the table's end is
+/// read as if zeros followed.
 #[derive(Debug, Drop)]
 pub struct Spcr {
     /// The header that every table begins with.
@@ -30,22 +31,23 @@ pub struct Spcr {
     irq: u8,
     global_system_interrupt: u32,
     configured_baud_rate: u8,
-    /// 0: no parity.
+    /// Parity: 0 is no parity; other codes are reserved, and kept as they are.
     pub parity: u8,
-    /// 1: one stop bit.
+    /// Stop Bits: 1 is one stop bit; other codes are reserved, and kept as they are.
     pub stop_bits: u8,
     flow_control: u8,
     terminal_type: u8,
-    /// The language of what the firmware printed, which is 0.
+    /// Language: that of the texts that the firmware printed, 0 by the layout. It is kept as it is.
     pub language: u8,
     pci_device_id: u16,
     pci_vendor_id: u16,
     pci_bus_number: u8,
     pci_device_number: u8,
     pci_function_number: u8,
-    /// Bit 0: the operating system must not switch the device off, nor look for its like.
+    /// PCI Flags: bit 0 set means that the operating system must neither suppress the device's enumeration
+    /// nor disable its power management.
     pub pci_flags: u32,
-    /// The PCI segment group of the device.
+    /// PCI Segment: the PCI segment group of the device.
     pub pci_segment: u8,
     uart_clock_frequency: u32,
     precise_baud_rate: u32,
@@ -129,17 +131,17 @@ impl Spcr {
     ghost use Rattle.acpi_base.specs.Spcr.{flow_byte, interrupt_byte, terminal_byte};
     ghost use Rattle.acpi_base.specs.SpcrFlags.{flow_bits, interrupt_bits, terminal_bits};
 
-    /// The interface of the serial port's registers.
+    /// Interface Type: the interface of the serial port's registers.
     pub fn interface_type(&self) -> SpcrInterfaceType
         ensures { result ≡ interface_in self.now }
     {
         SpcrInterfaceType::from(self.interface_type)
     }
 
-    /// Where the serial port's registers lie, or `None` where the firmware used none: all twelve
-    /// bytes are then zero.
+    /// Base Address: the generic address (section 5.2.3.2) of the serial port's registers, or `None` if all
+    /// twelve bytes are zero: console redirection is then off.
     ///
-    /// The address is refused with `InvalidGenericAddress` where it has a reserved code.
+    /// The address is refused with `InvalidGenericAddress` if it has a reserved code.
     pub fn base_address(&self) -> Option<AcpiResult<GenericAddress>>
         ensures { result ≡ base_of self.now }
     {
@@ -149,7 +151,9 @@ impl Spcr {
         Some(GenericAddress::from_raw(self.base_address))
     }
 
-    /// The baud rate: the precise one where the table gives it, else the one that the firmware used.
+    /// Precise Baud Rate or Configured Baud Rate: the rate in bits per second. It is the precise one if that
+    /// isn't 0, else that of the configured code (3, 4, 6 and 7: 9600, 19200, 57600 and 115200), or `None`
+    /// for every other code.
     pub fn baud_rate(&self) -> Option<u32>
         ensures { result ≡ baud_of self.now }
     {
@@ -165,7 +169,8 @@ impl Spcr {
         }
     }
 
-    /// The interrupt on the pair of 8259 controllers, where the port has one there.
+    /// IRQ: the interrupt on the pair of 8259 controllers, or `None` if bit 0 of Interrupt Type isn't set:
+    /// the port has none there.
     pub fn irq(&self) -> Option<u8>
         ensures { result ≡ irq_of self.now }
     {
@@ -177,7 +182,8 @@ impl Spcr {
         }
     }
 
-    /// The global system interrupt, where the port has one on another controller than the 8259s.
+    /// Global System Interrupt: that of the port, or `None` if none of bits 1 to 4 of Interrupt Type is set:
+    /// the port has no interrupt on another controller than the 8259s.
     pub fn global_system_interrupt(&self) -> Option<u32>
         ensures { result ≡ interrupt_of self.now }
     {
@@ -188,7 +194,8 @@ impl Spcr {
         Some(self.global_system_interrupt)
     }
 
-    /// Which interrupts the port has: the low five bits of the table's byte.
+    /// Interrupt Type: the controllers that the port's interrupt comes to, by the lowest 5 bits of the
+    /// table's byte.
     #[tactic(auto, unfolding(bitflags::specs::Sets::known_from))]
     pub fn interrupt_type(&self) -> SpcrInterruptType
         ensures { interrupt_bits result ≡ bit_and (interrupt_byte self.now) 0x1f }
@@ -196,7 +203,7 @@ impl Spcr {
         SpcrInterruptType::from_bits_truncate(self.interrupt_type)
     }
 
-    /// Which terminals the firmware spoke to: the low four bits of the table's byte.
+    /// Terminal Type: the terminals that the firmware spoke to, by the lowest 4 bits of the table's byte.
     #[tactic(auto, unfolding(bitflags::specs::Sets::known_from))]
     pub fn terminal_type(&self) -> SpcrTerminalType
         ensures { terminal_bits result ≡ bit_and (terminal_byte self.now) 0x0f }
@@ -204,7 +211,8 @@ impl Spcr {
         SpcrTerminalType::from_bits_truncate(self.terminal_type)
     }
 
-    /// How the flow of bytes is controlled: the low three bits of the table's byte.
+    /// Flow Control: the ways in which the flow of bytes is controlled, by the lowest 3 bits of the table's
+    /// byte.
     #[tactic(auto, unfolding(bitflags::specs::Sets::known_from))]
     pub fn flow_control(&self) -> SpcrFlowControl
         ensures { flow_bits result ≡ bit_and (flow_byte self.now) 0x07 }
@@ -212,42 +220,43 @@ impl Spcr {
         SpcrFlowControl::from_bits_truncate(self.flow_control)
     }
 
-    /// The PCI device id of the port, or `None` if that is 0xffff: it is not a PCI device.
+    /// PCI Device ID: that of the port, or `None` if that is 0xffff: the port is not a PCI device.
     pub fn pci_device_id(&self) -> Option<u16>
         ensures { result ≡ device_id_of self.now }
     {
         unless(self.pci_device_id, 0xffff)
     }
 
-    /// The PCI vendor id of the port, or `None` if that is 0xffff: it is not a PCI device.
+    /// PCI Vendor ID: that of the port, or `None` if that is 0xffff: the port is not a PCI device.
     pub fn pci_vendor_id(&self) -> Option<u16>
         ensures { result ≡ vendor_id_of self.now }
     {
         unless(self.pci_vendor_id, 0xffff)
     }
 
-    /// The PCI bus of the port, or `None` if that is 0.
+    /// PCI Bus Number: that of the port, or `None` if that is 0.
     pub fn pci_bus_number(&self) -> Option<u8>
         ensures { result ≡ bus_of self.now }
     {
         unless(self.pci_bus_number, 0)
     }
 
-    /// The PCI device number of the port, or `None` if that is 0.
+    /// PCI Device Number: that of the port, or `None` if that is 0.
     pub fn pci_device_number(&self) -> Option<u8>
         ensures { result ≡ device_of self.now }
     {
         unless(self.pci_device_number, 0)
     }
 
-    /// The PCI function number of the port, or `None` if that is 0.
+    /// PCI Function Number: that of the port, or `None` if that is 0.
     pub fn pci_function_number(&self) -> Option<u8>
         ensures { result ≡ function_of self.now }
     {
         unless(self.pci_function_number, 0)
     }
 
-    /// The clock of the port in Hz, where the table's revision is above 2 and it isn't 0.
+    /// UART Clock Frequency: the clock of the port in Hz, or `None` if that is 0 or the table's revision is
+    /// 2 or below.
     pub fn uart_clock_frequency(&self) -> Option<u32>
         ensures { result ≡ clock_of self.now }
     {
@@ -294,10 +303,11 @@ impl<'h, H: Lender> PhysicalMapping<'h, H, Spcr> {
     ghost use Rattle.acpi_base.specs.Mapping.{bytes_of};
     ghost use Rattle.acpi_base.specs.Spcr.{namespace_of};
 
-    /// The name of the port's object in the ACPI namespace, or `.` where it has none: the bytes of
-    /// the length and at the offset that the table gives, counted from its first byte.
+    /// NamespaceString: the name of the port's object in the ACPI namespace, or `.` if it has none. It has
+    /// NamespaceStringLength bytes, from NamespaceStringOffset on, counted from the table's first byte.
     ///
-    /// Refuses with `InvalidNamespaceString` where they reach past the table's end, or are no UTF-8.
+    /// Refuses with `InvalidNamespaceString` if these bytes reach past the table's end, or are not valid
+    /// UTF-8.
     pub fn namespace_string(&self) -> AcpiResult<&str>
         ensures { Shows result (namespace_of (bytes_of self.now)) }
     {

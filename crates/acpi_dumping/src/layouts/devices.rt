@@ -6,7 +6,7 @@ use super::{Bit, Code, Field};
 /// The MCFG's fixed part (PCI Firmware Specification 3.2, table 4-2).
 pub(crate) const MCFG: &[Field] = &[Field(36, 8, "Reserved", Plain)];
 
-/// One of its entries (table 4-3), by offsets in the entry.
+/// An entry of the MCFG (PCI Firmware Specification 3.2, table 4-3), by offsets in the entry.
 pub(crate) const MCFG_ENTRY: &[Field] = &[
     Field(0, 8, "Base Address", Plain),
     Field(8, 2, "PCI Segment Group Number", Decimal),
@@ -105,7 +105,7 @@ pub(crate) const SPCR: &[Field] = &[
 
 const FACS_FLAGS: &[Bit] = &[Bit(0, "S4BIOS_F"), Bit(1, "64BIT_WAKE_SUPPORTED_F")];
 
-/// The FACS (section 5.2.10, table 5.38), which has no header.
+/// The FACS (section 5.2.10), which has no header.
 pub(crate) const FACS: &[Field] = &[
     Field(0, 4, "Signature", super::Meaning::Text),
     Field(4, 4, "Length", Decimal),

@@ -15,7 +15,7 @@ const PROFILES: &[Code] = &[
     Code(8, "Tablet"),
 ];
 
-/// Table 5.36.
+/// The bits of IAPC_BOOT_ARCH, the IA-PC Boot Architecture Flags (section 5.2.9.3).
 const PC_FLAGS: &[Bit] = &[
     Bit(0, "LEGACY_DEVICES"),
     Bit(1, "8042"),
@@ -25,10 +25,10 @@ const PC_FLAGS: &[Bit] = &[
     Bit(5, "CMOS RTC Not Present"),
 ];
 
-/// Table 5.37.
+/// The bits of ARM_BOOT_ARCH, the Arm Boot Architecture Flags (section 5.2.9.4).
 const ARM_FLAGS: &[Bit] = &[Bit(0, "PSCI_COMPLIANT"), Bit(1, "PSCI_USE_HVC")];
 
-/// Table 5.35.
+/// The bits of Flags, the Fixed Feature Flags (section 5.2.9).
 const FLAGS: &[Bit] = &[
     Bit(0, "WBINVD"),
     Bit(1, "WBINVD_FLUSH"),
@@ -54,7 +54,7 @@ const FLAGS: &[Bit] = &[
     Bit(21, "LOW_POWER_S0_IDLE_CAPABLE"),
 ];
 
-/// The fields after the header (table 5.33).
+/// The FADT's fields after the header (section 5.2.9).
 pub(crate) const FADT: &[Field] = &[
     Field(36, 4, "FIRMWARE_CTRL", Plain),
     Field(40, 4, "DSDT", Plain),

@@ -16,7 +16,7 @@ const TIMER: &[Code] = &[
     Code(7, "active low, edge-triggered, always on"),
 ];
 
-/// The fields after the header (table 5.122). Those of the virtual timer of EL2 came with revision 3.
+/// The GTDT's fields after the header (table 5.122). Those of the virtual timer of EL2 came with revision 3.
 pub(crate) const GTDT: &[Field] = &[
     Field(36, 8, "CntControlBase Physical Address", Plain),
     Field(44, 4, "Reserved", Plain),
@@ -56,7 +56,7 @@ pub(crate) fn structures_grammar(count: usize) -> Grammar<2> {
 
 const KINDS: &[Code] = &[Code(0, "GT Block"), Code(1, "Arm Generic Watchdog")];
 
-/// What each structure begins with, by offsets in the structure, as those below.
+/// The fields that each structure begins with, by offsets in the structure, as those below.
 pub(crate) const STRUCTURE: &[Field] = &[
     Field(0, 1, "Type", Codes(KINDS)),
     Field(1, 2, "Length", Decimal),
@@ -78,7 +78,7 @@ const FRAME_TIMER: &[Code] = &[
 
 const FRAME_FLAGS: &[Bit] = &[Bit(0, "Secure Timer"), Bit(1, "Always-on Capability")];
 
-/// A frame of a block, by offsets in the frame.
+/// The fields of a frame of a GT Block (section 5.2.24.1.1), by offsets in the frame.
 pub(crate) const FRAME: &[Field] = &[
     Field(0, 1, "GT Frame Number", Decimal),
     Field(1, 3, "Reserved", Plain),

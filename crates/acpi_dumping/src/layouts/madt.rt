@@ -11,7 +11,7 @@ pub(crate) const MADT: &[Field] = &[
     Field(40, 4, "Flags", Bits(MADT_FLAGS)),
 ];
 
-/// What each entry begins with (table 5.20), by offsets in the entry, as those below.
+/// The fields that each entry of a MADT begins with (section 5.2.12), by offsets in the entry, as those below.
 pub(crate) const ENTRY: &[Field] = &[
     Field(0, 1, "Type", Codes(KINDS)),
     Field(1, 1, "Length", Decimal),

@@ -9,7 +9,7 @@ pub(crate) const SRAT: &[Field] = &[
     Field(40, 8, "Reserved", Plain),
 ];
 
-/// What each entry of a SRAT begins with, by offsets in the entry, as those below.
+/// The fields that each entry of a SRAT begins with, by offsets in the entry, as those below.
 pub(crate) const SRAT_ENTRY: &[Field] = &[
     Field(0, 1, "Type", Codes(KINDS)),
     Field(1, 1, "Length", Decimal),

@@ -1,4 +1,4 @@
-//! What is wanted of a FADT to go on from it.
+//! The part of a FADT by which the DSDT, the profile and the timer are found.
 ghost use Rattle.std.specs.Prelude.{◌≡◌};
 
 use super::extended::extended_number_in;
@@ -10,9 +10,9 @@ use acpi_base::sdt::SdtHeader;
 use acpi_base::table::sum_refusal;
 use acpi_base::{AcpiError, AcpiResult, AcpiTable, PhysicalRecord, Signature};
 
-/// The fields of a FADT (section 5.2.9) by which the DSDT, the profile and the timer are found: a
-/// short record, since what a lookup finds is passed on by copying. It is valid exactly if the
-/// whole `Fadt` is.
+/// The part of a FADT (section 5.2.9) by which the DSDT, the profile and the timer are found: a short
+/// record, since what a lookup finds is passed on by copying. It makes the checks that the whole `Fadt`
+/// makes.
 #[derive(Clone, Copy)]
 pub struct FadtBrief {
     header: SdtHeader,
@@ -77,7 +77,9 @@ impl AcpiTable for FadtBrief {
 impl FadtBrief {
     ghost use Rattle.acpi_fixed.specs.Brief.{brief_dsdt_address, brief_flags, brief_profile, brief_timer_block};
 
-    /// What `Fadt::dsdt_address` answers.
+    /// X_DSDT or DSDT (section 5.2.9), as `Fadt::dsdt_address`: the physical address of the DSDT.
+    ///
+    /// Refuses with `InvalidDsdtAddress` if that is 0.
     pub fn dsdt_address(&self) -> AcpiResult<u64>
         ensures { result ≡ brief_dsdt_address self.now }
     {
@@ -85,21 +87,24 @@ impl FadtBrief {
         address_from(refusal, self.x_dsdt_address, self.dsdt_address)
     }
 
-    /// What `Fadt::power_profile` answers.
+    /// Preferred_PM_Profile (section 5.2.9), as `Fadt::power_profile`: the machine's purpose.
     pub fn power_profile(&self) -> PowerProfile
         ensures { result ≡ brief_profile self.now }
     {
         profile_from(self.preferred_pm_profile)
     }
 
-    /// The flags of the fixed hardware.
+    /// Flags (Fixed Feature Flags, section 5.2.9): what the fixed hardware does and needs.
     pub fn flags(&self) -> FixedFeatureFlags
         ensures { result ≡ brief_flags self.now }
     {
         self.flags
     }
 
-    /// What `Fadt::pm_timer_block` answers.
+    /// X_PM_TMR_BLK or PM_TMR_BLK (sections 4.8.3.3 and 5.2.9), as `Fadt::pm_timer_block`: the register of
+    /// the power management timer, or `None` if PM_TMR_LEN isn't 4 or neither field gives an address.
+    ///
+    /// Refuses a reserved code in the extended block with `InvalidGenericAddress`.
     pub fn pm_timer_block(&self) -> AcpiResult<Option<GenericAddress>>
         ensures { result ≡ brief_timer_block self.now }
     {

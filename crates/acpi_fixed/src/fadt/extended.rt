@@ -16,8 +16,8 @@ fn is_extended(table: &[u8], offset: usize, n: usize) -> bool
     field(table, 8, 1) >= 2 && offset + n <= table.len()
 }
 
-/// The number of eight bytes at an offset, which tables of revision 2 and above have, where they
-/// have all of these bytes.
+/// The number of eight bytes at an offset, or `None` if the table is below revision 2 or doesn't have all
+/// of these bytes.
 #[inline(always)]
 #[tactic(auto, using(crate::proofs::ExtendedFields::number_there, crate::proofs::ExtendedFields::no_number))]
 pub(super) fn extended_number_in(table: &[u8], offset: usize) -> Option<u64>
@@ -31,7 +31,8 @@ pub(super) fn extended_number_in(table: &[u8], offset: usize) -> Option<u64>
     }
 }
 
-/// The same of the twelve bytes of a generic address.
+/// The twelve bytes of a generic address at an offset, or `None` if the table is below revision 2 or doesn't
+/// have all of these bytes.
 #[inline(always)]
 #[tactic(auto, using(crate::proofs::ExtendedFields::address_there, crate::proofs::ExtendedFields::no_address))]
 pub(super) fn extended_address_in(table: &[u8], offset: usize) -> Option<RawAddress>

@@ -1,4 +1,5 @@
-//! What the FADT gives in two ways: by a field of its first versions, and by an extended one.
+//! Registers and addresses that the FADT gives in two ways: by a field of its first versions, and by an
+//! extended one (section 5.2.9).
 ghost use Rattle.std.specs.Prelude.{◌≡◌, ◌+◌, ◌≤◌, length};
 ghost use Rattle.acpi_fixed.specs.Registers.{address_or, register_of};
 
@@ -10,9 +11,9 @@ use acpi_base::bytes::{field_in, filled, filled_in};
 use acpi_base::{AcpiError, AcpiResult};
 pub use gpe::GpeBlock;
 
-/// The 64-bit address where it is there and not 0, else the 32-bit one.
+/// The 64-bit address if it is there and not 0, else the 32-bit one.
 ///
-/// Refuses with `refusal` where that is 0.
+/// Refuses with `refusal` if that is 0.
 pub(crate) fn address_from(refusal: AcpiError, wide: Option<u64>, narrow: u32) -> AcpiResult<u64>
     ensures { result ≡ address_or refusal wide narrow }
 {
@@ -26,7 +27,7 @@ pub(crate) fn address_from(refusal: AcpiError, wide: Option<u64>, narrow: u32) -
     Ok(address)
 }
 
-/// The register that an extended field gives, or `None` where the table has no such field.
+/// The register that an extended field gives, or `None` if the table has no such field.
 ///
 /// Refuses reserved codes with `InvalidGenericAddress`.
 pub(crate) fn register_from(raw: Option<RawAddress>) -> AcpiResult<Option<GenericAddress>>
@@ -68,7 +69,8 @@ impl RegisterBlock {
         }
     }
 
-    /// The same of a table that is known to have the extended field.
+    /// The block whose address, length and extended field a table has at these offsets. The table is known
+    /// to have the extended field.
     #[inline(always)]
     #[tactic(auto, using(crate::proofs::ExtendedFields::address_known))]
     fn read_there(table: &[u8], address: usize, size: usize, extended: usize) -> RegisterBlock
@@ -86,7 +88,7 @@ impl RegisterBlock {
         }
     }
 
-    /// The extended field, where its address is not 0.
+    /// The extended field, or `None` if its address is 0 or the table doesn't have it.
     fn usable_extended(&self) -> Option<RawAddress>
         ensures { result ≡ usable_extended self.now.extended }
     {
@@ -98,7 +100,7 @@ impl RegisterBlock {
 
     /// The ports of the first versions, eight bits for each byte.
     ///
-    /// Refuses with `InvalidGenericAddress` where these are more than a width can say.
+    /// Refuses with `InvalidGenericAddress` if these are 32 bytes or more, more than a width can say.
     fn ports(&self) -> AcpiResult<GenericAddress>
         ensures { result ≡ ports_at self.now.address self.now.size }
     {
@@ -114,7 +116,7 @@ impl RegisterBlock {
         })
     }
 
-    /// The extended block where its address is not 0, else the ports.
+    /// The extended block if its address is not 0, else the ports.
     ///
     /// Refuses with `InvalidGenericAddress` reserved codes in the extended block, and 32 bytes of
     /// ports and more.
@@ -127,8 +129,8 @@ impl RegisterBlock {
         }
     }
 
-    /// The same for a block that a machine need not have: `None` where neither field gives an
-    /// address.
+    /// The extended block if its address is not 0, else the ports, of a block that a machine need not have:
+    /// `None` if neither field gives an address.
     ///
     /// Refuses as `block` does.
     pub(crate) fn optional_block(&self) -> AcpiResult<Option<GenericAddress>>
@@ -140,9 +142,10 @@ impl RegisterBlock {
         Ok(Some(self.block()?))
     }
 
-    /// The same for the timer, which a machine has only where the length is 4.
+    /// The block of the timer: the extended block if its address is not 0, else the ports, or `None` if the
+    /// length isn't 4 or neither field gives an address.
     ///
-    /// Refuses as `block` does.
+    /// Refuses a reserved code in the extended block with `InvalidGenericAddress`.
     pub(crate) fn timer_block(&self) -> AcpiResult<Option<GenericAddress>>
         ensures { result ≡ timer_block_of self.now }
     {
@@ -153,7 +156,7 @@ impl RegisterBlock {
     }
 }
 
-/// Where the registers lie.
+/// The registers of the fixed hardware, as the FADT gives them.
 #[derive(Clone, Copy, Debug)]
 pub(crate) struct Registers {
     pub(crate) pm1a_event: RegisterBlock,
@@ -173,7 +176,7 @@ impl Registers {
     ghost use Rattle.acpi_base.specs.Bytes.{field_of};
     ghost use Rattle.acpi_fixed.specs.Registers.{registers_at};
 
-    /// The registers that a table says.
+    /// The registers that a table gives.
     #[inline(always)]
     pub(crate) fn read(table: &[u8]) -> Registers
         requires { 116 ≤ length table.now }
@@ -187,8 +190,8 @@ impl Registers {
         }
     }
 
-    /// The same of any table: each block by the offsets of its address, of its length and of its
-    /// extended field. It is out of line, since most tables have all the blocks.
+    /// The registers that any table gives, each block by the offsets of its address, of its length and of
+    /// its extended field. It is out of line, since most tables have all the blocks.
     #[inline(never)]
     fn read_short(table: &[u8]) -> Registers
         requires { 116 ≤ length table.now }
@@ -209,7 +212,7 @@ impl Registers {
         }
     }
 
-    /// The same of a table that is known to have all the blocks: none is tested for it.
+    /// The registers of a table that is known to have all the blocks: none is tested for it.
     #[inline(always)]
     fn read_there(table: &[u8]) -> Registers
         requires long { 244 ≤ length table.now }

@@ -1,4 +1,4 @@
-//! Why an image can't be written.
+//! The checks of an image that is to be written.
 ghost use Rattle.std.specs.Prelude.{◌≡◌, ◌^◌, ◌<◌, ◌∷◌, nat_lt, length};
 ghost use Rattle.std.specs.List.{list_all};
 ghost use Rattle.acpi_image.specs.WriteChecks as checks;
@@ -13,7 +13,7 @@ use acpi_base::bytes::{field, is_text};
 use acpi_base::{AddressRange, Signature};
 use std::alloc::Allocator;
 
-/// Whether bytes are a table but for their sum.
+/// Whether bytes are a table, whatever their sum is.
 #[tactic(auto, unfolding(crate::specs::WriteChecks::is_table))]
 fn is_table(bytes: &[u8]) -> bool
     ensures { result ≡ checks.is_table bytes.now }
@@ -27,7 +27,7 @@ fn is_table(bytes: &[u8]) -> bool
 
 /// Tests the bytes of each table.
 ///
-/// Refuses with `BadTable` for the first that is none.
+/// Refuses with `BadTable` for the first whose bytes are not a table.
 fn check_tables(tables: &[PlacedTable<'_>]) -> Result<(), WriteError>
     ensures { result ≡ checks.check_tables 0 (placed tables.now) }
 {
@@ -90,7 +90,7 @@ pub(super) fn root_length(revision: u8, count: usize) -> usize
 
 /// Tests what is to be written.
 ///
-/// Refuses as `write_image` does, lack of memory aside.
+/// Refuses as `write_image` does, but for `OutOfMemory`.
 #[tactic(auto, unfolding(crate::specs::WriteChecks::check_plan))]
 pub(super) fn check_plan<A: Allocator + Clone>(
     alloc: A,

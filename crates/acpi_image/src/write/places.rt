@@ -1,4 +1,4 @@
-//! Where the records of a written image are to lie.
+//! The places that the records of a written image are to lie at.
 ghost use Rattle.std.specs.Prelude.{◌≡◌, ◌^◌, ◌<◌, ◌∷◌, ◌++◌, [], true, false, nat_lt, length, IfOk, OnOk};
 ghost use Rattle.std.specs.List.{list_all};
 ghost use Rattle.acpi_base.specs.Memory.{Memory, end_of};
@@ -15,7 +15,7 @@ use acpi_image_reader::start_index::{add_start, last_up_to};
 use std::alloc::{AllocError, Allocator};
 use std::collections::BTreeMap;
 
-/// Where a table is to lie.
+/// The range of physical memory that a table is to lie in.
 pub fn range_of(table: &PlacedTable<'_>) -> AddressRange
     ensures address { result.address ≡ table.now.address }
     ensures length { result.length ≡ length table.now.bytes.now }
@@ -72,7 +72,7 @@ fn shares_with_listed<A: Allocator>(starts: &BTreeMap<u64, u64, A>, place: Addre
 
 /// Lists a place by its start, which shares no byte with those that are listed.
 ///
-/// Refuses if there is no memory for it.
+/// Refuses if memory for it is refused.
 fn add_place<A: Allocator + Clone>(
     starts: &mut BTreeMap<u64, u64, A>,
     place: AddressRange,
@@ -87,10 +87,10 @@ fn add_place<A: Allocator + Clone>(
     Ok(())
 }
 
-/// Whether a table shares a byte with one before it, or with a place that is listed. Up to there it
-/// lists the tables too.
+/// Whether a table shares a byte with one before it, or with a place that is listed. Up to the first such
+/// table it lists the tables too.
 ///
-/// Refuses if there is no memory for one.
+/// Refuses if memory for one is refused.
 fn tables_share<A: Allocator + Clone>(
     starts: &mut BTreeMap<u64, u64, A>,
     tables: &[PlacedTable<'_>],
@@ -111,7 +111,7 @@ fn tables_share<A: Allocator + Clone>(
 
 /// Whether some byte lies in two of the places, by a list of their starts.
 ///
-/// Refuses if there is no memory for the list.
+/// Refuses if memory for the list is refused.
 fn some_share_by_starts<A: Allocator + Clone>(
     alloc: A,
     rsdp: AddressRange,
@@ -132,7 +132,7 @@ fn some_share_by_starts<A: Allocator + Clone>(
     tables_share(&mut starts, tables)
 }
 
-/// The same by pairs: it takes longer, and no memory.
+/// Whether some byte lies in two of the places, pair by pair: it takes longer, and no memory.
 fn some_share_by_pairs(rsdp: AddressRange, root: AddressRange, tables: &[PlacedTable<'_>]) -> bool
     ensures { result ≡ checks.some_share
         (region_in rsdp ∷ region_in root ∷ places_of tables.now) }
@@ -155,7 +155,7 @@ fn all_fit(tables: &[PlacedTable<'_>]) -> bool
     true
 }
 
-/// Tests where the records are to lie.
+/// Tests the places that the records are to lie at.
 ///
 /// Refuses, in this order, with `EndTooLarge` and `Overlap`.
 #[tactic(auto, unfolding(crate::specs::WriteChecks::check_places))]

@@ -1,4 +1,4 @@
-//! The records of a written image, put into a file one after the other.
+//! The records of a written image, which are put into a file one after the other.
 ghost use Rattle.std.specs.Prelude.{◌≡◌, ◌^◌, ◌<◌, ◌≤◌, ◌++◌, length, flat_map, IfErr, OnOk};
 ghost use Rattle.std.specs.List.{All};
 ghost use Rattle.acpi.specs.Root.{kind_of_revision, signature_of, width_of};
@@ -59,7 +59,7 @@ fn rsdp_to(revision: u8, root: u64) -> [u8; 36]
 
 /// Puts bytes after those of a file.
 ///
-/// Refuses with `OutOfMemory` where there is none for them.
+/// Refuses with `OutOfMemory` if memory for them is refused.
 fn put<A: Allocator>(file: &mut Vec<u8, A>, bytes: &[u8]) -> Result<(), WriteError>
     ensures put { OnOk result (file.new.items ≡ file.old.items ++ bytes.now) }
     ensures refused { IfErr result (λ e. e ≡ OutOfMemory) }
@@ -86,7 +86,7 @@ fn put_number<A: Allocator>(
     put(file, &number.to_le_bytes()[..width])
 }
 
-/// Puts what a record begins with: its start, and how many bytes it has.
+/// Puts the start and the length that a record begins with.
 ///
 /// Refuses with `OutOfMemory`.
 fn put_head<A: Allocator>(file: &mut Vec<u8, A>, start: u64, count: usize) -> Result<(), WriteError>
@@ -98,10 +98,10 @@ fn put_head<A: Allocator>(file: &mut Vec<u8, A>, start: u64, count: usize) -> Re
     put_number(file, count as u64, 8)
 }
 
-/// Puts the record of an RSDP, which leads to a root table at an address: an RSDT for revision 0,
-/// otherwise an XSDT.
+/// Puts the record of an RSDP at a physical address (section 5.2.5.3), which leads to the root table at
+/// `root`: an RSDT for revision 0, otherwise an XSDT.
 ///
-/// Refuses with `OutOfMemory`.
+/// Refuses with `OutOfMemory` if memory for it is refused.
 pub fn put_rsdp<A: Allocator>(
     file: &mut Vec<u8, A>,
     address: u64,
@@ -171,10 +171,10 @@ fn put_table_of_pointers<A: Allocator>(
     Ok(())
 }
 
-/// Puts the record of the root table that lists these tables: an RSDT for revision 0, otherwise an
-/// XSDT.
+/// Puts the record of the root table at a physical address that lists these tables: an RSDT (section 5.2.7)
+/// for revision 0, otherwise an XSDT (section 5.2.8).
 ///
-/// Refuses with `OutOfMemory`.
+/// Refuses with `OutOfMemory` if memory for it is refused.
 pub fn put_root_table<A: Allocator>(
     file: &mut Vec<u8, A>,
     address: u64,
@@ -191,9 +191,9 @@ pub fn put_root_table<A: Allocator>(
     put_table_of_pointers(file, revision, tables)
 }
 
-/// Puts the record of bytes at an address, as they are.
+/// Puts the record of bytes at a physical address, as they are.
 ///
-/// Refuses with `OutOfMemory`.
+/// Refuses with `OutOfMemory` if memory for it is refused.
 pub fn put_region<A: Allocator>(
     file: &mut Vec<u8, A>,
     address: u64,

@@ -1,4 +1,4 @@
-//! Which domain each range of memory is in.
+//! The proximity domain of each range of memory (section 5.2.16.2).
 ghost use Rattle.std.specs.Prelude.{◌≡◌, List, [], IfOk, IsOk, length};
 ghost use Rattle.acpi_numa.specs.Affinities.{affinities_count, domain_at, ends_below, lies_in, ranges_of};
 ghost use Rattle.acpi_numa.specs.declared.srat.affinities.MemoryRange.{MemoryRange};
@@ -12,23 +12,25 @@ use acpi_base::managed_slice::ManagedSlice;
 use std::alloc::{AllocError, Allocator, Global};
 use std::marker::Model;
 
-/// A range of memory, and the domain that it is in.
+/// A range of memory, and the proximity domain that it is in: an enabled Memory Affinity Structure that has
+/// bytes (section 5.2.16.2).
 #[derive(Clone, Copy, Debug, PartialEq, Eq)]
 pub struct MemoryRange {
-    /// The domain.
+    /// Proximity Domain: the domain of the range.
     pub domain: u32,
-    /// The physical address of the first byte.
+    /// Base Address: the physical address of the range's first byte.
     pub base: u64,
-    /// How many bytes there are: at least one.
+    /// Length: how many bytes the range has, at least one in the ranges of `MemoryAffinities`.
     pub length: u64,
-    /// Whether it can be plugged in while the machine runs.
+    /// Hot Pluggable (bit 1 of the flags): whether the memory can be plugged in while the machine runs.
     pub is_hot_pluggable: bool,
-    /// Whether it is non-volatile.
+    /// NonVolatile (bit 2 of the flags): whether the memory is non-volatile.
     pub is_non_volatile: bool,
 }
 
 impl MemoryRange {
-    /// Whether an address lies in the range.
+    /// Whether a physical address lies in the range: at its base or above, and below base + length as a
+    /// whole number.
     pub fn holds(&self, address: u64) -> bool
         ensures { result ≡ lies_in address self.now }
     {
@@ -43,13 +45,13 @@ impl MemoryRange {
     }
 }
 
-/// The ranges of memory that a SRAT puts into domains.
+/// The ranges of memory that a SRAT puts into proximity domains (section 5.2.16.2).
 #[derive(Drop)]
 pub struct MemoryAffinities<A: Allocator> {
     ranges: ManagedSlice<MemoryRange, A>,
 }
 
-/// In contracts it is the list of its ranges.
+/// In contracts a `MemoryAffinities` is the list of its ranges.
 impl<A: Allocator> Model for MemoryAffinities<A> {
     ghost Value = { List MemoryRange };
 
@@ -63,7 +65,13 @@ impl MemoryAffinities<Global> {
     ghost use Rattle.acpi_numa.specs.Affinities.{AffinitiesAsk, found_affinities, srat_kind};
     ghost use Rattle.acpi_numa.specs.Answers.{AnswersOrFull, joined};
 
-    /// `new_in` over the global allocator.
+    /// The ranges of the first valid SRAT, in the order of the table, in memory of the global allocator:
+    /// those of its enabled Memory Affinity Structures that have at least one byte (section 5.2.16.2).
+    ///
+    /// Refuses, in this order, with `Acpi(TableMissing)` if no valid SRAT is listed; with
+    /// `InvalidEntryLength` if the entries end before the table does, since half a map is no map; with
+    /// `InvalidMemoryRange` if the base and the length of one add up to more than 2^64 - 1; and with
+    /// `Acpi(AllocError)` if memory is refused, and that only if there is a range.
     pub fn new<H: Lender>(alloc: Global, tables: &AcpiTables<'_, H>) -> NumaResult<Self>
         requires { AllowsBelow tables.now (λ m. lookup_ranges m srat_kind) }
         ensures exact { AnswersOrFull (of_tables tables.now AffinitiesAsk)
@@ -87,13 +95,13 @@ impl<A: Allocator> MemoryAffinities<A> {
     ghost use Rattle.acpi_numa.specs.Affinities.{affinities_of, found_affinities, srat_kind};
     ghost use Rattle.acpi_numa.specs.Answers.{AnswersOrFull, joined};
 
-    /// The ranges of the first valid SRAT, in the order of the table: those of its enabled entries of
-    /// memory that have at least one byte (section 5.2.16.2).
+    /// The ranges of the first valid SRAT, in the order of the table, in memory of an allocator: those of
+    /// its enabled Memory Affinity Structures that have at least one byte (section 5.2.16.2).
     ///
     /// Refuses, in this order, with `Acpi(TableMissing)` if no valid SRAT is listed; with
     /// `InvalidEntryLength` if the entries end before the table does, since half a map is no map; with
-    /// `InvalidMemoryRange` if one of these ranges ends above 2^64 - 1; and with `Acpi(AllocError)` if
-    /// a growth is refused. Memory is asked for only if there is a range.
+    /// `InvalidMemoryRange` if the base and the length of one add up to more than 2^64 - 1; and with
+    /// `Acpi(AllocError)` if memory is refused, and that only if there is a range.
     pub fn new_in<H: Lender>(tables: &AcpiTables<'_, H>, allocator: A) -> NumaResult<Self>
         requires { AllowsBelow tables.now (λ m. lookup_ranges m srat_kind) }
         ensures exact { AnswersOrFull (of_tables tables.now AffinitiesAsk)
@@ -108,7 +116,7 @@ impl<A: Allocator> MemoryAffinities<A> {
         MemoryAffinities::new_in_exact(tables, allocator)
     }
 
-    /// What `new_in` answers: the first valid SRAT is looked up and read.
+    /// What `new_in` answers: it looks the first valid SRAT up, and reads it.
     fn new_in_exact<H: Lender>(tables: &AcpiTables<'_, H>, allocator: A) -> NumaResult<Self>
         requires { AllowsBelow tables.now (λ m. lookup_ranges m srat_kind) }
         ensures { AnswersOrFull (of_tables tables.now AffinitiesAsk)
@@ -118,8 +126,13 @@ impl<A: Allocator> MemoryAffinities<A> {
         MemoryAffinities::over(srat.bytes(), allocator)
     }
 
-    /// The ranges in a SRAT's bytes, from the table's first byte on, as `new_in` has them. It knows no
-    /// memory and no handler.
+    /// The ranges in a SRAT's bytes, from the table's first byte on, in memory of an allocator: those of
+    /// its enabled Memory Affinity Structures that have at least one byte (section 5.2.16.2). It needs no
+    /// handler.
+    ///
+    /// Refuses, in this order, with `InvalidEntryLength` if the entries end before the table does; with
+    /// `InvalidMemoryRange` if the base and the length of one add up to more than 2^64 - 1; and with
+    /// `Acpi(AllocError)` if memory is refused, and that only if there is a range.
     pub fn over(table: &[u8], allocator: A) -> NumaResult<Self>
         ensures { AnswersOrFull (SomeRange (affinities_of table.now)) result (affinities_of table.now) }
     {
@@ -130,15 +143,15 @@ impl<A: Allocator> MemoryAffinities<A> {
         })
     }
 
-    /// The ranges, in the order of the table. They may overlap.
+    /// The ranges (section 5.2.16.2), in the order of the table. They may overlap.
     pub fn ranges(&self) -> &[MemoryRange]
         ensures { result.now ≡ self.now }
     {
         self.ranges.as_slice()
     }
 
-    /// The domain of the memory at an address: that of the first range that holds it, or `None` if none
-    /// does.
+    /// Proximity Domain of the memory at a physical address (section 5.2.16.2): that of the first range in
+    /// which the address lies, or `None` if it lies in none.
     pub fn domain_of(&self, address: u64) -> Option<u32>
         ensures value { result ≡ domain_at self.now address }
         // It is that of the first range in which the address lies.
@@ -147,7 +160,7 @@ impl<A: Allocator> MemoryAffinities<A> {
         self.domain_of_exact(address)
     }
 
-    /// What `domain_of` answers: the ranges are searched in order.
+    /// What `domain_of` answers: it searches the ranges in order.
     fn domain_of_exact(&self, address: u64) -> Option<u32>
         ensures { result ≡ domain_at self.now address }
     {

@@ -1,10 +1,10 @@
-//! The domains of processors.
+//! The proximity domains of processors (sections 5.2.16.1, 5.2.16.3 and 5.2.16.4).
 
 use super::Srat;
 use super::walk::SratEntryIter;
 use acpi_base::{Lender, PhysicalMapping};
 
-/// The domains in a SRAT's bytes. It knows no memory and no handler.
+/// The proximity domains in a SRAT's bytes (section 5.2.16). It needs no handler.
 #[derive(Clone, Copy, Debug)]
 pub struct Domains<'a> {
     table: &'a [u8],
@@ -16,15 +16,15 @@ impl<'a> Domains<'a> {
     ghost use Rattle.acpi_numa.specs.Srat.{srat_bytes};
     ghost use Rattle.acpi_numa.specs.SratWalk.{entries_left, has_ended, rest_left};
 
-    /// The domains in a table's bytes, from the table's first byte on. In fewer than 50 bytes there is
-    /// no entry.
+    /// The proximity domains in a SRAT's bytes (section 5.2.16), from the table's first byte on. In fewer
+    /// than 50 bytes there is no entry.
     pub fn over(table: &'a [u8]) -> Self
         ensures { srat_bytes result ≡ table.now }
     {
         Domains { table }
     }
 
-    /// The table's entries, in order.
+    /// The entries of the SRAT, of types 0 to 6, in order (section 5.2.16).
     pub fn entries(&self) -> SratEntryIter<'a>
         ensures items { entries_left result ≡ entries_of (srat_bytes self.now) }
         ensures rest { rest_left result ≡ (cut_of (srat_bytes self.now)).1 }
@@ -34,9 +34,9 @@ impl<'a> Domains<'a> {
         SratEntryIter::over(self.table)
     }
 
-    /// The domain of the processor whose local APIC or x2APIC has this id: that of the last enabled
-    /// entry of kind 0 or 2 with this id (sections 5.2.16.1 and 5.2.16.3), or `None` if there is none.
-    /// Entries after a malformed one are not looked at.
+    /// Proximity Domain of the processor whose local APIC or x2APIC has this id: that of the last enabled
+    /// entry of type 0 or 2 with this id (sections 5.2.16.1 and 5.2.16.3), or `None` if there is none.
+    /// Entries after a malformed one don't count.
     pub fn domain_of_apic(&self, apic_id: u32) -> Option<u32>
         ensures { result ≡ domain_of_apic (srat_bytes self.now) apic_id }
     {
@@ -50,9 +50,9 @@ impl<'a> Domains<'a> {
         found
     }
 
-    /// The domain of the processor of this uid, which has an interface to the GIC: that of the last
-    /// enabled entry of kind 3 with this uid (section 5.2.16.4), or `None` if there is none. Entries
-    /// after a malformed one are not looked at.
+    /// Proximity Domain of the processor with this ACPI Processor UID, which has an interface to the GIC:
+    /// that of the last enabled GICC Affinity Structure, type 3, with this UID (section 5.2.16.4), or `None`
+    /// if there is none. Entries after a malformed one don't count.
     pub fn domain_of_processor(&self, uid: u32) -> Option<u32>
         ensures { result ≡ domain_of_processor (srat_bytes self.now) uid }
     {
@@ -67,7 +67,7 @@ impl<'a> Domains<'a> {
     }
 }
 
-/// The calls of `Domains`, over a mapping of a SRAT.
+/// The functions of `Domains`, as methods of a mapping of a SRAT (section 5.2.16).
 pub trait SratCalls {
     ghost use Rattle.std.specs.Prelude.{◌≡◌, ◌-◌, ◌≤◌, ℕ, List, length, false};
     ghost use Rattle.acpi_numa.specs.Srat.{cut_of, domain_of_apic, domain_of_processor, entries_of};
@@ -77,22 +77,24 @@ pub trait SratCalls {
     // The table's bytes.
     ghost table: { Self → List ℕ };
 
-    /// The domains in the table's bytes.
+    /// The proximity domains in this SRAT's bytes (section 5.2.16).
     fn domains(&self) -> Domains<'_>
         ensures { srat_bytes result ≡ table self.now };
 
-    /// As `Domains::entries`.
+    /// The entries of this SRAT, of types 0 to 6, in order (section 5.2.16).
     fn entries(&self) -> SratEntryIter<'_>
         ensures items { entries_left result ≡ entries_of (table self.now) }
         ensures rest { rest_left result ≡ (cut_of (table self.now)).1 }
         ensures begun { has_ended result ≡ false }
         ensures few { length (entries_left result) ≤ length (table self.now) - 48 };
 
-    /// As `Domains::domain_of_apic`.
+    /// Proximity Domain of the processor whose local APIC or x2APIC has this id, or `None` if the table
+    /// doesn't give it, as `Domains::domain_of_apic` says (sections 5.2.16.1 and 5.2.16.3).
     fn domain_of_apic(&self, apic_id: u32) -> Option<u32>
         ensures { result ≡ domain_of_apic (table self.now) apic_id };
 
-    /// As `Domains::domain_of_processor`.
+    /// Proximity Domain of the processor with this ACPI Processor UID, or `None` if the table doesn't give
+    /// it, as `Domains::domain_of_processor` says (section 5.2.16.4).
     fn domain_of_processor(&self, uid: u32) -> Option<u32>
         ensures { result ≡ domain_of_processor (table self.now) uid };
 }

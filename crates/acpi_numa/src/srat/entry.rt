@@ -1,4 +1,4 @@
-//! One entry of the SRAT.
+//! One entry of a SRAT (section 5.2.16).
 ghost use Rattle.std.specs.Prelude.{◌≡◌};
 ghost use Rattle.acpi_numa.specs.Srat.{given_by};
 
@@ -10,26 +10,31 @@ use super::kinds::{
 use acpi_base::bytes::has_bit;
 use acpi_base::entries::{EntryLayout, Grammar, Place, Width};
 
-/// An entry of a kind that is defined, with its fields (section 5.2.16).
+/// An entry of a SRAT, of types 0 to 6, with its fields (section 5.2.16).
 #[derive(Clone, Copy, Debug)]
 pub enum SratEntry {
-    /// Kind 0: a processor, by the id of its local APIC.
+    /// Processor Local APIC/SAPIC Affinity Structure, type 0 (section 5.2.16.1): a processor, by the id of
+    /// its local APIC.
     LocalApic(LocalApicAffinity),
-    /// Kind 1: a range of memory.
+    /// Memory Affinity Structure, type 1 (section 5.2.16.2): a range of memory.
     Memory(MemoryAffinity),
-    /// Kind 2: a processor, by the id of its local x2APIC.
+    /// Processor Local x2APIC Affinity Structure, type 2 (section 5.2.16.3): a processor, by the id of its
+    /// local x2APIC.
     LocalX2Apic(LocalX2ApicAffinity),
-    /// Kind 3: a processor with an interface to the GIC, by its uid.
+    /// GICC Affinity Structure, type 3 (section 5.2.16.4): a processor with an interface to the GIC, by its
+    /// ACPI Processor UID.
     Gicc(GiccAffinity),
-    /// Kind 4: an interrupt translation service.
+    /// GIC Interrupt Translation Service (ITS) Affinity Structure, type 4 (section 5.2.16.5).
     GicIts(GicItsAffinity),
-    /// Kind 5: a device that reads and writes memory by itself.
+    /// Generic Initiator Affinity Structure, type 5 (section 5.2.16.6): a device that reads and writes
+    /// memory by itself.
     GenericInitiator(GenericAffinity),
-    /// Kind 6: a port that such devices come to.
+    /// Generic Port Affinity Structure, type 6 (section 5.2.16): a port that devices are attached to.
     GenericPort(GenericAffinity),
 }
 
-/// How the table's bytes are cut into entries: the kind and the length have one byte each.
+/// How the bytes of a SRAT are cut into entries (section 5.2.16): Type and Length have one byte each, types
+/// 0 to 6 have at least 16, 40, 24, 18, 12, 32 and 32 bytes, and others at least 2.
 pub const SRAT_GRAMMAR: Grammar<7> = Grammar {
     layout: EntryLayout {
         kind_place: Place {
@@ -53,7 +58,7 @@ impl SratEntry {
     ghost use Rattle.acpi_numa.specs.Srat.{srat_layout};
     ghost use Rattle.acpi_numa.specs.Affinities.{range_in};
 
-    /// What an entry of a table of a revision says, or `None` if its kind is reserved or the maker's.
+    /// The entry that bytes mean in a table of a revision, or `None` if its type isn't one of 0 to 6.
     pub(super) fn read(revision: u8, entry: &[u8]) -> Option<SratEntry>
         requires { IsEntry srat_layout entry.now }
         ensures { result ≡ entry_of revision entry.now }
@@ -70,7 +75,8 @@ impl SratEntry {
         }
     }
 
-    /// Whether the entry counts (bit 0 of its flags), or `None` if it is an ITS's, which has no flags.
+    /// Enabled (bit 0 of the flags): whether the entry counts, or `None` for a GIC ITS Affinity Structure,
+    /// which has no flags (section 5.2.16).
     pub fn is_enabled(&self) -> Option<bool>
         ensures { result ≡ is_enabled self.now }
     {

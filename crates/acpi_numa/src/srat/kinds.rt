@@ -1,6 +1,6 @@
-//! The kinds of entries, each with its fields.
+//! The entries of a SRAT by their types, each with its fields (section 5.2.16).
 //!
-//! The domain of the first two kinds has four bytes since revision 2 of the table: in tables of revision
+//! The domain of types 0 and 1 has four bytes since revision 2 of the table: in tables of revision
 //! 0 and 1 it is its lowest byte alone, and the others are reserved. Bit 0 of the flags says whether an
 //! entry counts: `SratEntry::is_enabled` tells it.
 ghost use Rattle.std.specs.Prelude.{◌≡◌, ◌≤◌, length};
@@ -9,23 +9,25 @@ ghost use Rattle.acpi_numa.specs.SratEntries as entries;
 
 use acpi_base::bytes::{field_in, filled_in, has_bit};
 
-/// The domain of a processor with a local APIC (section 5.2.16.1).
+/// Processor Local APIC/SAPIC Affinity Structure: the domain of a processor with a local APIC (section
+/// 5.2.16.1).
 #[derive(Clone, Copy, Debug)]
 pub struct LocalApicAffinity {
-    /// The domain.
+    /// Proximity Domain: the domain of the processor. In tables of revision 0 and 1 it is its lowest byte
+    /// alone.
     pub domain: u32,
-    /// The id of the local APIC.
+    /// APIC ID: the id of the local APIC.
     pub apic_id: u8,
-    /// Bit 0: the entry counts.
+    /// Flags: bit 0 Enabled, the entry counts.
     pub flags: u32,
-    /// The extended id of a local SAPIC.
+    /// Local SAPIC EID: the extended id of a local SAPIC.
     pub sapic_eid: u8,
-    /// The clock domain.
+    /// Clock Domain: the clock domain of the processor.
     pub clock_domain: u32,
 }
 
 impl LocalApicAffinity {
-    /// What an entry's bytes mean in a table of a revision.
+    /// The entry that bytes mean in a table of a revision.
     pub(super) fn read(revision: u8, bytes: &[u8]) -> Self
         requires { 16 ≤ length bytes.now }
         ensures { result ≡ entries.local_apic_affinity_at revision bytes.now }
@@ -46,22 +48,22 @@ impl LocalApicAffinity {
     }
 }
 
-/// The domain of a range of memory (section 5.2.16.2).
+/// Memory Affinity Structure: the domain of a range of memory (section 5.2.16.2).
 #[derive(Clone, Copy, Debug)]
 pub struct MemoryAffinity {
-    /// The domain.
+    /// Proximity Domain: the domain of the range. In tables of revision 0 and 1 it is its lowest byte alone.
     pub domain: u32,
-    /// The physical address of the range's first byte.
+    /// Base Address: the physical address of the range's first byte.
     pub base: u64,
-    /// How many bytes the range has.
+    /// Length: how many bytes the range has; it can be 0.
     pub length: u64,
-    /// Bit 0: the entry counts. Bit 1: the memory can be plugged in while the machine runs. Bit 2: it
-    /// is non-volatile.
+    /// Flags: bit 0 Enabled, the entry counts. Bit 1 Hot Pluggable, the memory can be plugged in while the
+    /// machine runs. Bit 2 NonVolatile, the memory is non-volatile.
     pub flags: u32,
 }
 
 impl MemoryAffinity {
-    /// What an entry's bytes mean in a table of a revision.
+    /// The entry that bytes mean in a table of a revision.
     pub(super) fn read(revision: u8, bytes: &[u8]) -> Self
         requires { 40 ≤ length bytes.now }
         ensures { result ≡ entries.memory_affinity_at revision bytes.now }
@@ -75,14 +77,15 @@ impl MemoryAffinity {
         }
     }
 
-    /// Whether the memory can be plugged in while the machine runs (bit 1 of the flags).
+    /// Hot Pluggable (bit 1 of the flags, section 5.2.16.2): whether the memory can be plugged in while the
+    /// machine runs.
     pub fn is_hot_pluggable(&self) -> bool
         ensures { result ≡ has_bit self.now.flags 1 }
     {
         has_bit(self.flags as u64, 1) // Hot Pluggable
     }
 
-    /// Whether the memory is non-volatile (bit 2 of the flags).
+    /// NonVolatile (bit 2 of the flags, section 5.2.16.2): whether the memory is non-volatile.
     pub fn is_non_volatile(&self) -> bool
         ensures { result ≡ has_bit self.now.flags 2 }
     {
@@ -90,21 +93,22 @@ impl MemoryAffinity {
     }
 }
 
-/// The domain of a processor with a local x2APIC (section 5.2.16.3).
+/// Processor Local x2APIC Affinity Structure: the domain of a processor with a local x2APIC (section
+/// 5.2.16.3).
 #[derive(Clone, Copy, Debug)]
 pub struct LocalX2ApicAffinity {
-    /// The domain.
+    /// Proximity Domain: the domain of the processor.
     pub domain: u32,
-    /// The id of the local x2APIC.
+    /// X2APIC ID: the id of the local x2APIC.
     pub x2apic_id: u32,
-    /// Bit 0: the entry counts.
+    /// Flags: bit 0 Enabled, the entry counts.
     pub flags: u32,
-    /// The clock domain.
+    /// Clock Domain: the clock domain of the processor.
     pub clock_domain: u32,
 }
 
 impl LocalX2ApicAffinity {
-    /// What an entry's bytes mean.
+    /// The entry that bytes mean.
     pub(super) fn read(bytes: &[u8]) -> Self
         requires { 24 ≤ length bytes.now }
         ensures { result ≡ entries.local_x2apic_affinity_at bytes.now }
@@ -118,22 +122,22 @@ impl LocalX2ApicAffinity {
     }
 }
 
-/// The domain of a processor with an interface to the generic interrupt controller (GIC; section
-/// 5.2.16.4).
+/// GICC Affinity Structure: the domain of a processor with an interface to the Generic Interrupt Controller
+/// (GIC; section 5.2.16.4).
 #[derive(Clone, Copy, Debug)]
 pub struct GiccAffinity {
-    /// The domain.
+    /// Proximity Domain: the domain of the processor.
     pub domain: u32,
-    /// The processor's ACPI id: the `_UID` of its object in the namespace.
+    /// ACPI Processor UID: the `_UID` of the processor's object in the namespace.
     pub processor_uid: u32,
-    /// Bit 0: the entry counts.
+    /// Flags: bit 0 Enabled, the entry counts.
     pub flags: u32,
-    /// The clock domain.
+    /// Clock Domain: the clock domain of the processor.
     pub clock_domain: u32,
 }
 
 impl GiccAffinity {
-    /// What an entry's bytes mean.
+    /// The entry that bytes mean.
     pub(super) fn read(bytes: &[u8]) -> Self
         requires { 18 ≤ length bytes.now }
         ensures { result ≡ entries.gicc_affinity_at bytes.now }
@@ -147,17 +151,18 @@ impl GiccAffinity {
     }
 }
 
-/// The domain of an interrupt translation service of the GIC (ITS; section 5.2.16.5). It has no flags.
+/// GIC Interrupt Translation Service (ITS) Affinity Structure: the domain of such a service (section
+/// 5.2.16.5). It has no flags.
 #[derive(Clone, Copy, Debug)]
 pub struct GicItsAffinity {
-    /// The domain.
+    /// Proximity Domain: the domain of the service.
     pub domain: u32,
-    /// The id of the service.
+    /// ITS ID: the id of the service.
     pub its_id: u32,
 }
 
 impl GicItsAffinity {
-    /// What an entry's bytes mean.
+    /// The entry that bytes mean.
     pub(super) fn read(bytes: &[u8]) -> Self
         requires { 12 ≤ length bytes.now }
         ensures { result ≡ entries.gic_its_affinity_at bytes.now }
@@ -169,22 +174,25 @@ impl GicItsAffinity {
     }
 }
 
-/// The domain of a device that reads and writes memory by itself (section 5.2.16.6), or of a port that
-/// such devices come to.
+/// Generic Initiator Affinity Structure: the domain of a device that reads and writes memory by itself
+/// (section 5.2.16.6). A Generic Port Affinity Structure has the same fields: it gives the domain of a port
+/// that devices are attached to.
 #[derive(Clone, Copy, Debug)]
 pub struct GenericAffinity {
-    /// What the handle is. 0: it names the device in the namespace. 1: it is its PCI address.
+    /// Device Handle Type: the form of the handle. 0: it names the device in the namespace. 1: it is the
+    /// device's PCI address. Others are reserved, and kept as they are.
     pub handle_type: u8,
-    /// The domain.
+    /// Proximity Domain: the domain of the device or the port.
     pub domain: u32,
-    /// The device's handle.
+    /// Device Handle: 16 bytes that name the device, as Device Handle Type says.
     pub device_handle: [u8; 16],
-    /// Bit 0: the entry counts. Bit 1: the device has architectural transactions.
+    /// Flags: bit 0 Enabled, the entry counts. Bit 1 Architectural Transactions, all transactions of the
+    /// device are architectural ones.
     pub flags: u32,
 }
 
 impl GenericAffinity {
-    /// What an entry's bytes mean.
+    /// The entry that bytes mean.
     pub(super) fn read(bytes: &[u8]) -> Self
         requires { 32 ≤ length bytes.now }
         ensures { result ≡ entries.generic_affinity_at bytes.now }
@@ -197,7 +205,8 @@ impl GenericAffinity {
         }
     }
 
-    /// Whether all transactions of the device are architectural ones (bit 1 of the flags).
+    /// Architectural Transactions (bit 1 of the flags, section 5.2.16.6): whether all transactions of the
+    /// device are architectural ones.
     pub fn has_architectural_transactions(&self) -> bool
         ensures { result ≡ has_bit self.now.flags 1 }
     {

@@ -6,9 +6,10 @@ use acpi_base::PhysicalRecord;
 use acpi_base::bytes::{field, skip};
 use acpi_base::entries::split_front;
 
-/// The entries of the kinds that are defined, in order. Entries of other kinds are skipped by their
-/// length. It ends at the table's end, or where no entry begins: where one byte is left, or the
-/// length is under 2, under the least of its kind, or past the end.
+/// The entries of a SRAT, of types 0 to 6, in order (section 5.2.16). Entries of other types are skipped by
+/// their length. It ends at the table's end, or where no entry begins: if one byte is left, or if the
+/// length is under 2, under the least of its type (16, 40, 24, 18, 12, 32 and 32 for types 0 to 6), or past
+/// the table's end.
 #[derive(Debug, Drop)]
 pub struct SratEntryIter<'a> {
     rest: &'a [u8],
@@ -21,8 +22,7 @@ impl<'a> SratEntryIter<'a> {
     ghost use Rattle.acpi_numa.specs.Srat.{cut_of, entries_of};
     ghost use Rattle.acpi_numa.specs.SratWalk.{entries_left, has_ended, is_malformed, rest_left};
 
-    /// The entries of a SRAT's bytes: those after its 48 fixed ones. It knows no memory and no
-    /// handler.
+    /// The entries of a SRAT's bytes (section 5.2.16): those after its 48 fixed bytes. It needs no handler.
     #[tactic(auto, using(crate::proofs::SratCounts::entries_few))]
     pub fn over(table: &'a [u8]) -> Self
         ensures items { entries_left result ≡ entries_of table.now }
@@ -37,8 +37,8 @@ impl<'a> SratEntryIter<'a> {
         }
     }
 
-    /// Whether `next` has answered `None` where no entry began, and not at the table's end. Before
-    /// that answer it is false.
+    /// Whether `next` has answered `None` before the table's end, where no entry begins (section 5.2.16).
+    /// As long as `next` hasn't answered `None` it is false.
     pub fn ended_malformed(&self) -> bool
         ensures { result ≡ is_malformed self.now }
     {

@@ -1,4 +1,4 @@
-//! What a line is made of, and how a line of it is written.
+//! The pieces of a line, and how a line of them is written.
 //!
 //! Each line goes through one function, so that text and numbers are formatted in one place.
 ghost use Rattle.std.specs.Prelude.{OnOk, map};
@@ -24,7 +24,7 @@ pub enum Piece<'t> {
     Address(&'t str, u64),
     /// A text, and the name of a table.
     Name(&'t str, Signature),
-    /// A text, and why something is refused.
+    /// A text, and a refusal, as it prints.
     Refusal(&'t str, AcpiError),
     /// ` NAME N`, or ` NAME none`.
     Setting(&'t str, Option<u32>),
@@ -48,6 +48,8 @@ fn write_piece<W: Write>(piece: Piece<'_>, out: &mut W) -> io::Result<()>
 }
 
 /// Writes these pieces in order, and a newline.
+///
+/// Refuses with the refusal of the first write that is refused.
 #[tactic(auto, using(crate::proofs::Writing::still_all, crate::proofs::Writing::still_less, crate::proofs::Writing::still_last))]
 pub fn write_line<W: Write>(pieces: &[Piece<'_>], out: &mut W) -> io::Result<()>
     ensures { OnOk result (Appends (W.contents out.old) (W.contents out.new)

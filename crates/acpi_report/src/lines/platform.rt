@@ -23,7 +23,10 @@ use std::alloc::Allocator;
 use std::io;
 use std::io::Write;
 
-/// Prints what the platform has, or the one line that says why that is refused.
+/// Prints the lines of the platform, as the FADT and the MADT describe it, or the one line of its refusal.
+/// Memory for it is an allocator's.
+///
+/// Refuses with the refusal of the first write that is refused.
 #[tactic(auto, using(crate::proofs::Writing::said_or_full))]
 pub fn print_platform<H: AcpiHandler, A: Allocator + Clone, W: Write>(
     alloc: A,
@@ -37,7 +40,7 @@ pub fn print_platform<H: AcpiHandler, A: Allocator + Clone, W: Write>(
     print_found(tables.platform_info_in(alloc), out)
 }
 
-/// The lines of the platform that is found, or why it is refused.
+/// Prints the lines of the platform that is found, or its refusal.
 fn print_found<A: Allocator, W: Write>(
     found: AcpiResult<PlatformInfo<A>>,
     out: &mut W,
@@ -51,7 +54,7 @@ fn print_found<A: Allocator, W: Write>(
     }
 }
 
-/// The lines of the profile, of the interrupt model, of the processors and of the timer.
+/// Prints the lines of the profile, of the interrupt model, of the processors and of the timer.
 #[tactic(auto, using(crate::proofs::Writing::then_more))]
 fn print_info<A: Allocator, W: Write>(platform: &PlatformInfo<A>, out: &mut W) -> io::Result<()>
     ensures { OnOk result (Appends (W.contents out.old) (W.contents out.new)
@@ -63,7 +66,7 @@ fn print_info<A: Allocator, W: Write>(platform: &PlatformInfo<A>, out: &mut W) -
     print_timer(platform.pm_timer, out)
 }
 
-/// `platform profile N`.
+/// Prints `platform profile N`.
 #[tactic(auto, unfolding(crate::specs::PlatformLines::profile_line))]
 fn print_profile<W: Write>(profile: PowerProfile, out: &mut W) -> io::Result<()>
     ensures { OnOk result (Appends (W.contents out.old) (W.contents out.new)
@@ -73,7 +76,7 @@ fn print_profile<W: Write>(profile: PowerProfile, out: &mut W) -> io::Result<()>
     write_line(&[Piece::Number("platform profile ", number)], out)
 }
 
-/// The number that a FADT has for a profile.
+/// The code of Preferred_PM_Profile that stands for a profile.
 fn profile_number(profile: PowerProfile) -> u8
     ensures value { result ≡ profile_number profile }
     // A profile is read from no other number.
@@ -93,7 +96,7 @@ fn profile_number(profile: PowerProfile) -> u8
     }
 }
 
-/// `model unknown`, or the lines of the APICs.
+/// Prints `model unknown`, or the lines of the APICs.
 fn print_model<A: Allocator, W: Write>(model: &InterruptModel<A>, out: &mut W) -> io::Result<()>
     ensures { OnOk result (Appends (W.contents out.old) (W.contents out.new)
         (model_lines model.now)) }
@@ -104,7 +107,7 @@ fn print_model<A: Allocator, W: Write>(model: &InterruptModel<A>, out: &mut W) -
     }
 }
 
-/// The line of the local APICs, then the lines of each list.
+/// Prints the line of the local APICs, then the lines of each list.
 #[tactic(auto, using(crate::proofs::Writing::then_more))]
 fn print_apic<A: Allocator, W: Write>(apic: &Apic<A>, out: &mut W) -> io::Result<()>
     ensures { OnOk result (Appends (W.contents out.old) (W.contents out.new)
@@ -117,7 +120,7 @@ fn print_apic<A: Allocator, W: Write>(apic: &Apic<A>, out: &mut W) -> io::Result
     print_each(apic.local_apic_nmi_lines.as_slice(), out)
 }
 
-/// `model apic ADDRESS pics yes|no`.
+/// Prints `model apic ADDRESS pics yes|no`.
 #[tactic(auto, unfolding(crate::specs::PlatformLines::apic_line))]
 fn print_local_apic<A: Allocator, W: Write>(apic: &Apic<A>, out: &mut W) -> io::Result<()>
     ensures { OnOk result (Appends (W.contents out.old) (W.contents out.new)
@@ -130,7 +133,7 @@ fn print_local_apic<A: Allocator, W: Write>(apic: &Apic<A>, out: &mut W) -> io::
     write_line(&pieces, out)
 }
 
-/// `ioapic ID ADDRESS BASE`.
+/// Prints `ioapic ID ADDRESS BASE`.
 impl Line for IoApic {
     ghost line = { io_apic_line };
 
@@ -144,7 +147,7 @@ impl Line for IoApic {
     }
 }
 
-/// `override SOURCE GSI POLARITY TRIGGER`.
+/// Prints `override SOURCE GSI POLARITY TRIGGER`.
 impl Line for InterruptSourceOverride {
     ghost line = { override_line };
 
@@ -159,7 +162,7 @@ impl Line for InterruptSourceOverride {
     }
 }
 
-/// `nmi GSI POLARITY TRIGGER`.
+/// Prints `nmi GSI POLARITY TRIGGER`.
 impl Line for NmiSource {
     ghost line = { nmi_source_line };
 
@@ -173,7 +176,7 @@ impl Line for NmiSource {
     }
 }
 
-/// `bus`, `high` or `low`.
+/// The word of a polarity: `bus`, `high` or `low`.
 fn polarity_word(polarity: Polarity) -> &'static str
     ensures { result.now ≡ polarity_word polarity }
 {
@@ -184,7 +187,7 @@ fn polarity_word(polarity: Polarity) -> &'static str
     }
 }
 
-/// `bus`, `edge` or `level`.
+/// The word of a trigger mode: `bus`, `edge` or `level`.
 fn trigger_word(trigger: TriggerMode) -> &'static str
     ensures { result.now ≡ trigger_word trigger }
 {
@@ -195,7 +198,7 @@ fn trigger_word(trigger: TriggerMode) -> &'static str
     }
 }
 
-/// `line all|UID lint0|lint1`.
+/// Prints `line all|UID lint0|lint1`.
 impl Line for NmiLine {
     ghost line = { nmi_input_line };
 
@@ -208,7 +211,7 @@ impl Line for NmiLine {
     }
 }
 
-/// `lint0` or `lint1`.
+/// The word of a LINT pin: `lint0` or `lint1`.
 fn input_word(input: LocalInterruptLine) -> &'static str
     ensures { result.now ≡ input_word input }
 {
@@ -218,7 +221,7 @@ fn input_word(input: LocalInterruptLine) -> &'static str
     }
 }
 
-/// The line of each processor, the boot processor's first.
+/// Prints the line of each processor, the boot processor's first.
 #[tactic(auto, using(crate::proofs::Writing::then_more))]
 fn print_processors<A: Allocator, W: Write>(
     listed: &Option<ProcessorInfo<A>>,
@@ -234,7 +237,7 @@ fn print_processors<A: Allocator, W: Write>(
     print_each(info.application_processors.as_slice(), out)
 }
 
-/// `processor UID ID running|waiting|disabled`.
+/// Prints `processor UID ID running|waiting|disabled`.
 impl Line for Processor {
     ghost line = { processor_line };
 
@@ -248,7 +251,7 @@ impl Line for Processor {
     }
 }
 
-/// `disabled`, `waiting` or `running`.
+/// The word of a processor's state: `disabled`, `waiting` or `running`.
 fn state_word(state: ProcessorState) -> &'static str
     ensures { result.now ≡ state_word state }
 {
@@ -259,7 +262,7 @@ fn state_word(state: ProcessorState) -> &'static str
     }
 }
 
-/// `timer none`, or `timer ADDRESS bits 24|32`.
+/// Prints `timer none`, or `timer ADDRESS bits 24|32`.
 fn print_timer<W: Write>(timer: Option<PmTimer>, out: &mut W) -> io::Result<()>
     ensures { OnOk result (Appends (W.contents out.old) (W.contents out.new)
         (timer_line timer)) }

@@ -1,27 +1,33 @@
-//! The questions of rows, and what a program answers.
+//! The questions of rows, and the answers of a program.
 
 use super::{Row, Rows};
 use std::alloc::{AllocError, Global};
 use std::fmt::{Debug, Display};
 use std::io;
 
-/// What a program answers about rows.
+/// The answers of a program to questions about rows.
 pub trait Answers {
     /// The answer to a question about a row. It is empty if there is no such question.
+    ///
+    /// Refuses if memory for it is refused.
     fn answer(&self, alloc: Global, row: &Row, question: &str) -> Result<String, AllocError>;
 }
 
-/// The text of a value as it is debugged.
+/// The text that `Debug` prints of a value.
+///
+/// Refuses if memory for it is refused.
 pub fn shown<T: Debug>(alloc: Global, value: &T) -> Result<String, AllocError> {
     format!(in alloc; "{value:?}")
 }
 
-/// The text of a value as it is printed.
+/// The text that `Display` prints of a value.
+///
+/// Refuses if memory for it is refused.
 pub fn printed<T: Display>(alloc: Global, value: &T) -> Result<String, AllocError> {
     format!(in alloc; "{value}")
 }
 
-/// The value of a name.
+/// The value of the first of these names that is this one, or `None` if none is.
 pub fn named<T: Copy>(values: &[(&str, T)], name: &str) -> Option<T> {
     for (other, value) in values {
         if *other == name {
@@ -35,6 +41,8 @@ pub fn named<T: Copy>(values: &[(&str, T)], name: &str) -> Option<T> {
 ///
 /// Prints each question with another answer than the row has, each line that is not understood,
 /// and at last how many questions there were.
+///
+/// Refuses if reading or a write is refused, or memory runs out.
 pub fn ask_rows<A: Answers>(rt: &HostRuntime, answers: &A) -> io::Result<()> {
     let text = io::read_to_string(rt.alloc(), rt.reader())?;
     let mut rows = Rows::new(rt.alloc());
@@ -59,7 +67,8 @@ fn ask_lines<A: Answers>(
     Ok(count)
 }
 
-/// Asks what a line asks about a row, and prints what is wrong.
+/// Asks the question of a line about a row, and prints the line if it is not understood, or the answer is
+/// another one.
 fn ask<A: Answers>(rt: &HostRuntime, answers: &A, row: &Row, line: &str) -> io::Result<()> {
     let Some((question, wanted)) = line.split_once(": ") else {
         return complain(rt, row, line, "not understood");
@@ -71,7 +80,7 @@ fn ask<A: Answers>(rt: &HostRuntime, answers: &A, row: &Row, line: &str) -> io::
     complain(rt, row, line, answer.as_str())
 }
 
-/// Prints a line of a row, and what it is in fact.
+/// Prints a line of a row, and the answer in fact.
 fn complain(rt: &HostRuntime, row: &Row, line: &str, fact: &str) -> io::Result<()> {
     let name = row.name.as_str();
     println!(rt; "{name}: {line}, but it is {fact}")

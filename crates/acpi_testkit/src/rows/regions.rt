@@ -3,12 +3,14 @@
 /// Bytes that lie together, from an address on.
 #[derive(Drop)]
 pub struct Region {
+    /// The physical address of the first byte; 0 for a table by itself.
     pub address: u64,
+    /// The bytes.
     pub bytes: Vec<u8>,
 }
 
 impl Region {
-    /// Puts what a text encodes, and says whether it encodes bytes that all have a place.
+    /// Puts the bytes that a text encodes, and says whether it encodes bytes and they all have a place.
     pub(crate) fn put(&mut self, offset: usize, text: &str) -> bool {
         if let Some(quoted) = text.strip_prefix('"') {
             let letters = quoted.strip_suffix('"').unwrap_or(quoted);
@@ -30,7 +32,7 @@ impl Region {
         true
     }
 
-    /// Puts letters where there is room for all of them.
+    /// Puts letters, as far as they have a place, and says whether they all have one.
     fn put_letters(&mut self, offset: usize, letters: &[u8]) -> bool {
         let mut are_put = true;
         for (i, letter) in letters.iter().enumerate() {
@@ -42,7 +44,7 @@ impl Region {
         are_put
     }
 
-    /// Puts the bytes of hexadecimal digits where there is room for all of them.
+    /// Puts the bytes of hexadecimal digits if they all have a place, and says whether they are digits and do.
     fn put_digits(&mut self, offset: usize, digits: &str) -> bool {
         let end = offset.saturating_add(digits.len() / 2);
         end <= self.bytes.len()

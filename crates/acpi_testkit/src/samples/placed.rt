@@ -3,16 +3,19 @@
 use super::put_head;
 use std::alloc::AllocError;
 
-/// What lies around each table in its record: so many bytes before it and after it, all the same.
+/// The bytes around each table in its record: so many before it and after it, all the same.
 #[derive(Clone, Copy)]
 pub struct Margins {
+    /// How many bytes lie before the table.
     pub before: usize,
+    /// How many bytes lie after the table.
     pub behind: usize,
+    /// The value of each of them.
     pub byte: u8,
 }
 
 impl Margins {
-    /// Records that hold their table and nothing else.
+    /// No bytes around a table: its record has its bytes and nothing else.
     pub const NONE: Margins = Margins {
         before: 0,
         behind: 0,
@@ -20,7 +23,9 @@ impl Margins {
     };
 }
 
-/// Adds a record of a table at an address.
+/// Adds a record of a table at a physical address to a file, with bytes around it.
+///
+/// Refuses if memory for it is refused.
 pub fn add_record(
     file: &mut Vec<u8>,
     address: u64,

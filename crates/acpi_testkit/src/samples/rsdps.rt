@@ -3,7 +3,7 @@ ghost use Rattle.std.specs.Prelude.{◌+◌, ◌≤◌, length};
 
 use super::{put, put_graphic, put_head, put_table, seal, seal_table};
 
-/// Writes an RSDP of version 1 that leads to the RSDT at 0x1000.
+/// Writes an RSDP of version 1, revision 0, that leads to the RSDT at 0x1000.
 pub fn put_rsdp(file: &mut [u8], offset: usize)
     requires { offset + 20 ≤ length file.old }
 {
@@ -43,7 +43,8 @@ pub fn put_roots(file: &mut [u8], offset: usize)
     put_graphic(file, offset + 132);
 }
 
-/// An RSDP of version 1 at 0x600, one of version 2 at 0x700, and what they lead to.
+/// A file of memory: an RSDP of version 1 at 0x600, one of version 2 at 0x700, and the root tables and the boot
+/// graphic that they lead to.
 pub fn two_roots() -> [u8; 296] {
     let mut file = [0; 296];
     put_head(&mut file, 0, 0x600, 36);

@@ -1,4 +1,4 @@
-//! The root table by a search for the RSDP in areas that a caller gives.
+//! Opening the root table by a search for the RSDP in areas that a caller gives.
 ghost use Rattle.std.specs.Prelude.{IfOk};
 ghost use Rattle.acpi_base.specs.Steps.{Gives};
 ghost use Rattle.acpi_base.specs.Ranges.{Allows};
@@ -14,10 +14,11 @@ impl<'h, H: Lender> AcpiTables<'h, H> {
     ghost use Rattle.acpi.specs.Opened.{opened_of};
     ghost use Rattle.acpi.specs.Tables.{SpellsPointers, lender_of};
 
-    /// The tables below the root table that the RSDP leads to which `Rsdp::search_in` finds in these
-    /// areas (section 5.2.5.1). No later candidate is tried if the root table is bad.
+    /// The tables below the root table of the RSDP that `Rsdp::search_in` finds in these areas (section
+    /// 5.2.5.1): the RSDT if the RSDP's revision or XSDT address is 0, else the XSDT. No later candidate
+    /// is tried if the root table is bad.
     ///
-    /// Refuses first as that search does, with `NoValidRsdp`, and then as `from_rsdt`.
+    /// Refuses first as that search does, with `NoValidRsdp`, and then as `from_rsdt` does.
     pub fn search_in(handler: &'h H, areas: &[AddressRange]) -> AcpiResult<Self>
         requires { Allows (H.may handler.now)
             (opened_in_areas_ranges (H.memory handler.now) areas.now) }
@@ -34,7 +35,7 @@ impl<'h, H: Lender> AcpiTables<'h, H> {
         AcpiTables::search_in_exact(handler, areas)
     }
 
-    /// What `search_in` answers: the RSDP is searched for, and the root table opened.
+    /// What `search_in` answers: it searches for the RSDP, and opens the root table.
     fn search_in_exact(handler: &'h H, areas: &[AddressRange]) -> AcpiResult<Self>
         requires { Allows (H.may handler.now)
             (opened_in_areas_ranges (H.memory handler.now) areas.now) }

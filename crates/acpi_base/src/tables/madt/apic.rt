@@ -1,4 +1,4 @@
-//! Entries of the APIC model.
+//! Entries of the APIC model (ACPI 6.4, sections 5.2.12.2 to 5.2.12.8, 5.2.12.12 and 5.2.12.13).
 
 use super::entry::EntryHeader;
 use crate::bytes::field_in;

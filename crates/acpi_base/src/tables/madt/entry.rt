@@ -1,4 +1,4 @@
-//! One entry of the MADT.
+//! One entry of a MADT (section 5.2.12).
 
 use super::apic::{
     InterruptSourceOverrideEntry, IoApicEntry, LocalApicAddressOverrideEntry, LocalApicEntry,
@@ -14,12 +14,12 @@ use crate::bytes::field_in;
 use crate::entries::{EntryLayout, Grammar, Place, Width};
 use crate::memory::handler::PhysicalRecord;
 
-/// What each entry begins with (section 5.2.12).
+/// Type and Length: the two bytes that each entry of a MADT begins with (section 5.2.12).
 #[derive(Clone, Copy, Debug)]
 pub struct EntryHeader {
-    /// Its type.
+    /// Type: the entry's type.
     pub entry_type: u8,
-    /// How many bytes it has, with these two.
+    /// Length: how many bytes the entry has, with these two.
     pub length: u8,
 }
 
@@ -41,42 +41,42 @@ impl PhysicalRecord for EntryHeader {
     }
 }
 
-/// An entry of a type that is defined, with its fields (section 5.2.12).
+/// An entry of a MADT, of types 0 to 0x10, with its fields (section 5.2.12).
 #[derive(Clone, Copy, Debug)]
 pub enum MadtEntry {
-    /// Type 0x00.
+    /// Processor Local APIC, type 0x00 (section 5.2.12.2).
     LocalApic(LocalApicEntry),
-    /// Type 0x01.
+    /// I/O APIC, type 0x01 (section 5.2.12.3).
     IoApic(IoApicEntry),
-    /// Type 0x02.
+    /// Interrupt Source Override, type 0x02 (section 5.2.12.5).
     InterruptSourceOverride(InterruptSourceOverrideEntry),
-    /// Type 0x03.
+    /// NMI Source, type 0x03 (section 5.2.12.6).
     NmiSource(NmiSourceEntry),
-    /// Type 0x04.
+    /// Local APIC NMI, type 0x04 (section 5.2.12.7).
     LocalApicNmi(LocalApicNmiEntry),
-    /// Type 0x05.
+    /// Local APIC Address Override, type 0x05 (section 5.2.12.8).
     LocalApicAddressOverride(LocalApicAddressOverrideEntry),
-    /// Type 0x06.
+    /// I/O SAPIC, type 0x06 (section 5.2.12.9).
     IoSapic(IoSapicEntry),
-    /// Type 0x07.
+    /// Local SAPIC, type 0x07 (section 5.2.12.10).
     LocalSapic(LocalSapicEntry),
-    /// Type 0x08.
+    /// Platform Interrupt Source, type 0x08 (section 5.2.12.11).
     PlatformInterruptSource(PlatformInterruptSourceEntry),
-    /// Type 0x09.
+    /// Processor Local x2APIC, type 0x09 (section 5.2.12.12).
     LocalX2Apic(LocalX2ApicEntry),
-    /// Type 0x0a.
+    /// Local x2APIC NMI, type 0x0a (section 5.2.12.13).
     X2ApicNmi(X2ApicNmiEntry),
-    /// Type 0x0b.
+    /// GIC CPU Interface (GICC), type 0x0b (section 5.2.12.14).
     Gicc(GiccEntry),
-    /// Type 0x0c.
+    /// GIC Distributor (GICD), type 0x0c (section 5.2.12.15).
     Gicd(GicdEntry),
-    /// Type 0x0d.
+    /// GIC MSI Frame, type 0x0d (section 5.2.12.16).
     GicMsiFrame(GicMsiFrameEntry),
-    /// Type 0x0e.
+    /// GIC Redistributor (GICR), type 0x0e (section 5.2.12.17).
     GicRedistributor(GicRedistributorEntry),
-    /// Type 0x0f.
+    /// GIC Interrupt Translation Service (ITS), type 0x0f (section 5.2.12.18).
     GicInterruptTranslationService(GicInterruptTranslationServiceEntry),
-    /// Type 0x10.
+    /// Multiprocessor Wakeup, type 0x10 (section 5.2.12.19).
     MultiprocessorWakeup(MultiprocessorWakeupEntry),
 }
 
@@ -123,7 +123,7 @@ impl MadtEntry {
     ghost use Rattle.acpi_base.specs.Entries.{IsEntry};
     ghost use Rattle.acpi_base.specs.Madt.{entry_of, madt_layout};
 
-    /// What an entry says, or `None` where its type is reserved or the maker's.
+    /// The entry that bytes mean, or `None` if its type isn't one of 0 to 0x10.
     #[inline(always)]
     pub(crate) fn read(entry: &[u8]) -> Option<MadtEntry>
         requires { IsEntry madt_layout entry.now }

@@ -1,4 +1,4 @@
-//! Entries of the GIC model.
+//! Entries of the GIC model (ACPI 6.4, sections 5.2.12.14 to 5.2.12.18).
 
 use super::entry::EntryHeader;
 use crate::bytes::{field, field_in};
@@ -17,7 +17,8 @@ pub struct GiccEntry {
     /// ACPI Processor UID: the `_UID` of the processor's object in the namespace.
     pub processor_uid: u32,
     /// Flags: bit 0 Enabled, the processor can be used. Bit 1 Performance Interrupt Mode and bit 2 VGIC
-    /// Maintenance Interrupt Mode: if set, that interrupt is edge-triggered.
+    /// Maintenance Interrupt Mode: if set, that interrupt is edge-triggered. Bit 3 Online Capable, since
+    /// ACPI 6.5: a processor that isn't enabled can be enabled later.
     pub flags: u32,
     /// Parking Protocol Version: 0 if the processor has none.
     pub parking_protocol_version: u32,
@@ -42,7 +43,7 @@ pub struct GiccEntry {
     pub processor_power_efficiency_class: u8,
     /// SPE overflow Interrupt: that of the statistical profiling extension. 0: there is none.
     pub spe_overflow_interrupt: u16,
-    /// The interrupt of the trace buffer, for the MADT's revision 6 and above.
+    /// TRBE Interrupt: that of the trace buffer, for the MADT's revision 6 and above. 0: there is none.
     pub trbe_interrupt: ExtendedField<u16, 6>,
 }
 

@@ -1,4 +1,4 @@
-//! Entries of the SAPIC model.
+//! Entries of the SAPIC model (ACPI 6.4, sections 5.2.12.9 to 5.2.12.11).
 
 use super::entry::EntryHeader;
 use crate::bytes::field_in;

@@ -1,17 +1,18 @@
-//! The entry and the mailbox by which the processors of a virtual machine are woken.
+//! The Multiprocessor Wakeup entry and its mailbox, by which processors are woken (section 5.2.12.19).
 
 use super::entry::EntryHeader;
 use crate::bytes::field_in;
 use crate::memory::handler::PhysicalRecord;
 
-/// Where the firmware takes the command that wakes a processor (section 5.2.12.19).
+/// Multiprocessor Wakeup: the mailbox by which the firmware is asked to wake a processor (section
+/// 5.2.12.19).
 #[derive(Clone, Copy, Debug)]
 pub struct MultiprocessorWakeupEntry {
-    /// Its type and its length.
+    /// Type and Length: the entry's type, and its length in bytes.
     pub header: EntryHeader,
-    /// The version of the mailbox.
+    /// MailBoxVersion: that of the mailbox.
     pub mailbox_version: u16,
-    /// The physical address of the mailbox.
+    /// MailBoxAddress: the physical address of the mailbox.
     pub mailbox_address: u64,
 }
 
@@ -33,16 +34,16 @@ impl PhysicalRecord for MultiprocessorWakeupEntry {
     }
 }
 
-/// A command in the mailbox (section 5.2.12.19).
+/// Command: what the firmware is asked to do by the Multiprocessor Wakeup Mailbox (section 5.2.12.19).
 #[derive(Clone, Copy, Debug, PartialEq, Eq)]
 pub enum MpProtectedModeWakeupCommand {
-    /// Nothing is asked for: the firmware is ready for a command.
+    /// Noop, 0: nothing is asked for, and the firmware is ready for a command.
     Noop = 0,
-    /// Wake the processor, at the vector.
+    /// Wakeup, 1: wake the processor, which begins to run at WakeupVector.
     Wakeup = 1,
-    /// Put it to sleep.
+    /// Sleep, 2: put the processor to sleep.
     Sleep = 2,
-    /// Accept pages of memory.
+    /// AcceptPages, 3: accept pages of memory.
     AcceptPages = 3,
 }
 
@@ -54,7 +55,9 @@ impl TryFrom<u16> for MpProtectedModeWakeupCommand {
 
     ghost try_from_gives = { λ number r. r ≡ command_of number };
 
-    /// The command of a number. Hands back a number that no command has.
+    /// The command of a number, from 0 to 3 (section 5.2.12.19).
+    ///
+    /// Refuses every other number, with that number.
     fn try_from(number: u16) -> Result<MpProtectedModeWakeupCommand, u16> {
         match number {
             0 => Ok(MpProtectedModeWakeupCommand::Noop),
@@ -66,15 +69,16 @@ impl TryFrom<u16> for MpProtectedModeWakeupCommand {
     }
 }
 
-/// The mailbox's fields (section 5.2.12.19). No call reads or writes one.
+/// The fields of the Multiprocessor Wakeup Mailbox (section 5.2.12.19). No function of this crate reads or
+/// writes one.
 #[derive(Clone, Copy)]
 pub struct MultiprocessorWakeupMailbox {
-    /// The command, by its number.
+    /// Command: what the firmware is asked to do, by its number.
     pub command: u16,
-    /// The local APIC id of the processor that the command is for.
+    /// ApicId: the id of the local APIC of the processor that the command is for.
     pub apic_id: u32,
-    /// The physical address that it begins to run at.
+    /// WakeupVector: the physical address that the processor begins to run at.
     pub wakeup_vector: u64,
-    /// What the operating system may use.
+    /// ReservedForOs: bytes that the operating system may use.
     pub reserved_for_os: [u64; 254],
 }

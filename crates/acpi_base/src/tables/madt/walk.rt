@@ -1,4 +1,4 @@
-//! The entries of a MADT, one at a time.
+//! The entries of a MADT, one at a time (section 5.2.12).
 
 use super::Madt;
 use super::entry::{MADT_GRAMMAR, MadtEntry};
@@ -6,9 +6,9 @@ use crate::bytes::skip;
 use crate::entries::split_front;
 use crate::memory::handler::PhysicalRecord;
 
-/// The entries of the types that are defined, in order. Entries of other types are skipped by their
-/// length. It ends at the table's end, or where no entry begins: where one byte is left, or the
-/// length is under 2, under the least of its type, or past the end.
+/// The entries of a MADT, of types 0 to 0x10, in order (section 5.2.12). Entries of other types are skipped
+/// by their length. It ends at the table's end, or where no entry begins: if one byte is left, or if the
+/// length is under 2, under the least of its type, or past the table's end.
 #[derive(Debug, Drop)]
 pub struct MadtEntryIter<'a> {
     rest: &'a [u8],
@@ -20,8 +20,7 @@ impl<'a> MadtEntryIter<'a> {
     ghost use Rattle.acpi_base.specs.Madt.{cut_of, entries_of};
     ghost use Rattle.acpi_base.specs.MadtWalk.{entries_left, has_ended, is_malformed, rest_left};
 
-    /// The entries of a MADT's bytes: those after its 44 fixed ones. It knows no memory and no
-    /// handler.
+    /// The entries of a MADT's bytes (section 5.2.12): those after its 44 fixed bytes. It needs no handler.
     #[tactic(auto, using(crate::proofs::EntryCounts::entries_few, crate::proofs::EntryCounts::cut_of_few))]
     pub fn over(table: &'a [u8]) -> Self
         ensures items { entries_left result ≡ entries_of table.now }
@@ -37,8 +36,8 @@ impl<'a> MadtEntryIter<'a> {
         }
     }
 
-    /// Whether `next` has answered `None` where no entry began, and not at the table's end. Before
-    /// that answer it is false.
+    /// Whether `next` has answered `None` before the table's end, where no entry begins (section 5.2.12).
+    /// As long as `next` hasn't answered `None` it is false.
     pub fn ended_malformed(&self) -> bool
         ensures { result ≡ is_malformed self.now }
     {

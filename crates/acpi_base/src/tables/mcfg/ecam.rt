@@ -1,4 +1,4 @@
-//! Where the configuration space of a region's functions lies, counted from bus 0.
+//! The addresses of the configuration space of a region's functions, by the base of bus 0.
 ghost use Rattle.std.specs.Prelude.{◌≡◌};
 
 use super::McfgEntry;
@@ -7,8 +7,8 @@ use crate::range::AddressRange;
 impl McfgEntry {
     ghost use Rattle.acpi_base.specs.Ecam.{ecam_in, ecam_range};
 
-    /// The physical address of the configuration space of a function of this region, with its base
-    /// taken as that of bus 0 (PCI Firmware Specification, section 4.1.2): the base, 2^20 bytes for each
+    /// The physical address of the configuration space of a PCI function of this region, with its base
+    /// taken as that of bus 0 (PCI Firmware Specification, section 4.1.2): the base, plus 2^20 bytes for each
     /// bus, 2^15 for each device and 2^12 for each function.
     ///
     /// It is `None` if the region doesn't hold the bus, if the device is above 31 or the function
@@ -26,11 +26,11 @@ impl McfgEntry {
         self.base_address.checked_add(offset)
     }
 
-    /// The memory that this region's configuration space takes, with its base taken as that of bus 0:
-    /// 2^20 bytes for each bus from the first to the last, from the base and 2^20 bytes for each bus
-    /// before the first one on.
+    /// The range of physical memory that this region's configuration space takes, with its base taken as
+    /// that of bus 0 (PCI Firmware Specification, section 4.1.2). It begins at the base plus 2^20 bytes for
+    /// each bus before the first one, and has 2^20 bytes for each bus from the first to the last.
     ///
-    /// It is `None` if the last bus is below the first, and if it ends at 2^64 or above. Some
+    /// It is `None` if the last bus is below the first, and if the range ends at 2^64 or above. Some
     /// addresses in it may then be answered all the same by `ecam_address`.
     pub fn ecam_range(&self) -> Option<AddressRange>
         ensures { result ≡ ecam_range self.now }

@@ -1,26 +1,26 @@
-//! Sets of flags in the SPCR. Their calls are those of the crate `bitflags`.
+//! Sets of flags in the SPCR. Their functions are those of the crate `bitflags`.
 ghost use Rattle.std.specs.Prelude.{⊤, [], ◌∷◌, codes};
 
 use bitflags::{Flag, Flags};
 
-/// Which controllers a serial port's interrupt comes to.
+/// Interrupt Type: the controllers that a serial port's interrupt comes to, as a set of flags of the SPCR.
 #[derive(Clone, Copy, Debug)]
 pub struct SpcrInterruptType(u8);
 
 impl SpcrInterruptType {
-    /// The pair of 8259 controllers.
+    /// Bit 0: the pair of 8259 controllers.
     pub const DUAL_8259: SpcrInterruptType = SpcrInterruptType(1);
 
-    /// An I/O APIC, by a global system interrupt.
+    /// Bit 1: an I/O APIC, by a global system interrupt.
     pub const IO_APIC: SpcrInterruptType = SpcrInterruptType(1 << 1);
 
-    /// An I/O SAPIC, by a global system interrupt.
+    /// Bit 2: an I/O SAPIC, by a global system interrupt.
     pub const IO_SAPIC: SpcrInterruptType = SpcrInterruptType(1 << 2);
 
-    /// Arm's GIC, by a global system interrupt.
+    /// Bit 3: Arm's GIC, by a global system interrupt.
     pub const ARMH_GIC: SpcrInterruptType = SpcrInterruptType(1 << 3);
 
-    /// RISC-V's PLIC or APLIC, by a global system interrupt.
+    /// Bit 4: RISC-V's PLIC or APLIC, by a global system interrupt.
     pub const RISCV_PLIC: SpcrInterruptType = SpcrInterruptType(1 << 4);
 
     const FLAGS: &'static [Flag<SpcrInterruptType>] = &[
@@ -69,21 +69,21 @@ impl Flags for SpcrInterruptType {
     }
 }
 
-/// Which terminals the firmware spoke to.
+/// Terminal Type: the terminals that the firmware spoke to, as a set of flags of the SPCR.
 #[derive(Clone, Copy, Debug)]
 pub struct SpcrTerminalType(u8);
 
 impl SpcrTerminalType {
-    /// VT100.
+    /// Bit 0: VT100.
     pub const VT1000: SpcrTerminalType = SpcrTerminalType(1);
 
-    /// Extended VT100, or VT100+.
+    /// Bit 1: extended VT100, or VT100+.
     pub const EXTENDED_VT1000: SpcrTerminalType = SpcrTerminalType(1 << 1);
 
-    /// VT-UTF8.
+    /// Bit 2: VT-UTF8.
     pub const VT_UTF8: SpcrTerminalType = SpcrTerminalType(1 << 2);
 
-    /// ANSI.
+    /// Bit 3: ANSI.
     pub const ANSI: SpcrTerminalType = SpcrTerminalType(1 << 3);
 
     const FLAGS: &'static [Flag<SpcrTerminalType>] = &[
@@ -128,18 +128,18 @@ impl Flags for SpcrTerminalType {
     }
 }
 
-/// How the flow of bytes is controlled.
+/// Flow Control: the ways in which the flow of bytes is controlled, as a set of flags of the SPCR.
 #[derive(Clone, Copy, Debug)]
 pub struct SpcrFlowControl(u8);
 
 impl SpcrFlowControl {
-    /// Nothing is sent without the carrier detect signal.
+    /// Bit 0, DCD: nothing is sent without the carrier detect signal.
     pub const DCD: SpcrFlowControl = SpcrFlowControl(1);
 
-    /// By the request to send and clear to send signals.
+    /// Bit 1, RTS/CTS: by the request to send and clear to send signals.
     pub const RTS_CTS: SpcrFlowControl = SpcrFlowControl(1 << 1);
 
-    /// By the bytes XON and XOFF.
+    /// Bit 2, XON/XOFF: by the bytes XON and XOFF.
     pub const XON_XOFF: SpcrFlowControl = SpcrFlowControl(1 << 2);
 
     const FLAGS: &'static [Flag<SpcrFlowControl>] = &[

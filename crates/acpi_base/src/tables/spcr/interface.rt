@@ -1,51 +1,51 @@
-//! The interfaces that a serial port's registers have.
+//! Interface Type of the SPCR: the interfaces of a serial port's registers.
 
-/// The interface of a serial port's registers.
+/// Interface Type: the interface of a serial port's registers, by its code in the SPCR.
 #[derive(Clone, Copy, Debug, PartialEq, Eq)]
 pub enum SpcrInterfaceType {
-    /// A full 16550.
+    /// Code 0x00: a full 16550.
     Full16550,
-    /// A full 16450, which must also take writes to the FIFO control register of the 16550.
+    /// Code 0x01: a full 16450, which must also take writes to the FIFO control register of the 16550.
     Full16450,
-    /// MAX311xE, over SPI.
+    /// Code 0x02: MAX311xE, over SPI.
     MAX311xE,
-    /// Arm PL011.
+    /// Code 0x03: Arm PL011.
     ArmPL011,
-    /// MSM8x60, such as 8960.
+    /// Code 0x04: MSM8x60, such as 8960.
     MSM8x60,
-    /// Nvidia's 16550.
+    /// Code 0x05: Nvidia's 16550.
     Nvidia16550,
-    /// TI OMAP.
+    /// Code 0x06: TI OMAP.
     TiOmap,
-    /// APM88xxxx.
+    /// Code 0x08: APM88xxxx.
     APM88xxxx,
-    /// MSM8974.
+    /// Code 0x09: MSM8974.
     Msm8974,
-    /// SAM5250.
+    /// Code 0x0a: SAM5250.
     Sam5250,
-    /// Intel USIF.
+    /// Code 0x0b: Intel USIF.
     IntelUSIF,
-    /// i.MX 6.
+    /// Code 0x0c: i.MX 6.
     Imx6,
-    /// Arm SBSA 2.x, with accesses of 32 bits alone. Deprecated.
+    /// Code 0x0d: Arm SBSA 2.x, with accesses of 32 bits alone. Deprecated.
     ArmSBSAGeneric32bit,
-    /// Arm SBSA.
+    /// Code 0x0e: Arm SBSA.
     ArmSBSAGeneric,
-    /// Arm's debug communications channel.
+    /// Code 0x0f: Arm's debug communications channel.
     ArmDCC,
-    /// BCM2835.
+    /// Code 0x10: BCM2835.
     Bcm2835,
-    /// SDM845 with a clock of 1.8432 MHz.
+    /// Code 0x11: SDM845 with a clock of 1.8432 MHz.
     Sdm845_18432,
-    /// Like a 16550, with the width and the distance of the registers from the generic address.
+    /// Code 0x12: like a 16550, with the width and the distance of the registers from the generic address.
     Generic16550,
-    /// SDM845 with a clock of 7.372 MHz.
+    /// Code 0x13: SDM845 with a clock of 7.372 MHz.
     Sdm845_7372,
-    /// Intel LPSS.
+    /// Code 0x14: Intel LPSS.
     IntelLPSS,
-    /// The console of a RISC-V SBI.
+    /// Code 0x15: the console of a RISC-V SBI.
     RiscVSbi,
-    /// Another code.
+    /// Any other code, which has no meaning here: code 7, and those from 0x16 on.
     Unknown(u8),
 }
 
@@ -55,7 +55,7 @@ impl From<u8> for SpcrInterfaceType {
 
     ghost from_gives = { λ code r. r ≡ interface_of code };
 
-    /// The interface of a code.
+    /// The interface of a code of Interface Type.
     fn from(code: u8) -> SpcrInterfaceType {
         match code {
             0x00 => SpcrInterfaceType::Full16550,

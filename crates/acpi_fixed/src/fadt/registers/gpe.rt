@@ -1,4 +1,4 @@
-//! The blocks of registers of general purpose events, by their length in bytes.
+//! The blocks of registers of general purpose events, by their length in bytes (section 4.8.4.1).
 ghost use Rattle.std.specs.Prelude.{◌≡◌};
 ghost use Rattle.acpi_fixed.specs.Gpe.{block_from, gpe_of};
 
@@ -12,11 +12,11 @@ use acpi_base::bytes::field_in;
 /// bits, its second half the enable bits.
 #[derive(Clone, Copy, Debug)]
 pub struct GpeBlock {
-    /// What `address` counts.
+    /// Address Space ID: the space in which `address` counts.
     pub space: AddressSpace,
-    /// Where the first register lies in that space.
+    /// X_GPE0_BLK, GPE0_BLK, X_GPE1_BLK or GPE1_BLK: the address of the first register in that space.
     pub address: u64,
-    /// How many bytes both halves have: four events for each.
+    /// GPE0_BLK_LEN or GPE1_BLK_LEN: how many bytes both halves have together, one for four events.
     pub byte_length: u8,
 }
 
@@ -60,13 +60,13 @@ impl Fadt {
     ghost use Rattle.acpi_fixed.specs.Gpe.{gpe1_base_of};
     ghost use Rattle.acpi_fixed.specs.Fadt.{registers_of};
 
-    /// The registers of the first general purpose events (section 5.2.9), of any length up to 255
-    /// bytes: the extended address where the table has it and it isn't 0, else the 32-bit one, which
-    /// is a port.
+    /// X_GPE0_BLK or GPE0_BLK with GPE0_BLK_LEN: the registers of the first general purpose events
+    /// (sections 4.8.4.1 and 5.2.9), of any length up to 255 bytes: the extended address if the table has
+    /// it and it isn't 0, else the 32-bit one, which is a port.
     ///
     /// It is `None` if the length is 0, whatever the addresses are, and if both addresses are 0. The
-    /// width and the access size of the extended field aren't looked at. On a machine of reduced
-    /// hardware (`system_is_hw_reduced_acpi`) it means nothing.
+    /// width and the access size of the extended field don't count. On a machine of reduced hardware
+    /// (`flags.system_is_hw_reduced_acpi()`) it means nothing.
     ///
     /// Refuses a reserved address space with `InvalidGenericAddress`.
     pub fn gpe0(&self) -> AcpiResult<Option<GpeBlock>>
@@ -75,8 +75,8 @@ impl Fadt {
         self.registers.gpe0.gpe()
     }
 
-    /// The registers of further general purpose events (section 5.2.9), found as those of `gpe0`.
-    /// `gpe1_base()` says which event is their first.
+    /// X_GPE1_BLK or GPE1_BLK with GPE1_BLK_LEN: the registers of further general purpose events (sections
+    /// 4.8.4.1 and 5.2.9), found as those of `gpe0`. `gpe1_base()` says which event is their first.
     ///
     /// Refuses a reserved address space with `InvalidGenericAddress`.
     pub fn gpe1(&self) -> AcpiResult<Option<GpeBlock>>
@@ -85,7 +85,8 @@ impl Fadt {
         self.registers.gpe1.gpe()
     }
 
-    /// The number of the first event of `gpe1`, or `None` if there is no such block or it is refused.
+    /// GPE1_BASE: the number of the first event of `gpe1`, or `None` if there is no such block or it is
+    /// refused (section 5.2.9).
     pub fn gpe1_base(&self) -> Option<u8>
         ensures { result ≡ gpe1_base_of self.now }
     {
