@@ -96,7 +96,7 @@ module _ (m : Memory) (n start : ℕ) where
       let same : k + 1 + r ≡ k + suc r = omega arith in
       subst (λ (x : ℕ). Allows may (walk_ranges m (n - x) (start + 16 * x))) same (asked_past_all may (k + 1) r next (omega (arith, most)) (next_refused k r refused))
 
-  -- where all are passed over, none is valid
+  -- if all are passed over, none is valid
   pub walked_out : (all : Option (ℕ × List ℕ)) (k : ℕ) → walk m (n - k) (start + 16 * k) ≡ all → n ≤ k → None ≡ all
   walked_out all k so_far over =
       let none : n - k ≡ 0 = omega (arith, over) in rw none at so_far
@@ -209,7 +209,7 @@ found_is_first : (m : Memory) (areas : List AddressRange) → Searched m areas (
 unfolding found_in_areas
 found_is_first m areas = or_refused m areas (found_among m areas) (among m areas)
 
--- so it is of what answers the same
+-- what answers as `found_in_areas` has found the first valid candidate, or there is none
 pub searched_in : {X : Type 0} (m : Memory) (areas : List AddressRange) (view : X → ℕ × List ℕ) (r : Result X AcpiError) → Gives view r (found_in_areas m areas) → IsSearchedIn m areas view r
 searched_in m areas view (Ok x) same = rw same at (found_is_first m areas)
 searched_in m areas view (Err e) same = rw same at (found_is_first m areas)

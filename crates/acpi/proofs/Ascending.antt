@@ -133,7 +133,7 @@ rest_high (r ∷ m) (suc n) a s later h e high =
     let past : end_of r ≤ a = omega (arith, before, high) in
     rw (above_region r a past) (rest_high m n a s later h.1 e high)
 
--- the same of regions that are mapped, cut into those below and those above
+-- regions that are mapped and ascend, cut into those below and those above
 module _ (all low high : List MappedRegion) (n : ℕ) (h : IsAscending (regions_of all)) where
   pub low_ascending : low ≡ take n all → IsAscending (regions_of low)
   low_ascending front =

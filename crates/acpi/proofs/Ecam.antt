@@ -5,7 +5,7 @@ use Rattle.std.proofs.lemmas.Bool.Decides.{nat_tests}
 use Rattle.acpi_base.specs.Ecam.{ecam_in, ecam_place}
 use Rattle.acpi_base.specs.declared.tables.mcfg.McfgEntry.{McfgEntry}
 use Rattle.acpi.specs.Ecam.{IsBeside, ecam_address}
-use Rattle.acpi.specs.Pci.{address_in, pci_address, place_in, region_of}
+use Rattle.acpi.specs.Pci.{function_address, pci_address, place_in, region_of}
 
 -- what an address tells of its function, in a region
 first_told : (e : McfgEntry) (bus d f a : ℕ) → ecam_in bus d f e ≡ Some a → e.bus_number_start ≤ bus
@@ -25,12 +25,12 @@ below : (base s bus d f : ℕ) → s ≤ bus → base + bus * 1048576 + d * 3276
 below base s bus d f h = omega arith
 
 in_region : (e : McfgEntry) (bus d f a : ℕ) → ecam_in bus d f e ≡ Some a
-    → (if nat_lt d 32 && nat_lt f 8 then address_in bus d f e else None) ≡ Some (place_in e bus d f)
+    → (if nat_lt d 32 && nat_lt f 8 then function_address bus d f e else None) ≡ Some (place_in e bus d f)
 in_region e bus d f a h =
     let both = device_told e bus d f a h in
     let less = below e.base_address e.bus_number_start bus d f (first_told e bus d f a h) in
     let small : place_in e bus d f < 2 ^ 64 = omega (arith, small_told e bus d f a h, less) in
-    let first : (if nat_lt d 32 && nat_lt f 8 then address_in bus d f e else None) ≡ address_in bus d f e = rw both refl in
+    let first : (if nat_lt d 32 && nat_lt f 8 then function_address bus d f e else None) ≡ function_address bus d f e = rw both refl in
     grind (arith, nat_tests)
 
 beside_in : (regions : List McfgEntry) (segment bus d f a : ℕ) (o : Option McfgEntry) → region_of regions segment bus ≡ o

@@ -57,7 +57,7 @@ pub lookup_is_first : LookupIsFirst
 lookup_is_first m k ps p table =
     (is_first m k ps p table, λ f. ap (lookup m k) f.listed ∙ looked_up m k f.before f.after p table f.none_before f.valid)
 
--- ---- where none is found
+-- ---- if none is found
 
 cases_missing : (m : Memory) (k : Kind) (p : ℕ) (ps : List ℕ) (e : AcpiError) (r : Result (List ℕ) AcpiError) → table_at m k p ≡ r → or_later (here p) r (lookup m k ps) ≡ Err e → (lookup m k ps ≡ Err e → (e ≡ TableMissing k.signature) × NoneValid m k ps) → (e ≡ TableMissing k.signature) × NoneValid m k (p ∷ ps)
 cases_missing m k p ps e (Ok table) here said more = absurd cc

@@ -114,7 +114,7 @@ found_is_searched : (m : Memory) → Searched m (found_rsdp m)
 unfolding found_rsdp
 found_is_searched m = from_word m _ (is_word m)
 
--- so it is of what answers the same
+-- what answers as `found_rsdp` has found the least valid candidate, or there is none
 pub searched : {X : Type 0} (m : Memory) (view : X → ℕ × List ℕ) (r : Result X AcpiError) → Gives view r (found_rsdp m) → IsSearched m view r
 searched m view (Ok x) same = rw same at (found_is_searched m)
 searched m view (Err e) same = rw same at (found_is_searched m)

@@ -3,7 +3,7 @@ use Rattle.std.proofs.Common.{◌≡◌, ℕ, ◌+◌, ◌-◌, ◌*◌, ◌^◌
 use Rattle.std.specs.Prelude.{find, Option, Some, None, IfSome, if◌then◌else◌, nat_lt, ◌&&◌, option_and_then}
 use Rattle.std.proofs.lemmas.Bool.Decides.{nat_tests}
 use Rattle.acpi_base.specs.declared.tables.mcfg.McfgEntry.{McfgEntry}
-use Rattle.acpi.specs.Pci.{IsApart, address_in, is_of, pci_address, place_in, region_of}
+use Rattle.acpi.specs.Pci.{IsApart, function_address, is_of, pci_address, place_in, region_of}
 
 -- what was found passes the test
 found : {X : Type 0} (p : X → Bool) (xs : List X) (e : X) → find p xs ≡ Some e → p e ≡ true
@@ -30,16 +30,16 @@ function_told p d f a h = grind (arith, nat_tests)
 place_told : (p d f a : ℕ) → (if nat_lt d 32 && nat_lt f 8 then (if nat_lt p (2 ^ 64) then Some p else None) else None) ≡ Some a → p ≡ a
 place_told p d f a h = grind (arith, nat_tests)
 
-none_told : (b : Bool) (o : Option McfgEntry) (bus d f a : ℕ) → o ≡ None → (if b then option_and_then (address_in bus d f) o else None) ≡ Some a → Unit {0} → ⊥
-none_told true o bus d f a e h u = let gone : option_and_then (address_in bus d f) None ≡ Some a = rw e at h in cc
+none_told : (b : Bool) (o : Option McfgEntry) (bus d f a : ℕ) → o ≡ None → (if b then option_and_then (function_address bus d f) o else None) ≡ Some a → Unit {0} → ⊥
+none_told true o bus d f a e h u = let gone : option_and_then (function_address bus d f) None ≡ Some a = rw e at h in cc
 none_told false o bus d f a e h u = cc
 
 low : (e : McfgEntry) (segment bus : ℕ) → is_of segment bus e ≡ true → e.bus_number_start ≤ bus
 low e segment bus h = grind (arith, nat_tests)
 
 near : (o : Option McfgEntry) (regions : List McfgEntry) (segment bus d f a b d' f' a' : ℕ) → find (is_of segment bus) regions ≡ o → find (is_of segment b) regions ≡ o
-    → (if nat_lt d 32 && nat_lt f 8 then option_and_then (address_in bus d f) o else None) ≡ Some a
-    → (if nat_lt d' 32 && nat_lt f' 8 then option_and_then (address_in b d' f') o else None) ≡ Some a'
+    → (if nat_lt d 32 && nat_lt f 8 then option_and_then (function_address bus d f) o else None) ≡ Some a
+    → (if nat_lt d' 32 && nat_lt f' 8 then option_and_then (function_address b d' f') o else None) ≡ Some a'
     → a < a' + 4096 → a' < a + 4096 → (b ≡ bus) × (d' ≡ d) × (f' ≡ f)
 near None regions segment bus d f a b d' f' a' here there one two above below = absurd (none_told (nat_lt d 32 && nat_lt f 8) None bus d f a refl one tt)
 near (Some e) regions segment bus d f a b d' f' a' here there one two above below =

@@ -1,4 +1,4 @@
--- Bytes that hold all checks of an RSDP are a valid RSDP where a memory has them.
+-- Bytes that hold all checks of an RSDP are a valid RSDP if a memory has them.
 use Rattle.std.proofs.Common.{◌≡◌, ℕ, ◌≤◌, List, length, take, lit≤, Option, Some, None, Result, Ok, Err, refl, sym, ◌∙◌}
 use Rattle.std.specs.Prelude.{IfOk, IsOk, nat_le}
 use Rattle.std.proofs.lemmas.Bool.{leb-true}

@@ -108,8 +108,8 @@ OpenedInAreasDependsOn = DependsOn opened_in_areas_ranges opened_in_areas
 
 -- ---- the areas of a BIOS
 
--- the first KiB of the extended BIOS data area, as far as it lies below 0xa0000; none of it where its
--- address isn't given, or lies elsewhere
+-- the first 1 KB of the Extended BIOS Data Area (EBDA), as far as it lies below 0xa0000; none of it if its address
+-- isn't given, or lies elsewhere
 abbrev pub ebda_area : Option ℕ → AddressRange
 ebda_area None = range 0 0
 ebda_area (Some a) =
@@ -117,6 +117,6 @@ ebda_area (Some a) =
     then range a (if nat_le (a + 1024) 0xa0000 then 1024 else 0xa0000 - a)
     else range 0 0
 
--- that, and then the read-only memory of the BIOS
+-- that, and then the BIOS read-only memory space, from 0E0000h to 0FFFFFh
 abbrev pub bios_areas : Option ℕ → List AddressRange
 bios_areas ebda = ebda_area ebda ∷ range 0xe0000 0x20000 ∷ []

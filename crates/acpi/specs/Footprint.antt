@@ -42,7 +42,7 @@ dsdt_ranges m ps = lookup_ranges m fadt_kind ps ++ do
   address ← dsdt_address_of (fadt_at found.1)
   table_ranges m (plain_kind DSDT) address
 
--- those of `platform_of`: the FADT's, and where one is found, the MADT's
+-- those of `platform_of`: the FADT's, and if one is found, the MADT's
 abbrev pub platform_ranges : Memory → List ℕ → Ranges
 platform_ranges m ps = lookup_ranges m fadt_kind ps ++ do
   _ ← lookup m fadt_kind ps

@@ -1,4 +1,5 @@
--- The High Precision Event Timer (signature HPET; ACPI 6.4, section 5.2.6).
+-- The High Precision Event Timer (signature HPET; ACPI 6.4, section 5.2.6). The layout is that of the IA-PC HPET
+-- Specification 1.0a, section 3.2.4.
 use Rattle.std.specs.Prelude.{ℕ, ◌==◌, List, Result, Ok, if◌then◌else◌}
 use Rattle.acpi_base.specs.Bits.{bits_of}
 use Rattle.acpi_base.specs.Bytes.{field_of}
@@ -15,19 +16,19 @@ use Rattle.acpi.specs.declared.hpet.HpetTable.{HpetTable}
 use Rattle.acpi.specs.declared.hpet.PageProtection.{PageProtection}
 use Rattle.acpi.specs.declared.hpet.PageProtection.TheVariants as protections
 
--- what a table's bytes mean; of the generic address from 40 on, the space and the address
+-- what a table's bytes mean; of BASE_ADDRESS, the generic address from 40 on, the space and the address
 unfoldable pub hpet_at : List ℕ → HpetTable
 hpet_at b = record {
   header = header_at b;
-  event_timer_block_id = field_of b 36 4;
-  address_space = field_of b 40 1;
-  address = field_of b 44 8;
-  hpet_number = field_of b 52 1;
-  clock_tick_unit = field_of b 53 2;
-  page_protection_and_oem = field_of b 55 1;
+  event_timer_block_id = field_of b 36 4;  -- Event Timer Block ID
+  address_space = field_of b 40 1;  -- BASE_ADDRESS: Address Space ID
+  address = field_of b 44 8;  -- BASE_ADDRESS: Address
+  hpet_number = field_of b 52 1;  -- HPET Number
+  clock_tick_unit = field_of b 53 2;  -- Main Counter Minimum Clock_tick in Periodic Mode
+  page_protection_and_oem = field_of b 55 1;  -- Page Protection And OEM Attribute
 }
 
--- the page protection of a code
+-- Page Protection, bits 0 to 3 of its byte: that of a code
 abbrev pub protection_of : ℕ → PageProtection
 protection_of code =
     if code == 0 then protections.None
@@ -35,7 +36,7 @@ protection_of code =
     else if code == 2 then protections.Protected64K
     else protections.Other
 
--- what a table says, where its registers lie in memory
+-- what a table says, if its registers lie in memory
 abbrev pub info_of : HpetTable → Result HpetInfo AcpiError
 info_of t = do
   _ ← holds (t.address_space == 0) InvalidGenericAddress

@@ -15,7 +15,7 @@ use Rattle.acpi.specs.Lookup.{lookup}
 use Rattle.acpi.specs.declared.records.AmlTable.{AmlTable}
 use Rattle.acpi.specs.declared.records.TableFault.{TableFault}
 
--- the header of the table at an address, where that is valid under the signature that it has
+-- the header of the table at an address, if the table is valid under the signature that it has
 unfoldable pub own_header_at : Memory → ℕ → Result SdtHeader AcpiError
 own_header_at m p = do
   table ← own_table_at m p
@@ -29,11 +29,11 @@ valid_tables m ps = filter_map (λ p. result_ok (own_table_at m p)) ps
 abbrev pub valid_headers : Memory → List ℕ → List SdtHeader
 valid_headers m ps = filter_map (λ p. result_ok (own_header_at m p)) ps
 
--- the AML after the header of a table
+-- Definition Block: the AML after the 36 bytes of the header of a table (sections 5.2.11.1 and 5.2.11.2)
 abbrev pub stream_of : ℕ → List ℕ → AmlTable
 stream_of p table = record { address = p + 36; length = length table - 36 }
 
--- the AML of the table at an address, where that is valid under this signature
+-- the AML of the table at an address, if the table is valid under this signature
 unfoldable pub stream_at : Memory → Signature → ℕ → Result AmlTable AcpiError
 stream_at m s p = do
   table ← table_at m (plain_kind s) p
@@ -52,7 +52,7 @@ abbrev pub unless_valid : ℕ → Result (List ℕ) AcpiError → List TableFaul
 unless_valid p (Ok table) faults = []
 unless_valid p (Err e) faults = with_fault p e faults
 
--- the faults of the members before the first valid one, or of all where none is valid, in order
+-- the faults of the members before the first valid one, or of all if none is valid, in order
 abbrev pub faults_of : Memory → Kind → List ℕ → List TableFault
 faults_of m k [] = []
 faults_of m k (p ∷ ps) = unless_valid p (table_at m k p) (faults_of m k ps)

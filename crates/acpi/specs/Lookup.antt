@@ -16,8 +16,8 @@ lookup m k (p ∷ ps) = or_later (λ table. Ok (p, table)) (table_at m k p) (loo
 abbrev pub NoneValid : Memory → Kind → List ℕ → Type 0
 NoneValid m k ps = AllByRecursion (λ p. IsErr (table_at m k p)) ps
 
--- the same in the reader's words: the list is some pointers, then this one, then others; the table
--- there is valid, and none before it is
+-- what a lookup finds in the reader's words: the list is some pointers, then this one, then others; the table there is
+-- valid, and none before it is
 pub record IsFirstValid (m : Memory) (k : Kind) (ps : List ℕ) (p : ℕ) (table : List ℕ)
     : Type 0 where
   pub before : List ℕ

@@ -12,12 +12,12 @@ use Rattle.acpi.specs.Search.{word_in}
 use Rattle.acpi.specs.declared.root.RootPointer.{RootPointer}
 use Rattle.acpi.specs.declared.rsdp.area.Area.{Area}
 
--- those of the whole of an RSDP, where it has a length
+-- the ranges of the whole of an RSDP, if it has a length
 abbrev pub length_ranges : ℕ → Option ℕ → Ranges
 length_ranges a None = []
 length_ranges a (Some n) = (a, n) ∷ []
 
--- those of `rsdp_at`: the 36 bytes, and as many as the length says, where the checks come to that
+-- those of `rsdp_at`: the 36 bytes, and as many as Length says, if the checks come to that
 abbrev pub rsdp_ranges : Memory → ℕ → Ranges
 rsdp_ranges m a = (a, 36) ∷ do
   b ← lent m a 36
@@ -32,19 +32,19 @@ walk_ranges m zero a = []
 walk_ranges m (suc n) a =
     rsdp_ranges m a ++ unless_found (rsdp_at m a) (walk_ranges m n (a + 16))
 
--- those of `found_in`: the area with the 16 bytes after it, and its candidates' where that is lent
+-- those of `found_in`: the area with the 16 bytes after it, and its candidates' if that is lent
 abbrev pub area_ranges : Memory → Area → Ranges
 area_ranges m s = (s.start, room_of s) ∷ do
   _ ← lent m s.start (room_of s)
   walk_ranges m (count_of s) s.start
 
--- those that are come to only where nothing is found before
+-- ranges that are come to only if nothing is found before
 abbrev pub or_else_ranges : {A : Type 0} → Option A → Ranges → Ranges
 or_else_ranges (Some found) ranges = []
 or_else_ranges None ranges = ranges
 
--- those of `found_rsdp`: the word; where that is lent the first area's; where that is lent and has
--- no valid candidate the second's
+-- those of `found_rsdp`: the word at 40:0Eh of the BIOS data area; if that is lent, the first area's; if that is lent
+-- and has no valid candidate, the second's
 abbrev pub search_ranges : Memory → Ranges
 search_ranges m = (0x40e, 2) ∷ do
   word ← word_in m
@@ -58,13 +58,13 @@ search_ranges m = (0x40e, 2) ∷ do
 abbrev pub opened_ranges : Memory → RootPointer → Ranges
 opened_ranges m place = root_ranges m place.kind place.address
 
--- those of a root table and, where it is opened, of a call below it
+-- the ranges of a root table and, if it is opened, of a call below it
 abbrev pub root_and_ranges : Memory → RootPointer → (Memory → List ℕ → Ranges) → Ranges
 root_and_ranges m place ranges = opened_ranges m place ++ do
   opened ← opened_from m place
   ranges m (pointers (width_of opened.kind) (drop 36 opened.root))
 
--- those of `opened_by_rsdp`: the RSDP's, and where it is valid, those of the root it leads to
+-- those of `opened_by_rsdp`: the RSDP's, and if it is valid, those of the root it leads to
 abbrev pub opened_by_rsdp_ranges : Memory → ℕ → Ranges
 opened_by_rsdp_ranges m a = rsdp_ranges m a ++ do
   rsdp ← rsdp_at m a

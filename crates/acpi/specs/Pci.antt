@@ -26,7 +26,7 @@ abbrev pub SomeRegion : Result (List McfgEntry) AcpiError → Type 0
 SomeRegion (Ok (r ∷ regions)) = Unit {0}
 SomeRegion _ = ⊥
 
--- memory is asked for only where an MCFG is found that has regions
+-- memory is asked for only if an MCFG is found that has regions
 abbrev pub RegionsAsk : Memory → List ℕ → Type 0
 RegionsAsk m ps = SomeRegion (found_regions m ps)
 
@@ -40,14 +40,15 @@ is_of segment bus e =
 unfoldable pub region_of : List McfgEntry → ℕ → ℕ → Option McfgEntry
 region_of regions segment bus = find (is_of segment bus) regions
 
--- a function's place in a region
+-- a function's place in a region: the bus from bit 20 on, the device from bit 15 on, the function from bit 12 on (PCI
+-- Firmware Specification, section 4.1.2)
 abbrev pub place_in : McfgEntry → ℕ → ℕ → ℕ → ℕ
 place_in e bus device function =
     e.base_address + (bus - e.bus_number_start) * 2 ^ 20 + device * 2 ^ 15 + function * 2 ^ 12
 
--- that place, where it is an address
-abbrev pub address_in : ℕ → ℕ → ℕ → McfgEntry → Option ℕ
-address_in bus device function e =
+-- that place, if it is an address
+abbrev pub function_address : ℕ → ℕ → ℕ → McfgEntry → Option ℕ
+function_address bus device function e =
     if nat_lt (place_in e bus device function) (2 ^ 64) then Some (place_in e bus device function)
     else None
 
@@ -55,7 +56,7 @@ address_in bus device function e =
 unfoldable pub pci_address : List McfgEntry → ℕ → ℕ → ℕ → ℕ → Option ℕ
 pci_address regions segment bus device function =
     if nat_lt device 32 && nat_lt function 8
-    then option_and_then (address_in bus device function) (region_of regions segment bus)
+    then option_and_then (function_address bus device function) (region_of regions segment bus)
     else None
 
 -- a function of the same region whose address is less than 4096 from this one is this one

@@ -37,7 +37,8 @@ dsdt_place m f = do
   table ← table_at m (plain_kind DSDT) address
   Ok (range address (length table))
 
--- the length of a FACS (section 5.2.10), whose signature and length lie where those of a header do
+-- Length of a FACS (section 5.2.10), at least 64: its Signature, at 0, and its Length, at 4, lie where those of a
+-- header do
 unfoldable pub facs_length : SdtHeader → Result ℕ AcpiError
 facs_length head = do
   _ ← holds (bytes_eq head.signature.0 FACS.0) (SdtInvalidSignature FACS)
@@ -66,7 +67,7 @@ led_by place m ps = do
   found ← lookup m fadt_kind ps
   place m (fadt_at found.1)
 
--- the valid members, then the DSDT and the FACS where a valid FADT leads to them
+-- the valid members, then the DSDT and the FACS if a valid FADT leads to them
 abbrev pub places_below : Memory → List ℕ → List AddressRange
 places_below m ps = filter_map (λ p. result_ok (place_at m p)) ps
     ++ cons_option (result_ok (led_by dsdt_place m ps))

@@ -18,7 +18,7 @@ use Rattle.acpi.specs.declared.platform.timer.PmTimer.{PmTimer}
 abbrev pub madt_kind : Kind
 madt_kind = sdt_kind MADT 44
 
--- the model of the table found; nothing is known where none was
+-- the model of the table found; nothing is known if none was
 abbrev pub model_found : {A : Type 0} → Result (ℕ × List ℕ) AcpiError
     → Result (model.Model A) AcpiError
 model_found (Ok found) = model.model_of found.1
@@ -28,7 +28,7 @@ model_found (Err e) = Ok (Unknown, None)
 abbrev pub model_in : {A : Type 0} → Memory → List ℕ → Result (model.Model A) AcpiError
 model_in m ps = model_found (lookup m madt_kind ps)
 
--- beside what a FADT says: the model, then the timer
+-- the platform of this profile and this timer: a refusal of the model comes before one of the timer
 abbrev pub platform_beside : {A : Type 0} → Memory → List ℕ → PowerProfile
     → Result (Option PmTimer) AcpiError → Result (PlatformInfo A) AcpiError
 platform_beside m ps profile timer = do
@@ -41,13 +41,13 @@ platform_beside m ps profile timer = do
     pm_timer = found;
   })
 
--- the first valid FADT, and what is said beside it
+-- the platform that the first valid FADT and the first valid MADT describe
 abbrev pub platform_of : {A : Type 0} → Memory → List ℕ → Result (PlatformInfo A) AcpiError
 platform_of m ps = do
   fadt ← lookup m fadt_kind ps
   platform_beside m ps (profile_of (fadt_at fadt.1)) (timer_of (fadt_at fadt.1))
 
--- ---- lack of memory
+-- ---- out of memory
 
 -- whether the model of the table found asks for memory
 abbrev pub FoundAsks : Result (ℕ × List ℕ) AcpiError → Type 0
@@ -57,6 +57,6 @@ FoundAsks (Err e) = ⊥
 abbrev pub ModelAsks : Memory → List ℕ → Type 0
 ModelAsks m ps = FoundAsks (lookup m madt_kind ps)
 
--- memory is asked for only where a FADT is found, and a MADT that describes APICs
+-- memory is asked for only if a FADT is found, and a MADT that describes APICs
 abbrev pub PlatformAsks : Memory → List ℕ → Type 0
 PlatformAsks m ps = IsOk (lookup m fadt_kind ps) × ModelAsks m ps

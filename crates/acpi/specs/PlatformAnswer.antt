@@ -9,19 +9,19 @@ use Rattle.acpi.specs.Tables.{of_tables}
 use Rattle.acpi.specs.declared.platform.PlatformInfo.{PlatformInfo}
 use Rattle.acpi.specs.declared.tables.AcpiTables.{AcpiTables}
 
--- it is the platform that is defined, or AllocError where memory may be asked for
+-- the answer is the platform that is defined, or AllocError if memory may be asked for
 abbrev pub GivesPlatform : {A : Type 0} {H h : _} → AcpiTables H h → Result (PlatformInfo A) AcpiError
     → Type 0
 GivesPlatform t answer = GivesOrFull (of_tables t PlatformAsks) answer (of_tables t platform_of)
 
--- it depends on what the lookup of the FADT depends on, and where one is found, on what that of the
--- MADT depends on
+-- the answer depends on what the lookup of the FADT depends on, and if one is found, on what that of the MADT depends
+-- on
 abbrev pub PlatformFootprint : {A : Type 0} {H h : _} → AcpiTables H h
     → Result (PlatformInfo A) AcpiError → Type 0
 PlatformFootprint t answer =
     FootprintBelow t platform_ranges platform_of (GivesOrFull (of_tables t PlatformAsks) answer)
 
--- it is the same wherever the valid tables lie
+-- the answer is the same wherever the valid tables lie
 abbrev pub PlatformRelocation : {A : Type 0} {H h : _} → AcpiTables H h
     → Result (PlatformInfo A) AcpiError → Type 0
 PlatformRelocation t answer =

@@ -1,4 +1,4 @@
--- What answers say where only the valid tables are known, wherever they lie.
+-- What answers say if only the valid tables are known, wherever they lie.
 use Rattle.std.specs.Prelude.{◌≡◌, ℕ, ◌≤◌, List, Result, Ok, Err}
 use Rattle.acpi_base.specs.declared.error.AcpiError.{AcpiError}
 use Rattle.acpi_base.specs.declared.table.signature.Signature.{Signature}

@@ -17,7 +17,7 @@ abbrev pub signature_of : RootKind → Signature
 signature_of Rsdt = RSDT
 signature_of Xsdt = XSDT
 
--- how many bytes each of its pointers has
+-- how many bytes each of its pointers, Entry, has
 abbrev pub width_of : RootKind → ℕ
 width_of Rsdt = 4
 width_of Xsdt = 8
@@ -51,12 +51,12 @@ pieces zero width bytes = []
 pieces (suc n) width [] = []
 pieces (suc n) width (b ∷ bs) = number (take width (b ∷ bs)) ∷ pieces n width (drop width (b ∷ bs))
 
--- the pointers that the bytes after a root table's header encode
+-- the pointers that the bytes after a root table's header, from 36 on, encode: Entry
 unfoldable pub pointers : ℕ → List ℕ → List ℕ
 pointers width bytes = pieces (length bytes) width bytes
 
--- the same numbers in the reader's words: they fit the width, and encoded one after the other they
--- are the bytes, followed by fewer zeros than a pointer has bytes
+-- the pointers in the reader's words: they fit the width, and encoded one after the other they are the bytes, followed
+-- by fewer zeros than a pointer has bytes
 pub record IsPointers (width : ℕ) (bytes ps : List ℕ) : Type 0 where
   pub fit : AllByRecursion (λ p. p < 256 ^ width) ps
   pub spelled : (zeros : ℕ) × (zeros < width)

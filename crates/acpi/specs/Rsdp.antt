@@ -17,14 +17,14 @@ use Rattle.acpi.specs.declared.rsdp.Rsdp.{Rsdp}
 -- the RSDP that the bytes begin with
 unfoldable pub rsdp_of : List ℕ → Rsdp
 rsdp_of b = record {
-  signature = part b 0 8;
-  checksum = field_of b 8 1;
-  oem_id = part b 9 6;
-  revision = field_of b 15 1;
-  rsdt_address = field_of b 16 4;
-  length = field_of b 20 4;
-  xsdt_address = field_of b 24 8;
-  ext_checksum = field_of b 32 1;
+  signature = part b 0 8;  -- Signature
+  checksum = field_of b 8 1;  -- Checksum
+  oem_id = part b 9 6;  -- OEMID
+  revision = field_of b 15 1;  -- Revision
+  rsdt_address = field_of b 16 4;  -- RsdtAddress
+  length = field_of b 20 4;  -- Length
+  xsdt_address = field_of b 24 8;  -- XsdtAddress
+  ext_checksum = field_of b 32 1;  -- Extended Checksum
 }
 
 -- what every revision has
@@ -56,14 +56,13 @@ xsdt_address_of r = unless_first r r.xsdt_address
 abbrev pub ext_checksum_of : Rsdp → Option ℕ
 ext_checksum_of r = unless_first r r.ext_checksum
 
--- the root table that an RSDP leads to: the RSDT where its revision or its XSDT address is 0, else
--- the XSDT
+-- the root table that an RSDP leads to: the RSDT if its Revision or its XsdtAddress is 0, else the XSDT
 abbrev pub root_of : Rsdp → RootPointer
 root_of r =
     if r.revision == 0 || r.xsdt_address == 0 then root_pointer r.revision Rsdt r.rsdt_address
     else root_pointer r.revision Xsdt r.xsdt_address
 
--- the same, for the RSDP's bytes
+-- the root table that an RSDP's bytes lead to
 abbrev pub root_of_rsdp : List ℕ → RootPointer
 root_of_rsdp b = root_of (rsdp_of b)
 
@@ -77,27 +76,27 @@ rsd_ptr = 82 ∷ 83 ∷ 68 ∷ 32 ∷ 80 ∷ 84 ∷ 82 ∷ 32 ∷ []
 unfoldable pub check_sum : List ℕ → Result (Unit {0}) AcpiError
 check_sum b = holds (sum_of b == 0) RsdpInvalidChecksum
 
--- the signature, the id, and the sum of the first 20 bytes
+-- Signature, OEMID, and the sum of the first 20 bytes, which Checksum makes 0
 unfoldable pub check_first : List ℕ → Result (Unit {0}) AcpiError
 check_first b = do
   _ ← holds (bytes_eq (rsdp_of b).signature rsd_ptr) RsdpIncorrectSignature
   _ ← holds (is_utf8 (rsdp_of b).oem_id) RsdpInvalidOemId
   check_sum (take 20 b)
 
--- a length is at least 36
+-- Length is at least 36
 abbrev pub check_length : Option ℕ → Result (Option ℕ) AcpiError
 check_length None = Ok None
 check_length (Some n) = do
   _ ← holds (nat_le 36 n) RsdpInvalidChecksum
   Ok (Some n)
 
--- how many bytes are to sum to 0 as a whole, where the first checks hold: for revision 0 none
+-- how many bytes are to sum to 0 as a whole, if the first checks hold: for revision 0 none
 unfoldable pub length_of : List ℕ → Result (Option ℕ) AcpiError
 length_of b = do
   _ ← check_first b
   check_length (extended_length_of (rsdp_of b))
 
--- the sum of the whole, out of the bytes at hand
+-- the sum of the whole, which Extended Checksum makes 0, out of the bytes at hand
 abbrev pub check_whole : List ℕ → Option ℕ → Result (Unit {0}) AcpiError
 check_whole b None = Ok tt
 check_whole b (Some n) = do

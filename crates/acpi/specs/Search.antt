@@ -17,12 +17,12 @@ use Rattle.acpi.specs.Rsdp.{rsdp_at}
 abbrev pub area : ℕ → ℕ → Area
 area start end = record { start = start; end = end }
 
--- the read-only memory of the BIOS
+-- the BIOS read-only memory space, from 0E0000h to 0FFFFFh
 abbrev pub first_area : Area
 first_area = area 0xe0000 0x100000
 
--- the first KiB of the extended BIOS data area, which begins at 16 times the word; where it can't
--- be there, all of the memory that it may lie in
+-- the first 1 KB of the Extended BIOS Data Area (EBDA), which begins at 16 times the word; if it can't be there, all of
+-- the memory that it may lie in
 abbrev pub second_area : ℕ → Area
 second_area word =
     let start = 16 * word in
@@ -63,11 +63,11 @@ pub record HasNone (m : Memory) (s : Area) : Type 0 where
   pub lent : IsLent m s
   pub refused : (a : ℕ) → IsCandidate s a → IsRefused m a
 
--- the word is lent, and this is the second area
+-- the word at 40:0Eh of the BIOS data area is lent, and this is the second area
 abbrev pub IsSecond : Memory → Area → Type 0
 IsSecond m s = (b : List ℕ) × (at m 0x40e 2 ≡ Some b) × (s ≡ second_area (field_of b 0 2))
 
--- the least valid candidate of the first area, or where that has none, of the second
+-- the least valid candidate of the first area, or if that has none, of the second
 abbrev pub IsFound : Memory → ℕ × List ℕ → Type 0
 IsFound m found =
     (s : Area) × IsSecond m s
@@ -77,7 +77,7 @@ IsFound m found =
 abbrev pub IsMissing : Memory → Type 0
 IsMissing m = (s : Area) × IsSecond m s × HasNone m first_area × HasNone m s
 
--- the word isn't lent, or the first area, or the second where the first has no valid candidate
+-- the word isn't lent, or the first area, or the second if the first has no valid candidate
 abbrev pub IsUnlent : Memory → Type 0
 IsUnlent m =
     (at m 0x40e 2 ≡ None)
@@ -106,13 +106,13 @@ found_in m s = do
   _ ← lent m s.start (room_of s)
   Ok (walk m (count_of s) s.start)
 
--- the word that names the second area
+-- the word at 40:0Eh of the BIOS data area, the segment of the EBDA: it names the second area
 unfoldable pub word_in : Memory → Result ℕ AcpiError
 word_in m = do
   b ← lent m 0x40e 2
   Ok (field_of b 0 2)
 
--- what was found, or what comes later where nothing was
+-- what was found, or what comes later if nothing was
 abbrev pub or_else : {A E : Type 0} → Option A → Result A E → Result A E
 or_else (Some found) later = Ok found
 or_else None later = later

@@ -11,7 +11,7 @@ use Rattle.acpi_fixed.specs.declared.fadt.Fadt.{Fadt}
 use Rattle.acpi_fixed.specs.declared.fadt.flags.FixedFeatureFlags.{FixedFeatureFlags}
 use Rattle.acpi.specs.declared.platform.timer.PmTimer.{PmTimer}
 
--- the timer of a block, with bit 8 of the flags
+-- the timer of a block, with TMR_VAL_EXT, bit 8 of the Fixed Feature Flags (section 5.2.9)
 abbrev pub timer_at : FixedFeatureFlags → GenericAddress → PmTimer
 timer_at flags base = record { base = base; supports_32bit = has_bit (feature_bits flags) 8 }
 

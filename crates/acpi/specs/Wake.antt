@@ -17,7 +17,7 @@ mailbox_found m ps = do
   found ← lookup m madt_kind ps
   mailbox_of found.1
 
--- what opening it answers, where each address has this answer
+-- what opening the mailbox answers, if each address has this answer
 abbrev pub opening : (ℕ → Result (Unit {0}) AcpiError) → Result ℕ AcpiError
     → Result (Unit {0}) AcpiError
 opening answers found = found >>= answers
@@ -60,8 +60,8 @@ Makes {Mailbox = Mailbox} called before (call ∷ calls) after =
 abbrev pub reads : ℕ → List MailboxCall
 reads n = replicate n Read
 
--- what is done before the command is read: the mailbox is opened, and gets the command 0, the id,
--- the vector, the command 1
+-- what is done before Command is read: the mailbox is opened, and gets Command 0 (Noop), ApicId, WakeupVector and
+-- Command 1 (Wakeup)
 abbrev pub wakes_by : ℕ → ℕ → ℕ → List MailboxCall
 wakes_by address id vector =
     Opened address ∷ Wrote (Command 0) ∷ Wrote (ApicId id) ∷ Wrote (WakeupVector vector)

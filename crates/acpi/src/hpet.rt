@@ -35,12 +35,12 @@ impl PhysicalRecord for HpetTable {
     fn read(bytes: &[u8]) -> Self {
         HpetTable {
             header: SdtHeader::read(bytes),
-            event_timer_block_id: field_in(bytes, 36, 4) as u32,
-            address_space: field_in(bytes, 40, 1) as u8,
-            address: field_in(bytes, 44, 8),
-            hpet_number: field_in(bytes, 52, 1) as u8,
-            clock_tick_unit: field_in(bytes, 53, 2) as u16,
-            page_protection_and_oem: field_in(bytes, 55, 1) as u8,
+            event_timer_block_id: field_in(bytes, 36, 4) as u32, // Event Timer Block ID
+            address_space: field_in(bytes, 40, 1) as u8, // BASE_ADDRESS: Address Space ID
+            address: field_in(bytes, 44, 8), // BASE_ADDRESS: Address
+            hpet_number: field_in(bytes, 52, 1) as u8, // HPET Number
+            clock_tick_unit: field_in(bytes, 53, 2) as u16, // Main Counter Minimum Clock_tick in Periodic Mode
+            page_protection_and_oem: field_in(bytes, 55, 1) as u8, // Page Protection And OEM Attribute
         }
     }
 }
@@ -157,35 +157,35 @@ impl HpetInfo {
     pub fn hardware_rev(&self) -> u8
         ensures { result ≡ bits_of self.now.event_timer_block_id 0 8 }
     {
-        bits(self.event_timer_block_id as u64, 0, 8) as u8
+        bits(self.event_timer_block_id as u64, 0, 8) as u8 // Hardware Rev ID
     }
 
     /// How many comparators the block has (bits 8 to 12 hold one less).
     pub fn num_comparators(&self) -> u8
         ensures { result ≡ bits_of self.now.event_timer_block_id 8 5 + 1 }
     {
-        bits(self.event_timer_block_id as u64, 8, 5) as u8 + 1
+        bits(self.event_timer_block_id as u64, 8, 5) as u8 + 1 // Number of Comparators in 1st Timer Block
     }
 
     /// Whether the main counter has 64 bits, or else 32 (bit 13).
     pub fn main_counter_is_64bits(&self) -> bool
         ensures { result ≡ has_bit self.now.event_timer_block_id 13 }
     {
-        has_bit(self.event_timer_block_id as u64, 13)
+        has_bit(self.event_timer_block_id as u64, 13) // COUNT_SIZE_CAP counter size
     }
 
     /// Whether it can stand in for the older timers' interrupts (bit 15).
     pub fn legacy_irq_capable(&self) -> bool
         ensures { result ≡ has_bit self.now.event_timer_block_id 15 }
     {
-        has_bit(self.event_timer_block_id as u64, 15)
+        has_bit(self.event_timer_block_id as u64, 15) // LegacyReplacement IRQ Routing Capable
     }
 
     /// The PCI vendor id of its maker (bits 16 to 31).
     pub fn pci_vendor_id(&self) -> u16
         ensures { result ≡ bits_of self.now.event_timer_block_id 16 16 }
     {
-        bits(self.event_timer_block_id as u64, 16, 16) as u16
+        bits(self.event_timer_block_id as u64, 16, 16) as u16 // PCI Vendor ID of 1st Timer Block
     }
 }
 

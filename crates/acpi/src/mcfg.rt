@@ -1,7 +1,7 @@
 //! Where the configuration space of a PCI function lies.
 ghost use Rattle.std.specs.Prelude.{◌≡◌, ◌<◌, ◌≤◌, List, [], vec_capacity, vec_len, IfOk, IfSome, IsOk};
 ghost use Rattle.acpi_base.specs.Mcfg.{mcfg_entries_left};
-ghost use Rattle.acpi.specs.Pci.{address_in, is_of, region_of};
+ghost use Rattle.acpi.specs.Pci.{function_address, is_of, region_of};
 ghost use Rattle.acpi_base.specs.declared.tables.mcfg.McfgEntry.{McfgEntry};
 
 mod ecam;
@@ -126,7 +126,7 @@ impl<A: Allocator> PciConfigRegions<A> {
             return None;
         }
         let region = region_for(self.regions.as_slice(), segment, bus)?;
-        address_in(&region, bus, device, function)
+        function_address(&region, bus, device, function)
     }
 
     /// Each region once, in the order of the table, those that hold no bus among them.
@@ -179,11 +179,11 @@ fn is_of(region: &McfgEntry, segment: u16, bus: u8) -> bool
 }
 
 /// A function's place in a region that holds its bus, where that is an address.
-fn address_in(region: &McfgEntry, bus: u8, device: u8, function: u8) -> Option<u64>
+fn function_address(region: &McfgEntry, bus: u8, device: u8, function: u8) -> Option<u64>
     requires bus { region.now.bus_number_start ≤ bus }
     requires device { device < 32 }
     requires function { function < 8 }
-    ensures { result ≡ address_in bus device function region.now }
+    ensures { result ≡ function_address bus device function region.now }
 {
     let offset = (u64::from(bus - region.bus_number_start) << 20)
         + (u64::from(device) << 15)

@@ -43,18 +43,20 @@ impl PhysicalRecord for Rsdp {
     #[tactic(auto, unfolding(crate::specs::Rsdp::rsdp_of))]
     fn read(bytes: &[u8]) -> Self {
         Rsdp {
+            // Signature
             signature: [
                 bytes[0], bytes[1], bytes[2], bytes[3], bytes[4], bytes[5], bytes[6], bytes[7],
             ],
-            checksum: field(bytes, 8, 1) as u8,
+            checksum: field(bytes, 8, 1) as u8, // Checksum
+            // OEMID
             oem_id: [
                 bytes[9], bytes[10], bytes[11], bytes[12], bytes[13], bytes[14],
             ],
-            revision: field(bytes, 15, 1) as u8,
-            rsdt_address: field(bytes, 16, 4) as u32,
-            length: field(bytes, 20, 4) as u32,
-            xsdt_address: field(bytes, 24, 8),
-            ext_checksum: field(bytes, 32, 1) as u8,
+            revision: field(bytes, 15, 1) as u8, // Revision
+            rsdt_address: field(bytes, 16, 4) as u32, // RsdtAddress
+            length: field(bytes, 20, 4) as u32, // Length
+            xsdt_address: field(bytes, 24, 8), // XsdtAddress
+            ext_checksum: field(bytes, 32, 1) as u8, // Extended Checksum
         }
     }
 }

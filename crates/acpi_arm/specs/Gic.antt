@@ -28,7 +28,7 @@ use Rattle.acpi_arm.specs.declared.gic.part.GicRedistributors.{GicRedistributors
 use Rattle.acpi_arm.specs.declared.gic.part.GicTranslationService.{GicTranslationService}
 use Rattle.acpi_arm.specs.declared.gic.part.SpiRange.{SpiRange}
 
--- ---- what one entry says, in a table of a revision; nothing where it is of another kind
+-- ---- what one entry says, in a table of a revision; nothing if it is of another kind
 
 abbrev pub distributor_in : MadtEntry → Option GicDistributor
 distributor_in (kinds.Gicd e) = Some (record {
@@ -39,23 +39,23 @@ distributor_in (kinds.Gicd e) = Some (record {
 })
 distributor_in _ = None
 
--- flags: bit 0 enabled, bits 1 and 2 how two interrupts are raised, bit 3 online capable
+-- GICC CPU Interface Flags (section 5.2.12.14): of bits 1 and 2 a 1 is Edge; bit 3 came with ACPI 6.5
 abbrev pub cpu_interface_of : ℕ → GiccEntry → GicCpuInterface
 cpu_interface_of revision e = record {
   number = e.cpu_interface_number;
   processor_uid = e.processor_uid;
   mpidr = e.mpidr;
-  is_enabled = has_bit e.flags 0;
-  is_online_capable = has_bit e.flags 3;
+  is_enabled = has_bit e.flags 0;  -- bit 0: Enabled
+  is_online_capable = has_bit e.flags 3;  -- bit 3: Online Capable
   performance_interrupt = e.performance_interrupt_gsiv;
-  performance_trigger = trigger_in e.flags 1;
+  performance_trigger = trigger_in e.flags 1;  -- bit 1: Performance Interrupt Mode
   parking_protocol_version = e.parking_protocol_version;
   parked_address = e.parked_address;
   address = e.gic_registers_address;
   virtual_address = e.gic_virtual_registers_address;
   hypervisor_address = e.gic_hypervisor_registers_address;
   maintenance_interrupt = e.vgic_maintenance_interrupt;
-  maintenance_trigger = trigger_in e.flags 2;
+  maintenance_trigger = trigger_in e.flags 2;  -- bit 2: VGIC Maintenance interrupt Mode Flags
   redistributor_address = e.gicr_base_address;
   efficiency_class = e.processor_power_efficiency_class;
   spe_overflow_interrupt = e.spe_overflow_interrupt;
@@ -78,7 +78,8 @@ translation_service_in revision (kinds.GicInterruptTranslationService e) =
     Some (record { id = e.id; address = e.physical_base_address })
 translation_service_in revision _ = None
 
--- the interrupts of a frame, where bit 0 of its flags says that the entry has them
+-- the interrupts of a frame, if bit 0 of its GIC MSI Frame Flags, SPI Count/Base Select, says that the entry has them
+-- (section 5.2.12.16)
 abbrev pub spis_of : GicMsiFrameEntry → Option SpiRange
 spis_of e =
     if has_bit e.flags 0 then Some (record { base = e.spi_base; count = e.spi_count }) else None
@@ -90,7 +91,7 @@ msi_frame_in revision _ = None
 
 -- ---- what all entries say
 
--- what each entry of some kind says, in order; the table's revision is its byte 8
+-- what each entry of some kind says, in order; Revision of the table is its byte 8
 abbrev pub items_of : {T : Type 0} → (ℕ → MadtEntry → Option T) → List ℕ → List T
 items_of said_in table = filter_map (said_in (field_of table 8 1)) (entries_of table)
 
@@ -100,7 +101,7 @@ distributor_of table = do
   _ ← holds (not (is_left (cut_of table).1)) (InvalidMadt InvalidEntryLength)
   Ok (slice_get (filter_map distributor_in (entries_of table)) 0)
 
--- the lists beside a distributor; A is the allocator, of which they say nothing
+-- a distributor with the lists of a model; A is the allocator, of which they say nothing
 abbrev pub model_beside : {A : Type 0} → List ℕ → GicDistributor → GicModel A
 model_beside table distributor = record {
   distributor = distributor;
@@ -110,7 +111,7 @@ model_beside table distributor = record {
   msi_frames = items_of msi_frame_in table;
 }
 
--- the model; none where there is no distributor
+-- the model; none if there is no distributor
 abbrev pub gic_of : {A : Type 0} → List ℕ → Result (Option (GicModel A)) AcpiError
 gic_of table = do
   distributor ← distributor_of table
@@ -122,7 +123,7 @@ found_gic m ps = do
   found ← lookup m madt_kind ps
   gic_of found.1
 
--- ---- lack of memory
+-- ---- out of memory
 
 -- how many items the lists have
 abbrev pub item_count : List ℕ → ℕ
@@ -134,7 +135,7 @@ abbrev pub IsThere : Result (Option GicDistributor) AcpiError → Type 0
 IsThere (Ok (Some distributor)) = Unit {0}
 IsThere _ = ⊥
 
--- memory is asked for only where there is a distributor, and a list has an item
+-- memory is asked for only if there is a distributor, and a list has an item
 abbrev pub AsksMemory : List ℕ → Type 0
 AsksMemory table = IsThere (distributor_of table) × (0 < item_count table)
 
@@ -142,6 +143,6 @@ abbrev pub FoundAsks : Result (ℕ × List ℕ) AcpiError → Type 0
 FoundAsks (Ok found) = AsksMemory found.1
 FoundAsks (Err e) = ⊥
 
--- the same of the first valid MADT
+-- memory is asked for only if a valid MADT is found, and the first one has a distributor and an item of a list
 abbrev pub GicAsks : Memory → List ℕ → Type 0
 GicAsks m ps = FoundAsks (lookup m madt_kind ps)

@@ -19,11 +19,11 @@ use Rattle.acpi_arm.specs.declared.timers.SbsaWatchdog.{SbsaWatchdog}
 
 -- ---- one structure
 
--- it begins with its type, one byte, and its length, two bytes
+-- it begins with Type, one byte at 0, and Length, two bytes at 1
 abbrev pub timers_layout : EntryLayout 2
 timers_layout = record {
-  kind_place = record { at = 0; width = One };
-  length_place = record { at = 1; width = Two };
+  kind_place = record { at = 0; width = One };  -- Type
+  length_place = record { at = 1; width = Two };  -- Length
   least_lengths = 20 ∷ 28 ∷ [];
   least_of_others = 4;
 }
@@ -32,24 +32,24 @@ timers_layout = record {
 abbrev pub timers_grammar : ℕ → Grammar 2
 timers_grammar count = record { layout = timers_layout; most = Some count }
 
--- the interrupt and the flags at an offset
+-- GSIV, the interrupt, at an offset, and Flags in the four bytes after it
 abbrev pub interrupt_at : List ℕ → ℕ → TimerInterrupt
 interrupt_at b offset = record {
-  interrupt = field_of b offset 4;
-  trigger_mode = trigger_in (field_of b (offset + 4) 4) 0;
-  polarity = polarity_in (field_of b (offset + 4) 4) 1;
+  interrupt = field_of b offset 4;  -- GSIV
+  trigger_mode = trigger_in (field_of b (offset + 4) 4) 0;  -- Flags, bit 0: Timer interrupt Mode
+  polarity = polarity_in (field_of b (offset + 4) 4) 1;  -- Flags, bit 1: Timer Interrupt polarity
 }
 
--- section 5.2.24.1.1: the physical timer at 20, the virtual one at 28, the common flags at 36
+-- GT Block Timer Structure: a frame of a GT Block (section 5.2.24.1.1)
 abbrev pub frame_at : List ℕ → GtFrame
 frame_at b = record {
-  number = field_of b 0 1;
-  base = field_of b 4 8;
-  el0_base = unless_ones (field_of b 12 8);
-  physical_timer = interrupt_at b 20;
-  virtual_timer = interrupt_at b 28;
-  is_secure = has_bit (field_of b 36 4) 0;
-  is_always_on = has_bit (field_of b 36 4) 1;
+  number = field_of b 0 1;  -- GT Frame Number
+  base = field_of b 4 8;  -- GTx Physical address (CntBaseX)
+  el0_base = unless_ones (field_of b 12 8);  -- GTx Physical address (CntEL0BaseX)
+  physical_timer = interrupt_at b 20;  -- GTx Physical Timer GSIV, GTx Physical Timer Flags
+  virtual_timer = interrupt_at b 28;  -- GTx Virtual Timer GSIV, GTx Virtual Timer Flags
+  is_secure = has_bit (field_of b 36 4) 0;  -- GTx Common Flags, bit 0: Secure Timer
+  is_always_on = has_bit (field_of b 36 4) 1;  -- GTx Common Flags, bit 1: Always-on Capability
 }
 
 -- so many frames of 40 bytes, one after the other
@@ -57,17 +57,17 @@ abbrev pub frames_in : ℕ → List ℕ → List GtFrame
 frames_in zero bytes = []
 frames_in (suc n) bytes = frame_at bytes ∷ frames_in n (drop 40 bytes)
 
--- its type
+-- Type of a structure: 0 is a GT Block, 1 an Arm Generic Watchdog
 abbrev pub kind_of : List ℕ → ℕ
 kind_of e = field_of e 0 1
 
--- of a block: how many frames it has, and where they begin, from the structure's first byte on
+-- of a GT Block: how many frames it has, and where they begin, from the structure's first byte on
 
 abbrev pub frame_count : List ℕ → ℕ
-frame_count e = field_of e 12 4
+frame_count e = field_of e 12 4  -- GT Block Timer Count
 
 abbrev pub frames_offset : List ℕ → ℕ
-frames_offset e = field_of e 16 4
+frames_offset e = field_of e 16 4  -- GT Block Timer Offset
 
 abbrev pub frames_of : List ℕ → List GtFrame
 frames_of e = frames_in (frame_count e) (drop (frames_offset e) e)
@@ -82,18 +82,18 @@ frames_fit e =
 abbrev pub is_sound : List ℕ → Bool
 is_sound e = not (kind_of e == 0) || frames_fit e
 
--- section 5.2.24.1.2
+-- Arm Generic Watchdog (section 5.2.24.1.2)
 abbrev pub watchdog_at : List ℕ → SbsaWatchdog
 watchdog_at e = record {
-  refresh_frame = field_of e 4 8;
-  control_frame = field_of e 12 8;
-  interrupt = field_of e 20 4;
-  trigger_mode = trigger_in (field_of e 24 4) 0;
-  polarity = polarity_in (field_of e 24 4) 1;
-  is_secure = has_bit (field_of e 24 4) 2;
+  refresh_frame = field_of e 4 8;  -- RefreshFrame Physical Address
+  control_frame = field_of e 12 8;  -- WatchdogControlFrame Physical Address
+  interrupt = field_of e 20 4;  -- Watchdog Timer GSIV
+  trigger_mode = trigger_in (field_of e 24 4) 0;  -- Watchdog Timer Flags, bit 0: Timer interrupt Mode
+  polarity = polarity_in (field_of e 24 4) 1;  -- Watchdog Timer Flags, bit 1: Timer Interrupt polarity
+  is_secure = has_bit (field_of e 24 4) 2;  -- Watchdog Timer Flags, bit 2: Secure Timer
 }
 
--- a block's address with its frames, or a watchdog
+-- GT Block Physical address, at 4, of a block with its frames, or a watchdog
 abbrev pub Timer : Type 0
 Timer = (ℕ × List GtFrame) ⊎ SbsaWatchdog
 
@@ -106,11 +106,11 @@ timer_of e =
 
 -- ---- all structures of a table
 
--- how many it says there are; tables below revision 2 have none
+-- Platform Timer Count, at 88: how many it says there are; tables of a Revision, at 8, below 2 have none
 abbrev pub timer_count : List ℕ → ℕ
 timer_count table = if nat_lt (field_of table 8 1) 2 then 0 else field_of table 88 4
 
--- the bytes from which on they lie; they can't begin in the first 96 bytes
+-- Platform Timer Offset, at 92: the bytes from which on they lie; they can't begin in the first 96 bytes
 abbrev pub timer_bytes : List ℕ → List ℕ
 timer_bytes table =
     if nat_lt (field_of table 92 4) 96 then [] else drop (field_of table 92 4) table
@@ -128,7 +128,7 @@ structures_in count bytes = sound_front (cut (timers_grammar count) bytes).0
 abbrev pub timers_in : ℕ → List ℕ → List Timer
 timers_in count bytes = filter_map timer_of (structures_in count bytes)
 
--- how many of them are missing: the end is malformed where some are
+-- how many of them are missing: the end is malformed if some are
 abbrev pub missing_in : ℕ → List ℕ → ℕ
 missing_in count bytes = count - length (structures_in count bytes)
 

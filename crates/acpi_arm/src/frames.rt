@@ -44,11 +44,11 @@ pub(crate) fn interrupt_in(bytes: &[u8], offset: usize) -> TimerInterrupt
     requires { offset ≤ 64 }
     ensures { result ≡ interrupt_at bytes.now offset }
 {
-    let flags = field(bytes, offset + 4, 4) as u32;
+    let flags = field(bytes, offset + 4, 4) as u32; // Flags
     TimerInterrupt {
-        interrupt: field(bytes, offset, 4) as u32,
-        trigger_mode: trigger_in(flags, 0),
-        polarity: polarity_in(flags, 1),
+        interrupt: field(bytes, offset, 4) as u32, // GSIV
+        trigger_mode: trigger_in(flags, 0), // Timer interrupt Mode
+        polarity: polarity_in(flags, 1), // Timer Interrupt polarity
     }
 }
 
@@ -56,15 +56,15 @@ pub(crate) fn interrupt_in(bytes: &[u8], offset: usize) -> TimerInterrupt
 fn frame_in(bytes: &[u8]) -> GtFrame
     ensures { result ≡ frame_at bytes.now }
 {
-    let common_flags = field(bytes, 36, 4);
+    let common_flags = field(bytes, 36, 4); // GTx Common Flags
     GtFrame {
-        number: field(bytes, 0, 1) as u8,
-        base: field(bytes, 4, 8),
-        el0_base: unless_ones(field(bytes, 12, 8)),
-        physical_timer: interrupt_in(bytes, 20),
-        virtual_timer: interrupt_in(bytes, 28),
-        is_secure: has_bit(common_flags, 0),
-        is_always_on: has_bit(common_flags, 1),
+        number: field(bytes, 0, 1) as u8, // GT Frame Number
+        base: field(bytes, 4, 8), // GTx Physical address (CntBaseX)
+        el0_base: unless_ones(field(bytes, 12, 8)), // GTx Physical address (CntEL0BaseX)
+        physical_timer: interrupt_in(bytes, 20), // GTx Physical Timer GSIV, GTx Physical Timer Flags
+        virtual_timer: interrupt_in(bytes, 28), // GTx Virtual Timer GSIV, GTx Virtual Timer Flags
+        is_secure: has_bit(common_flags, 0), // Secure Timer
+        is_always_on: has_bit(common_flags, 1), // Always-on Capability
     }
 }
 

@@ -42,12 +42,12 @@ fn timer_in(bytes: &[u8], offset: usize) -> ArmTimer
     requires { offset + 8 ≤ length bytes.now }
     ensures { result ≡ arm_timer_at bytes.now offset }
 {
-    let flags = field_in(bytes, offset + 4, 4) as u32;
+    let flags = field_in(bytes, offset + 4, 4) as u32; // Flags
     ArmTimer {
-        interrupt: field_in(bytes, offset, 4) as u32,
-        trigger_mode: trigger_in(flags, 0),
-        polarity: polarity_in(flags, 1),
-        always_on: has_bit(flags as u64, 2),
+        interrupt: field_in(bytes, offset, 4) as u32, // GSIV
+        trigger_mode: trigger_in(flags, 0), // Timer interrupt Mode
+        polarity: polarity_in(flags, 1), // Timer Interrupt polarity
+        always_on: has_bit(flags as u64, 2), // Always-on Capability
     }
 }
 
@@ -88,15 +88,15 @@ impl PhysicalRecord for Gtdt {
     fn read(bytes: &[u8]) -> Self {
         Gtdt {
             header: SdtHeader::read(bytes),
-            control_base: field_in(bytes, 36, 8),
-            secure_el1_timer: timer_in(bytes, 48),
-            non_secure_el1_timer: timer_in(bytes, 56),
-            virtual_el1_timer: timer_in(bytes, 64),
-            el2_timer: timer_in(bytes, 72),
-            read_base: field_in(bytes, 80, 8),
-            platform_timer_count: field_in(bytes, 88, 4) as u32,
-            platform_timer_offset: field_in(bytes, 92, 4) as u32,
-            el2_virtual: ExtendedField::read(bytes, 96),
+            control_base: field_in(bytes, 36, 8), // CntControlBase Physical Address
+            secure_el1_timer: timer_in(bytes, 48), // Secure EL1 Timer GSIV, Secure EL1 Timer Flags
+            non_secure_el1_timer: timer_in(bytes, 56), // Non-Secure EL1 Timer GSIV, Non-Secure EL1 Timer Flags
+            virtual_el1_timer: timer_in(bytes, 64), // Virtual EL1 Timer GSIV, Virtual EL1 Timer Flags
+            el2_timer: timer_in(bytes, 72), // EL2 Timer GSIV, EL2 Timer Flags
+            read_base: field_in(bytes, 80, 8), // CntReadBase Physical Address
+            platform_timer_count: field_in(bytes, 88, 4) as u32, // Platform Timer Count
+            platform_timer_offset: field_in(bytes, 92, 4) as u32, // Platform Timer Offset
+            el2_virtual: ExtendedField::read(bytes, 96), // Virtual EL2 Timer GSIV, Virtual EL2 Timer Flags
         }
     }
 }

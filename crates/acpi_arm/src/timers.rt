@@ -70,8 +70,8 @@ fn timers_grammar(count: u32) -> Grammar<2>
 fn frames_fit(block: &[u8]) -> bool
     ensures { result ≡ frames_fit block.now }
 {
-    let count = field(block, 12, 4);
-    let offset = field(block, 16, 4);
+    let count = field(block, 12, 4); // GT Block Timer Count
+    let offset = field(block, 16, 4); // GT Block Timer Offset
     count == 0 || (offset >= 20 && offset + FRAME_LENGTH as u64 * count <= block.len() as u64)
 }
 
@@ -79,7 +79,7 @@ fn frames_fit(block: &[u8]) -> bool
 fn is_sound(structure: &[u8]) -> bool
     ensures { result ≡ is_sound structure.now }
 {
-    field(structure, 0, 1) != 0 || frames_fit(structure)
+    field(structure, 0, 1) != 0 || frames_fit(structure) // Type
 }
 
 impl<'a> PlatformTimer<'a> {
@@ -87,12 +87,14 @@ impl<'a> PlatformTimer<'a> {
     fn read(structure: &'a [u8]) -> Option<PlatformTimer<'a>>
         ensures { option_map shown_in result ≡ timer_of structure.now }
     {
+        // Type.
         match field(structure, 0, 1) {
             0 => {
+                // GT Block Timer Offset.
                 let frames = skip(structure, field(structure, 16, 4) as usize);
                 Some(PlatformTimer::GtBlock(GtBlock {
-                    address: field(structure, 4, 8),
-                    frames: GtFrameIter::over(frames, field(structure, 12, 4) as u32),
+                    address: field(structure, 4, 8), // GT Block Physical address
+                    frames: GtFrameIter::over(frames, field(structure, 12, 4) as u32), // GT Block Timer Count
                 }))
             }
             1 => Some(PlatformTimer::SbsaWatchdog(watchdog_in(structure))),
@@ -105,14 +107,14 @@ impl<'a> PlatformTimer<'a> {
 fn watchdog_in(structure: &[u8]) -> SbsaWatchdog
     ensures { result ≡ watchdog_at structure.now }
 {
-    let flags = field(structure, 24, 4) as u32;
+    let flags = field(structure, 24, 4) as u32; // Watchdog Timer Flags
     SbsaWatchdog {
-        refresh_frame: field(structure, 4, 8),
-        control_frame: field(structure, 12, 8),
-        interrupt: field(structure, 20, 4) as u32,
-        trigger_mode: trigger_in(flags, 0),
-        polarity: polarity_in(flags, 1),
-        is_secure: has_bit(flags as u64, 2),
+        refresh_frame: field(structure, 4, 8), // RefreshFrame Physical Address
+        control_frame: field(structure, 12, 8), // WatchdogControlFrame Physical Address
+        interrupt: field(structure, 20, 4) as u32, // Watchdog Timer GSIV
+        trigger_mode: trigger_in(flags, 0), // Timer interrupt Mode
+        polarity: polarity_in(flags, 1), // Timer Interrupt polarity
+        is_secure: has_bit(flags as u64, 2), // Secure Timer
     }
 }
 
@@ -159,10 +161,11 @@ impl<'a> PlatformTimerIter<'a> {
 fn timer_count(table: &[u8]) -> u32
     ensures { result ≡ timer_count table.now }
 {
+    // Revision.
     if field(table, 8, 1) < 2 {
         0
     } else {
-        field(table, 88, 4) as u32
+        field(table, 88, 4) as u32 // Platform Timer Count
     }
 }
 
@@ -170,7 +173,7 @@ fn timer_count(table: &[u8]) -> u32
 fn timer_bytes(table: &[u8]) -> &[u8]
     ensures { result.now ≡ timer_bytes table.now }
 {
-    let offset = field(table, 92, 4) as usize;
+    let offset = field(table, 92, 4) as usize; // Platform Timer Offset
     if offset < 96 {
         return &[];
     }

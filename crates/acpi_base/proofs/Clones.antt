@@ -3,7 +3,7 @@ use Rattle.std.proofs.Common.{◌≡◌, List, [], ◌∷◌, refl, arith, suc}
 use Rattle.std.specs.Prelude.{Contains}
 use Rattle.std.specs.List.{AllZip}
 
--- where each clone of an item equals it, clones of the items in order are the items
+-- if each clone of an item equals it, clones of the items in order are the items
 pub clones_equal : {X : Type 0} (R : X → X → Type 0) (xs ys : List X) → ((x y : X) → Contains xs x → R x y → y ≡ x) → AllZip R xs ys → ys ≡ xs
 clones_equal R [] [] same zip = refl
 clones_equal R [] (y ∷ ys) same zip = absurd zip

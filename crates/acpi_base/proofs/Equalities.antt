@@ -1,4 +1,5 @@
--- What is compared by `==` is equal exactly where it is one: values of enums by their variants and fields, structs by their fields.
+-- What is compared by `==` is equal exactly if it is one: values of enums by their variants and fields, structs by
+-- their fields.
 use Rattle.acpi_base.specs.contracts.range.AddressRangePartialEq.TheImpl as ranges
 use Rattle.acpi_base.specs.declared.range.AddressRange.{AddressRange}
 use Rattle.std.proofs.Common.{rules, ◌≡◌, ℕ, Bool, List, [], ◌∷◌, true, false, refl, ap, sym, ◌∙◌}

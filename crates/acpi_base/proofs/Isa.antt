@@ -64,7 +64,7 @@ module _ (overrides : List InterruptSourceOverride) where
   led : (n s : ℕ) → leads_to overrides n s ≡ true → is_taken overrides n ≡ true
   led n s leads = led_from n s (override_for overrides s) refl leads
 
-  -- an ISA interrupt goes where its override leads, or one to one where that input is free
+  -- an ISA interrupt goes where its override leads, or one to one if that input is free
   abbrev GoesTo : ℕ → ℕ → Type 0
   GoesTo irq n = (leads_to overrides n irq ≡ true) ⊎ ((n ≡ irq) × (is_taken overrides irq ≡ false))
 

@@ -106,7 +106,7 @@ adds_up-joined first second third fourth bytes long summed =
       ),
     )
 
--- where all lanes are kept, their sum is; and where the first are cleared, that of the others
+-- if all lanes are kept, their sum is; and if the first are cleared, that of the others
 sum-kept_all : (xs : List ℕ) (n : ℕ) → length xs ≡ n → sum (zip2 bit_and xs (replicate n 255)) % 256 ≡ sum xs % 256
 sum-kept_all [] n long = refl
 sum-kept_all (x ∷ xs) zero long = absurd (omega arith)

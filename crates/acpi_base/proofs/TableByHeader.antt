@@ -37,7 +37,7 @@ unfolding check_table
 sum_left s b names long same =
     rw (names, same, and_from (nat_le 36 (length b)) (nat_le (length b) (length b)) long (le-leb (length b) (length b) (omega arith)), take-length b) refl
 
--- what the whole of a table shows, where the header there has the names and the least length
+-- what the whole of a table shows, if the header there has the names and the least length
 pub names_and_length : (m : Memory) (s : Signature) (least p : ℕ) (head table : List ℕ) → 36 ≤ least → lent m p 36 ≡ Ok head → whole_of m s least p head ≡ Ok table
     → (check_names s (header_at table) ≡ Ok tt) × ((header_at table).length ≡ length table)
 unfolding whole_of
@@ -113,7 +113,7 @@ own_table m s p head front letters =
     let own : the_signature (part head 0 4) ≡ s = ap the_signature (sym letters) in
     rw (front, own) refl
 
--- ---- where the header isn't lent, or has another signature
+-- ---- if the header isn't lent, or has another signature
 
 pub no_header : (m : Memory) (k : Kind) (p : ℕ) (e : AcpiError) → lent m p 36 ≡ Err e → table_at m k p ≡ Err e
 unfolding table_at

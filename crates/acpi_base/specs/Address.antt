@@ -1,4 +1,4 @@
--- Generic addresses (ACPI 6.4, section 5.2.3.2).
+-- Generic addresses: the Generic Address Structure, GAS (ACPI 6.4, section 5.2.3.2).
 use Rattle.std.specs.Prelude.{ℕ, ◌==◌, nat_le, List, [], ◌∷◌, find, Result, Ok, if◌then◌else◌}
 use Rattle.acpi_base.specs.declared.error.AcpiError.{AcpiError}
 use Rattle.acpi_base.specs.declared.error.AcpiError.TheVariants.{InvalidGenericAddress}
@@ -11,7 +11,7 @@ use Rattle.acpi_base.specs.Bytes.{field_of}
 use Rattle.acpi_base.specs.Steps.{◌>>=◌}
 use Rattle.std.specs.Option.{ok_or}
 
--- the code of each address space
+-- Address Space ID: the code of each address space
 abbrev pub space_code : AddressSpace → ℕ
 space_code SystemMemory = 0x00
 space_code SystemIo = 0x01
@@ -40,7 +40,7 @@ space_of code =
     if nat_le 0xc0 code then Ok (OemDefined code)
     else ok_or (find (λ s. space_code s == code) named_spaces) InvalidGenericAddress
 
--- the code of each access size
+-- Access Size: the code of each
 abbrev pub size_code : AccessSize → ℕ
 size_code Undefined = 0
 size_code ByteAccess = 1
@@ -58,12 +58,12 @@ access_size_of code = ok_or (find (λ s. size_code s == code) access_sizes) Inva
 -- the address that the bytes encode
 unfoldable pub generic_address_of : List ℕ → Result GenericAddress AcpiError
 generic_address_of raw = do
-  space ← space_of (field_of raw 0 1)
-  size ← access_size_of (field_of raw 3 1)
+  space ← space_of (field_of raw 0 1)  -- Address Space ID
+  size ← access_size_of (field_of raw 3 1)  -- Access Size
   Ok (record {
     address_space = space;
-    bit_width = field_of raw 1 1;
-    bit_offset = field_of raw 2 1;
+    bit_width = field_of raw 1 1;  -- Register Bit Width
+    bit_offset = field_of raw 2 1;  -- Register Bit Offset
     access_size = size;
-    address = field_of raw 4 8;
+    address = field_of raw 4 8;  -- Address
   })

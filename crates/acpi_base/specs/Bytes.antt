@@ -19,7 +19,7 @@ spelling (suc width) n = n % 256 ∷ spelling width (n / 256)
 abbrev pub part : List ℕ → ℕ → ℕ → List ℕ
 part bytes offset n = take n (drop offset bytes)
 
--- the n bytes at an offset, filled up with zeros where the bytes end before
+-- the n bytes at an offset, filled up with zeros if the bytes end before
 abbrev pub filled_part : List ℕ → ℕ → ℕ → List ℕ
 filled_part bytes offset n = part bytes offset n ++ replicate (n - length (part bytes offset n)) 0
 

@@ -8,12 +8,12 @@ use Rattle.acpi_base.specs.declared.range.AddressRange.{AddressRange}
 abbrev pub holds_bus : McfgEntry → ℕ → Bool
 holds_bus e bus = nat_le e.bus_number_start bus && nat_le bus e.bus_number_end
 
--- a function's place
+-- a function's place: the bus from bit 20 on, the device from bit 15 on, the function from bit 12 on
 abbrev pub ecam_place : McfgEntry → ℕ → ℕ → ℕ → ℕ
 ecam_place e bus device function =
     e.base_address + bus * 2 ^ 20 + device * 2 ^ 15 + function * 2 ^ 12
 
--- that place, where the region holds the bus, of 32 devices of 8 functions, and it is an address
+-- that place, if the region holds the bus, which has 32 devices of 8 functions, and it is an address
 abbrev pub ecam_in : ℕ → ℕ → ℕ → McfgEntry → Option ℕ
 ecam_in bus device function e =
     if holds_bus e bus && (nat_lt device 32 && (nat_lt function 8
@@ -27,7 +27,7 @@ ecam_span e = record {
   length = (e.bus_number_end - e.bus_number_start + 1) * 2 ^ 20;
 }
 
--- that memory, where the region holds a bus and it ends below 2^64
+-- that memory, if the region holds a bus and it ends below 2^64
 abbrev pub ecam_range : McfgEntry → Option AddressRange
 ecam_range e =
     let span = ecam_span e in

@@ -1,15 +1,15 @@
--- Fields that tables have from a revision on, and only where they are long enough.
+-- Fields that tables have from a revision on, and only if they are long enough.
 use Rattle.std.specs.Prelude.{ℕ, ◌+◌, nat_le, List, length, Option, Some, None, if◌then◌else◌}
 use Rattle.std.specs.Option.{option_map}
 use Rattle.acpi_base.specs.Bytes.{part}
 use Rattle.acpi_base.specs.declared.extended.ExtendedField.{ExtendedField}
 
--- the n bytes at an offset, where all of them lie in the table
+-- the n bytes at an offset, if all of them lie in the table
 abbrev pub whole_part : List ℕ → ℕ → ℕ → Option (List ℕ)
 whole_part bytes offset n =
     if nat_le (offset + n) (length bytes) then Some (part bytes offset n) else None
 
--- what a table of this revision has, where the field came with revision `least`
+-- what a table of this revision has, if the field came with revision `least`
 abbrev pub field_since : {T : Type 0} → ℕ → ℕ → Option T → Option T
 field_since least revision held = if nat_le least revision then held else None
 

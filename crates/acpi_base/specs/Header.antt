@@ -1,4 +1,4 @@
--- The header that every table begins with, and its checks (ACPI 6.4, section 5.2.6).
+-- The header that every table begins with, DESCRIPTION_HEADER, and its checks (ACPI 6.4, section 5.2.6).
 use Rattle.std.specs.Prelude.{ℕ, ◌&&◌, ◌==◌, List, take, length, nat_le, Result}
 use Rattle.std.specs.Str.{bytes_eq, is_utf8}
 use Rattle.acpi_base.specs.declared.error.AcpiError.{AcpiError}
@@ -11,15 +11,15 @@ use Rattle.acpi_base.specs.Steps.{◌>>=◌, holds}
 -- the header that the bytes begin with
 unfoldable pub header_at : List ℕ → SdtHeader
 header_at b = record {
-  signature = record { 0 = part b 0 4 };
-  length = field_of b 4 4;
-  revision = field_of b 8 1;
-  checksum = field_of b 9 1;
-  oem_id = part b 10 6;
-  oem_table_id = part b 16 8;
-  oem_revision = field_of b 24 4;
-  creator_id = field_of b 28 4;
-  creator_revision = field_of b 32 4;
+  signature = record { 0 = part b 0 4 };  -- Signature
+  length = field_of b 4 4;  -- Length
+  revision = field_of b 8 1;  -- Revision
+  checksum = field_of b 9 1;  -- Checksum
+  oem_id = part b 10 6;  -- OEMID
+  oem_table_id = part b 16 8;  -- OEM Table ID
+  oem_revision = field_of b 24 4;  -- OEM Revision
+  creator_id = field_of b 28 4;  -- Creator ID
+  creator_revision = field_of b 32 4;  -- Creator Revision
 }
 
 -- the signature is this one and a text, and both ids are texts
@@ -29,7 +29,7 @@ check_names s h = do
   _ ← holds (is_utf8 h.oem_id) (SdtInvalidOemId s)
   holds (is_utf8 h.oem_table_id) (SdtInvalidTableId s)
 
--- the names, then the length, then the sum of that many bytes
+-- the names, then Length, which lies at 4, then the sum of that many bytes
 unfoldable pub check_table : Signature → List ℕ → Result (Unit {0}) AcpiError
 check_table s b = do
   _ ← check_names s (header_at b)

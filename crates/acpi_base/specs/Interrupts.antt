@@ -25,7 +25,7 @@ use Rattle.acpi_base.specs.declared.model.interrupt.TriggerMode.TheVariants as t
 use Rattle.acpi_base.specs.declared.model.item.MadtItem.{MadtItem}
 use Rattle.acpi_base.specs.declared.model.item.MadtItem.TheVariants as item
 
--- the code of each polarity; 2 is reserved
+-- Polarity: the code of each; 2 is reserved (MPS INTI Flags, section 5.2.12.5)
 abbrev pub polarity_code : Polarity → ℕ
 polarity_code polarity.SameAsBus = 0
 polarity_code polarity.ActiveHigh = 1
@@ -34,12 +34,12 @@ polarity_code polarity.ActiveLow = 3
 abbrev pub polarities : List Polarity
 polarities = polarity.SameAsBus ∷ polarity.ActiveHigh ∷ polarity.ActiveLow ∷ []
 
--- the polarity in bits 0 and 1 of an interrupt's flags
+-- Polarity: bits 0 and 1 of an interrupt's MPS INTI Flags
 abbrev pub polarity_of : ℕ → Result Polarity MadtError
 polarity_of flags =
     ok_or (find (λ p. polarity_code p == bits_of flags 0 2) polarities) MpsIntiInvalidPolarity
 
--- the code of each trigger mode; 2 is reserved
+-- Trigger Mode: the code of each; 2 is reserved
 abbrev pub trigger_code : TriggerMode → ℕ
 trigger_code trigger.SameAsBus = 0
 trigger_code trigger.Edge = 1
@@ -48,12 +48,12 @@ trigger_code trigger.Level = 3
 abbrev pub trigger_modes : List TriggerMode
 trigger_modes = trigger.SameAsBus ∷ trigger.Edge ∷ trigger.Level ∷ []
 
--- the trigger mode in bits 2 and 3
+-- Trigger Mode: bits 2 and 3 of an interrupt's MPS INTI Flags
 abbrev pub trigger_mode_of : ℕ → Result TriggerMode MadtError
 trigger_mode_of flags =
     ok_or (find (λ t. trigger_code t == bits_of flags 2 2) trigger_modes) MpsIntiInvalidTriggerMode
 
--- another wiring of an interrupt: the bus is tested before the flags
+-- Interrupt Source Override, another wiring of an interrupt: Bus is tested before Flags
 abbrev pub override_of : InterruptSourceOverrideEntry → Result InterruptSourceOverride MadtError
 override_of e = do
   _ ← holds (e.bus == 0) InterruptOverrideEntryHasInvalidBus
@@ -66,7 +66,7 @@ override_of e = do
     trigger_mode = trigger_mode;
   })
 
--- a non-maskable interrupt
+-- NMI Source: a non-maskable interrupt
 abbrev pub nmi_source_of : NmiSourceEntry → Result NmiSource MadtError
 nmi_source_of e = do
   polarity ← polarity_of e.flags
@@ -77,7 +77,7 @@ nmi_source_of e = do
     trigger_mode = trigger_mode;
   })
 
--- the number of each input of a local APIC
+-- Local APIC LINT#: the number of each input of a local APIC
 abbrev pub line_code : LocalInterruptLine → ℕ
 line_code Lint0 = 0
 line_code Lint1 = 1
@@ -104,7 +104,9 @@ io_apic_of e = record {
   global_system_interrupt_base = e.global_system_interrupt_base;
 }
 
--- what an entry says, or why it is refused: the types of SAPICs and of the GIC always are
+-- what an entry says, or why it is refused: the types of SAPICs and of the GIC always are. Enabled is bit 0 of the
+-- Local APIC Flags (section 5.2.12.2), which a Processor Local x2APIC has too. The ACPI Processor UID that stands for
+-- all processors is 0xff in a Local APIC NMI, and 0xffffffff in a Local x2APIC NMI
 unfoldable pub item_of : MadtEntry → Result MadtItem MadtError
 item_of (variants.LocalApic e) = Ok (item.Processor e.processor_id e.apic_id (has_bit e.flags 0))
 item_of (variants.LocalX2Apic e) = Ok (item.Processor e.processor_uid e.x2apic_id (has_bit e.flags 0))

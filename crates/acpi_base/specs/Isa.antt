@@ -18,7 +18,7 @@ abbrev pub goes_to : ℕ → Option InterruptSourceOverride → Bool
 goes_to number (Some o) = o.global_system_interrupt == number
 goes_to number None = false
 
--- that of a source does
+-- the override of a source leads to the interrupt of a number
 abbrev pub leads_to : List InterruptSourceOverride → ℕ → ℕ → Bool
 leads_to overrides number source = goes_to number (override_for overrides source)
 
@@ -26,13 +26,13 @@ leads_to overrides number source = goes_to number (override_for overrides source
 abbrev pub is_taken : List InterruptSourceOverride → ℕ → Bool
 is_taken overrides number = list_any (λ o. leads_to overrides number o.isa_source) overrides
 
--- a polarity, where that of the bus is this one
+-- a polarity, if that of the bus is this one
 abbrev pub polarity_or : Polarity → Polarity → Polarity
 polarity_or bus polarity.SameAsBus = bus
 polarity_or bus polarity.ActiveHigh = polarity.ActiveHigh
 polarity_or bus polarity.ActiveLow = polarity.ActiveLow
 
--- a trigger mode, where that of the bus is this one
+-- a trigger mode, if that of the bus is this one
 abbrev pub trigger_mode_or : TriggerMode → TriggerMode → TriggerMode
 trigger_mode_or bus trigger.SameAsBus = bus
 trigger_mode_or bus trigger.Edge = trigger.Edge
@@ -73,7 +73,7 @@ sci_interrupt overrides sci =
       | None ↦ straight polarity.ActiveLow trigger.Level sci
     ]
 
--- another ISA interrupt has the same global system interrupt only where overrides of both lead there
+-- another ISA interrupt has the same global system interrupt only if overrides of both lead there
 abbrev pub SharedByOverrides : List InterruptSourceOverride → ℕ → IsaInterrupt → Type 0
 SharedByOverrides overrides irq this =
     (other : ℕ) (that : IsaInterrupt) → other ≢ irq → isa_interrupt overrides other ≡ Some that

@@ -10,7 +10,7 @@ use Rattle.acpi_base.specs.declared.error.MadtError.{MadtError}
 use Rattle.acpi_base.specs.declared.model.counts.Counts.{Counts}
 use Rattle.acpi_base.specs.declared.model.item.MadtItem.{MadtItem}
 
--- what an entry's bytes say, or why it is refused; nothing where its type isn't defined
+-- what an entry's bytes say, or why it is refused; nothing if its type isn't defined
 unfoldable pub said_of : List ℕ → Option (Result MadtItem MadtError)
 said_of e = option_map item_of (entry_of e)
 
@@ -18,7 +18,7 @@ said_of e = option_map item_of (entry_of e)
 abbrev pub said_in : List ℕ → List (Result MadtItem MadtError)
 said_in bytes = filter_map said_of (cut madt_grammar bytes).0
 
--- how many there are of each, where so many are counted and these are after them
+-- how many there are of each, if so many are counted and these are after them
 abbrev pub counted_behind : Counts → List MadtItem → Counts
 counted_behind c items = record {
   processors = c.processors + length (filter_map (processor_in true) items);

@@ -15,8 +15,7 @@ abbrev pub FieldPastEnd : Type 0
 FieldPastEnd = (bytes : List ℕ) (count offset n : ℕ)
     → field_of (bytes ++ replicate count 0) offset n ≡ field_of bytes offset n
 
--- bytes that differ from these in exactly one place, below the length and outside the length field,
--- are refused
+-- bytes that differ from these in exactly one place, below the length and outside Length (bytes 4 to 7), are refused
 abbrev pub DamageShows : Signature → List ℕ → Type 0
 DamageShows s bytes = (k b : ℕ) → k < field_of bytes 4 4 → (k < 4) ⊎ (8 ≤ k)
     → b < 256 → b ≢ slice_index bytes k

@@ -45,8 +45,8 @@ madt_lengths = map (λ k. k.0) entry_types
 -- an entry begins with its type and its length, one byte each
 abbrev pub madt_layout : EntryLayout 17
 madt_layout = record {
-  kind_place = record { at = 0; width = One };
-  length_place = record { at = 1; width = One };
+  kind_place = record { at = 0; width = One };  -- Type
+  length_place = record { at = 1; width = One };  -- Length
   least_lengths = madt_lengths;
   least_of_others = 2;
 }
@@ -55,11 +55,12 @@ madt_layout = record {
 abbrev pub madt_grammar : Grammar 17
 madt_grammar = record { layout = madt_layout; most = None }
 
--- what an entry says; nothing where its type is after the last one
+-- what an entry says; nothing if its type is after the last one
 abbrev pub entry_of : List ℕ → Option MadtEntry
 entry_of e = option_map (λ k. k.1 e) (slice_get entry_types (slice_index e 0))
 
--- the entries of the bytes after a table's 44 fixed ones, and the rest in which no entry begins
+-- the entries (Interrupt Controller Structure[n], from 44 on) after a table's 44 fixed bytes, and the rest in which no
+-- entry begins
 abbrev pub cut_of : List ℕ → List (List ℕ) × List ℕ
 cut_of table = cut madt_grammar (drop 44 table)
 
@@ -69,17 +70,17 @@ entries_of table = filter_map entry_of (cut_of table).0
 
 -- ---- the table
 
--- what a table's first bytes mean
+-- what the first bytes of a MADT mean (section 5.2.12)
 unfoldable pub madt_at : List ℕ → Madt
 madt_at b = record {
   header = header_at b;
-  local_apic_address = field_of b 36 4;
-  flags = field_of b 40 4;
+  local_apic_address = field_of b 36 4;  -- Local Interrupt Controller Address
+  flags = field_of b 40 4;  -- Flags (Multiple APIC Flags)
 }
 
 -- ---- the mailbox
 
--- the address of a mailbox, where an entry gives one
+-- MailBoxAddress: the address of a mailbox, if an entry gives one
 abbrev pub mailbox_in : MadtEntry → Option ℕ
 mailbox_in (variants.MultiprocessorWakeup wakeup) = Some wakeup.mailbox_address
 mailbox_in _ = None

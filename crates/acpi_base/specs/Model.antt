@@ -28,7 +28,7 @@ use Rattle.acpi_base.specs.declared.model.processor.ProcessorState.TheVariants.{
 
 -- ---- refusals
 
--- why an entry is refused, where it is
+-- why an entry is refused, if it is
 abbrev pub fault_in : MadtEntry → Option MadtError
 fault_in e = result_err (item_of e)
 
@@ -43,7 +43,7 @@ fault_of table = first_fault (filter_map fault_in (entries_of table)) (cut_of ta
 
 -- ---- what the entries say
 
--- what an entry says, where it isn't refused
+-- what an entry says, if it isn't refused
 abbrev pub item_in : MadtEntry → Option MadtItem
 item_in e = result_ok (item_of e)
 
@@ -105,7 +105,7 @@ apic_of madt items = record {
   local_apic_nmi_lines = filter_map nmi_line_in items;
   interrupt_source_overrides = filter_map override_in items;
   nmi_sources = filter_map nmi_source_in items;
-  also_has_legacy_pics = has_bit madt.flags 0;
+  also_has_legacy_pics = has_bit madt.flags 0;  -- Flags (Multiple APIC Flags), bit 0: PCAT_COMPAT
 }
 
 -- the first processor is the boot processor, and all after it are application processors
@@ -124,7 +124,7 @@ Model A = InterruptModel A × Option (ProcessorInfo A)
 abbrev pub gathered : {A : Type 0} → Madt → List MadtItem → Model A
 gathered madt items = (model.Apic (apic_of madt items), processors_of items)
 
--- APICs where an entry is of them, else nothing is known
+-- a model of APICs if an entry is of them, else nothing is known
 abbrev pub model_from : {A : Type 0} → Madt → List MadtItem → Model A
 model_from madt items =
     if list_any is_of_apic items then gathered madt items else (model.Unknown, None)
@@ -142,6 +142,6 @@ model_of table = model_with (madt_at table) table
 
 -- ---- out of memory
 
--- memory is asked for only where no entry is refused, and one is of a model of APICs
+-- memory is asked for only if no entry is refused, and one is of a model of APICs
 abbrev pub AsksMemory : List ℕ → Type 0
 AsksMemory table = (fault_of table ≡ None) × IsTrue (list_any is_of_apic (items_of table))

@@ -10,7 +10,7 @@ use Rattle.acpi_base.specs.declared.model.item.MadtItem.{MadtItem}
 use Rattle.acpi_base.specs.declared.model.processor.Processor.{Processor}
 use Rattle.acpi_base.specs.declared.model.processor.ProcessorInfo.{ProcessorInfo}
 
--- the processors, where those so far are these and more follow
+-- the processors, if those so far are these and more follow
 abbrev pub processors_behind : {A : Type 0} → Option Processor → List Processor → List MadtItem
     → Option (ProcessorInfo A)
 processors_behind (Some boot) others items = Some (record {
@@ -23,7 +23,7 @@ processors_behind None others items =
       application_processors = others ++ drop 1 (filter_map (processor_in true) items);
     }) (slice_get (filter_map (processor_in false) items) 0)
 
--- the model, where the entries after those gathered say this
+-- the model, if the entries after those gathered say this
 abbrev pub model_behind : {A : Type 0} → ModelBuilder A → List MadtItem → Model A
 model_behind d items = (
   model.Apic (record {

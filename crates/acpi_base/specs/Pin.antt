@@ -43,7 +43,7 @@ pub record IsPin (io_apics : List IoApic) (interrupt : ℕ) (x : IoApic) (pin : 
   pub none_nearer : AllByRecursion (IsNoNearer interrupt (base_of x)) io_apics
   pub none_before : AllByRecursion (λ y. base_of y ≤ interrupt → base_of y < base_of x) before
 
--- such an I/O APIC and pin, or none where every base is above the interrupt
+-- such an I/O APIC and pin, or none if every base is above the interrupt
 abbrev pub IsNearest : List IoApic → ℕ → Option (IoApic × ℕ) → Type 0
 IsNearest io_apics interrupt (Some found) = IsPin io_apics interrupt found.0 found.1
 IsNearest io_apics interrupt None = AllByRecursion (λ x. interrupt < base_of x) io_apics

@@ -39,14 +39,14 @@ abbrev pub ◌>>=◌ : {A E : Type 0} → Result A E → (A → Ranges) → Rang
 (Ok x) >>= ranges = ranges x
 (Err e) >>= ranges = []
 
--- those that are come to only where this is refused
+-- those that are come to only if this is refused
 abbrev pub unless_found : {A E : Type 0} → Result A E → Ranges → Ranges
 unless_found (Ok x) ranges = []
 unless_found (Err e) ranges = ranges
 
 -- ---- of one table
 
--- those of `whole_of`: as many bytes as the header says, where it has the names and the least length
+-- those of `whole_of`: as many bytes as the header says, if it has the names and the least length
 abbrev pub whole_ranges : Signature → ℕ → ℕ → List ℕ → Ranges
 whole_ranges s least p head = do
   length ← length_in s least (header_at head)

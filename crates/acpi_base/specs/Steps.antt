@@ -18,11 +18,11 @@ holds b e = if b then Ok tt else Err e
 abbrev pub lent : Memory → ℕ → ℕ → Result (List ℕ) AcpiError
 lent m a n = ok_or (at m a n) MapFailed
 
--- what a call answered, seen by view, is what the definition says: its value, or its refusal
+-- what a call answered, seen by view, is what is said by the definition: its value, or its refusal
 abbrev pub Gives : {X Y E : Type 0} → (X → Y) → Result X E → Result Y E → Type 0
 Gives view (Ok x) said = said ≡ Ok (view x)
 Gives view (Err e) said = said ≡ Err e
 
--- what a call answered is what is defined, or AllocError where memory may be asked for
+-- what a call answered is what is said by the definition, or AllocError if memory may be asked for
 abbrev pub GivesOrFull : {X : Type 0} → Type 0 → Result X AcpiError → Result X AcpiError → Type 0
-GivesOrFull Asks said defined = (said ≡ defined) ⊎ (Asks × (said ≡ Err AllocError))
+GivesOrFull Asks answer said = (answer ≡ said) ⊎ (Asks × (answer ≡ Err AllocError))

@@ -25,15 +25,14 @@ sdt_kind s least = kind s least (check_table s)
 abbrev pub plain_kind : Signature → Kind
 plain_kind s = sdt_kind s 36
 
--- the length that a header gives, where it has the names and the least length
+-- the length that a header gives, if it has the names and the least length
 unfoldable pub length_in : Signature → ℕ → SdtHeader → Result ℕ AcpiError
 length_in s least h = do
   _ ← check_names s h
   _ ← holds (nat_le least h.length) (SdtInvalidLength s)
   Ok h.length
 
--- what lies at an address, as long as the header there says, where it has the names and the least
--- length
+-- what lies at an address, as long as the header there says, if it has the names and the least length
 unfoldable pub whole_of : Memory → Signature → ℕ → ℕ → List ℕ → Result (List ℕ) AcpiError
 whole_of m s least p head = do
   length ← length_in s least (header_at head)

@@ -4,7 +4,7 @@ use Rattle.std.specs.Borrow.{Bor}
 use Rattle.std.specs.Str.{is_utf8}
 use Rattle.acpi_base.specs.declared.table.signature.Signature.{Signature}
 
--- the answer is the text that the bytes encode in UTF-8, or none where they encode none
+-- the answer is the text that the bytes encode in UTF-8, or none if they encode none
 abbrev pub IsTextOf : Option (Bor (List ℕ)) → List ℕ → Type 0
 IsTextOf answer bytes =
     MatchOption answer (¬ (IsUtf8 bytes)) (λ text. (text.now ≡ bytes) × IsUtf8 bytes)
@@ -27,7 +27,7 @@ abbrev pub hex_text : List ℕ → List ℕ
 hex_text [] = []
 hex_text (b ∷ bs) = hex_digit (b / 16) ∷ hex_digit (b % 16) ∷ hex_text bs
 
--- the bytes where they are a text, else their digits
+-- the bytes if they are a text, else their digits
 abbrev pub bytes_text : List ℕ → List ℕ
 bytes_text bytes = if is_utf8 bytes then bytes else hex_text bytes
 

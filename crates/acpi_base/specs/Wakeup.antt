@@ -4,7 +4,7 @@ use Rattle.std.specs.Option.{ok_or}
 use Rattle.acpi_base.specs.declared.tables.madt.wakeup.MpProtectedModeWakeupCommand.{MpProtectedModeWakeupCommand}
 use Rattle.acpi_base.specs.declared.tables.madt.wakeup.MpProtectedModeWakeupCommand.TheVariants.{Noop, Wakeup, Sleep, AcceptPages}
 
--- the commands, from number 0 on
+-- Command: the commands of the mailbox, from number 0 on
 abbrev pub commands : List MpProtectedModeWakeupCommand
 commands = Noop ∷ Wakeup ∷ Sleep ∷ AcceptPages ∷ []
 

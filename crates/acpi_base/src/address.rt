@@ -144,14 +144,14 @@ impl GenericAddress {
     pub fn from_raw(raw: RawAddress) -> AcpiResult<GenericAddress>
         ensures { result ≡ generic_address_of raw }
     {
-        let address_space = AddressSpace::try_from(field(&raw, 0, 1) as u8)?;
-        let access_size = AccessSize::try_from(field(&raw, 3, 1) as u8)?;
+        let address_space = AddressSpace::try_from(field(&raw, 0, 1) as u8)?; // Address Space ID
+        let access_size = AccessSize::try_from(field(&raw, 3, 1) as u8)?; // Access Size
         Ok(GenericAddress {
             address_space,
-            bit_width: field(&raw, 1, 1) as u8,
-            bit_offset: field(&raw, 2, 1) as u8,
+            bit_width: field(&raw, 1, 1) as u8, // Register Bit Width
+            bit_offset: field(&raw, 2, 1) as u8, // Register Bit Offset
             access_size,
-            address: field(&raw, 4, 8),
+            address: field(&raw, 4, 8), // Address
         })
     }
 }

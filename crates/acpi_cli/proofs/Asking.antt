@@ -49,7 +49,7 @@ listed before after r name grown named = ap (map read_of) grown ∙ map-append r
     ∙ ap (λ n. map read_of before ++ record { name = n; content = option_map (λ v. v.items) r.content } ∷ [])
     named
 
--- the same of names that are borrowed, and come one after the other
+-- one more name is asked for, of names that are borrowed and come one after the other
 pub next_name : (names : List (Bor (List ℕ))) (i : ℕ) (n : Bor (List ℕ)) (before now after : List FileRead)
     → i < length names
     → AsksUntil (map (λ n. n.now) (drop i names)) (map (λ n. n.now) names) before now

@@ -22,12 +22,12 @@ pub record Asks (names : List (List ℕ)) (before after : List FileRead) : Type 
   pub names_are : names_of reads ≡ names
   pub grown : after ≡ before ++ reads
 
--- the same of the names before those that are left
+-- what was asked for grew by the files of the names before those that are left
 pub record AsksUntil (left names : List (List ℕ)) (before after : List FileRead) : Type 0 where
   pub front : List (List ℕ)
   pub names_are : names ≡ front ++ left
   pub asks : Asks front before after
 
--- the same of the first of these names, or of none of them
+-- what was asked for grew by the files of the first of these names, or by none
 abbrev pub AsksFront : List (List ℕ) → List FileRead → List FileRead → Type 0
 AsksFront names before after = (left : List (List ℕ)) × AsksUntil left names before after

@@ -9,8 +9,8 @@ use Rattle.acpi.specs.Footprint.{lookup_ranges}
 use Rattle.acpi.specs.OpenedRanges.{root_and_ranges}
 use Rattle.acpi.specs.Root.{root_of_revision}
 
--- those of the RSDT at an address and, where it is opened, of each table that it lists, up to and
--- with the first valid BGRT
+-- those of the RSDT at an address and, if it is opened, of each table that it lists, up to and with the first valid
+-- BGRT
 abbrev pub graphic_ranges : Memory → ℕ → Ranges
 graphic_ranges m rsdt =
     root_and_ranges m (root_of_revision 0 rsdt) (λ m. lookup_ranges m (kind BGRT 56 (check_table BGRT)))

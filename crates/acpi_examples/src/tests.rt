@@ -1,6 +1,7 @@
 //! What the callers find and write.
 
 use crate::caller::graphic_address;
+use crate::reserved::{MemoryMap, reserve_tables};
 use crate::resolved::isa_pin;
 use crate::table_type::find_both;
 use crate::writer::{GuestError, tables_of_guest};
@@ -50,6 +51,48 @@ fn a_kernel_finds_a_table_of_its_own(rt: HostRuntime) {
         let mapped = front(&memory, (*count).min(168));
         check(&rt, "kernel", found(mapped, *root), Ok(*wanted));
     }
+}
+
+/// How many ranges were reserved, the bytes in them, and where the last one begins.
+#[derive(Clone, Copy, Debug, PartialEq)]
+struct Reserved {
+    ranges: u32,
+    bytes: u64,
+    last: u64,
+}
+
+impl MemoryMap for Reserved {
+    fn reserve(&mut self, address: u64, length: u64) {
+        self.ranges = self.ranges.wrapping_add(1);
+        self.bytes = self.bytes.wrapping_add(length);
+        self.last = address;
+    }
+}
+
+/// What a boot loader reserves whose memory lies from 0x1000 on.
+fn reserved_in(memory: &[u8]) -> AcpiResult<Reserved> {
+    let mut map = Reserved {
+        ranges: 0,
+        bytes: 0,
+        last: 0,
+    };
+    let Ok(region) = MappedRegion::new(0x1000, memory) else {
+        return Ok(map);
+    };
+    let tables = AcpiTables::from_rsdt(&region, 0, 0x1000)?;
+    reserve_tables(&tables, &mut map);
+    Ok(map)
+}
+
+#[test]
+fn the_memory_of_the_tables_is_reserved(rt: HostRuntime) {
+    // The RSDT has 44 bytes, the boot graphic 56 and the WSMT 40; no FADT is listed.
+    let wanted = Reserved {
+        ranges: 3,
+        bytes: 140,
+        last: 0x1080,
+    };
+    check(&rt, "reserved", reserved_in(&two_tables()), Ok(wanted));
 }
 
 /// RSDPs, and what is found from them.

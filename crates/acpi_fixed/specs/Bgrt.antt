@@ -1,4 +1,4 @@
--- The boot graphic (ACPI 6.4, section 5.2.22).
+-- The boot graphic: the Boot Graphics Resource Table, BGRT (ACPI 6.4, section 5.2.22).
 use Rattle.std.specs.Prelude.{ℕ, List, ◌==◌, if◌then◌else◌}
 use Rattle.acpi_base.specs.Bytes.{field_of}
 use Rattle.acpi_base.specs.Header.{header_at}
@@ -10,24 +10,25 @@ use Rattle.acpi_fixed.specs.declared.bgrt.ImageType.TheVariants.{Bitmap, Reserve
 unfoldable pub bgrt_at : List ℕ → Bgrt
 bgrt_at b = record {
   header = header_at b;
-  version = field_of b 36 2;
-  status = field_of b 38 1;
-  image_type = field_of b 39 1;
-  image_address = field_of b 40 8;
-  x = field_of b 48 4;
-  y = field_of b 52 4;
+  version = field_of b 36 2;  -- Version
+  status = field_of b 38 1;  -- Status
+  image_type = field_of b 39 1;  -- Image Type
+  image_address = field_of b 40 8;  -- Image Address
+  x = field_of b 48 4;  -- Image Offset X
+  y = field_of b 52 4;  -- Image Offset Y
 }
 
 -- what the fields of a table hold that calls show
 
+-- Status: bit 0 is Displayed, bits 1 and 2 are Orientation Offset
 abbrev pub status_of : Bgrt → ℕ
 status_of g = g.status
 
--- right, and down
+-- Image Offset X, to the right, and Image Offset Y, down
 abbrev pub offset_of : Bgrt → ℕ × ℕ
 offset_of g = (g.x, g.y)
 
--- code 0 is a bitmap, and every other code is reserved
+-- Image Type: code 0 is a bitmap, and every other code is reserved
 abbrev pub image_type_of : Bgrt → ImageType
 image_type_of g = if g.image_type == 0 then Bitmap else Reserved
 

@@ -16,11 +16,11 @@ use Rattle.acpi_fixed.specs.declared.fadt.flags.FixedFeatureFlags.{FixedFeatureF
 unfoldable pub brief_at : List ℕ → FadtBrief
 brief_at b = record {
   header = header_at b;
-  dsdt_address = field_of b 40 4;
-  preferred_pm_profile = field_of b 45 1;
-  flags = record { 0 = field_of b 112 4 };
-  x_dsdt_address = extended_number b 140;
-  pm_timer = block_at b 76 91 208;
+  dsdt_address = field_of b 40 4;  -- DSDT
+  preferred_pm_profile = field_of b 45 1;  -- Preferred_PM_Profile
+  flags = record { 0 = field_of b 112 4 };  -- Flags (Fixed Feature Flags)
+  x_dsdt_address = extended_number b 140;  -- X_DSDT
+  pm_timer = block_at b 76 91 208;  -- PM_TMR_BLK, PM_TMR_LEN, X_PM_TMR_BLK
 }
 
 abbrev pub brief_dsdt_address : FadtBrief → Result ℕ AcpiError
@@ -35,7 +35,7 @@ brief_flags f = f.flags
 abbrev pub brief_timer_block : FadtBrief → Result (Option GenericAddress) AcpiError
 brief_timer_block f = timer_block_of f.pm_timer
 
--- what is read of a table so is what its whole record says
+-- what the brief record of a table says is what its whole record says
 abbrev pub IsBriefOf : FadtBrief → Fadt → Type 0
 IsBriefOf f whole =
     (brief_dsdt_address f ≡ dsdt_address_of whole)

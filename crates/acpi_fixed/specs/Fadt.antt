@@ -1,4 +1,4 @@
--- The fixed hardware (ACPI 6.4, section 5.2.9).
+-- The fixed hardware: the Fixed ACPI Description Table, FADT (ACPI 6.4, section 5.2.9).
 use Rattle.std.specs.Prelude.{ℕ, ◌==◌, List, Option, Result, if◌then◌else◌}
 use Rattle.acpi_base.specs.declared.address.GenericAddress.{GenericAddress}
 use Rattle.acpi_base.specs.declared.error.AcpiError.{AcpiError}
@@ -15,38 +15,38 @@ use Rattle.acpi_fixed.specs.Registers.{address_or, extended_number, registers_at
 unfoldable pub fadt_at : List ℕ → Fadt
 fadt_at b = record {
   header = header_at b;
-  firmware_ctrl = field_of b 36 4;
-  dsdt_address = field_of b 40 4;
-  preferred_pm_profile = field_of b 45 1;
-  sci_interrupt = field_of b 46 2;
-  smi_cmd_port = field_of b 48 4;
-  acpi_enable = field_of b 52 1;
-  acpi_disable = field_of b 53 1;
-  s4bios_req = field_of b 54 1;
-  pstate_control = field_of b 55 1;
+  firmware_ctrl = field_of b 36 4;  -- FIRMWARE_CTRL
+  dsdt_address = field_of b 40 4;  -- DSDT
+  preferred_pm_profile = field_of b 45 1;  -- Preferred_PM_Profile
+  sci_interrupt = field_of b 46 2;  -- SCI_INT
+  smi_cmd_port = field_of b 48 4;  -- SMI_CMD
+  acpi_enable = field_of b 52 1;  -- ACPI_ENABLE
+  acpi_disable = field_of b 53 1;  -- ACPI_DISABLE
+  s4bios_req = field_of b 54 1;  -- S4BIOS_REQ
+  pstate_control = field_of b 55 1;  -- PSTATE_CNT
   registers = registers_at b;
-  gpe1_base = field_of b 94 1;
-  c_state_control = field_of b 95 1;
-  worst_c2_latency = field_of b 96 2;
-  worst_c3_latency = field_of b 98 2;
-  flush_size = field_of b 100 2;
-  flush_stride = field_of b 102 2;
-  duty_offset = field_of b 104 1;
-  duty_width = field_of b 105 1;
-  day_alarm = field_of b 106 1;
-  month_alarm = field_of b 107 1;
-  century = field_of b 108 1;
-  iapc_boot_arch = record { 0 = field_of b 109 2 };
-  flags = record { 0 = field_of b 112 4 };
-  reset_value = field_of b 128 1;
-  arm_boot_arch = record { 0 = field_of b 129 2 };
-  x_firmware_ctrl = extended_number b 132;
-  x_dsdt_address = extended_number b 140;
+  gpe1_base = field_of b 94 1;  -- GPE1_BASE
+  c_state_control = field_of b 95 1;  -- CST_CNT
+  worst_c2_latency = field_of b 96 2;  -- P_LVL2_LAT
+  worst_c3_latency = field_of b 98 2;  -- P_LVL3_LAT
+  flush_size = field_of b 100 2;  -- FLUSH_SIZE
+  flush_stride = field_of b 102 2;  -- FLUSH_STRIDE
+  duty_offset = field_of b 104 1;  -- DUTY_OFFSET
+  duty_width = field_of b 105 1;  -- DUTY_WIDTH
+  day_alarm = field_of b 106 1;  -- DAY_ALRM
+  month_alarm = field_of b 107 1;  -- MON_ALRM
+  century = field_of b 108 1;  -- CENTURY
+  iapc_boot_arch = record { 0 = field_of b 109 2 };  -- IAPC_BOOT_ARCH
+  flags = record { 0 = field_of b 112 4 };  -- Flags (Fixed Feature Flags)
+  reset_value = field_of b 128 1;  -- RESET_VALUE
+  arm_boot_arch = record { 0 = field_of b 129 2 };  -- ARM_BOOT_ARCH
+  x_firmware_ctrl = extended_number b 132;  -- X_FIRMWARE_CTRL
+  x_dsdt_address = extended_number b 140;  -- X_DSDT
 }
 
 -- ---- what calls answer
 
--- the profile of a code
+-- Preferred_PM_Profile: the profile of a code
 abbrev pub profile_for : ℕ → PowerProfile
 profile_for code =
     if code == 0 then profiles.Unspecified

@@ -14,8 +14,8 @@ use Rattle.acpi_fixed.specs.Registers.{usable_extended}
 -- so many bytes at an extended address: of its fields the space and the address count
 abbrev pub block_from : List ℕ → ℕ → Result GpeBlock AcpiError
 block_from raw byte_length = do
-  space ← space_of (field_of raw 0 1)
-  Ok (record { space = space; address = field_of raw 4 8; byte_length = byte_length })
+  space ← space_of (field_of raw 0 1)  -- Address Space ID (section 5.2.3.2)
+  Ok (record { space = space; address = field_of raw 4 8; byte_length = byte_length })  -- Address
 
 -- the block at the extended address, or else at the port, unless that is 0
 abbrev pub block_or : Option (List ℕ) → ℕ → ℕ → Result (Option GpeBlock) AcpiError
@@ -26,12 +26,12 @@ block_or None port byte_length =
     if port == 0 then Ok None
     else Ok (Some (record { space = SystemIo; address = port; byte_length = byte_length }))
 
--- the block of a pair of fields: nothing where its length is 0, before anything else
+-- the block of a pair of fields: nothing if its length is 0, before anything else
 abbrev pub gpe_of : RegisterBlock → Result (Option GpeBlock) AcpiError
 gpe_of r =
     if r.size == 0 then Ok None else block_or (usable_extended r.extended) r.address r.size
 
--- the number of the first event of a block, where there is one
+-- GPE1_BASE: the number of the first event of a block, if there is one
 abbrev pub base_beside : ℕ → Result (Option GpeBlock) AcpiError → Option ℕ
 base_beside base (Ok (Some block)) = Some base
 base_beside base (Ok None) = None

@@ -15,7 +15,7 @@ use Rattle.acpi_base.specs.Steps.{◌>>=◌, holds}
 use Rattle.acpi_fixed.specs.declared.fadt.registers.RegisterBlock.{RegisterBlock}
 use Rattle.acpi_fixed.specs.declared.fadt.registers.Registers.{Registers}
 
--- what the n bytes at an offset mean, in a table of revision 2 and above that has all of them
+-- what the n bytes at an offset mean, in a table that has all of them and whose FADT Major Version, at 8, is 2 or above
 abbrev pub extended_in : {T : Type 0} → (List ℕ → T) → List ℕ → ℕ → ℕ → Option T
 extended_in meaning b offset n =
     field_since 2 (field_of b 8 1) (option_map meaning (whole_part b offset n))
@@ -34,23 +34,23 @@ block_at b address size extended = record {
   extended = extended_address b extended;
 }
 
--- where a table has each register
+-- where a table has each register: its address, its length, its extended field
 abbrev pub registers_at : List ℕ → Registers
 registers_at b = record {
-  pm1a_event = block_at b 56 88 148;
-  pm1b_event = block_at b 60 88 160;
-  pm1a_control = block_at b 64 89 172;
-  pm1b_control = block_at b 68 89 184;
-  pm2_control = block_at b 72 90 196;
-  pm_timer = block_at b 76 91 208;
-  gpe0 = block_at b 80 92 220;
-  gpe1 = block_at b 84 93 232;
-  reset = filled_part b 116 12;
-  sleep_control = extended_address b 244;
-  sleep_status = extended_address b 256;
+  pm1a_event = block_at b 56 88 148;  -- PM1a_EVT_BLK, PM1_EVT_LEN, X_PM1a_EVT_BLK
+  pm1b_event = block_at b 60 88 160;  -- PM1b_EVT_BLK, PM1_EVT_LEN, X_PM1b_EVT_BLK
+  pm1a_control = block_at b 64 89 172;  -- PM1a_CNT_BLK, PM1_CNT_LEN, X_PM1a_CNT_BLK
+  pm1b_control = block_at b 68 89 184;  -- PM1b_CNT_BLK, PM1_CNT_LEN, X_PM1b_CNT_BLK
+  pm2_control = block_at b 72 90 196;  -- PM2_CNT_BLK, PM2_CNT_LEN, X_PM2_CNT_BLK
+  pm_timer = block_at b 76 91 208;  -- PM_TMR_BLK, PM_TMR_LEN, X_PM_TMR_BLK
+  gpe0 = block_at b 80 92 220;  -- GPE0_BLK, GPE0_BLK_LEN, X_GPE0_BLK
+  gpe1 = block_at b 84 93 232;  -- GPE1_BLK, GPE1_BLK_LEN, X_GPE1_BLK
+  reset = filled_part b 116 12;  -- RESET_REG
+  sleep_control = extended_address b 244;  -- SLEEP_CONTROL_REG
+  sleep_status = extended_address b 256;  -- SLEEP_STATUS_REG
 }
 
--- the extended field, where its address is not 0
+-- the extended field, if its Address, at 4 in the generic address, is not 0 (section 5.2.3.2)
 abbrev pub usable_extended : Option (List ℕ) → Option (List ℕ)
 usable_extended None = None
 usable_extended (Some raw) = if field_of raw 4 8 == 0 then None else Some raw
@@ -67,12 +67,12 @@ ports_at address size = do
     address = address;
   })
 
--- the extended block where its address is not 0, else the ports
+-- the extended block if its address is not 0, else the ports
 abbrev pub block_of : RegisterBlock → Result GenericAddress AcpiError
 block_of r =
     option_map_or generic_address_of (usable_extended r.extended) (ports_at r.address r.size)
 
--- the same for a block that a machine need not have: none where neither field gives an address
+-- a block that a machine need not have: none if neither field gives an address, else that of `block_of`
 abbrev pub optional_block_of : RegisterBlock → Result (Option GenericAddress) AcpiError
 optional_block_of r =
     if is_none (usable_extended r.extended) && r.address == 0 then Ok None
@@ -80,7 +80,7 @@ optional_block_of r =
       block ← block_of r
       Ok (Some block)
 
--- the timer's block, which a table has only where its length is 4
+-- the timer's block, which a table has only if PM_TMR_LEN is 4
 abbrev pub timer_block_of : RegisterBlock → Result (Option GenericAddress) AcpiError
 timer_block_of r = if r.size == 4 then optional_block_of r else Ok None
 
@@ -91,12 +91,12 @@ register_of (Some raw) = do
   register ← generic_address_of raw
   Ok (Some register)
 
--- the 64-bit address where it is there and not 0, else the 32-bit one
+-- the 64-bit address if it is there and not 0, else the 32-bit one
 abbrev pub preferred_address : Option ℕ → ℕ → ℕ
 preferred_address None narrow = narrow
 preferred_address (Some wide) narrow = if wide == 0 then narrow else wide
 
--- that address, where it is not 0
+-- the preferred address, if it is not 0
 abbrev pub address_or : AcpiError → Option ℕ → ℕ → Result ℕ AcpiError
 address_or refusal wide narrow =
     if preferred_address wide narrow == 0 then Err refusal else Ok (preferred_address wide narrow)

@@ -34,12 +34,12 @@ impl PhysicalRecord for Bgrt {
     fn read(bytes: &[u8]) -> Self {
         Bgrt {
             header: SdtHeader::read(bytes),
-            version: field_in(bytes, 36, 2) as u16,
-            status: field_in(bytes, 38, 1) as u8,
-            image_type: field_in(bytes, 39, 1) as u8,
-            image_address: field_in(bytes, 40, 8),
-            x: field_in(bytes, 48, 4) as u32,
-            y: field_in(bytes, 52, 4) as u32,
+            version: field_in(bytes, 36, 2) as u16, // Version
+            status: field_in(bytes, 38, 1) as u8, // Status
+            image_type: field_in(bytes, 39, 1) as u8, // Image Type
+            image_address: field_in(bytes, 40, 8), // Image Address
+            x: field_in(bytes, 48, 4) as u32, // Image Offset X
+            y: field_in(bytes, 52, 4) as u32, // Image Offset Y
         }
     }
 }
@@ -81,7 +81,7 @@ impl Bgrt {
     pub fn was_displayed(&self) -> bool
         ensures { result ≡ has_bit (status_of self.now) 0 }
     {
-        has_bit(self.status as u64, 0)
+        has_bit(self.status as u64, 0) // Displayed
     }
 
     /// By how many degrees the image was turned clockwise before it was drawn: 0, 90, 180 or 270
@@ -89,7 +89,7 @@ impl Bgrt {
     pub fn orientation_offset(&self) -> u16
         ensures { result ≡ bits_of (status_of self.now) 1 2 * 90 }
     {
-        bits(self.status as u64, 1, 2) as u16 * 90
+        bits(self.status as u64, 1, 2) as u16 * 90 // Orientation Offset
     }
 
     /// The form of the image.

@@ -138,33 +138,33 @@ impl PhysicalRecord for Fadt {
     fn read(bytes: &[u8]) -> Self {
         Fadt {
             header: SdtHeader::read(bytes),
-            firmware_ctrl: field_in(bytes, 36, 4) as u32,
-            dsdt_address: field_in(bytes, 40, 4) as u32,
-            preferred_pm_profile: field_in(bytes, 45, 1) as u8,
-            sci_interrupt: field_in(bytes, 46, 2) as u16,
-            smi_cmd_port: field_in(bytes, 48, 4) as u32,
-            acpi_enable: field_in(bytes, 52, 1) as u8,
-            acpi_disable: field_in(bytes, 53, 1) as u8,
-            s4bios_req: field_in(bytes, 54, 1) as u8,
-            pstate_control: field_in(bytes, 55, 1) as u8,
+            firmware_ctrl: field_in(bytes, 36, 4) as u32, // FIRMWARE_CTRL
+            dsdt_address: field_in(bytes, 40, 4) as u32, // DSDT
+            preferred_pm_profile: field_in(bytes, 45, 1) as u8, // Preferred_PM_Profile
+            sci_interrupt: field_in(bytes, 46, 2) as u16, // SCI_INT
+            smi_cmd_port: field_in(bytes, 48, 4) as u32, // SMI_CMD
+            acpi_enable: field_in(bytes, 52, 1) as u8, // ACPI_ENABLE
+            acpi_disable: field_in(bytes, 53, 1) as u8, // ACPI_DISABLE
+            s4bios_req: field_in(bytes, 54, 1) as u8, // S4BIOS_REQ
+            pstate_control: field_in(bytes, 55, 1) as u8, // PSTATE_CNT
             registers: Registers::read(bytes),
-            gpe1_base: field_in(bytes, 94, 1) as u8,
-            c_state_control: field_in(bytes, 95, 1) as u8,
-            worst_c2_latency: field_in(bytes, 96, 2) as u16,
-            worst_c3_latency: field_in(bytes, 98, 2) as u16,
-            flush_size: field_in(bytes, 100, 2) as u16,
-            flush_stride: field_in(bytes, 102, 2) as u16,
-            duty_offset: field_in(bytes, 104, 1) as u8,
-            duty_width: field_in(bytes, 105, 1) as u8,
-            day_alarm: field_in(bytes, 106, 1) as u8,
-            month_alarm: field_in(bytes, 107, 1) as u8,
-            century: field_in(bytes, 108, 1) as u8,
-            iapc_boot_arch: IaPcBootArchFlags::new(field_in(bytes, 109, 2) as u16),
-            flags: FixedFeatureFlags::new(field_in(bytes, 112, 4) as u32),
-            reset_value: field(bytes, 128, 1) as u8,
-            arm_boot_arch: ArmBootArchFlags::new(field(bytes, 129, 2) as u16),
-            x_firmware_ctrl: extended_number_in(bytes, 132),
-            x_dsdt_address: extended_number_in(bytes, 140),
+            gpe1_base: field_in(bytes, 94, 1) as u8, // GPE1_BASE
+            c_state_control: field_in(bytes, 95, 1) as u8, // CST_CNT
+            worst_c2_latency: field_in(bytes, 96, 2) as u16, // P_LVL2_LAT
+            worst_c3_latency: field_in(bytes, 98, 2) as u16, // P_LVL3_LAT
+            flush_size: field_in(bytes, 100, 2) as u16, // FLUSH_SIZE
+            flush_stride: field_in(bytes, 102, 2) as u16, // FLUSH_STRIDE
+            duty_offset: field_in(bytes, 104, 1) as u8, // DUTY_OFFSET
+            duty_width: field_in(bytes, 105, 1) as u8, // DUTY_WIDTH
+            day_alarm: field_in(bytes, 106, 1) as u8, // DAY_ALRM
+            month_alarm: field_in(bytes, 107, 1) as u8, // MON_ALRM
+            century: field_in(bytes, 108, 1) as u8, // CENTURY
+            iapc_boot_arch: IaPcBootArchFlags::new(field_in(bytes, 109, 2) as u16), // IAPC_BOOT_ARCH
+            flags: FixedFeatureFlags::new(field_in(bytes, 112, 4) as u32), // Flags (Fixed Feature Flags)
+            reset_value: field(bytes, 128, 1) as u8, // RESET_VALUE
+            arm_boot_arch: ArmBootArchFlags::new(field(bytes, 129, 2) as u16), // ARM_BOOT_ARCH
+            x_firmware_ctrl: extended_number_in(bytes, 132), // X_FIRMWARE_CTRL
+            x_dsdt_address: extended_number_in(bytes, 140), // X_DSDT
         }
     }
 }

@@ -14,7 +14,7 @@ use Rattle.acpi_image.specs.declared.error.WriteError.{WriteError}
 use Rattle.acpi_image.specs.declared.error.WriteError.TheVariants as refusal
 use Rattle.acpi_image.specs.declared.write.PlacedTable.{PlacedTable}
 
--- ---- no check refuses for lack of memory
+-- ---- no check is out of memory
 
 abbrev NotMemory : {A : Type 0} → Result A WriteError → Type 0
 NotMemory (Ok x) = Unit {0}

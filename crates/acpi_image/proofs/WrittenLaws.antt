@@ -32,7 +32,7 @@ use Rattle.acpi_image.specs.WriteLaws.{IsWritten, SaysOfTables, WrittenIsRead, o
 use Rattle.acpi_image.specs.declared.error.WriteError.{WriteError}
 use Rattle.acpi_image.specs.Written.{Plan, kind_of, pointers_of, records_of, root_length, root_to, rsdp_record, rsdp_to, tables_of}
 
--- what is known where the file is written
+-- what is known if the file is written
 record Facts (p : Plan) (file : List ℕ) : Type 0 where
   pub ok : Passed p
   pub image : flat_map record_spelling (records_of p) ≡ file

@@ -45,7 +45,7 @@ table_is b e =
     let s = and_parts _ _ r.1 in
     record { long = leb-true _ _ p.0; whole = eqb-true _ _ q.0; signature = r.0; id = s.0; table_id = s.1 }
 
--- all of it stays where byte 9 is set
+-- a table stays one if byte 9 is set
 still : (b : List ℕ) → IsTable b → IsTable (with_sum 9 b)
 unfolding with_sum field_of
 still b is = record {

@@ -11,8 +11,8 @@ use Rattle.acpi_image.specs.Written.{Plan, kind_of, pointers_of, records_of, roo
 use Rattle.acpi_image.specs.declared.error.WriteError.{WriteError}
 use Rattle.acpi_image.specs.declared.error.WriteError.TheVariants as refusal
 
--- bytes that are a table but for their sum: a header, a length field that says how many bytes there
--- are, and a signature, an OEM id and an OEM table id that are texts
+-- bytes that are a table but for their sum: a header of 36 bytes (ACPI 6.4, section 5.2.6), whose Length, at 4, says
+-- how many bytes there are, and whose Signature, at 0, OEMID, at 10, and OEM Table ID, at 16, are texts
 unfoldable pub is_table : List ℕ → Bool
 is_table bytes =
     nat_le 36 (length bytes) && (field_of bytes 4 4 == length bytes
@@ -56,7 +56,7 @@ written p = do
   _ ← check_plan p
   Ok (flat_map record_spelling (records_of p))
 
--- what a call answered, seen by view, is what is defined, or OutOfMemory where nothing is refused
+-- what a call answered, seen by view, is what is defined, or OutOfMemory if nothing is refused
 abbrev pub WritesOrRunsOut : {X : Type 0}
     → (X → List ℕ) → Result X WriteError → Result (List ℕ) WriteError → Type 0
 WritesOrRunsOut view (Ok file) said = said ≡ Ok (view file)

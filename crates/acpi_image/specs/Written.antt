@@ -20,7 +20,7 @@ pub record Plan : Type 0 where
   pub revision : ℕ
   pub tables : Memory
 
--- a table that a call was handed, as a region
+-- a table that a call was passed, as a region
 abbrev pub placed_region : PlacedTable → Region
 placed_region t = record { start = t.address; bytes = t.bytes.now }
 
@@ -33,7 +33,7 @@ plan rsdp root revision tables =
 
 -- ---- sums
 
--- the byte that makes the sum 0 where it stands at this offset
+-- the byte that makes the sum 0 if it stands at this offset
 unfoldable pub sum_byte : ℕ → List ℕ → ℕ
 sum_byte offset bytes = (256 - sum_of (slice_set bytes offset 0)) % 256
 
@@ -46,19 +46,19 @@ spaces n = replicate n 32
 
 -- ---- the RSDP
 
--- its signature, a checksum of 0, an OEM id of six spaces, its revision, the RSDT's address, its
--- length, the XSDT's address, a second checksum of 0 and three bytes that are reserved
+-- its fields in order (section 5.2.5.3): Signature, a Checksum of 0, an OEMID of six spaces, Revision, RsdtAddress,
+-- Length, XsdtAddress, an Extended Checksum of 0 and three bytes that are Reserved
 unfoldable pub rsdp_unsummed : ℕ → ℕ → ℕ → ℕ → List ℕ
 rsdp_unsummed revision rsdt count xsdt =
     rsd_ptr ++ 0 ∷ spaces 6 ++ revision ∷ spelling 4 rsdt
     ++ spelling 4 count ++ spelling 8 xsdt ++ replicate 4 0
 
--- byte 8 makes the first 20 bytes sum to 0
+-- Checksum, byte 8, makes the first 20 bytes sum to 0
 unfoldable pub with_first_sum : List ℕ → List ℕ
 with_first_sum bytes = with_sum 8 (take 20 bytes) ++ drop 20 bytes
 
--- the RSDP of a revision that leads to the root table at an address: the RSDT for revision 0, with
--- zeros after the first 20 bytes, else the XSDT, where byte 32 makes all 36 sum to 0
+-- the RSDP of a revision that leads to the root table at an address: the RSDT for revision 0, with zeros after the
+-- first 20 bytes, else the XSDT, and Extended Checksum, byte 32, makes all 36 bytes sum to 0
 unfoldable pub rsdp_to : ℕ → ℕ → List ℕ
 rsdp_to revision root =
     if revision == 0 then with_first_sum (rsdp_unsummed revision root 0 0)
@@ -70,20 +70,20 @@ rsdp_to revision root =
 abbrev pub root_length : RootKind → ℕ → ℕ
 root_length kind count = 36 + width_of kind * count
 
--- its signature, its length, revision 1, a checksum of 0, an OEM id of six spaces, an OEM table id
--- of eight, and three numbers that are 0
+-- its fields in order (section 5.2.6): Signature, Length, a Revision of 1, a Checksum of 0, an OEMID of six spaces, an
+-- OEM Table ID of eight, and OEM Revision, Creator ID and Creator Revision, which are 0
 unfoldable pub root_header : Signature → ℕ → List ℕ
 root_header signature count =
     letters_of signature ++ spelling 4 count
     ++ 1 ∷ 0 ∷ spaces 6 ++ spaces 8 ++ replicate 12 0
 
--- the header, and the pointers
+-- the header, and the pointers, Entry (sections 5.2.7 and 5.2.8)
 abbrev pub root_unsummed : RootKind → List ℕ → List ℕ
 root_unsummed kind pointers =
     root_header (signature_of kind) (root_length kind (length pointers))
     ++ flat_map (spelling (width_of kind)) pointers
 
--- byte 9 makes it sum to 0
+-- Checksum, byte 9, makes it sum to 0
 abbrev pub root_to : RootKind → List ℕ → List ℕ
 root_to kind pointers = with_sum 9 (root_unsummed kind pointers)
 
@@ -99,7 +99,7 @@ starts_of tables = map (λ t. t.start) tables
 abbrev pub pointers_of : Plan → List ℕ
 pointers_of p = starts_of p.tables
 
--- a table whose byte 9 makes it sum to 0
+-- a table whose Checksum, byte 9, makes it sum to 0
 abbrev pub summed : Region → Region
 summed t = record { start = t.start; bytes = with_sum 9 t.bytes }
 

@@ -29,7 +29,7 @@ Grants granted k = (i : ℕ) → i < k → granted i ≡ true
 abbrev pub Leads : ((ℕ → Bool) → Result Memory ImageError) → Memory → List ℕ → Type 0
 Leads goes kept file = (granted : ℕ → Bool) → Grants granted (length kept) → goes granted ≡ records_with granted file
 
--- so do the regions that are kept and the bytes that are left
+-- the regions that are kept and the bytes that are left lead to what the file leads to
 pub record IsReading (kept : Memory) (left file : List ℕ) : Type 0 where
   pub most : ℕ
   pub room : length left ≤ most
@@ -39,7 +39,7 @@ pub reading_begins : (file : List ℕ) → IsReading [] file file
 unfolding records_with
 reading_begins file = record { most = length file; room = omega arith; same = λ granted h. refl }
 
--- the same where some bytes are left
+-- the regions that are kept and the bytes that are left, of which there are some, lead to what the file leads to
 record IsStep (kept : Memory) (left file : List ℕ) : Type 0 where
   pub more : ℕ
   pub room : length left ≤ suc more

@@ -37,14 +37,14 @@ abbrev pub shares_any : Memory → Region → Bool
 shares_any [] r = false
 shares_any (s ∷ m) r = share s r || shares_any m r
 
--- the same as record_at, where the region shares no byte with an earlier one
+-- as `record_at`, if the region shares no byte with an earlier one
 unfoldable pub next_at : Memory → List ℕ → Result (Region × List ℕ) ImageError
 next_at earlier bytes = do
   found ← record_at bytes
   _ ← holds (not (shares_any earlier found.0)) refusal.Overlap
   Ok found
 
--- ---- lack of memory in its place: granted says, for each number of regions that are kept, whether
+-- ---- OutOfMemory in its place among the refusals: granted says, for each number of regions that are kept, whether
 -- there is memory for one more
 
 -- the earlier regions, and then those of the bytes, at most n
@@ -63,7 +63,7 @@ records_with granted file = records_from granted (length file) [] file
 abbrev pub ample : ℕ → Bool
 ample kept = true
 
--- the same where there is memory for all of them
+-- the regions of a file, if there is memory for all of them, or the first refusal
 abbrev pub records_in : List ℕ → Result Memory ImageError
 records_in file = records_with ample file
 
@@ -71,15 +71,14 @@ records_in file = records_with ample file
 abbrev pub RunsOut : List ℕ → Type 0
 RunsOut file = (granted : ℕ → Bool) × (records_with granted file ≡ Err refusal.OutOfMemory)
 
--- a refusal is the one that is defined; lack of memory comes where memory can run out
+-- a refusal is the one that is defined; OutOfMemory comes only if memory can run out
 abbrev pub Refuses : {Y : Type 0} → List ℕ → ImageError → Result Y ImageError → Type 0
 Refuses file refusal.OutOfMemory said = RunsOut file
 Refuses file refusal.Truncated said = said ≡ Err refusal.Truncated
 Refuses file refusal.EndTooLarge said = said ≡ Err refusal.EndTooLarge
 Refuses file refusal.Overlap said = said ≡ Err refusal.Overlap
 
--- what a call answered to a file, seen by view, is what the definition says, or OutOfMemory where
--- memory can run out
+-- what a call answered to a file, seen by view, is what the definition says, or OutOfMemory if memory can run out
 abbrev pub GivesOrRunsOut : {X Y : Type 0}
     → List ℕ → (X → Y) → Result X ImageError → Result Y ImageError → Type 0
 GivesOrRunsOut file view (Ok x) said = said ≡ Ok (view x)

@@ -19,7 +19,7 @@ use Rattle.acpi.specs.OpenedRanges.{area_ranges, opened_ranges, or_else_ranges, 
 use Rattle.acpi.specs.Rsdp.{check_first, check_sum, length_of, root_of_rsdp, rsdp_at, rsdp_of}
 use Rattle.acpi.specs.Search.{count_of, first_area, found_in, found_rsdp, room_of, second_area, word_in}
 
--- ---- where the first candidate is valid
+-- ---- if the first candidate is valid
 
 found_there : (m : Memory) (s : _) (n : ℕ) (area b : List ℕ) → count_of s ≡ suc n → lent m s.start (room_of s) ≡ Ok area → rsdp_at m s.start ≡ Ok b
     → found_in m s ≡ Ok (Some (s.start, b))

@@ -26,7 +26,7 @@ hpet = table (codes "HPET") 56 95
     (1 ∷ 0xa2 ∷ 0x86 ∷ 0x80 ∷ 0 ∷ 64 ∷ 0 ∷ 0
     ∷ 0 ∷ 0 ∷ 0xd0 ∷ 0xfe ∷ 0 ∷ 0 ∷ 0 ∷ 0 ∷ 0 ∷ 128 ∷ 0 ∷ 0 ∷ [])
 
--- the same name with an OEM id that is not text, and 24 times this byte after the header
+-- the name HPET with an OEM id that is not text, and 24 times this byte after the header
 unfoldable pub unnamed : ℕ → List ℕ
 unnamed body =
     codes "HPET" ++ 60 ∷ 0 ∷ 0 ∷ 0 ∷ 1 ∷ 0 ∷ 255 ∷ replicate 25 0 ++ replicate 24 body

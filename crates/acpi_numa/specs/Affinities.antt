@@ -20,18 +20,17 @@ use Rattle.acpi_numa.specs.declared.srat.kinds.MemoryAffinity.{MemoryAffinity}
 
 -- ---- the ranges of a table
 
--- what an entry says of a range, of which bit 1 of the flags says that it can be plugged in while the
--- machine runs, and bit 2 that it is non-volatile
+-- what an entry says of a range: Hot Pluggable, that it can be plugged in while the machine runs, and NonVolatile
 abbrev pub range_at : MemoryAffinity → MemoryRange
 range_at e = record {
   domain = e.domain;
   base = e.base;
   length = e.length;
-  is_hot_pluggable = has_bit e.flags 1;
-  is_non_volatile = has_bit e.flags 2;
+  is_hot_pluggable = has_bit e.flags 1;  -- Flags, bit 1: Hot Pluggable
+  is_non_volatile = has_bit e.flags 2;  -- Flags, bit 2: NonVolatile
 }
 
--- the range of an entry, where it is one of memory, is enabled and has bytes
+-- the range of an entry, if it is one of memory, is enabled (Flags, bit 0: Enabled) and has bytes
 abbrev pub range_in : SratEntry → Option MemoryRange
 range_in (kinds.Memory e) =
     if has_bit e.flags 0 && nat_lt 0 e.length then Some (range_at e) else None
@@ -50,7 +49,7 @@ abbrev pub is_used_up : List ℕ → Bool
 is_used_up [] = true
 is_used_up (b ∷ rest) = false
 
--- the ranges, where the entries take all bytes of the table and each range ends below 2^64
+-- the ranges, if the entries take all bytes of the table and each range ends below 2^64
 abbrev pub affinities_of : List ℕ → Result (List MemoryRange) NumaError
 affinities_of table = do
   _ ← holds (is_used_up (cut_of table).1) InvalidEntryLength
@@ -77,7 +76,7 @@ found_affinities m ps = do
   found ← lookup m srat_kind ps
   Ok (affinities_of found.1)
 
--- memory is asked for only where a SRAT is found that isn't refused and has a range
+-- memory is asked for only if a SRAT is found that isn't refused and has a range
 abbrev pub AffinitiesAsk : Memory → List ℕ → Type 0
 AffinitiesAsk m ps = SomeRange (joined (found_affinities m ps))
 
@@ -103,7 +102,7 @@ abbrev pub IsDomainOf : List MemoryRange → ℕ → Option ℕ → Type 0
 IsDomainOf ranges address (Some domain) = IsFirstWith ranges address domain
 IsDomainOf ranges address None = AllByRecursion (λ r. LiesIn r address → ⊥) ranges
 
--- the same computed
+-- computed: whether an address lies in a range, and the domain of the first range in which it does
 abbrev pub lies_in : ℕ → MemoryRange → Bool
 lies_in address r = nat_le r.base address && nat_lt address (r.base + r.length)
 

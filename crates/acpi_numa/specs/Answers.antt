@@ -10,6 +10,6 @@ abbrev pub joined : {A : Type 0} → Result (Result A NumaError) AcpiError → R
 joined (Ok said) = said
 joined (Err e) = Err (Acpi e)
 
--- what a call answered is what is defined, or AllocError where memory may be asked for
+-- what a call answered is what is said by the definition, or AllocError if memory may be asked for
 abbrev pub AnswersOrFull : {X : Type 0} → Type 0 → Result X NumaError → Result X NumaError → Type 0
-AnswersOrFull Asks said defined = (said ≡ defined) ⊎ (Asks × (said ≡ Err (Acpi AllocError)))
+AnswersOrFull Asks answer said = (answer ≡ said) ⊎ (Asks × (answer ≡ Err (Acpi AllocError)))

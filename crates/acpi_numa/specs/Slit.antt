@@ -1,19 +1,19 @@
--- How far localities are from each other (signature SLIT; ACPI 6.4, section 5.2.17).
+-- How far localities are from each other: the System Locality Information Table, SLIT (ACPI 6.4, section 5.2.17).
 use Rattle.std.specs.Prelude.{◌≡◌, ℕ, ◌+◌, ◌*◌, ◌<◌, ◌≤◌, ◌==◌, ◌&&◌, Bool, false, IsTrue, List, length, nat_lt, slice_get, Option, None, Some, if◌then◌else◌}
 use Rattle.acpi_base.specs.Bytes.{field_of}
 use Rattle.acpi_base.specs.Header.{header_at}
 use Rattle.acpi_numa.specs.declared.slit.Distances.{Distances}
 use Rattle.acpi_numa.specs.declared.slit.Slit.{Slit}
 
--- what a table's first bytes mean
+-- what a table's first bytes mean: after the header, Number of System Localities at 36
 unfoldable pub slit_at : List ℕ → Slit
 slit_at b = record { header = header_at b; localities = field_of b 36 8 }
 
--- how many localities there are
+-- Number of System Localities: how many localities there are
 abbrev pub localities_of : List ℕ → ℕ
 localities_of table = field_of table 36 8
 
--- of n localities, where the distance from one to another stands: row by row after the 44 fixed
+-- Entry[from][to], the distance from one of n localities to another: where it stands, row by row after the 44 fixed
 -- bytes, a byte for each pair
 abbrev pub place_of : ℕ → ℕ → ℕ → ℕ
 place_of n from to = 44 + from * n + to

@@ -1,4 +1,4 @@
--- The domains that processors and memory are in (signature SRAT; ACPI 6.4, section 5.2.16).
+-- The domains that processors and memory are in: the System Resource Affinity Table, SRAT (ACPI 6.4, section 5.2.16).
 use Rattle.std.specs.Prelude.{ℕ, ◌==◌, ◌&&◌, Bool, List, [], ◌∷◌, map, drop, slice_get, slice_index, Option, Some, None, if◌then◌else◌}
 use Rattle.std.specs.List.{filter_map, last_or}
 use Rattle.std.specs.Option.{option_map}
@@ -19,7 +19,7 @@ use Rattle.acpi_numa.specs.declared.srat.entry.SratEntry.TheVariants as kinds
 unfoldable pub srat_at : List ℕ → Srat
 srat_at b = record { header = header_at b }
 
--- the table's revision
+-- Revision of the table, at 8
 abbrev pub revision_of : List ℕ → ℕ
 revision_of table = field_of table 8 1
 
@@ -40,8 +40,8 @@ srat_kinds =
 -- an entry begins with its kind and its length, one byte each
 abbrev pub srat_layout : EntryLayout 7
 srat_layout = record {
-  kind_place = record { at = 0; width = One };
-  length_place = record { at = 1; width = One };
+  kind_place = record { at = 0; width = One };  -- Type
+  length_place = record { at = 1; width = One };  -- Length
   least_lengths = map (λ k. k.0) srat_kinds;
   least_of_others = 2;
 }
@@ -54,7 +54,8 @@ srat_grammar = record { layout = srat_layout; most = None }
 abbrev pub entry_of : ℕ → List ℕ → Option SratEntry
 entry_of revision e = option_map (λ k. k.1 revision e) (slice_get srat_kinds (slice_index e 0))
 
--- the entries of the bytes after a table's 48 fixed ones, and the rest in which no entry begins
+-- the entries (Static Resource Allocation Structure[n], from 48 on) after a table's 48 fixed bytes, and the rest in
+-- which no entry begins
 abbrev pub cut_of : List ℕ → List (List ℕ) × List ℕ
 cut_of table = cut srat_grammar (drop 48 table)
 
@@ -62,7 +63,7 @@ cut_of table = cut srat_grammar (drop 48 table)
 abbrev pub entries_of : List ℕ → List SratEntry
 entries_of table = filter_map (entry_of (revision_of table)) (cut_of table).0
 
--- the flags of an entry, which all kinds have but one
+-- Flags of an entry, which all kinds have but GIC Interrupt Translation Service (ITS) Affinity
 abbrev pub flags_of : SratEntry → Option ℕ
 flags_of (kinds.LocalApic e) = Some e.flags
 flags_of (kinds.Memory e) = Some e.flags
@@ -72,13 +73,13 @@ flags_of (kinds.GicIts e) = None
 flags_of (kinds.GenericInitiator e) = Some e.flags
 flags_of (kinds.GenericPort e) = Some e.flags
 
--- bit 0 of the flags says whether an entry counts
+-- Enabled, bit 0 of Flags: whether an entry counts
 abbrev pub is_enabled : SratEntry → Option Bool
 is_enabled e = option_map (λ flags. has_bit flags 0) (flags_of e)
 
 -- ---- domains
 
--- the domain that an entry with these flags gives, if it is enabled and is the one that is meant
+-- the domain that an entry with these Flags gives, if it is enabled (bit 0: Enabled) and is the one that is meant
 abbrev pub given_by : ℕ → Bool → ℕ → Option ℕ
 given_by flags is_meant domain = if has_bit flags 0 && is_meant then Some domain else None
 

@@ -30,7 +30,7 @@ impl PhysicalRecord for Slit {
     fn read(bytes: &[u8]) -> Self {
         Slit {
             header: SdtHeader::read(bytes),
-            localities: field_in(bytes, 36, 8),
+            localities: field_in(bytes, 36, 8), // Number of System Localities
         }
     }
 }
@@ -87,7 +87,7 @@ impl<'a> Distances<'a> {
     pub fn localities(&self) -> u64
         ensures { result ≡ localities_of (slit_bytes self.now) }
     {
-        field(self.table, 36, 8)
+        field(self.table, 36, 8) // Number of System Localities
     }
 
     /// How far it is from one locality to another, in the table's units, of which 10 is the distance

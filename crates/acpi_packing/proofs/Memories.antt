@@ -121,7 +121,7 @@ file_is packed file bytes e =
     let image : flat_map record_spelling parts.0 ≡ file = same_file _ _ parts.2 in
     record { all = parts.0; packed_is = parts.1; image = sym image; bytes = record_bytes parts.0 (subst (λ (b : List ℕ). IsBytes b) (sym image) bytes) }
 
--- the regions, where each has its place
+-- the regions, if each has its place
 abbrev placed_or : List ℕ → List (Option (List ℕ)) → Result Memory Refusal
 placed_or addresses files = check_places 0 [] (regions addresses files) >>= λ _. regions_done (regions addresses files)
 

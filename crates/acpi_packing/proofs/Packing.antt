@@ -17,7 +17,7 @@ no_files : (addresses : List ℕ) → regions addresses [] ≡ []
 no_files [] = refl
 no_files (a ∷ addresses) = refl
 
--- no region is left where addresses or files are at their end
+-- no region is left if addresses or files are at their end
 pub regions_past : (i : ℕ) (addresses : List ℕ) (fs : List (Option (Bor (List ℕ)))) (n : ℕ) → n ≡ min (length addresses) (length fs) → n ≤ i
     → regions (drop i addresses) (contents (drop i fs)) ≡ []
 regions_past i addresses fs n e past =

@@ -6,8 +6,7 @@ use Rattle.acpi_packing.specs.declared.arguments.Form.{Form}
 use Rattle.acpi_packing.specs.declared.arguments.Form.TheVariants.{Memory, Tables}
 use Rattle.acpi_cli.specs.Numbers.{address_of}
 
--- the file that is to be made, the files that it is made from, and the addresses of these, or none
--- where they are tables
+-- the file that is to be made, the files that it is made from, and the addresses of these, or none if they are tables
 pub record Request : Type 0 where
   pub out : List ℕ
   pub names : List (List ℕ)

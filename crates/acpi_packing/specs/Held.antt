@@ -6,7 +6,7 @@ use Rattle.acpi_packing.specs.Sources.{entries}
 use Rattle.acpi_packing.specs.declared.sources.FilesOfRole.{FilesOfRole}
 use Rattle.acpi_packing.specs.declared.sources.IndexedFile.{IndexedFile}
 
--- the bytes of a file, none where it can't be read
+-- the bytes of a file, none if it can't be read
 abbrev pub content : Option (Bor (List ℕ)) → Option (List ℕ)
 content file = option_copied file
 

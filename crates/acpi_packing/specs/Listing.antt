@@ -69,7 +69,7 @@ listing labels file = do
   regions ← records_in file
   Ok (record_lines labels 0 regions)
 
--- ---- the same as the code holds it
+-- ---- labels as the code holds them
 
 abbrev pub label_text : Label → List ℕ
 label_text (label.Name name) = name.now

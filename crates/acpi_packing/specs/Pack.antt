@@ -63,15 +63,15 @@ first_fadt [] = None
 first_fadt (table ∷ tables) =
     if begins table (codes "FACP") then Some table else first_fadt tables
 
--- the DSDT's address that a FADT gives, where it is as long as a FADT is and gives one
-unfoldable pub address_in : List ℕ → Option ℕ
-address_in fadt =
+-- the DSDT's address that a FADT gives, if it is as long as a FADT is and gives one
+unfoldable pub dsdt_address_in : List ℕ → Option ℕ
+dsdt_address_in fadt =
     if nat_le 116 (length fadt) then result_ok (dsdt_address_of (fadt_at fadt)) else None
 
--- the same of the first FADT among these
+-- the DSDT's address that a FADT gives, if there is a FADT
 abbrev pub address_by : Option (List ℕ) → Option ℕ
 address_by None = None
-address_by (Some fadt) = address_in fadt
+address_by (Some fadt) = dsdt_address_in fadt
 
 abbrev pub dsdt_address : List (List ℕ) → Option ℕ
 dsdt_address tables = address_by (first_fadt tables)
@@ -81,7 +81,7 @@ abbrev pub unless_second : Region → List (ℕ × List ℕ) → Result (Option 
 unless_second r [] = Ok (Some r)
 unless_second r (second ∷ others) = Err (File second.0 fault.Overlap)
 
--- the DSDT at its address; it is left out where none is given
+-- the DSDT at its address; it is left out if none is given
 abbrev pub dsdt_at : Option ℕ → List (ℕ × List ℕ) → Result (Option Region) Refusal
 dsdt_at address [] = Ok None
 dsdt_at None (first ∷ others) = Ok None
@@ -127,6 +127,6 @@ file_of packed = do
   regions ← packed
   Ok (flat_map record_spelling regions)
 
--- a refusal is the one that is defined, or OutOfMemory where nothing is refused
+-- a refusal is the one that is defined, or OutOfMemory if nothing is refused
 abbrev pub RefusesOrRunsOut : Result Memory Refusal → Refusal → Type 0
 RefusesOrRunsOut packed e = (packed ≡ Err e) ⊎ ((e ≡ OutOfMemory) × IsOk packed)

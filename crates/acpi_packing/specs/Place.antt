@@ -18,13 +18,13 @@ start_at fixed from count =
     then aligned from
     else aligned (end_of fixed)
 
--- the address of so many bytes, where they end below 2^64
+-- the address of so many bytes, if they end below 2^64
 unfoldable pub place_at : Region → ℕ → ℕ → Option ℕ
 place_at fixed from count =
     if nat_lt (start_at fixed from count + count) (2 ^ 64) then Some (start_at fixed from count)
     else None
 
--- tables from an address on, one after the other, where each ends below 2^64
+-- tables from an address on, one after the other, if each ends below 2^64
 abbrev pub place_or : Region → Option ℕ → List ℕ → (ℕ → Result Memory Refusal) → Result Memory Refusal
 place_or fixed None table more = Err NoRoom
 place_or fixed (Some address) table more = do
@@ -43,7 +43,7 @@ room fixed from tables = do
   _ ← placed_from fixed from tables
   Ok tt
 
--- ---- the same in the reader's words
+-- ---- where tables lie, in the reader's words
 
 -- a region from an address on, aligned to 16, before or after another, that ends below 2^64
 pub record IsPlaced (fixed : Region) (from : ℕ) (r : Region) : Type 0 where

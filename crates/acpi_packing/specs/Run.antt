@@ -21,7 +21,7 @@ packed_by None files = packed_tables files
 
 -- ---- what is left out
 
--- of tables: what no root table lists, and the DSDTs where no FADT gives an address
+-- of tables: what no root table lists, and the DSDTs if no FADT gives an address
 abbrev pub left_out_by : Option (List ℕ) → List (Option (List ℕ)) → List (ℕ × List ℕ)
 left_out_by (Some addresses) files = []
 left_out_by None files =
@@ -50,8 +50,8 @@ usage_line = codes "usage: acpi_pack OUT memory ADDRESS FILE [ADDRESS FILE]... |
 
 -- ---- what a run comes to
 
--- what is printed is this text, and what it comes to is what is defined: an image, or its first
--- refusal, or OutOfMemory where nothing is refused
+-- what is printed is this text, and what it comes to is what is defined: an image, or its first refusal, or OutOfMemory
+-- if nothing is refused
 abbrev pub IsReport : Option Request → List (Option (List ℕ)) → Outcome → List ℕ → Type 0
 IsReport None files outcome.NoCommand text = text ≡ usage_line
 IsReport (Some r) files (outcome.Image file) text =
@@ -61,7 +61,7 @@ IsReport (Some r) files (outcome.Refused e) text =
     RefusesOrRunsOut (packed_by r.addresses files) e × (text ≡ refused_line r e)
 IsReport request files said text = ⊥
 
--- the same of a run, which adds the text to what was printed, and that text alone
+-- what a run prints and comes to: it adds the text to what was printed, and that text alone
 abbrev pub Ends : Option Request → List (Option (List ℕ)) → Outcome → Option (List ℕ) → Option (List ℕ)
     → Type 0
 Ends request files said old new = (text : List ℕ) × IsReport request files said text × Appends old new text

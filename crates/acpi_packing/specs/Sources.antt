@@ -63,14 +63,14 @@ check_contents n (file ∷ files) = do
   _ ← check_content n file
   check_contents (n + 1) files
 
--- a header, and a length field that says how many bytes there are
+-- a header of 36 bytes, whose Length, at 4, says how many bytes there are (ACPI 6.4, section 5.2.6)
 unfoldable pub check_length : ℕ → List ℕ → Result (Unit {0}) Refusal
 check_length n bytes = do
   _ ← holds (nat_le 36 (length bytes)) (File n fault.Short)
   _ ← holds (nat_le (field_of bytes 4 4) (length bytes)) (File n fault.Short)
   holds (nat_le (length bytes) (field_of bytes 4 4)) (File n fault.Long)
 
--- the same of a table; what no root table lists is left out, whatever its length is
+-- the content and the length of a table; what no root table lists is left out, whatever its length is
 unfoldable pub check_table : ℕ → Option (List ℕ) → Result (Unit {0}) Refusal
 check_table n file = do
   _ ← check_content n file

@@ -158,9 +158,9 @@ pub fn pack_files(
 
 /// The address that a FADT gives for the DSDT, its 64-bit field first, where it is as long as a
 /// FADT is (section 5.2.9).
-#[tactic(auto, unfolding(crate::specs::Pack::address_in))]
-fn address_in(fadt: &[u8]) -> Option<u64>
-    ensures { result ≡ pack.address_in fadt.now }
+#[tactic(auto, unfolding(crate::specs::Pack::dsdt_address_in))]
+fn dsdt_address_in(fadt: &[u8]) -> Option<u64>
+    ensures { result ≡ pack.dsdt_address_in fadt.now }
 {
     if fadt.len() < Fadt::MIN_LENGTH {
         return None;
@@ -174,7 +174,7 @@ pub(crate) fn dsdt_address(files: &[FileBytes<'_>]) -> Option<u64>
 {
     for table in of_role(files, FileRole::Listed) {
         if table.bytes.starts_with(b"FACP") {
-            return address_in(table.bytes);
+            return dsdt_address_in(table.bytes);
         }
     }
     None

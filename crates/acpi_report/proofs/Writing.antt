@@ -46,7 +46,7 @@ said_or_full Asks part lines said defined a b gives written =
       meant (inl same) = inl (ap (lines_or_refusal part lines) same)
       meant (inr (asks, full)) = inr (asks, ap (lines_or_refusal part lines) full)
 
--- what follows where all went well
+-- what follows if all went well
 pub on_ok : {T E : Type 0} (r : Result T E) (P Q : Type 0) → (P → Q) → OnOk r P → OnOk r Q
 on_ok (Ok x) P Q follows p = follows p
 on_ok (Err e) P Q follows p = tt

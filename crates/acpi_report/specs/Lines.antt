@@ -39,7 +39,7 @@ address_text address = codes "0x" ++ digits 16 false address
 abbrev pub yes_or_no : Bool → List ℕ
 yes_or_no b = if b then codes "yes" else codes "no"
 
--- the number, or none where there is none
+-- the number, or `none` if there is none
 abbrev pub number_or_none : Option ℕ → List ℕ
 number_or_none (Some number) = decimal number
 number_or_none None = codes "none"
@@ -59,7 +59,7 @@ abbrev pub lines_or_refusal : {X : Type 0} → List ℕ → (X → List ℕ) →
 lines_or_refusal part lines (Ok x) = lines x
 lines_or_refusal part lines (Err e) = refused_line part e
 
--- the text is what is defined for a part, or says that memory runs out, where it asks for memory
+-- the text is what is defined for a part, or says that memory runs out, if it asks for memory
 abbrev pub IsPartText : Type 0 → List ℕ → List ℕ → List ℕ → Type 0
 IsPartText Asks part defined text =
     (text ≡ defined) ⊎ (Asks × (text ≡ refused_line part AllocError))
@@ -120,7 +120,7 @@ skipped_line signature fault = line (
     codes "skipped " ∷ signature_text signature ∷ codes " " ∷ address_text fault.address
     ∷ codes ": " ∷ error_text fault.error ∷ [])
 
--- ---- the same of a list of pointers
+-- ---- the lines of what a list of pointers leads to
 
 abbrev pub header_lines : Memory → List ℕ → List ℕ
 header_lines m ps = flat_map header_line (valid_headers m ps)

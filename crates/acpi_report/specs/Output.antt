@@ -28,7 +28,7 @@ use Rattle.acpi_cli.specs.declared.root.Root.{Root}
 abbrev pub pointers_in : Opened → List ℕ
 pointers_in opened = pointers (width_of opened.kind) (drop 36 opened.root)
 
--- all lines in order, where the platform and the PCI regions have these
+-- all lines in order, if the platform and the PCI regions have these
 abbrev pub lines_of : List ℕ → List ℕ → Memory → Opened → List ℕ
 lines_of platform pci m opened = let ps = pointers_in opened in
     revision_line opened.revision
@@ -41,8 +41,8 @@ lines_of platform pci m opened = let ps = pointers_in opened in
     ++ bgrt_lines m ps
     ++ spcr_lines m ps
 
--- the text is all lines, with those that are defined for the platform and the PCI regions, or with
--- the one that says that memory runs out, where they ask for it
+-- the text is all lines, with those that are defined for the platform and the PCI regions, or with the one that says
+-- that memory runs out, if they ask for it
 pub record IsLines (m : Memory) (opened : Opened) (text : List ℕ) : Type 0 where
   pub platform : List ℕ
   pub pci : List ℕ
@@ -92,7 +92,7 @@ found_with (Some root) (Some file) = found_over root (records_in file)
 abbrev pub found_for : List (List ℕ) → Option (List ℕ) → Found
 found_for arguments file = found_with (root_for arguments) file
 
--- a text of standard output: all lines, or nothing where nothing is found
+-- a text of standard output: all lines, or nothing if nothing is found
 abbrev pub IsOutput : Found → List ℕ → Type 0
 IsOutput (Ok found) text = IsLines found.0 found.1 text
 IsOutput (Err complaint) text = text ≡ []

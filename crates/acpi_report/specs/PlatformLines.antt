@@ -124,7 +124,7 @@ processor_line processor = line (
     ∷ codes " " ∷ decimal processor.local_apic_id
     ∷ codes " " ∷ state_word processor.state ∷ [])
 
--- the boot processor first; none where no processor is listed
+-- the boot processor first; none if no processor is listed
 abbrev pub processor_lines : {A : Type 0} → Option (ProcessorInfo A) → List ℕ
 processor_lines (Some info) =
     processor_line info.boot_processor ++ flat_map processor_line info.application_processors
@@ -148,7 +148,7 @@ info_lines info =
     ++ processor_lines info.processor_info
     ++ timer_line info.pm_timer
 
--- the same of a list of pointers, in memory of an allocator
+-- the lines of the platform that a list of pointers leads to, in memory of an allocator
 abbrev pub platform_lines : Type 0 → Memory → List ℕ → List ℕ
 platform_lines A m ps = lines_or_refusal (codes "platform") info_lines (platform_of {A = A} m ps)
 

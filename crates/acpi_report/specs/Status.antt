@@ -7,12 +7,12 @@ use Rattle.acpi_cli.specs.Root.{opened_for}
 use Rattle.acpi_cli.specs.declared.root.Root.{Root}
 use Rattle.acpi_report.specs.Command.{root_for}
 
--- 0 where something was found, and 1 where it was refused
+-- 0 if something was found, and 1 if it was refused
 abbrev pub status_of : {A E : Type 0} → Result A E → ℕ
 status_of (Ok found) = 0
 status_of (Err refusal) = 1
 
--- the same over the memory that a file encodes
+-- the status over the memory that a file encodes, or 1 if the file encodes none
 abbrev pub status_over : Root → Result Memory ImageError → ℕ
 status_over root (Ok m) = status_of (opened_for m root)
 status_over root (Err refusal) = 1

@@ -77,7 +77,7 @@ fn search_area<'h, H: Lender>(
     Ok(first_candidate(handler, area, mapping.bytes()))
 }
 
-/// The word that names the second area.
+/// The word at 40:0Eh of the BIOS data area, the segment of the EBDA: it names the second area.
 #[tactic(auto, unfolding(crate::specs::Search::word_in))]
 fn area_word<H: Lender>(handler: &H) -> AcpiResult<u16>
     requires { H.may handler.now 0x40e 2 ≡ true }

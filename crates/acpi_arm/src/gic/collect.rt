@@ -66,7 +66,7 @@ pub(super) fn collected<T: GicPart, A: Allocator>(
     ensures items { IfOk result (λ s. s ≡ items_of T.said_in table.now) }
     ensures refused { IfErr result (λ e. 0 < length (items_of T.said_in table.now)) }
 {
-    let revision = field(table, 8, 1) as u8;
+    let revision = field(table, 8, 1) as u8; // Revision
     let mut items = room(count_of::<T>(table, revision), allocator)?;
     let mut entries = MadtEntryIter::over(table);
     while let Some(entry) = entries.next() {

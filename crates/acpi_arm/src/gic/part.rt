@@ -202,17 +202,18 @@ fn cpu_interface_of(entry: &GiccEntry, revision: u8) -> GicCpuInterface
         number: entry.cpu_interface_number,
         processor_uid: entry.processor_uid,
         mpidr: entry.mpidr,
-        is_enabled: has_bit(entry.flags as u64, 0),
+        is_enabled: has_bit(entry.flags as u64, 0), // Enabled
+        // Online Capable, since ACPI 6.5.
         is_online_capable: has_bit(entry.flags as u64, 3),
         performance_interrupt: entry.performance_interrupt_gsiv,
-        performance_trigger: trigger_in(entry.flags, 1),
+        performance_trigger: trigger_in(entry.flags, 1), // Performance Interrupt Mode
         parking_protocol_version: entry.parking_protocol_version,
         parked_address: entry.parked_address,
         address: entry.gic_registers_address,
         virtual_address: entry.gic_virtual_registers_address,
         hypervisor_address: entry.gic_hypervisor_registers_address,
         maintenance_interrupt: entry.vgic_maintenance_interrupt,
-        maintenance_trigger: trigger_in(entry.flags, 2),
+        maintenance_trigger: trigger_in(entry.flags, 2), // VGIC Maintenance interrupt Mode Flags
         redistributor_address: entry.gicr_base_address,
         efficiency_class: entry.processor_power_efficiency_class,
         spe_overflow_interrupt: entry.spe_overflow_interrupt,
@@ -224,6 +225,7 @@ fn cpu_interface_of(entry: &GiccEntry, revision: u8) -> GicCpuInterface
 fn spis_of(entry: &GicMsiFrameEntry) -> Option<SpiRange>
     ensures { result ≡ spis_of entry.now }
 {
+    // SPI Count/Base Select.
     if has_bit(entry.flags as u64, 0) {
         Some(SpiRange {
             base: entry.spi_base,

@@ -14,7 +14,7 @@ impl LocalApicEntry {
     pub fn is_enabled(&self) -> bool
         ensures { result ≡ has_bit self.now.flags 0 }
     {
-        has_bit(self.flags as u64, 0)
+        has_bit(self.flags as u64, 0) // Enabled
     }
 
     /// Whether the processor can be enabled later, if it isn't now: bit 1 of the flags (section
@@ -22,7 +22,7 @@ impl LocalApicEntry {
     pub fn is_online_capable(&self) -> bool
         ensures { result ≡ has_bit self.now.flags 1 }
     {
-        has_bit(self.flags as u64, 1)
+        has_bit(self.flags as u64, 1) // Online Capable
     }
 }
 
@@ -31,7 +31,7 @@ impl LocalX2ApicEntry {
     pub fn is_enabled(&self) -> bool
         ensures { result ≡ has_bit self.now.flags 0 }
     {
-        has_bit(self.flags as u64, 0)
+        has_bit(self.flags as u64, 0) // Enabled
     }
 
     /// Whether the processor can be enabled later, if it isn't now: bit 1 of the flags (section
@@ -39,7 +39,7 @@ impl LocalX2ApicEntry {
     pub fn is_online_capable(&self) -> bool
         ensures { result ≡ has_bit self.now.flags 1 }
     {
-        has_bit(self.flags as u64, 1)
+        has_bit(self.flags as u64, 1) // Online Capable
     }
 }
 

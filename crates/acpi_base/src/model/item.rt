@@ -83,7 +83,7 @@ fn processor_of(entry: &LocalApicEntry) -> MadtItem
     MadtItem::Processor {
         processor_uid: entry.processor_id as u32,
         local_apic_id: entry.apic_id as u32,
-        is_enabled: has_bit(entry.flags as u64, 0),
+        is_enabled: has_bit(entry.flags as u64, 0), // Enabled
     }
 }
 
@@ -96,7 +96,7 @@ fn x2apic_processor_of(entry: &LocalX2ApicEntry) -> MadtItem
     MadtItem::Processor {
         processor_uid: entry.processor_uid,
         local_apic_id: entry.x2apic_id,
-        is_enabled: has_bit(entry.flags as u64, 0),
+        is_enabled: has_bit(entry.flags as u64, 0), // Enabled
     }
 }
 
@@ -179,7 +179,7 @@ fn nmi_source_of(entry: &NmiSourceEntry) -> Result<NmiSource, MadtError>
     })
 }
 
-/// The polarity in bits 0 and 1 of an interrupt's flags.
+/// Polarity: bits 0 and 1 of an interrupt's MPS INTI Flags (section 5.2.12.5).
 pub(super) fn polarity_of(flags: u16) -> Result<Polarity, MadtError>
     ensures { result ≡ polarity_of flags }
 {
@@ -191,7 +191,7 @@ pub(super) fn polarity_of(flags: u16) -> Result<Polarity, MadtError>
     }
 }
 
-/// The trigger mode in bits 2 and 3.
+/// Trigger Mode: bits 2 and 3 of an interrupt's MPS INTI Flags (section 5.2.12.5).
 pub(super) fn trigger_mode_of(flags: u16) -> Result<TriggerMode, MadtError>
     ensures { result ≡ trigger_mode_of flags }
 {

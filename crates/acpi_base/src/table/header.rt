@@ -47,20 +47,22 @@ impl PhysicalRecord for SdtHeader {
     #[tactic(auto, unfolding(crate::specs::Header::header_at))]
     fn read(bytes: &[u8]) -> Self {
         SdtHeader {
-            signature: Signature::leading(bytes),
-            length: field_in(bytes, 4, 4) as u32,
-            revision: field_in(bytes, 8, 1) as u8,
-            checksum: field_in(bytes, 9, 1) as u8,
+            signature: Signature::leading(bytes), // Signature
+            length: field_in(bytes, 4, 4) as u32, // Length
+            revision: field_in(bytes, 8, 1) as u8, // Revision
+            checksum: field_in(bytes, 9, 1) as u8, // Checksum
+            // OEMID
             oem_id: [
                 bytes[10], bytes[11], bytes[12], bytes[13], bytes[14], bytes[15],
             ],
+            // OEM Table ID
             oem_table_id: [
                 bytes[16], bytes[17], bytes[18], bytes[19], bytes[20], bytes[21], bytes[22],
                 bytes[23],
             ],
-            oem_revision: field_in(bytes, 24, 4) as u32,
-            creator_id: field_in(bytes, 28, 4) as u32,
-            creator_revision: field_in(bytes, 32, 4) as u32,
+            oem_revision: field_in(bytes, 24, 4) as u32, // OEM Revision
+            creator_id: field_in(bytes, 28, 4) as u32, // Creator ID
+            creator_revision: field_in(bytes, 32, 4) as u32, // Creator Revision
         }
     }
 }

@@ -59,8 +59,8 @@ impl PhysicalRecord for Madt {
     fn read(bytes: &[u8]) -> Self {
         Madt {
             header: SdtHeader::read(bytes),
-            local_apic_address: field_in(bytes, 36, 4) as u32,
-            flags: field_in(bytes, 40, 4) as u32,
+            local_apic_address: field_in(bytes, 36, 4) as u32, // Local Interrupt Controller Address
+            flags: field_in(bytes, 40, 4) as u32, // Flags (Multiple APIC Flags)
         }
     }
 }
@@ -102,7 +102,7 @@ impl Madt {
     pub fn supports_8259(&self) -> bool
         ensures { result ≡ has_bit self.now.flags 0 }
     {
-        has_bit(self.flags as u64, 0)
+        has_bit(self.flags as u64, 0) // PCAT_COMPAT
     }
 }
 

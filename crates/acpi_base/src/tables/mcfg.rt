@@ -91,10 +91,10 @@ impl PhysicalRecord for McfgEntry {
 
     fn read(bytes: &[u8]) -> Self {
         McfgEntry {
-            base_address: field_in(bytes, 0, 8),
-            pci_segment_group: field_in(bytes, 8, 2) as u16,
-            bus_number_start: field_in(bytes, 10, 1) as u8,
-            bus_number_end: field_in(bytes, 11, 1) as u8,
+            base_address: field_in(bytes, 0, 8), // Base Address
+            pci_segment_group: field_in(bytes, 8, 2) as u16, // PCI Segment Group Number
+            bus_number_start: field_in(bytes, 10, 1) as u8, // Start Bus Number
+            bus_number_end: field_in(bytes, 11, 1) as u8, // End Bus Number
         }
     }
 }

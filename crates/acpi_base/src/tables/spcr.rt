@@ -66,28 +66,28 @@ impl PhysicalRecord for Spcr {
     fn read(bytes: &[u8]) -> Self {
         Spcr {
             header: SdtHeader::read(bytes),
-            interface_type: field_in(bytes, 36, 1) as u8,
-            base_address: filled(bytes, 40),
-            interrupt_type: field_in(bytes, 52, 1) as u8,
-            irq: field_in(bytes, 53, 1) as u8,
-            global_system_interrupt: field_in(bytes, 54, 4) as u32,
-            configured_baud_rate: field_in(bytes, 58, 1) as u8,
-            parity: field_in(bytes, 59, 1) as u8,
-            stop_bits: field_in(bytes, 60, 1) as u8,
-            flow_control: field_in(bytes, 61, 1) as u8,
-            terminal_type: field_in(bytes, 62, 1) as u8,
-            language: field_in(bytes, 63, 1) as u8,
-            pci_device_id: field_in(bytes, 64, 2) as u16,
-            pci_vendor_id: field_in(bytes, 66, 2) as u16,
-            pci_bus_number: field_in(bytes, 68, 1) as u8,
-            pci_device_number: field_in(bytes, 69, 1) as u8,
-            pci_function_number: field_in(bytes, 70, 1) as u8,
-            pci_flags: field_in(bytes, 71, 4) as u32,
-            pci_segment: field_in(bytes, 75, 1) as u8,
-            uart_clock_frequency: field_in(bytes, 76, 4) as u32,
-            precise_baud_rate: field(bytes, 80, 4) as u32,
-            namespace_length: field(bytes, 84, 2) as u16,
-            namespace_offset: field(bytes, 86, 2) as u16,
+            interface_type: field_in(bytes, 36, 1) as u8, // Interface Type
+            base_address: filled(bytes, 40), // Base Address
+            interrupt_type: field_in(bytes, 52, 1) as u8, // Interrupt Type
+            irq: field_in(bytes, 53, 1) as u8, // IRQ
+            global_system_interrupt: field_in(bytes, 54, 4) as u32, // Global System Interrupt
+            configured_baud_rate: field_in(bytes, 58, 1) as u8, // Configured Baud Rate
+            parity: field_in(bytes, 59, 1) as u8, // Parity
+            stop_bits: field_in(bytes, 60, 1) as u8, // Stop Bits
+            flow_control: field_in(bytes, 61, 1) as u8, // Flow Control
+            terminal_type: field_in(bytes, 62, 1) as u8, // Terminal Type
+            language: field_in(bytes, 63, 1) as u8, // Language
+            pci_device_id: field_in(bytes, 64, 2) as u16, // PCI Device ID
+            pci_vendor_id: field_in(bytes, 66, 2) as u16, // PCI Vendor ID
+            pci_bus_number: field_in(bytes, 68, 1) as u8, // PCI Bus Number
+            pci_device_number: field_in(bytes, 69, 1) as u8, // PCI Device Number
+            pci_function_number: field_in(bytes, 70, 1) as u8, // PCI Function Number
+            pci_flags: field_in(bytes, 71, 4) as u32, // PCI Flags
+            pci_segment: field_in(bytes, 75, 1) as u8, // PCI Segment
+            uart_clock_frequency: field_in(bytes, 76, 4) as u32, // UART Clock Frequency
+            precise_baud_rate: field(bytes, 80, 4) as u32, // Precise Baud Rate
+            namespace_length: field(bytes, 84, 2) as u16, // NamespaceStringLength
+            namespace_offset: field(bytes, 86, 2) as u16, // NamespaceStringOffset
         }
     }
 }
@@ -169,6 +169,7 @@ impl Spcr {
     pub fn irq(&self) -> Option<u8>
         ensures { result ≡ irq_of self.now }
     {
+        // Interrupt Type, bit 0: the 8259 controllers.
         if has_bit(self.interrupt_type as u64, 0) {
             Some(self.irq)
         } else {
@@ -180,6 +181,7 @@ impl Spcr {
     pub fn global_system_interrupt(&self) -> Option<u32>
         ensures { result ≡ interrupt_of self.now }
     {
+        // Interrupt Type, bits 1 to 4: the other controllers.
         if bits(self.interrupt_type as u64, 1, 4) == 0 {
             return None;
         }

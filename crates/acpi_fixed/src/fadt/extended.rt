@@ -6,7 +6,7 @@ ghost use Rattle.acpi_fixed.specs.Registers.{extended_address, extended_number};
 use acpi_base::address::RawAddress;
 use acpi_base::bytes::{field, field_in, filled_in};
 
-/// Whether the table has revision 2 or above, and the `n` bytes at an offset.
+/// Whether FADT Major Version, at 8, is 2 or above and the table has the `n` bytes at an offset.
 #[inline(always)]
 fn is_extended(table: &[u8], offset: usize, n: usize) -> bool
     requires { offset + n ≤ 276 }

@@ -91,7 +91,7 @@ impl RegisterBlock {
         ensures { result ≡ usable_extended self.now.extended }
     {
         match self.extended {
-            Some(raw) if field_in(&raw, 4, 8) != 0 => Some(raw),
+            Some(raw) if field_in(&raw, 4, 8) != 0 => Some(raw), // Address
             _ => None,
         }
     }
@@ -179,6 +179,7 @@ impl Registers {
         requires { 116 ≤ length table.now }
         ensures { result ≡ registers_at table.now }
     {
+        // FADT Major Version.
         if table.len() >= 244 && field_in(table, 8, 1) >= 2 {
             Registers::read_there(table)
         } else {
@@ -194,17 +195,17 @@ impl Registers {
         ensures { result ≡ registers_at table.now }
     {
         Registers {
-            pm1a_event: RegisterBlock::read(table, 56, 88, 148),
-            pm1b_event: RegisterBlock::read(table, 60, 88, 160),
-            pm1a_control: RegisterBlock::read(table, 64, 89, 172),
-            pm1b_control: RegisterBlock::read(table, 68, 89, 184),
-            pm2_control: RegisterBlock::read(table, 72, 90, 196),
-            pm_timer: RegisterBlock::read(table, 76, 91, 208),
-            gpe0: RegisterBlock::read(table, 80, 92, 220),
-            gpe1: RegisterBlock::read(table, 84, 93, 232),
-            reset: filled(table, 116),
-            sleep_control: extended_address_in(table, 244),
-            sleep_status: extended_address_in(table, 256),
+            pm1a_event: RegisterBlock::read(table, 56, 88, 148), // PM1a_EVT_BLK, PM1_EVT_LEN, X_PM1a_EVT_BLK
+            pm1b_event: RegisterBlock::read(table, 60, 88, 160), // PM1b_EVT_BLK, PM1_EVT_LEN, X_PM1b_EVT_BLK
+            pm1a_control: RegisterBlock::read(table, 64, 89, 172), // PM1a_CNT_BLK, PM1_CNT_LEN, X_PM1a_CNT_BLK
+            pm1b_control: RegisterBlock::read(table, 68, 89, 184), // PM1b_CNT_BLK, PM1_CNT_LEN, X_PM1b_CNT_BLK
+            pm2_control: RegisterBlock::read(table, 72, 90, 196), // PM2_CNT_BLK, PM2_CNT_LEN, X_PM2_CNT_BLK
+            pm_timer: RegisterBlock::read(table, 76, 91, 208), // PM_TMR_BLK, PM_TMR_LEN, X_PM_TMR_BLK
+            gpe0: RegisterBlock::read(table, 80, 92, 220), // GPE0_BLK, GPE0_BLK_LEN, X_GPE0_BLK
+            gpe1: RegisterBlock::read(table, 84, 93, 232), // GPE1_BLK, GPE1_BLK_LEN, X_GPE1_BLK
+            reset: filled(table, 116), // RESET_REG
+            sleep_control: extended_address_in(table, 244), // SLEEP_CONTROL_REG
+            sleep_status: extended_address_in(table, 256), // SLEEP_STATUS_REG
         }
     }
 
@@ -216,17 +217,17 @@ impl Registers {
         ensures { result ≡ registers_at table.now }
     {
         Registers {
-            pm1a_event: RegisterBlock::read_there(table, 56, 88, 148),
-            pm1b_event: RegisterBlock::read_there(table, 60, 88, 160),
-            pm1a_control: RegisterBlock::read_there(table, 64, 89, 172),
-            pm1b_control: RegisterBlock::read_there(table, 68, 89, 184),
-            pm2_control: RegisterBlock::read_there(table, 72, 90, 196),
-            pm_timer: RegisterBlock::read_there(table, 76, 91, 208),
-            gpe0: RegisterBlock::read_there(table, 80, 92, 220),
-            gpe1: RegisterBlock::read_there(table, 84, 93, 232),
-            reset: filled_in(table, 116),
-            sleep_control: extended_address_in(table, 244),
-            sleep_status: extended_address_in(table, 256),
+            pm1a_event: RegisterBlock::read_there(table, 56, 88, 148), // PM1a_EVT_BLK, PM1_EVT_LEN, X_PM1a_EVT_BLK
+            pm1b_event: RegisterBlock::read_there(table, 60, 88, 160), // PM1b_EVT_BLK, PM1_EVT_LEN, X_PM1b_EVT_BLK
+            pm1a_control: RegisterBlock::read_there(table, 64, 89, 172), // PM1a_CNT_BLK, PM1_CNT_LEN, X_PM1a_CNT_BLK
+            pm1b_control: RegisterBlock::read_there(table, 68, 89, 184), // PM1b_CNT_BLK, PM1_CNT_LEN, X_PM1b_CNT_BLK
+            pm2_control: RegisterBlock::read_there(table, 72, 90, 196), // PM2_CNT_BLK, PM2_CNT_LEN, X_PM2_CNT_BLK
+            pm_timer: RegisterBlock::read_there(table, 76, 91, 208), // PM_TMR_BLK, PM_TMR_LEN, X_PM_TMR_BLK
+            gpe0: RegisterBlock::read_there(table, 80, 92, 220), // GPE0_BLK, GPE0_BLK_LEN, X_GPE0_BLK
+            gpe1: RegisterBlock::read_there(table, 84, 93, 232), // GPE1_BLK, GPE1_BLK_LEN, X_GPE1_BLK
+            reset: filled_in(table, 116), // RESET_REG
+            sleep_control: extended_address_in(table, 244), // SLEEP_CONTROL_REG
+            sleep_status: extended_address_in(table, 256), // SLEEP_STATUS_REG
         }
     }
 }

@@ -19,10 +19,10 @@ fn is_table(bytes: &[u8]) -> bool
     ensures { result ≡ checks.is_table bytes.now }
 {
     bytes.len() >= 36
-        && field(bytes, 4, 4) == bytes.len() as u64
-        && is_text(&bytes[..4])
-        && is_text(&bytes[10..16])
-        && is_text(&bytes[16..24])
+        && field(bytes, 4, 4) == bytes.len() as u64 // Length
+        && is_text(&bytes[..4]) // Signature
+        && is_text(&bytes[10..16]) // OEMID
+        && is_text(&bytes[16..24]) // OEM Table ID
 }
 
 /// Tests the bytes of each table.

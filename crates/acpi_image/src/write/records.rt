@@ -31,12 +31,12 @@ fn rsdp_unsummed(revision: u8, rsdt: u64, count: u64, xsdt: u64) -> [u8; 36]
     ensures { result ≡ rsdp_unsummed revision rsdt count xsdt }
 {
     let mut rsdp = [0; 36];
-    rsdp[..8].copy_from_slice(b"RSD PTR ");
-    rsdp[9..15].copy_from_slice(b"      ");
-    rsdp[15] = revision;
-    rsdp[16..20].copy_from_slice(&rsdt.to_le_bytes()[..4]);
-    rsdp[20..24].copy_from_slice(&count.to_le_bytes()[..4]);
-    rsdp[24..32].copy_from_slice(&xsdt.to_le_bytes());
+    rsdp[..8].copy_from_slice(b"RSD PTR "); // Signature
+    rsdp[9..15].copy_from_slice(b"      "); // OEMID
+    rsdp[15] = revision; // Revision
+    rsdp[16..20].copy_from_slice(&rsdt.to_le_bytes()[..4]); // RsdtAddress
+    rsdp[20..24].copy_from_slice(&count.to_le_bytes()[..4]); // Length
+    rsdp[24..32].copy_from_slice(&xsdt.to_le_bytes()); // XsdtAddress
     rsdp
 }
 
@@ -47,12 +47,12 @@ fn rsdp_to(revision: u8, root: u64) -> [u8; 36]
 {
     if revision == 0 {
         let mut rsdp = rsdp_unsummed(0, root, 0, 0);
-        set_sum(&mut rsdp[..20], 8);
+        set_sum(&mut rsdp[..20], 8); // Checksum
         rsdp
     } else {
         let mut rsdp = rsdp_unsummed(revision, 0, 36, root);
-        set_sum(&mut rsdp[..20], 8);
-        set_sum(&mut rsdp, 32);
+        set_sum(&mut rsdp[..20], 8); // Checksum
+        set_sum(&mut rsdp, 32); // Extended Checksum
         rsdp
     }
 }
@@ -122,10 +122,10 @@ fn root_header(revision: u8, length: usize) -> [u8; 36]
     ensures { result ≡ root_header (signature_of (kind_of_revision revision)) length }
 {
     let mut header = [0; 36];
-    header[4..8].copy_from_slice(&(length as u64).to_le_bytes()[..4]);
-    header[8] = 1;
-    header[10..24].copy_from_slice(b"              ");
-    header[..4].copy_from_slice(&signature(revision).to_bytes());
+    header[4..8].copy_from_slice(&(length as u64).to_le_bytes()[..4]); // Length
+    header[8] = 1; // Revision
+    header[10..24].copy_from_slice(b"              "); // OEMID, OEM Table ID
+    header[..4].copy_from_slice(&signature(revision).to_bytes()); // Signature
     header
 }
 
@@ -167,7 +167,7 @@ fn put_table_of_pointers<A: Allocator>(
     let length = root_length(revision, tables.len());
     put(file, &root_header(revision, length))?;
     put_pointers(file, revision, tables)?;
-    set_sum(&mut file[start..], 9);
+    set_sum(&mut file[start..], 9); // Checksum
     Ok(())
 }
 
@@ -207,7 +207,7 @@ pub fn put_region<A: Allocator>(
     put(file, bytes)
 }
 
-/// Puts the record of a table, with byte 9 set.
+/// Puts the record of a table, with Checksum, byte 9, set.
 ///
 /// Refuses with `OutOfMemory`.
 fn put_table<A: Allocator>(file: &mut Vec<u8, A>, table: &PlacedTable<'_>) -> Result<(), WriteError>
@@ -219,7 +219,7 @@ fn put_table<A: Allocator>(file: &mut Vec<u8, A>, table: &PlacedTable<'_>) -> Re
     put_head(file, table.address, table.bytes.len())?;
     let start = file.len();
     put(file, table.bytes)?;
-    set_sum(&mut file[start..], 9);
+    set_sum(&mut file[start..], 9); // Checksum
     Ok(())
 }
 

@@ -82,7 +82,7 @@ impl SratEntry {
             SratEntry::GicIts(_) => return None,
             SratEntry::GenericInitiator(entry) | SratEntry::GenericPort(entry) => entry.flags,
         };
-        Some(has_bit(flags as u64, 0))
+        Some(has_bit(flags as u64, 0)) // Enabled
     }
 
     /// The domain that an enabled entry gives the processor whose local APIC has this id.
@@ -136,6 +136,7 @@ impl SratEntry {
 fn given_by(flags: u32, is_meant: bool, domain: u32) -> Option<u32>
     ensures { result ≡ given_by flags is_meant domain }
 {
+    // Enabled.
     if has_bit(flags as u64, 0) && is_meant {
         Some(domain)
     } else {

@@ -30,18 +30,18 @@ impl LocalApicAffinity {
         requires { 16 ≤ length bytes.now }
         ensures { result ≡ entries.local_apic_affinity_at revision bytes.now }
     {
-        let lowest = field_in(bytes, 2, 1) as u32;
-        let higher = field_in(bytes, 9, 3) as u32;
+        let lowest = field_in(bytes, 2, 1) as u32; // Proximity Domain [7:0]
+        let higher = field_in(bytes, 9, 3) as u32; // Proximity Domain [31:8]
         LocalApicAffinity {
             domain: if revision < 2 {
                 lowest
             } else {
                 lowest + 256 * higher
             },
-            apic_id: field_in(bytes, 3, 1) as u8,
-            flags: field_in(bytes, 4, 4) as u32,
-            sapic_eid: field_in(bytes, 8, 1) as u8,
-            clock_domain: field_in(bytes, 12, 4) as u32,
+            apic_id: field_in(bytes, 3, 1) as u8, // APIC ID
+            flags: field_in(bytes, 4, 4) as u32, // Flags
+            sapic_eid: field_in(bytes, 8, 1) as u8, // Local SAPIC EID
+            clock_domain: field_in(bytes, 12, 4) as u32, // Clock Domain
         }
     }
 }
@@ -68,10 +68,10 @@ impl MemoryAffinity {
     {
         let width = if revision < 2 { 1 } else { 4 };
         MemoryAffinity {
-            domain: field_in(bytes, 2, width) as u32,
-            base: field_in(bytes, 8, 8),
-            length: field_in(bytes, 16, 8),
-            flags: field_in(bytes, 28, 4) as u32,
+            domain: field_in(bytes, 2, width) as u32, // Proximity Domain
+            base: field_in(bytes, 8, 8), // Base Address Low, Base Address High
+            length: field_in(bytes, 16, 8), // Length Low, Length High
+            flags: field_in(bytes, 28, 4) as u32, // Flags
         }
     }
 
@@ -79,14 +79,14 @@ impl MemoryAffinity {
     pub fn is_hot_pluggable(&self) -> bool
         ensures { result ≡ has_bit self.now.flags 1 }
     {
-        has_bit(self.flags as u64, 1)
+        has_bit(self.flags as u64, 1) // Hot Pluggable
     }
 
     /// Whether the memory is non-volatile (bit 2 of the flags).
     pub fn is_non_volatile(&self) -> bool
         ensures { result ≡ has_bit self.now.flags 2 }
     {
-        has_bit(self.flags as u64, 2)
+        has_bit(self.flags as u64, 2) // NonVolatile
     }
 }
 
@@ -110,10 +110,10 @@ impl LocalX2ApicAffinity {
         ensures { result ≡ entries.local_x2apic_affinity_at bytes.now }
     {
         LocalX2ApicAffinity {
-            domain: field_in(bytes, 4, 4) as u32,
-            x2apic_id: field_in(bytes, 8, 4) as u32,
-            flags: field_in(bytes, 12, 4) as u32,
-            clock_domain: field_in(bytes, 16, 4) as u32,
+            domain: field_in(bytes, 4, 4) as u32, // Proximity Domain
+            x2apic_id: field_in(bytes, 8, 4) as u32, // X2APIC ID
+            flags: field_in(bytes, 12, 4) as u32, // Flags
+            clock_domain: field_in(bytes, 16, 4) as u32, // Clock Domain
         }
     }
 }
@@ -139,10 +139,10 @@ impl GiccAffinity {
         ensures { result ≡ entries.gicc_affinity_at bytes.now }
     {
         GiccAffinity {
-            domain: field_in(bytes, 2, 4) as u32,
-            processor_uid: field_in(bytes, 6, 4) as u32,
-            flags: field_in(bytes, 10, 4) as u32,
-            clock_domain: field_in(bytes, 14, 4) as u32,
+            domain: field_in(bytes, 2, 4) as u32, // Proximity Domain
+            processor_uid: field_in(bytes, 6, 4) as u32, // ACPI Processor UID
+            flags: field_in(bytes, 10, 4) as u32, // Flags
+            clock_domain: field_in(bytes, 14, 4) as u32, // Clock Domain
         }
     }
 }
@@ -163,8 +163,8 @@ impl GicItsAffinity {
         ensures { result ≡ entries.gic_its_affinity_at bytes.now }
     {
         GicItsAffinity {
-            domain: field_in(bytes, 2, 4) as u32,
-            its_id: field_in(bytes, 8, 4) as u32,
+            domain: field_in(bytes, 2, 4) as u32, // Proximity Domain
+            its_id: field_in(bytes, 8, 4) as u32, // ITS ID
         }
     }
 }
@@ -190,10 +190,10 @@ impl GenericAffinity {
         ensures { result ≡ entries.generic_affinity_at bytes.now }
     {
         GenericAffinity {
-            handle_type: field_in(bytes, 3, 1) as u8,
-            domain: field_in(bytes, 4, 4) as u32,
-            device_handle: filled_in(bytes, 8),
-            flags: field_in(bytes, 24, 4) as u32,
+            handle_type: field_in(bytes, 3, 1) as u8, // Device Handle Type
+            domain: field_in(bytes, 4, 4) as u32, // Proximity Domain
+            device_handle: filled_in(bytes, 8), // Device Handle
+            flags: field_in(bytes, 24, 4) as u32, // Flags
         }
     }
 
@@ -201,6 +201,6 @@ impl GenericAffinity {
     pub fn has_architectural_transactions(&self) -> bool
         ensures { result ≡ has_bit self.now.flags 1 }
     {
-        has_bit(self.flags as u64, 1)
+        has_bit(self.flags as u64, 1) // Architectural Transactions
     }
 }

@@ -32,7 +32,7 @@ impl<'a> SratEntryIter<'a> {
     {
         SratEntryIter {
             rest: skip(table, Srat::MIN_LENGTH),
-            revision: field(table, 8, 1) as u8,
+            revision: field(table, 8, 1) as u8, // Revision
             ended: false,
         }
     }

@@ -35,8 +35,8 @@ impl PhysicalRecord for EntryHeader {
     #[inline(always)]
     fn read(bytes: &[u8]) -> Self {
         EntryHeader {
-            entry_type: field_in(bytes, 0, 1) as u8,
-            length: field_in(bytes, 1, 1) as u8,
+            entry_type: field_in(bytes, 0, 1) as u8, // Type
+            length: field_in(bytes, 1, 1) as u8, // Length
         }
     }
 }

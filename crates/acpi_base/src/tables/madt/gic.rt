@@ -58,21 +58,21 @@ impl PhysicalRecord for GiccEntry {
     fn read(bytes: &[u8]) -> Self {
         GiccEntry {
             header: EntryHeader::read(bytes),
-            cpu_interface_number: field_in(bytes, 4, 4) as u32,
-            processor_uid: field_in(bytes, 8, 4) as u32,
-            flags: field_in(bytes, 12, 4) as u32,
-            parking_protocol_version: field_in(bytes, 16, 4) as u32,
-            performance_interrupt_gsiv: field_in(bytes, 20, 4) as u32,
-            parked_address: field_in(bytes, 24, 8),
-            gic_registers_address: field_in(bytes, 32, 8),
-            gic_virtual_registers_address: field_in(bytes, 40, 8),
-            gic_hypervisor_registers_address: field_in(bytes, 48, 8),
-            vgic_maintenance_interrupt: field_in(bytes, 56, 4) as u32,
-            gicr_base_address: field_in(bytes, 60, 8),
-            mpidr: field_in(bytes, 68, 8),
-            processor_power_efficiency_class: field(bytes, 76, 1) as u8,
-            spe_overflow_interrupt: field(bytes, 78, 2) as u16,
-            trbe_interrupt: ExtendedField::read(bytes, 80),
+            cpu_interface_number: field_in(bytes, 4, 4) as u32, // CPU Interface Number
+            processor_uid: field_in(bytes, 8, 4) as u32, // ACPI Processor UID
+            flags: field_in(bytes, 12, 4) as u32, // Flags (GICC CPU Interface Flags)
+            parking_protocol_version: field_in(bytes, 16, 4) as u32, // Parking Protocol Version
+            performance_interrupt_gsiv: field_in(bytes, 20, 4) as u32, // Performance Interrupt GSIV
+            parked_address: field_in(bytes, 24, 8), // Parked Address
+            gic_registers_address: field_in(bytes, 32, 8), // Physical Base Address
+            gic_virtual_registers_address: field_in(bytes, 40, 8), // GICV
+            gic_hypervisor_registers_address: field_in(bytes, 48, 8), // GICH
+            vgic_maintenance_interrupt: field_in(bytes, 56, 4) as u32, // VGIC Maintenance interrupt
+            gicr_base_address: field_in(bytes, 60, 8), // GICR Base Address
+            mpidr: field_in(bytes, 68, 8), // MPIDR
+            processor_power_efficiency_class: field(bytes, 76, 1) as u8, // Processor Power Efficiency Class
+            spe_overflow_interrupt: field(bytes, 78, 2) as u16, // SPE overflow Interrupt
+            trbe_interrupt: ExtendedField::read(bytes, 80), // TRBE Interrupt, since ACPI 6.5
         }
     }
 }
@@ -104,10 +104,10 @@ impl PhysicalRecord for GicdEntry {
     fn read(bytes: &[u8]) -> Self {
         GicdEntry {
             header: EntryHeader::read(bytes),
-            gic_id: field_in(bytes, 4, 4) as u32,
-            physical_base_address: field_in(bytes, 8, 8),
-            system_vector_base: field_in(bytes, 16, 4) as u32,
-            gic_version: field_in(bytes, 20, 1) as u8,
+            gic_id: field_in(bytes, 4, 4) as u32, // GIC ID
+            physical_base_address: field_in(bytes, 8, 8), // Physical Base Address
+            system_vector_base: field_in(bytes, 16, 4) as u32, // System Vector Base
+            gic_version: field_in(bytes, 20, 1) as u8, // GIC version
         }
     }
 }
@@ -141,11 +141,11 @@ impl PhysicalRecord for GicMsiFrameEntry {
     fn read(bytes: &[u8]) -> Self {
         GicMsiFrameEntry {
             header: EntryHeader::read(bytes),
-            frame_id: field_in(bytes, 4, 4) as u32,
-            physical_base_address: field_in(bytes, 8, 8),
-            flags: field_in(bytes, 16, 4) as u32,
-            spi_count: field_in(bytes, 20, 2) as u16,
-            spi_base: field_in(bytes, 22, 2) as u16,
+            frame_id: field_in(bytes, 4, 4) as u32, // GIC MSI Frame ID
+            physical_base_address: field_in(bytes, 8, 8), // Physical Base Address
+            flags: field_in(bytes, 16, 4) as u32, // Flags (GIC MSI Frame Flags)
+            spi_count: field_in(bytes, 20, 2) as u16, // SPI Count
+            spi_base: field_in(bytes, 22, 2) as u16, // SPI Base
         }
     }
 }
@@ -173,8 +173,8 @@ impl PhysicalRecord for GicRedistributorEntry {
     fn read(bytes: &[u8]) -> Self {
         GicRedistributorEntry {
             header: EntryHeader::read(bytes),
-            discovery_range_base_address: field_in(bytes, 4, 8),
-            discovery_range_length: field_in(bytes, 12, 4) as u32,
+            discovery_range_base_address: field_in(bytes, 4, 8), // Discovery Range Base Address
+            discovery_range_length: field_in(bytes, 12, 4) as u32, // Discovery Range Length
         }
     }
 }
@@ -203,8 +203,8 @@ impl PhysicalRecord for GicInterruptTranslationServiceEntry {
     fn read(bytes: &[u8]) -> Self {
         GicInterruptTranslationServiceEntry {
             header: EntryHeader::read(bytes),
-            id: field_in(bytes, 4, 4) as u32,
-            physical_base_address: field_in(bytes, 8, 8),
+            id: field_in(bytes, 4, 4) as u32, // GIC ITS ID
+            physical_base_address: field_in(bytes, 8, 8), // Physical Base Address
         }
     }
 }

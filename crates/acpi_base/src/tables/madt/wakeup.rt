@@ -27,8 +27,8 @@ impl PhysicalRecord for MultiprocessorWakeupEntry {
     fn read(bytes: &[u8]) -> Self {
         MultiprocessorWakeupEntry {
             header: EntryHeader::read(bytes),
-            mailbox_version: field_in(bytes, 2, 2) as u16,
-            mailbox_address: field_in(bytes, 8, 8),
+            mailbox_version: field_in(bytes, 2, 2) as u16, // MailBoxVersion
+            mailbox_address: field_in(bytes, 8, 8), // MailBoxAddress
         }
     }
 }

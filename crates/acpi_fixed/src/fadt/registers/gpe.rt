@@ -24,10 +24,10 @@ pub struct GpeBlock {
 fn block_from(raw: &RawAddress, byte_length: u8) -> AcpiResult<GpeBlock>
     ensures { result ≡ block_from raw.now byte_length }
 {
-    let space = AddressSpace::try_from(field_in(raw, 0, 1) as u8)?;
+    let space = AddressSpace::try_from(field_in(raw, 0, 1) as u8)?; // Address Space ID
     Ok(GpeBlock {
         space,
-        address: field_in(raw, 4, 8),
+        address: field_in(raw, 4, 8), // Address
         byte_length,
     })
 }

@@ -6,7 +6,7 @@ use Rattle.acpi_numa.specs.Srat.{cut_of}
 use Rattle.acpi_numa.specs.SratWalk.{entries_left, rest_left}
 use Rattle.acpi_numa.proofs.srat.affinities.counted.Given as goal
 
--- what is counted and what is left are the whole, so is what is tested, and the rest is the same
+-- what is counted and what is left are the whole, what is tested and what is left to test too, and the rest is the same
 abbrev pub invariant-loop-entry : goal.invariant-loop-entry
 invariant-loop-entry l =
     let left = filter_map range_in (entries_left l.entries) in
