@@ -113,7 +113,7 @@ fn print_image<H: AcpiHandler, W: Write, E: Write>(
     err: &mut E,
 ) -> io::Result<u8> {
     match root.open(handler) {
-        Ok(tables) => print_shown(handler, &tables, shown, out, err),
+        Ok(tables) => print_shown(handler, &tables, name, shown, out, err),
         Err(refusal) => {
             match root {
                 Root::Rsdt { address, .. } | Root::Rsdp { address } => {
@@ -126,10 +126,11 @@ fn print_image<H: AcpiHandler, W: Write, E: Write>(
     }
 }
 
-/// Prints the part that is asked for of tables.
+/// Prints the part that is asked for of the tables in the file of this name.
 fn print_shown<H: AcpiHandler, W: Write, E: Write>(
     handler: &H,
     tables: &AcpiTables<'_, H>,
+    name: &str,
     shown: Shown,
     out: &mut W,
     err: &mut E,
@@ -143,7 +144,7 @@ fn print_shown<H: AcpiHandler, W: Write, E: Write>(
             if print_tables(handler, tables, signature, contents, out)? {
                 return Ok(0);
             }
-            writeln!(err, "no valid table {signature}")?;
+            writeln!(err, "refused: {name}: no valid table {signature}")?;
             Ok(1)
         }
     }
