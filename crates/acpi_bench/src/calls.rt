@@ -160,7 +160,7 @@ fn dsdt_place<H: AcpiHandler>(tables: &AcpiTables<'_, H>) -> u64 {
     }
 }
 
-/// How many processors the platform has beside the first.
+/// How many processors the platform has besides the boot processor.
 fn processors<H: AcpiHandler>(alloc: Global, tables: &AcpiTables<'_, H>) -> u64 {
     match tables.platform_info(alloc) {
         Ok(info) => match &info.processor_info {

@@ -50,7 +50,7 @@ fn bench_file(rt: &HostRuntime, order: Order<'_>) -> io::Result<u8> {
     }
 }
 
-/// The same on these bytes of the file.
+/// Times all calls on the memory that these bytes of the file encode.
 fn bench_memory(rt: &HostRuntime, order: Order<'_>, file: &[u8]) -> io::Result<u8> {
     match MemoryImage::from_bytes(rt.alloc(), file) {
         Ok(image) => bench_handler(rt, order, &Counted::new(&image)),
@@ -58,7 +58,7 @@ fn bench_memory(rt: &HostRuntime, order: Order<'_>, file: &[u8]) -> io::Result<u
     }
 }
 
-/// The same over this handler.
+/// Times all calls over a handler, and the byte sum of the tables.
 fn bench_handler(rt: &HostRuntime, order: Order<'_>, handler: &Counted<'_, '_>) -> io::Result<u8> {
     if let Err(refusal) = order.root.open(handler) {
         return refuse(rt, 1, "refused", &refusal);

@@ -1,4 +1,4 @@
-//! The byte sum, beside a plain loop.
+//! The byte sum, compared with a plain loop.
 
 use crate::counted::Counted;
 use crate::stopwatch::Stopwatch;

@@ -18,7 +18,7 @@ pub(crate) fn of_model(
     }
 }
 
-/// The same of APICs. A number that doesn't fit what is asked counts as its low bits.
+/// What the APICs of a model answer. A number that is too large for what is asked counts as its low bits.
 fn of_apic(
     alloc: Global,
     apic: &Apic<Global>,

@@ -12,7 +12,7 @@ const LENT: Event = Event::Lent {
     lent: 64,
 };
 
-/// The same for the header of such a table.
+/// 64 bytes are lent at 0x2000 for the 36 of the header of a table of 56 bytes.
 const HEADER: Event = Event::Lent {
     address: 0x2000,
     size: 36,

@@ -172,7 +172,7 @@ fn cloned_length(none: AcpiResult<ManagedSlice<u64, &LocalHeap>>) -> AcpiResult<
     }
 }
 
-/// Checks what there is room for beside a slice that takes all of a heap.
+/// Checks which slices still fit when one takes all of a heap.
 fn check_beside(rt: &impl Abort, heap: &LocalHeap, all: &ManagedSlice<u8, &LocalHeap>) {
     check(rt, "free", (heap.free(), all.as_slice().len()), (0, 16));
     let none = length_of(ManagedSlice::new_in(0, 7u64, heap));

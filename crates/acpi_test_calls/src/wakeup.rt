@@ -60,7 +60,7 @@ fn woken<M: Mailbox>(
     }
 }
 
-/// The same over the RSDT at 0x1000 of a file.
+/// Wakes that processor, by the tables below the RSDT at 0x1000 of a file.
 fn wake<M: Mailbox>(
     alloc: Global,
     file: &[u8],

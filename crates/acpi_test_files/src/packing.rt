@@ -29,7 +29,7 @@ pub(crate) enum Answer {
     Refused,
     /// An image of so many bytes, with these among them.
     Image(usize, &'static [Part]),
-    /// The same, of tables.
+    /// An image of tables of so many bytes, with these among them, and what opens in it.
     Tables(usize, &'static [Part], Opened),
 }
 

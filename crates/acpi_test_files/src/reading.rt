@@ -222,7 +222,7 @@ fn forty() -> Room {
     file
 }
 
-/// Requests beside the forty records.
+/// Requests just outside the forty records.
 static AROUND: [Request; 3] = [(0xFFF, 1, None), (0x1050, 1, None), (u64::MAX, 1, None)];
 
 /// Checks what is lent of each of the forty records, and around them.
@@ -279,8 +279,8 @@ fn sevens_in(heap: &LocalHeap, file: &[u8]) -> Result<usize, ImageError> {
     Ok(sevens)
 }
 
-/// The same in a heap of so many bytes, and how many of these are used afterwards. `None` if there
-/// is no such heap.
+/// What `sevens_in` answers in a heap of so many bytes, and how many of these are used afterwards. `None`
+/// if there is no such heap.
 fn sevens_within(
     alloc: Global,
     room: usize,

@@ -75,7 +75,7 @@ fn replaces_a_file(rt: HostRuntime) {
     }
 }
 
-/// Makes a folder, files, links to one of them and to nothing, and a file beside one that is to be
+/// Makes a folder, files, links to one of them and to nothing, and a file next to one that is to be
 /// made.
 fn is_prepared(rt: &HostRuntime) -> bool {
     is_made(rt, "refused")

@@ -60,7 +60,7 @@ fn model<A: Allocator + Clone>(
     said(alloc, madt.parse_interrupt_model_in(allocator))
 }
 
-/// The same in a heap of 16 bytes, which has to be free again.
+/// The model of a table, gathered in a heap of 16 bytes, which has to be free again.
 fn model_in_16_bytes(alloc: Global, table: &[u8]) -> Result<String, AllocError> {
     let heap = LocalHeap::new(alloc, 16)?;
     let text = model(alloc, &heap, table)?;

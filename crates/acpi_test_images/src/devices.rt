@@ -62,7 +62,7 @@ pub(crate) fn function<A: Allocator>(
     }
 }
 
-/// The same by the base of bus 0.
+/// The address of a function if a region's base is that of bus 0.
 pub(crate) fn ecam_function<A: Allocator>(
     alloc: Global,
     answer: AcpiResult<PciConfigRegions<A>>,

@@ -107,7 +107,7 @@ fn of_platform<A: Allocator + Clone>(
     }
 }
 
-/// The same of the parts.
+/// What the APICs and the processors of a platform answer.
 fn of_parts<A: Allocator + Clone>(
     alloc: Global,
     apic: &Apic<A>,

@@ -70,7 +70,7 @@ fn answered(alloc: Global, row: &Row, scene: &str) -> Result<String, AllocError>
     }
 }
 
-/// The same over this memory. The first step begins with the handler's name.
+/// What the last of these steps comes to over this memory. The first step begins with the handler's name.
 fn answered_over(
     alloc: Global,
     image: &MemoryImage<'_>,
@@ -83,7 +83,7 @@ fn answered_over(
     }
 }
 
-/// The same over a handler that is recorded.
+/// What the last of these steps comes to over a handler whose loans are recorded.
 fn recorded<H: AcpiHandler>(alloc: Global, handler: &H, steps: &str) -> Result<String, AllocError> {
     let recording = Recording::new(handler);
     told(alloc, &recording, recording.cell(), steps)

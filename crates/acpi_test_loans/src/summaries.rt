@@ -39,7 +39,7 @@ fn gathered<H: AcpiHandler>(
     }
 }
 
-/// The same over a heap.
+/// What a summary answers that is gathered in a heap.
 fn gathered_in<H: AcpiHandler>(
     heap: &LocalHeap,
     tables: &AcpiTables<'_, H>,
@@ -63,7 +63,7 @@ fn regions<H: AcpiHandler>(alloc: Global, tables: &AcpiTables<'_, H>) -> AcpiRes
     Ok(PciConfigRegions::new(alloc, tables)?.iter().count() as u64)
 }
 
-/// The same over a heap.
+/// How many regions of PCI configuration space there are, gathered in a heap.
 fn regions_in<H: AcpiHandler>(heap: &LocalHeap, tables: &AcpiTables<'_, H>) -> AcpiResult<u64> {
     Ok(PciConfigRegions::new_in(tables, heap)?.iter().count() as u64)
 }
@@ -74,7 +74,7 @@ fn platform<H: AcpiHandler>(alloc: Global, tables: &AcpiTables<'_, H>) -> AcpiRe
     Ok(0)
 }
 
-/// The same over a heap.
+/// 0, if there is a platform, gathered in a heap.
 fn platform_in<H: AcpiHandler>(heap: &LocalHeap, tables: &AcpiTables<'_, H>) -> AcpiResult<u64> {
     let _platform = tables.platform_info_in(heap)?;
     Ok(0)

@@ -69,7 +69,7 @@ fn one_entry(
     }
 }
 
-/// What the flags of an entry say beside bit 0.
+/// The flags of an entry other than bit 0.
 fn bits_of(alloc: Global, entry: &SratEntry) -> Result<String, AllocError> {
     match entry {
         SratEntry::Memory(memory) => {

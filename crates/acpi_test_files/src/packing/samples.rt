@@ -38,7 +38,7 @@ pub(crate) const MADT: Bytes = Bytes {
     parts: &[(0, b"APIC\x2c\0\0\0\x01\xb6")],
 };
 
-/// The same with a checksum that is too large by 1.
+/// A MADT without entries, with a checksum that is too large by 1.
 pub(crate) const BAD_MADT: Bytes = Bytes {
     length: 44,
     parts: &[(0, b"APIC\x2c\0\0\0\x01\xb7")],

@@ -19,7 +19,7 @@ type Within = Option<(Result<(usize, usize), WriteError>, usize)>;
 /// Memory is refused, and none of the heap is used afterwards.
 const REFUSED: Within = Some((Err(WriteError::OutOfMemory), 0));
 
-/// How many bytes are written in a heap of so many bytes, and how many of the heap are used beside
+/// How many bytes are written in a heap of so many bytes, and how many of the heap are used besides
 /// those that the file has room for, or why none are written; and how many are used afterwards.
 /// `None` if there is no such heap. The RSDP is to lie at 0x500.
 fn length_within(
