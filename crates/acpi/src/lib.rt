@@ -36,6 +36,7 @@ pub use mcfg::PciConfigRegions;
 pub use members::{TableMember, TableMembers};
 pub use platform::PlatformInfo;
 pub use platform::interrupt::InterruptModel;
+pub use pointers::Pointers;
 pub use ranges::TableRanges;
 pub use records::{AmlTable, Sdt, TableFault};
 pub use ssdts::SsdtIterator;

@@ -5,7 +5,7 @@ use acpi_base::bytes::{field, skip};
 
 /// The pointers that bytes encode, in order; a short remainder is one more pointer, filled up with zeros.
 #[derive(Drop)]
-pub(crate) struct Pointers<'t> {
+pub struct Pointers<'t> {
     width: usize,
     rest: &'t [u8],
     ghost some: { 1 ≤ width },

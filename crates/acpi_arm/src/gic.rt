@@ -15,10 +15,11 @@ use acpi::AcpiTables;
 use acpi_base::madt::Madt;
 use acpi_base::managed_slice::ManagedSlice;
 use acpi_base::{AcpiResult, Lender, PhysicalMapping};
-use collect::{collected, distributor_of};
+use collect::collected;
+pub use collect::distributor_of;
 pub use part::{
-    GicCpuInterface, GicDistributor, GicMsiFrame, GicRedistributors, GicTranslationService,
-    SpiRange,
+    GicCpuInterface, GicDistributor, GicMsiFrame, GicPart, GicRedistributors,
+    GicTranslationService, SpiRange,
 };
 use std::alloc::{AllocError, Allocator, Global};
 

@@ -1,7 +1,7 @@
 -- How many entries there are at most.
 use Rattle.std.proofs.Common.{◌≡◌, ℕ, suc, ◌*◌, ◌-◌, ◌≤◌, List, [], ◌∷◌, ◌++◌, length, length-drop, drop, Option, Some, None, Err, refl, sym, ap, ◌∙◌, arith, length-append}
 use Rattle.std.specs.List.{concat, AllByRecursion, filter_map, cons_option}
-use Rattle.std.specs.Result.{result_err}
+use Rattle.std.specs.Result.{result_err, result_ok}
 use Rattle.acpi_base.specs.Entries.{IsEntry, cut}
 use Rattle.acpi_base.specs.Madt.{cut_of, entries_of, entry_of, madt_grammar, madt_layout}
 use Rattle.acpi_base.specs.Model.{fault_in, fault_of, first_fault}
@@ -49,3 +49,6 @@ counted_short table rest stuck some passed same =
     let left : rest ≡ (cut_of table).1 = ap (λ x. x.1) (sym stuck) ∙ same in
     let fault : fault_of table ≡ Some InvalidEntryLength = fault_at_rest _ _ (sym passed ∙ said) (rw left at some) in
     rw (fault, counted) refl
+
+pub items_few : (table : List ℕ) → 2 * length (filter_map result_ok (said_in (drop 44 table))) ≤ length table - 44
+items_few table = omega (arith, length-filter_map result_ok (said_in (drop 44 table)), said_few table)

@@ -2,13 +2,17 @@
 use Rattle.std.specs.Prelude.{ℕ, ◌+◌, ◌||◌, List, length, false, true, Option, None, Some, Result, Ok, Err}
 use Rattle.std.specs.List.{filter_map, list_any}
 use Rattle.std.specs.Option.{option_map}
+use Rattle.std.specs.Result.{result_ok}
 use Rattle.acpi_base.specs.Entries.{cut}
 use Rattle.acpi_base.specs.Interrupts.{item_of}
 use Rattle.acpi_base.specs.Madt.{entry_of, madt_grammar}
 use Rattle.acpi_base.specs.Model.{fault_of, io_apic_in, is_of_apic, nmi_line_in, nmi_source_in, override_in, items_of, processor_in}
+use Rattle.acpi_base.specs.declared.error.AcpiError.{AcpiError}
+use Rattle.acpi_base.specs.declared.error.AcpiError.TheVariants.{InvalidMadt}
 use Rattle.acpi_base.specs.declared.error.MadtError.{MadtError}
 use Rattle.acpi_base.specs.declared.model.counts.Counts.{Counts}
 use Rattle.acpi_base.specs.declared.model.item.MadtItem.{MadtItem}
+use Rattle.acpi_base.specs.declared.model.items.MadtItems.{MadtItems}
 
 -- what an entry's bytes say, or why it is refused; nothing if its type isn't defined
 unfoldable pub said_of : List ℕ → Option (Result MadtItem MadtError)
@@ -48,3 +52,14 @@ counted table = elim (fault_of table) [
   | Some fault ↦ Err fault
   | None ↦ Ok (counts_of (items_of table))
 ]
+
+-- the same counts, and the refusal as the library's
+abbrev pub model_counts : List ℕ → Result Counts AcpiError
+model_counts table = elim (fault_of table) [
+  | Some fault ↦ Err (InvalidMadt fault)
+  | None ↦ Ok (counts_of (items_of table))
+]
+
+-- the items that are still to come in a walk
+abbrev pub items_left : MadtItems → List MadtItem
+items_left s = filter_map result_ok (said_in s.rest.now)

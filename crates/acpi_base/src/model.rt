@@ -11,17 +11,21 @@ mod gather;
 mod interrupt;
 mod isa;
 mod item;
+mod items;
 pub mod laws;
 mod nmi_lines;
 mod pin;
 mod processor;
 
+pub use counts::Counts;
 pub(crate) use gather::model_in;
 pub use interrupt::{
     Apic, InterruptModel, InterruptSourceOverride, IoApic, LocalInterruptLine, NmiLine,
     NmiProcessor, NmiSource, Polarity, TriggerMode,
 };
-pub use isa::IsaInterrupt;
+pub use isa::{IsaInterrupt, straight, wired};
+pub use item::MadtItem;
+pub use items::MadtItems;
 pub use nmi_lines::LocalNmiLines;
 pub use pin::IoApicPin;
 pub use processor::{Processor, ProcessorInfo, ProcessorState};

@@ -10,7 +10,7 @@ mod walk;
 use acpi_base::sdt::SdtHeader;
 use acpi_base::table::sum_refusal;
 use acpi_base::{AcpiResult, AcpiTable, PhysicalRecord, Signature};
-pub use affinities::{MemoryAffinities, MemoryRange};
+pub use affinities::{MemoryAffinities, MemoryRange, counted as affinities_count};
 pub use domains::{Domains, SratCalls};
 pub use entry::SratEntry;
 pub use kinds::{

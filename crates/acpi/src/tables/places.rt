@@ -3,7 +3,9 @@
 use super::AcpiTables;
 use crate::found::FoundTables;
 use crate::members::TableMembers;
+use crate::pointers::Pointers;
 use crate::ranges::{TableRanges, facs_at};
+use crate::root::RootKind;
 use acpi_base::sdt::{SdtHeader, map_sdt};
 use acpi_base::{
     AcpiError, AcpiResult, AcpiTable, AddressRange, Lender, PhysicalMapping, Signature,
@@ -21,6 +23,7 @@ impl<'h, H: Lender> AcpiTables<'h, H> {
     ghost use Rattle.acpi.specs.Lookup.{lookup};
     ghost use Rattle.acpi.specs.Members.{kind_ranges, members_of, tables_found};
     ghost use Rattle.acpi.specs.Placed.{found_left, members_left, places_left};
+    ghost use Rattle.acpi.specs.Pointers.{pointers_left};
     ghost use Rattle.acpi.specs.Places.{dsdt_place, dsdt_place_ranges, facs_place, facs_place_ranges};
     ghost use Rattle.acpi.specs.Places.{led_by, led_ranges, place_ranges, places_of};
     ghost use Rattle.acpi.specs.Placed.{root_place};
@@ -46,6 +49,21 @@ impl<'h, H: Lender> AcpiTables<'h, H> {
         ensures { result ≡ signature_of (kind_of self.now) }
     {
         self.kind.signature()
+    }
+
+    /// The kind of the root table: its signature, and the width of its pointers.
+    pub fn root_kind(&self) -> RootKind
+        ensures { result ≡ kind_of self.now }
+    {
+        self.kind
+    }
+
+    /// The physical addresses that the root table lists, in order. Nothing is looked at there.
+    pub fn addresses(&self) -> Pointers<'_>
+        ensures items { pointers_left result ≡ pointers_of self.now }
+        ensures fits { length (pointers_left result) < 2 ^ 32 }
+    {
+        self.pointers()
     }
 
     /// The members of the root table, in order: the address that each pointer gives, and the header

@@ -14,7 +14,7 @@ use std::alloc::{AllocError, Allocator};
 ///
 /// Refuses with `InvalidMadt(InvalidEntryLength)` if the entries end malformed, wherever the distributor
 /// stands.
-pub(super) fn distributor_of(table: &[u8]) -> AcpiResult<Option<GicDistributor>>
+pub fn distributor_of(table: &[u8]) -> AcpiResult<Option<GicDistributor>>
     ensures { result ≡ distributor_of table.now }
 {
     let mut distributor = None;

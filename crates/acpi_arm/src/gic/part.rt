@@ -124,7 +124,7 @@ pub(crate) fn distributor_in(entry: &MadtEntry) -> Option<GicDistributor>
 }
 
 /// An item of a list of the model.
-pub(crate) trait GicPart: Drop {
+pub trait GicPart: Drop {
     ghost use Rattle.std.specs.Prelude.{ℕ, Option};
     ghost use Rattle.acpi_base.specs.declared.tables.madt.entry.MadtEntry.{MadtEntry};
 

@@ -11,13 +11,19 @@ use crate::tables::madt::{MADT_GRAMMAR, Madt};
 
 /// How many items of each sort the entries have, and whether any entry is of a model of APICs.
 #[derive(Clone, Copy)]
-pub(super) struct Counts {
-    pub(super) processors: usize,
-    pub(super) io_apics: usize,
-    pub(super) overrides: usize,
-    pub(super) nmi_sources: usize,
-    pub(super) nmi_lines: usize,
-    pub(super) is_of_apic: bool,
+pub struct Counts {
+    /// The processors, the boot processor among them.
+    pub processors: usize,
+    /// The I/O APICs.
+    pub io_apics: usize,
+    /// The ISA interrupts that are wired otherwise.
+    pub overrides: usize,
+    /// The interrupts that are non-maskable.
+    pub nmi_sources: usize,
+    /// The inputs that NMIs come to.
+    pub nmi_lines: usize,
+    /// Whether any entry is of a model of APICs.
+    pub is_of_apic: bool,
 }
 
 impl Counts {

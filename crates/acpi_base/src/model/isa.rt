@@ -121,7 +121,7 @@ fn is_taken(overrides: &[InterruptSourceOverride], number: u8) -> bool
 }
 
 /// The interrupt that an override gives, with these in place of those of its bus.
-fn wired(
+pub fn wired(
     wiring: &InterruptSourceOverride,
     polarity: Polarity,
     trigger_mode: TriggerMode,
@@ -142,7 +142,7 @@ fn wired(
 }
 
 /// The interrupt of a number, wired one to one.
-fn straight(number: u32, polarity: Polarity, trigger_mode: TriggerMode) -> IsaInterrupt
+pub fn straight(number: u32, polarity: Polarity, trigger_mode: TriggerMode) -> IsaInterrupt
     ensures { result ≡ straight polarity trigger_mode number }
 {
     IsaInterrupt {

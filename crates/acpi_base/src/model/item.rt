@@ -20,11 +20,14 @@ use crate::tables::madt::{
 
 /// The item of the interrupt model that an entry gives, if it isn't refused.
 #[derive(Clone, Copy)]
-pub(super) enum MadtItem {
+pub enum MadtItem {
     /// Processor Local APIC or Local x2APIC: there is a processor.
     Processor {
+        /// Its ACPI id.
         processor_uid: u32,
+        /// The id of its local APIC, or of its x2APIC.
         local_apic_id: u32,
+        /// Whether it can be used: bit 0 of the entry's flags.
         is_enabled: bool,
     },
     /// I/O APIC: there is one.

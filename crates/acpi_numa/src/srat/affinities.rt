@@ -180,9 +180,12 @@ fn domain_at(ranges: &[MemoryRange], address: u64) -> Option<u32>
     None
 }
 
-/// How many ranges there are in a table's bytes, or why they are refused.
+/// How many ranges of memory a SRAT's bytes put into domains, from the table's first byte on.
+///
+/// Refuses, in this order, with `InvalidEntryLength` if the entries end before the table does, and with
+/// `InvalidMemoryRange` if one of these ranges ends above 2^64 - 1.
 #[tactic(auto, using(crate::proofs::SratCounts::ranges_few))]
-fn counted(table: &[u8]) -> NumaResult<usize>
+pub fn counted(table: &[u8]) -> NumaResult<usize>
     ensures { result ≡ affinities_count table.now }
 {
     let mut count = 0;

@@ -107,7 +107,7 @@ impl SratEntry {
     }
 
     /// The range of an enabled entry of memory that has at least one byte.
-    pub(super) fn memory_range(&self) -> Option<MemoryRange>
+    pub fn memory_range(&self) -> Option<MemoryRange>
         ensures { result ≡ range_in self.now }
     {
         match self {

@@ -1,0 +1,67 @@
+//! What the entries of a MADT say, one after the other, with no memory for a list.
+ghost use Rattle.std.specs.Prelude.{◌≡◌};
+
+use super::counts::Counts;
+use super::item::MadtItem;
+use crate::bytes::skip;
+use crate::entries::split_front;
+use crate::error::{AcpiError, AcpiResult};
+use crate::memory::handler::{Lender, PhysicalRecord};
+use crate::memory::mapping::PhysicalMapping;
+use crate::tables::madt::{MADT_GRAMMAR, Madt};
+
+/// What the entries of a MADT say, in order. An entry that is refused, or whose type isn't defined,
+/// says nothing. It ends at the table's end, or if no entry begins there.
+#[derive(Debug, Drop)]
+pub struct MadtItems<'a> {
+    rest: &'a [u8],
+}
+
+impl<'h, H: Lender> PhysicalMapping<'h, H, Madt> {
+    ghost use Rattle.std.specs.Prelude.{◌+◌, ◌*◌, ◌≤◌, length};
+    ghost use Rattle.acpi_base.specs.Items.{items_left, model_counts};
+    ghost use Rattle.acpi_base.specs.Mapping.{bytes_of};
+    ghost use Rattle.acpi_base.specs.Model.{items_of};
+
+    /// What the entries say, in order, for a caller with no heap: `parse_interrupt_model_in` sorts
+    /// the same items into lists. Whether an entry is refused, `model_counts` says first.
+    #[tactic(auto, using(crate::proofs::MadtItems::said_items))]
+    pub fn items(&self) -> MadtItems<'_>
+        ensures items { items_left result ≡ items_of (bytes_of self.now) }
+        ensures few { 2 * length (items_left result) + 44 ≤ length (bytes_of self.now) }
+    {
+        MadtItems {
+            rest: skip(self.bytes(), Madt::MIN_LENGTH),
+        }
+    }
+
+    /// How many items of each sort the entries say, and whether any is of a model of APICs.
+    ///
+    /// Refuses as `parse_interrupt_model_in`, with `InvalidMadt` for the first entry that is at fault.
+    pub fn model_counts(&self) -> AcpiResult<Counts>
+        ensures { result ≡ model_counts (bytes_of self.now) }
+    {
+        Counts::of(self.bytes()).map_err(AcpiError::InvalidMadt)
+    }
+}
+
+impl Iterator for MadtItems<'_> {
+    ghost use Rattle.std.specs.Iterator.{YieldsFirst, item_count};
+    ghost use Rattle.acpi_base.specs.Items.{items_left};
+
+    type Item = MadtItem;
+
+    ghost next_gives = { YieldsFirst (λ s. items_left s) };
+
+    ghost remaining = { item_count (λ s. items_left s) };
+
+    fn next(&mut self) -> Option<MadtItem> {
+        while let Some((entry, others)) = split_front(&MADT_GRAMMAR, self.rest) {
+            self.rest = others;
+            if let Some(Ok(item)) = MadtItem::said(entry) {
+                return Some(item);
+            }
+        }
+        None
+    }
+}
