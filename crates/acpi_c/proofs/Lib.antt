@@ -1,0 +1,11 @@
+pub mod Ascending
+pub mod BootProcessor
+pub mod Clipping
+pub mod CountedList
+pub mod Filling
+pub mod Listing
+pub mod Lying
+pub mod Names
+pub mod TimerCounts
+pub mod Unlent
+pub mod UnlentRoot
