@@ -1,0 +1,148 @@
+//! Why a call refuses.
+
+use crate::records::Signature;
+use core::fmt;
+
+/// What a call that can refuse answers.
+pub type AcpiResult<T> = Result<T, AcpiError>;
+
+/// Why a call refuses. The names are those of the crate `acpi`, and of the library's own checks; the numbers are those
+/// of `enum acpi_refusal` in `include/acpi.h`. Sections are those of ACPI 6.4. A signature that is carried is that of
+/// the table that was looked for.
+#[derive(Clone, Copy, Debug, PartialEq, Eq)]
+pub enum AcpiError {
+    /// A region begins below the end of the one before it.
+    RegionsNotAscending,
+    /// The address after a region's last byte is above 2^64 - 1.
+    RegionTooHigh,
+    /// Bytes are asked for that lie in no one region.
+    MapFailed,
+    /// The BIOS areas hold no valid RSDP (section 5.2.5.1).
+    NoValidRsdp,
+    /// The RSDP doesn't begin with `RSD PTR ` (section 5.2.5.3).
+    RsdpIncorrectSignature,
+    /// OEMID of the RSDP isn't UTF-8 (section 5.2.5.3).
+    RsdpInvalidOemId,
+    /// The RSDP's bytes don't sum to 0 modulo 256, or its Length is under 36 (section 5.2.5.3).
+    RsdpInvalidChecksum,
+    /// A table has another Signature, or one that isn't UTF-8 (section 5.2.6).
+    SdtInvalidSignature(Signature),
+    /// OEMID of a table isn't UTF-8 (section 5.2.6).
+    SdtInvalidOemId(Signature),
+    /// OEM Table ID of a table isn't UTF-8 (section 5.2.6).
+    SdtInvalidTableId(Signature),
+    /// Length of a table is less than its fixed fields (section 5.2.6).
+    SdtInvalidLength(Signature),
+    /// A table's bytes don't sum to 0 modulo 256 (section 5.2.6).
+    SdtInvalidChecksum(Signature),
+    /// No valid table of this signature is listed in the root table (sections 5.2.7 and 5.2.8).
+    TableMissing(Signature),
+    /// X_FIRMWARE_CTRL and FIRMWARE_CTRL of the FADT are 0 (section 5.2.9). No call of this crate answers it.
+    InvalidFacsAddress,
+    /// X_DSDT and DSDT of the FADT are 0 (section 5.2.9).
+    InvalidDsdtAddress,
+    /// A register's address has a reserved code (section 5.2.3.2), or an HPET's registers don't lie in memory.
+    InvalidGenericAddress,
+    /// No region of configuration space holds this PCI function.
+    NoSuchFunction,
+    /// The address after a range's last byte is above 2^64 - 1.
+    RangeTooHigh,
+    /// No valid MADT has an entry of a machine with APICs: the interrupt model is unknown (section 5.2.12).
+    NoApics,
+    /// No ISA interrupt of this number comes to an I/O APIC (section 5.2.12.5).
+    NoSuchInterrupt,
+    /// No I/O APIC has this global system interrupt (section 5.2.13).
+    NoSuchIoApic,
+    /// An entry of a valid MADT is refused (section 5.2.12).
+    InvalidMadt(MadtError),
+    /// Bytes of the SRAT are left in which no entry begins (section 5.2.16).
+    InvalidEntryLength,
+    /// The address after a range of memory in the SRAT is above 2^64 - 1 (section 5.2.16.2).
+    InvalidMemoryRange,
+    /// The MADT has no GICD entry: it describes no distributor of a GIC (section 5.2.12.15).
+    NoGic,
+    /// The SRAT puts the address or the processor into no domain (section 5.2.16).
+    NoDomain,
+    /// The SLIT has no distance of these two localities (section 5.2.17).
+    NoDistance,
+    /// A number that this version doesn't know.
+    Other(u32),
+}
+
+/// Why the entries of a valid MADT are refused (section 5.2.12).
+#[derive(Clone, Copy, Debug, PartialEq, Eq)]
+pub enum MadtError {
+    /// An entry's Type is of a SAPIC, a platform interrupt source or a GIC: the interrupt model has no place for it.
+    UnexpectedEntry,
+    /// Bus of an Interrupt Source Override isn't 0, ISA (section 5.2.12.5).
+    InterruptOverrideEntryHasInvalidBus,
+    /// LINT# of a Local APIC NMI or a Local x2APIC NMI is neither 0 nor 1 (sections 5.2.12.7 and 5.2.12.13).
+    InvalidLocalNmiLine,
+    /// Polarity of MPS INTI Flags is 2, which is reserved (section 5.2.12.5).
+    MpsIntiInvalidPolarity,
+    /// Trigger Mode of MPS INTI Flags is 2, which is reserved (section 5.2.12.5).
+    MpsIntiInvalidTriggerMode,
+    /// Bytes of the table are left in which no entry begins: an entry is too short for its type, or reaches past the
+    /// table.
+    InvalidEntryLength,
+}
+
+impl AcpiError {
+    /// The refusal of a number, which isn't 0, with the signature that it carries.
+    pub(crate) fn of(status: u32, named: Signature) -> AcpiError {
+        use AcpiError::*;
+        match status {
+            1 => RegionsNotAscending,
+            2 => RegionTooHigh,
+            3 => MapFailed,
+            4 => NoValidRsdp,
+            5 => RsdpIncorrectSignature,
+            6 => RsdpInvalidOemId,
+            7 => RsdpInvalidChecksum,
+            8 => SdtInvalidSignature(named),
+            9 => SdtInvalidOemId(named),
+            10 => SdtInvalidTableId(named),
+            11 => SdtInvalidLength(named),
+            12 => SdtInvalidChecksum(named),
+            13 => TableMissing(named),
+            14 => InvalidFacsAddress,
+            15 => InvalidDsdtAddress,
+            16 => InvalidGenericAddress,
+            19 => NoSuchFunction,
+            21 => RangeTooHigh,
+            23 => NoApics,
+            24 => NoSuchInterrupt,
+            25 => NoSuchIoApic,
+            32 => InvalidMadt(MadtError::UnexpectedEntry),
+            33 => InvalidMadt(MadtError::InterruptOverrideEntryHasInvalidBus),
+            34 => InvalidMadt(MadtError::InvalidLocalNmiLine),
+            35 => InvalidMadt(MadtError::MpsIntiInvalidPolarity),
+            36 => InvalidMadt(MadtError::MpsIntiInvalidTriggerMode),
+            38 => InvalidMadt(MadtError::InvalidEntryLength),
+            40 => InvalidEntryLength,
+            41 => InvalidMemoryRange,
+            42 => NoGic,
+            43 => NoDomain,
+            44 => NoDistance,
+            other => Other(other),
+        }
+    }
+}
+
+/// The refusal as `acpi_view` prints it: its name, and after a space what it carries.
+impl fmt::Display for AcpiError {
+    fn fmt(&self, f: &mut fmt::Formatter<'_>) -> fmt::Result {
+        use AcpiError::*;
+        match self {
+            SdtInvalidSignature(s) => write!(f, "SdtInvalidSignature {s}"),
+            SdtInvalidOemId(s) => write!(f, "SdtInvalidOemId {s}"),
+            SdtInvalidTableId(s) => write!(f, "SdtInvalidTableId {s}"),
+            SdtInvalidLength(s) => write!(f, "SdtInvalidLength {s}"),
+            SdtInvalidChecksum(s) => write!(f, "SdtInvalidChecksum {s}"),
+            TableMissing(s) => write!(f, "TableMissing {s}"),
+            InvalidMadt(e) => write!(f, "InvalidMadt {e:?}"),
+            Other(number) => write!(f, "Refused {number}"),
+            plain => write!(f, "{plain:?}"),
+        }
+    }
+}
