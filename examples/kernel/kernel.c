@@ -1,0 +1,190 @@
+/* A kernel that reads the machine's ACPI tables out of physical memory and prints them on the serial port. */
+#include "lines.h"
+#include "machine.h"
+
+extern uint8_t load_start[], bss_end[];
+static const struct printer serial = {to_serial, 0};
+static struct acpi_range map[128], kept[128];
+static struct acpi_region regions[128];
+static void line(void) { say(&serial, "\n"); }
+static void named_number(const char *name, uint64_t number) { say(&serial, name), say_number(&serial, number); }
+static void named_range(const char *name, uint64_t address, uint64_t length) {
+    say(&serial, name), say_address(&serial, address), say(&serial, " "), say_address(&serial, length);
+}
+
+static void stop(const char *why) {
+    say(&serial, why), line();
+    leave(LEAVE_REFUSED);
+}
+/* What boot.s calls at an exception. */
+void on_fault(uint64_t number, uint64_t code, uint64_t instruction) {
+    named_number("fault ", number), named_number(" code ", code);
+    say(&serial, " at "), say_address(&serial, instruction), line();
+    leave(LEAVE_FAULT);
+}
+/* The extended BIOS data area (EBDA), whose segment is the word at 0x40e, as the library reads it (section 5.2.5.1). */
+static uint64_t ebda(void) {
+    uint64_t address = low(at(0x40e), 2) << 4;
+    return address >= 0x80000 && address < 0x9ffff ? address : 0x80000;
+}
+
+/* What the loader's map names, free or not, and the BIOS areas, which it may leave out. The search asks for
+ * 16 bytes after each area, so that the last candidate is there as a whole. Of multiboot's information mmap_length is
+ * at 44 and mmap_addr at 48; of an entry size is at 0, base_addr at 4, length at 12 and type at 20. */
+static size_t memory_map(const volatile uint8_t *info) {
+    const struct acpi_range areas[] = {{0x400, 0x100}, {ebda(), 0xa0010 - ebda()}, {0xe0000, 0x20010}};
+    const volatile uint8_t *entry = at(low(info + 48, 4)), *end = entry + low(info + 44, 4);
+    size_t n = 0;
+    for (; entry < end; entry += 4 + low(entry, 4), n++) { /* an entry's size doesn't count itself */
+        if (n == sizeof map / sizeof *map - 3) stop("too long a memory map");
+        map[n].address = low(entry + 4, 8), map[n].length = low(entry + 12, 8);
+        named_range("map ", map[n].address, map[n].length);
+        named_number(" type ", low(entry + 20, 4)), line();
+    }
+    for (size_t i = 0; i < 3; i++) map[n++] = areas[i];
+    return n;
+}
+
+/* The regions: all of the map below 4 GiB, which is what boot.s maps, from 0x400 on, so that none is at null,
+ * and without this kernel itself, whose stack and lists are written while calls run. */
+static size_t make_regions(const volatile uint8_t *info) {
+    const struct acpi_range window = {0x400, 0x100000000 - 0x400};
+    const struct acpi_range own = {(uint64_t)load_start, (uint64_t)(bss_end - load_start)};
+    const size_t room = sizeof kept / sizeof *kept;
+    size_t count = 0, n = memory_map(info);
+    if (acpi_clip_ranges(map, n, &own, 1, &window, kept, room, &count)) stop("a range ends too high");
+    if (count > room) stop("too many regions");
+    for (size_t i = 0; i < count; i++) {
+        regions[i] = (struct acpi_region){kept[i].address, (const uint8_t *)at(kept[i].address), kept[i].length};
+        named_range("region ", kept[i].address, kept[i].length), line();
+    }
+    return count;
+}
+
+/* What follows a word in the command line: cmdline of multiboot's information, at 16, if bit 2 of its flags is set. */
+static const volatile uint8_t *word_after(const volatile uint8_t *info, const char *name) {
+    const volatile uint8_t *p = low(info, 4) & 4 ? at(low(info + 16, 4)) : (const volatile uint8_t *)"";
+    for (; *p; p++) {
+        int i = 0;
+        while (name[i] && p[i] == (uint8_t)name[i]) i++;
+        if (!name[i]) return p + i;
+    }
+    return 0;
+}
+/* The RSDP by the search of the BIOS areas. If that finds none (booted by UEFI), it lies where the loader says it
+ * does by `rsdp=0x...` on the command line. */
+static void choose_start(struct acpi_source *source, const volatile uint8_t *info) {
+    const volatile uint8_t *p = word_after(info, "rsdp=0x");
+    struct acpi_signature named = {{0}};
+    struct acpi_root root;
+    if (p && acpi_open(source, &root, &named) == ACPI_NO_VALID_RSDP) {
+        source->start = ACPI_START_RSDP;
+        for (; (*p >= '0' && *p <= '9') || (*p >= 'a' && *p <= 'f'); p++)
+            source->address = source->address << 4 | (uint64_t)(*p <= '9' ? *p - '0' : *p - 'a' + 10);
+        say(&serial, "rsdp "), say_address(&serial, source->address), line();
+    }
+}
+static struct acpi_table tables[256];
+static struct acpi_range ranges[512];
+static struct acpi_processor processors[512];
+static struct acpi_io_apic io_apics[64];
+
+/* Where the listed tables lie, and the memory that isn't to be given away. */
+static void places(const struct acpi_source *source) {
+    struct acpi_signature named = {{0}};
+    size_t count = 0;
+    if (!acpi_list_tables(source, tables, 256, &count, &named))
+        for (size_t i = 0; i < count && i < 256; i++) {
+            say(&serial, "listed "), say_signature(&serial, tables[i].signature), say(&serial, " ");
+            say_address(&serial, tables[i].address), line();
+        }
+    if (!acpi_list_ranges(source, ranges, 512, &count, &named))
+        for (size_t i = 0; i < count && i < 512; i++)
+            named_range("reserved ", ranges[i].address, ranges[i].length), line();
+}
+
+/* How the 16 ISA interrupts come to the I/O APICs. */
+static void pins(const struct acpi_source *source) {
+    struct acpi_signature named = {{0}};
+    for (uint8_t irq = 0; irq < 16; irq++) {
+        struct acpi_interrupt interrupt;
+        struct acpi_pin pin;
+        if (acpi_isa_interrupt(source, irq, &interrupt, &named)) continue;
+        named_number("isa ", irq), named_number(" gsi ", interrupt.global_system_interrupt);
+        if (!acpi_io_apic_pin(source, interrupt.global_system_interrupt, &pin, &named))
+            named_number(" ioapic ", pin.io_apic.id), named_number(" pin ", pin.pin);
+        line();
+    }
+}
+/* Vendor ID of the first PCI function, which is at 0 in its configuration space. */
+static void first_function(const struct acpi_source *source) {
+    struct acpi_signature named = {{0}};
+    uint64_t address = 0;
+    acpi_status refused = acpi_pci_ecam_address(source, 0, 0, 0, 0, &address, &named);
+    if (refused) { say_refused(&serial, "ecam", refused, &named); return; }
+    say(&serial, "ecam "), say_address(&serial, address);
+    if (address >> 32) say(&serial, " not mapped");
+    else say(&serial, " vendor "), say_address(&serial, *(const volatile uint16_t *)at(address));
+    line();
+}
+/* A call's depth of the stack, and its cycles the first time and at best. */
+#define FIGURE(name, ...) do { \
+    uint64_t began_, first_ = 0, best_ = UINT64_MAX, from_ = paint(), depth_; \
+    for (int i_ = 0; i_ < 9; i_++) { \
+        began_ = cycles(); \
+        (void)name(__VA_ARGS__); \
+        began_ = cycles() - began_; \
+        if (!i_) first_ = began_; \
+        if (began_ < best_) best_ = began_; \
+    } \
+    depth_ = painted_depth(from_); \
+    named_number("call " #name " stack ", depth_); \
+    named_number(" cycles ", first_), named_number(" ", best_), line(); \
+} while (0)
+/* The search costs more than all else, so what comes after it starts at the root table that it found. */
+static void figures(const struct acpi_source *source) {
+    struct acpi_source known = *source;
+    struct acpi_signature named = {{0}};
+    struct acpi_root root;
+    struct acpi_aml dsdt;
+    struct acpi_hpet_block hpet;
+    struct acpi_interrupt_model model;
+    uint64_t address;
+    size_t count;
+    FIGURE(acpi_open, source, &root, &named);
+    known.address = root.address, known.start = root.pointer_width == 8 ? ACPI_START_XSDT : ACPI_START_RSDT;
+    FIGURE(acpi_open, &known, &root, &named);
+    FIGURE(acpi_list_tables, &known, tables, 256, &count, &named);
+    FIGURE(acpi_dsdt, &known, &dsdt, &named);
+    FIGURE(acpi_hpet, &known, &hpet, &named);
+    FIGURE(acpi_interrupt_model, &known, &model, &named);
+    FIGURE(acpi_list_io_apics, &known, io_apics, 64, &count, &named);
+    FIGURE(acpi_list_processors, &known, processors, 512, &count, &named);
+    FIGURE(acpi_pci_ecam_address, &known, 0, 0, 0, 0, &address, &named);
+    FIGURE(acpi_list_ranges, &known, ranges, 512, &count, &named);
+}
+
+void kernel(uint32_t magic, uint32_t information) {
+    const volatile uint8_t *info = at(information);
+    struct acpi_source source = {regions, 0, 0, ACPI_START_BIOS_SEARCH};
+    struct acpi_signature named = {{0}};
+    acpi_status refused;
+    open_serial();
+    catch_faults();
+    /* bit 6 of the flags of multiboot's information: it has a memory map */
+    if (magic != 0x2badb002 || !(low(info, 4) & 0x40)) stop("no memory map of a multiboot loader");
+    source.regions_length = make_regions(info);
+    choose_start(&source, info);
+    refused = acpi_lines(&source, &serial, &serial, &named);
+    if (refused) {
+        say_refused(&serial, "refused", refused, &named);
+    } else {
+        places(&source);
+        pins(&source);
+        first_function(&source);
+        figures(&source);
+    }
+    say(&serial, "end\n");
+    if (word_after(info, "hold")) wait_for_byte(); /* so that memory can be looked at from outside */
+    leave(refused ? LEAVE_REFUSED : LEAVE_GOOD);
+}
