@@ -1,6 +1,6 @@
 //! Why a call refuses.
 
-use crate::records::Signature;
+use crate::records::{Fault, Signature};
 use core::fmt;
 
 /// What a call that can refuse answers.
@@ -126,6 +126,13 @@ impl AcpiError {
             44 => NoDistance,
             other => Other(other),
         }
+    }
+}
+
+impl Fault {
+    /// Why the member is passed over, of the faults of a lookup of this signature.
+    pub fn refusal(&self, looked_up: Signature) -> AcpiError {
+        AcpiError::of(self.status, looked_up)
     }
 }
 

@@ -4,7 +4,7 @@ use crate::records::*;
 
 macro_rules! calls {
     ($(one $name:ident($($arg:ident: $arg_ty:ty),*) -> $out:ty;)* $(list $list:ident($($larg:ident: $larg_ty:ty),*) -> $item:ty;)*) => {
-        unsafe extern "C" {
+        extern "C" {
             $(pub(crate) fn $name(source: &Source<'_>, $($arg: $arg_ty,)* out: &mut $out, named: &mut Signature) -> u32;)*
             $(pub(crate) fn $list(source: &Source<'_>, $($larg: $larg_ty,)* out: *mut $item, room: usize, count: &mut usize, named: &mut Signature) -> u32;)*
         }
@@ -55,7 +55,7 @@ calls! {
     list acpi_list_memory_affinities() -> MemoryAffinity;
 }
 
-unsafe extern "C" {
+extern "C" {
     pub(crate) fn acpi_clip_ranges(
         ranges: *const Range,
         ranges_length: usize,
