@@ -1,34 +1,75 @@
 # Reads the crate's records, `#[repr(C)] pub struct`s whose comment names `struct acpi_...`, lays them out as C
-# does, and prints what a C compiler is to check of the header: one assertion for each size and each offset. A
-# slice is a pointer and a length. It stops with status 1 at a type that it doesn't know.
+# does, and prints what a compiler is to check: of the header a C file, with one assertion for each size and each
+# offset; or, if `records` names the file of the Rust bindings' records, a Rust program that asserts the same of them.
+# A slice is a pointer and a length. It stops with status 1 at a type that it doesn't know.
 function fail(why) { print FILENAME ":" FNR ": " why > "/dev/stderr"; failed = 1; exit 1 }
 function check(text) { printf "typedef char check_%d[(%s) ? 1 : -1];\n", ++checks, text }
 function place(size, align) { at += (align - at % align) % align; begin = at; at += size; if (align > most) most = align }
+# A struct's name in the Rust bindings: that of the header in the manner of Rust, or one that the crate `acpi` has.
+function rust_name(named,    words, i, text) {
+    if (named in other_name) return other_name[named]
+    for (i = 2; i <= split(named, words, "_"); i++) text = text toupper(substr(words[i], 1, 1)) substr(words[i], 2)
+    return text
+}
+function has_field(field, begin, size) {
+    fields = fields field ": _, "
+    if (records) printf "    field!(%s, %s, %d, %d);\n", rust_name(named), field, begin, size
+    else {
+        check("offsetof(" c_name ", " field ") == " begin)
+        check("sizeof(((" c_name " *)0)->" field ") == " size)
+    }
+}
+function has_size(size) {
+    if (!records) { check("sizeof(" c_name ") == " size); return }
+    printf "    assert_eq!(size_of::<records::%s>(), %d, \"size of %s\");\n", rust_name(named), size, rust_name(named)
+    # Says that it has no other fields; what holds a slice also has a mark of its lifetime.
+    printf "    let _ = |it: records::%s| { let records::%s { %s%s } = it; };\n", rust_name(named), rust_name(named), fields, lends ? ".." : ""
+}
 BEGIN {
-    print "#include \"acpi.h\"\n#include <stddef.h>"
+    if (records) {
+        print "#![allow(dead_code)]\n#[path = \"" records "\"]\nmod records;"
+        print "use core::mem::{size_of, MaybeUninit};\nuse core::ptr::addr_of;"
+        print "fn size_at<T>(_: *const T) -> usize { size_of::<T>() }"
+        print "macro_rules! field { ($name:ident, $field:ident, $begin:expr, $size:expr) => {{"
+        print "    let room = MaybeUninit::<records::$name>::uninit();"
+        print "    let at = unsafe { addr_of!((*room.as_ptr()).$field) };"
+        print "    let found = (at as usize - room.as_ptr() as usize, size_at(at));"
+        print "    assert_eq!(found, ($begin, $size), concat!(stringify!($name), \".\", stringify!($field)));"
+        print "}} }\nfn main() {"
+    } else print "#include \"acpi.h\"\n#include <stddef.h>"
     split("u8 1 u16 2 u32 4 u64 8 usize 8 bool 1", n, " ")
     for (i = 1; i in n; i += 2) size_of[n[i]] = align_of[n[i]] = n[i + 1]
+    split("aml AmlTable hpet_block HpetInfo override InterruptSourceOverride pin IoApicPin", n, " ")
+    for (i = 1; i in n; i += 2) other_name["acpi_" n[i]] = n[i + 1]
 }
 match($0, /struct acpi_[a-z_]+/) && /\/\/\// { named = substr($0, RSTART + 7, RLENGTH - 7) }
 /^#\[repr\(C\)\]/ { is_c = 1 }
 /^pub struct / && is_c {
     name = $3; sub(/[<{].*/, "", name)
     if (named == "") named = "acpi_" tolower(name)
-    c_name = "struct " named; at = 0; most = 1; inside = 1; is_c = 0; next
+    c_name = "struct " named; at = 0; most = 1; inside = 1; is_c = 0; fields = ""; lends = 0; next
 }
 inside && /^    pub [a-z_0-9]+: / {
     field = $2; sub(/:$/, "", field)
     type = $0; sub(/^    pub [a-z_0-9]+: /, "", type); sub(/,.*$/, "", type)
+    if (type ~ /^&'[a-z]+ \[/) {
+        place(8, 8); has_field(field, begin, 8); lends = 1
+        place(8, 8); has_field(field == "bytes" ? "length" : field "_length", begin, 8)
+        next
+    }
     if (match(type, /^\[u8; [0-9]+/)) place(substr(type, 6, RLENGTH - 5) + 0, 1)
-    else if (type ~ /^&'[a-z]+ \[/) place(16, 8)
     else if (type in size_of) place(size_of[type], align_of[type])
     else fail("no layout is known of " type)
-    check("offsetof(" c_name ", " field ") == " begin)
+    has_field(field, begin, at - begin)
 }
 inside && /^}/ {
     at += (most - at % most) % most
     size_of[name] = at; align_of[name] = most
-    check("sizeof(" c_name ") == " at)
+    has_size(at)
     inside = 0; named = ""; structs++
 }
-END { if (failed) exit 1; if (!structs) { print "no record was found" > "/dev/stderr"; exit 1 } print "/* " structs " structs */" }
+END {
+    if (failed) exit 1
+    if (!structs) { print "no record was found" > "/dev/stderr"; exit 1 }
+    print (records ? "}" : "") "/* " structs " structs */"
+}
