@@ -1,7 +1,7 @@
 //! tables IMAGE rsdt REVISION ADDRESS | rsdp ADDRESS | bios: what acpi_view prints, through the library.
 use acpi_proved::{
-    AcpiResult, AcpiTables, AmlTable, Fault, FixedHardware, InterruptModel, InterruptSourceOverride, IoApic, List, NmiLine,
-    NmiSource, PciRegion, PmTimer, Processor, Region, Signature, Table,
+    AcpiResult, AcpiTables, AmlTable, Fault, FixedHardware, InterruptModel, InterruptSourceOverride, IoApic, List,
+    NmiLine, NmiSource, PciRegion, PmTimer, Processor, Region, Signature, Table,
 };
 use std::process::ExitCode;
 
