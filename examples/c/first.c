@@ -6,7 +6,7 @@ int main(void) {
     static uint8_t memory[65536]; /* in a kernel: where it has mapped the firmware's tables */
     struct acpi_region region = {0x70000000, memory, fread(memory, 1, sizeof memory, stdin)};
     struct acpi_source source = {&region, 1, region.address, ACPI_START_RSDP};
-    struct acpi_processor processors[64];
+    struct acpi_processor processors[64] = {0};
     struct acpi_signature named = {{0}};
     size_t count = 0;
     acpi_status refusal = acpi_list_processors(&source, processors, 64, &count, &named);

@@ -118,7 +118,7 @@ static void stream(const struct printer *p, const char *what, const struct acpi_
 
 static void tables(const struct acpi_source *source, const struct printer *p) {
     struct acpi_signature named = {{0}};
-    struct acpi_aml dsdt;
+    struct acpi_aml dsdt = {0};
     size_t i, count = 0;
     acpi_status refused = acpi_list_tables(source, list.tables, MOST, &count, &named);
     count = refused ? 0 : shown(p, count);
@@ -201,9 +201,9 @@ static void processors(const struct acpi_source *source, const struct printer *p
 
 static void platform(const struct acpi_source *source, const struct printer *p) {
     struct acpi_signature named = {{0}};
-    struct acpi_interrupt_model model;
-    struct acpi_pm_timer timer;
-    struct acpi_fixed_hardware fixed;
+    struct acpi_interrupt_model model = {0};
+    struct acpi_pm_timer timer = {0};
+    struct acpi_fixed_hardware fixed = {0};
     acpi_status refused = acpi_interrupt_model(source, &model, &named);
     if (!refused) refused = acpi_pm_timer(source, &timer, &named);
     if (!refused) refused = acpi_fixed_hardware(source, &fixed, &named);
@@ -234,8 +234,8 @@ static void platform(const struct acpi_source *source, const struct printer *p) 
 
 static void devices(const struct acpi_source *source, const struct printer *p) {
     struct acpi_signature named = {{0}};
-    struct acpi_hpet_block hpet;
-    struct acpi_boot_graphic graphic;
+    struct acpi_hpet_block hpet = {0};
+    struct acpi_boot_graphic graphic = {0};
     size_t i, count = 0;
     acpi_status refused = acpi_hpet(source, &hpet, &named);
     if (refused) {
@@ -285,7 +285,7 @@ static void setting(const struct printer *p, const char *name, int is_there, uin
 
 static void console(const struct acpi_source *source, const struct printer *p) {
     struct acpi_signature named = {{0}};
-    struct acpi_console c;
+    struct acpi_console c = {0};
     acpi_status refused = acpi_console(source, &c, &named);
     if (refused) {
         say_refused(p, "spcr", refused, &named);
@@ -317,7 +317,7 @@ static void faults(const struct acpi_source *source, const char *letters, const 
 acpi_status acpi_lines(const struct acpi_source *source, const struct printer *p, const struct printer *skipped,
                        struct acpi_signature *named) {
     static const char *const looked_up[] = {"FACP", "APIC", "MCFG", "HPET", "BGRT", "SPCR"};
-    struct acpi_root root;
+    struct acpi_root root = {0};
     size_t i;
     acpi_status refused = acpi_open(source, &root, named);
     if (refused) return refused;

@@ -61,13 +61,14 @@ static size_t make_regions(const volatile uint8_t *info) {
     return count;
 }
 
-/* What follows a word in the command line: cmdline of multiboot's information, at 16, if bit 2 of its flags is set. */
+/* What follows a name that a word of the command line begins with. The first word is the kernel's path, so a name within
+ * a word doesn't count. Of multiboot's information cmdline is at 16, and there if bit 2 of the flags is set. */
 static const volatile uint8_t *word_after(const volatile uint8_t *info, const char *name) {
     const volatile uint8_t *p = low(info, 4) & 4 ? at(low(info + 16, 4)) : (const volatile uint8_t *)"";
-    for (; *p; p++) {
+    for (uint8_t before = ' '; *p; before = *p++) {
         int i = 0;
         while (name[i] && p[i] == (uint8_t)name[i]) i++;
-        if (!name[i]) return p + i;
+        if (before == ' ' && !name[i]) return p + i;
     }
     return 0;
 }
@@ -76,7 +77,7 @@ static const volatile uint8_t *word_after(const volatile uint8_t *info, const ch
 static void choose_start(struct acpi_source *source, const volatile uint8_t *info) {
     const volatile uint8_t *p = word_after(info, "rsdp=0x");
     struct acpi_signature named = {{0}};
-    struct acpi_root root;
+    struct acpi_root root = {0};
     if (p && acpi_open(source, &root, &named) == ACPI_NO_VALID_RSDP) {
         source->start = ACPI_START_RSDP;
         for (; (*p >= '0' && *p <= '9') || (*p >= 'a' && *p <= 'f'); p++)
@@ -107,8 +108,8 @@ static void places(const struct acpi_source *source) {
 static void pins(const struct acpi_source *source) {
     struct acpi_signature named = {{0}};
     for (uint8_t irq = 0; irq < 16; irq++) {
-        struct acpi_interrupt interrupt;
-        struct acpi_pin pin;
+        struct acpi_interrupt interrupt = {0};
+        struct acpi_pin pin = {0};
         if (acpi_isa_interrupt(source, irq, &interrupt, &named)) continue;
         named_number("isa ", irq), named_number(" gsi ", interrupt.global_system_interrupt);
         if (!acpi_io_apic_pin(source, interrupt.global_system_interrupt, &pin, &named))
@@ -145,12 +146,12 @@ static void first_function(const struct acpi_source *source) {
 static void figures(const struct acpi_source *source) {
     struct acpi_source known = *source;
     struct acpi_signature named = {{0}};
-    struct acpi_root root;
-    struct acpi_aml dsdt;
-    struct acpi_hpet_block hpet;
-    struct acpi_interrupt_model model;
-    uint64_t address;
-    size_t count;
+    struct acpi_root root = {0};
+    struct acpi_aml dsdt = {0};
+    struct acpi_hpet_block hpet = {0};
+    struct acpi_interrupt_model model = {0};
+    uint64_t address = 0;
+    size_t count = 0;
     FIGURE(acpi_open, source, &root, &named);
     known.address = root.address, known.start = root.pointer_width == 8 ? ACPI_START_XSDT : ACPI_START_RSDT;
     FIGURE(acpi_open, &known, &root, &named);
