@@ -61,8 +61,8 @@ static size_t make_regions(const volatile uint8_t *info) {
     return count;
 }
 
-/* What follows a name that a word of the command line begins with. The first word is the kernel's path, so a name within
- * a word doesn't count. Of multiboot's information cmdline is at 16, and there if bit 2 of the flags is set. */
+/* What follows a name that a word of the command line begins with. The kernel's path is the first word, so a name
+ * inside a word doesn't count. Of multiboot's information cmdline is at 16, and there if bit 2 of the flags is set. */
 static const volatile uint8_t *word_after(const volatile uint8_t *info, const char *name) {
     const volatile uint8_t *p = low(info, 4) & 4 ? at(low(info + 16, 4)) : (const volatile uint8_t *)"";
     for (uint8_t before = ' '; *p; before = *p++) {

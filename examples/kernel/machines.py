@@ -1,10 +1,11 @@
 #!/usr/bin/env python3
 """machines.py KERNEL ACPI_VIEW ACPI_PACK [PART]: boots the kernel on every machine below, or on those whose
 names have PART, takes memory from the same machine while the kernel holds, and compares what the kernel
-printed with what acpi_view prints of an image of that memory, line by line."""
+printed with what acpi_view prints of an image of that memory, line by line, and with checks.py."""
 import os
 import re
 import select
+import shutil
 import socket
 import struct
 import subprocess
@@ -12,11 +13,17 @@ import sys
 import tempfile
 import time
 
+from checks import Memory, check
+
 KERNEL, VIEW, PACK = sys.argv[1:4]
 PART = sys.argv[4] if len(sys.argv) > 4 else ''
 FILES = tempfile.TemporaryDirectory()
 NUMA = ['-object', 'memory-backend-ram,id=m0,size=64M', '-object', 'memory-backend-ram,id=m1,size=64M',
         '-numa', 'node,nodeid=0,memdev=m0,cpus=0-1', '-numa', 'node,nodeid=1,memdev=m1,cpus=2-3']
+# A second root of PCI, whose first bus is 32.
+SECOND_ROOT = ['-device', 'pxb-pcie,id=root2,bus_nr=32,bus=pcie.0', '-device', 'pcie-root-port,id=port2,bus=root2,chassis=1']
+# What the kernel says of the first PCI function: that of q35 is made by Intel, and pc has no MCFG.
+Q35_ECAM, NO_MCFG = 'ecam 0xb0000000 vendor 0x8086', 'ecam: TableMissing MCFG'
 
 
 def own_table():
@@ -39,6 +46,10 @@ def machines():
         all_of[m + ' no hpet'] = ['-machine', m + ',hpet=off', '-m', '128M', '-smp', '4']
         all_of[m + ' two nodes'] = ['-machine', m, '-m', '128M', '-smp', '4'] + NUMA
         all_of[m + ' acpitable'] = ['-machine', m, '-m', '128M', '-smp', '2', '-acpitable', 'file=' + own_table()]
+        all_of[m + ' 4 of 255 128M'] = ['-machine', m, '-m', '128M', '-smp', '4,maxcpus=255']
+    all_of['q35 4 6G'] = ['-machine', 'q35', '-m', '6G', '-smp', '4']
+    all_of['q35 two PCI roots'] = ['-machine', 'q35', '-m', '128M', '-smp', '2'] + SECOND_ROOT
+    all_of['q35 intel-iommu'] = ['-machine', 'q35', '-m', '128M', '-smp', '2', '-device', 'intel-iommu']
     return all_of
 
 
@@ -52,12 +63,19 @@ def until(stream, end):
     return said
 
 
+def connect(s, path):
+    """QEMU makes a socket's file before it listens there, so the first tries may fail."""
+    s.settimeout(60)
+    last = time.time() + 60
+    while s.connect_ex(path) and time.time() < last:
+        time.sleep(0.05)
+
+
 def change(path, where, writes):
     """Lets the machine run to an address, and writes into its physical memory: the firmware has made its
     tables by then. QEMU's monitor has no command that writes memory, so its gdb stub does it."""
     with socket.socket(socket.AF_UNIX) as s:
-        s.connect(path)
-        s.settimeout(60)
+        connect(s, path)
 
         def ask(line):
             s.sendall(b'$' + line.encode() + b'#%02x' % (sum(line.encode()) & 255))
@@ -87,8 +105,7 @@ def dump(path, lines, folder):
             spans.append((int(m[1], 16), int(m[2], 16)))
     files = []
     with socket.socket(socket.AF_UNIX) as s:
-        s.connect(path)
-        s.settimeout(60)
+        connect(s, path)
         until(s, b'(qemu) ')
         for address, length in spans:
             name = os.path.join(folder, '%x.bin' % address)
@@ -98,20 +115,18 @@ def dump(path, lines, folder):
     return files
 
 
-def boot(args, folder, writes=None):
+def boot(args, folder, writes=None, words='hold', kernel=KERNEL):
     """What the kernel prints, the dumps, and QEMU's status."""
     monitor, gdb = os.path.join(folder, 'monitor'), os.path.join(folder, 'gdb')
     command = ['qemu-system-x86_64', '-nodefaults', '-no-user-config', '-display', 'none', '-no-reboot',
                '-accel', 'tcg', '-serial', 'stdio', '-monitor', 'unix:%s,server=on,wait=off' % monitor,
-               '-device', 'isa-debug-exit,iobase=0xf4,iosize=4', '-kernel', KERNEL, '-append', 'hold'] + args
+               '-device', 'isa-debug-exit,iobase=0xf4,iosize=4', '-kernel', kernel, '-append', words] + args
     if writes is not None:
         command += ['-S', '-gdb', 'unix:%s,server=on,wait=off' % gdb]
     errors = open(os.path.join(folder, 'errors'), 'w')
     p = subprocess.Popen(command, stdin=subprocess.PIPE, stdout=subprocess.PIPE, stderr=errors)
     try:
         if writes is not None:
-            while not os.path.exists(gdb) and p.poll() is None:
-                time.sleep(0.05)
             change(gdb, ENTRY, writes)
         said, last = b'', time.time() + 180
         while not said.endswith(b'end\n') and time.time() < last:
@@ -134,81 +149,17 @@ def boot(args, folder, writes=None):
             p.wait()
 
 
-OWN = re.compile(r'(map|region|rsdp|listed|reserved|isa|ecam|call|end)\b')
-
-
-def differences(lines, files, status, folder):
-    """What differs between the kernel's lines and acpi_view's, and what else is wrong."""
-    if not files:
-        with open(os.path.join(folder, 'errors')) as f:
-            return ['no dump: status %s, last %r %s' % (status, lines[-1:], f.read().strip())]
-    mine = [l for l in lines if not OWN.match(l)]
-    refused = any(l.startswith('refused: ') for l in mine)
-    wrong = [] if status == (35 if refused else 33) else ['status %s' % status]
-    image = os.path.join(folder, 'image')
-    r = subprocess.run([PACK, image, 'memory'] + files, capture_output=True, text=True)
-    if r.returncode:
-        return wrong + ['acpi_pack: ' + r.stderr]
-    v = subprocess.run([VIEW, image, 'bios'], capture_output=True, text=True)
-    theirs = v.stdout.splitlines() + v.stderr.splitlines()
-    if mine != theirs:
-        wrong.append('kernel %r acpi_view %r' % ([x for x in mine if x not in theirs],
-                                                 [x for x in theirs if x not in mine]))
-    if not refused and [l for l in lines if l.startswith('isa ')] != pins(lines):
-        wrong.append('pins %r' % [l for l in lines if l.startswith('isa ')])
-    for line in lines:
-        m = re.match(r'listed (....) (\S+)', line)
-        if m and not stands(files, int(m[2], 16), m[1]):
-            wrong.append('no such table in memory: ' + line)
-    return wrong
-
-
-def pins(lines):
-    """The lines of ISA interrupts that those of the model call for: an interrupt without an override has the I/O
-    APIC's input of its own number, unless an override gives that input to another one."""
-    if not any(l.startswith('model apic') for l in lines):
-        return []
-    inputs = {int(l.split()[1]): int(l.split()[2]) for l in lines if l.startswith('override ')}
-    io_apics = [(int(l.split()[3]), l.split()[1]) for l in lines if l.startswith('ioapic ')]
-    answer = []
-    for irq in range(16):
-        if irq in inputs or irq not in inputs.values():
-            base, name = max(a for a in io_apics if a[0] <= inputs.get(irq, irq))
-            gsi = inputs.get(irq, irq)
-            answer.append('isa %d gsi %d ioapic %s pin %d' % (irq, gsi, name, gsi - base))
-    return answer
-
-
-def bytes_at(files, address):
-    for start, name in zip(files[::2], files[1::2]):
-        with open(name, 'rb') as f:
-            data = f.read()
-        if int(start, 16) <= address < int(start, 16) + len(data):
-            return data[address - int(start, 16):]
-    return b''
-
-
-def table_at(files, address):
-    data = bytes_at(files, address)
-    return bytearray(data[:struct.unpack_from('<I', data, 4)[0]]) if len(data) >= 36 else bytearray()
-
-
-def stands(files, address, signature):
-    t = table_at(files, address)
-    return t[:4] == signature.encode('latin1') and sum(t) & 255 == 0
-
-
-def cases(lines, files):
+def cases(lines, memory):
     """Wrong machines: what is written where, over the tables that a first boot showed."""
     at = {l.split()[1]: int(l.split()[2], 16) for l in lines if l.startswith('listed ')}
-    rsdp = next(a for a in range(0xe0000, 0x100000, 16) if bytes_at(files, a).startswith(b'RSD PTR '))
+    rsdp = memory.rsdp()
     at['DSDT'] = int(next(l for l in lines if l.startswith('dsdt ')).split()[1], 16) - 36
-    root = bytearray(bytes_at(files, rsdp)[:20])
+    root = bytearray(memory.bytes_at(rsdp)[:20])
     at['RSDT'] = struct.unpack_from('<I', root, 16)[0]  # RsdtAddress
 
     def summed(signature, *changes):
         """A table with changes, and its sum right again over the length that it then has."""
-        data = table_at(files, at[signature])
+        data = memory.table_at(at[signature])
         for offset, new in changes:
             data[offset:offset + len(new)] = new
         data = data[:struct.unpack_from('<I', data, 4)[0]]
@@ -223,7 +174,7 @@ def cases(lines, files):
     plain = {'RSDT address': [(rsdp, bytes(moved))], 'RSDP sum': [(rsdp + 8, bytes([root[8] ^ 1]))]}
     # BASE_ADDRESS, Base Address, PM1b_EVT_BLK, Flags, the AML, the first pointer: each byte makes the sum wrong.
     for s, offset in (('HPET', 50), ('MCFG', 44), ('FACP', 60), ('APIC', 40), ('DSDT', 40), ('RSDT', 36)):
-        old = table_at(files, at[s])[offset]
+        old = memory.table_at(at[s])[offset]
         plain[s + ' sum'] = [(at[s] + offset, bytes([old ^ 0x55]))]
     for s in ('HPET', 'APIC', 'DSDT', 'RSDT'):
         plain[s + ' signature'] = [(at[s], b'\xc8PET')]
@@ -248,30 +199,65 @@ def cases(lines, files):
         'RSDT to nowhere, sum': summed('RSDT', (36, b'\xfc\xff\xff\xff')),
         'RSDT to the null page, sum': summed('RSDT', (40, b'\0\0\0\0')),
     })
-    return plain
+    return {name: {'writes': writes} for name, writes in plain.items()}
 
 
-def tried(name, args, writes=None):
-    """Boots a machine, prints whether it agrees, and answers that with what was seen."""
+# What the kernel says of the first PCI function if it isn't Q35_ECAM.
+ECAM = {
+    'MCFG sum': NO_MCFG,
+    'MCFG base 2^64-1, sum': 'ecam 0xffffffffffffffff not mapped',
+    'MCFG buses 255..0, sum': 'ecam: NoSuchFunction',
+    'MCFG cut, sum': 'ecam: NoSuchFunction',  # it ends one byte after its fixed fields, so it has no entry
+    'RSDT of odd length, sum': NO_MCFG,  # it ends within the third pointer, and MCFG has the fourth
+}
+
+
+def told(lines, memory):
+    """Machines whose kernel is told of an RSDP, or whose path looks as if it were. The copy lies in reserved memory
+    that no search looks at, after the tables."""
+    rsdp = memory.rsdp()
+    root = memory.bytes_at(rsdp)[:36]
+    spans = [[int(x, 16) for x in l.split()[1:3]] for l in lines if l.startswith('map ') and l.endswith(' type 2')]
+    table = int(next(l for l in lines if l.startswith('listed ')).split()[2], 16)
+    copy = next(a + n for a, n in spans if a <= table < a + n) - 4096
+    gone, moved, word = (rsdp, bytes(8)), (copy, root), ' rsdp=%#x' % copy
+    like = os.path.join(FILES.name, 'rsdp=%#x' % copy)
+    shutil.copyfile(KERNEL, like)
+    return {
+        'no RSDP': {'writes': [gone]},
+        'RSDP elsewhere, told': {'writes': [gone, moved], 'words': 'hold' + word, 'told': copy},
+        'RSDP elsewhere, told first': {'writes': [gone, moved], 'words': word + ' hold', 'told': copy},
+        'RSDP elsewhere, told, wrong sum': {
+            'writes': [gone, (copy, root[:8] + bytes([root[8] ^ 1]) + root[9:])], 'words': 'hold' + word, 'told': copy},
+        'RSDP elsewhere, told another address': {
+            'writes': [gone, moved], 'words': 'hold rsdp=%#x' % (copy + 16), 'told': copy + 16},
+        'RSDP elsewhere, not told': {'writes': [gone, moved]},
+        'RSDP elsewhere, kernel of that name': {'writes': [gone, moved], 'kernel': like},
+        'RSDP found, told another address': {'writes': [moved], 'words': 'hold rsdp=%#x' % (copy + 16)},
+    }
+
+
+def tried(name, args, ecam, writes=None, words='hold', kernel=KERNEL, told=None):
+    """Boots a machine, prints whether all is right, and answers that with the lines and the memory."""
     with tempfile.TemporaryDirectory() as folder:
         began = time.time()
-        lines, files, status = boot(args, folder, writes)
-        wrong = differences(lines, files, status, folder)
+        lines, files, status = boot(args, folder, writes, words, kernel)
+        wrong = check(lines, files, status, folder, (VIEW, PACK), IMAGE, ecam, told)
         depth = max([int(l.split()[3]) for l in lines if l.startswith('call')] or [0])
         print('%s: %s (%.1f s, stack %d)' % ('FAILED' if wrong else 'ok', name, time.time() - began, depth), flush=True)
         for w in wrong:
             print('   ', w)
-        return not wrong, cases(lines, files) if writes is None and not wrong and name == 'q35 4 128M' else {}
+        return not wrong, lines, Memory(files)
 
 
-def entry():
+def symbol(name):
     for line in subprocess.run(['nm', KERNEL], capture_output=True, text=True).stdout.splitlines():
-        if line.endswith(' entry'):
+        if line.endswith(' ' + name):
             return int(line.split()[0], 16)
-    sys.exit('no entry in ' + KERNEL)
+    sys.exit('no %s in %s' % (name, KERNEL))
 
 
-ENTRY = entry()
+ENTRY, IMAGE = symbol('entry'), (symbol('load_start'), symbol('bss_end'))
 
 
 def main():
@@ -279,11 +265,12 @@ def main():
     changed = {}
     for name, args in machines().items():
         if PART in name:
-            good, found = tried(name, args)
-            changed.update(found)
+            good, lines, memory = tried(name, args, Q35_ECAM if name.startswith('q35') else NO_MCFG)
             passed, failed = passed + good, failed + (not good)
-    for name, writes in changed.items():
-        good, _ = tried('q35 with ' + name, machines()['q35 4 128M'], writes)
+            if good and name == 'q35 4 128M':
+                changed = {**cases(lines, memory), **told(lines, memory)}
+    for name, change in changed.items():
+        good, _, _ = tried('q35 with ' + name, machines()['q35 4 128M'], ECAM.get(name, Q35_ECAM), **change)
         passed, failed = passed + good, failed + (not good)
     print('%d passed, %d failed' % (passed + 1, failed))  # the build was the first
     return 1 if failed else 0
