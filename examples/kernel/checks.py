@@ -76,8 +76,9 @@ def pins(lines):
 
 
 def reserved(lines, memory, rsdp):
-    """The memory of the root table, of each listed table, of the DSDT and of the FACS (section 5.2.9): of the RSDP,
-    whose revision is 0 on these machines, RsdtAddress is at 16; of the FADT FIRMWARE_CTRL is at 36 and X_FIRMWARE_CTRL, if not 0, at 132."""
+    """The memory of the root table, of each listed table, of the DSDT and of the FACS (section 5.2.9). Of the RSDP,
+    whose revision is 0 on these machines, RsdtAddress is at 16; of the FADT FIRMWARE_CTRL is at 36 and
+    X_FIRMWARE_CTRL, which counts if it isn't 0, at 132."""
     listed = {l.split()[1]: int(l.split()[2], 16) for l in reversed(lines) if l.startswith('listed ')}
     places = [struct.unpack_from('<I', memory.bytes_at(rsdp), 16)[0]]
     places += [a for a, in numbers(lines, 'listed')] + [d[0] - 36 for d in numbers(lines, 'dsdt')]

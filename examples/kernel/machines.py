@@ -21,7 +21,8 @@ FILES = tempfile.TemporaryDirectory()
 NUMA = ['-object', 'memory-backend-ram,id=m0,size=64M', '-object', 'memory-backend-ram,id=m1,size=64M',
         '-numa', 'node,nodeid=0,memdev=m0,cpus=0-1', '-numa', 'node,nodeid=1,memdev=m1,cpus=2-3']
 # A second root of PCI, whose first bus is 32.
-SECOND_ROOT = ['-device', 'pxb-pcie,id=root2,bus_nr=32,bus=pcie.0', '-device', 'pcie-root-port,id=port2,bus=root2,chassis=1']
+SECOND_ROOT = ['-device', 'pxb-pcie,id=root2,bus_nr=32,bus=pcie.0',
+               '-device', 'pcie-root-port,id=port2,bus=root2,chassis=1']
 # What the kernel says of the first PCI function: that of q35 is made by Intel, and pc has no MCFG.
 Q35_ECAM, NO_MCFG = 'ecam 0xb0000000 vendor 0x8086', 'ecam: TableMissing MCFG'
 
