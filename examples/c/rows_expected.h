@@ -1,0 +1,176 @@
+/* What rows.c expects, worked out by hand from rows_tables.h: which call, of which machine, with which signature and
+ * arguments; then how many items, and the values of the fields of each, in the order of the struct in acpi.h; or the
+ * refusal, and the signature that it carries. */
+#ifndef ROWS_EXPECTED_H
+#define ROWS_EXPECTED_H
+
+#define VALUES(...) (const uint64_t[]){__VA_ARGS__}
+#define ABSENT 0, 0, 0, 0, 0, 0
+#define REFUSED_REGISTER 0, 0, 0, 0, 0, 2
+#define GOOD(call, machine, letters, arguments, count, ...) \
+    {&call_##call, machine, letters, arguments, ACPI_OK, NULL, count, VALUES(__VA_ARGS__), \
+     sizeof(VALUES(__VA_ARGS__)) / sizeof(uint64_t)}
+#define NOTHING(call, machine) {&call_##call, machine, NULL, NO, ACPI_OK, NULL, 0, NULL, 0}
+#define REFUSED(call, machine, letters, arguments, status, named) \
+    {&call_##call, machine, letters, arguments, status, named, 0, NULL, 0}
+
+static const struct row rows[] = {
+    GOOD(open, PC, NULL, NO, 1, AT(PC), 68, 2, 8),
+    GOOD(open, ARM, NULL, NO, 1, AT(ARM), 56, 0, 4),
+    REFUSED(open, START_RSDP, NULL, NO, ACPI_MAP_FAILED, NULL),
+
+    /* The header of a member, a table whose header is lent, and the DSDT and the FACS of the FADT. */
+    GOOD(list_missing_ranges, HOLES, NULL, NO, 4, 0x200000, 36, TAIL, 80, 0x300000, 36, 0x400000, 36),
+    GOOD(list_missing_ranges, START_RSDP, NULL, NO, 1, 0x200000, 36),
+    GOOD(list_missing_ranges, START_SEARCH, NULL, NO, 1, 0x40e, 2),
+    NOTHING(list_missing_ranges, ARM),
+    NOTHING(list_missing_ranges, SUM), /* it is refused, but nothing is missing */
+
+    /* A table too short for acpi_hpet is one for acpi_find_table. */
+    GOOD(find_table, PC, "HPET", NO, 1, AT(HPET_SHORT), 48, LETTERS('H', 'P', 'E', 'T'), 3),
+    GOOD(find_nth_table, PC, "HPET", A(0), 1, AT(HPET_SHORT), 48, LETTERS('H', 'P', 'E', 'T'), 3),
+    GOOD(find_nth_table, PC, "HPET", A(1), 1, AT(HPET), 56, LETTERS('H', 'P', 'E', 'T'), 1),
+    GOOD(list_faults, PC, "HPET", NO, 1, AT(HPET_SHORT), ACPI_SDT_INVALID_LENGTH),
+    GOOD(list_faults, HOLES, "OEM1", NO, 2, 0x200000, ACPI_MAP_FAILED, TAIL, ACPI_MAP_FAILED),
+    GOOD(hpet, PC, NULL, NO, 1, 0x1fed00000, 0x8086a201, 0x80, 1, 2),
+    REFUSED(find_table, ARM, "HPET", NO, ACPI_TABLE_MISSING, "HPET"),
+    REFUSED(find_table, HOLES, "OEM1", NO, ACPI_TABLE_MISSING, "OEM1"),
+    REFUSED(find_nth_table, PC, "HPET", A(2), ACPI_TABLE_MISSING, "HPET"),
+    REFUSED(hpet, EMPTY, NULL, NO, ACPI_TABLE_MISSING, "HPET"),
+    REFUSED(dsdt, PC, NULL, NO, ACPI_MAP_FAILED, NULL), /* X_DSDT is 0, and at DSDT nothing is lent */
+
+    /* The root table and its members: neither the DSDT nor the FACS is lent. */
+    GOOD(list_ranges, PC, NULL, NO, 5, AT(PC), 68, AT(FADT), 276, AT(MADT_PC), 96, AT(HPET_SHORT), 48, AT(HPET), 56),
+
+    GOOD(fixed_hardware, PC, NULL, NO, 1, 0x123456000, 0x8000,
+         0x200000600, 0, 32, 0, 3, 1, 0x680, 1, 32, 0, 0, 1, REFUSED_REGISTER, ABSENT, /* PM1 */
+         0x650, 1, 8, 0, 0, 1, 0x608, 1, 32, 0, 0, 1,                  /* PM2_CNT_BLK, PM_TMR_BLK */
+         0x620, 1, 128, 0, 0, 1, REFUSED_REGISTER,                     /* GPE1_BLK: 32 bytes are too many bits */
+         0xcf9, 1, 8, 0, 1, 1, 0x405, 1, 8, 2, 1, 1, 0, 0, 0, 0, 0, 1, /* SLEEP_STATUS_REG: there, and zeros */
+         0x620, 1, 16, 1, 0x640, 1, 32, 1, 0xb2, 0x4a5, 9, 0x13, 3, 101, 1001, 1024, 16, 4, 0xa1, 0xa0, 0xf2, 0x80,
+         0xe3, 0x40, 1, 3, 13, 14, 50, 6),
+    GOOD(fixed_hardware, HOLES, NULL, NO, 1, 0x400000, 0x300000,
+         0, 1, 0, 0, 0, 1, ABSENT, 0, 1, 0, 0, 0, 1, ABSENT, /* PM1a: present at port 0 */
+         ABSENT, ABSENT, ABSENT, ABSENT, 0, 0, 0, 0, 0, 1,   /* RESET_REG is past the end */
+         ABSENT, ABSENT, 0, 0, 0, 0, 0, 0, 0, 0, ABSENT, ABSENT, ABSENT, 0, 0, 0, 0),
+    REFUSED(fixed_hardware, EMPTY, NULL, NO, ACPI_TABLE_MISSING, "FACP"),
+
+    /* From bus 0x10 on, 16 buses of 1 MiB; no bus; two up to 2^64 and above; one that ends 1 MiB below. */
+    GOOD(list_ecam_ranges, ARM, NULL, NO, 4, 0x141000000, 0x1000000, 1, 1, 0, 0, 2, 0, 0, 0, 3, 0,
+         0xffffffffffe00000, 0x100000, 4, 1),
+    REFUSED(list_ecam_ranges, EMPTY, NULL, NO, ACPI_TABLE_MISSING, "MCFG"),
+    /* Bus 0x12 is the third of the region: two times 1 MiB after its base, or 0x12 times. */
+    GOOD(pci_physical_address, ARM, NULL, A(1, 0x12, 3, 2), 1, 0x14021a000),
+    GOOD(pci_ecam_address, ARM, NULL, A(1, 0x12, 3, 2), 1, 0x14121a000),
+    GOOD(pci_physical_address, ARM, NULL, A(3, 0, 31, 7), 1, 0xfffffffffffff000),
+    REFUSED(pci_physical_address, ARM, NULL, A(3, 1, 0, 0), ACPI_NO_SUCH_FUNCTION, NULL),
+    REFUSED(pci_physical_address, ARM, NULL, A(1, 0x20, 0, 0), ACPI_NO_SUCH_FUNCTION, NULL),
+    REFUSED(pci_physical_address, ARM, NULL, A(1, 0x12, 32, 0), ACPI_NO_SUCH_FUNCTION, NULL),
+    REFUSED(pci_physical_address, ARM, NULL, A(1, 0x12, 0, 8), ACPI_NO_SUCH_FUNCTION, NULL),
+    REFUSED(pci_physical_address, EMPTY, NULL, A(1, 0x12, 3, 2), ACPI_TABLE_MISSING, "MCFG"),
+
+    GOOD(list_overrides, PC, NULL, NO, 2, 20, 9, ACPI_POLARITY_HIGH, ACPI_TRIGGER_EDGE,
+         2, 0, ACPI_POLARITY_BUS, ACPI_TRIGGER_BUS),
+    NOTHING(list_overrides, HOLES), /* no MADT */
+    REFUSED(list_overrides, EMPTY, NULL, NO, ACPI_TABLE_MISSING, "FACP"),
+    GOOD(sci_interrupt, PC, NULL, NO, 1, 20, ACPI_POLARITY_HIGH, ACPI_TRIGGER_EDGE),
+    REFUSED(sci_interrupt, HOLES, NULL, NO, ACPI_NO_APICS, NULL),
+    REFUSED(sci_interrupt, EMPTY, NULL, NO, ACPI_TABLE_MISSING, "FACP"),
+    GOOD(isa_interrupt, PC, NULL, A(0), 1, 2, ACPI_POLARITY_HIGH, ACPI_TRIGGER_EDGE),
+    GOOD(isa_interrupt, PC, NULL, A(4), 1, 4, ACPI_POLARITY_HIGH, ACPI_TRIGGER_EDGE),
+    REFUSED(isa_interrupt, PC, NULL, A(2), ACPI_NO_SUCH_INTERRUPT, NULL), /* 2 is taken by interrupt 0 */
+    REFUSED(isa_interrupt, PC, NULL, A(16), ACPI_NO_SUCH_INTERRUPT, NULL),
+    GOOD(io_apic_pin, PC, NULL, A(30), 1, 0xfec01000, 24, 3, 6),
+
+    GOOD(gic_distributor, ARM, NULL, NO, 1, 0x2f000000, 7, 5, 3),
+    GOOD(list_gic_cpu_interfaces, ARM, NULL, NO, 2,
+         0x100000002, 0x180001000, 0x12c000000, 0x12c010000, 0x12c020000, 0x12f100000, 3, 17, 23, 25, 1, 21, 22,
+         1, 1, ACPI_TRIGGER_EDGE, ACPI_TRIGGER_LEVEL, 9,
+         3, 0, 0, 0, 0, 0, 4, 18, 0, 0, 0, 0, 0, 0, 0, ACPI_TRIGGER_LEVEL, ACPI_TRIGGER_EDGE, 0),
+    GOOD(list_gic_redistributors, ARM, NULL, NO, 2, 0x12f200000, 0x40000, 0x12f300000, 0),
+    GOOD(list_gic_translation_services, ARM, NULL, NO, 2, 0x12f020000, 6, 0x12f050000, 10),
+    GOOD(list_gic_msi_frames, ARM, NULL, NO, 2, 0x12f030000, 8, 64, 32, 1, 0x12f040000, 9, 0, 0, 0),
+    REFUSED(gic_distributor, PC, NULL, NO, ACPI_NO_GIC, NULL),
+    REFUSED(gic_distributor, ODD, NULL, NO, ACPI_MADT_INVALID_ENTRY_LENGTH, NULL),
+    REFUSED(gic_distributor, EMPTY, NULL, NO, ACPI_TABLE_MISSING, "APIC"),
+    REFUSED(list_gic_cpu_interfaces, PC, NULL, NO, ACPI_NO_GIC, NULL),
+    REFUSED(list_gic_cpu_interfaces, EMPTY, NULL, NO, ACPI_TABLE_MISSING, "APIC"),
+    REFUSED(list_gic_redistributors, ODD, NULL, NO, ACPI_MADT_INVALID_ENTRY_LENGTH, NULL),
+    REFUSED(list_gic_redistributors, EMPTY, NULL, NO, ACPI_TABLE_MISSING, "APIC"),
+    REFUSED(list_gic_translation_services, PC, NULL, NO, ACPI_NO_GIC, NULL),
+    REFUSED(list_gic_translation_services, EMPTY, NULL, NO, ACPI_TABLE_MISSING, "APIC"),
+    REFUSED(list_gic_msi_frames, ODD, NULL, NO, ACPI_MADT_INVALID_ENTRY_LENGTH, NULL),
+    REFUSED(list_gic_msi_frames, EMPTY, NULL, NO, ACPI_TABLE_MISSING, "APIC"),
+
+    GOOD(arm_timers, ARM, NULL, NO, 1, 0x12a430000, ONES, 29, 1, 3, 0, 1, 30, 3, 1, 1, 1, 27, 3, 3, 0, 1,
+         26, 1, 1, 1, 1, 28, 3, 1, 0, 1, 0),
+    GOOD(arm_timers, ODD, NULL, NO, 1, ONES, 0x1234000, 0, 1, 3, 0, 1, 0, 1, 3, 0, 1, 0, 1, 3, 0, 1,
+         0, 1, 3, 0, 1, 0, 0, 0, 0, 0, 1),
+    REFUSED(arm_timers, EMPTY, NULL, NO, ACPI_TABLE_MISSING, "GTDT"),
+    GOOD(list_gt_frames, ARM, NULL, NO, 2,
+         0x12a810000, 0x12a820000, 0x12a830000, 92, 93, 1, 1, 1, 3, 3, 1, 0,
+         0x12a810000, 0x12a840000, ONES, 94, 0, 2, 1, 3, 3, 1, 0, 1),
+    NOTHING(list_gt_frames, ODD),
+    REFUSED(list_gt_frames, EMPTY, NULL, NO, ACPI_TABLE_MISSING, "GTDT"),
+    GOOD(list_watchdogs, ARM, NULL, NO, 2, 0x12a450000, 0x12a440000, 59, 3, 3, 1,
+         0x12a470000, 0x12a460000, 61, 1, 1, 0),
+    GOOD(list_watchdogs, ODD, NULL, NO, 1, 0, 0, 60, 1, 1, 0),
+    REFUSED(list_watchdogs, EMPTY, NULL, NO, ACPI_TABLE_MISSING, "GTDT"),
+
+    GOOD(list_memory_affinities, ARM, NULL, NO, 2, 0x100000000, 0x10000, 0x107, 1, 0, 0x100008000, 0x20000, 8, 0, 1),
+    REFUSED(list_memory_affinities, ODD, NULL, NO, ACPI_NUMA_INVALID_ENTRY_LENGTH, NULL),
+    REFUSED(list_memory_affinities, HOLES, NULL, NO, ACPI_NUMA_INVALID_MEMORY_RANGE, NULL),
+    REFUSED(list_memory_affinities, EMPTY, NULL, NO, ACPI_TABLE_MISSING, "SRAT"),
+    GOOD(domain_of_address, ARM, NULL, A(0x10000ffff), 1, 0x107), /* the first of two ranges that hold it */
+    GOOD(domain_of_address, ARM, NULL, A(0x100010000), 1, 8),
+    REFUSED(domain_of_address, ARM, NULL, A(0x100028000), ACPI_NO_DOMAIN, NULL),
+    REFUSED(domain_of_address, ARM, NULL, A(0), ACPI_NO_DOMAIN, NULL), /* in an entry that isn't enabled */
+    REFUSED(domain_of_address, HOLES, NULL, A(0), ACPI_NUMA_INVALID_MEMORY_RANGE, NULL),
+    REFUSED(domain_of_address, EMPTY, NULL, A(0), ACPI_TABLE_MISSING, "SRAT"),
+    GOOD(domain_of_apic, ARM, NULL, A(9), 1, 0x20105),
+    GOOD(domain_of_apic, ARM, NULL, A(300), 1, 13), /* the last of two entries that are enabled */
+    GOOD(domain_of_apic, ODD, NULL, A(9), 1, 5),    /* in revision 1 the lowest byte alone */
+    REFUSED(domain_of_apic, ARM, NULL, A(17), ACPI_NO_DOMAIN, NULL),
+    REFUSED(domain_of_apic, EMPTY, NULL, A(9), ACPI_TABLE_MISSING, "SRAT"),
+    GOOD(domain_of_processor, ARM, NULL, A(17), 1, 15),
+    REFUSED(domain_of_processor, ARM, NULL, A(9), ACPI_NO_DOMAIN, NULL),
+    REFUSED(domain_of_processor, EMPTY, NULL, A(17), ACPI_TABLE_MISSING, "SRAT"),
+
+    GOOD(localities, ARM, NULL, NO, 1, 2, 1),
+    GOOD(localities, ODD, NULL, NO, 1, 3, 0),
+    REFUSED(localities, EMPTY, NULL, NO, ACPI_TABLE_MISSING, "SLIT"),
+    GOOD(distance, ARM, NULL, A(0, 1), 1, 20),
+    GOOD(distance, ARM, NULL, A(1, 0), 1, 30),
+    GOOD(distance, ODD, NULL, A(1, 0), 1, 255),
+    REFUSED(distance, ARM, NULL, A(2, 0), ACPI_NO_DISTANCE, NULL),
+    REFUSED(distance, ARM, NULL, A(0, 2), ACPI_NO_DISTANCE, NULL),
+    REFUSED(distance, ODD, NULL, A(1, 1), ACPI_NO_DISTANCE, NULL), /* past the end of the table */
+    REFUSED(distance, EMPTY, NULL, A(0, 0), ACPI_TABLE_MISSING, "SLIT")};
+
+static const struct clip {
+    struct acpi_range ranges[4];
+    size_t ranges_length;
+    struct acpi_range without[2];
+    size_t without_length;
+    struct acpi_range window;
+    acpi_status status;
+    size_t count;
+    uint64_t values[6]; /* address and length of each */
+} clips[] = {
+    /* One that touches, two that overlap, and one of no bytes. */
+    {{{0x3000, 0x1000}, {0x1000, 0x1800}, {0x2000, 0x1000}, {0x8000, 0}}, 4, {{0, 0}}, 0, {0, ONES}, ACPI_OK,
+     1, {0x1000, 0x3000}},
+    /* The window cuts both ends off, and two that overlap are left out of the middle. */
+    {{{0x20000, 0x1000}, {0x1000, 0x9000}}, 2, {{0x3800, 0x1000}, {0x3000, 0x1000}}, 2, {0x2000, 0x7000}, ACPI_OK,
+     2, {0x2000, 0x1000, 0x4800, 0x4800}},
+    /* A gap of one byte is kept. */
+    {{{0x5001, 1}, {0x4000, 0x1000}, {0x9000, 1}}, 3, {{0, 0}}, 0, {0, 0x9001}, ACPI_OK,
+     3, {0x4000, 0x1000, 0x5001, 1, 0x9000, 1}},
+    {{{0x1000, 0x1000}}, 1, {{0x800, 0x2000}}, 1, {0, ONES}, ACPI_OK, 0, {0}},
+    {{{0, 0}}, 0, {{0, 0}}, 0, {0, ONES}, ACPI_OK, 0, {0}},
+    /* As high as a range can end; one that ends at 2^64 is refused, also if it is left out or the window. */
+    {{{ONES - 0xfff, 0xfff}}, 1, {{0, 0}}, 0, {0, ONES}, ACPI_OK, 1, {ONES - 0xfff, 0xfff}},
+    {{{0x1000, 0x1000}, {ONES - 0xfff, 0x1000}}, 2, {{0, 0}}, 0, {0, ONES}, ACPI_RANGE_TOO_HIGH, 0, {0}},
+    {{{0x1000, 0x1000}}, 1, {{ONES - 0xfff, 0x1000}}, 1, {0, ONES}, ACPI_RANGE_TOO_HIGH, 0, {0}},
+    {{{0x1000, 0x1000}}, 1, {{0, 0}}, 0, {1, ONES}, ACPI_RANGE_TOO_HIGH, 0, {0}}};
+#endif
