@@ -12,15 +12,15 @@ use crate::tables::madt::{MADT_GRAMMAR, Madt};
 /// How many items of each sort the entries have, and whether any entry is of a model of APICs.
 #[derive(Clone, Copy)]
 pub struct Counts {
-    /// The processors, the boot processor among them.
+    /// The processors, the boot processor among them: Processor Local APIC and Local x2APIC entries.
     pub processors: usize,
     /// The I/O APICs.
     pub io_apics: usize,
-    /// The ISA interrupts that are wired otherwise.
+    /// The Interrupt Source Override entries.
     pub overrides: usize,
-    /// The interrupts that are non-maskable.
+    /// The interrupts of I/O APICs that are non-maskable: NMI Source entries.
     pub nmi_sources: usize,
-    /// The inputs that NMIs come to.
+    /// The LINT pins that NMIs arrive at: Local APIC NMI and Local x2APIC NMI entries.
     pub nmi_lines: usize,
     /// Whether any entry is of a model of APICs.
     pub is_of_apic: bool,

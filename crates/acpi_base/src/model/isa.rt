@@ -120,7 +120,8 @@ fn is_taken(overrides: &[InterruptSourceOverride], number: u8) -> bool
     false
 }
 
-/// The interrupt that an override gives, with these in place of those of its bus.
+/// The interrupt that an Interrupt Source Override gives (section 5.2.12.5). If its flags conform to the bus, it has
+/// this polarity and this trigger mode.
 pub fn wired(
     wiring: &InterruptSourceOverride,
     polarity: Polarity,
@@ -141,7 +142,8 @@ pub fn wired(
     }
 }
 
-/// The interrupt of a number, wired one to one.
+/// The interrupt whose global system interrupt has its own number, since it has no override, with this polarity and
+/// this trigger mode (section 5.2.12.5).
 pub fn straight(number: u32, polarity: Polarity, trigger_mode: TriggerMode) -> IsaInterrupt
     ensures { result ≡ straight polarity trigger_mode number }
 {

@@ -106,7 +106,8 @@ impl SratEntry {
         }
     }
 
-    /// The range of an enabled entry of memory that has at least one byte.
+    /// The range of memory that the entry puts into a domain (Memory Affinity, section 5.2.16.2), or `None` if it is
+    /// of another type, isn't enabled, or has no byte.
     pub fn memory_range(&self) -> Option<MemoryRange>
         ensures { result ≡ range_in self.now }
     {
