@@ -11,9 +11,9 @@ use Rattle.acpi_c.specs.Model.{listed, processor_record, processors_in}
 use Rattle.acpi_c.specs.declared.interrupt_records.ProcessorRecord.{ProcessorRecord}
 
 -- those still to come, after so many
-abbrev pub behind : ℕ → List MadtItem → List ProcessorRecord
-behind zero items = processors_in items
-behind (suc n) items = map processor_record (filter_map (processor_in true) items)
+abbrev pub left_after : ℕ → List MadtItem → List ProcessorRecord
+left_after zero items = processors_in items
+left_after (suc n) items = map processor_record (filter_map (processor_in true) items)
 
 abbrev pick : {X : Type 0} → X → Option X → X
 pick d (Some x) = x
@@ -30,11 +30,11 @@ no_none : {X : Type 0} {A : Type 0} (r : X) → Some r ≡ None → A
 no_none r e = absurd (subst is_none (sym e) tt)
 
 pub next_some : (n : ℕ) (x : MadtItem) (items : List MadtItem) (r : ProcessorRecord) → option_map processor_record (processor_in (nat_lt 0 n) x) ≡ Some r
-    → behind n (x ∷ items) ≡ r ∷ behind (n + 1) items
-next_some zero (item.Processor uid id on) items r e = ap (λ p. p ∷ behind 1 items) (ap (pick r) e)
+    → left_after n (x ∷ items) ≡ r ∷ left_after (n + 1) items
+next_some zero (item.Processor uid id on) items r e = ap (λ p. p ∷ left_after 1 items) (ap (pick r) e)
 next_some (suc n) (item.Processor uid id on) items r e =
     let later = subst (λ b. option_map processor_record (processor_in b (item.Processor uid id on)) ≡ Some r) (lt-ltb 0 (suc n) (omega arith)) e in
-    rw (add-one (suc n)) (ap (λ p. p ∷ behind (suc (suc n)) items) (ap (pick r) later))
+    rw (add-one (suc n)) (ap (λ p. p ∷ left_after (suc (suc n)) items) (ap (pick r) later))
 next_some n (item.IoApic a) items r e = no_some r e
 next_some n (item.Override a) items r e = no_some r e
 next_some n (item.NmiSource a) items r e = no_some r e
@@ -42,7 +42,7 @@ next_some n (item.NmiLine a) items r e = no_some r e
 next_some n (item.LocalApicAddress a) items r e = no_some r e
 next_some n item.Wakeup items r e = no_some r e
 
-pub next_none : (n : ℕ) (x : MadtItem) (items : List MadtItem) → option_map processor_record (processor_in (nat_lt 0 n) x) ≡ None → behind n (x ∷ items) ≡ behind n items
+pub next_none : (n : ℕ) (x : MadtItem) (items : List MadtItem) → option_map processor_record (processor_in (nat_lt 0 n) x) ≡ None → left_after n (x ∷ items) ≡ left_after n items
 next_none n (item.Processor uid id on) items e = no_none _ e
 next_none zero (item.IoApic a) items e = refl
 next_none (suc n) (item.IoApic a) items e = refl

@@ -1,6 +1,6 @@
 use Rattle.std.proofs.Common.{◌≡◌, ◌+◌, ◌≤◌, length}
 use Rattle.acpi_base.specs.Items.{items_left}
-use Rattle.acpi_c.proofs.BootProcessor.{behind}
+use Rattle.acpi_c.proofs.BootProcessor.{left_after}
 use Rattle.acpi_c.specs.Answers.{put_from}
 use Rattle.acpi_c.specs.Model.{processors_in}
 use Rattle.acpi_c.proofs.processors.fill_processors.Given as goal
@@ -8,7 +8,7 @@ use Rattle.acpi_c.proofs.processors.fill_processors.Given as goal
 -- what is written and what is left are the whole, and the count has room for what is left
 abbrev pub invariant-loop-item : goal.invariant-loop-item
 invariant-loop-item l =
-    let left = behind l.count (items_left l.item-iterator) in
+    let left = left_after l.count (items_left l.item-iterator) in
     let all = processors_in (items_left l.initial.item-iterator) in
     (put_from l.out l.count left ≡ put_from l.initial.out 0 all)
     × (l.count + length left ≡ length all)

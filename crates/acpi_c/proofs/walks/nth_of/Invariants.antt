@@ -3,7 +3,7 @@ use Rattle.acpi.specs.Pointers.{pointers_left}
 use Rattle.acpi_c.specs.Walked.{nth_in}
 use Rattle.acpi_c.proofs.walks.nth_of.Given as goal
 
--- the one sought stands so far behind in what is left
+-- the one sought is as many further on in what is left
 abbrev pub invariant-loop-address : goal.invariant-loop-address
 invariant-loop-address g l =
     let m = g.H.AcpiHandler.memory l.handler in
