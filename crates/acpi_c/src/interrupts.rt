@@ -129,8 +129,8 @@ fn fill_io_apics(items: MadtItems<'_>, out: &mut [IoApicRecord]) -> usize
     count
 }
 
-/// The ISA interrupts that are wired otherwise than to the interrupt of the same number, in the order of the first
-/// valid MADT (section 5.2.12.5): as many as there is room for, and how many there are.
+/// The Interrupt Source Override entries (section 5.2.12.5), in the order of the first valid MADT: as many as there is
+/// room for, and how many there are.
 ///
 /// Refuses as `acpi_interrupt_model` does.
 #[unsafe(no_mangle)]
@@ -173,8 +173,8 @@ fn fill_overrides(items: MadtItems<'_>, out: &mut [OverrideRecord]) -> usize
     count
 }
 
-/// The pins of I/O APICs that are non-maskable, in the order of the first valid MADT (section 5.2.12.6): as many as
-/// there is room for, and how many there are.
+/// The NMI Source entries (section 5.2.12.6), which name the I/O APIC pins that are non-maskable, in the order of the
+/// first valid MADT: as many as there is room for, and how many there are.
 ///
 /// Refuses as `acpi_interrupt_model` does.
 #[unsafe(no_mangle)]
@@ -217,8 +217,8 @@ fn fill_nmi_sources(items: MadtItems<'_>, out: &mut [NmiSourceRecord]) -> usize
     count
 }
 
-/// The LINT pins of local APICs that NMIs come to, in the order of the first valid MADT (sections 5.2.12.7 and
-/// 5.2.12.13): as many as there is room for, and how many there are.
+/// The Local APIC NMI and Local x2APIC NMI entries (sections 5.2.12.7 and 5.2.12.13), which name LINT pins, in the order
+/// of the first valid MADT: as many as there is room for, and how many there are.
 ///
 /// Refuses as `acpi_interrupt_model` does.
 #[unsafe(no_mangle)]
