@@ -434,16 +434,16 @@ acpi_status acpi_interrupt_model(const struct acpi_source *source, struct acpi_i
  * as acpi_interrupt_model does. */
 acpi_status acpi_list_io_apics(const struct acpi_source *source, struct acpi_io_apic *out, size_t room, size_t *count,
                                struct acpi_signature *named);
-/* The ISA interrupts that are wired otherwise than to the interrupt of the same number, in the order of the first
- * valid MADT (section 5.2.12.5). Empty if the model isn't known. Refuses then as acpi_interrupt_model does. */
+/* The Interrupt Source Override entries (section 5.2.12.5), in the order of the first valid MADT. Empty if the model
+ * isn't known. Refuses then as acpi_interrupt_model does. */
 acpi_status acpi_list_overrides(const struct acpi_source *source, struct acpi_override *out, size_t room, size_t *count,
                                 struct acpi_signature *named);
-/* The pins of I/O APICs that are non-maskable, in the order of the first valid MADT (section 5.2.12.6). Empty if the
- * model isn't known. Refuses then as acpi_interrupt_model does. */
+/* The NMI Source entries (section 5.2.12.6), which name the I/O APIC pins that are non-maskable, in the order of the
+ * first valid MADT. Empty if the model isn't known. Refuses then as acpi_interrupt_model does. */
 acpi_status acpi_list_nmi_sources(const struct acpi_source *source, struct acpi_nmi_source *out, size_t room,
                                   size_t *count, struct acpi_signature *named);
-/* The LINT pins of local APICs that NMIs come to, in the order of the first valid MADT (sections 5.2.12.7 and
- * 5.2.12.13). Those of one processor are those with `of_all`, and those with its uid. Empty if the model isn't known.
+/* The Local APIC NMI and Local x2APIC NMI entries (sections 5.2.12.7 and 5.2.12.13), which name LINT pins, in the order
+ * of the first valid MADT. Those of one processor are those with `of_all`, and those with its uid. Empty if the model isn't known.
  * Refuses then as acpi_interrupt_model does. */
 acpi_status acpi_list_nmi_lines(const struct acpi_source *source, struct acpi_nmi_line *out, size_t room, size_t *count,
                                 struct acpi_signature *named);

@@ -306,11 +306,11 @@ impl<'k> AcpiTables<'k> {
         ecam_ranges = acpi_list_ecam_ranges() -> EcamRange;
         /// The I/O APICs (section 5.2.12.3). Refuses as `interrupt_model` does.
         io_apics = acpi_list_io_apics() -> IoApic;
-        /// The ISA interrupts that are wired otherwise (section 5.2.12.5). Refuses as `interrupt_model` does.
+        /// The Interrupt Source Override entries (section 5.2.12.5). Refuses as `interrupt_model` does.
         interrupt_source_overrides = acpi_list_overrides() -> InterruptSourceOverride;
-        /// The pins of I/O APICs that are non-maskable (section 5.2.12.6). Refuses as `interrupt_model` does.
+        /// The NMI Source entries (section 5.2.12.6). Refuses as `interrupt_model` does.
         nmi_sources = acpi_list_nmi_sources() -> NmiSource;
-        /// The LINT pins of local APICs that NMIs come to (sections 5.2.12.7 and 5.2.12.13). Refuses as
+        /// The Local APIC NMI and Local x2APIC NMI entries (sections 5.2.12.7 and 5.2.12.13). Refuses as
         /// `interrupt_model` does.
         local_apic_nmi_lines = acpi_list_nmi_lines() -> NmiLine;
         /// The processors, the boot processor first (sections 5.2.12.2 and 5.2.12.12). Refuses as `interrupt_model`

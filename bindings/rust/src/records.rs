@@ -146,12 +146,12 @@ records! {
         nmi_lines: usize, processors: usize, known: u8, also_has_8259: u8, }
     /// An I/O APIC (section 5.2.12.3).
     IoApic { address: u32, global_system_interrupt_base: u32, id: u8, }
-    /// An ISA interrupt that is wired otherwise (section 5.2.12.5). Polarity and trigger are the codes of the
-    /// entry's flags: 0 as the bus has it, 1 high or edge, 3 low or level.
+    /// An Interrupt Source Override (section 5.2.12.5). Polarity and trigger are the codes of the entry's
+    /// flags: 0 as the bus has it, 1 high or edge, 3 low or level.
     InterruptSourceOverride { global_system_interrupt: u32, isa_source: u8, polarity: u8, trigger: u8, }
-    /// A non-maskable interrupt (section 5.2.12.6).
+    /// An NMI Source (section 5.2.12.6): an I/O APIC pin that is non-maskable.
     NmiSource { global_system_interrupt: u32, polarity: u8, trigger: u8, }
-    /// A LINT pin of local APICs that NMIs come to (sections 5.2.12.7 and 5.2.12.13): 0 LINT0, 1 LINT1.
+    /// A Local APIC NMI or Local x2APIC NMI (sections 5.2.12.7 and 5.2.12.13): `lint` 0 is LINT0, 1 LINT1.
     NmiLine { processor_uid: u32, of_all: u8, lint: u8, }
     /// A processor (sections 5.2.12.2 and 5.2.12.12). Its state: 0 disabled, 1 waits to be started, 2 runs.
     Processor { uid: u32, local_apic_id: u32, state: u8, is_boot: u8, }

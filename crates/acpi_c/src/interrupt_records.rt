@@ -9,11 +9,11 @@ pub struct Model {
     pub local_apic_address: u64,
     /// How many I/O APICs there are.
     pub io_apics: usize,
-    /// How many ISA interrupts are wired otherwise.
+    /// How many Interrupt Source Override entries there are.
     pub overrides: usize,
-    /// How many pins of I/O APICs are non-maskable.
+    /// How many NMI Source entries there are.
     pub nmi_sources: usize,
-    /// How many LINT pins of local APICs NMIs come to.
+    /// How many Local APIC NMI and Local x2APIC NMI entries there are.
     pub nmi_lines: usize,
     /// How many processors there are, the boot processor among them.
     pub processors: usize,
@@ -35,7 +35,7 @@ pub struct IoApicRecord {
     pub id: u8,
 }
 
-/// An ISA interrupt that is wired otherwise (Interrupt Source Override, section 5.2.12.5).
+/// An Interrupt Source Override (section 5.2.12.5): an ISA interrupt and its global system interrupt.
 /// C sees `struct acpi_override`.
 #[repr(C)]
 #[derive(Clone, Copy)]
@@ -62,7 +62,7 @@ pub struct NmiSourceRecord {
     pub trigger: u8,
 }
 
-/// A LINT pin of local APICs that NMIs come to (Local APIC NMI and Local x2APIC NMI, sections 5.2.12.7 and 5.2.12.13).
+/// A Local APIC NMI or Local x2APIC NMI (sections 5.2.12.7 and 5.2.12.13): a LINT pin that gets NMIs.
 /// C sees `struct acpi_nmi_line`.
 #[repr(C)]
 #[derive(Clone, Copy)]
