@@ -21,3 +21,4 @@ pub mod Spelling
 pub mod Steps
 pub mod Sums
 pub mod FieldPastEnd
+pub mod MadtSteps

@@ -1,14 +1,23 @@
 -- What a walk along the MADT's entries shows.
-use Rattle.std.specs.Prelude.{◌≡◌, ◌&&◌, Bool, true, false, ℕ, List, [], ◌∷◌, Option, Some, None}
+use Rattle.std.specs.Prelude.{◌≡◌, ◌&&◌, Bool, true, false, ℕ, List, [], ◌∷◌, ◌≤◌, Option, Some, None, slice_index}
 use Rattle.std.specs.List.{filter_map}
 use Rattle.acpi_base.specs.Entries.{cut}
 use Rattle.acpi_base.specs.Madt.{entry_of, madt_grammar}
 use Rattle.acpi_base.specs.declared.tables.madt.entry.MadtEntry.{MadtEntry}
 use Rattle.acpi_base.specs.declared.tables.madt.walk.MadtEntryIter.{MadtEntryIter}
 
+-- the entries of defined types that bytes begin with
+abbrev pub entries_in : List ℕ → List MadtEntry
+entries_in bytes = filter_map entry_of (cut madt_grammar bytes).0
+
+-- the first one, if there is one, is of a defined type
+abbrev pub BeginsDefined : List (List ℕ) → Type 0
+BeginsDefined [] = Unit
+BeginsDefined (e ∷ es) = slice_index e 0 ≤ 16
+
 -- the entries that are still to come
 abbrev pub entries_left : MadtEntryIter → List MadtEntry
-entries_left s = filter_map entry_of (cut madt_grammar s.rest.now).0
+entries_left s = entries_in s.rest.now
 
 -- the rest after them, in which no entry begins
 abbrev pub rest_left : MadtEntryIter → List ℕ

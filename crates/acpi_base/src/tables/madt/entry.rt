@@ -119,43 +119,40 @@ pub(crate) const MADT_GRAMMAR: Grammar<17> = Grammar {
 };
 
 impl MadtEntry {
-    ghost use Rattle.std.specs.Prelude.{◌≡◌};
+    ghost use Rattle.std.specs.Prelude.{◌≡◌, ◌≤◌, Some, slice_index};
     ghost use Rattle.acpi_base.specs.Entries.{IsEntry};
     ghost use Rattle.acpi_base.specs.Madt.{entry_of, madt_layout};
 
-    /// The entry that bytes mean, or `None` if its type isn't one of 0 to 0x10.
+    /// The last type that is defined.
+    pub(crate) const LAST_TYPE: usize = 0x10;
+
+    /// The entry that bytes mean, of a type that is defined.
     #[inline(always)]
-    pub(crate) fn read(entry: &[u8]) -> Option<MadtEntry>
-        requires { IsEntry madt_layout entry.now }
-        ensures { result ≡ entry_of entry.now }
+    pub(crate) fn read(entry: &[u8]) -> MadtEntry
+        requires layout { IsEntry madt_layout entry.now }
+        requires defined { slice_index entry.now 0 ≤ 16 }
+        ensures { Some result ≡ entry_of entry.now }
     {
         match entry[0] {
-            0x00 => Some(MadtEntry::LocalApic(LocalApicEntry::read(entry))),
-            0x01 => Some(MadtEntry::IoApic(IoApicEntry::read(entry))),
-            0x02 => Some(MadtEntry::InterruptSourceOverride(InterruptSourceOverrideEntry::read(
-                entry,
-            ))),
-            0x03 => Some(MadtEntry::NmiSource(NmiSourceEntry::read(entry))),
-            0x04 => Some(MadtEntry::LocalApicNmi(LocalApicNmiEntry::read(entry))),
-            0x05 => Some(MadtEntry::LocalApicAddressOverride(LocalApicAddressOverrideEntry::read(
-                entry,
-            ))),
-            0x06 => Some(MadtEntry::IoSapic(IoSapicEntry::read(entry))),
-            0x07 => Some(MadtEntry::LocalSapic(LocalSapicEntry::read(entry))),
-            0x08 => Some(MadtEntry::PlatformInterruptSource(PlatformInterruptSourceEntry::read(
-                entry,
-            ))),
-            0x09 => Some(MadtEntry::LocalX2Apic(LocalX2ApicEntry::read(entry))),
-            0x0a => Some(MadtEntry::X2ApicNmi(X2ApicNmiEntry::read(entry))),
-            0x0b => Some(MadtEntry::Gicc(GiccEntry::read(entry))),
-            0x0c => Some(MadtEntry::Gicd(GicdEntry::read(entry))),
-            0x0d => Some(MadtEntry::GicMsiFrame(GicMsiFrameEntry::read(entry))),
-            0x0e => Some(MadtEntry::GicRedistributor(GicRedistributorEntry::read(entry))),
-            0x0f => Some(MadtEntry::GicInterruptTranslationService(
+            0x00 => MadtEntry::LocalApic(LocalApicEntry::read(entry)),
+            0x01 => MadtEntry::IoApic(IoApicEntry::read(entry)),
+            0x02 => MadtEntry::InterruptSourceOverride(InterruptSourceOverrideEntry::read(entry)),
+            0x03 => MadtEntry::NmiSource(NmiSourceEntry::read(entry)),
+            0x04 => MadtEntry::LocalApicNmi(LocalApicNmiEntry::read(entry)),
+            0x05 => MadtEntry::LocalApicAddressOverride(LocalApicAddressOverrideEntry::read(entry)),
+            0x06 => MadtEntry::IoSapic(IoSapicEntry::read(entry)),
+            0x07 => MadtEntry::LocalSapic(LocalSapicEntry::read(entry)),
+            0x08 => MadtEntry::PlatformInterruptSource(PlatformInterruptSourceEntry::read(entry)),
+            0x09 => MadtEntry::LocalX2Apic(LocalX2ApicEntry::read(entry)),
+            0x0a => MadtEntry::X2ApicNmi(X2ApicNmiEntry::read(entry)),
+            0x0b => MadtEntry::Gicc(GiccEntry::read(entry)),
+            0x0c => MadtEntry::Gicd(GicdEntry::read(entry)),
+            0x0d => MadtEntry::GicMsiFrame(GicMsiFrameEntry::read(entry)),
+            0x0e => MadtEntry::GicRedistributor(GicRedistributorEntry::read(entry)),
+            0x0f => MadtEntry::GicInterruptTranslationService(
                 GicInterruptTranslationServiceEntry::read(entry),
-            )),
-            0x10 => Some(MadtEntry::MultiprocessorWakeup(MultiprocessorWakeupEntry::read(entry))),
-            _ => None,
+            ),
+            _ => MadtEntry::MultiprocessorWakeup(MultiprocessorWakeupEntry::read(entry)),
         }
     }
 }

@@ -1,4 +1,8 @@
 //! The entries of a MADT, one at a time (section 5.2.12).
+ghost use Rattle.std.specs.Prelude.{◌≡◌, true};
+ghost use Rattle.acpi_base.specs.Entries.{cut};
+ghost use Rattle.acpi_base.specs.Madt.{madt_grammar};
+ghost use Rattle.acpi_base.specs.MadtWalk.{BeginsDefined, entries_in};
 
 use super::Madt;
 use super::entry::{MADT_GRAMMAR, MadtEntry};
@@ -16,8 +20,9 @@ pub struct MadtEntryIter<'a> {
 }
 
 impl<'a> MadtEntryIter<'a> {
-    ghost use Rattle.std.specs.Prelude.{◌≡◌, ◌*◌, ◌-◌, ◌≤◌, length, false};
-    ghost use Rattle.acpi_base.specs.Madt.{cut_of, entries_of};
+    ghost use Rattle.std.specs.Prelude.{◌≡◌, ◌*◌, ◌-◌, ◌≤◌, length, false, [], IfSome, IfNone};
+    ghost use Rattle.acpi_base.specs.Entries.{IsEntry, after_one, with_entry};
+    ghost use Rattle.acpi_base.specs.Madt.{cut_of, entries_of, madt_layout};
     ghost use Rattle.acpi_base.specs.MadtWalk.{entries_left, has_ended, is_malformed, rest_left};
 
     /// The entries of a MADT's bytes (section 5.2.12): those after its 44 fixed bytes. It needs no handler.
@@ -34,6 +39,27 @@ impl<'a> MadtEntryIter<'a> {
             rest: skip(table, Madt::MIN_LENGTH),
             ended: false,
         }
+    }
+
+    /// The first entry of a defined type that is left, and the bytes after it, or `None` if none is left.
+    /// Entries of other types are stepped over.
+    #[inline(always)]
+    fn split_defined(&mut self) -> Option<(&'a [u8], &'a [u8])>
+        ensures items { entries_left self.new ≡ entries_left self.old }
+        ensures rest { rest_left self.new ≡ rest_left self.old }
+        ensures ended { has_ended self.new ≡ has_ended self.old }
+        ensures found { IfSome result (λ x. cut madt_grammar self.new.rest.now
+            ≡ with_entry x.0.now (cut (after_one madt_grammar) x.1.now)) }
+        ensures entry { IfSome result (λ x. IsEntry madt_layout x.0.now) }
+        ensures defined { BeginsDefined (cut madt_grammar self.new.rest.now).0 }
+        ensures none { IfNone result (cut madt_grammar self.new.rest.now ≡ ([], self.new.rest.now)) }
+    {
+        // Most entries come this way; joined with the other one before the split, it would take longer.
+        if begins_defined(self.rest) {
+            return split_front(&MADT_GRAMMAR, self.rest);
+        }
+        self.rest = past_others(self.rest);
+        split_front(&MADT_GRAMMAR, self.rest)
     }
 
     /// Whether `next` has answered `None` before the table's end, where no entry begins (section 5.2.12).
@@ -59,14 +85,44 @@ impl Iterator for MadtEntryIter<'_> {
     ghost remaining = { item_count (λ s. entries_left s) };
 
     #[inline(always)]
+    #[tactic(auto, using(crate::proofs::MadtSteps::defined_first))]
     fn next(&mut self) -> Option<MadtEntry> {
-        while let Some((entry, others)) = split_front(&MADT_GRAMMAR, self.rest) {
-            self.rest = others;
-            if let Some(found) = MadtEntry::read(entry) {
-                return Some(found);
+        match self.split_defined() {
+            Some((entry, others)) => {
+                self.rest = others;
+                Some(MadtEntry::read(entry))
+            }
+            None => {
+                self.ended = true;
+                None
             }
         }
-        self.ended = true;
-        None
     }
+}
+
+/// Whether the entry that bytes begin with, if there is one, is of a defined type.
+#[inline(always)]
+#[tactic(auto, using(crate::proofs::MadtSteps::begins_defined))]
+fn begins_defined(bytes: &[u8]) -> bool
+    ensures { (result ≡ true) → BeginsDefined (cut madt_grammar bytes.now).0 }
+{
+    bytes.len() >= 2 && bytes[0] as usize <= MadtEntry::LAST_TYPE
+}
+
+/// The bytes from the first entry on whose type is defined. Entries of other types are rare, so this is
+/// out of line: `next` then has no loop, and what it reads can stay in registers.
+#[inline(never)]
+fn past_others(bytes: &[u8]) -> &[u8]
+    ensures items { entries_in result.now ≡ entries_in bytes.now }
+    ensures rest { (cut madt_grammar result.now).1 ≡ (cut madt_grammar bytes.now).1 }
+    ensures defined { BeginsDefined (cut madt_grammar result.now).0 }
+{
+    let mut rest = bytes;
+    while let Some((entry, others)) = split_front(&MADT_GRAMMAR, rest) {
+        if entry[0] as usize <= MadtEntry::LAST_TYPE {
+            return rest;
+        }
+        rest = others;
+    }
+    rest
 }
