@@ -238,3 +238,39 @@ unfolding next_front
 cut_stuck {k} g bytes e =
     let one = one_cut k g bytes _ [] _ bytes (cut_is_cut k g bytes) (no_entry g bytes (next_none g.most (front g.layout bytes) e)) in
     pair_same (cut g bytes) ([], bytes) one.0 one.1
+
+-- ---- bytes that are entries to their end
+
+front_length : {k : ℕ} (l : EntryLayout k) (bytes : List ℕ) (n : ℕ) → front l bytes ≡ Some n → number_at l.length_place bytes ≡ n
+unfolding front
+front_length l bytes n e = (some_true _ (number_at l.length_place bytes) n e).1
+
+next_length : {k : ℕ} (g : Grammar k) (bytes : List ℕ) (n : ℕ) → next_front g bytes ≡ Some n → number_at g.layout.length_place bytes ≡ n
+unfolding next_front
+next_length g bytes n e = front_length g.layout bytes n (next_some g.most (front g.layout bytes) n e).0
+
+whole_next : {k : ℕ} (g : Grammar k) (bytes : List ℕ) (o : Option ℕ) → next_front g bytes ≡ o → 1 ≤ length bytes → (cut g bytes).1 ≡ [] → next_front g bytes ≡ Some (number_at g.layout.length_place bytes)
+whole_next g bytes None e some whole =
+    let none : bytes ≡ [] = sym (ap (λ x. x.1) (cut_stuck g bytes e)) ∙ whole in
+    absurd (omega (arith, some, ap length none))
+whole_next g bytes (Some n) e some whole = e ∙ ap Some (sym (next_length g bytes n e))
+
+-- the next one is as long as it says
+pub whole_front : {k : ℕ} (g : Grammar k) (bytes : List ℕ) → 1 ≤ length bytes → (cut g bytes).1 ≡ [] → next_front g bytes ≡ Some (number_at g.layout.length_place bytes)
+whole_front g bytes some whole = whole_next g bytes (next_front g bytes) refl some whole
+
+pub whole_header : {k : ℕ} (g : Grammar k) (bytes : List ℕ) → 1 ≤ length bytes → (cut g bytes).1 ≡ [] → end_of g.layout.length_place ≤ length bytes
+whole_header g bytes some whole =
+    let n = number_at g.layout.length_place bytes in
+    let f = next_is g bytes n (whole_front g bytes some whole) in
+    omega (arith, f.0.header, f.2, length-take-le n bytes f.2)
+
+empty_next : {k : ℕ} (g : Grammar k) (bytes : List ℕ) (o : Option ℕ) → next_front g bytes ≡ o → length bytes ≡ 0 → cut g bytes ≡ ([], bytes)
+empty_next g bytes None e none = cut_stuck g bytes e
+empty_next g bytes (Some n) e none =
+    let f = next_is g bytes n e in
+    absurd (omega (arith, f.1, f.2, none))
+
+-- no bytes have no entries
+pub cut_empty : {k : ℕ} (g : Grammar k) (bytes : List ℕ) → length bytes ≡ 0 → cut g bytes ≡ ([], bytes)
+cut_empty g bytes none = empty_next g bytes (next_front g bytes) refl none

@@ -1,12 +1,12 @@
 -- What the entries' bytes say is what the entries say.
-use Rattle.std.proofs.Common.{◌≡◌, ℕ, List, [], ◌∷◌, Option, Some, None, Result, refl, ap}
+use Rattle.std.proofs.Common.{◌≡◌, ℕ, List, [], ◌∷◌, Option, Some, None, option_and_then, Result, refl, ap}
 use Rattle.std.specs.List.{filter_map, cons_option}
 use Rattle.std.specs.Option.{option_map}
 use Rattle.std.specs.Result.{result_err, result_ok}
 use Rattle.acpi_base.specs.Interrupts.{item_of}
 use Rattle.acpi_base.specs.Madt.{entry_of}
 use Rattle.acpi_base.specs.Model.{fault_in, item_in}
-use Rattle.acpi_base.specs.Items.{said_of}
+use Rattle.acpi_base.specs.Items.{item_said, said_of}
 use Rattle.acpi_base.specs.declared.error.MadtError.{MadtError}
 use Rattle.acpi_base.specs.declared.tables.madt.entry.MadtEntry.{MadtEntry}
 use Rattle.acpi_base.specs.declared.model.item.MadtItem.{MadtItem}
@@ -30,3 +30,11 @@ pub said_items : (es : List (List ℕ)) → filter_map result_ok (filter_map sai
 unfolding said_of
 said_items [] = refl
 said_items (e ∷ es) = one_item (entry_of e) _ _ (said_items es)
+
+-- what one more entry says comes before what the others say
+more_said : (o : Option (Result MadtItem MadtError)) (xs : List (Result MadtItem MadtError)) → filter_map result_ok (cons_option o xs) ≡ cons_option (option_and_then result_ok o) (filter_map result_ok xs)
+more_said None xs = refl
+more_said (Some r) xs = refl
+
+pub said_more : (e : List ℕ) (es : List (List ℕ)) → filter_map result_ok (filter_map said_of (e ∷ es)) ≡ cons_option (item_said e) (filter_map result_ok (filter_map said_of es))
+said_more e es = more_said (said_of e) _

@@ -1,5 +1,5 @@
 -- What a walk along the MADT's entries shows of what they say.
-use Rattle.std.specs.Prelude.{ℕ, ◌+◌, ◌||◌, List, length, false, true, Option, None, Some, Result, Ok, Err}
+use Rattle.std.specs.Prelude.{ℕ, ◌+◌, ◌||◌, List, length, false, true, Option, None, Some, option_and_then, Result, Ok, Err}
 use Rattle.std.specs.List.{filter_map, list_any}
 use Rattle.std.specs.Option.{option_map}
 use Rattle.std.specs.Result.{result_ok}
@@ -17,6 +17,10 @@ use Rattle.acpi_base.specs.declared.model.items.MadtItems.{MadtItems}
 -- what an entry's bytes say, or why it is refused; nothing if its type isn't defined
 unfoldable pub said_of : List ℕ → Option (Result MadtItem MadtError)
 said_of e = option_map item_of (entry_of e)
+
+-- what an entry says, if its type is defined and it isn't refused
+abbrev pub item_said : List ℕ → Option MadtItem
+item_said e = option_and_then result_ok (said_of e)
 
 -- what the entries in which these bytes are cut say, and the refusals
 abbrev pub said_in : List ℕ → List (Result MadtItem MadtError)

@@ -2,7 +2,7 @@
 //!
 //! What tables differ in is a value, a `Grammar`. A walk goes from entry to entry by `split_front`; over
 //! a grammar that is a constant it costs what a walk written for that table does.
-ghost use Rattle.std.specs.Prelude.{◌≡◌, ◌<◌, length, IfSome, IfNone, [], slice_index};
+ghost use Rattle.std.specs.Prelude.{◌≡◌, ◌<◌, ◌≤◌, length, IfSome, IfNone, [], slice_index};
 ghost use Rattle.acpi_base.specs.Entries.{IsEntry, after_one, cut, end_of, front, least_length, next_front, number_at, with_entry};
 
 /// How many bytes a number has.
@@ -65,6 +65,19 @@ pub fn number_at(place: Place, bytes: &[u8]) -> usize
     match place.width {
         Width::One => byte_at(bytes, at) as usize,
         Width::Two => byte_at(bytes, at) as usize + 256 * byte_at(bytes, at + 1) as usize,
+    }
+}
+
+/// The number at a place of an entry, all of whose bytes are there: nothing is tested.
+#[inline(always)]
+fn number_there(place: Place, bytes: &[u8]) -> usize
+    requires { end_of place ≤ length bytes.now }
+    ensures { result ≡ number_at place bytes.now }
+{
+    let at = place.at as usize;
+    match place.width {
+        Width::One => bytes[at] as usize,
+        Width::Two => bytes[at] as usize + 256 * bytes[at + 1] as usize,
     }
 }
 
@@ -139,5 +152,26 @@ pub fn split_front<'a, const KINDS: usize>(
     ensures none { IfNone result (cut grammar.now bytes.now ≡ ([], bytes.now)) }
 {
     let size = next_front(grammar, bytes)?;
+    Some(bytes.split_at(size))
+}
+
+/// The entry that the bytes begin with, and the bytes after it, or `None` if there are no more. It is for
+/// bytes that are known to be entries to their end, so that nothing is tested but whether there are more.
+#[inline(always)]
+pub(crate) fn split_whole<'a, const KINDS: usize>(
+    grammar: &Grammar<KINDS>,
+    bytes: &'a [u8],
+) -> Option<(&'a [u8], &'a [u8])>
+    requires { (cut grammar.now bytes.now).1 ≡ [] }
+    ensures found { IfSome result (λ x. cut grammar.now bytes.now
+        ≡ with_entry x.0.now (cut (after_one grammar.now) x.1.now)) }
+    ensures entry { IfSome result (λ x. IsEntry grammar.now.layout x.0.now) }
+    ensures shorter { IfSome result (λ x. length x.1.now < length bytes.now) }
+    ensures none { IfNone result (cut grammar.now bytes.now ≡ ([], bytes.now)) }
+{
+    if bytes.is_empty() {
+        return None;
+    }
+    let size = number_there(grammar.layout.length_place, bytes);
     Some(bytes.split_at(size))
 }

@@ -6,11 +6,12 @@ ghost use Rattle.acpi_base.specs.declared.error.AcpiError.TheVariants.{AllocErro
 use super::ModelAndProcessors;
 use super::counts::Counts;
 use super::interrupt::{Apic, InterruptModel, InterruptSourceOverride, IoApic, NmiLine, NmiSource};
-use super::item::MadtItem;
+use super::item::{MadtItem, processor_of, x2apic_processor_of};
 use super::processor::{Processor, ProcessorInfo, ProcessorState};
 use crate::error::AcpiResult;
 use crate::managed_slice::ManagedSlice;
-use crate::tables::madt::Madt;
+use crate::memory::handler::PhysicalRecord;
+use crate::tables::madt::{LocalApicEntry, LocalX2ApicEntry, Madt};
 use std::alloc::{AllocError, Allocator};
 
 /// The model that the entries so far describe.
@@ -62,11 +63,16 @@ impl<A: Allocator + Clone> ModelBuilder<A> {
 
 impl<A: Allocator> ModelBuilder<A> {
     ghost use Rattle.std.specs.Prelude.{◌∷◌, [], List};
+    ghost use Rattle.std.specs.List.{cons_option};
+    ghost use Rattle.acpi_base.specs.Entries.{IsEntry};
+    ghost use Rattle.acpi_base.specs.Items.{item_said};
+    ghost use Rattle.acpi_base.specs.Madt.{madt_layout};
     ghost use Rattle.acpi_base.specs.ModelBuilder.{HasRoom, model_behind};
     ghost use Rattle.acpi_base.specs.declared.model.item.MadtItem.{MadtItem};
 
     /// Adds the item of one more entry after the others. There is room for it.
-    pub(super) fn add(&mut self, item: MadtItem)
+    #[inline(always)]
+    fn add(&mut self, item: MadtItem)
         requires { HasRoom self.old (item ∷ []) }
         ensures added { (items : List MadtItem)
             → model_behind self.new items ≡ model_behind self.old (item ∷ items) }
@@ -79,17 +85,22 @@ impl<A: Allocator> ModelBuilder<A> {
                 local_apic_id,
                 is_enabled,
             } => {
+                // Two records, each with constants: of one, the fields would be found by tests.
                 let is_ap = self.boot_processor.is_some();
-                let processor = Processor {
-                    processor_uid,
-                    local_apic_id,
-                    state: state_of(is_ap, is_enabled),
-                    is_ap,
-                };
                 if is_ap {
-                    self.application_processors.push_reserved(processor);
+                    self.application_processors.push_reserved(Processor {
+                        processor_uid,
+                        local_apic_id,
+                        state: state_of(true, is_enabled),
+                        is_ap: true,
+                    });
                 } else {
-                    self.boot_processor = Some(processor);
+                    self.boot_processor = Some(Processor {
+                        processor_uid,
+                        local_apic_id,
+                        state: state_of(false, is_enabled),
+                        is_ap: false,
+                    });
                 }
             }
             MadtItem::IoApic(io_apic) => self.io_apics.push_reserved(io_apic),
@@ -100,6 +111,42 @@ impl<A: Allocator> ModelBuilder<A> {
                 self.local_apic_address = address;
             }
             MadtItem::Wakeup => {}
+        }
+    }
+
+    /// Adds what one more entry says after the others, if it says anything. There is room for it. Most entries
+    /// are of processors: only for these the code is in line.
+    #[inline(always)]
+    #[tactic(auto, unfolding(crate::specs::Items::said_of))]
+    pub(super) fn add_entry(&mut self, entry: &[u8])
+        requires entry { IsEntry madt_layout entry.now }
+        requires room { HasRoom self.old (cons_option (item_said entry.now) []) }
+        ensures added { (items : List MadtItem)
+            → model_behind self.new items
+            ≡ model_behind self.old (cons_option (item_said entry.now) items) }
+        ensures room { (items : List MadtItem)
+            → HasRoom self.old (cons_option (item_said entry.now) items) → HasRoom self.new items }
+    {
+        match entry[0] {
+            0x00 => self.add(processor_of(&LocalApicEntry::read(entry))),
+            0x09 => self.add(x2apic_processor_of(&LocalX2ApicEntry::read(entry))),
+            _ => self.add_other(entry),
+        }
+    }
+
+    /// What `add_entry` does, for an entry of any type, out of line.
+    #[inline(never)]
+    fn add_other(&mut self, entry: &[u8])
+        requires entry { IsEntry madt_layout entry.now }
+        requires room { HasRoom self.old (cons_option (item_said entry.now) []) }
+        ensures added { (items : List MadtItem)
+            → model_behind self.new items
+            ≡ model_behind self.old (cons_option (item_said entry.now) items) }
+        ensures room { (items : List MadtItem)
+            → HasRoom self.old (cons_option (item_said entry.now) items) → HasRoom self.new items }
+    {
+        if let Some(Ok(item)) = MadtItem::said(entry) {
+            self.add(item);
         }
     }
 

@@ -1,17 +1,17 @@
 //! The walks along the entries: the first one counts, or finds a fault, and the second one gathers.
-ghost use Rattle.std.specs.Prelude.{◌≡◌, IfOk, IfErr};
+ghost use Rattle.std.specs.Prelude.{◌≡◌, [], IfOk, IfErr};
 ghost use Rattle.acpi_base.specs.Model.{AsksMemory, gathered, model_with, items_of};
 ghost use Rattle.acpi_base.specs.Steps.{GivesOrFull};
 ghost use Rattle.acpi_base.specs.Items.{counts_of};
+ghost use Rattle.acpi_base.specs.Madt.{cut_of};
 ghost use Rattle.acpi_base.specs.declared.error.AcpiError.TheVariants.{AllocError as NoMemory};
 
 use super::ModelAndProcessors;
 use super::builder::ModelBuilder;
 use super::counts::Counts;
 use super::interrupt::InterruptModel;
-use super::item::MadtItem;
 use crate::bytes::skip;
-use crate::entries::split_front;
+use crate::entries::split_whole;
 use crate::error::{AcpiError, AcpiResult};
 use crate::memory::handler::PhysicalRecord;
 use crate::tables::madt::{MADT_GRAMMAR, Madt};
@@ -20,24 +20,23 @@ use std::alloc::Allocator;
 /// The model of APICs, with room for exactly what is counted.
 ///
 /// Refuses with `AllocError` if memory is refused, or a clone of the allocator.
-#[tactic(auto, using(crate::proofs::MadtItems::said_items))]
+#[tactic(auto, using(crate::proofs::MadtItems::said_items, crate::proofs::MadtItems::said_more))]
 fn gather<A: Allocator + Clone>(
     madt: &Madt,
     table: &[u8],
     counts: Counts,
     allocator: A,
 ) -> AcpiResult<ModelAndProcessors<A>>
-    requires { counts ≡ counts_of (items_of table.now) }
+    requires counts { counts ≡ counts_of (items_of table.now) }
+    requires whole { (cut_of table.now).1 ≡ [] }
     ensures gathered { IfOk result (λ m. m ≡ gathered madt.now (items_of table.now)) }
     ensures refused { IfErr result (λ e. e ≡ NoMemory) }
 {
     let mut builder = ModelBuilder::with_room(madt, counts, allocator)?;
     let mut rest = skip(table, Madt::MIN_LENGTH);
-    while let Some((entry, others)) = split_front(&MADT_GRAMMAR, rest) {
+    while let Some((entry, others)) = split_whole(&MADT_GRAMMAR, rest) {
         rest = others;
-        if let Some(Ok(item)) = MadtItem::said(entry) {
-            builder.add(item);
-        }
+        builder.add_entry(entry);
     }
     Ok(builder.finish())
 }

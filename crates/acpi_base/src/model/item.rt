@@ -80,7 +80,7 @@ impl MadtItem {
 /// The processor of a local APIC.
 #[inline(always)]
 #[tactic(auto, unfolding(crate::specs::Interrupts::item_of))]
-fn processor_of(entry: &LocalApicEntry) -> MadtItem
+pub(super) fn processor_of(entry: &LocalApicEntry) -> MadtItem
     ensures { Ok result ≡ item_of (variants.LocalApic entry.now) }
 {
     MadtItem::Processor {
@@ -93,7 +93,7 @@ fn processor_of(entry: &LocalApicEntry) -> MadtItem
 /// The processor of a local x2APIC.
 #[inline(always)]
 #[tactic(auto, unfolding(crate::specs::Interrupts::item_of))]
-fn x2apic_processor_of(entry: &LocalX2ApicEntry) -> MadtItem
+pub(super) fn x2apic_processor_of(entry: &LocalX2ApicEntry) -> MadtItem
     ensures { Ok result ≡ item_of (variants.LocalX2Apic entry.now) }
 {
     MadtItem::Processor {
