@@ -9,7 +9,7 @@ use Rattle.acpi_fixed.specs.declared.fadt.Fadt.{Fadt}
 use Rattle.acpi_fixed.specs.declared.fadt.registers.RegisterBlock.{RegisterBlock}
 use Rattle.acpi_fixed.specs.declared.fadt.registers.gpe.GpeBlock.{GpeBlock}
 use Rattle.acpi_fixed.specs.Fadt.{registers_of}
-use Rattle.acpi_fixed.specs.Registers.{usable_extended}
+use Rattle.acpi_fixed.specs.Registers.{port_of, usable_extended}
 
 -- so many bytes at an extended address: of its fields the space and the address count
 abbrev pub block_from : List ℕ → ℕ → Result GpeBlock AcpiError
@@ -29,7 +29,7 @@ block_or None port byte_length =
 -- the block of a pair of fields: nothing if its length is 0, before anything else
 abbrev pub gpe_of : RegisterBlock → Result (Option GpeBlock) AcpiError
 gpe_of r =
-    if r.size == 0 then Ok None else block_or (usable_extended r.extended) r.address r.size
+    if r.size == 0 then Ok None else block_or (usable_extended r.extended) (port_of r) r.size
 
 -- GPE1_BASE: the number of the first event of a block, if there is one
 abbrev pub base_beside : ℕ → Result (Option GpeBlock) AcpiError → Option ℕ

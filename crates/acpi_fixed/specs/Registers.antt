@@ -1,8 +1,8 @@
 -- Blocks of registers and addresses that the FADT gives in two ways: by a field of its first
 -- versions, and by an extended one (ACPI 6.4, section 5.2.9).
-use Rattle.std.specs.Prelude.{ℕ, ◌*◌, ◌&&◌, ◌==◌, nat_lt, if◌then◌else◌}
-use Rattle.std.specs.Prelude.{List, Option, Some, None, is_none, Result, Ok, Err}
-use Rattle.std.specs.Option.{option_map, option_map_or}
+use Rattle.std.specs.Prelude.{ℕ, ◌+◌, ◌*◌, ◌≤◌, ◌&&◌, ◌==◌, nat_le, nat_lt, Bool, if◌then◌else◌}
+use Rattle.std.specs.Prelude.{List, length, replicate, Option, Some, None, is_none, Result, Ok, Err}
+use Rattle.std.specs.Option.{option_map_or}
 use Rattle.acpi_base.specs.declared.address.AccessSize.TheVariants.{Undefined}
 use Rattle.acpi_base.specs.declared.address.AddressSpace.TheVariants.{SystemIo}
 use Rattle.acpi_base.specs.declared.address.GenericAddress.{GenericAddress}
@@ -10,29 +10,37 @@ use Rattle.acpi_base.specs.declared.error.AcpiError.{AcpiError}
 use Rattle.acpi_base.specs.declared.error.AcpiError.TheVariants.{InvalidGenericAddress}
 use Rattle.acpi_base.specs.Address.{generic_address_of}
 use Rattle.acpi_base.specs.Bytes.{field_of, filled_part}
-use Rattle.acpi_base.specs.Extended.{field_since, whole_part}
 use Rattle.acpi_base.specs.Steps.{◌>>=◌, holds}
 use Rattle.acpi_fixed.specs.declared.fadt.registers.RegisterBlock.{RegisterBlock}
 use Rattle.acpi_fixed.specs.declared.fadt.registers.Registers.{Registers}
 
--- what the n bytes at an offset mean, in a table that has all of them and whose FADT Major Version, at 8, is 2 or above
-abbrev pub extended_in : {T : Type 0} → (List ℕ → T) → List ℕ → ℕ → ℕ → Option T
-extended_in meaning b offset n =
-    field_since 2 (field_of b 8 1) (option_map meaning (whole_part b offset n))
+-- whether a table's FADT Major Version, at 8, is 2 or above, and it has all of the n bytes at an offset
+abbrev pub has_extended : List ℕ → ℕ → ℕ → Bool
+has_extended b offset n = nat_le 2 (field_of b 8 1) && nat_le (offset + n) (length b)
 
-abbrev pub extended_number : List ℕ → ℕ → Option ℕ
-extended_number b offset = extended_in (λ p. field_of p 0 8) b offset 8
+-- a number of eight bytes, 0 if the table doesn't have it
+abbrev pub extended_number : List ℕ → ℕ → ℕ
+extended_number b offset = if has_extended b offset 8 then field_of b offset 8 else 0
 
+-- the twelve bytes of a generic address, zeros if the table doesn't have them
+abbrev pub extended_bytes : List ℕ → ℕ → List ℕ
+extended_bytes b offset = if has_extended b offset 12 then filled_part b offset 12 else replicate 12 0
+
+-- these bytes, if the table has them
 abbrev pub extended_address : List ℕ → ℕ → Option (List ℕ)
-extended_address b offset = extended_in (λ p. filled_part p 0 12) b offset 12
+extended_address b offset = if has_extended b offset 12 then Some (filled_part b offset 12) else None
 
 -- the block whose address, length and extended field a table has at these offsets
-abbrev pub block_at : List ℕ → ℕ → ℕ → ℕ → RegisterBlock
+unfoldable pub block_at : List ℕ → ℕ → ℕ → ℕ → RegisterBlock
 block_at b address size extended = record {
-  address = field_of b address 4;
   size = field_of b size 1;
-  extended = extended_address b extended;
+  port = filled_part b address 4;
+  extended = extended_bytes b extended;
 }
+
+-- a table that has all extended blocks: it is of revision 2 or above, and goes on after X_GPE1_BLK, at 232
+abbrev pub HasBlocks : List ℕ → Type 0
+HasBlocks b = (2 ≤ field_of b 8 1) × (244 ≤ length b)
 
 -- where a table has each register: its address, its length, its extended field
 abbrev pub registers_at : List ℕ → Registers
@@ -51,9 +59,12 @@ registers_at b = record {
 }
 
 -- the extended field, if its Address, at 4 in the generic address, is not 0 (section 5.2.3.2)
-abbrev pub usable_extended : Option (List ℕ) → Option (List ℕ)
-usable_extended None = None
-usable_extended (Some raw) = if field_of raw 4 8 == 0 then None else Some raw
+abbrev pub usable_extended : List ℕ → Option (List ℕ)
+usable_extended raw = if field_of raw 4 8 == 0 then None else Some raw
+
+-- the first port of a block
+abbrev pub port_of : RegisterBlock → ℕ
+port_of r = field_of r.port 0 4
 
 -- ports from an address on, eight bits for each byte
 abbrev pub ports_at : ℕ → ℕ → Result GenericAddress AcpiError
@@ -70,12 +81,12 @@ ports_at address size = do
 -- the extended block if its address is not 0, else the ports
 abbrev pub block_of : RegisterBlock → Result GenericAddress AcpiError
 block_of r =
-    option_map_or generic_address_of (usable_extended r.extended) (ports_at r.address r.size)
+    option_map_or generic_address_of (usable_extended r.extended) (ports_at (port_of r) r.size)
 
 -- a block that a machine need not have: none if neither field gives an address, else that of `block_of`
 abbrev pub optional_block_of : RegisterBlock → Result (Option GenericAddress) AcpiError
 optional_block_of r =
-    if is_none (usable_extended r.extended) && r.address == 0 then Ok None
+    if is_none (usable_extended r.extended) && port_of r == 0 then Ok None
     else do
       block ← block_of r
       Ok (Some block)
@@ -91,12 +102,11 @@ register_of (Some raw) = do
   register ← generic_address_of raw
   Ok (Some register)
 
--- the 64-bit address if it is there and not 0, else the 32-bit one
-abbrev pub preferred_address : Option ℕ → ℕ → ℕ
-preferred_address None narrow = narrow
-preferred_address (Some wide) narrow = if wide == 0 then narrow else wide
+-- the 64-bit address if it is not 0, else the 32-bit one
+abbrev pub preferred_address : ℕ → ℕ → ℕ
+preferred_address wide narrow = if wide == 0 then narrow else wide
 
 -- the preferred address, if it is not 0
-abbrev pub address_or : AcpiError → Option ℕ → ℕ → Result ℕ AcpiError
+abbrev pub address_or : AcpiError → ℕ → ℕ → Result ℕ AcpiError
 address_or refusal wide narrow =
     if preferred_address wide narrow == 0 then Err refusal else Ok (preferred_address wide narrow)

@@ -6,15 +6,14 @@ ghost use Rattle.acpi_fixed.specs.Fadt.{profile_for};
 mod brief;
 mod extended;
 mod flags;
+mod reading;
 mod registers;
 
 use acpi_base::address::GenericAddress;
-use acpi_base::bytes::{field, field_in};
 use acpi_base::sdt::SdtHeader;
 use acpi_base::table::sum_refusal;
 use acpi_base::{AcpiError, AcpiResult, AcpiTable, PhysicalRecord, Signature};
 pub use brief::FadtBrief;
-use extended::extended_number_in;
 pub use flags::{ArmBootArchFlags, FixedFeatureFlags, IaPcBootArchFlags};
 pub use registers::GpeBlock;
 use registers::{Registers, address_from, register_from};
@@ -49,6 +48,7 @@ pub enum PowerProfile {
 ///
 /// Later versions of the table give an address a second time in a wider field. The functions here take
 /// that one if a table of revision 2 or above has it whole and it isn't 0.
+// The fields lie as in the table, but for two that fill a gap, so that most of them are read as pieces of it.
 #[derive(Clone, Copy, Debug)]
 pub struct Fadt {
     header: SdtHeader,
@@ -94,16 +94,16 @@ pub struct Fadt {
     pub month_alarm: u8,
     /// CENTURY: the clock's register of the century. 0: there is none.
     pub century: u8,
-    /// IAPC_BOOT_ARCH: the devices of a PC (section 5.2.9.3).
-    pub iapc_boot_arch: IaPcBootArchFlags,
-    /// Flags (Fixed Feature Flags): what the fixed hardware does and needs.
-    pub flags: FixedFeatureFlags,
     /// RESET_VALUE: the value that resets the machine if it is written to RESET_REG.
     pub reset_value: u8,
+    /// IAPC_BOOT_ARCH: the devices of a PC (section 5.2.9.3).
+    pub iapc_boot_arch: IaPcBootArchFlags,
     /// ARM_BOOT_ARCH: the way in which the firmware of an Arm machine is called (section 5.2.9.4).
     pub arm_boot_arch: ArmBootArchFlags,
-    x_firmware_ctrl: Option<u64>,
-    x_dsdt_address: Option<u64>,
+    /// Flags (Fixed Feature Flags): what the fixed hardware does and needs.
+    pub flags: FixedFeatureFlags,
+    x_firmware_ctrl: u64,
+    x_dsdt_address: u64,
 }
 
 /// The profile of a code.
@@ -121,52 +121,6 @@ fn profile_from(code: u8) -> PowerProfile
         7 => PowerProfile::PerformanceServer,
         8 => PowerProfile::Tablet,
         other => PowerProfile::Reserved(other),
-    }
-}
-
-impl PhysicalRecord for Fadt {
-    ghost use Rattle.acpi_fixed.specs.Fadt.{fadt_at};
-
-    const MIN_LENGTH: usize = 116;
-
-    ghost MIN_LENGTH = { 116 };
-
-    ghost reading = { fadt_at };
-
-    // Out of line, since a call writes the record where it is wanted, and code in line copies it there.
-    #[inline(never)]
-    #[tactic(auto, unfolding(crate::specs::Fadt::fadt_at))]
-    fn read(bytes: &[u8]) -> Self {
-        Fadt {
-            header: SdtHeader::read(bytes),
-            firmware_ctrl: field_in(bytes, 36, 4) as u32, // FIRMWARE_CTRL
-            dsdt_address: field_in(bytes, 40, 4) as u32, // DSDT
-            preferred_pm_profile: field_in(bytes, 45, 1) as u8, // Preferred_PM_Profile
-            sci_interrupt: field_in(bytes, 46, 2) as u16, // SCI_INT
-            smi_cmd_port: field_in(bytes, 48, 4) as u32, // SMI_CMD
-            acpi_enable: field_in(bytes, 52, 1) as u8, // ACPI_ENABLE
-            acpi_disable: field_in(bytes, 53, 1) as u8, // ACPI_DISABLE
-            s4bios_req: field_in(bytes, 54, 1) as u8, // S4BIOS_REQ
-            pstate_control: field_in(bytes, 55, 1) as u8, // PSTATE_CNT
-            registers: Registers::read(bytes),
-            gpe1_base: field_in(bytes, 94, 1) as u8, // GPE1_BASE
-            c_state_control: field_in(bytes, 95, 1) as u8, // CST_CNT
-            worst_c2_latency: field_in(bytes, 96, 2) as u16, // P_LVL2_LAT
-            worst_c3_latency: field_in(bytes, 98, 2) as u16, // P_LVL3_LAT
-            flush_size: field_in(bytes, 100, 2) as u16, // FLUSH_SIZE
-            flush_stride: field_in(bytes, 102, 2) as u16, // FLUSH_STRIDE
-            duty_offset: field_in(bytes, 104, 1) as u8, // DUTY_OFFSET
-            duty_width: field_in(bytes, 105, 1) as u8, // DUTY_WIDTH
-            day_alarm: field_in(bytes, 106, 1) as u8, // DAY_ALRM
-            month_alarm: field_in(bytes, 107, 1) as u8, // MON_ALRM
-            century: field_in(bytes, 108, 1) as u8, // CENTURY
-            iapc_boot_arch: IaPcBootArchFlags::new(field_in(bytes, 109, 2) as u16), // IAPC_BOOT_ARCH
-            flags: FixedFeatureFlags::new(field_in(bytes, 112, 4) as u32), // Flags (Fixed Feature Flags)
-            reset_value: field(bytes, 128, 1) as u8, // RESET_VALUE
-            arm_boot_arch: ArmBootArchFlags::new(field(bytes, 129, 2) as u16), // ARM_BOOT_ARCH
-            x_firmware_ctrl: extended_number_in(bytes, 132), // X_FIRMWARE_CTRL
-            x_dsdt_address: extended_number_in(bytes, 140), // X_DSDT
-        }
     }
 }
 

@@ -11,6 +11,7 @@ use Rattle.acpi_base.specs.Madt.{madt_at}
 use Rattle.acpi_base.specs.Memory.{at, rest_from}
 use Rattle.acpi_base.specs.Table.{length_in, own_table_at, table_at, table_of, whole_of}
 use Rattle.acpi_fixed.specs.Fadt.{fadt_at}
+use Rattle.acpi_fixed.specs.Registers.{block_at}
 use Rattle.acpi_laws.specs.Examples.{AreMemories, TheyDiffer, TheyList, bios, bios_here, bios_there, damaged, dsdt, fadt, here, madt, mcfg, memory, moved, rsdp, rsdt, ssdt, there, xsdt}
 use Rattle.acpi_laws.specs.ExampleLaws.{AskedInstance, DsdtInstance, FaultsInstance, HeadersInstance, HeadersMoved, HpetInstance, HpetMoved, LookupInstance, LookupMoved, MailboxInstance}
 use Rattle.acpi_laws.specs.ExampleLaws.{OpenedByRsdpInstance, OpenedInstance, PlatformInstance, PlatformMoved, RegionsInstance, RegionsMoved, RsdpInstance, SsdtsInstance}
@@ -54,7 +55,7 @@ unfolding at rest_from length_in whole_of table_of table_at header_at check_name
 dsdt_instance = ((refl, (refl, (refl, (refl, (refl, tt))))), refl)
 
 pub platform_instance : {A : Type 0} → PlatformInstance A
-unfolding at rest_from length_in whole_of table_of table_at header_at check_names check_table field_of sum_of is_utf8 chars lib.Utf8.encode fadt_at madt_at front cut item_of memory rsdp rsdt fadt hpet madt mcfg ssdt dsdt unnamed damaged
+unfolding at rest_from length_in whole_of table_of table_at header_at check_names check_table field_of sum_of is_utf8 chars lib.Utf8.encode fadt_at block_at madt_at front cut item_of memory rsdp rsdt fadt hpet madt mcfg ssdt dsdt unnamed damaged
 platform_instance = ((refl, (refl, (refl, (refl, (refl, (refl, (refl, (refl, tt)))))))), refl)
 
 pub hpet_instance : HpetInstance
@@ -98,7 +99,7 @@ unfolding at rest_from length_in whole_of table_of table_at header_at check_name
 headers_moved = (refl, refl, refl)
 
 pub platform_moved : {A : Type 0} → PlatformMoved A
-unfolding at rest_from length_in whole_of table_of table_at header_at check_names check_table field_of sum_of is_utf8 chars lib.Utf8.encode own_table_at fadt_at madt_at front cut item_of memory rsdp rsdt fadt hpet madt mcfg ssdt dsdt unnamed damaged moved xsdt
+unfolding at rest_from length_in whole_of table_of table_at header_at check_names check_table field_of sum_of is_utf8 chars lib.Utf8.encode own_table_at fadt_at block_at madt_at front cut item_of memory rsdp rsdt fadt hpet madt mcfg ssdt dsdt unnamed damaged moved xsdt
 platform_moved = (refl, refl, refl)
 
 pub hpet_moved : HpetMoved

@@ -19,7 +19,7 @@ pub struct FadtBrief {
     dsdt_address: u32,
     preferred_pm_profile: u8,
     flags: FixedFeatureFlags,
-    x_dsdt_address: Option<u64>,
+    x_dsdt_address: u64,
     pm_timer: RegisterBlock,
 }
 
@@ -39,8 +39,8 @@ impl PhysicalRecord for FadtBrief {
             dsdt_address: field_in(bytes, 40, 4) as u32, // DSDT
             preferred_pm_profile: field_in(bytes, 45, 1) as u8, // Preferred_PM_Profile
             flags: FixedFeatureFlags::new(field_in(bytes, 112, 4) as u32), // Flags (Fixed Feature Flags)
-            x_dsdt_address: extended_number_in(bytes, 140), // X_DSDT
-            pm_timer: RegisterBlock::read(bytes, 76, 91, 208), // PM_TMR_BLK, PM_TMR_LEN, X_PM_TMR_BLK
+            x_dsdt_address: extended_number_in(bytes, 140, false), // X_DSDT
+            pm_timer: RegisterBlock::read(bytes, 76, 91, 208, false), // PM_TMR_BLK, PM_TMR_LEN, X_PM_TMR_BLK
         }
     }
 }

@@ -1,46 +1,78 @@
 //! Fields of a FADT that came with revision 2.
-ghost use Rattle.std.specs.Prelude.{◌≡◌, ◌+◌, ◌≤◌, ◌&&◌, length, nat_le};
-ghost use Rattle.acpi_base.specs.Bytes.{field_of};
-ghost use Rattle.acpi_fixed.specs.Registers.{extended_address, extended_number};
+//!
+//! Most tables have all the extended blocks. A reader that knows it says so (`whole`), and then nothing is
+//! tested.
+ghost use Rattle.std.specs.Prelude.{◌≡◌, ◌+◌, ◌≤◌, length, true};
+ghost use Rattle.acpi_base.specs.Bytes.{filled_part};
+ghost use Rattle.acpi_fixed.specs.Registers.{HasBlocks, extended_address, extended_bytes, extended_number, has_extended};
 
 use acpi_base::address::RawAddress;
-use acpi_base::bytes::{field, field_in, filled_in};
+use acpi_base::bytes::{field, field_in};
 
 /// Whether FADT Major Version, at 8, is 2 or above and the table has the `n` bytes at an offset.
 #[inline(always)]
-fn is_extended(table: &[u8], offset: usize, n: usize) -> bool
-    requires { offset + n ≤ 276 }
-    ensures { result ≡ (nat_le 2 (field_of table.now 8 1)
-        && nat_le (offset + n) (length table.now)) }
+#[tactic(auto, using(crate::proofs::ExtendedFields::field_known))]
+fn is_extended(table: &[u8], offset: usize, n: usize, whole: bool) -> bool
+    requires offset { offset + n ≤ 276 }
+    requires whole { (whole ≡ true) → HasBlocks table.now × (offset + n ≤ 244) }
+    ensures { result ≡ has_extended table.now offset n }
 {
-    field(table, 8, 1) >= 2 && offset + n <= table.len()
+    whole || (field(table, 8, 1) >= 2 && offset + n <= table.len())
 }
 
-/// The number of eight bytes at an offset, or `None` if the table is below revision 2 or doesn't have all
-/// of these bytes.
+/// The twelve bytes of a generic address at an offset, all of which are there. They stand one by one, since
+/// the compiler then copies them with no detour by an array of zeros.
 #[inline(always)]
-#[tactic(auto, using(crate::proofs::ExtendedFields::number_there, crate::proofs::ExtendedFields::no_number))]
-pub(super) fn extended_number_in(table: &[u8], offset: usize) -> Option<u64>
-    requires { offset + 8 ≤ 276 }
+pub(super) fn address_in(table: &[u8], offset: usize) -> RawAddress
+    requires { offset + 12 ≤ length table.now }
+    ensures { result ≡ filled_part table.now offset 12 }
+{
+    let bytes = &table[offset..];
+    [
+        bytes[0], bytes[1], bytes[2], bytes[3], bytes[4], bytes[5], bytes[6], bytes[7], bytes[8],
+        bytes[9], bytes[10], bytes[11],
+    ]
+}
+
+/// The number of eight bytes at an offset, or 0 if the table is below revision 2 or doesn't have all of
+/// these bytes.
+#[inline(always)]
+pub(super) fn extended_number_in(table: &[u8], offset: usize, whole: bool) -> u64
+    requires offset { offset + 8 ≤ 244 }
+    requires whole { (whole ≡ true) → HasBlocks table.now }
     ensures { result ≡ extended_number table.now offset }
 {
-    if is_extended(table, offset, 8) {
-        Some(field_in(table, offset, 8))
+    if is_extended(table, offset, 8, whole) {
+        field_in(table, offset, 8)
     } else {
-        None
+        0
     }
 }
 
-/// The twelve bytes of a generic address at an offset, or `None` if the table is below revision 2 or doesn't
+/// The twelve bytes of a generic address at an offset, or zeros if the table is below revision 2 or doesn't
 /// have all of these bytes.
 #[inline(always)]
-#[tactic(auto, using(crate::proofs::ExtendedFields::address_there, crate::proofs::ExtendedFields::no_address))]
+pub(super) fn extended_bytes_in(table: &[u8], offset: usize, whole: bool) -> RawAddress
+    requires offset { offset + 12 ≤ 244 }
+    requires whole { (whole ≡ true) → HasBlocks table.now }
+    ensures { result ≡ extended_bytes table.now offset }
+{
+    if is_extended(table, offset, 12, whole) {
+        address_in(table, offset)
+    } else {
+        [0; 12]
+    }
+}
+
+/// The twelve bytes of a generic address at an offset, or `None` if the table is below revision 2 or
+/// doesn't have all of these bytes.
+#[inline(always)]
 pub(super) fn extended_address_in(table: &[u8], offset: usize) -> Option<RawAddress>
     requires { offset + 12 ≤ 276 }
     ensures { result ≡ extended_address table.now offset }
 {
-    if is_extended(table, offset, 12) {
-        Some(filled_in(table, offset))
+    if is_extended(table, offset, 12, false) {
+        Some(address_in(table, offset))
     } else {
         None
     }

@@ -45,12 +45,12 @@ impl RegisterBlock {
         if let Some(raw) = self.usable_extended() {
             return Ok(Some(block_from(&raw, self.size)?));
         }
-        if self.address == 0 {
+        if self.port() == 0 {
             return Ok(None);
         }
         Ok(Some(GpeBlock {
             space: AddressSpace::SystemIo,
-            address: self.address as u64,
+            address: self.port(),
             byte_length: self.size,
         }))
     }

@@ -1,0 +1,76 @@
+//! How a FADT is read.
+ghost use Rattle.std.specs.Prelude.{◌≡◌, ◌≤◌, length, true};
+ghost use Rattle.acpi_fixed.specs.Fadt.{fadt_at};
+ghost use Rattle.acpi_fixed.specs.Registers.{HasBlocks};
+
+use super::extended::extended_number_in;
+use super::registers::Registers;
+use super::{ArmBootArchFlags, Fadt, FixedFeatureFlags, IaPcBootArchFlags};
+use acpi_base::PhysicalRecord;
+use acpi_base::bytes::{field, field_in};
+use acpi_base::sdt::SdtHeader;
+
+impl PhysicalRecord for Fadt {
+    const MIN_LENGTH: usize = 116;
+
+    ghost MIN_LENGTH = { 116 };
+
+    ghost reading = { fadt_at };
+
+    // In line, and each case out of line, since a call writes the record where it is wanted, and what joins two
+    // records copies them.
+    #[inline(always)]
+    fn read(bytes: &[u8]) -> Self {
+        // FADT Major Version.
+        if bytes.len() >= 244 && field_in(bytes, 8, 1) >= 2 {
+            Fadt::read_fields::<true>(bytes)
+        } else {
+            Fadt::read_fields::<false>(bytes)
+        }
+    }
+}
+
+impl Fadt {
+    /// The record of a table. If it is known to have all extended blocks (`WHOLE`), as most have, none is
+    /// tested for.
+    #[inline(never)]
+    #[tactic(auto, unfolding(crate::specs::Fadt::fadt_at))]
+    fn read_fields<const WHOLE: bool>(bytes: &[u8]) -> Fadt
+        requires length { 116 ≤ length bytes.now }
+        requires whole { (WHOLE ≡ true) → HasBlocks bytes.now }
+        ensures { result ≡ fadt_at bytes.now }
+    {
+        // Read first, since they are in part tested for: what follows is read with no branch between.
+        let registers = Registers::read(bytes, WHOLE);
+        Fadt {
+            header: SdtHeader::read(bytes),
+            firmware_ctrl: field_in(bytes, 36, 4) as u32, // FIRMWARE_CTRL
+            dsdt_address: field_in(bytes, 40, 4) as u32, // DSDT
+            preferred_pm_profile: field_in(bytes, 45, 1) as u8, // Preferred_PM_Profile
+            sci_interrupt: field_in(bytes, 46, 2) as u16, // SCI_INT
+            smi_cmd_port: field_in(bytes, 48, 4) as u32, // SMI_CMD
+            acpi_enable: field_in(bytes, 52, 1) as u8, // ACPI_ENABLE
+            acpi_disable: field_in(bytes, 53, 1) as u8, // ACPI_DISABLE
+            s4bios_req: field_in(bytes, 54, 1) as u8, // S4BIOS_REQ
+            pstate_control: field_in(bytes, 55, 1) as u8, // PSTATE_CNT
+            registers,
+            gpe1_base: field_in(bytes, 94, 1) as u8, // GPE1_BASE
+            c_state_control: field_in(bytes, 95, 1) as u8, // CST_CNT
+            worst_c2_latency: field_in(bytes, 96, 2) as u16, // P_LVL2_LAT
+            worst_c3_latency: field_in(bytes, 98, 2) as u16, // P_LVL3_LAT
+            flush_size: field_in(bytes, 100, 2) as u16, // FLUSH_SIZE
+            flush_stride: field_in(bytes, 102, 2) as u16, // FLUSH_STRIDE
+            duty_offset: field_in(bytes, 104, 1) as u8, // DUTY_OFFSET
+            duty_width: field_in(bytes, 105, 1) as u8, // DUTY_WIDTH
+            day_alarm: field_in(bytes, 106, 1) as u8, // DAY_ALRM
+            month_alarm: field_in(bytes, 107, 1) as u8, // MON_ALRM
+            century: field_in(bytes, 108, 1) as u8, // CENTURY
+            iapc_boot_arch: IaPcBootArchFlags::new(field_in(bytes, 109, 2) as u16), // IAPC_BOOT_ARCH
+            flags: FixedFeatureFlags::new(field_in(bytes, 112, 4) as u32), // Flags (Fixed Feature Flags)
+            reset_value: field(bytes, 128, 1) as u8, // RESET_VALUE
+            arm_boot_arch: ArmBootArchFlags::new(field(bytes, 129, 2) as u16), // ARM_BOOT_ARCH
+            x_firmware_ctrl: extended_number_in(bytes, 132, WHOLE), // X_FIRMWARE_CTRL
+            x_dsdt_address: extended_number_in(bytes, 140, WHOLE), // X_DSDT
+        }
+    }
+}
