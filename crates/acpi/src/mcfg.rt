@@ -193,7 +193,12 @@ fn function_address(region: &McfgEntry, bus: u8, device: u8, function: u8) -> Op
     let offset = (u64::from(bus - region.bus_number_start) << 20)
         + (u64::from(device) << 15)
         + (u64::from(function) << 12);
-    region.base_address.checked_add(offset)
+    let address = region.base_address.wrapping_add(offset);
+    // A sum of 2^64 or more comes out below the base.
+    if address < region.base_address {
+        return None;
+    }
+    Some(address)
 }
 
 /// A region of memory that holds the configuration space of PCI functions: an entry of an MCFG (PCI
