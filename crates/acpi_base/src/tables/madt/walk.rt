@@ -1,5 +1,5 @@
 //! The entries of a MADT, one at a time (section 5.2.12).
-ghost use Rattle.std.specs.Prelude.{◌≡◌, true};
+ghost use Rattle.std.specs.Prelude.{◌≡◌, ◌≤◌, ◌↔◌, length, slice_index, true};
 ghost use Rattle.acpi_base.specs.Entries.{cut};
 ghost use Rattle.acpi_base.specs.Madt.{madt_grammar};
 ghost use Rattle.acpi_base.specs.MadtWalk.{BeginsDefined, entries_in};
@@ -100,11 +100,12 @@ impl Iterator for MadtEntryIter<'_> {
     }
 }
 
-/// Whether the entry that bytes begin with, if there is one, is of a defined type.
+/// Whether bytes begin with the type and the length of an entry, and the type is a defined one.
 #[inline(always)]
 #[tactic(auto, using(crate::proofs::MadtSteps::begins_defined))]
 fn begins_defined(bytes: &[u8]) -> bool
-    ensures { (result ≡ true) → BeginsDefined (cut madt_grammar bytes.now).0 }
+    ensures exact { (result ≡ true) ↔ ((2 ≤ length bytes.now) × (slice_index bytes.now 0 ≤ 16)) }
+    ensures defined { (result ≡ true) → BeginsDefined (cut madt_grammar bytes.now).0 }
 {
     bytes.len() >= 2 && bytes[0] as usize <= MadtEntry::LAST_TYPE
 }
