@@ -66,6 +66,8 @@ fn shown_run(alloc: Global, file: Option<&[u8]>, question: &str) -> Result<Strin
 struct Chosen<'a> {
     asks: &'a str,
     text: String,
+    /// The last refusal of memory or of a write.
+    refused: Option<io::Error>,
 }
 
 impl Chosen<'_> {
@@ -80,8 +82,28 @@ impl Chosen<'_> {
         false
     }
 
-    /// Adds each line of a text, where it is asked for.
-    fn add(&mut self, kind: &str, text: &[u8]) -> io::Result<()> {
+    /// Adds each line of a text, where it is asked for. A refusal is kept for `finish`.
+    fn add(&mut self, kind: &str, text: io::Result<Vec<u8>>) {
+        match text {
+            Ok(text) => {
+                if let Err(refusal) = self.write(kind, &text) {
+                    self.refused = Some(refusal);
+                }
+            }
+            Err(refusal) => self.refused = Some(refusal),
+        }
+    }
+
+    /// The lines, or a refusal that was kept.
+    fn finish(self) -> io::Result<String> {
+        match self.refused {
+            Some(refusal) => Err(refusal),
+            None => Ok(self.text),
+        }
+    }
+
+    /// Writes each line of a text, where it is asked for.
+    fn write(&mut self, kind: &str, text: &[u8]) -> io::Result<()> {
         let text = str::from_utf8(text).unwrap_or("no text");
         for line in text.split_inclusive('\n') {
             if self.is_asked(kind, line) {
@@ -109,20 +131,24 @@ fn lines(alloc: Global, words: &[&str], image: Option<&[u8]>, asks: &str) -> io:
     let mut err = Vec::new(alloc);
     let status = run(alloc, words, image, &mut out, &mut err);
     let text = format!(in alloc; "status {status}\n")?;
-    let mut lines = Chosen { asks, text };
-    lines.add("out", &out)?;
-    lines.add("err", &err)?;
-    lines.add("file", &taken_file(alloc, words)?)?;
-    lines.add("command", &taken_command(alloc, words)?)?;
+    let mut lines = Chosen {
+        asks,
+        text,
+        refused: None,
+    };
+    lines.add("out", Ok(out));
+    lines.add("err", Ok(err));
+    lines.add("file", taken_file(alloc, words));
+    lines.add("command", taken_command(alloc, words));
     // Each of these takes several runs, or heaps.
     if asks.contains("writes") {
-        lines.add("writes", &refused_writes(alloc, words, image)?)?;
+        lines.add("writes", refused_writes(alloc, words, image));
     }
     if asks.contains("full") {
         over_heaps(alloc, image, &mut lines)?;
     }
-    lines.add("memory", &without_memory(alloc)?)?;
-    Ok(lines.text)
+    lines.add("memory", without_memory(alloc));
+    lines.finish()
 }
 
 /// The file that words name.

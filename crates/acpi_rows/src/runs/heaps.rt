@@ -25,10 +25,11 @@ pub(super) fn over_heaps(
     };
     let full = LocalHeap::new(alloc, 16)?;
     let taken = ManagedSlice::new_in(16, 0u8, &full).ok();
-    lines.add("full", &printed_over(alloc, &full, &tables)?)?;
+    lines.add("full", printed_over(alloc, &full, &tables));
     drop(taken);
     let ample = LocalHeap::new(alloc, 65536)?;
-    lines.add("ample", &printed_over(alloc, &ample, &tables)?)
+    lines.add("ample", printed_over(alloc, &ample, &tables));
+    Ok(())
 }
 
 /// The lines of the platform and of the PCI regions over a heap.
