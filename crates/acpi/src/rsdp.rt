@@ -13,7 +13,7 @@ mod search;
 
 use self::raw_bytes::RawBytes;
 use crate::root::{RootKind, RootPointer};
-use acpi_base::bytes::{byte_sum, field, text_of};
+use acpi_base::bytes::{byte_sum, field, is_text, text_of};
 use acpi_base::{AcpiError, AcpiResult, Lender, PhysicalMapping, PhysicalRecord};
 pub use given::bios_areas;
 
@@ -194,7 +194,7 @@ impl Rsdp {
     }
 
     /// The checks of the first 20 bytes, which every revision has.
-    #[tactic(auto, unfolding(crate::specs::Rsdp::check_first), using(crate::proofs::Texts::text_test, crate::proofs::Texts::no_text_test))]
+    #[tactic(auto, unfolding(crate::specs::Rsdp::check_first))]
     fn validate_first(&self, bytes: &[u8]) -> AcpiResult<()>
         requires least { 36 ≤ length bytes.now }
         requires read { self.now ≡ rsdp_of bytes.now }
@@ -203,7 +203,7 @@ impl Rsdp {
         if self.signature != *b"RSD PTR " {
             return Err(AcpiError::RsdpIncorrectSignature);
         }
-        if self.oem_id().is_none() {
+        if !is_text(&self.oem_id) {
             return Err(AcpiError::RsdpInvalidOemId);
         }
         check_sum(&bytes[..20])
