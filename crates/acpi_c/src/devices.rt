@@ -14,7 +14,7 @@ use crate::regions::Mapped;
 use acpi::HpetInfo;
 use acpi::address::{AccessSize, AddressSpace, GenericAddress};
 use acpi::bgrt::{Bgrt, ImageType};
-use acpi::fadt::Fadt;
+use acpi::fadt::FadtBrief;
 use acpi::hpet::PageProtection;
 use acpi::platform::PmTimer;
 
@@ -69,13 +69,14 @@ pub extern "C" fn acpi_pm_timer(source: &Source<'_>, out: &mut Timer, named: &mu
     answer(timer(source), out, named)
 }
 
+#[tactic(auto, using(acpi::proofs::Brief::timer_in_brief))]
 fn timer(source: &Source<'_>) -> Result<Timer, Refusal>
     ensures { result ≡ timer_below source.now }
 {
     let memory = Mapped::new(source.regions)?;
     let tables = open(&memory, source)?;
-    let fadt = tables.find_table::<Fadt>()?;
-    let timer = PmTimer::new(&fadt)?;
+    let fadt = tables.find_table::<FadtBrief>()?;
+    let timer = PmTimer::of(&fadt)?;
     Ok(timer_record(timer))
 }
 

@@ -31,7 +31,7 @@ impl PmTimer {
     /// The Power Management Timer that a FADT describes, by the part of it that a platform needs.
     ///
     /// Refuses with `InvalidGenericAddress` if the timer's block is refused.
-    pub(super) fn of(fadt: &FadtBrief) -> AcpiResult<Option<PmTimer>>
+    pub fn of(fadt: &FadtBrief) -> AcpiResult<Option<PmTimer>>
         ensures { result ≡ timer_from (brief_timer_block fadt.now) (brief_flags fadt.now) }
     {
         PmTimer::from_block(fadt.pm_timer_block(), fadt.flags())

@@ -55,6 +55,7 @@ impl Iterator for MadtItems<'_> {
 
     ghost remaining = { item_count (λ s. items_left s) };
 
+    #[inline(always)]
     fn next(&mut self) -> Option<MadtItem> {
         while let Some((entry, others)) = split_front(&MADT_GRAMMAR, self.rest) {
             self.rest = others;
