@@ -142,9 +142,18 @@ static void first_function(const struct acpi_source *source) {
     named_number("call " #name " stack ", depth_); \
     named_number(" cycles ", first_), named_number(" ", best_), line(); \
 } while (0)
-/* The search costs more than all else, so what comes after it starts at the root table that it found. */
-static void figures(const struct acpi_source *source) {
+/* The source from the root table on that is found from this one. The search costs more than all else, and each call
+ * would make it anew. */
+static struct acpi_source from_root(const struct acpi_source *source) {
     struct acpi_source known = *source;
+    struct acpi_signature named = {{0}};
+    struct acpi_root root = {0};
+    if (acpi_open(source, &root, &named)) return known;
+    known.address = root.address, known.start = root.pointer_width == 8 ? ACPI_START_XSDT : ACPI_START_RSDT;
+    return known;
+}
+static void figures(const struct acpi_source *source) {
+    struct acpi_source known = from_root(source);
     struct acpi_signature named = {{0}};
     struct acpi_root root = {0};
     struct acpi_aml dsdt = {0};
@@ -153,7 +162,6 @@ static void figures(const struct acpi_source *source) {
     uint64_t address = 0;
     size_t count = 0;
     FIGURE(acpi_open, source, &root, &named);
-    known.address = root.address, known.start = root.pointer_width == 8 ? ACPI_START_XSDT : ACPI_START_RSDT;
     FIGURE(acpi_open, &known, &root, &named);
     FIGURE(acpi_list_tables, &known, tables, 256, &count, &named);
     FIGURE(acpi_dsdt, &known, &dsdt, &named);
@@ -180,9 +188,10 @@ void kernel(uint32_t magic, uint32_t information) {
     if (refused) {
         say_refused(&serial, "refused", refused, &named);
     } else {
-        places(&source);
-        pins(&source);
-        first_function(&source);
+        struct acpi_source known = from_root(&source); /* only the lines have the RSDP's revision */
+        places(&known);
+        pins(&known);
+        first_function(&known);
         figures(&source);
     }
     say(&serial, "end\n");
