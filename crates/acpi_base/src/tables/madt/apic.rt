@@ -141,10 +141,10 @@ pub struct LocalApicNmiEntry {
     pub header: EntryHeader,
     /// ACPI Processor UID: the `_UID` of the processor's object; 0xff for all processors.
     pub processor_id: u8,
-    /// MPS INTI Flags: bits 0 and 1 the polarity, bits 2 and 3 the trigger mode.
-    pub flags: u16,
     /// LINT# of the local APIC: 0 for LINT0, 1 for LINT1.
     pub nmi_line: u8,
+    /// MPS INTI Flags: bits 0 and 1 the polarity, bits 2 and 3 the trigger mode.
+    pub flags: u16,
 }
 
 impl PhysicalRecord for LocalApicNmiEntry {
