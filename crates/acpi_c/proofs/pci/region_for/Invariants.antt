@@ -1,8 +1,0 @@
-use Rattle.std.proofs.Common.{◌≡◌}
-use Rattle.std.specs.Prelude.{find}
-use Rattle.acpi_base.specs.Mcfg.{mcfg_entries_left}
-use Rattle.acpi.specs.Pci.{is_of}
-use Rattle.acpi_c.proofs.pci.region_for.Given as goal
-
-abbrev pub invariant-loop-entry : goal.invariant-loop-entry
-invariant-loop-entry l = find (is_of l.segment l.bus) (mcfg_entries_left l.entry-iterator) ≡ find (is_of l.segment l.bus) (mcfg_entries_left l.initial.entry-iterator)

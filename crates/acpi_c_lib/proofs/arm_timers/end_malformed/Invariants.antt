@@ -1,0 +1,10 @@
+use Rattle.std.proofs.Common.{◌≡◌, length}
+use Rattle.acpi_arm.specs.Timers.{missing_left, timers_left}
+use Rattle.acpi_c_lib.proofs.arm_timers.end_malformed.Given as goal
+
+-- as many are missing
+abbrev pub invariant-all : goal.invariant-all
+invariant-all l = missing_left l.timers ≡ missing_left l.initial.timers
+
+abbrev pub decreases-all : goal.decreases-all
+decreases-all l = length (timers_left l.timers)

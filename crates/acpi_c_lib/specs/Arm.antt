@@ -1,0 +1,124 @@
+-- The generic interrupt controller (GIC) of an Arm machine as C gets it.
+use Rattle.std.specs.Prelude.{ℕ, List, map, Option, Some, None, Result, Ok, Err}
+use Rattle.acpi_base.specs.Interrupts.{trigger_code}
+use Rattle.acpi_arm.specs.Gic.{found_gic}
+use Rattle.acpi_arm.specs.declared.gic.GicModel.{GicModel}
+use Rattle.acpi_arm.specs.declared.gic.part.GicCpuInterface.{GicCpuInterface}
+use Rattle.acpi_arm.specs.declared.gic.part.GicDistributor.{GicDistributor}
+use Rattle.acpi_arm.specs.declared.gic.part.GicMsiFrame.{GicMsiFrame}
+use Rattle.acpi_arm.specs.declared.gic.part.GicRedistributors.{GicRedistributors}
+use Rattle.acpi_arm.specs.declared.gic.part.GicTranslationService.{GicTranslationService}
+use Rattle.acpi_arm.specs.declared.gic.part.SpiRange.{SpiRange}
+use Rattle.acpi_c_lib.specs.Below.{below_source, named}
+use Rattle.acpi_c_lib.specs.Devices.{flag}
+use Rattle.acpi_c_lib.specs.declared.arm_records.CpuInterfaceRecord.{CpuInterfaceRecord}
+use Rattle.acpi_c_lib.specs.declared.arm_records.DistributorRecord.{DistributorRecord}
+use Rattle.acpi_c_lib.specs.declared.arm_records.MsiFrameRecord.{MsiFrameRecord}
+use Rattle.acpi_c_lib.specs.declared.arm_records.TranslationServiceRecord.{TranslationServiceRecord}
+use Rattle.acpi_c_lib.specs.declared.records.Range.{Range}
+use Rattle.acpi_c_lib.specs.declared.records.Source.{Source}
+use Rattle.acpi_c_lib.specs.declared.refusal.Refusal.{Refusal}
+use Rattle.acpi_c_lib.specs.declared.refusal.Refusal.TheVariants.{NoGic}
+
+-- a GIC, of no allocator
+abbrev pub Gic : Type 0
+Gic = GicModel (Unit {0})
+
+-- the GIC that a MADT describes, or that it describes none
+abbrev pub gic_or : Result (Option Gic) Refusal → Result Gic Refusal
+gic_or (Ok (Some gic)) = Ok gic
+gic_or (Ok None) = Err NoGic
+gic_or (Err e) = Err e
+
+-- what is shown of the GIC that the first valid MADT describes
+abbrev pub below_gic : {A : Type 0} → Source → (Gic → A) → Result A Refusal
+below_gic s show = named show (gic_or (below_source s found_gic))
+
+-- ---- the distributor (section 5.2.12.15)
+
+abbrev pub distributor_record : GicDistributor → DistributorRecord
+distributor_record d = record {
+  address = d.address;
+  id = d.id;
+  system_vector_base = d.system_vector_base;
+  version = d.version;
+}
+
+abbrev pub distributor_shown : Gic → DistributorRecord
+distributor_shown gic = distributor_record gic.distributor
+
+-- ---- processors' interfaces (section 5.2.12.14)
+
+-- a number, or 0 for none
+abbrev pub or_zero : Option ℕ → ℕ
+or_zero (Some n) = n
+or_zero None = 0
+
+unfoldable pub cpu_interface_record : GicCpuInterface → CpuInterfaceRecord
+cpu_interface_record x = record {
+  mpidr = x.mpidr;
+  parked_address = x.parked_address;
+  address = x.address;
+  virtual_address = x.virtual_address;
+  hypervisor_address = x.hypervisor_address;
+  redistributor_address = x.redistributor_address;
+  number = x.number;
+  processor_uid = x.processor_uid;
+  performance_interrupt = x.performance_interrupt;
+  maintenance_interrupt = x.maintenance_interrupt;
+  parking_protocol_version = x.parking_protocol_version;
+  spe_overflow_interrupt = x.spe_overflow_interrupt;
+  trace_buffer_interrupt = or_zero x.trace_buffer_interrupt;
+  is_enabled = flag x.is_enabled;
+  is_online_capable = flag x.is_online_capable;
+  performance_trigger = trigger_code x.performance_trigger;
+  maintenance_trigger = trigger_code x.maintenance_trigger;
+  efficiency_class = x.efficiency_class;
+}
+
+abbrev pub cpu_interfaces_shown : Gic → List CpuInterfaceRecord
+cpu_interfaces_shown gic = map cpu_interface_record gic.cpu_interfaces
+
+-- ---- redistributors (section 5.2.12.17)
+
+abbrev pub redistributors_record : GicRedistributors → Range
+redistributors_record r = record { address = r.address; length = r.length }
+
+abbrev pub redistributors_shown : Gic → List Range
+redistributors_shown gic = map redistributors_record gic.redistributors
+
+-- ---- services that translate interrupts (section 5.2.12.18)
+
+abbrev pub translation_service_record : GicTranslationService → TranslationServiceRecord
+translation_service_record t = record { address = t.address; id = t.id }
+
+abbrev pub translation_services_shown : Gic → List TranslationServiceRecord
+translation_services_shown gic = map translation_service_record gic.translation_services
+
+-- ---- frames of messages (section 5.2.12.16)
+
+-- the first SPI of a frame, how many it has, and whether the entry says so
+
+abbrev pub spi_base_of : Option SpiRange → ℕ
+spi_base_of (Some spis) = spis.base
+spi_base_of None = 0
+
+abbrev pub spi_count_of : Option SpiRange → ℕ
+spi_count_of (Some spis) = spis.count
+spi_count_of None = 0
+
+abbrev pub has_spis_of : Option SpiRange → ℕ
+has_spis_of (Some spis) = 1
+has_spis_of None = 0
+
+abbrev pub msi_frame_record : GicMsiFrame → MsiFrameRecord
+msi_frame_record f = record {
+  address = f.address;
+  id = f.id;
+  spi_base = spi_base_of f.spis;
+  spi_count = spi_count_of f.spis;
+  has_spis = has_spis_of f.spis;
+}
+
+abbrev pub msi_frames_shown : Gic → List MsiFrameRecord
+msi_frames_shown gic = map msi_frame_record gic.msi_frames

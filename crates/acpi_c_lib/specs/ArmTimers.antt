@@ -1,0 +1,117 @@
+-- The generic timers of an Arm machine (GTDT, section 5.2.24) as C gets them.
+use Rattle.std.specs.Prelude.{ℕ, ◌-◌, ◌^◌, nat_lt, Bool, List, [], ◌∷◌, ◌++◌, map, Option, Some, None, Result}
+use Rattle.std.proofs.Common.{inl, inr}
+use Rattle.std.specs.List.{filter_map}
+use Rattle.acpi_base.specs.Interrupts.{polarity_code, trigger_code}
+use Rattle.acpi.specs.Lookup.{lookup}
+use Rattle.acpi_arm.specs.Gtdt.{control_base_of, gtdt_at, gtdt_kind, read_base_of, virtual_el2_of}
+use Rattle.acpi_arm.specs.Timers.{Timer, missing_of, timers_of}
+use Rattle.acpi_arm.specs.declared.frames.GtFrame.{GtFrame}
+use Rattle.acpi_arm.specs.declared.gtdt.ArmTimer.{ArmTimer}
+use Rattle.acpi_arm.specs.declared.gtdt.Gtdt.{Gtdt}
+use Rattle.acpi_arm.specs.declared.timers.SbsaWatchdog.{SbsaWatchdog}
+use Rattle.acpi_c_lib.specs.Below.{below_source, named}
+use Rattle.acpi_c_lib.specs.Devices.{flag}
+use Rattle.acpi_c_lib.specs.declared.arm_records.ArmTimerRecord.{ArmTimerRecord}
+use Rattle.acpi_c_lib.specs.declared.arm_records.ArmTimersRecord.{ArmTimersRecord}
+use Rattle.acpi_c_lib.specs.declared.arm_records.GtFrameRecord.{GtFrameRecord}
+use Rattle.acpi_c_lib.specs.declared.arm_records.WatchdogRecord.{WatchdogRecord}
+use Rattle.acpi_c_lib.specs.declared.records.Source.{Source}
+use Rattle.acpi_c_lib.specs.declared.refusal.Refusal.{Refusal}
+
+-- what is shown of the bytes of the first valid GTDT
+abbrev pub gtdt_below : {A : Type 0} → Source → (List ℕ → A) → Result A Refusal
+gtdt_below s show =
+    below_source s (λ m ps. named (λ found. show found.1) (lookup m gtdt_kind ps))
+
+-- an address, or all ones for none
+abbrev pub or_ones : Option ℕ → ℕ
+or_ones (Some address) = address
+or_ones None = 2 ^ 64 - 1
+
+-- ---- the timers of every processor
+
+abbrev pub arm_timer_record : ArmTimer → ArmTimerRecord
+arm_timer_record t = record {
+  interrupt = t.interrupt;
+  polarity = polarity_code t.polarity;
+  trigger = trigger_code t.trigger_mode;
+  always_on = flag t.always_on;
+  present = 1;
+}
+
+abbrev pub arm_timer_or : Option ArmTimer → ArmTimerRecord
+arm_timer_or (Some t) = arm_timer_record t
+arm_timer_or None = record { interrupt = 0; polarity = 0; trigger = 0; always_on = 0; present = 0 }
+
+-- a table's fixed fields, and whether its platform timers end malformed
+abbrev pub timers_record : Gtdt → Bool → ArmTimersRecord
+timers_record t is_malformed = record {
+  control_base = or_ones (control_base_of t);
+  read_base = or_ones (read_base_of t);
+  secure_el1 = arm_timer_record t.secure_el1_timer;
+  non_secure_el1 = arm_timer_record t.non_secure_el1_timer;
+  virtual_el1 = arm_timer_record t.virtual_el1_timer;
+  el2 = arm_timer_record t.el2_timer;
+  virtual_el2 = arm_timer_or (virtual_el2_of t);
+  platform_timers_malformed = flag is_malformed;
+}
+
+abbrev pub timers_shown : List ℕ → ArmTimersRecord
+timers_shown table = timers_record (gtdt_at table) (nat_lt 0 (missing_of table))
+
+-- ---- the frames of blocks of timers (section 5.2.24.1.1)
+
+-- a frame of the block at an address
+abbrev pub frame_record : ℕ → GtFrame → GtFrameRecord
+frame_record block f = record {
+  block_address = block;
+  address = f.base;
+  el0_address = or_ones f.el0_base;
+  physical_interrupt = f.physical_timer.interrupt;
+  virtual_interrupt = f.virtual_timer.interrupt;
+  number = f.number;
+  physical_polarity = polarity_code f.physical_timer.polarity;
+  physical_trigger = trigger_code f.physical_timer.trigger_mode;
+  virtual_polarity = polarity_code f.virtual_timer.polarity;
+  virtual_trigger = trigger_code f.virtual_timer.trigger_mode;
+  is_secure = flag f.is_secure;
+  is_always_on = flag f.is_always_on;
+}
+
+-- the frames of a timer, if it is a block
+abbrev pub frames_in : Timer → List GtFrameRecord
+frames_in (inl (block, frames)) = map (frame_record block) frames
+frames_in (inr watchdog) = []
+
+-- those of all timers, in order
+abbrev pub frames_of : List Timer → List GtFrameRecord
+frames_of [] = []
+frames_of (t ∷ timers) = frames_in t ++ frames_of timers
+
+abbrev pub frames_shown : List ℕ → List GtFrameRecord
+frames_shown table = frames_of (timers_of table)
+
+-- ---- watchdogs (section 5.2.24.1.2)
+
+abbrev pub watchdog_record : SbsaWatchdog → WatchdogRecord
+watchdog_record w = record {
+  refresh_frame = w.refresh_frame;
+  control_frame = w.control_frame;
+  interrupt = w.interrupt;
+  polarity = polarity_code w.polarity;
+  trigger = trigger_code w.trigger_mode;
+  is_secure = flag w.is_secure;
+}
+
+-- a timer, if it is a watchdog
+abbrev pub watchdog_in : Timer → Option WatchdogRecord
+watchdog_in (inl block) = None
+watchdog_in (inr watchdog) = Some (watchdog_record watchdog)
+
+-- those of all timers, in order
+abbrev pub watchdogs_of : List Timer → List WatchdogRecord
+watchdogs_of timers = filter_map watchdog_in timers
+
+abbrev pub watchdogs_shown : List ℕ → List WatchdogRecord
+watchdogs_shown table = watchdogs_of (timers_of table)

@@ -1,0 +1,44 @@
+-- The tables that a caller names.
+use Rattle.std.specs.Prelude.{ℕ, ◌==◌, List, drop, Result, Ok, Err, if◌then◌else◌}
+use Rattle.acpi_base.specs.Memory.{Memory}
+use Rattle.acpi_base.specs.Steps.{◌>>=◌}
+use Rattle.acpi_base.specs.declared.error.AcpiError.{AcpiError}
+use Rattle.acpi.specs.Opened.{Opened, opened_at, opened_by_rsdp, opened_by_search}
+use Rattle.acpi.specs.Root.{pointers, width_of}
+use Rattle.acpi_c_lib.specs.Regions.{memory_in}
+use Rattle.acpi_c_lib.specs.declared.records.Source.{Source}
+use Rattle.acpi_c_lib.specs.declared.refusal.Refusal.{Refusal}
+use Rattle.acpi_c_lib.specs.declared.refusal.Refusal.TheVariants.{Acpi, UnknownStart}
+
+-- a refusal of the library's is one of the call's
+abbrev pub refused_as : {A : Type 0} → Result A AcpiError → Result A Refusal
+refused_as (Ok x) = Ok x
+refused_as (Err e) = Err (Acpi e)
+
+-- the root table that a start's number and an address lead to: by an RSDP (section 5.2.5.3), as an RSDT (5.2.7), as an
+-- XSDT (5.2.8), by the search of the BIOS areas (5.2.5.1)
+abbrev pub opened_in : Memory → Source → Result Opened Refusal
+opened_in m s =
+    if s.start == 0 then refused_as (opened_by_rsdp m s.address)
+    else if s.start == 1 then refused_as (opened_at m (0, s.address))
+    else if s.start == 2 then refused_as (opened_at m (2, s.address))
+    else if s.start == 3 then refused_as (opened_by_search m)
+    else Err UnknownStart
+
+-- what a definition over a memory and the root table in it says of the tables that a caller names
+abbrev pub opened_below : {A : Type 0} → Source → (Memory → Opened → Result A AcpiError)
+    → Result A Refusal
+opened_below s answer = do
+  m ← memory_in s.regions.now
+  o ← opened_in m s
+  refused_as (answer m o)
+
+-- what a definition over a memory and the pointers of the root table in it says of the tables that a caller names
+abbrev pub below_source : {A : Type 0} → Source → (Memory → List ℕ → Result A AcpiError)
+    → Result A Refusal
+below_source s answer = opened_below s (λ m o. answer m (pointers (width_of o.kind) (drop 36 o.root)))
+
+-- the value under C's names
+abbrev pub named : {A B E : Type 0} → (A → B) → Result A E → Result B E
+named f (Ok x) = Ok (f x)
+named f (Err e) = Err e

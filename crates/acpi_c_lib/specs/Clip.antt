@@ -1,0 +1,90 @@
+-- Ranges of memory in order, some of them left out, clipped to a window.
+use Rattle.std.specs.Prelude.{◌≡◌, ℕ, ◌+◌, ◌^◌, ◌<◌, ◌≤◌, ◌&&◌, not, nat_le, nat_lt, Bool, true, false, List, [], ◌∷◌, length, if◌then◌else◌}
+use Rattle.std.specs.List.{AllByRecursion, list_any}
+use Rattle.acpi_c_lib.specs.Answers.{put_from}
+use Rattle.acpi_c_lib.specs.Codes.{code_of}
+use Rattle.acpi_c_lib.specs.declared.records.Range.{Range}
+use Rattle.acpi_c_lib.specs.declared.refusal.Refusal.TheVariants.{RangeTooHigh}
+
+-- the address after a range's last byte is 2^64 - 1 at most
+abbrev pub fits : Range → Bool
+fits r = nat_lt (r.address + r.length) (2 ^ 64)
+
+abbrev pub all_fit : List Range → Bool
+all_fit [] = true
+all_fit (r ∷ rs) = fits r && all_fit rs
+
+-- a range holds an address
+abbrev pub holds : ℕ → Range → Bool
+holds a r = nat_le r.address a && nat_lt a (r.address + r.length)
+
+-- one of several ranges holds an address
+abbrev pub any_holds : ℕ → List Range → Bool
+any_holds a rs = list_any (holds a) rs
+
+-- a byte is in the window, in one of the ranges, and in none of those that are left out
+abbrev pub wanted : List Range → List Range → Range → ℕ → Bool
+wanted ranges without window a =
+    holds a window && (any_holds a ranges && not (any_holds a without))
+
+-- each has a byte, and ends before the next ones begin, with a gap
+abbrev pub AreInOrder : List Range → Type 0
+AreInOrder [] = Unit {0}
+AreInOrder (r ∷ rs) =
+    (0 < r.length) × AllByRecursion (λ s. r.address + r.length < s.address) rs × AreInOrder rs
+
+-- these are in order, and hold the bytes that are wanted and no others
+pub record IsClipped (ranges without : List Range) (window : Range) (xs : List Range) : Type 0 where
+  pub ordered : AreInOrder xs
+  pub same : (a : ℕ) → any_holds a xs ≡ wanted ranges without window a
+
+-- there are such ranges, written as far as there is room, and this is how many
+abbrev pub FillsClipped : List Range → List Range → ℕ → List Range → List Range → Range → Type 0
+FillsClipped old new count ranges without window =
+    (xs : List Range) × IsClipped ranges without window xs × (new ≡ put_from old 0 xs)
+    × (count ≡ length xs)
+
+-- what C gets, by whether all ranges end at 2^64 - 1 at most: 0, the ranges and how many there are; or
+-- the refusal's number, and nothing written
+abbrev pub ClipsIf : Bool → ℕ → List Range → List Range → ℕ → ℕ → List Range → List Range → Range → Type 0
+ClipsIf true status old new old_count new_count ranges without window =
+    (status ≡ 0) × FillsClipped old new new_count ranges without window
+ClipsIf false status old new old_count new_count ranges without window =
+    (status ≡ code_of RangeTooHigh) × (new ≡ old) × (new_count ≡ old_count)
+
+abbrev pub AnswersClip : ℕ → List Range → List Range → ℕ → ℕ → List Range → List Range → Range → Type 0
+AnswersClip status old new old_count new_count ranges without window =
+    ClipsIf (all_fit ranges && (all_fit without && fits window)) status old new old_count new_count
+    ranges without window
+
+-- ---- how the ranges are found
+
+-- the smaller number
+abbrev pub least : ℕ → ℕ → ℕ
+least x y = if nat_lt x y then x else y
+
+-- the next address after this one at which a range begins or has ended, or the limit if that comes before
+abbrev pub change_of : Range → ℕ → ℕ → ℕ
+change_of r a limit =
+    if nat_lt a r.address then least r.address limit
+    else if nat_lt a (r.address + r.length) then least (r.address + r.length) limit
+    else limit
+
+-- the next address after this one at which one of several ranges begins or has ended, or the limit
+abbrev pub change_in : List Range → ℕ → ℕ → ℕ
+change_in [] a limit = limit
+change_in (r ∷ rs) a limit = change_in rs a (change_of r a limit)
+
+-- no byte from an address on is wanted
+abbrev pub NoneFrom : List Range → List Range → Range → ℕ → Type 0
+NoneFrom ranges without window from = (b : ℕ) → from ≤ b → wanted ranges without window b ≡ false
+
+-- the first wanted byte from an address on
+pub record IsFirst (ranges without : List Range) (window : Range) (from a : ℕ) : Type 0 where
+  pub wanted_there : wanted ranges without window a ≡ true
+  pub none_before : (b : ℕ) → from ≤ b → b < a → wanted ranges without window b ≡ false
+
+-- the first byte from an address on that is not wanted
+pub record IsEnd (ranges without : List Range) (window : Range) (from a : ℕ) : Type 0 where
+  pub not_there : wanted ranges without window a ≡ false
+  pub all_before : (b : ℕ) → from ≤ b → b < a → wanted ranges without window b ≡ true

@@ -1,0 +1,70 @@
+-- The numbers that C gets for refusals, those of `enum acpi_refusal` in include/acpi.h, and the signatures.
+use Rattle.std.specs.Prelude.{ℕ, Option, Some, None}
+use Rattle.acpi_base.specs.declared.error.AcpiError.{AcpiError}
+use Rattle.acpi_base.specs.declared.error.AcpiError.TheVariants as acpi
+use Rattle.acpi_base.specs.declared.error.MadtError.{MadtError}
+use Rattle.acpi_base.specs.declared.error.MadtError.TheVariants as madt
+use Rattle.acpi_base.specs.declared.table.signature.Signature.{Signature}
+use Rattle.acpi_c_lib.specs.declared.refusal.Refusal.{Refusal}
+use Rattle.acpi_c_lib.specs.declared.refusal.Refusal.TheVariants as refusal
+
+-- why the entries of a MADT are refused (section 5.2.12)
+abbrev pub madt_code : MadtError → ℕ
+madt_code madt.UnexpectedEntry = 32
+madt_code madt.InterruptOverrideEntryHasInvalidBus = 33
+madt_code madt.InvalidLocalNmiLine = 34
+madt_code madt.MpsIntiInvalidPolarity = 35
+madt_code madt.MpsIntiInvalidTriggerMode = 36
+madt_code madt.WakeupApsTimeout = 37
+madt_code madt.InvalidEntryLength = 38
+
+abbrev pub acpi_code : AcpiError → ℕ
+acpi_code acpi.MapFailed = 3
+acpi_code acpi.NoValidRsdp = 4
+acpi_code acpi.RsdpIncorrectSignature = 5
+acpi_code acpi.RsdpInvalidOemId = 6
+acpi_code acpi.RsdpInvalidChecksum = 7
+acpi_code (acpi.SdtInvalidSignature s) = 8
+acpi_code (acpi.SdtInvalidOemId s) = 9
+acpi_code (acpi.SdtInvalidTableId s) = 10
+acpi_code (acpi.SdtInvalidLength s) = 11
+acpi_code (acpi.SdtInvalidChecksum s) = 12
+acpi_code (acpi.TableMissing s) = 13
+acpi_code acpi.InvalidFacsAddress = 14
+acpi_code acpi.InvalidDsdtAddress = 15
+acpi_code acpi.InvalidGenericAddress = 16
+acpi_code acpi.InvalidNamespaceString = 17
+acpi_code acpi.AllocError = 18
+acpi_code (acpi.InvalidMadt e) = madt_code e
+
+-- each is above 0, which stands for success
+abbrev pub code_of : Refusal → ℕ
+code_of refusal.RegionsNotAscending = 1
+code_of refusal.RegionTooHigh = 2
+code_of refusal.NoSuchFunction = 19
+code_of refusal.UnknownStart = 20
+code_of refusal.RangeTooHigh = 21
+code_of refusal.NoApics = 23
+code_of refusal.NoSuchInterrupt = 24
+code_of refusal.NoSuchIoApic = 25
+code_of refusal.InvalidSratEntryLength = 40
+code_of refusal.InvalidMemoryRange = 41
+code_of refusal.NoGic = 42
+code_of refusal.NoDomain = 43
+code_of refusal.NoDistance = 44
+code_of (refusal.Acpi e) = acpi_code e
+
+-- ---- the signatures that refusals carry
+
+abbrev pub carried : AcpiError → Option Signature
+carried (acpi.SdtInvalidSignature s) = Some s
+carried (acpi.SdtInvalidOemId s) = Some s
+carried (acpi.SdtInvalidTableId s) = Some s
+carried (acpi.SdtInvalidLength s) = Some s
+carried (acpi.SdtInvalidChecksum s) = Some s
+carried (acpi.TableMissing s) = Some s
+carried _ = None
+
+abbrev pub signature_of : Refusal → Option Signature
+signature_of (refusal.Acpi e) = carried e
+signature_of _ = None

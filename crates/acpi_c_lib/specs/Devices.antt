@@ -1,0 +1,75 @@
+-- Registers, the timer and the boot graphic as C gets them.
+use Rattle.std.specs.Prelude.{ℕ, ◌*◌, Bool, true, false, List, Option, Some, None, Result}
+use Rattle.acpi_base.specs.Address.{size_code, space_code}
+use Rattle.acpi_base.specs.Bits.{bits_of, has_bit}
+use Rattle.acpi_base.specs.Memory.{Memory}
+use Rattle.acpi_base.specs.Steps.{◌>>=◌}
+use Rattle.acpi_base.specs.Table.{Kind, sdt_kind}
+use Rattle.acpi_base.specs.declared.address.GenericAddress.{GenericAddress}
+use Rattle.acpi_base.specs.declared.error.AcpiError.{AcpiError}
+use Rattle.acpi_base.specs.declared.table.signature.TheConstants.Signature.{BGRT}
+use Rattle.acpi_fixed.specs.Bgrt.{bgrt_at, image_type_of, offset_of, rank_of, status_of}
+use Rattle.acpi_fixed.specs.Fadt.{fadt_at}
+use Rattle.acpi_fixed.specs.declared.bgrt.Bgrt.{Bgrt}
+use Rattle.acpi.specs.Lists.{fadt_kind}
+use Rattle.acpi.specs.Lookup.{lookup}
+use Rattle.acpi.specs.Timer.{timer_of}
+use Rattle.acpi.specs.declared.platform.timer.PmTimer.{PmTimer}
+use Rattle.acpi_c_lib.specs.Below.{below_source, named}
+use Rattle.acpi_c_lib.specs.declared.records.BootGraphic.{BootGraphic}
+use Rattle.acpi_c_lib.specs.declared.records.Generic.{Generic}
+use Rattle.acpi_c_lib.specs.declared.records.Source.{Source}
+use Rattle.acpi_c_lib.specs.declared.records.Timer.{Timer}
+use Rattle.acpi_c_lib.specs.declared.refusal.Refusal.{Refusal}
+
+abbrev pub flag : Bool → ℕ
+flag true = 1
+flag false = 0
+
+abbrev pub generic_record : GenericAddress → Generic
+generic_record a = record {
+  address = a.address;
+  space = space_code a.address_space;
+  bit_width = a.bit_width;
+  bit_offset = a.bit_offset;
+  access_size = size_code a.access_size;
+}
+
+abbrev pub no_register : Generic
+no_register = record { address = 0; space = 0; bit_width = 0; bit_offset = 0; access_size = 0 }
+
+-- ---- the power management timer (section 4.8.3.3)
+
+abbrev pub timer_record : Option PmTimer → Timer
+timer_record (Some t) =
+    record { base = generic_record t.base; present = 1; is_32_bit = flag t.supports_32bit }
+timer_record None = record { base = no_register; present = 0; is_32_bit = 0 }
+
+-- the timer of the first valid FADT
+abbrev pub timer_in : Memory → List ℕ → Result (Option PmTimer) AcpiError
+timer_in m ps = do
+  found ← lookup m fadt_kind ps
+  timer_of (fadt_at found.1)
+
+abbrev pub timer_below : Source → Result Timer Refusal
+timer_below s = below_source s (λ m ps. named timer_record (timer_in m ps))
+
+-- ---- the boot graphic (section 5.2.22)
+
+abbrev pub graphic_record : Bgrt → BootGraphic
+graphic_record g = record {
+  address = g.image_address;
+  x = (offset_of g).0;
+  y = (offset_of g).1;
+  orientation = bits_of (status_of g) 1 2 * 90;
+  displayed = flag (has_bit (status_of g) 0);
+  image_type = rank_of (image_type_of g);
+}
+
+abbrev pub bgrt_kind : Kind
+bgrt_kind = sdt_kind BGRT 56
+
+-- the image of the first valid BGRT
+abbrev pub graphic_below : Source → Result BootGraphic Refusal
+graphic_below s =
+    below_source s (λ m ps. named (λ found. graphic_record (bgrt_at found.1)) (lookup m bgrt_kind ps))

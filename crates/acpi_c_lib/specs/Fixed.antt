@@ -1,0 +1,93 @@
+-- The fixed hardware (FADT, section 5.2.9) as C gets it.
+use Rattle.std.specs.Prelude.{ℕ, Option, Some, None, Result, Ok, Err}
+use Rattle.acpi_base.specs.Address.{generic_address_of, space_code}
+use Rattle.acpi_base.specs.declared.error.AcpiError.{AcpiError}
+use Rattle.acpi_fixed.specs.Fadt.{dsdt_address_of, facs_address_of, fadt_at, pm_timer_of, profile_of, registers_of}
+use Rattle.acpi_fixed.specs.Flags.{arm_bits, feature_bits, pc_bits}
+use Rattle.acpi_fixed.specs.Gpe.{gpe_of}
+use Rattle.acpi_fixed.specs.Registers.{block_of, optional_block_of, register_of}
+use Rattle.acpi_fixed.specs.declared.fadt.Fadt.{Fadt}
+use Rattle.acpi_fixed.specs.declared.fadt.PowerProfile.{PowerProfile}
+use Rattle.acpi_fixed.specs.declared.fadt.PowerProfile.TheVariants as profiles
+use Rattle.acpi_fixed.specs.declared.fadt.registers.gpe.GpeBlock.{GpeBlock}
+use Rattle.acpi.specs.Lists.{fadt_kind}
+use Rattle.acpi.specs.Lookup.{lookup}
+use Rattle.acpi_c_lib.specs.Below.{below_source, named}
+use Rattle.acpi_c_lib.specs.Register.{optional_register, required_register}
+use Rattle.acpi_c_lib.specs.declared.fixed_records.FixedHardware.{FixedHardware}
+use Rattle.acpi_c_lib.specs.declared.fixed_records.Gpe.{Gpe}
+use Rattle.acpi_c_lib.specs.declared.records.Source.{Source}
+use Rattle.acpi_c_lib.specs.declared.refusal.Refusal.{Refusal}
+
+-- an address is refused only if it is 0
+abbrev pub address_or_zero : Result ℕ AcpiError → ℕ
+address_or_zero (Ok a) = a
+address_or_zero (Err e) = 0
+
+abbrev pub profile_code : PowerProfile → ℕ
+profile_code profiles.Unspecified = 0
+profile_code profiles.Desktop = 1
+profile_code profiles.Mobile = 2
+profile_code profiles.Workstation = 3
+profile_code profiles.EnterpriseServer = 4
+profile_code profiles.SohoServer = 5
+profile_code profiles.AppliancePc = 6
+profile_code profiles.PerformanceServer = 7
+profile_code profiles.Tablet = 8
+profile_code (profiles.Reserved code) = code
+
+-- no block of general purpose events: zeros, and 0 if there is none or 2 if its address is refused
+abbrev pub no_gpe : ℕ → Gpe
+no_gpe present = record { address = 0; space = 0; byte_length = 0; present = present }
+
+abbrev pub gpe_record : Result (Option GpeBlock) AcpiError → Gpe
+gpe_record (Ok (Some b)) =
+    record { address = b.address; space = space_code b.space; byte_length = b.byte_length; present = 1 }
+gpe_record (Ok None) = no_gpe 0
+gpe_record (Err e) = no_gpe 2
+
+abbrev pub fixed_record : Fadt → FixedHardware
+fixed_record f = record {
+  facs_address = address_or_zero (facs_address_of f);
+  dsdt_address = address_or_zero (dsdt_address_of f);
+  pm1a_event = required_register (block_of (registers_of f).pm1a_event);
+  pm1b_event = optional_register (optional_block_of (registers_of f).pm1b_event);
+  pm1a_control = required_register (block_of (registers_of f).pm1a_control);
+  pm1b_control = optional_register (optional_block_of (registers_of f).pm1b_control);
+  pm2_control = optional_register (optional_block_of (registers_of f).pm2_control);
+  pm_timer = optional_register (pm_timer_of f);
+  gpe0 = optional_register (optional_block_of (registers_of f).gpe0);
+  gpe1 = optional_register (optional_block_of (registers_of f).gpe1);
+  reset = required_register (generic_address_of (registers_of f).reset);
+  sleep_control = optional_register (register_of (registers_of f).sleep_control);
+  sleep_status = optional_register (register_of (registers_of f).sleep_status);
+  gpe0_block = gpe_record (gpe_of (registers_of f).gpe0);
+  gpe1_block = gpe_record (gpe_of (registers_of f).gpe1);
+  smi_command = f.smi_cmd_port;
+  flags = feature_bits f.flags;
+  sci_interrupt = f.sci_interrupt;
+  x86_boot_flags = pc_bits f.iapc_boot_arch;
+  arm_boot_flags = arm_bits f.arm_boot_arch;
+  c2_latency = f.worst_c2_latency;
+  c3_latency = f.worst_c3_latency;
+  flush_size = f.flush_size;
+  flush_stride = f.flush_stride;
+  power_profile = profile_code (profile_of f);
+  acpi_enable = f.acpi_enable;
+  acpi_disable = f.acpi_disable;
+  s4bios_request = f.s4bios_req;
+  pstate_control = f.pstate_control;
+  c_state_control = f.c_state_control;
+  gpe1_base = f.gpe1_base;
+  duty_offset = f.duty_offset;
+  duty_width = f.duty_width;
+  day_alarm = f.day_alarm;
+  month_alarm = f.month_alarm;
+  century = f.century;
+  reset_value = f.reset_value;
+}
+
+-- the fixed hardware of the first valid FADT
+abbrev pub fixed_below : Source → Result FixedHardware Refusal
+fixed_below s =
+    below_source s (λ m ps. named (λ found. fixed_record (fadt_at found.1)) (lookup m fadt_kind ps))

@@ -1,0 +1,8 @@
+-- What a checked memory shows.
+use Rattle.acpi_base.specs.Memory.{Memory}
+use Rattle.acpi_c_lib.specs.Regions.{memory_of}
+use Rattle.acpi_c_lib.specs.declared.regions.Mapped.{Mapped}
+
+-- the memory that it lends
+abbrev pub mapped_memory : Mapped → Memory
+mapped_memory m = memory_of m.regions.now

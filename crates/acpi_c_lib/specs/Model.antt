@@ -1,0 +1,166 @@
+-- The interrupt model (MADT, section 5.2.12) as C gets it.
+use Rattle.std.specs.Prelude.{ℕ, Bool, true, false, List, [], ◌∷◌, length, map, Option, Some, None, Result}
+use Rattle.acpi_base.specs.Interrupts.{line_code, polarity_code, trigger_code}
+use Rattle.acpi_base.specs.Madt.{madt_at}
+use Rattle.acpi_base.specs.Memory.{Memory}
+use Rattle.acpi_base.specs.Model as base
+use Rattle.acpi_base.specs.declared.error.AcpiError.{AcpiError}
+use Rattle.acpi_base.specs.declared.model.interrupt.InterruptModel.TheVariants as model
+use Rattle.acpi_base.specs.declared.model.interrupt.InterruptSourceOverride.{InterruptSourceOverride}
+use Rattle.acpi_base.specs.declared.model.interrupt.IoApic.{IoApic}
+use Rattle.acpi_base.specs.declared.model.interrupt.NmiLine.{NmiLine}
+use Rattle.acpi_base.specs.declared.model.interrupt.NmiProcessor.{NmiProcessor}
+use Rattle.acpi_base.specs.declared.model.interrupt.NmiProcessor.TheVariants.{All, ProcessorUid}
+use Rattle.acpi_base.specs.declared.model.interrupt.NmiSource.{NmiSource}
+use Rattle.acpi_base.specs.declared.model.item.MadtItem.{MadtItem}
+use Rattle.acpi_base.specs.declared.model.processor.Processor.{Processor}
+use Rattle.acpi_base.specs.declared.model.processor.ProcessorInfo.{ProcessorInfo}
+use Rattle.acpi_base.specs.declared.model.processor.ProcessorState.{ProcessorState}
+use Rattle.acpi_base.specs.declared.model.processor.ProcessorState.TheVariants.{Disabled, Running, WaitingForSipi}
+use Rattle.acpi.specs.Platform.{platform_of}
+use Rattle.acpi.specs.declared.platform.PlatformInfo.{PlatformInfo}
+use Rattle.acpi_c_lib.specs.Below.{below_source, named}
+use Rattle.acpi_c_lib.specs.Devices.{flag}
+use Rattle.acpi_c_lib.specs.declared.interrupt_records.IoApicRecord.{IoApicRecord}
+use Rattle.acpi_c_lib.specs.declared.interrupt_records.Model as record_of
+use Rattle.acpi_c_lib.specs.declared.interrupt_records.NmiLineRecord.{NmiLineRecord}
+use Rattle.acpi_c_lib.specs.declared.interrupt_records.NmiSourceRecord.{NmiSourceRecord}
+use Rattle.acpi_c_lib.specs.declared.interrupt_records.OverrideRecord.{OverrideRecord}
+use Rattle.acpi_c_lib.specs.declared.interrupt_records.ProcessorRecord.{ProcessorRecord}
+use Rattle.acpi_c_lib.specs.declared.records.Source.{Source}
+use Rattle.acpi_c_lib.specs.declared.refusal.Refusal.{Refusal}
+
+-- a model and its processors, of no allocator
+abbrev pub Platform : Type 0
+Platform = base.Model (Unit {0})
+
+-- what the MADT that describes APICs says, or nothing if there is none
+abbrev pub model_by : Option (List ℕ) → Platform
+model_by (Some table) = base.gathered (madt_at table) (base.items_of table)
+model_by None = (model.Unknown, None)
+
+abbrev pub models_of : PlatformInfo (Unit {0}) → Platform
+models_of info = (info.interrupt_model, info.processor_info)
+
+-- the model and the processors of the platform
+abbrev pub platform_model : Memory → List ℕ → Result Platform AcpiError
+platform_model m ps = named models_of (platform_of m ps)
+
+-- what a definition over the platform says of the tables that a caller names
+abbrev pub below_platform : {A : Type 0} → Source → (Platform → A) → Result A Refusal
+below_platform s show = below_source s (λ m ps. named show (platform_model m ps))
+
+-- ---- I/O APICs (section 5.2.12.3)
+
+abbrev pub io_apic_record : IoApic → IoApicRecord
+io_apic_record x = record {
+  address = x.address;
+  global_system_interrupt_base = x.global_system_interrupt_base;
+  id = x.id;
+}
+
+abbrev pub io_apics_of : Platform → List IoApicRecord
+io_apics_of (model.Apic apic, processors) = map io_apic_record apic.io_apics
+io_apics_of (model.Unknown, processors) = []
+
+-- ---- overrides (section 5.2.12.5)
+
+abbrev pub override_record : InterruptSourceOverride → OverrideRecord
+override_record x = record {
+  global_system_interrupt = x.global_system_interrupt;
+  isa_source = x.isa_source;
+  polarity = polarity_code x.polarity;
+  trigger = trigger_code x.trigger_mode;
+}
+
+abbrev pub overrides_of : Platform → List OverrideRecord
+overrides_of (model.Apic apic, processors) = map override_record apic.interrupt_source_overrides
+overrides_of (model.Unknown, processors) = []
+
+-- ---- non-maskable interrupts (sections 5.2.12.6, 5.2.12.7 and 5.2.12.13)
+
+abbrev pub nmi_source_record : NmiSource → NmiSourceRecord
+nmi_source_record x = record {
+  global_system_interrupt = x.global_system_interrupt;
+  polarity = polarity_code x.polarity;
+  trigger = trigger_code x.trigger_mode;
+}
+
+abbrev pub nmi_sources_of : Platform → List NmiSourceRecord
+nmi_sources_of (model.Apic apic, processors) = map nmi_source_record apic.nmi_sources
+nmi_sources_of (model.Unknown, processors) = []
+
+-- the id of one processor
+abbrev pub uid_of : NmiProcessor → ℕ
+uid_of All = 0
+uid_of (ProcessorUid uid) = uid
+
+abbrev pub of_all : NmiProcessor → ℕ
+of_all All = 1
+of_all (ProcessorUid uid) = 0
+
+abbrev pub nmi_line_record : NmiLine → NmiLineRecord
+nmi_line_record x = record {
+  processor_uid = uid_of x.processor;
+  of_all = of_all x.processor;
+  lint = line_code x.line;
+}
+
+abbrev pub nmi_lines_of : Platform → List NmiLineRecord
+nmi_lines_of (model.Apic apic, processors) = map nmi_line_record apic.local_apic_nmi_lines
+nmi_lines_of (model.Unknown, processors) = []
+
+-- ---- processors (sections 5.2.12.2 and 5.2.12.12)
+
+abbrev pub state_code : ProcessorState → ℕ
+state_code Disabled = 0
+state_code WaitingForSipi = 1
+state_code Running = 2
+
+abbrev pub not_flag : Bool → ℕ
+not_flag true = 0
+not_flag false = 1
+
+abbrev pub processor_record : Processor → ProcessorRecord
+processor_record x = record {
+  uid = x.processor_uid;
+  local_apic_id = x.local_apic_id;
+  state = state_code x.state;
+  is_boot = not_flag x.is_ap;
+}
+
+-- the boot processor, and then the others
+abbrev pub listed : Option (ProcessorInfo (Unit {0})) → List Processor
+listed (Some info) = info.boot_processor ∷ info.application_processors
+listed None = []
+
+-- those that entries say
+abbrev pub processors_in : List MadtItem → List ProcessorRecord
+processors_in items = map processor_record (listed (base.processors_of items))
+
+abbrev pub processors_of : Platform → List ProcessorRecord
+processors_of platform = map processor_record (listed platform.1)
+
+-- ---- counts
+
+abbrev pub counts_of : Platform → record_of.Model
+counts_of (model.Apic apic, processors) = record {
+  local_apic_address = apic.local_apic_address;
+  io_apics = length apic.io_apics;
+  overrides = length apic.interrupt_source_overrides;
+  nmi_sources = length apic.nmi_sources;
+  nmi_lines = length apic.local_apic_nmi_lines;
+  processors = length (listed processors);
+  known = 1;
+  also_has_8259 = flag apic.also_has_legacy_pics;
+}
+counts_of (model.Unknown, processors) = record {
+  local_apic_address = 0;
+  io_apics = 0;
+  overrides = 0;
+  nmi_sources = 0;
+  nmi_lines = 0;
+  processors = length (listed processors);
+  known = 0;
+  also_has_8259 = 0;
+}

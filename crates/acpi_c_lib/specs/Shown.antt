@@ -1,0 +1,126 @@
+-- What the calls answer of the tables that a caller names.
+use Rattle.std.specs.Prelude.{ℕ, List, filter_map, length, map, Option, Some, None, Result, Ok, Err}
+use Rattle.std.specs.Result.{result_ok}
+use Rattle.acpi_base.specs.Header.{header_at}
+use Rattle.acpi_base.specs.Memory.{Memory}
+use Rattle.acpi_base.specs.Table.{own_table_at, plain_kind}
+use Rattle.acpi_base.specs.Text.{letters_of}
+use Rattle.acpi_base.specs.declared.error.AcpiError.{AcpiError}
+use Rattle.acpi_base.specs.declared.table.signature.Signature.{Signature}
+use Rattle.acpi_base.specs.declared.tables.mcfg.McfgEntry.{McfgEntry}
+use Rattle.acpi.specs.Ecam.{ecam_address}
+use Rattle.acpi.specs.Hpet.{hpet_of}
+use Rattle.acpi.specs.Lists.{dsdt_stream}
+use Rattle.acpi.specs.Lookup.{lookup}
+use Rattle.acpi.specs.Opened.{Opened}
+use Rattle.acpi.specs.Pci.{found_regions, pci_address}
+use Rattle.acpi.specs.Root.{width_of}
+use Rattle.acpi.specs.declared.hpet.HpetInfo.{HpetInfo}
+use Rattle.acpi.specs.declared.hpet.PageProtection.{PageProtection}
+use Rattle.acpi.specs.declared.hpet.PageProtection.TheVariants as protection
+use Rattle.acpi.specs.declared.records.AmlTable.{AmlTable}
+use Rattle.acpi_c_lib.specs.Below.{below_source, named, opened_below}
+use Rattle.acpi_c_lib.specs.declared.records.Aml.{Aml}
+use Rattle.acpi_c_lib.specs.declared.records.Hpet.{Hpet}
+use Rattle.acpi_c_lib.specs.declared.records.Name.{Name}
+use Rattle.acpi_c_lib.specs.declared.records.PciRegion.{PciRegion}
+use Rattle.acpi_c_lib.specs.declared.records.Root.{Root}
+use Rattle.acpi_c_lib.specs.declared.records.Source.{Source}
+use Rattle.acpi_c_lib.specs.declared.records.Table.{Table}
+use Rattle.acpi_c_lib.specs.declared.refusal.Refusal.{Refusal}
+use Rattle.acpi_c_lib.specs.declared.refusal.Refusal.TheVariants.{NoSuchFunction}
+
+-- ---- the root table
+
+abbrev pub root_record : Opened → Root
+root_record o = record {
+  address = o.address;
+  length = length o.root;
+  revision = o.revision;
+  pointer_width = width_of o.kind;
+}
+
+abbrev pub root_below : Source → Result Root Refusal
+root_below s = opened_below s (λ m o. Ok (root_record o))
+
+-- ---- tables
+
+-- a table, by its address and its bytes
+abbrev pub table_record : ℕ × List ℕ → Table
+table_record found = record {
+  address = found.0;
+  length = (header_at found.1).length;
+  signature = letters_of (header_at found.1).signature;
+  revision = (header_at found.1).revision;
+}
+
+-- the tables of all members that are valid under their own signatures, in order
+abbrev pub tables_in : Memory → List ℕ → List Table
+tables_in m ps = filter_map (λ p. result_ok (named (λ b. table_record (p, b)) (own_table_at m p))) ps
+
+abbrev pub tables_below : Source → Result (List Table) Refusal
+tables_below s = below_source s (λ m ps. Ok (tables_in m ps))
+
+-- the signature of four letters
+abbrev pub signature_named : Name → Signature
+signature_named name = record { 0 = name.letters }
+
+-- the first valid table of a name
+abbrev pub first_named : Name → Memory → List ℕ → Result Table AcpiError
+first_named name m ps = named table_record (lookup m (plain_kind (signature_named name)) ps)
+
+abbrev pub table_below : Source → Name → Result Table Refusal
+table_below s name = below_source s (first_named name)
+
+abbrev pub aml_record : AmlTable → Aml
+aml_record s = record { address = s.address; length = s.length }
+
+abbrev pub dsdt_below : Source → Result Aml Refusal
+dsdt_below s = below_source s (λ m ps. named aml_record (dsdt_stream m ps))
+
+-- ---- PCI configuration space (MCFG; PCI Firmware Specification, section 4.1.2)
+
+abbrev pub pci_record : McfgEntry → PciRegion
+pci_record e = record {
+  base_address = e.base_address;
+  segment_group = e.pci_segment_group;
+  first_bus = e.bus_number_start;
+  last_bus = e.bus_number_end;
+}
+
+abbrev pub pci_regions_below : Source → Result (List PciRegion) Refusal
+pci_regions_below s = below_source s (λ m ps. named (map pci_record) (found_regions m ps))
+
+-- an address, or that there is no such function
+abbrev pub function_at : Result (Option ℕ) Refusal → Result ℕ Refusal
+function_at (Ok (Some a)) = Ok a
+function_at (Ok None) = Err NoSuchFunction
+function_at (Err e) = Err e
+
+abbrev pub pci_below : Source → ℕ → ℕ → ℕ → ℕ → Result ℕ Refusal
+pci_below s segment bus device function = function_at (below_source s (λ m ps.
+    named (λ rs. pci_address rs segment bus device function) (found_regions m ps)))
+
+abbrev pub ecam_below : Source → ℕ → ℕ → ℕ → ℕ → Result ℕ Refusal
+ecam_below s segment bus device function = function_at (below_source s (λ m ps.
+    named (λ rs. ecam_address rs segment bus device function) (found_regions m ps)))
+
+-- ---- devices
+
+abbrev pub protection_code : PageProtection → ℕ
+protection_code protection.None = 0
+protection_code protection.Protected4K = 1
+protection_code protection.Protected64K = 2
+protection_code protection.Other = 3
+
+abbrev pub hpet_record : HpetInfo → Hpet
+hpet_record i = record {
+  base_address = i.base_address;
+  event_timer_block_id = i.event_timer_block_id;
+  clock_tick_unit = i.clock_tick_unit;
+  number = i.hpet_number;
+  page_protection = protection_code i.page_protection;
+}
+
+abbrev pub hpet_below : Source → Result Hpet Refusal
+hpet_below s = below_source s (λ m ps. named hpet_record (hpet_of m ps))

@@ -1,0 +1,47 @@
+-- What walks along the members of the root table answer.
+use Rattle.std.specs.Prelude.{ℕ, List, drop, length, map, slice_get, Option, Some, None, Result, Ok, Err}
+use Rattle.acpi_base.specs.Memory.{Memory}
+use Rattle.acpi_base.specs.Table.{plain_kind}
+use Rattle.acpi_base.specs.declared.error.AcpiError.{AcpiError}
+use Rattle.acpi_base.specs.declared.error.AcpiError.TheVariants.{TableMissing}
+use Rattle.acpi_base.specs.declared.range.AddressRange.{AddressRange}
+use Rattle.acpi_base.specs.declared.table.signature.Signature.{Signature}
+use Rattle.acpi.specs.Lists.{ssdt_streams}
+use Rattle.acpi.specs.Members.{tables_found}
+use Rattle.acpi.specs.Opened.{Opened}
+use Rattle.acpi.specs.Places.{places_of}
+use Rattle.acpi.specs.Root.{pointers, width_of}
+use Rattle.acpi_c_lib.specs.Below.{below_source, opened_below}
+use Rattle.acpi_c_lib.specs.Shown.{aml_record, signature_named, table_record}
+use Rattle.acpi_c_lib.specs.declared.records.Aml.{Aml}
+use Rattle.acpi_c_lib.specs.declared.records.Name.{Name}
+use Rattle.acpi_c_lib.specs.declared.records.Range.{Range}
+use Rattle.acpi_c_lib.specs.declared.records.Source.{Source}
+use Rattle.acpi_c_lib.specs.declared.records.Table.{Table}
+use Rattle.acpi_c_lib.specs.declared.refusal.Refusal.{Refusal}
+
+-- the table, or that it is missing
+abbrev pub found_or : Signature → Option (ℕ × List ℕ) → Result Table AcpiError
+found_or s (Some found) = Ok (table_record found)
+found_or s None = Err (TableMissing s)
+
+-- the valid table of a signature with so many before it
+abbrev pub nth_in : Memory → Signature → ℕ → List ℕ → Result Table AcpiError
+nth_in m s index ps = found_or s (slice_get (tables_found m (plain_kind s) ps) index)
+
+abbrev pub nth_below : Source → Name → ℕ → Result Table Refusal
+nth_below s name index = below_source s (λ m ps. nth_in m (signature_named name) index ps)
+
+abbrev pub ssdts_below : Source → Result (List Aml) Refusal
+ssdts_below s = below_source s (λ m ps. Ok (map aml_record (ssdt_streams m ps)))
+
+abbrev pub range_record : AddressRange → Range
+range_record r = record { address = r.address; length = r.length }
+
+-- where the root table lies
+abbrev pub root_range : Opened → AddressRange
+root_range o = record { address = o.address; length = length o.root }
+
+abbrev pub ranges_below : Source → Result (List Range) Refusal
+ranges_below s = opened_below s (λ m o.
+    Ok (map range_record (places_of (root_range o) m (pointers (width_of o.kind) (drop 36 o.root)))))

@@ -1,0 +1,43 @@
+//! How an answer is written for C.
+ghost use Rattle.std.specs.Prelude.{◌≡◌, slice_set};
+ghost use Rattle.acpi_c_lib.specs.Answers.{Answers, name_or};
+
+use crate::records::Name;
+use crate::refusal::Refusal;
+
+/// The number that C gets: 0, with the value written, or that of the refusal, with nothing written but the
+/// signature that it carries.
+pub(crate) fn answer<T: Copy>(said: Result<T, Refusal>, out: &mut T, named: &mut Name) -> u32
+    ensures { Answers result out.old out.new named.old named.new said }
+{
+    match said {
+        Ok(value) => {
+            *out = value;
+            0
+        }
+        Err(refusal) => {
+            name(refusal, named);
+            refusal.code()
+        }
+    }
+}
+
+/// Writes the signature that a refusal carries, if it carries one.
+fn name(refusal: Refusal, named: &mut Name)
+    ensures { named.new ≡ name_or named.old refusal }
+{
+    if let Some(signature) = refusal.signature() {
+        *named = Name {
+            letters: signature.to_bytes(),
+        };
+    }
+}
+
+/// Writes an item at an index, if there is room.
+pub(crate) fn put<T: Copy>(out: &mut [T], index: usize, item: T)
+    ensures { out.new ≡ slice_set out.old index item }
+{
+    if index < out.len() {
+        out[index] = item;
+    }
+}

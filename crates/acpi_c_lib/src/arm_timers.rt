@@ -1,0 +1,238 @@
+//! The generic timers of an Arm machine, by the GTDT.
+ghost use Rattle.std.specs.Prelude.{◌≡◌, ◌+◌, ◌^◌, ◌<◌, length, map, nat_lt};
+ghost use Rattle.acpi_arm.specs.Timers.{frames_left, missing_left};
+ghost use Rattle.acpi_c_lib.specs.Answers.{Answers, AnswersList, Fills, put_from};
+ghost use Rattle.acpi_c_lib.specs.ArmTimers as timers;
+ghost use Rattle.acpi_c_lib.specs.ArmTimers.{frames_shown, gtdt_below, timers_shown, watchdogs_shown};
+
+use crate::answer::{answer, put};
+use crate::arm_records::{ArmTimerRecord, ArmTimersRecord, GtFrameRecord, WatchdogRecord};
+use crate::interrupt_codes::{polarity_code, trigger_code};
+use crate::opening::open;
+use crate::records::{Name, Source};
+use crate::refusal::Refusal;
+use crate::regions::Mapped;
+use acpi_arm::gtdt::{
+    ArmTimer, GtBlock, GtFrame, Gtdt, GtdtCalls, PlatformTimer, PlatformTimerIter, SbsaWatchdog,
+};
+
+/// The timers of every processor, as the first valid GTDT has them (section 5.2.24).
+///
+/// Refuses as opening the tables does, and then with `ACPI_TABLE_MISSING` for "GTDT".
+#[unsafe(no_mangle)]
+pub extern "C" fn acpi_arm_timers(
+    source: &Source<'_>,
+    out: &mut ArmTimersRecord,
+    named: &mut Name,
+) -> u32
+    ensures { Answers result out.old out.new named.old named.new (gtdt_below source.now timers_shown) }
+{
+    answer(arm_timers(source), out, named)
+}
+
+fn arm_timers(source: &Source<'_>) -> Result<ArmTimersRecord, Refusal>
+    ensures { result ≡ gtdt_below source.now timers_shown }
+{
+    let memory = Mapped::new(source.regions)?;
+    let tables = open(&memory, source)?;
+    let gtdt = tables.find_table::<Gtdt>()?;
+    let is_malformed = end_malformed(gtdt.platform_timers());
+    Ok(timers_record(&gtdt, is_malformed))
+}
+
+/// Whether platform timers end malformed.
+fn end_malformed(timers: PlatformTimerIter<'_>) -> bool
+    ensures { result ≡ nat_lt 0 (missing_left timers.entry) }
+{
+    let mut timers = timers;
+    'all: while let Some(_) = timers.next() {}
+    timers.ended_malformed()
+}
+
+fn timers_record(gtdt: &Gtdt, is_malformed: bool) -> ArmTimersRecord
+    ensures { result ≡ timers.timers_record gtdt.now is_malformed }
+{
+    ArmTimersRecord {
+        control_base: or_ones(gtdt.counter_control_base()),
+        read_base: or_ones(gtdt.counter_read_base()),
+        secure_el1: timer_record(&gtdt.secure_el1_timer),
+        non_secure_el1: timer_record(&gtdt.non_secure_el1_timer),
+        virtual_el1: timer_record(&gtdt.virtual_el1_timer),
+        el2: timer_record(&gtdt.el2_timer),
+        virtual_el2: timer_or(gtdt.virtual_el2_timer()),
+        platform_timers_malformed: is_malformed as u8,
+    }
+}
+
+/// An address, or all ones for none.
+fn or_ones(address: Option<u64>) -> u64
+    ensures { result ≡ timers.or_ones address }
+{
+    match address {
+        Some(address) => address,
+        None => u64::MAX,
+    }
+}
+
+fn timer_record(timer: &ArmTimer) -> ArmTimerRecord
+    ensures { result ≡ timers.arm_timer_record timer.now }
+{
+    ArmTimerRecord {
+        interrupt: timer.interrupt,
+        polarity: polarity_code(timer.polarity),
+        trigger: trigger_code(timer.trigger_mode),
+        always_on: timer.always_on as u8,
+        present: 1,
+    }
+}
+
+/// A timer, or zeros for none.
+fn timer_or(timer: Option<ArmTimer>) -> ArmTimerRecord
+    ensures { result ≡ timers.arm_timer_or timer }
+{
+    match timer {
+        Some(timer) => timer_record(&timer),
+        None => ArmTimerRecord {
+            interrupt: 0,
+            polarity: 0,
+            trigger: 0,
+            always_on: 0,
+            present: 0,
+        },
+    }
+}
+
+/// The frames of the blocks of timers that the first valid GTDT lists, in order, block by block (section 5.2.24.1.1):
+/// as many as there is room for, and how many there are. If the structures of platform timers end malformed, these are
+/// the frames before the first fault, and `acpi_arm_timers` says so.
+///
+/// Refuses as opening the tables does, and then with `ACPI_TABLE_MISSING` for "GTDT".
+#[unsafe(no_mangle)]
+pub extern "C" fn acpi_list_gt_frames(
+    source: &Source<'_>,
+    out: &mut [GtFrameRecord],
+    count: &mut usize,
+    named: &mut Name,
+) -> u32
+    ensures { AnswersList result out.old out.new count.old count.new named.old named.new
+        (gtdt_below source.now frames_shown) }
+{
+    answer(frames(source, out), count, named)
+}
+
+fn frames(source: &Source<'_>, out: &mut [GtFrameRecord]) -> Result<usize, Refusal>
+    ensures { Fills result out.old out.new (gtdt_below source.now frames_shown) }
+{
+    let memory = Mapped::new(source.regions)?;
+    let tables = open(&memory, source)?;
+    let gtdt = tables.find_table::<Gtdt>()?;
+    Ok(fill_frames(gtdt.bytes(), out))
+}
+
+/// The frames of all blocks of a GTDT.
+#[tactic(auto, using(crate::proofs::TimerCounts::frames_few, crate::proofs::TimerCounts::put_both))]
+fn fill_frames(table: &[u8], out: &mut [GtFrameRecord]) -> usize
+    ensures count { result ≡ length (frames_shown table.now) }
+    ensures items { out.new ≡ put_from out.old 0 (frames_shown table.now) }
+{
+    let mut count = 0;
+    for timer in PlatformTimerIter::over(table) {
+        if let PlatformTimer::GtBlock(block) = timer {
+            count = fill_block(block, out, count);
+        }
+    }
+    count
+}
+
+/// The frames of a block, from an index on, and the index after them.
+fn fill_block(block: GtBlock<'_>, out: &mut [GtFrameRecord], first: usize) -> usize
+    requires { first + length (frames_left block.frames) < 2 ^ 64 }
+    ensures count { result ≡ first
+        + length (map (timers.frame_record block.entry.address) (frames_left block.entry.frames)) }
+    ensures items { out.new ≡ put_from out.old first
+        (map (timers.frame_record block.entry.address) (frames_left block.entry.frames)) }
+{
+    let address = block.address;
+    let mut count = first;
+    for frame in block.frames {
+        put(out, count, frame_record(address, &frame));
+        count += 1;
+    }
+    count
+}
+
+/// A frame of the block at an address.
+fn frame_record(block: u64, frame: &GtFrame) -> GtFrameRecord
+    ensures { result ≡ timers.frame_record block frame.now }
+{
+    GtFrameRecord {
+        block_address: block,
+        address: frame.base,
+        el0_address: or_ones(frame.el0_base),
+        physical_interrupt: frame.physical_timer.interrupt,
+        virtual_interrupt: frame.virtual_timer.interrupt,
+        number: frame.number,
+        physical_polarity: polarity_code(frame.physical_timer.polarity),
+        physical_trigger: trigger_code(frame.physical_timer.trigger_mode),
+        virtual_polarity: polarity_code(frame.virtual_timer.polarity),
+        virtual_trigger: trigger_code(frame.virtual_timer.trigger_mode),
+        is_secure: frame.is_secure as u8,
+        is_always_on: frame.is_always_on as u8,
+    }
+}
+
+/// The watchdogs of the Server Base System Architecture that the first valid GTDT lists, in order (section 5.2.24.1.2):
+/// as many as there is room for, and how many there are. If the structures of platform timers end malformed, these are
+/// the watchdogs before the first fault, and `acpi_arm_timers` says so.
+///
+/// Refuses as opening the tables does, and then with `ACPI_TABLE_MISSING` for "GTDT".
+#[unsafe(no_mangle)]
+pub extern "C" fn acpi_list_watchdogs(
+    source: &Source<'_>,
+    out: &mut [WatchdogRecord],
+    count: &mut usize,
+    named: &mut Name,
+) -> u32
+    ensures { AnswersList result out.old out.new count.old count.new named.old named.new
+        (gtdt_below source.now watchdogs_shown) }
+{
+    answer(watchdogs(source, out), count, named)
+}
+
+fn watchdogs(source: &Source<'_>, out: &mut [WatchdogRecord]) -> Result<usize, Refusal>
+    ensures { Fills result out.old out.new (gtdt_below source.now watchdogs_shown) }
+{
+    let memory = Mapped::new(source.regions)?;
+    let tables = open(&memory, source)?;
+    let gtdt = tables.find_table::<Gtdt>()?;
+    Ok(fill_watchdogs(gtdt.bytes(), out))
+}
+
+/// The watchdogs of a GTDT.
+#[tactic(auto, using(crate::proofs::TimerCounts::watchdogs_few))]
+fn fill_watchdogs(table: &[u8], out: &mut [WatchdogRecord]) -> usize
+    ensures count { result ≡ length (watchdogs_shown table.now) }
+    ensures items { out.new ≡ put_from out.old 0 (watchdogs_shown table.now) }
+{
+    let mut count = 0;
+    for timer in PlatformTimerIter::over(table) {
+        if let PlatformTimer::SbsaWatchdog(watchdog) = timer {
+            put(out, count, watchdog_record(&watchdog));
+            count += 1;
+        }
+    }
+    count
+}
+
+fn watchdog_record(watchdog: &SbsaWatchdog) -> WatchdogRecord
+    ensures { result ≡ timers.watchdog_record watchdog.now }
+{
+    WatchdogRecord {
+        refresh_frame: watchdog.refresh_frame,
+        control_frame: watchdog.control_frame,
+        interrupt: watchdog.interrupt,
+        polarity: polarity_code(watchdog.polarity),
+        trigger: trigger_code(watchdog.trigger_mode),
+        is_secure: watchdog.is_secure as u8,
+    }
+}

@@ -1,0 +1,205 @@
+//! Ranges of memory in order: as a firmware's memory map gives them, some of them left out, and
+//! clipped to a window.
+ghost use Rattle.std.specs.Prelude.{◌≡◌, ◌+◌, ◌^◌, ◌<◌, true};
+ghost use Rattle.acpi_c_lib.specs.Clip as clip;
+ghost use Rattle.acpi_c_lib.specs.Clip.{AnswersClip, FillsClipped, change_in, change_of};
+
+use crate::answer::put;
+use crate::records::Range;
+use crate::refusal::Refusal;
+
+/// The ranges that are asked for, those to leave out, and the window.
+#[derive(Clone, Copy)]
+struct Wanted<'k> {
+    ranges: &'k [Range],
+    without: &'k [Range],
+    window: Range,
+}
+
+/// The memory that ranges hold, in order: of the bytes in a window those that one of `ranges` holds and
+/// none of `without`, as many ranges as there is room for, and how many there are. What touches or
+/// overlaps is one range in the answer, and a range of no bytes is none.
+///
+/// Refuses with `ACPI_RANGE_TOO_HIGH` if the address after the last byte of one of `ranges`, of one of `without` or of
+/// the window is above 2^64 - 1.
+#[unsafe(no_mangle)]
+pub extern "C" fn acpi_clip_ranges(
+    ranges: &[Range],
+    without: &[Range],
+    window: &Range,
+    out: &mut [Range],
+    count: &mut usize,
+) -> u32
+    ensures { AnswersClip result out.old out.new count.old count.new ranges.now without.now window.now }
+{
+    if !(all_fit(ranges) && all_fit(without) && fits(window)) {
+        return Refusal::RangeTooHigh.code();
+    }
+    let wanted = Wanted {
+        ranges,
+        without,
+        window: *window,
+    };
+    *count = fill(wanted, out);
+    0
+}
+
+/// Whether the address after a range's last byte is 2^64 - 1 at most.
+fn fits(range: &Range) -> bool
+    ensures { result ≡ clip.fits range.now }
+{
+    range.length <= u64::MAX - range.address
+}
+
+/// Whether the address after the last byte of each range is 2^64 - 1 at most.
+fn all_fit(ranges: &[Range]) -> bool
+    ensures { result ≡ clip.all_fit ranges.now }
+{
+    for range in ranges {
+        if !fits(range) {
+            return false;
+        }
+    }
+    true
+}
+
+/// Whether a range holds an address.
+fn holds(range: &Range, address: u64) -> bool
+    ensures { result ≡ clip.holds address range.now }
+{
+    range.address <= address && address - range.address < range.length
+}
+
+/// Whether one of several ranges holds an address.
+fn any_holds(ranges: &[Range], address: u64) -> bool
+    ensures { result ≡ clip.any_holds address ranges.now }
+{
+    for range in ranges {
+        if holds(range, address) {
+            return true;
+        }
+    }
+    false
+}
+
+/// The next address after this one at which a range begins or has ended, or the limit if that comes before.
+fn change_of(range: &Range, address: u64, limit: u64) -> u64
+    ensures { result ≡ change_of range.now address limit }
+{
+    if address < range.address {
+        return least(range.address, limit);
+    }
+    match range.address.checked_add(range.length) {
+        Some(end) if address < end => least(end, limit),
+        _ => limit,
+    }
+}
+
+/// The smaller number.
+fn least(x: u64, y: u64) -> u64
+    ensures { result ≡ clip.least x y }
+{
+    if x < y { x } else { y }
+}
+
+/// The next address after this one at which one of several ranges begins or has ended, or the limit if that comes
+/// before.
+fn change_in(ranges: &[Range], address: u64, limit: u64) -> u64
+    ensures { result ≡ change_in ranges.now address limit }
+{
+    let mut first = limit;
+    for range in ranges {
+        first = change_of(range, address, first);
+    }
+    first
+}
+
+impl Wanted<'_> {
+    ghost use Rattle.std.specs.Prelude.{◌+◌, ◌-◌, ◌^◌, ◌<◌, ◌≤◌, ℕ, IfNone, IfSome};
+    ghost use Rattle.acpi_c_lib.specs.Clip.{NoneFrom, IsEnd, IsFirst, wanted};
+
+    /// Whether a byte is one that is asked for.
+    #[tactic(auto, using(crate::proofs::Clipping::is_inside))]
+    fn has(self, address: u64) -> bool
+        ensures value { result ≡ wanted self.entry.ranges.now self.entry.without.now self.entry.window address }
+        ensures inside { result ≡ true → address < self.entry.window.address + self.entry.window.length }
+    {
+        holds(&self.window, address)
+            && any_holds(self.ranges, address)
+            && !any_holds(self.without, address)
+    }
+
+    /// The next address after one at which that may change.
+    #[tactic(auto, using(crate::proofs::Clipping::changes_later))]
+    fn change(self, address: u64) -> u64
+        requires { address < 2 ^ 64 - 1 }
+        ensures later { address < result }
+        ensures same { (b : ℕ) → address ≤ b → b < result
+            → wanted self.entry.ranges.now self.entry.without.now self.entry.window b
+            ≡ wanted self.entry.ranges.now self.entry.without.now self.entry.window address }
+    {
+        let limit = change_of(&self.window, address, u64::MAX);
+        let limit = change_in(self.without, address, limit);
+        change_in(self.ranges, address, limit)
+    }
+
+    /// The first byte from an address on that is asked for.
+    fn first(self, from: u64) -> Option<u64>
+        requires { self.window.address + self.window.length < 2 ^ 64 }
+        ensures later { IfSome result (λ a. from ≤ a) }
+        ensures inside { IfSome result (λ a. a < self.entry.window.address + self.entry.window.length) }
+        ensures found { IfSome result (λ a. IsFirst self.entry.ranges.now self.entry.without.now
+            self.entry.window from a) }
+        ensures none { IfNone result (NoneFrom self.entry.ranges.now self.entry.without.now
+            self.entry.window from) }
+    {
+        let end = self.window.address + self.window.length;
+        let mut at = from;
+        while at < end {
+            if self.has(at) {
+                return Some(at);
+            }
+            at = self.change(at);
+        }
+        None
+    }
+
+    /// The first byte after one that is asked for that isn't.
+    fn end(self, from: u64) -> u64
+        requires ends { self.window.address + self.window.length < 2 ^ 64 }
+        requires inside { from < self.window.address + self.window.length }
+        requires asked { wanted self.ranges.now self.without.now self.window from ≡ true }
+        ensures later { from < result }
+        ensures end { IsEnd self.entry.ranges.now self.entry.without.now self.entry.window from result }
+    {
+        let mut at = self.change(from);
+        while self.has(at) {
+            at = self.change(at);
+        }
+        at
+    }
+}
+
+/// The memory that is asked for, in order.
+fn fill(wanted: Wanted<'_>, out: &mut [Range]) -> usize
+    requires { wanted.window.address + wanted.window.length < 2 ^ 64 }
+    ensures { FillsClipped out.old out.new result wanted.entry.ranges.now wanted.entry.without.now
+        wanted.entry.window }
+{
+    let mut count = 0;
+    let mut low = 0;
+    while let Some(address) = wanted.first(low) {
+        let end = wanted.end(address);
+        put(
+            out,
+            count,
+            Range {
+                address,
+                length: end - address,
+            },
+        );
+        count += 1;
+        low = end;
+    }
+    count
+}

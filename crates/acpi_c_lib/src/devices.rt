@@ -1,0 +1,198 @@
+//! Devices that tables of their own describe.
+ghost use Rattle.std.specs.Prelude.{◌≡◌};
+ghost use Rattle.acpi_base.specs.Address as base;
+ghost use Rattle.acpi_c_lib.specs.Answers.{Answers};
+ghost use Rattle.acpi_c_lib.specs.Devices.{graphic_below, timer_below};
+ghost use Rattle.acpi_c_lib.specs.Devices as devices;
+ghost use Rattle.acpi_c_lib.specs.Shown.{hpet_below, protection_code};
+
+use crate::answer::answer;
+use crate::opening::open;
+use crate::records::{BootGraphic, Generic, Hpet, Name, Source, Timer};
+use crate::refusal::Refusal;
+use crate::regions::Mapped;
+use acpi::HpetInfo;
+use acpi::address::{AccessSize, AddressSpace, GenericAddress};
+use acpi::bgrt::{Bgrt, ImageType};
+use acpi::fadt::FadtBrief;
+use acpi::hpet::PageProtection;
+use acpi::platform::PmTimer;
+
+/// The block of event timers of the first valid HPET, whose signature section 5.2.6 reserves and whose layout is the
+/// IA-PC HPET Specification's.
+///
+/// Refuses as opening the tables does, and then, in this order, with `ACPI_TABLE_MISSING` for "HPET", and with
+/// `ACPI_INVALID_GENERIC_ADDRESS` if Address Space ID of BASE_ADDRESS isn't 0, system memory.
+#[unsafe(no_mangle)]
+pub extern "C" fn acpi_hpet(source: &Source<'_>, out: &mut Hpet, named: &mut Name) -> u32
+    ensures { Answers result out.old out.new named.old named.new (hpet_below source.now) }
+{
+    answer(hpet(source), out, named)
+}
+
+fn hpet(source: &Source<'_>) -> Result<Hpet, Refusal>
+    ensures { result ≡ hpet_below source.now }
+{
+    let memory = Mapped::new(source.regions)?;
+    let tables = open(&memory, source)?;
+    let info = HpetInfo::new(&tables)?;
+    Ok(Hpet {
+        base_address: info.base_address,
+        event_timer_block_id: info.event_timer_block_id,
+        clock_tick_unit: info.clock_tick_unit,
+        number: info.hpet_number,
+        page_protection: protection_code(info.page_protection),
+    })
+}
+
+/// The code of Page Protection (IA-PC HPET Specification): all reserved ones are 3.
+fn protection_code(protection: PageProtection) -> u8
+    ensures { result ≡ protection_code protection }
+{
+    match protection {
+        PageProtection::None => 0,
+        PageProtection::Protected4K => 1,
+        PageProtection::Protected64K => 2,
+        PageProtection::Other => 3,
+    }
+}
+
+/// The power management timer of the first valid FADT (sections 4.8.3.3 and 5.2.9).
+///
+/// Refuses as opening the tables does, and then, in this order, with `ACPI_TABLE_MISSING` for "FACP", and with
+/// `ACPI_INVALID_GENERIC_ADDRESS` if X_PM_TMR_BLK has a reserved code. That there is no timer is no refusal: its
+/// `present` is 0.
+#[unsafe(no_mangle)]
+pub extern "C" fn acpi_pm_timer(source: &Source<'_>, out: &mut Timer, named: &mut Name) -> u32
+    ensures { Answers result out.old out.new named.old named.new (timer_below source.now) }
+{
+    answer(timer(source), out, named)
+}
+
+#[tactic(auto, using(acpi::proofs::Brief::timer_in_brief))]
+fn timer(source: &Source<'_>) -> Result<Timer, Refusal>
+    ensures { result ≡ timer_below source.now }
+{
+    let memory = Mapped::new(source.regions)?;
+    let tables = open(&memory, source)?;
+    let fadt = tables.find_table::<FadtBrief>()?;
+    let timer = PmTimer::of(&fadt)?;
+    Ok(timer_record(timer))
+}
+
+fn timer_record(timer: Option<PmTimer>) -> Timer
+    ensures { result ≡ devices.timer_record timer }
+{
+    match timer {
+        Some(timer) => Timer {
+            base: generic_record(&timer.base),
+            present: 1,
+            is_32_bit: timer.supports_32bit as u8,
+        },
+        None => Timer {
+            base: no_register(),
+            present: 0,
+            is_32_bit: 0,
+        },
+    }
+}
+
+/// A register under C's names.
+pub(crate) fn generic_record(address: &GenericAddress) -> Generic
+    ensures { result ≡ devices.generic_record address.now }
+{
+    Generic {
+        address: address.address,
+        space: space_code(address.address_space),
+        bit_width: address.bit_width,
+        bit_offset: address.bit_offset,
+        access_size: access_code(address.access_size),
+    }
+}
+
+/// What stands for no register: zeros.
+pub(crate) fn no_register() -> Generic
+    ensures { result ≡ devices.no_register }
+{
+    Generic {
+        address: 0,
+        space: 0,
+        bit_width: 0,
+        bit_offset: 0,
+        access_size: 0,
+    }
+}
+
+/// The code of an address space: Address Space ID (section 5.2.3.2).
+pub(crate) fn space_code(space: AddressSpace) -> u8
+    ensures { result ≡ base.space_code space }
+{
+    match space {
+        AddressSpace::SystemMemory => 0x00,
+        AddressSpace::SystemIo => 0x01,
+        AddressSpace::PciConfigSpace => 0x02,
+        AddressSpace::EmbeddedController => 0x03,
+        AddressSpace::SMBus => 0x04,
+        AddressSpace::SystemCmos => 0x05,
+        AddressSpace::PciBarTarget => 0x06,
+        AddressSpace::Ipmi => 0x07,
+        AddressSpace::GeneralIo => 0x08,
+        AddressSpace::GenericSerialBus => 0x09,
+        AddressSpace::PlatformCommunicationsChannel => 0x0a,
+        AddressSpace::FunctionalFixedHardware => 0x7f,
+        AddressSpace::OemDefined(code) => code,
+    }
+}
+
+/// The code of an access size: Access Size (section 5.2.3.2).
+fn access_code(size: AccessSize) -> u8
+    ensures { result ≡ base.size_code size }
+{
+    match size {
+        AccessSize::Undefined => 0,
+        AccessSize::ByteAccess => 1,
+        AccessSize::WordAccess => 2,
+        AccessSize::DWordAccess => 3,
+        AccessSize::QWordAccess => 4,
+    }
+}
+
+/// The image that the firmware showed: that of the first valid BGRT (section 5.2.22).
+///
+/// Refuses as opening the tables does, and then with `ACPI_TABLE_MISSING` for "BGRT".
+#[unsafe(no_mangle)]
+pub extern "C" fn acpi_boot_graphic(
+    source: &Source<'_>,
+    out: &mut BootGraphic,
+    named: &mut Name,
+) -> u32
+    ensures { Answers result out.old out.new named.old named.new (graphic_below source.now) }
+{
+    answer(graphic(source), out, named)
+}
+
+fn graphic(source: &Source<'_>) -> Result<BootGraphic, Refusal>
+    ensures { result ≡ graphic_below source.now }
+{
+    let memory = Mapped::new(source.regions)?;
+    let tables = open(&memory, source)?;
+    let bgrt = tables.find_table::<Bgrt>()?;
+    Ok(graphic_record(&bgrt))
+}
+
+fn graphic_record(bgrt: &Bgrt) -> BootGraphic
+    ensures { result ≡ devices.graphic_record bgrt.now }
+{
+    let (x, y) = bgrt.image_offset();
+    BootGraphic {
+        address: bgrt.image_address,
+        x,
+        y,
+        orientation: bgrt.orientation_offset(),
+        displayed: bgrt.was_displayed() as u8,
+        image_type: match bgrt.image_type() {
+            ImageType::Bitmap => 0,
+            ImageType::Reserved => 1,
+        },
+    }
+}

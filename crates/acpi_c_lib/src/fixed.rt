@@ -1,0 +1,172 @@
+//! The fixed hardware.
+ghost use Rattle.std.specs.Prelude.{◌≡◌, ◌≤◌, length};
+ghost use Rattle.acpi_fixed.specs.Fadt.{fadt_at};
+ghost use Rattle.acpi_fixed.specs.Flags.{arm_bits, feature_bits, pc_bits};
+ghost use Rattle.acpi_c_lib.specs.Answers.{Answers};
+ghost use Rattle.acpi_c_lib.specs.Fixed as fixed;
+ghost use Rattle.acpi_c_lib.specs.Fixed.{fixed_below, fixed_record};
+
+use crate::answer::answer;
+use crate::devices::space_code;
+use crate::fixed_records::{FixedHardware, Gpe};
+use crate::opening::open;
+use crate::records::{Name, Source};
+use crate::refusal::Refusal;
+use crate::regions::Mapped;
+use crate::register::{optional_register, required_register};
+use acpi::fadt::{Fadt, GpeBlock, PowerProfile};
+use acpi::{AcpiResult, PhysicalRecord};
+use acpi_base::bytes::{field, field_in};
+
+/// The fixed hardware of the first valid FADT (section 5.2.9): where the registers lie, and all other
+/// fields that a kernel needs. A field that reaches past the end of a short table is read as if zeros
+/// followed.
+///
+/// Refuses as opening the tables does, and then with `ACPI_TABLE_MISSING` for "FACP". A register
+/// whose address is refused is no refusal: its `present` is 2.
+#[unsafe(no_mangle)]
+pub extern "C" fn acpi_fixed_hardware(
+    source: &Source<'_>,
+    out: &mut FixedHardware,
+    named: &mut Name,
+) -> u32
+    ensures { Answers result out.old out.new named.old named.new (fixed_below source.now) }
+{
+    answer(fixed(source), out, named)
+}
+
+fn fixed(source: &Source<'_>) -> Result<FixedHardware, Refusal>
+    ensures { result ≡ fixed_below source.now }
+{
+    let memory = Mapped::new(source.regions)?;
+    let tables = open(&memory, source)?;
+    let fadt = tables.find_table::<Fadt>()?;
+    let flags = flags_in(fadt.bytes());
+    Ok(fixed_record(&fadt, flags))
+}
+
+/// The three sets of flags, as numbers.
+#[derive(Clone, Copy)]
+struct RawFlags {
+    feature: u32,
+    pc: u16,
+    arm: u16,
+}
+
+/// The flags that a FADT's bytes have: Flags at 112, IAPC_BOOT_ARCH at 109 and ARM_BOOT_ARCH at 129 (section 5.2.9).
+#[tactic(auto, unfolding(acpi_fixed::specs::Fadt::fadt_at))]
+fn flags_in(table: &[u8]) -> RawFlags
+    requires { 116 ≤ length table.now }
+    ensures feature { result.feature ≡ feature_bits (fadt_at table.now).flags }
+    ensures pc { result.pc ≡ pc_bits (fadt_at table.now).iapc_boot_arch }
+    ensures arm { result.arm ≡ arm_bits (fadt_at table.now).arm_boot_arch }
+{
+    RawFlags {
+        feature: field_in(table, 112, 4) as u32,
+        pc: field_in(table, 109, 2) as u16,
+        arm: field(table, 129, 2) as u16,
+    }
+}
+
+fn fixed_record(fadt: &Fadt, flags: RawFlags) -> FixedHardware
+    requires feature { flags.feature ≡ feature_bits fadt.now.flags }
+    requires pc { flags.pc ≡ pc_bits fadt.now.iapc_boot_arch }
+    requires arm { flags.arm ≡ arm_bits fadt.now.arm_boot_arch }
+    ensures { result ≡ fixed_record fadt.now }
+{
+    FixedHardware {
+        facs_address: address_or_zero(fadt.facs_address()),
+        dsdt_address: address_or_zero(fadt.dsdt_address()),
+        pm1a_event: required_register(fadt.pm1a_event_block()),
+        pm1b_event: optional_register(fadt.pm1b_event_block()),
+        pm1a_control: required_register(fadt.pm1a_control_block()),
+        pm1b_control: optional_register(fadt.pm1b_control_block()),
+        pm2_control: optional_register(fadt.pm2_control_block()),
+        pm_timer: optional_register(fadt.pm_timer_block()),
+        gpe0: optional_register(fadt.gpe0_block()),
+        gpe1: optional_register(fadt.gpe1_block()),
+        reset: required_register(fadt.reset_register()),
+        sleep_control: optional_register(fadt.sleep_control_register()),
+        sleep_status: optional_register(fadt.sleep_status_register()),
+        gpe0_block: gpe_record(fadt.gpe0()),
+        gpe1_block: gpe_record(fadt.gpe1()),
+        smi_command: fadt.smi_cmd_port,
+        flags: flags.feature,
+        sci_interrupt: fadt.sci_interrupt,
+        x86_boot_flags: flags.pc,
+        arm_boot_flags: flags.arm,
+        c2_latency: fadt.worst_c2_latency,
+        c3_latency: fadt.worst_c3_latency,
+        flush_size: fadt.flush_size,
+        flush_stride: fadt.flush_stride,
+        power_profile: profile_code(fadt.power_profile()),
+        acpi_enable: fadt.acpi_enable,
+        acpi_disable: fadt.acpi_disable,
+        s4bios_request: fadt.s4bios_req,
+        pstate_control: fadt.pstate_control,
+        c_state_control: fadt.c_state_control,
+        gpe1_base: fadt.gpe1_base,
+        duty_offset: fadt.duty_offset,
+        duty_width: fadt.duty_width,
+        day_alarm: fadt.day_alarm,
+        month_alarm: fadt.month_alarm,
+        century: fadt.century,
+        reset_value: fadt.reset_value,
+    }
+}
+
+/// An address, or 0 if it is refused.
+fn address_or_zero(said: AcpiResult<u64>) -> u64
+    ensures { result ≡ fixed.address_or_zero said }
+{
+    match said {
+        Ok(address) => address,
+        Err(_) => 0,
+    }
+}
+
+/// The code of a profile: Preferred_PM_Profile (section 5.2.9.1).
+fn profile_code(profile: PowerProfile) -> u8
+    ensures { result ≡ fixed.profile_code profile }
+{
+    match profile {
+        PowerProfile::Unspecified => 0,
+        PowerProfile::Desktop => 1,
+        PowerProfile::Mobile => 2,
+        PowerProfile::Workstation => 3,
+        PowerProfile::EnterpriseServer => 4,
+        PowerProfile::SohoServer => 5,
+        PowerProfile::AppliancePc => 6,
+        PowerProfile::PerformanceServer => 7,
+        PowerProfile::Tablet => 8,
+        PowerProfile::Reserved(code) => code,
+    }
+}
+
+/// A block of registers of general purpose events, or that there is none, or that its address is refused.
+fn gpe_record(said: AcpiResult<Option<GpeBlock>>) -> Gpe
+    ensures { result ≡ fixed.gpe_record said }
+{
+    match said {
+        Ok(Some(block)) => Gpe {
+            address: block.address,
+            space: space_code(block.space),
+            byte_length: block.byte_length,
+            present: 1,
+        },
+        Ok(None) => no_gpe(0),
+        Err(_) => no_gpe(2),
+    }
+}
+
+/// What stands for a block that is not there, or is refused: zeros.
+fn no_gpe(present: u8) -> Gpe
+    ensures { result ≡ fixed.no_gpe present }
+{
+    Gpe {
+        address: 0,
+        space: 0,
+        byte_length: 0,
+        present,
+    }
+}

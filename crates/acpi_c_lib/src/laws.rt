@@ -1,0 +1,14 @@
+//! Laws of the definitions, each the contract of a call that does nothing.
+ghost use Rattle.acpi_c_lib.specs.Missing.{MembersHaveHoles, OpeningHasHole};
+
+/// Each member of the root table that is refused with `MapFailed` has a range among those that
+/// `acpi_list_missing_ranges` lists, and that range lies in no one region.
+pub fn members_refused_have_ranges()
+    ensures { MembersHaveHoles }
+{}
+
+/// If opening the tables is refused with `MapFailed`, `acpi_list_missing_ranges` lists a range, and that range
+/// lies in no one region.
+pub fn a_refused_opening_has_a_range()
+    ensures { OpeningHasHole }
+{}

@@ -1,0 +1,155 @@
+//! The processors, and what there is of interrupts in all.
+ghost use Rattle.std.specs.Prelude.{◌≡◌, ◌^◌, ◌<◌, length};
+ghost use Rattle.std.specs.List.{filter_map};
+ghost use Rattle.std.specs.Option.{option_map};
+ghost use Rattle.acpi_base.specs.Items.{items_left};
+ghost use Rattle.acpi_base.specs.Model.{last_address, local_apic_address_in, processor_in, state_of};
+ghost use Rattle.acpi_c_lib.specs.Answers.{Answers, AnswersList, Fills, put_from};
+ghost use Rattle.acpi_c_lib.specs.Model.{below_platform, counts_of, processor_record, processors_in, processors_of, state_code};
+
+use crate::answer::{answer, put};
+use crate::interrupt_records::{Model, ProcessorRecord};
+use crate::interrupts::{apic_madt, items_of};
+use crate::opening::open;
+use crate::records::{Name, Source};
+use crate::refusal::Refusal;
+use crate::regions::Mapped;
+use acpi_base::model::{MadtItem, MadtItems};
+
+/// Which controllers interrupts come to, and how many of each sort there are, by the first valid MADT (section 5.2.12).
+/// If there is none, or it has no entry of a machine with APICs, `known` and all else are 0.
+///
+/// Refuses as opening the tables does, and then, in this order, with `ACPI_TABLE_MISSING` for "FACP", with 32 to 38 for
+/// the first entry of the MADT at fault, and with `ACPI_INVALID_GENERIC_ADDRESS` if `acpi_pm_timer` refuses with that.
+#[unsafe(no_mangle)]
+pub extern "C" fn acpi_interrupt_model(
+    source: &Source<'_>,
+    out: &mut Model,
+    named: &mut Name,
+) -> u32
+    ensures { Answers result out.old out.new named.old named.new (below_platform source.now counts_of) }
+{
+    answer(model(source), out, named)
+}
+
+/// The processors, in the order of the first valid MADT, the boot processor first (sections 5.2.12.2 and 5.2.12.12): as
+/// many as there is room for, and how many there are.
+///
+/// Refuses as `acpi_interrupt_model` does.
+#[unsafe(no_mangle)]
+pub extern "C" fn acpi_list_processors(
+    source: &Source<'_>,
+    out: &mut [ProcessorRecord],
+    count: &mut usize,
+    named: &mut Name,
+) -> u32
+    ensures { AnswersList result out.old out.new count.old count.new named.old named.new
+        (below_platform source.now processors_of) }
+{
+    answer(processors(source, out), count, named)
+}
+
+#[tactic(auto, using(crate::proofs::BootProcessor::as_many))]
+fn model(source: &Source<'_>) -> Result<Model, Refusal>
+    ensures { result ≡ below_platform source.now counts_of }
+{
+    let memory = Mapped::new(source.regions)?;
+    let tables = open(&memory, source)?;
+    match apic_madt(&tables)? {
+        Some(found) => {
+            let items = items_of(&found.madt);
+            let address = found.madt.local_apic_address as u64;
+            Ok(Model {
+                local_apic_address: local_apic_address(items, address),
+                io_apics: found.counts.io_apics,
+                overrides: found.counts.overrides,
+                nmi_sources: found.counts.nmi_sources,
+                nmi_lines: found.counts.nmi_lines,
+                processors: found.counts.processors,
+                known: 1,
+                also_has_8259: found.madt.supports_8259() as u8,
+            })
+        }
+        None => Ok(Model {
+            local_apic_address: 0,
+            io_apics: 0,
+            overrides: 0,
+            nmi_sources: 0,
+            nmi_lines: 0,
+            processors: 0,
+            known: 0,
+            also_has_8259: 0,
+        }),
+    }
+}
+
+/// Local APIC Address of the last Local APIC Address Override (section 5.2.12.8), or else this address.
+fn local_apic_address(items: MadtItems<'_>, address: u64) -> u64
+    ensures { result ≡ last_address address (filter_map local_apic_address_in (items_left items.entry)) }
+{
+    let mut last = address;
+    for item in items {
+        if let MadtItem::LocalApicAddress(given) = item {
+            last = given;
+        }
+    }
+    last
+}
+
+fn processors(source: &Source<'_>, out: &mut [ProcessorRecord]) -> Result<usize, Refusal>
+    ensures { Fills result out.old out.new (below_platform source.now processors_of) }
+{
+    let memory = Mapped::new(source.regions)?;
+    let tables = open(&memory, source)?;
+    match apic_madt(&tables)? {
+        Some(found) => Ok(fill_processors(items_of(&found.madt), out)),
+        None => Ok(0),
+    }
+}
+
+/// The first processor is the boot processor.
+#[tactic(auto, using(crate::proofs::BootProcessor::next_some, crate::proofs::BootProcessor::next_none))]
+fn fill_processors(items: MadtItems<'_>, out: &mut [ProcessorRecord]) -> usize
+    requires { length (items_left items) < 2 ^ 63 }
+    ensures count { result ≡ length (processors_in (items_left items.entry)) }
+    ensures items { out.new ≡ put_from out.old 0 (processors_in (items_left items.entry)) }
+{
+    let mut count = 0;
+    for item in items {
+        if let Some(record) = processor_of(item, count > 0) {
+            put(out, count, record);
+            count += 1;
+        }
+    }
+    count
+}
+
+/// The processor that an item says, as an application processor or as the boot processor.
+fn processor_of(item: MadtItem, is_ap: bool) -> Option<ProcessorRecord>
+    ensures { result ≡ option_map processor_record (processor_in is_ap item) }
+{
+    match item {
+        MadtItem::Processor {
+            processor_uid,
+            local_apic_id,
+            is_enabled,
+        } => Some(ProcessorRecord {
+            uid: processor_uid,
+            local_apic_id,
+            state: state(is_ap, is_enabled),
+            is_boot: !is_ap as u8,
+        }),
+        _ => None,
+    }
+}
+
+/// The code of what a processor does, by what it is and by whether it can be used.
+fn state(is_ap: bool, is_enabled: bool) -> u8
+    ensures { result ≡ state_code (state_of is_ap is_enabled) }
+{
+    match (is_ap, is_enabled) {
+        (_, false) => 0,
+        (true, true) => 1,
+        (false, true) => 2,
+    }
+}

@@ -1,0 +1,138 @@
+//! Why a call refuses, the number that C gets for it, and the signature that it carries.
+ghost use Rattle.std.specs.Prelude.{◌≡◌};
+ghost use Rattle.acpi_c_lib.specs.Codes as codes;
+
+use acpi::sdt::Signature;
+use acpi::{AcpiError, MadtError};
+
+/// Why a call refuses.
+#[derive(Clone, Copy)]
+pub enum Refusal {
+    /// A region begins below the end of the one before it.
+    RegionsNotAscending,
+    /// The address after a region's last byte is above 2^64 - 1.
+    RegionTooHigh,
+    /// No region of configuration space holds this PCI function.
+    NoSuchFunction,
+    /// No start of tables has this number.
+    UnknownStart,
+    /// The address after a range's last byte is above 2^64 - 1.
+    RangeTooHigh,
+    /// No valid MADT has an entry of a machine with APICs (section 5.2.12).
+    NoApics,
+    /// No interrupt of the ISA bus has this number, or an override has taken its number (section 5.2.12.5).
+    NoSuchInterrupt,
+    /// No I/O APIC has this global system interrupt (section 5.2.13).
+    NoSuchIoApic,
+    /// Bytes of the SRAT are left in which no entry begins (section 5.2.16).
+    InvalidSratEntryLength,
+    /// The address after a range of memory in the SRAT is above 2^64 - 1 (section 5.2.16.2).
+    InvalidMemoryRange,
+    /// The MADT describes no distributor of a GIC (section 5.2.12.15).
+    NoGic,
+    /// The SRAT puts the address or the processor into no domain (section 5.2.16).
+    NoDomain,
+    /// The SLIT has no distance of these two localities (section 5.2.17).
+    NoDistance,
+    /// The refusal is one of the crate `acpi`: of memory, an RSDP, a table, a register or the MADT's entries.
+    Acpi(AcpiError),
+}
+
+impl From<AcpiError> for Refusal {
+    ghost use Rattle.acpi_c_lib.specs.declared.refusal.Refusal.TheVariants.{Acpi};
+
+    ghost from_gives = { λ error e. e ≡ Acpi error };
+
+    fn from(error: AcpiError) -> Refusal {
+        Refusal::Acpi(error)
+    }
+}
+
+impl Refusal {
+    /// The number of the refusal, as `enum acpi_refusal` of `include/acpi.h` has it.
+    pub(crate) fn code(self) -> u32
+        ensures { result ≡ codes.code_of self }
+    {
+        match self {
+            Refusal::RegionsNotAscending => 1,
+            Refusal::RegionTooHigh => 2,
+            Refusal::NoSuchFunction => 19,
+            Refusal::UnknownStart => 20,
+            Refusal::RangeTooHigh => 21,
+            Refusal::NoApics => 23,
+            Refusal::NoSuchInterrupt => 24,
+            Refusal::NoSuchIoApic => 25,
+            Refusal::InvalidSratEntryLength => 40,
+            Refusal::InvalidMemoryRange => 41,
+            Refusal::NoGic => 42,
+            Refusal::NoDomain => 43,
+            Refusal::NoDistance => 44,
+            Refusal::Acpi(error) => acpi_code(error),
+        }
+    }
+
+    /// The signature that the refusal carries, if it carries one: numbers 8 to 13 do.
+    pub(crate) fn signature(self) -> Option<Signature>
+        ensures { result ≡ codes.signature_of self }
+    {
+        match self {
+            Refusal::Acpi(error) => carried(error),
+            _ => None,
+        }
+    }
+}
+
+/// The number of a refusal of the crate `acpi`.
+pub(crate) fn acpi_code(error: AcpiError) -> u32
+    ensures { result ≡ codes.acpi_code error }
+{
+    match error {
+        AcpiError::MapFailed => 3,
+        AcpiError::NoValidRsdp => 4,
+        AcpiError::RsdpIncorrectSignature => 5,
+        AcpiError::RsdpInvalidOemId => 6,
+        AcpiError::RsdpInvalidChecksum => 7,
+        AcpiError::SdtInvalidSignature(_) => 8,
+        AcpiError::SdtInvalidOemId(_) => 9,
+        AcpiError::SdtInvalidTableId(_) => 10,
+        AcpiError::SdtInvalidLength(_) => 11,
+        AcpiError::SdtInvalidChecksum(_) => 12,
+        AcpiError::TableMissing(_) => 13,
+        AcpiError::InvalidFacsAddress => 14,
+        AcpiError::InvalidDsdtAddress => 15,
+        AcpiError::InvalidGenericAddress => 16,
+        AcpiError::InvalidNamespaceString => 17,
+        AcpiError::AllocError => 18,
+        AcpiError::InvalidMadt(error) => madt_code(error),
+    }
+}
+
+/// The number of a refusal of the MADT's entries (section 5.2.12).
+fn madt_code(error: MadtError) -> u32
+    ensures { result ≡ codes.madt_code error }
+{
+    match error {
+        MadtError::UnexpectedEntry => 32,
+        MadtError::InterruptOverrideEntryHasInvalidBus => 33,
+        MadtError::InvalidLocalNmiLine => 34,
+        MadtError::MpsIntiInvalidPolarity => 35,
+        MadtError::MpsIntiInvalidTriggerMode => 36,
+        MadtError::WakeupApsTimeout => 37,
+        MadtError::InvalidEntryLength => 38,
+    }
+}
+
+/// The signature that a refusal of the crate `acpi` carries, if it carries one.
+fn carried(error: AcpiError) -> Option<Signature>
+    ensures { result ≡ codes.carried error }
+{
+    match error {
+        AcpiError::SdtInvalidSignature(signature)
+        | AcpiError::SdtInvalidOemId(signature)
+        | AcpiError::SdtInvalidTableId(signature)
+        | AcpiError::SdtInvalidLength(signature)
+        | AcpiError::SdtInvalidChecksum(signature)
+        | AcpiError::TableMissing(signature) => Some(signature),
+        _ => None,
+    }
+}

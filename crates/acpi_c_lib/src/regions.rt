@@ -1,0 +1,144 @@
+//! Physical memory, as a kernel has it mapped.
+ghost use Rattle.std.specs.Prelude.{◌≡◌, length, IfOk};
+ghost use Rattle.acpi_base.specs.Bytes.{IsBytes};
+ghost use Rattle.acpi_base.specs.Memory.{IsMemory, IsMemory-prop, rest_from};
+ghost use Rattle.acpi_base.specs.Steps.{Gives};
+ghost use Rattle.acpi_c_lib.specs.Regions.{check_regions, memory_of, region_of};
+
+use crate::refusal::Refusal;
+use acpi_base::{AcpiError, AcpiHandler, AcpiResult};
+
+/// A range of physical memory, and the bytes that it is mapped at. C sees `struct acpi_region`.
+#[repr(C)]
+#[derive(Clone, Copy)]
+pub struct Region<'k> {
+    /// The physical address of the first byte.
+    pub address: u64,
+    /// The bytes: for C a pointer, which is not null, and then how many there are.
+    pub bytes: &'k [u8],
+}
+
+impl<'k> Region<'k> {
+    ghost use Rattle.std.specs.Prelude.{◌-◌, IfSome, IfNone, drop, true, false};
+    ghost use Rattle.std.specs.Prelude.{◌^◌, ◌<◌, ◌≤◌, IfErr};
+    ghost use Rattle.acpi_base.specs.Memory.{end_of, lies_in};
+    ghost use Rattle.acpi_c_lib.specs.declared.refusal.Refusal.TheVariants.{RegionTooHigh};
+
+    /// The address after its last byte.
+    ///
+    /// Refuses with `RegionTooHigh` if that is 2^64 or above.
+    fn end(self) -> Result<u64, Refusal>
+        ensures end { IfOk result (λ e. e ≡ end_of (region_of self.entry)) }
+        ensures low { IfOk result (λ e. end_of (region_of self.entry) < 2 ^ 64) }
+        ensures bytes { IfOk result (λ e. IsBytes self.entry.bytes.now) }
+        ensures refused { IfErr result (λ e. e ≡ RegionTooHigh) }
+        ensures high { IfErr result (λ e. 2 ^ 64 ≤ end_of (region_of self.entry)) }
+    {
+        let length = length_of(self.bytes);
+        if length > u64::MAX - self.address {
+            return Err(Refusal::RegionTooHigh);
+        }
+        Ok(self.address + length)
+    }
+
+    /// The bytes from an address on, if it lies in this region.
+    #[tactic(auto, using(crate::proofs::Lying::is_inside, crate::proofs::Lying::is_above, crate::proofs::Lying::is_below))]
+    fn rest(&self, address: u64) -> Option<&'k [u8]>
+        ensures inside { IfSome result (λ s. lies_in (region_of self.now) address ≡ true) }
+        ensures bytes { IfSome result
+            (λ s. s.now ≡ drop (address - self.now.address) self.now.bytes.now) }
+        ensures outside { IfNone result (lies_in (region_of self.now) address ≡ false) }
+    {
+        if address < self.address {
+            return None;
+        }
+        let skipped = (address - self.address) as usize;
+        if skipped < self.bytes.len() {
+            Some(&self.bytes[skipped..])
+        } else {
+            None
+        }
+    }
+}
+
+/// How many bytes there are.
+fn length_of(bytes: &[u8]) -> u64
+    ensures length { result ≡ length bytes.now }
+    ensures bytes { IsBytes bytes.now }
+{
+    bytes.len() as u64
+}
+
+/// The bytes from an address to the end of the region that it lies in, or none.
+#[tactic(auto, unfolding(acpi_base::specs::Memory::rest_from))]
+fn rest_at<'k>(regions: &[Region<'k>], address: u64) -> &'k [u8]
+    ensures { result.now ≡ rest_from (memory_of regions.now) address }
+{
+    for region in regions {
+        if let Some(rest) = region.rest(address) {
+            return rest;
+        }
+    }
+    &[]
+}
+
+/// Checks that regions stand in ascending order, and share no address.
+///
+/// Refuses the regions one after the other, with `RegionsNotAscending` if one begins below the end of the one before
+/// it, and with `RegionTooHigh` if the address after its last byte is 2^64 or above.
+fn check(regions: &[Region<'_>]) -> Result<(), Refusal>
+    ensures exact { result ≡ check_regions (memory_of regions.now) }
+    ensures memory { IfOk result (λ _. IsMemory (memory_of regions.now)) }
+{
+    let mut low = 0;
+    for region in regions {
+        if region.address < low {
+            return Err(Refusal::RegionsNotAscending);
+        }
+        low = region.end()?;
+    }
+    Ok(())
+}
+
+/// Regions that are a memory.
+#[derive(Drop)]
+pub(crate) struct Mapped<'k> {
+    regions: &'k [Region<'k>],
+    ghost disjoint: { IsMemory (memory_of regions.now) } by { IsMemory-prop _ },
+}
+
+impl<'k> Mapped<'k> {
+    ghost use Rattle.acpi_c_lib.specs.Regions.{memory_in};
+    ghost use Rattle.acpi_c_lib.specs.Held.{mapped_memory};
+
+    /// The memory of these regions.
+    ///
+    /// Refuses as `check` does.
+    pub(crate) fn new(regions: &'k [Region<'k>]) -> Result<Mapped<'k>, Refusal>
+        ensures { Gives (λ m. mapped_memory m) result (memory_in regions.now) }
+    {
+        check(regions)?;
+        Ok(Mapped { regions })
+    }
+}
+
+/// Lends what lies in one of the regions, from the address to the end of the region.
+impl AcpiHandler for Mapped<'_> {
+    ghost use Rattle.acpi_c_lib.specs.Held.{mapped_memory};
+
+    ghost memory = { λ m. mapped_memory m };
+
+    #[tactic(auto, using(crate::proofs::Lying::at_rest, crate::proofs::Lying::at_none))]
+    fn map_physical_region(&self, address: u64, size: usize) -> AcpiResult<&[u8]> {
+        let rest = rest_at(self.regions, address);
+        if size <= rest.len() {
+            Ok(rest)
+        } else {
+            Err(AcpiError::MapFailed)
+        }
+    }
+
+    fn unmap_physical_region(&self, _address: u64, _region_length: usize, _mapped_length: usize) {}
+
+    ghost regions = { λ m. m.disjoint };
+}

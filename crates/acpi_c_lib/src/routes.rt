@@ -1,0 +1,231 @@
+//! How interrupts come to the I/O APICs, by walks along the entries of the MADT.
+ghost use Rattle.std.specs.Prelude.{◌≡◌, ◌≤◌, IfSome};
+ghost use Rattle.std.specs.List.{filter_map};
+ghost use Rattle.acpi_base.specs.Isa.{is_taken, isa_interrupt, leads_to, override_for, sci_interrupt};
+ghost use Rattle.acpi_base.specs.Mapping.{bytes_of};
+ghost use Rattle.acpi_base.specs.Model.{io_apic_in, items_of, override_in};
+ghost use Rattle.acpi_base.specs.Pin.{base_of, nearest};
+ghost use Rattle.acpi_c_lib.specs.Answers.{Answers};
+ghost use Rattle.acpi_c_lib.specs.Routes as routes;
+ghost use Rattle.acpi_c_lib.specs.Routes.{is_nearer, isa_below, pin_below, sci_below};
+
+use crate::answer::answer;
+use crate::interrupt_codes::{io_apic_record, polarity_code, trigger_code};
+use crate::interrupt_records::{InterruptRecord, PinRecord};
+use crate::interrupts::apic_madt;
+use crate::opening::open;
+use crate::records::{Name, Source};
+use crate::refusal::Refusal;
+use crate::regions::Mapped;
+use acpi::fadt::Fadt;
+use acpi::madt::Madt;
+use acpi::platform::interrupt::{
+    InterruptSourceOverride, IoApic, IsaInterrupt, Polarity, TriggerMode,
+};
+use acpi::{Lender, PhysicalMapping};
+use acpi_base::model::{MadtItem, straight, wired};
+
+/// The global system interrupt of one of the 16 ISA interrupts: as its last override says, or that of the same number,
+/// active high and by edge (section 5.2.12.5).
+///
+/// Refuses as `acpi_interrupt_model` does, and then, in this order, with `ACPI_NO_APICS` if no valid MADT has an
+/// entry of a machine with APICs, and with `ACPI_NO_SUCH_INTERRUPT` for a number above 15 and for one without an
+/// override that another one's override has taken.
+#[unsafe(no_mangle)]
+pub extern "C" fn acpi_isa_interrupt(
+    source: &Source<'_>,
+    irq: u8,
+    out: &mut InterruptRecord,
+    named: &mut Name,
+) -> u32
+    ensures { Answers result out.old out.new named.old named.new (isa_below source.now irq) }
+{
+    answer(isa(source, irq), out, named)
+}
+
+/// The global system interrupt of the System Control Interrupt (SCI_INT of the first valid FADT): active low and by
+/// level, unless it is below 16 and its last override says otherwise (sections 5.2.9 and 5.2.12.5).
+///
+/// Refuses as `acpi_interrupt_model` does, and then with `ACPI_NO_APICS` if no valid MADT has an entry of a machine
+/// with APICs.
+#[unsafe(no_mangle)]
+pub extern "C" fn acpi_sci_interrupt(
+    source: &Source<'_>,
+    out: &mut InterruptRecord,
+    named: &mut Name,
+) -> u32
+    ensures { Answers result out.old out.new named.old named.new (sci_below source.now) }
+{
+    answer(sci(source), out, named)
+}
+
+/// The I/O APIC that a global system interrupt comes to, and the pin there: the first one with the greatest Global
+/// System Interrupt Base that is at most the interrupt (sections 5.2.12.3 and 5.2.13).
+///
+/// Refuses as `acpi_interrupt_model` does, and then, in this order, with `ACPI_NO_APICS` if no valid MADT has an entry
+/// of a machine with APICs, and with `ACPI_NO_SUCH_IO_APIC` if each base is above the interrupt.
+#[unsafe(no_mangle)]
+pub extern "C" fn acpi_io_apic_pin(
+    source: &Source<'_>,
+    interrupt: u32,
+    out: &mut PinRecord,
+    named: &mut Name,
+) -> u32
+    ensures { Answers result out.old out.new named.old named.new (pin_below source.now interrupt) }
+{
+    answer(pin(source, interrupt), out, named)
+}
+
+fn isa(source: &Source<'_>, irq: u8) -> Result<InterruptRecord, Refusal>
+    ensures { result ≡ isa_below source.now irq }
+{
+    let memory = Mapped::new(source.regions)?;
+    let tables = open(&memory, source)?;
+    let Some(found) = apic_madt(&tables)? else {
+        return Err(Refusal::NoApics);
+    };
+    match isa_in(&found.madt, irq) {
+        Some(interrupt) => Ok(interrupt_record(interrupt)),
+        None => Err(Refusal::NoSuchInterrupt),
+    }
+}
+
+fn sci(source: &Source<'_>) -> Result<InterruptRecord, Refusal>
+    ensures { result ≡ sci_below source.now }
+{
+    let memory = Mapped::new(source.regions)?;
+    let tables = open(&memory, source)?;
+    let found = apic_madt(&tables)?;
+    let fadt = tables.find_table::<Fadt>()?;
+    match found {
+        Some(found) => Ok(interrupt_record(sci_in(&found.madt, fadt.sci_interrupt))),
+        None => Err(Refusal::NoApics),
+    }
+}
+
+fn pin(source: &Source<'_>, interrupt: u32) -> Result<PinRecord, Refusal>
+    ensures { result ≡ pin_below source.now interrupt }
+{
+    let memory = Mapped::new(source.regions)?;
+    let tables = open(&memory, source)?;
+    let Some(found) = apic_madt(&tables)? else {
+        return Err(Refusal::NoApics);
+    };
+    match nearest(&found.madt, interrupt) {
+        Some(io_apic) => Ok(PinRecord {
+            io_apic: io_apic_record(&io_apic),
+            pin: interrupt - io_apic.global_system_interrupt_base,
+        }),
+        None => Err(Refusal::NoSuchIoApic),
+    }
+}
+
+fn interrupt_record(interrupt: IsaInterrupt) -> InterruptRecord
+    ensures { result ≡ routes.interrupt_record interrupt }
+{
+    InterruptRecord {
+        global_system_interrupt: interrupt.global_system_interrupt,
+        polarity: polarity_code(interrupt.polarity),
+        trigger: trigger_code(interrupt.trigger_mode),
+    }
+}
+
+/// What `Apic::isa_interrupt` answers, out of the entries.
+fn isa_in<H: Lender>(madt: &PhysicalMapping<'_, H, Madt>, irq: u8) -> Option<IsaInterrupt>
+    ensures { result ≡ isa_interrupt (filter_map override_in (items_of (bytes_of madt.now))) irq }
+{
+    if irq > 15 {
+        return None;
+    }
+    let (polarity, trigger_mode) = (Polarity::ActiveHigh, TriggerMode::Edge);
+    if let Some(wiring) = override_for(madt, irq) {
+        return Some(wired(&wiring, polarity, trigger_mode));
+    }
+    if is_taken(madt, irq) {
+        return None;
+    }
+    Some(straight(irq as u32, polarity, trigger_mode))
+}
+
+/// What `Apic::sci_interrupt` answers, out of the entries.
+fn sci_in<H: Lender>(madt: &PhysicalMapping<'_, H, Madt>, sci: u16) -> IsaInterrupt
+    ensures { result ≡ sci_interrupt (filter_map override_in (items_of (bytes_of madt.now))) sci }
+{
+    let (polarity, trigger_mode) = (Polarity::ActiveLow, TriggerMode::Level);
+    if sci < 16
+        && let Some(wiring) = override_for(madt, sci as u8)
+    {
+        return wired(&wiring, polarity, trigger_mode);
+    }
+    straight(sci as u32, polarity, trigger_mode)
+}
+
+/// The override of a source that counts: the last one.
+fn override_for<H: Lender>(
+    madt: &PhysicalMapping<'_, H, Madt>,
+    source: u8,
+) -> Option<InterruptSourceOverride>
+    ensures { result ≡ override_for (filter_map override_in (items_of (bytes_of madt.now))) source }
+{
+    let mut last = None;
+    for item in madt.items() {
+        if let MadtItem::Override(wiring) = item
+            && wiring.isa_source == source
+        {
+            last = Some(wiring);
+        }
+    }
+    last
+}
+
+/// Whether a source has an override, and it leads to the interrupt of a number.
+fn leads_to<H: Lender>(madt: &PhysicalMapping<'_, H, Madt>, number: u8, source: u8) -> bool
+    ensures { result ≡ leads_to (filter_map override_in (items_of (bytes_of madt.now))) number source }
+{
+    match override_for(madt, source) {
+        Some(wiring) => wiring.global_system_interrupt == number as u32,
+        None => false,
+    }
+}
+
+/// Whether the override of some source leads to the interrupt of a number.
+fn is_taken<H: Lender>(madt: &PhysicalMapping<'_, H, Madt>, number: u8) -> bool
+    ensures { result ≡ is_taken (filter_map override_in (items_of (bytes_of madt.now))) number }
+{
+    for item in madt.items() {
+        if let MadtItem::Override(wiring) = item
+            && leads_to(madt, number, wiring.isa_source)
+        {
+            return true;
+        }
+    }
+    false
+}
+
+/// The first I/O APIC of the greatest base that is at most the interrupt.
+#[tactic(auto, using(acpi_base::proofs::Pin::one_nearer))]
+fn nearest<H: Lender>(madt: &PhysicalMapping<'_, H, Madt>, interrupt: u32) -> Option<IoApic>
+    ensures found { result ≡ nearest interrupt (filter_map io_apic_in (items_of (bytes_of madt.now))) }
+    ensures below { IfSome result (λ x. base_of x ≤ interrupt) }
+{
+    let mut found = None;
+    for item in madt.items() {
+        if let MadtItem::IoApic(io_apic) = item
+            && io_apic.global_system_interrupt_base <= interrupt
+            && is_nearer(found, &io_apic)
+        {
+            found = Some(io_apic);
+        }
+    }
+    found
+}
+
+/// Whether an I/O APIC is nearer than the one so far.
+fn is_nearer(found: Option<IoApic>, io_apic: &IoApic) -> bool
+    ensures { result ≡ is_nearer found io_apic.now }
+{
+    match found {
+        Some(other) => { other.global_system_interrupt_base < io_apic.global_system_interrupt_base }
+        None => true,
+    }
+}

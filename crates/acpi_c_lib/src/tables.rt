@@ -1,0 +1,132 @@
+//! The tables that the root table lists.
+ghost use Rattle.std.specs.Prelude.{◌≡◌, ◌^◌, ◌<◌, length};
+ghost use Rattle.acpi.specs.Pointers.{pointers_left};
+ghost use Rattle.acpi.specs.Tables.{of_tables};
+ghost use Rattle.acpi_base.specs.Mapping.{bytes_of, start_of};
+ghost use Rattle.acpi_c_lib.specs.Answers.{Answers, AnswersList, Fills, put_from};
+ghost use Rattle.acpi_c_lib.specs.Shown.{dsdt_below, first_named, table_below, table_record, tables_below, tables_in};
+
+use crate::answer::{answer, put};
+use crate::opening::open;
+use crate::records::{Aml, Name, Source, Table};
+use crate::refusal::Refusal;
+use crate::regions::Mapped;
+use acpi::sdt::{SdtHeader, Signature, map_own_sdt};
+use acpi::{AcpiHandler, AcpiResult, AcpiTables, PhysicalMapping, Pointers};
+
+/// All tables that are listed and valid under the signatures that they bear, in the order of the root
+/// table, repeats kept (section 5.2.6): as many as there is room for, and how many there are.
+///
+/// Refuses as opening the tables does, and with nothing else.
+#[unsafe(no_mangle)]
+pub extern "C" fn acpi_list_tables(
+    source: &Source<'_>,
+    out: &mut [Table],
+    count: &mut usize,
+    named: &mut Name,
+) -> u32
+    ensures { AnswersList result out.old out.new count.old count.new named.old named.new
+        (tables_below source.now) }
+{
+    answer(tables(source, out), count, named)
+}
+
+/// The first valid table of a signature (section 5.2.6).
+///
+/// Refuses as opening the tables does, and then with `ACPI_TABLE_MISSING`, which carries the signature.
+#[unsafe(no_mangle)]
+pub extern "C" fn acpi_find_table(
+    source: &Source<'_>,
+    name: Name,
+    out: &mut Table,
+    named: &mut Name,
+) -> u32
+    ensures { Answers result out.old out.new named.old named.new (table_below source.now name) }
+{
+    answer(find(source, name), out, named)
+}
+
+/// The AML of the DSDT that the first valid FADT names (sections 5.2.9 and 5.2.11.1): its physical address after the 36
+/// bytes of header, and its length in bytes.
+///
+/// Refuses as opening the tables does, and then, in this order, with `ACPI_TABLE_MISSING` for "FACP", with
+/// `ACPI_INVALID_DSDT_ADDRESS`, and with the refusal of the table at that address, which carries "DSDT" if it carries a
+/// signature.
+#[unsafe(no_mangle)]
+pub extern "C" fn acpi_dsdt(source: &Source<'_>, out: &mut Aml, named: &mut Name) -> u32
+    ensures { Answers result out.old out.new named.old named.new (dsdt_below source.now) }
+{
+    answer(dsdt(source), out, named)
+}
+
+/// A table, by its mapping.
+pub(crate) fn entry<H: AcpiHandler>(table: &PhysicalMapping<'_, H, SdtHeader>) -> Table
+    ensures { result ≡ table_record (start_of table.now, bytes_of table.now) }
+{
+    let header = table.get();
+    Table {
+        address: table.physical_start(),
+        length: header.length,
+        signature: header.signature.to_bytes(),
+        revision: header.revision,
+    }
+}
+
+/// The tables that are valid under their own signatures.
+fn fill_tables<H: AcpiHandler>(handler: &H, addresses: Pointers<'_>, out: &mut [Table]) -> usize
+    requires { length (pointers_left addresses) < 2 ^ 32 }
+    ensures count { result
+        ≡ length (tables_in (H.memory handler.now) (pointers_left addresses.entry)) }
+    ensures items { out.new
+        ≡ put_from out.old 0 (tables_in (H.memory handler.now) (pointers_left addresses.entry)) }
+{
+    let mut count = 0;
+    for address in addresses {
+        if let Ok(table) = map_own_sdt(handler, address) {
+            put(out, count, entry(&table));
+            count += 1;
+        }
+    }
+    count
+}
+
+/// The tables that are valid.
+fn tables(source: &Source<'_>, out: &mut [Table]) -> Result<usize, Refusal>
+    ensures { Fills result out.old out.new (tables_below source.now) }
+{
+    let memory = Mapped::new(source.regions)?;
+    let tables = open(&memory, source)?;
+    Ok(fill_tables(&memory, tables.addresses(), out))
+}
+
+/// The first table of a signature that is valid.
+fn find(source: &Source<'_>, name: Name) -> Result<Table, Refusal>
+    ensures { result ≡ table_below source.now name }
+{
+    let memory = Mapped::new(source.regions)?;
+    let tables = open(&memory, source)?;
+    let table = first_named(&tables, name)?;
+    Ok(table)
+}
+
+/// The first valid table whose signature is these letters.
+#[tactic(auto, using(crate::proofs::Names::signature_is))]
+fn first_named<H: AcpiHandler>(tables: &AcpiTables<'_, H>, name: Name) -> AcpiResult<Table>
+    ensures { result ≡ of_tables tables.now (first_named name) }
+{
+    let table = tables.find_sdt(Signature::from_bytes(name.letters))?;
+    Ok(entry(&table))
+}
+
+/// The AML of the DSDT.
+fn dsdt(source: &Source<'_>) -> Result<Aml, Refusal>
+    ensures { result ≡ dsdt_below source.now }
+{
+    let memory = Mapped::new(source.regions)?;
+    let tables = open(&memory, source)?;
+    let stream = tables.dsdt()?;
+    Ok(Aml {
+        address: stream.address,
+        length: stream.length,
+    })
+}
