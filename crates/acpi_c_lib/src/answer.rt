@@ -7,7 +7,7 @@ use crate::refusal::Refusal;
 
 /// The number that C gets: 0, with the value written, or that of the refusal, with nothing written but the
 /// signature that it carries.
-pub(crate) fn answer<T: Copy>(said: Result<T, Refusal>, out: &mut T, named: &mut Name) -> u32
+pub fn answer<T: Copy>(said: Result<T, Refusal>, out: &mut T, named: &mut Name) -> u32
     ensures { Answers result out.old out.new named.old named.new said }
 {
     match said {

@@ -1,36 +1,23 @@
 //! The generic timers of an Arm machine, by the GTDT.
 ghost use Rattle.std.specs.Prelude.{◌≡◌, ◌+◌, ◌^◌, ◌<◌, length, map, nat_lt};
 ghost use Rattle.acpi_arm.specs.Timers.{frames_left, missing_left};
-ghost use Rattle.acpi_c_lib.specs.Answers.{Answers, AnswersList, Fills, put_from};
+ghost use Rattle.acpi_c_lib.specs.Answers.{Fills, put_from};
 ghost use Rattle.acpi_c_lib.specs.ArmTimers as timers;
 ghost use Rattle.acpi_c_lib.specs.ArmTimers.{frames_shown, gtdt_below, timers_shown, watchdogs_shown};
 
-use crate::answer::{answer, put};
+use crate::answer::put;
 use crate::arm_records::{ArmTimerRecord, ArmTimersRecord, GtFrameRecord, WatchdogRecord};
 use crate::interrupt_codes::{polarity_code, trigger_code};
 use crate::opening::open;
-use crate::records::{Name, Source};
+use crate::records::Source;
 use crate::refusal::Refusal;
 use crate::regions::Mapped;
 use acpi_arm::gtdt::{
     ArmTimer, GtBlock, GtFrame, Gtdt, GtdtCalls, PlatformTimer, PlatformTimerIter, SbsaWatchdog,
 };
 
-/// The timers of every processor, as the first valid GTDT has them (section 5.2.24).
-///
-/// Refuses as opening the tables does, and then with `ACPI_TABLE_MISSING` for "GTDT".
-#[unsafe(no_mangle)]
-pub extern "C" fn acpi_arm_timers(
-    source: &Source<'_>,
-    out: &mut ArmTimersRecord,
-    named: &mut Name,
-) -> u32
-    ensures { Answers result out.old out.new named.old named.new (gtdt_below source.now timers_shown) }
-{
-    answer(arm_timers(source), out, named)
-}
-
-fn arm_timers(source: &Source<'_>) -> Result<ArmTimersRecord, Refusal>
+/// The timers of every processor, as the first valid GTDT has them.
+pub fn arm_timers(source: &Source<'_>) -> Result<ArmTimersRecord, Refusal>
     ensures { result ≡ gtdt_below source.now timers_shown }
 {
     let memory = Mapped::new(source.regions)?;
@@ -102,25 +89,8 @@ fn timer_or(timer: Option<ArmTimer>) -> ArmTimerRecord
     }
 }
 
-/// The frames of the blocks of timers that the first valid GTDT lists, in order, block by block (section 5.2.24.1.1):
-/// as many as there is room for, and how many there are. If the structures of platform timers end malformed, these are
-/// the frames before the first fault, and `acpi_arm_timers` says so.
-///
-/// Refuses as opening the tables does, and then with `ACPI_TABLE_MISSING` for "GTDT".
-#[unsafe(no_mangle)]
-pub extern "C" fn acpi_list_gt_frames(
-    source: &Source<'_>,
-    out: &mut [GtFrameRecord],
-    count: &mut usize,
-    named: &mut Name,
-) -> u32
-    ensures { AnswersList result out.old out.new count.old count.new named.old named.new
-        (gtdt_below source.now frames_shown) }
-{
-    answer(frames(source, out), count, named)
-}
-
-fn frames(source: &Source<'_>, out: &mut [GtFrameRecord]) -> Result<usize, Refusal>
+/// Lists the frames of the blocks of timers that the first valid GTDT has.
+pub fn frames(source: &Source<'_>, out: &mut [GtFrameRecord]) -> Result<usize, Refusal>
     ensures { Fills result out.old out.new (gtdt_below source.now frames_shown) }
 {
     let memory = Mapped::new(source.regions)?;
@@ -181,25 +151,8 @@ fn frame_record(block: u64, frame: &GtFrame) -> GtFrameRecord
     }
 }
 
-/// The watchdogs of the Server Base System Architecture that the first valid GTDT lists, in order (section 5.2.24.1.2):
-/// as many as there is room for, and how many there are. If the structures of platform timers end malformed, these are
-/// the watchdogs before the first fault, and `acpi_arm_timers` says so.
-///
-/// Refuses as opening the tables does, and then with `ACPI_TABLE_MISSING` for "GTDT".
-#[unsafe(no_mangle)]
-pub extern "C" fn acpi_list_watchdogs(
-    source: &Source<'_>,
-    out: &mut [WatchdogRecord],
-    count: &mut usize,
-    named: &mut Name,
-) -> u32
-    ensures { AnswersList result out.old out.new count.old count.new named.old named.new
-        (gtdt_below source.now watchdogs_shown) }
-{
-    answer(watchdogs(source, out), count, named)
-}
-
-fn watchdogs(source: &Source<'_>, out: &mut [WatchdogRecord]) -> Result<usize, Refusal>
+/// Lists the watchdogs that the first valid GTDT has.
+pub fn watchdogs(source: &Source<'_>, out: &mut [WatchdogRecord]) -> Result<usize, Refusal>
     ensures { Fills result out.old out.new (gtdt_below source.now watchdogs_shown) }
 {
     let memory = Mapped::new(source.regions)?;

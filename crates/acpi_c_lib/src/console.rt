@@ -1,32 +1,18 @@
 //! The serial console.
 ghost use Rattle.std.specs.Prelude.{◌≡◌};
-ghost use Rattle.acpi_c_lib.specs.Answers.{Answers};
 ghost use Rattle.acpi_c_lib.specs.Console as console;
 ghost use Rattle.acpi_c_lib.specs.Console.{console_below, console_record};
 
-use crate::answer::answer;
 use crate::fixed_records::Console;
 use crate::opening::open;
-use crate::records::{Name, Source};
+use crate::records::Source;
 use crate::refusal::Refusal;
 use crate::regions::Mapped;
 use crate::register::register_if;
 use acpi::spcr::{Spcr, SpcrInterfaceType};
 
-/// The serial console that the firmware used: the first valid SPCR, whose signature section 5.2.6
-/// reserves and whose layout is Microsoft's. A field that reaches past the end of a short table is read as
-/// if zeros followed.
-///
-/// Refuses as opening the tables does, and then with `ACPI_TABLE_MISSING` for "SPCR". An address
-/// of the registers that is refused is no refusal: its `present` is 2.
-#[unsafe(no_mangle)]
-pub extern "C" fn acpi_console(source: &Source<'_>, out: &mut Console, named: &mut Name) -> u32
-    ensures { Answers result out.old out.new named.old named.new (console_below source.now) }
-{
-    answer(console(source), out, named)
-}
-
-fn console(source: &Source<'_>) -> Result<Console, Refusal>
+/// The serial console that the first valid SPCR describes.
+pub fn console(source: &Source<'_>) -> Result<Console, Refusal>
     ensures { result ≡ console_below source.now }
 {
     let memory = Mapped::new(source.regions)?;

@@ -5,10 +5,10 @@ ghost use Rattle.acpi.specs.Pointers.{pointers_left};
 ghost use Rattle.acpi.specs.Tables.{lender_of, of_tables};
 ghost use Rattle.acpi.specs.Walks.{faults_left};
 ghost use Rattle.acpi_base.specs.Table.{plain_kind};
-ghost use Rattle.acpi_c_lib.specs.Answers.{AnswersList, Fills, put_from};
+ghost use Rattle.acpi_c_lib.specs.Answers.{Fills, put_from};
 ghost use Rattle.acpi_c_lib.specs.Faults.{fault_record, faults_below, kind_named};
 
-use crate::answer::{answer, put};
+use crate::answer::put;
 use crate::opening::open;
 use crate::records::{Fault, Name, Source};
 use crate::refusal::{Refusal, acpi_code};
@@ -24,28 +24,9 @@ use acpi::{AcpiError, AcpiHandler, AcpiTable, AcpiTables, Pointers, TableFault, 
 use acpi_arm::gtdt::Gtdt;
 use acpi_numa::{Slit, Srat};
 
-/// The tables that a lookup of a signature passes over, up to the first that it takes, and why: as many as
-/// there is room for, and how many there are. A table of another signature is no fault. The calls for an FADT, MADT,
-/// MCFG, HPET, BGRT, SPCR, GTDT, SRAT or SLIT take no table that is shorter than its fixed fields; of another table
-/// they ask for a header (section 5.2.6).
-///
-/// Refuses as opening the tables does, and with nothing else.
-#[unsafe(no_mangle)]
-pub extern "C" fn acpi_list_faults(
-    source: &Source<'_>,
-    name: Name,
-    out: &mut [Fault],
-    count: &mut usize,
-    named: &mut Name,
-) -> u32
-    ensures { AnswersList result out.old out.new count.old count.new named.old named.new
-        (faults_below source.now name) }
-{
-    answer(faults(source, name, out), count, named)
-}
-
+/// Lists the tables that a lookup of a signature passes over, and why.
 #[tactic(auto, using(crate::proofs::Names::signature_is))]
-fn faults(source: &Source<'_>, name: Name, out: &mut [Fault]) -> Result<usize, Refusal>
+pub fn faults(source: &Source<'_>, name: Name, out: &mut [Fault]) -> Result<usize, Refusal>
     ensures { Fills result out.old out.new (faults_below source.now name) }
 {
     let memory = Mapped::new(source.regions)?;

@@ -2,40 +2,22 @@
 ghost use Rattle.std.specs.Prelude.{◌≡◌, ◌≤◌, length};
 ghost use Rattle.acpi_fixed.specs.Fadt.{fadt_at};
 ghost use Rattle.acpi_fixed.specs.Flags.{arm_bits, feature_bits, pc_bits};
-ghost use Rattle.acpi_c_lib.specs.Answers.{Answers};
 ghost use Rattle.acpi_c_lib.specs.Fixed as fixed;
 ghost use Rattle.acpi_c_lib.specs.Fixed.{fixed_below, fixed_record};
 
-use crate::answer::answer;
 use crate::devices::space_code;
 use crate::fixed_records::{FixedHardware, Gpe};
 use crate::opening::open;
-use crate::records::{Name, Source};
+use crate::records::Source;
 use crate::refusal::Refusal;
 use crate::regions::Mapped;
 use crate::register::{optional_register, required_register};
+use acpi::AcpiResult;
 use acpi::fadt::{Fadt, GpeBlock, PowerProfile};
-use acpi::{AcpiResult, PhysicalRecord};
 use acpi_base::bytes::{field, field_in};
 
-/// The fixed hardware of the first valid FADT (section 5.2.9): where the registers lie, and all other
-/// fields that a kernel needs. A field that reaches past the end of a short table is read as if zeros
-/// followed.
-///
-/// Refuses as opening the tables does, and then with `ACPI_TABLE_MISSING` for "FACP". A register
-/// whose address is refused is no refusal: its `present` is 2.
-#[unsafe(no_mangle)]
-pub extern "C" fn acpi_fixed_hardware(
-    source: &Source<'_>,
-    out: &mut FixedHardware,
-    named: &mut Name,
-) -> u32
-    ensures { Answers result out.old out.new named.old named.new (fixed_below source.now) }
-{
-    answer(fixed(source), out, named)
-}
-
-fn fixed(source: &Source<'_>) -> Result<FixedHardware, Refusal>
+/// The fixed hardware of the first valid FADT.
+pub fn fixed(source: &Source<'_>) -> Result<FixedHardware, Refusal>
     ensures { result ≡ fixed_below source.now }
 {
     let memory = Mapped::new(source.regions)?;

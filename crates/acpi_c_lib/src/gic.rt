@@ -5,18 +5,18 @@ ghost use Rattle.acpi_base.specs.Mapping.{bytes_of};
 ghost use Rattle.acpi_base.specs.Steps.{Gives};
 ghost use Rattle.acpi.specs.Tables.{of_tables};
 ghost use Rattle.acpi_arm.specs.Gic.{cpu_interface_in, found_gic, items_of, model_beside, msi_frame_in, redistributors_in, translation_service_in};
-ghost use Rattle.acpi_c_lib.specs.Answers.{Answers, AnswersList, Fills, put_from};
+ghost use Rattle.acpi_c_lib.specs.Answers.{Fills, put_from};
 ghost use Rattle.acpi_c_lib.specs.Arm as arm;
 ghost use Rattle.acpi_c_lib.specs.Arm.{below_gic, cpu_interfaces_shown, distributor_shown, gic_or, msi_frames_shown, redistributors_shown, translation_services_shown};
 ghost use Rattle.acpi_c_lib.specs.Below.{refused_as};
 
-use crate::answer::{answer, put};
+use crate::answer::put;
 use crate::arm_records::{
     CpuInterfaceRecord, DistributorRecord, MsiFrameRecord, TranslationServiceRecord,
 };
 use crate::interrupt_codes::trigger_code;
 use crate::opening::open;
-use crate::records::{Name, Range, Source};
+use crate::records::{Range, Source};
 use crate::refusal::Refusal;
 use crate::regions::Mapped;
 use acpi::madt::Madt;
@@ -50,24 +50,8 @@ fn gic_madt<'h, H: AcpiHandler>(tables: &AcpiTables<'h, H>) -> Result<GicMadt<'h
     }
 }
 
-/// The distributor of the GIC that the first valid MADT describes: that of its first GICD entry (section 5.2.12.15).
-///
-/// Refuses as opening the tables does, and then, in this order, with `ACPI_TABLE_MISSING` for "APIC", with
-/// `ACPI_MADT_INVALID_ENTRY_LENGTH` if bytes are left in which no entry begins, and with `ACPI_NO_GIC` if no entry
-/// describes a distributor, as on a machine with APICs.
-#[unsafe(no_mangle)]
-pub extern "C" fn acpi_gic_distributor(
-    source: &Source<'_>,
-    out: &mut DistributorRecord,
-    named: &mut Name,
-) -> u32
-    ensures { Answers result out.old out.new named.old named.new
-        (below_gic source.now distributor_shown) }
-{
-    answer(distributor(source), out, named)
-}
-
-fn distributor(source: &Source<'_>) -> Result<DistributorRecord, Refusal>
+/// The distributor of the GIC that the first valid MADT describes.
+pub fn distributor(source: &Source<'_>) -> Result<DistributorRecord, Refusal>
     ensures { result ≡ below_gic source.now distributor_shown }
 {
     let memory = Mapped::new(source.regions)?;
@@ -87,24 +71,8 @@ fn distributor_record(found: &GicDistributor) -> DistributorRecord
     }
 }
 
-/// The processors' interfaces to the GIC, one for each GICC entry of the first valid MADT, in order (section
-/// 5.2.12.14): as many as there is room for, and how many there are.
-///
-/// Refuses as `acpi_gic_distributor` does.
-#[unsafe(no_mangle)]
-pub extern "C" fn acpi_list_gic_cpu_interfaces(
-    source: &Source<'_>,
-    out: &mut [CpuInterfaceRecord],
-    count: &mut usize,
-    named: &mut Name,
-) -> u32
-    ensures { AnswersList result out.old out.new count.old count.new named.old named.new
-        (below_gic source.now cpu_interfaces_shown) }
-{
-    answer(cpu_interfaces(source, out), count, named)
-}
-
-fn cpu_interfaces(source: &Source<'_>, out: &mut [CpuInterfaceRecord]) -> Result<usize, Refusal>
+/// Lists the processors' interfaces to the GIC, by the first valid MADT.
+pub fn cpu_interfaces(source: &Source<'_>, out: &mut [CpuInterfaceRecord]) -> Result<usize, Refusal>
     ensures { Fills result out.old out.new (below_gic source.now cpu_interfaces_shown) }
 {
     let memory = Mapped::new(source.regions)?;
@@ -165,25 +133,8 @@ fn or_zero(number: Option<u16>) -> u16
     }
 }
 
-/// The ranges of memory that hold redistributors, one for each GICR entry of the first valid MADT, in order (section
-/// 5.2.12.17): as many as there is room for, and how many there are. The length of one is in bytes, as the entry says:
-/// it can be 0.
-///
-/// Refuses as `acpi_gic_distributor` does.
-#[unsafe(no_mangle)]
-pub extern "C" fn acpi_list_gic_redistributors(
-    source: &Source<'_>,
-    out: &mut [Range],
-    count: &mut usize,
-    named: &mut Name,
-) -> u32
-    ensures { AnswersList result out.old out.new count.old count.new named.old named.new
-        (below_gic source.now redistributors_shown) }
-{
-    answer(redistributors(source, out), count, named)
-}
-
-fn redistributors(source: &Source<'_>, out: &mut [Range]) -> Result<usize, Refusal>
+/// Lists the ranges of memory that hold redistributors of the GIC, by the first valid MADT.
+pub fn redistributors(source: &Source<'_>, out: &mut [Range]) -> Result<usize, Refusal>
     ensures { Fills result out.old out.new (below_gic source.now redistributors_shown) }
 {
     let memory = Mapped::new(source.regions)?;
@@ -213,24 +164,8 @@ fn fill_redistributors(table: &[u8], out: &mut [Range]) -> usize
     count
 }
 
-/// The services that translate interrupts, one for each GIC ITS entry of the first valid MADT, in order (section
-/// 5.2.12.18): as many as there is room for, and how many there are.
-///
-/// Refuses as `acpi_gic_distributor` does.
-#[unsafe(no_mangle)]
-pub extern "C" fn acpi_list_gic_translation_services(
-    source: &Source<'_>,
-    out: &mut [TranslationServiceRecord],
-    count: &mut usize,
-    named: &mut Name,
-) -> u32
-    ensures { AnswersList result out.old out.new count.old count.new named.old named.new
-        (below_gic source.now translation_services_shown) }
-{
-    answer(translation_services(source, out), count, named)
-}
-
-fn translation_services(
+/// Lists the services that translate interrupts for the GIC, by the first valid MADT.
+pub fn translation_services(
     source: &Source<'_>,
     out: &mut [TranslationServiceRecord],
 ) -> Result<usize, Refusal>
@@ -264,24 +199,8 @@ fn fill_translation_services(table: &[u8], out: &mut [TranslationServiceRecord])
     count
 }
 
-/// The frames that turn messages into interrupts, one for each GIC MSI Frame entry of the first valid MADT, in order
-/// (section 5.2.12.16): as many as there is room for, and how many there are.
-///
-/// Refuses as `acpi_gic_distributor` does.
-#[unsafe(no_mangle)]
-pub extern "C" fn acpi_list_gic_msi_frames(
-    source: &Source<'_>,
-    out: &mut [MsiFrameRecord],
-    count: &mut usize,
-    named: &mut Name,
-) -> u32
-    ensures { AnswersList result out.old out.new count.old count.new named.old named.new
-        (below_gic source.now msi_frames_shown) }
-{
-    answer(msi_frames(source, out), count, named)
-}
-
-fn msi_frames(source: &Source<'_>, out: &mut [MsiFrameRecord]) -> Result<usize, Refusal>
+/// Lists the frames that turn messages into interrupts of the GIC, by the first valid MADT.
+pub fn msi_frames(source: &Source<'_>, out: &mut [MsiFrameRecord]) -> Result<usize, Refusal>
     ensures { Fills result out.old out.new (below_gic source.now msi_frames_shown) }
 {
     let memory = Mapped::new(source.regions)?;

@@ -9,15 +9,15 @@ ghost use Rattle.acpi_base.specs.Model.{items_of, io_apic_in, nmi_line_in, nmi_s
 ghost use Rattle.acpi_base.specs.Steps.{Gives};
 ghost use Rattle.acpi.specs.Platform.{model_in};
 ghost use Rattle.acpi.specs.Tables.{of_tables};
-ghost use Rattle.acpi_c_lib.specs.Answers.{AnswersList, Fills, put_from};
+ghost use Rattle.acpi_c_lib.specs.Answers.{Fills, put_from};
 ghost use Rattle.acpi_c_lib.specs.Model.{io_apic_record, model_by, nmi_line_record, nmi_source_record, override_record, platform_model};
 ghost use Rattle.acpi_c_lib.specs.Model.{below_platform, io_apics_of, nmi_lines_of, nmi_sources_of, overrides_of};
 
-use crate::answer::{answer, put};
+use crate::answer::put;
 use crate::interrupt_codes::{io_apic_record, nmi_line_record, nmi_source_record, override_record};
 use crate::interrupt_records::{IoApicRecord, NmiLineRecord, NmiSourceRecord, OverrideRecord};
 use crate::opening::open;
-use crate::records::{Name, Source};
+use crate::records::Source;
 use crate::refusal::Refusal;
 use crate::regions::Mapped;
 use acpi::fadt::FadtBrief;
@@ -86,24 +86,8 @@ pub(crate) fn items_of<'m, H: Lender>(madt: &'m PhysicalMapping<'_, H, Madt>) ->
     madt.items()
 }
 
-/// The I/O APICs, in the order of the first valid MADT (section 5.2.12.3): as many as there is room for, and how many
-/// there are. There are none if no valid MADT has an entry of a machine with APICs.
-///
-/// Refuses as `acpi_interrupt_model` does.
-#[unsafe(no_mangle)]
-pub extern "C" fn acpi_list_io_apics(
-    source: &Source<'_>,
-    out: &mut [IoApicRecord],
-    count: &mut usize,
-    named: &mut Name,
-) -> u32
-    ensures { AnswersList result out.old out.new count.old count.new named.old named.new
-        (below_platform source.now io_apics_of) }
-{
-    answer(io_apics(source, out), count, named)
-}
-
-fn io_apics(source: &Source<'_>, out: &mut [IoApicRecord]) -> Result<usize, Refusal>
+/// Lists the I/O APICs of the first valid MADT.
+pub fn io_apics(source: &Source<'_>, out: &mut [IoApicRecord]) -> Result<usize, Refusal>
     ensures { Fills result out.old out.new (below_platform source.now io_apics_of) }
 {
     let memory = Mapped::new(source.regions)?;
@@ -130,24 +114,8 @@ fn fill_io_apics(items: MadtItems<'_>, out: &mut [IoApicRecord]) -> usize
     count
 }
 
-/// The Interrupt Source Override entries (section 5.2.12.5), in the order of the first valid MADT: as many as there is
-/// room for, and how many there are.
-///
-/// Refuses as `acpi_interrupt_model` does.
-#[unsafe(no_mangle)]
-pub extern "C" fn acpi_list_overrides(
-    source: &Source<'_>,
-    out: &mut [OverrideRecord],
-    count: &mut usize,
-    named: &mut Name,
-) -> u32
-    ensures { AnswersList result out.old out.new count.old count.new named.old named.new
-        (below_platform source.now overrides_of) }
-{
-    answer(overrides(source, out), count, named)
-}
-
-fn overrides(source: &Source<'_>, out: &mut [OverrideRecord]) -> Result<usize, Refusal>
+/// Lists the Interrupt Source Override entries of the first valid MADT.
+pub fn overrides(source: &Source<'_>, out: &mut [OverrideRecord]) -> Result<usize, Refusal>
     ensures { Fills result out.old out.new (below_platform source.now overrides_of) }
 {
     let memory = Mapped::new(source.regions)?;
@@ -174,24 +142,8 @@ fn fill_overrides(items: MadtItems<'_>, out: &mut [OverrideRecord]) -> usize
     count
 }
 
-/// The NMI Source entries (section 5.2.12.6), which name the I/O APIC pins that are non-maskable, in the order of the
-/// first valid MADT: as many as there is room for, and how many there are.
-///
-/// Refuses as `acpi_interrupt_model` does.
-#[unsafe(no_mangle)]
-pub extern "C" fn acpi_list_nmi_sources(
-    source: &Source<'_>,
-    out: &mut [NmiSourceRecord],
-    count: &mut usize,
-    named: &mut Name,
-) -> u32
-    ensures { AnswersList result out.old out.new count.old count.new named.old named.new
-        (below_platform source.now nmi_sources_of) }
-{
-    answer(nmi_sources(source, out), count, named)
-}
-
-fn nmi_sources(source: &Source<'_>, out: &mut [NmiSourceRecord]) -> Result<usize, Refusal>
+/// Lists the NMI Source entries of the first valid MADT.
+pub fn nmi_sources(source: &Source<'_>, out: &mut [NmiSourceRecord]) -> Result<usize, Refusal>
     ensures { Fills result out.old out.new (below_platform source.now nmi_sources_of) }
 {
     let memory = Mapped::new(source.regions)?;
@@ -218,24 +170,8 @@ fn fill_nmi_sources(items: MadtItems<'_>, out: &mut [NmiSourceRecord]) -> usize
     count
 }
 
-/// The Local APIC NMI and Local x2APIC NMI entries (sections 5.2.12.7 and 5.2.12.13), which name LINT pins, in the order
-/// of the first valid MADT: as many as there is room for, and how many there are.
-///
-/// Refuses as `acpi_interrupt_model` does.
-#[unsafe(no_mangle)]
-pub extern "C" fn acpi_list_nmi_lines(
-    source: &Source<'_>,
-    out: &mut [NmiLineRecord],
-    count: &mut usize,
-    named: &mut Name,
-) -> u32
-    ensures { AnswersList result out.old out.new count.old count.new named.old named.new
-        (below_platform source.now nmi_lines_of) }
-{
-    answer(nmi_lines(source, out), count, named)
-}
-
-fn nmi_lines(source: &Source<'_>, out: &mut [NmiLineRecord]) -> Result<usize, Refusal>
+/// Lists the Local APIC NMI and Local x2APIC NMI entries of the first valid MADT.
+pub fn nmi_lines(source: &Source<'_>, out: &mut [NmiLineRecord]) -> Result<usize, Refusal>
     ensures { Fills result out.old out.new (below_platform source.now nmi_lines_of) }
 {
     let memory = Mapped::new(source.regions)?;

@@ -1,44 +1,36 @@
-//! The library for C, and for Rust without std: `include/acpi.h` declares its calls, and `docs/CALLING.md` says what a
-//! caller has to know besides. Sections are those of ACPI 6.4 unless another document is named.
+//! The calls of the library for C. The crate `acpi_c` exports each of them, and says in which order it refuses. Sections
+//! are those of ACPI 6.4 unless another document is named.
 //!
-//! Each export can be called with any numbers: it checks the regions, opens the tables anew, and answers 0, or the
-//! number of a refusal, and has then written nothing but the signature that the refusal carries. No export takes memory
-//! or keeps a state. A list writes as many items as there is room for, and how many there are.
-//!
-//! What a C caller keeps: each pointer is live, aligned and not null, what it points to is initialised, an output
-//! shares no byte with an input or another output, and while a call runs nobody writes what it reads, nor touches
-//! what it writes.
-//!
-//! What an export that is passed a source refuses first, which its own comment calls 'as opening the tables does':
-//! `ACPI_REGIONS_NOT_ASCENDING` and `ACPI_REGION_TOO_HIGH`, `ACPI_UNKNOWN_START`, and the refusals of the RSDP and of
-//! the root table (sections 5.2.5.1, 5.2.5.3 and 5.2.6 to 5.2.8).
+//! Each call can be called with any numbers. One that is passed a source checks the regions, opens the tables anew, and
+//! answers what it found, or a refusal. No call takes memory or keeps a state. A list writes as many items as there is
+//! room for, and answers how many there are.
 #![tactic(auto)]
 
-mod answer;
-mod arm_records;
-mod arm_timers;
-mod clip;
-mod console;
-mod devices;
-mod ecam;
-mod faults;
-mod fixed;
-mod fixed_records;
-mod gic;
+pub mod answer;
+pub mod arm_records;
+pub mod arm_timers;
+pub mod clip;
+pub mod console;
+pub mod devices;
+pub mod ecam;
+pub mod faults;
+pub mod fixed;
+pub mod fixed_records;
+pub mod gic;
 mod interrupt_codes;
-mod interrupt_records;
-mod interrupts;
+pub mod interrupt_records;
+pub mod interrupts;
 pub mod laws;
-mod missing;
-mod numa;
-mod numa_records;
-mod opening;
-mod pci;
-mod processors;
-mod records;
-mod refusal;
-mod regions;
+pub mod missing;
+pub mod numa;
+pub mod numa_records;
+pub mod opening;
+pub mod pci;
+pub mod processors;
+pub mod records;
+pub mod refusal;
+pub mod regions;
 mod register;
-mod routes;
-mod tables;
-mod walks;
+pub mod routes;
+pub mod tables;
+pub mod walks;

@@ -3,12 +3,10 @@ ghost use Rattle.std.specs.Prelude.{◌≡◌, Ok, IfOk};
 ghost use Rattle.acpi_base.specs.Steps.{Gives};
 ghost use Rattle.acpi.specs.Opened.{opened_of};
 ghost use Rattle.acpi.specs.Tables.{lender_of};
-ghost use Rattle.acpi_c_lib.specs.Answers.{Answers};
 ghost use Rattle.acpi_c_lib.specs.Below.{opened_in};
 ghost use Rattle.acpi_c_lib.specs.Shown.{root_below};
 
-use crate::answer::answer;
-use crate::records::{Name, Root, Source};
+use crate::records::{Root, Source};
 use crate::refusal::Refusal;
 use crate::regions::Mapped;
 use acpi::{AcpiHandler, AcpiTables};
@@ -34,17 +32,8 @@ pub(crate) fn open<'h, H: AcpiHandler>(
     Ok(tables)
 }
 
-/// The root table (sections 5.2.7 and 5.2.8).
-///
-/// Refuses as opening the tables does, and with nothing else.
-#[unsafe(no_mangle)]
-pub extern "C" fn acpi_open(source: &Source<'_>, out: &mut Root, named: &mut Name) -> u32
-    ensures { Answers result out.old out.new named.old named.new (root_below source.now) }
-{
-    answer(root(source), out, named)
-}
-
-fn root(source: &Source<'_>) -> Result<Root, Refusal>
+/// The root table that a source leads to.
+pub fn root(source: &Source<'_>) -> Result<Root, Refusal>
     ensures { result ≡ root_below source.now }
 {
     let memory = Mapped::new(source.regions)?;

@@ -4,53 +4,21 @@ ghost use Rattle.std.specs.List.{filter_map};
 ghost use Rattle.std.specs.Option.{option_map};
 ghost use Rattle.acpi_base.specs.Items.{items_left};
 ghost use Rattle.acpi_base.specs.Model.{last_address, local_apic_address_in, processor_in, state_of};
-ghost use Rattle.acpi_c_lib.specs.Answers.{Answers, AnswersList, Fills, put_from};
+ghost use Rattle.acpi_c_lib.specs.Answers.{Fills, put_from};
 ghost use Rattle.acpi_c_lib.specs.Model.{below_platform, counts_of, processor_record, processors_in, processors_of, state_code};
 
-use crate::answer::{answer, put};
+use crate::answer::put;
 use crate::interrupt_records::{Model, ProcessorRecord};
 use crate::interrupts::{apic_madt, items_of};
 use crate::opening::open;
-use crate::records::{Name, Source};
+use crate::records::Source;
 use crate::refusal::Refusal;
 use crate::regions::Mapped;
 use acpi_base::model::{MadtItem, MadtItems};
 
-/// Which controllers interrupts come to, and how many of each sort there are, by the first valid MADT (section 5.2.12).
-/// If there is none, or it has no entry of a machine with APICs, `known` and all else are 0.
-///
-/// Refuses as opening the tables does, and then, in this order, with `ACPI_TABLE_MISSING` for "FACP", with 32 to 38 for
-/// the first entry of the MADT at fault, and with `ACPI_INVALID_GENERIC_ADDRESS` if `acpi_pm_timer` refuses with that.
-#[unsafe(no_mangle)]
-pub extern "C" fn acpi_interrupt_model(
-    source: &Source<'_>,
-    out: &mut Model,
-    named: &mut Name,
-) -> u32
-    ensures { Answers result out.old out.new named.old named.new (below_platform source.now counts_of) }
-{
-    answer(model(source), out, named)
-}
-
-/// The processors, in the order of the first valid MADT, the boot processor first (sections 5.2.12.2 and 5.2.12.12): as
-/// many as there is room for, and how many there are.
-///
-/// Refuses as `acpi_interrupt_model` does.
-#[unsafe(no_mangle)]
-pub extern "C" fn acpi_list_processors(
-    source: &Source<'_>,
-    out: &mut [ProcessorRecord],
-    count: &mut usize,
-    named: &mut Name,
-) -> u32
-    ensures { AnswersList result out.old out.new count.old count.new named.old named.new
-        (below_platform source.now processors_of) }
-{
-    answer(processors(source, out), count, named)
-}
-
+/// Which controllers interrupts come to, and how many of each sort the first valid MADT has.
 #[tactic(auto, using(crate::proofs::BootProcessor::as_many))]
-fn model(source: &Source<'_>) -> Result<Model, Refusal>
+pub fn model(source: &Source<'_>) -> Result<Model, Refusal>
     ensures { result ≡ below_platform source.now counts_of }
 {
     let memory = Mapped::new(source.regions)?;
@@ -96,7 +64,8 @@ fn local_apic_address(items: MadtItems<'_>, address: u64) -> u64
     last
 }
 
-fn processors(source: &Source<'_>, out: &mut [ProcessorRecord]) -> Result<usize, Refusal>
+/// Lists the processors of the first valid MADT, the boot processor first.
+pub fn processors(source: &Source<'_>, out: &mut [ProcessorRecord]) -> Result<usize, Refusal>
     ensures { Fills result out.old out.new (below_platform source.now processors_of) }
 {
     let memory = Mapped::new(source.regions)?;

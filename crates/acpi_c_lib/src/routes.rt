@@ -5,16 +5,14 @@ ghost use Rattle.acpi_base.specs.Isa.{is_taken, isa_interrupt, leads_to, overrid
 ghost use Rattle.acpi_base.specs.Mapping.{bytes_of};
 ghost use Rattle.acpi_base.specs.Model.{io_apic_in, items_of, override_in};
 ghost use Rattle.acpi_base.specs.Pin.{base_of, nearest};
-ghost use Rattle.acpi_c_lib.specs.Answers.{Answers};
 ghost use Rattle.acpi_c_lib.specs.Routes as routes;
 ghost use Rattle.acpi_c_lib.specs.Routes.{is_nearer, isa_below, pin_below, sci_below};
 
-use crate::answer::answer;
 use crate::interrupt_codes::{io_apic_record, polarity_code, trigger_code};
 use crate::interrupt_records::{InterruptRecord, PinRecord};
 use crate::interrupts::apic_madt;
 use crate::opening::open;
-use crate::records::{Name, Source};
+use crate::records::Source;
 use crate::refusal::Refusal;
 use crate::regions::Mapped;
 use acpi::fadt::Fadt;
@@ -25,58 +23,8 @@ use acpi::platform::interrupt::{
 use acpi::{Lender, PhysicalMapping};
 use acpi_base::model::{MadtItem, straight, wired};
 
-/// The global system interrupt of one of the 16 ISA interrupts: as its last override says, or that of the same number,
-/// active high and by edge (section 5.2.12.5).
-///
-/// Refuses as `acpi_interrupt_model` does, and then, in this order, with `ACPI_NO_APICS` if no valid MADT has an
-/// entry of a machine with APICs, and with `ACPI_NO_SUCH_INTERRUPT` for a number above 15 and for one without an
-/// override that another one's override has taken.
-#[unsafe(no_mangle)]
-pub extern "C" fn acpi_isa_interrupt(
-    source: &Source<'_>,
-    irq: u8,
-    out: &mut InterruptRecord,
-    named: &mut Name,
-) -> u32
-    ensures { Answers result out.old out.new named.old named.new (isa_below source.now irq) }
-{
-    answer(isa(source, irq), out, named)
-}
-
-/// The global system interrupt of the System Control Interrupt (SCI_INT of the first valid FADT): active low and by
-/// level, unless it is below 16 and its last override says otherwise (sections 5.2.9 and 5.2.12.5).
-///
-/// Refuses as `acpi_interrupt_model` does, and then with `ACPI_NO_APICS` if no valid MADT has an entry of a machine
-/// with APICs.
-#[unsafe(no_mangle)]
-pub extern "C" fn acpi_sci_interrupt(
-    source: &Source<'_>,
-    out: &mut InterruptRecord,
-    named: &mut Name,
-) -> u32
-    ensures { Answers result out.old out.new named.old named.new (sci_below source.now) }
-{
-    answer(sci(source), out, named)
-}
-
-/// The I/O APIC that a global system interrupt comes to, and the pin there: the first one with the greatest Global
-/// System Interrupt Base that is at most the interrupt (sections 5.2.12.3 and 5.2.13).
-///
-/// Refuses as `acpi_interrupt_model` does, and then, in this order, with `ACPI_NO_APICS` if no valid MADT has an entry
-/// of a machine with APICs, and with `ACPI_NO_SUCH_IO_APIC` if each base is above the interrupt.
-#[unsafe(no_mangle)]
-pub extern "C" fn acpi_io_apic_pin(
-    source: &Source<'_>,
-    interrupt: u32,
-    out: &mut PinRecord,
-    named: &mut Name,
-) -> u32
-    ensures { Answers result out.old out.new named.old named.new (pin_below source.now interrupt) }
-{
-    answer(pin(source, interrupt), out, named)
-}
-
-fn isa(source: &Source<'_>, irq: u8) -> Result<InterruptRecord, Refusal>
+/// The global system interrupt of one of the 16 ISA interrupts.
+pub fn isa(source: &Source<'_>, irq: u8) -> Result<InterruptRecord, Refusal>
     ensures { result ≡ isa_below source.now irq }
 {
     let memory = Mapped::new(source.regions)?;
@@ -90,7 +38,8 @@ fn isa(source: &Source<'_>, irq: u8) -> Result<InterruptRecord, Refusal>
     }
 }
 
-fn sci(source: &Source<'_>) -> Result<InterruptRecord, Refusal>
+/// The global system interrupt of the System Control Interrupt.
+pub fn sci(source: &Source<'_>) -> Result<InterruptRecord, Refusal>
     ensures { result ≡ sci_below source.now }
 {
     let memory = Mapped::new(source.regions)?;
@@ -103,7 +52,8 @@ fn sci(source: &Source<'_>) -> Result<InterruptRecord, Refusal>
     }
 }
 
-fn pin(source: &Source<'_>, interrupt: u32) -> Result<PinRecord, Refusal>
+/// The I/O APIC that a global system interrupt comes to, and the pin there.
+pub fn pin(source: &Source<'_>, interrupt: u32) -> Result<PinRecord, Refusal>
     ensures { result ≡ pin_below source.now interrupt }
 {
     let memory = Mapped::new(source.regions)?;

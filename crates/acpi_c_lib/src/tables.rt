@@ -3,61 +3,16 @@ ghost use Rattle.std.specs.Prelude.{◌≡◌, ◌^◌, ◌<◌, length};
 ghost use Rattle.acpi.specs.Pointers.{pointers_left};
 ghost use Rattle.acpi.specs.Tables.{of_tables};
 ghost use Rattle.acpi_base.specs.Mapping.{bytes_of, start_of};
-ghost use Rattle.acpi_c_lib.specs.Answers.{Answers, AnswersList, Fills, put_from};
+ghost use Rattle.acpi_c_lib.specs.Answers.{Fills, put_from};
 ghost use Rattle.acpi_c_lib.specs.Shown.{dsdt_below, first_named, table_below, table_record, tables_below, tables_in};
 
-use crate::answer::{answer, put};
+use crate::answer::put;
 use crate::opening::open;
 use crate::records::{Aml, Name, Source, Table};
 use crate::refusal::Refusal;
 use crate::regions::Mapped;
 use acpi::sdt::{SdtHeader, Signature, map_own_sdt};
 use acpi::{AcpiHandler, AcpiResult, AcpiTables, PhysicalMapping, Pointers};
-
-/// All tables that are listed and valid under the signatures that they bear, in the order of the root
-/// table, repeats kept (section 5.2.6): as many as there is room for, and how many there are.
-///
-/// Refuses as opening the tables does, and with nothing else.
-#[unsafe(no_mangle)]
-pub extern "C" fn acpi_list_tables(
-    source: &Source<'_>,
-    out: &mut [Table],
-    count: &mut usize,
-    named: &mut Name,
-) -> u32
-    ensures { AnswersList result out.old out.new count.old count.new named.old named.new
-        (tables_below source.now) }
-{
-    answer(tables(source, out), count, named)
-}
-
-/// The first valid table of a signature (section 5.2.6).
-///
-/// Refuses as opening the tables does, and then with `ACPI_TABLE_MISSING`, which carries the signature.
-#[unsafe(no_mangle)]
-pub extern "C" fn acpi_find_table(
-    source: &Source<'_>,
-    name: Name,
-    out: &mut Table,
-    named: &mut Name,
-) -> u32
-    ensures { Answers result out.old out.new named.old named.new (table_below source.now name) }
-{
-    answer(find(source, name), out, named)
-}
-
-/// The AML of the DSDT that the first valid FADT names (sections 5.2.9 and 5.2.11.1): its physical address after the 36
-/// bytes of header, and its length in bytes.
-///
-/// Refuses as opening the tables does, and then, in this order, with `ACPI_TABLE_MISSING` for "FACP", with
-/// `ACPI_INVALID_DSDT_ADDRESS`, and with the refusal of the table at that address, which carries "DSDT" if it carries a
-/// signature.
-#[unsafe(no_mangle)]
-pub extern "C" fn acpi_dsdt(source: &Source<'_>, out: &mut Aml, named: &mut Name) -> u32
-    ensures { Answers result out.old out.new named.old named.new (dsdt_below source.now) }
-{
-    answer(dsdt(source), out, named)
-}
 
 /// A table, by its mapping.
 pub(crate) fn entry<H: AcpiHandler>(table: &PhysicalMapping<'_, H, SdtHeader>) -> Table
@@ -90,8 +45,8 @@ fn fill_tables<H: AcpiHandler>(handler: &H, addresses: Pointers<'_>, out: &mut [
     count
 }
 
-/// The tables that are valid.
-fn tables(source: &Source<'_>, out: &mut [Table]) -> Result<usize, Refusal>
+/// Lists all tables that are valid under the signatures that they bear.
+pub fn tables(source: &Source<'_>, out: &mut [Table]) -> Result<usize, Refusal>
     ensures { Fills result out.old out.new (tables_below source.now) }
 {
     let memory = Mapped::new(source.regions)?;
@@ -99,8 +54,8 @@ fn tables(source: &Source<'_>, out: &mut [Table]) -> Result<usize, Refusal>
     Ok(fill_tables(&memory, tables.addresses(), out))
 }
 
-/// The first table of a signature that is valid.
-fn find(source: &Source<'_>, name: Name) -> Result<Table, Refusal>
+/// The first valid table of a signature.
+pub fn find(source: &Source<'_>, name: Name) -> Result<Table, Refusal>
     ensures { result ≡ table_below source.now name }
 {
     let memory = Mapped::new(source.regions)?;
@@ -118,8 +73,8 @@ fn first_named<H: AcpiHandler>(tables: &AcpiTables<'_, H>, name: Name) -> AcpiRe
     Ok(entry(&table))
 }
 
-/// The AML of the DSDT.
-fn dsdt(source: &Source<'_>) -> Result<Aml, Refusal>
+/// The AML of the DSDT that the first valid FADT names.
+pub fn dsdt(source: &Source<'_>) -> Result<Aml, Refusal>
     ensures { result ≡ dsdt_below source.now }
 {
     let memory = Mapped::new(source.regions)?;

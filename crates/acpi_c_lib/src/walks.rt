@@ -4,12 +4,11 @@ ghost use Rattle.std.specs.Prelude.{◌≡◌, ◌^◌, ◌<◌, length, map};
 ghost use Rattle.acpi.specs.Placed.{places_left};
 ghost use Rattle.acpi.specs.Pointers.{pointers_left};
 ghost use Rattle.acpi.specs.Walks.{ssdts_left};
-ghost use Rattle.acpi_base.specs.Table.{plain_kind};
-ghost use Rattle.acpi_c_lib.specs.Answers.{Answers, AnswersList, Fills, put_from};
+ghost use Rattle.acpi_c_lib.specs.Answers.{Fills, put_from};
 ghost use Rattle.acpi_c_lib.specs.Shown.{aml_record, signature_named};
 ghost use Rattle.acpi_c_lib.specs.Walked.{nth_below, nth_in, range_record, ranges_below, ssdts_below};
 
-use crate::answer::{answer, put};
+use crate::answer::put;
 use crate::opening::open;
 use crate::records::{Aml, Name, Range, Source, Table};
 use crate::refusal::Refusal;
@@ -18,60 +17,8 @@ use crate::tables::entry;
 use acpi::sdt::{Signature, map_sdt};
 use acpi::{AcpiError, AcpiHandler, AcpiResult, Lender, Pointers, SsdtIterator, TableRanges};
 
-/// The valid table of a signature that so many other valid ones of it are listed before (section 5.2.6): 0 is the
-/// first.
-///
-/// Refuses as opening the tables does, and then with `ACPI_TABLE_MISSING`, which carries the signature, if there are no
-/// more than so many.
-#[unsafe(no_mangle)]
-pub extern "C" fn acpi_find_nth_table(
-    source: &Source<'_>,
-    name: Name,
-    index: usize,
-    out: &mut Table,
-    named: &mut Name,
-) -> u32
-    ensures { Answers result out.old out.new named.old named.new (nth_below source.now name index) }
-{
-    answer(nth(source, name, index), out, named)
-}
-
-/// The AML of all valid SSDTs, in the order of the root table (section 5.2.11.2): as many as there is room for, and how
-/// many there are.
-///
-/// Refuses as opening the tables does, and with nothing else.
-#[unsafe(no_mangle)]
-pub extern "C" fn acpi_list_ssdts(
-    source: &Source<'_>,
-    out: &mut [Aml],
-    count: &mut usize,
-    named: &mut Name,
-) -> u32
-    ensures { AnswersList result out.old out.new count.old count.new named.old named.new
-        (ssdts_below source.now) }
-{
-    answer(ssdts(source, out), count, named)
-}
-
-/// The memory that the tables take: the root table, each listed table that is valid under its own signature, the DSDT
-/// of the first valid FADT if it is valid, and that FADT's FACS if it is lent (sections 5.2.6, 5.2.9 and 5.2.10). As
-/// many ranges as there is room for, and how many there are.
-///
-/// Refuses as opening the tables does, and with nothing else.
-#[unsafe(no_mangle)]
-pub extern "C" fn acpi_list_ranges(
-    source: &Source<'_>,
-    out: &mut [Range],
-    count: &mut usize,
-    named: &mut Name,
-) -> u32
-    ensures { AnswersList result out.old out.new count.old count.new named.old named.new
-        (ranges_below source.now) }
-{
-    answer(ranges(source, out), count, named)
-}
-
-fn nth(source: &Source<'_>, name: Name, index: usize) -> Result<Table, Refusal>
+/// The valid table of a signature that so many other valid ones of it are listed before.
+pub fn nth(source: &Source<'_>, name: Name, index: usize) -> Result<Table, Refusal>
     ensures { result ≡ nth_below source.now name index }
 {
     let memory = Mapped::new(source.regions)?;
@@ -120,7 +67,8 @@ fn nth_of<H: AcpiHandler>(
     Err(AcpiError::TableMissing(signature))
 }
 
-fn ssdts(source: &Source<'_>, out: &mut [Aml]) -> Result<usize, Refusal>
+/// Lists the AML of all valid SSDTs.
+pub fn ssdts(source: &Source<'_>, out: &mut [Aml]) -> Result<usize, Refusal>
     ensures { Fills result out.old out.new (ssdts_below source.now) }
 {
     let memory = Mapped::new(source.regions)?;
@@ -148,7 +96,8 @@ fn fill_ssdts<H: Lender>(ssdts: SsdtIterator<'_, '_, H>, out: &mut [Aml]) -> usi
     count
 }
 
-fn ranges(source: &Source<'_>, out: &mut [Range]) -> Result<usize, Refusal>
+/// Lists the memory that the tables take.
+pub fn ranges(source: &Source<'_>, out: &mut [Range]) -> Result<usize, Refusal>
     ensures { Fills result out.old out.new (ranges_below source.now) }
 {
     let memory = Mapped::new(source.regions)?;
