@@ -1,7 +1,9 @@
 //! Steps that ask something of the tables.
 
-use crate::said::{Hex, Pair};
-use crate::step::Step;
+use crate::gathered::{say_gic, say_memory};
+use crate::lists::{list_headers, list_members, list_ranges, list_streams};
+use crate::said::{Hex, Pair, Place};
+use crate::step::{Step, signature_of};
 use crate::summaries::summary;
 use crate::transcript::Transcript;
 use crate::verb::{Kind, Verb};
@@ -24,14 +26,19 @@ pub(crate) fn ask<H: AcpiHandler>(
     step: Step<'_>,
 ) {
     match step.verb {
-        Verb::Find | Verb::Faults => look_up(transcript, tables, step),
+        Verb::Find | Verb::All | Verb::Faults => look_up(transcript, tables, step),
+        Verb::Sdt => transcript.find(tables.find_sdt(signature_of(step.name))),
+        Verb::Members => list_members(transcript, tables, step.most()),
         Verb::Headers => list_headers(transcript, tables, step.most()),
         Verb::Ssdts => list_streams(transcript, tables, step.most()),
+        Verb::Ranges => list_ranges(transcript, tables, step.most()),
         Verb::Checks => count_checks(transcript, tables),
         Verb::Dsdt => say_dsdt(transcript, tables),
         Verb::Platform | Verb::Hpet | Verb::Pci | Verb::Wake => {
             sum_up(alloc, transcript, tables, step);
         }
+        Verb::Gic => say_gic(alloc, transcript, tables, step),
+        Verb::Memory => say_memory(alloc, transcript, tables, step),
         _ => transcript.say(&"no such question"),
     }
 }
@@ -57,7 +64,7 @@ fn sum_up<H: AcpiHandler>(
     }
 }
 
-/// Looks a table up or lists why others are passed over, by the name of its type.
+/// Looks tables up or lists why others are passed over, by the name of their type.
 fn look_up<H: AcpiHandler>(
     transcript: &mut Transcript<'_>,
     tables: &AcpiTables<'_, H>,
@@ -75,7 +82,7 @@ fn look_up<H: AcpiHandler>(
     }
 }
 
-/// Looks the table of a type up, or lists why others are passed over.
+/// Looks the table or all tables of a type up, or lists why others are passed over.
 fn look_up_type<T: AcpiTable, H: AcpiHandler>(
     transcript: &mut Transcript<'_>,
     tables: &AcpiTables<'_, H>,
@@ -83,6 +90,7 @@ fn look_up_type<T: AcpiTable, H: AcpiHandler>(
 ) {
     match step.verb {
         Verb::Find => transcript.find(tables.find_table::<T>()),
+        Verb::All => list_found::<T, H>(transcript, tables, step.most()),
         _ => list_faults::<T, H>(transcript, tables, step.most()),
     }
 }
@@ -97,24 +105,14 @@ fn list_faults<T: AcpiTable, H: AcpiHandler>(
     }
 }
 
-fn list_headers<H: AcpiHandler>(
+/// Lists the mappings of all tables of a type, each of which is dropped before the next one is asked for.
+fn list_found<T: AcpiTable, H: AcpiHandler>(
     transcript: &mut Transcript<'_>,
     tables: &AcpiTables<'_, H>,
     most: usize,
 ) {
-    for header in tables.headers().take(most) {
-        transcript.say(&Pair(header.signature, header.length));
-    }
-}
-
-/// Lists the AML of the SSDTs.
-fn list_streams<H: AcpiHandler>(
-    transcript: &mut Transcript<'_>,
-    tables: &AcpiTables<'_, H>,
-    most: usize,
-) {
-    for stream in tables.ssdts().take(most) {
-        transcript.say(&Pair(Hex(stream.address), stream.length));
+    for table in tables.find_tables::<T>().take(most) {
+        transcript.say(&Place::of(&table));
     }
 }
 

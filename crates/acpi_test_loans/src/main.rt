@@ -8,23 +8,28 @@
 //! bytes are asked for or shown, and how many are lent. What a call answers, or an iterator gives,
 //! follows `=`, and `|` what is lent at the end, by address and length.
 //!
-//! - `rsdt REVISION ADDRESS`, `rsdp ADDRESS`, `bios` and `validated` open tables: by the root
-//!   table, by the RSDP, by the search, and by the mapping that the search for an RSDP alone finds.
-//!   `close` drops them.
+//! - `rsdt REVISION ADDRESS`, `rsdp ADDRESS`, `bios`, `within ADDRESS LENGTH` and `validated` open
+//!   tables: by the root table, by the RSDP, by the search, by that in an area of so many bytes, and
+//!   by the mapping that the search for an RSDP alone finds. `close` drops them.
 //! - `keep` finds the boot graphic and keeps its mapping. `table ADDRESS`, `named NAME ADDRESS`,
 //!   `own ADDRESS` and `map ADDRESS` keep what they map at an address, and `given ADDRESS` maps bytes
 //!   that were lent before. `show` says what the mapping that was kept last holds, and
 //!   `release PLACE` drops one of them, or else the first.
 //! - `find NAME` looks a table up and drops it, as `search` does with an RSDP, and `search ADDRESS
-//!   LENGTH` with one in an area. `checks` says how often the table was checked.
-//! - `headers`, `ssdts` and `faults NAME` list to the end, or so many items as a number says.
-//! - `dsdt`, `platform`, `hpet`, `pci` and `wake READS` sum tables up. A number after `platform`
-//!   or `pci` is the size of a heap.
+//!   LENGTH` with one in an area, and `sdt NAME` with a table looked up by its signature alone.
+//!   `checks` says how often the table was checked.
+//! - `members`, `headers`, `ssdts`, `ranges`, `faults NAME` and `all NAME` list to the end, or so many
+//!   items as a number says. `all` drops each table before the next one is asked for.
+//! - `dsdt`, `platform`, `hpet`, `pci`, `wake READS`, `gic` and `memory` sum tables up: `gic` says how
+//!   many parts the GIC has, and `memory` how many ranges of memory lie in domains. A number after
+//!   `platform`, `pci`, `gic` or `memory` is the size of a heap.
 //!
 //! Bytes under the kind `header` are asked whether they are a valid table of a name.
 #![tactic(auto)]
 
+mod gathered;
 mod kept;
+mod lists;
 mod lookups;
 mod said;
 mod scene;

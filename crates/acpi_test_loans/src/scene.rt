@@ -45,7 +45,9 @@ impl<'r, H: AcpiHandler> Scene<'r, H> {
     /// Does a step.
     fn perform(&mut self, alloc: Global, step: Step<'_>) {
         match step.verb {
-            Verb::Rsdt | Verb::Rsdp | Verb::Bios | Verb::Validated => self.open(step),
+            Verb::Rsdt | Verb::Rsdp | Verb::Bios | Verb::Validated | Verb::Within => {
+                self.open(step);
+            }
             Verb::Search => self.transcript.find(searched(self.handler, step)),
             Verb::Close => self.tables = None,
             Verb::Release => self.release(step.count() as usize),
@@ -125,22 +127,25 @@ fn searched<'h, H: AcpiHandler>(
 ) -> AcpiResult<PhysicalMapping<'h, H, Rsdp>> {
     match step.number {
         None => Rsdp::search_for_on_bios(handler),
-        Some(number) => {
-            let area = AddressRange {
-                address: step.address,
-                length: number as u64,
-            };
-            Rsdp::search_in(handler, &[area])
-        }
+        Some(_) => Rsdp::search_in(handler, &[area_of(step)]),
+    }
+}
+
+/// The area that a step says: so many bytes from its address on.
+fn area_of(step: Step<'_>) -> AddressRange {
+    AddressRange {
+        address: step.address,
+        length: step.count() as u64,
     }
 }
 
 /// The tables that a step opens.
 fn opened<'h, H: AcpiHandler>(handler: &'h H, step: Step<'_>) -> AcpiResult<AcpiTables<'h, H>> {
     match step.verb {
-        Verb::Rsdt => AcpiTables::from_rsdt(handler, step.count(), step.address),
+        Verb::Rsdt => AcpiTables::from_rsdt(handler, step.revision(), step.address),
         Verb::Rsdp => AcpiTables::from_rsdp(handler, step.address),
         Verb::Bios => AcpiTables::search_for_rsdp_bios(handler),
+        Verb::Within => AcpiTables::search_in(handler, &[area_of(step)]),
         _ => AcpiTables::from_validated_rsdp(handler, Rsdp::search_for_on_bios(handler)?),
     }
 }

@@ -10,7 +10,7 @@ use acpi_cli::parse_address;
 pub(crate) struct Step<'s> {
     pub(crate) verb: Verb,
     pub(crate) name: &'s str,
-    pub(crate) number: Option<u8>,
+    pub(crate) number: Option<u16>,
     pub(crate) address: u64,
 }
 
@@ -26,7 +26,7 @@ impl<'s> Step<'s> {
         for word in rest.split(' ') {
             if let Some(address) = parse_address(word) {
                 step.address = address;
-            } else if let Ok(number) = word.parse::<u8>() {
+            } else if let Ok(number) = word.parse::<u16>() {
                 step.number = Some(number);
             } else {
                 step.name = word;
@@ -36,21 +36,25 @@ impl<'s> Step<'s> {
     }
 
     /// The number, or 0 if there is none.
-    pub(crate) fn count(&self) -> u8 {
+    pub(crate) fn count(&self) -> u16 {
         self.number.unwrap_or(0)
+    }
+
+    /// The number as a revision, 255 at most.
+    pub(crate) fn revision(&self) -> u8 {
+        u8::try_from(self.count()).unwrap_or(u8::MAX)
     }
 
     /// How many items are listed at most.
     pub(crate) fn most(&self) -> usize {
-        self.number.unwrap_or(u8::MAX) as usize
+        self.number.unwrap_or(u16::MAX) as usize
     }
 }
 
-/// The signature of a name; that of a boot graphic if it is none of these.
+/// The signature of a name of four letters; that of a boot graphic for any other.
 pub(crate) fn signature_of(name: &str) -> Signature {
-    match name {
-        "SSDT" => Signature::SSDT,
-        "DSDT" => Signature::DSDT,
+    match name.as_bytes() {
+        [a, b, c, d] => Signature::from_bytes([*a, *b, *c, *d]),
         _ => Signature::BGRT,
     }
 }

@@ -52,7 +52,7 @@ fn gathered_in<H: AcpiHandler>(
 }
 
 /// How many writes wake a processor, if it answers the mailbox in so many reads.
-fn wake<H: AcpiHandler>(tables: &AcpiTables<'_, H>, reads: u8) -> AcpiResult<u64> {
+fn wake<H: AcpiHandler>(tables: &AcpiTables<'_, H>, reads: u16) -> AcpiResult<u64> {
     let mut mailbox = ScriptedMailbox::new(&[0]);
     wakeup_aps(tables, &mut mailbox, 1, 0x8000, reads as u64)?;
     Ok(mailbox.writes().len() as u64)
