@@ -14,15 +14,53 @@
 #define REFUSED(call, machine, letters, arguments, status, named) \
     {&call_##call, machine, letters, arguments, status, named, 0, NULL, 0}
 
+/* The fixed hardware of an FADT that has a FACS, a DSDT and a power profile, and else zeros: PM1a is present at port 0,
+ * and RESET_REG is past the end. */
+#define PROFILE(machine, facs, dsdt, profile) \
+    GOOD(fixed_hardware, machine, NULL, NO, 1, facs, dsdt, 0, 1, 0, 0, 0, 1, ABSENT, 0, 1, 0, 0, 0, 1, ABSENT, \
+         ABSENT, ABSENT, ABSENT, ABSENT, 0, 0, 0, 0, 0, 1, ABSENT, ABSENT, 0, 0, 0, 0, 0, 0, 0, 0, \
+         0, 0, 0, 0, 0, 0, 0, 0, 0, profile, 0, 0, 0, 0, 0, 0, 0, 0, 0, 0, 0, 0)
+/* The first of two tables is a byte too short. */
+#define LEAST_OF(letters, short_one) \
+    GOOD(list_faults, LEAST, letters, NO, 1, AT(short_one), ACPI_SDT_INVALID_LENGTH)
+
 static const struct row rows[] = {
     GOOD(open, PC, NULL, NO, 1, AT(PC), 68, 2, 8),
     GOOD(open, ARM, NULL, NO, 1, AT(ARM), 56, 0, 4),
     REFUSED(open, START_RSDP, NULL, NO, ACPI_MAP_FAILED, NULL),
+    GOOD(open, RSDP_0, NULL, NO, 1, AT(ARM), 56, 0, 4),
+    GOOD(open, RSDP_2, NULL, NO, 1, AT(PC), 68, 2, 8),
+    GOOD(open, RSDP_MIXED, NULL, NO, 1, AT(ARM), 56, 2, 4), /* XsdtAddress is 0 */
+    REFUSED(open, RSDP_LONG, NULL, NO, ACPI_MAP_FAILED, NULL),
+    REFUSED(open, RSDP_LOST, NULL, NO, ACPI_MAP_FAILED, NULL),
+    REFUSED(open, RSDP_CUT, NULL, NO, ACPI_MAP_FAILED, NULL),
+    REFUSED(open, RSDP_SHORT, NULL, NO, ACPI_RSDP_INVALID_CHECKSUM, NULL),
+    REFUSED(open, RSDP_NONE, NULL, NO, ACPI_RSDP_INCORRECT_SIGNATURE, NULL),
+    GOOD(open, FOUND, NULL, NO, 1, BIOS + 0x10000, 36, 0, 4),
+    REFUSED(open, NO_BIOS, NULL, NO, ACPI_MAP_FAILED, NULL),
+    REFUSED(open, NO_EBDA, NULL, NO, ACPI_MAP_FAILED, NULL),
+    REFUSED(open, NO_RSDP, NULL, NO, ACPI_NO_VALID_RSDP, NULL),
+    REFUSED(open, NO_ROOT, NULL, NO, ACPI_MAP_FAILED, NULL),
 
     /* The header of a member, a table whose header is lent, and the DSDT and the FACS of the FADT. */
     GOOD(list_missing_ranges, HOLES, NULL, NO, 4, 0x200000, 36, TAIL, 80, 0x300000, 36, 0x400000, 36),
     GOOD(list_missing_ranges, START_RSDP, NULL, NO, 1, 0x200000, 36),
     GOOD(list_missing_ranges, START_SEARCH, NULL, NO, 1, 0x40e, 2),
+    GOOD(list_missing_ranges, NO_BIOS, NULL, NO, 1, BIOS, 0x20010),
+    GOOD(list_missing_ranges, NO_EBDA, NULL, NO, 1, 0x90000, 0x410), /* 1 KiB, by the word at 0x40e */
+    GOOD(list_missing_ranges, NO_LOW, NULL, NO, 1, 0x80000, 0x20010), /* the word at 0x40e is 0 */
+    NOTHING(list_missing_ranges, NO_RSDP),
+    NOTHING(list_missing_ranges, FOUND), /* the second area isn't asked for */
+    GOOD(list_missing_ranges, NO_ROOT, NULL, NO, 1, 0x200000, 36),
+    GOOD(list_missing_ranges, RSDP_LONG, NULL, NO, 1, AT(RSDP_LONG), SIZE),
+    GOOD(list_missing_ranges, RSDP_LOST, NULL, NO, 1, 0x300000000, 36),
+    GOOD(list_missing_ranges, RSDP_CUT, NULL, NO, 1, CUT(2), 52),
+    NOTHING(list_missing_ranges, RSDP_SHORT),
+    /* Of the DSDT and the FACS the headers are lent. */
+    GOOD(list_missing_ranges, SOHO, NULL, NO, 2, CUT(1), 60, CUT(0), 64),
+    GOOD(list_missing_ranges, WIDE, NULL, NO, 2, 0x500002000, 36, 0x500001000, 36),
+    NOTHING(list_missing_ranges, APPLIANCE),
+    NOTHING(list_missing_ranges, PERFORMANCE), /* neither is one, but nothing is missing */
     NOTHING(list_missing_ranges, ARM),
     NOTHING(list_missing_ranges, SUM), /* it is refused, but nothing is missing */
 
@@ -32,15 +70,56 @@ static const struct row rows[] = {
     GOOD(find_nth_table, PC, "HPET", A(1), 1, AT(HPET), 56, LETTERS('H', 'P', 'E', 'T'), 1),
     GOOD(list_faults, PC, "HPET", NO, 1, AT(HPET_SHORT), ACPI_SDT_INVALID_LENGTH),
     GOOD(list_faults, HOLES, "OEM1", NO, 2, 0x200000, ACPI_MAP_FAILED, TAIL, ACPI_MAP_FAILED),
+    LEAST_OF("FACP", FADT_115), LEAST_OF("APIC", MADT_43), LEAST_OF("MCFG", MCFG_43), LEAST_OF("HPET", HPET_55),
+    LEAST_OF("BGRT", BGRT_55), LEAST_OF("SPCR", SPCR_79), LEAST_OF("GTDT", GTDT_95), LEAST_OF("SRAT", SRAT_47),
+    LEAST_OF("SLIT", SLIT_43), LEAST_OF("OEM2", OEM2_35),
+    GOOD(find_table, LEAST, "OEM2", NO, 1, AT(OEM2_36), 36, LETTERS('O', 'E', 'M', '2'), 1),
+    GOOD(list_tables, PC, NULL, NO, 4, AT(FADT), 276, LETTERS('F', 'A', 'C', 'P'), 6,
+         AT(MADT_PC), 96, LETTERS('A', 'P', 'I', 'C'), 4, AT(HPET_SHORT), 48, LETTERS('H', 'P', 'E', 'T'), 3,
+         AT(HPET), 56, LETTERS('H', 'P', 'E', 'T'), 1),
+    NOTHING(list_tables, EMPTY),
     GOOD(hpet, PC, NULL, NO, 1, 0x1fed00000, 0x8086a201, 0x80, 1, 2),
+    GOOD(hpet, DESKTOP, NULL, NO, 1, 0xfed00000, 0x10de8201, 0x90f3, 2, 0),
+    GOOD(hpet, MOBILE, NULL, NO, 1, 0xfed10000, 0x10de8202, 0x1234, 3, 1),
+    GOOD(hpet, WORKSTATION, NULL, NO, 1, 0xfed20000, 0x10de8203, 0x5678, 4, 3),
+    GOOD(hpet, SERVER, NULL, NO, 1, 0xfed30000, 0x10de8204, 0x9abc, 5, 3), /* 11 is reserved too */
+    GOOD(hpet, LEAST, NULL, NO, 1, 0, 0, 0, 0, 0),
+    REFUSED(hpet, SOHO, NULL, NO, ACPI_INVALID_GENERIC_ADDRESS, NULL),
+    GOOD(boot_graphic, DESKTOP, NULL, NO, 1, 0x2abcdef00, 800, 600, 90, 1, 0),
+    GOOD(boot_graphic, MOBILE, NULL, NO, 1, 0x7f000000, 1, 70000, 270, 0, 1),
+    GOOD(boot_graphic, WORKSTATION, NULL, NO, 1, ONES, 0xffffffff, 0, 180, 1, 1),
+    GOOD(boot_graphic, LEAST, NULL, NO, 1, 0, 0, 0, 0, 0, 0),
+    REFUSED(boot_graphic, EMPTY, NULL, NO, ACPI_TABLE_MISSING, "BGRT"),
+    GOOD(console, DESKTOP, NULL, NO, 1, 0x3fe002000, 0, 32, 4, 3, 1, 230400, 0x12345, 48000000, 0x0a0b0c0d,
+         0x1a2b, 0x3c4d, 0x12, 11, 1, 1, 1, 5, 6, 0x31, 0x21, 0x1e, 4),
+    /* In revision 2 no clock; an interrupt of a GIC or the like, and no IRQ. */
+    GOOD(console, MOBILE, NULL, NO, 1, REFUSED_REGISTER, 9600, 0x21, 0, 1, 0xffff, 0xffff, 1, 0, 0, 1, 1, 0, 1,
+         0, 0, 0, 0),
+    /* No base; an IRQ, and no global system interrupt; no baud rate. */
+    GOOD(console, WORKSTATION, NULL, NO, 1, ABSENT, 0, 0, 0, 0, 0, 0xffff, 0x15, 5, 1, 0, 0, 0, 0, 0, 0, 0, 0),
+    GOOD(console, LEAST, NULL, NO, 1, ABSENT, 0, 0, 0, 0, 0, 0, 0, 0, 0, 0, 0, 0, 0, 0, 0, 0, 0),
+    REFUSED(console, EMPTY, NULL, NO, ACPI_TABLE_MISSING, "SPCR"),
     REFUSED(find_table, ARM, "HPET", NO, ACPI_TABLE_MISSING, "HPET"),
     REFUSED(find_table, HOLES, "OEM1", NO, ACPI_TABLE_MISSING, "OEM1"),
     REFUSED(find_nth_table, PC, "HPET", A(2), ACPI_TABLE_MISSING, "HPET"),
     REFUSED(hpet, EMPTY, NULL, NO, ACPI_TABLE_MISSING, "HPET"),
     REFUSED(dsdt, PC, NULL, NO, ACPI_MAP_FAILED, NULL), /* X_DSDT is 0, and at DSDT nothing is lent */
+    GOOD(dsdt, APPLIANCE, NULL, NO, 1, AT(DSDT) + 36, 24),
+    REFUSED(dsdt, SOHO, NULL, NO, ACPI_MAP_FAILED, NULL), /* its header is lent */
+    REFUSED(dsdt, PERFORMANCE, NULL, NO, ACPI_SDT_INVALID_SIGNATURE, "DSDT"),
+    REFUSED(dsdt, TABLET, NULL, NO, ACPI_INVALID_DSDT_ADDRESS, NULL),
+    REFUSED(dsdt, EMPTY, NULL, NO, ACPI_TABLE_MISSING, "FACP"),
+    /* The second has no AML, and the first is listed twice. */
+    GOOD(list_ssdts, APPLIANCE, NULL, NO, 3, AT(SSDT_12) + 36, 12, AT(SSDT_0) + 36, 0, AT(SSDT_12) + 36, 12),
+    NOTHING(list_ssdts, PC),
 
     /* The root table and its members: neither the DSDT nor the FACS is lent. */
     GOOD(list_ranges, PC, NULL, NO, 5, AT(PC), 68, AT(FADT), 276, AT(MADT_PC), 96, AT(HPET_SHORT), 48, AT(HPET), 56),
+    /* All of them, repeats kept, and then the DSDT and the FACS. */
+    GOOD(list_ranges, APPLIANCE, NULL, NO, 7, AT(APPLIANCE), 52, AT(FADT_APPLIANCE), 116, AT(SSDT_12), 48,
+         AT(SSDT_0), 36, AT(SSDT_12), 48, AT(DSDT), 60, AT(FACS), 64),
+    GOOD(list_ranges, PERFORMANCE, NULL, NO, 2, AT(PERFORMANCE), 40, AT(FADT_PERFORMANCE), 116), /* FACS: 63 bytes */
+    GOOD(list_ranges, SOHO, NULL, NO, 3, AT(SOHO), 44, AT(FADT_SOHO), 116, AT(HPET_PORT), 56), /* they are cut off */
 
     GOOD(fixed_hardware, PC, NULL, NO, 1, 0x123456000, 0x8000,
          0x200000600, 0, 32, 0, 3, 1, 0x680, 1, 32, 0, 0, 1, REFUSED_REGISTER, ABSENT, /* PM1 */
@@ -53,7 +132,29 @@ static const struct row rows[] = {
          0, 1, 0, 0, 0, 1, ABSENT, 0, 1, 0, 0, 0, 1, ABSENT, /* PM1a: present at port 0 */
          ABSENT, ABSENT, ABSENT, ABSENT, 0, 0, 0, 0, 0, 1,   /* RESET_REG is past the end */
          ABSENT, ABSENT, 0, 0, 0, 0, 0, 0, 0, 0, ABSENT, ABSENT, ABSENT, 0, 0, 0, 0),
+    PROFILE(DESKTOP, 0, 0, 1), PROFILE(MOBILE, 0, 0, 2), PROFILE(WORKSTATION, 0, 0, 3), PROFILE(SERVER, 0, 0, 4),
+    PROFILE(SOHO, CUT(0), CUT(1), 5), PROFILE(APPLIANCE, AT(FACS), AT(DSDT), 6),
+    PROFILE(PERFORMANCE, AT(FACS_SHORT), AT(DSDT_OTHER), 7), PROFILE(TABLET, 0, 0, 8), PROFILE(RESERVED, 0, 0, 9),
+    PROFILE(LEAST, 0, 0, 0),
+    GOOD(fixed_hardware, WIDE, NULL, NO, 1, 0x500001000, 0x500002000,
+         0x500003000, 0, 32, 0, 3, 1, 0x500004000, 0, 31, 1, 2, 1, /* PM1a_EVT, PM1b_EVT */
+         0x500005000, 0, 30, 2, 1, 1, 0x500006000, 0, 29, 3, 4, 1, /* PM1a_CNT, PM1b_CNT */
+         0x500007000, 0, 28, 4, 3, 1, 0x500008000, 0, 27, 5, 3, 1, /* PM2_CNT, PM_TMR */
+         0x500000000, 0, 26, 6, 1, 1, 0x50000a000, 0, 25, 7, 2, 1, /* GPE0, GPE1 */
+         0x50000d000, 2, 22, 10, 1, 1, 0x50000b000, 0, 24, 8, 3, 1, 0x50000c000, 0, 23, 9, 4, 1, /* RESET, SLEEP */
+         0x500000000, 0, 8, 1, 0x50000a000, 0, 16, 1, 0, 0x100, 0, 0, 0, 0, 0, 0, 0, 0, 0, 0, 0, 0, 0, 0, 0, 0, 0, 0,
+         0, 0),
     REFUSED(fixed_hardware, EMPTY, NULL, NO, ACPI_TABLE_MISSING, "FACP"),
+    GOOD(pm_timer, PC, NULL, NO, 1, 0x608, 1, 32, 0, 0, 1, 0),
+    GOOD(pm_timer, WIDE, NULL, NO, 1, 0x500008000, 0, 27, 5, 3, 1, 1),
+    GOOD(pm_timer, HOLES, NULL, NO, 1, ABSENT, 0),
+    REFUSED(pm_timer, TIMER_5, NULL, NO, ACPI_INVALID_GENERIC_ADDRESS, NULL),
+    REFUSED(pm_timer, EMPTY, NULL, NO, ACPI_TABLE_MISSING, "FACP"),
+
+    GOOD(list_pci_regions, ARM, NULL, NO, 4, 0x140000000, 1, 0x10, 0x1f, 0x50000000, 2, 5, 4,
+         0xfffffffffff00000, 3, 0, 1, 0xffffffffffe00000, 4, 0, 0),
+    NOTHING(list_pci_regions, LEAST),
+    REFUSED(list_pci_regions, EMPTY, NULL, NO, ACPI_TABLE_MISSING, "MCFG"),
 
     /* From bus 0x10 on, 16 buses of 1 MiB; no bus; two up to 2^64 and above; one that ends 1 MiB below. */
     GOOD(list_ecam_ranges, ARM, NULL, NO, 4, 0x141000000, 0x1000000, 1, 1, 0, 0, 2, 0, 0, 0, 3, 0,
@@ -69,6 +170,40 @@ static const struct row rows[] = {
     REFUSED(pci_physical_address, ARM, NULL, A(1, 0x12, 0, 8), ACPI_NO_SUCH_FUNCTION, NULL),
     REFUSED(pci_physical_address, EMPTY, NULL, A(1, 0x12, 3, 2), ACPI_TABLE_MISSING, "MCFG"),
 
+    /* The last address of the local APICs; one I/O APIC, two overrides, three sources, four lines, five processors. */
+    GOOD(interrupt_model, DESKTOP, NULL, NO, 1, 0x1fee02000, 1, 2, 3, 4, 5, 1, 1),
+    GOOD(interrupt_model, MOBILE, NULL, NO, 1, 0xfee03000, 0, 0, 0, 0, 2, 1, 0),
+    GOOD(interrupt_model, PC, NULL, NO, 1, 0, 2, 2, 0, 0, 1, 1, 0),
+    GOOD(interrupt_model, WORKSTATION, NULL, NO, 1, 0, 0, 0, 0, 0, 0, 0, 0),
+    GOOD(interrupt_model, HOLES, NULL, NO, 1, 0, 0, 0, 0, 0, 0, 0, 0), /* no MADT */
+    REFUSED(interrupt_model, SERVER, NULL, NO, ACPI_MADT_UNEXPECTED_ENTRY, NULL),
+    REFUSED(interrupt_model, TIMER_5, NULL, NO, ACPI_INVALID_GENERIC_ADDRESS, NULL),
+    REFUSED(interrupt_model, EMPTY, NULL, NO, ACPI_TABLE_MISSING, "FACP"),
+    GOOD(list_io_apics, DESKTOP, NULL, NO, 1, 0xfec02000, 48, 9),
+    GOOD(list_io_apics, PC, NULL, NO, 2, 0xfec00000, 0, 2, 0xfec01000, 24, 3),
+    NOTHING(list_io_apics, MOBILE),
+    REFUSED(list_io_apics, SERVER, NULL, NO, ACPI_MADT_UNEXPECTED_ENTRY, NULL),
+    REFUSED(list_io_apics, EMPTY, NULL, NO, ACPI_TABLE_MISSING, "FACP"),
+    GOOD(list_nmi_sources, DESKTOP, NULL, NO, 3, 50, ACPI_POLARITY_HIGH, ACPI_TRIGGER_EDGE,
+         51, ACPI_POLARITY_LOW, ACPI_TRIGGER_LEVEL, 52, ACPI_POLARITY_BUS, ACPI_TRIGGER_LEVEL),
+    NOTHING(list_nmi_sources, PC),
+    REFUSED(list_nmi_sources, SERVER, NULL, NO, ACPI_MADT_UNEXPECTED_ENTRY, NULL),
+    REFUSED(list_nmi_sources, EMPTY, NULL, NO, ACPI_TABLE_MISSING, "FACP"),
+    GOOD(list_nmi_lines, DESKTOP, NULL, NO, 4, 0, 1, 1, 0x22, 0, 0, 0, 1, 0, 0x567, 0, 1),
+    NOTHING(list_nmi_lines, PC),
+    REFUSED(list_nmi_lines, SERVER, NULL, NO, ACPI_MADT_UNEXPECTED_ENTRY, NULL),
+    REFUSED(list_nmi_lines, EMPTY, NULL, NO, ACPI_TABLE_MISSING, "FACP"),
+    /* The boot processor is the first, and here it is disabled. */
+    GOOD(list_processors, DESKTOP, NULL, NO, 5, 0x21, 0x42, ACPI_PROCESSOR_DISABLED, 1,
+         0x22, 0x44, ACPI_PROCESSOR_WAITING, 0, 0x567, 0x12345, ACPI_PROCESSOR_WAITING, 0,
+         0x568, 0x12346, ACPI_PROCESSOR_DISABLED, 0, 0x23, 0x46, ACPI_PROCESSOR_WAITING, 0),
+    GOOD(list_processors, MOBILE, NULL, NO, 2, 8, 7, ACPI_PROCESSOR_RUNNING, 1, 6, 5, ACPI_PROCESSOR_DISABLED, 0),
+    NOTHING(list_processors, WORKSTATION),
+    REFUSED(list_processors, SERVER, NULL, NO, ACPI_MADT_UNEXPECTED_ENTRY, NULL),
+    REFUSED(list_processors, EMPTY, NULL, NO, ACPI_TABLE_MISSING, "FACP"),
+
+    GOOD(list_overrides, DESKTOP, NULL, NO, 2, 37, 5, ACPI_POLARITY_LOW, ACPI_TRIGGER_LEVEL,
+         38, 12, ACPI_POLARITY_HIGH, ACPI_TRIGGER_BUS),
     GOOD(list_overrides, PC, NULL, NO, 2, 20, 9, ACPI_POLARITY_HIGH, ACPI_TRIGGER_EDGE,
          2, 0, ACPI_POLARITY_BUS, ACPI_TRIGGER_BUS),
     NOTHING(list_overrides, HOLES), /* no MADT */
@@ -78,6 +213,7 @@ static const struct row rows[] = {
     REFUSED(sci_interrupt, EMPTY, NULL, NO, ACPI_TABLE_MISSING, "FACP"),
     GOOD(isa_interrupt, PC, NULL, A(0), 1, 2, ACPI_POLARITY_HIGH, ACPI_TRIGGER_EDGE),
     GOOD(isa_interrupt, PC, NULL, A(4), 1, 4, ACPI_POLARITY_HIGH, ACPI_TRIGGER_EDGE),
+    GOOD(isa_interrupt, DESKTOP, NULL, A(12), 1, 38, ACPI_POLARITY_HIGH, ACPI_TRIGGER_EDGE),
     REFUSED(isa_interrupt, PC, NULL, A(2), ACPI_NO_SUCH_INTERRUPT, NULL), /* 2 is taken by interrupt 0 */
     REFUSED(isa_interrupt, PC, NULL, A(16), ACPI_NO_SUCH_INTERRUPT, NULL),
     GOOD(io_apic_pin, PC, NULL, A(30), 1, 0xfec01000, 24, 3, 6),
@@ -91,6 +227,7 @@ static const struct row rows[] = {
     GOOD(list_gic_translation_services, ARM, NULL, NO, 2, 0x12f020000, 6, 0x12f050000, 10),
     GOOD(list_gic_msi_frames, ARM, NULL, NO, 2, 0x12f030000, 8, 64, 32, 1, 0x12f040000, 9, 0, 0, 0),
     REFUSED(gic_distributor, PC, NULL, NO, ACPI_NO_GIC, NULL),
+    REFUSED(gic_distributor, LEAST, NULL, NO, ACPI_NO_GIC, NULL), /* a MADT without entries */
     REFUSED(gic_distributor, ODD, NULL, NO, ACPI_MADT_INVALID_ENTRY_LENGTH, NULL),
     REFUSED(gic_distributor, EMPTY, NULL, NO, ACPI_TABLE_MISSING, "APIC"),
     REFUSED(list_gic_cpu_interfaces, PC, NULL, NO, ACPI_NO_GIC, NULL),
@@ -111,6 +248,7 @@ static const struct row rows[] = {
          0x12a810000, 0x12a820000, 0x12a830000, 92, 93, 1, 1, 1, 3, 3, 1, 0,
          0x12a810000, 0x12a840000, ONES, 94, 0, 2, 1, 3, 3, 1, 0, 1),
     NOTHING(list_gt_frames, ODD),
+    NOTHING(list_gt_frames, LEAST),
     REFUSED(list_gt_frames, EMPTY, NULL, NO, ACPI_TABLE_MISSING, "GTDT"),
     GOOD(list_watchdogs, ARM, NULL, NO, 2, 0x12a450000, 0x12a440000, 59, 3, 3, 1,
          0x12a470000, 0x12a460000, 61, 1, 1, 0),
@@ -118,6 +256,7 @@ static const struct row rows[] = {
     REFUSED(list_watchdogs, EMPTY, NULL, NO, ACPI_TABLE_MISSING, "GTDT"),
 
     GOOD(list_memory_affinities, ARM, NULL, NO, 2, 0x100000000, 0x10000, 0x107, 1, 0, 0x100008000, 0x20000, 8, 0, 1),
+    NOTHING(list_memory_affinities, LEAST),
     REFUSED(list_memory_affinities, ODD, NULL, NO, ACPI_NUMA_INVALID_ENTRY_LENGTH, NULL),
     REFUSED(list_memory_affinities, HOLES, NULL, NO, ACPI_NUMA_INVALID_MEMORY_RANGE, NULL),
     REFUSED(list_memory_affinities, EMPTY, NULL, NO, ACPI_TABLE_MISSING, "SRAT"),
@@ -138,6 +277,7 @@ static const struct row rows[] = {
 
     GOOD(localities, ARM, NULL, NO, 1, 2, 1),
     GOOD(localities, ODD, NULL, NO, 1, 3, 0),
+    GOOD(localities, LEAST, NULL, NO, 1, 0, 0),
     REFUSED(localities, EMPTY, NULL, NO, ACPI_TABLE_MISSING, "SLIT"),
     GOOD(distance, ARM, NULL, A(0, 1), 1, 20),
     GOOD(distance, ARM, NULL, A(1, 0), 1, 30),

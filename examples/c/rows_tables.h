@@ -6,9 +6,15 @@
 #include "acpi.h"
 
 #define BASE 0x100000u
-#define SIZE 0x4000u
-#define AT(n) (BASE + 0x200u * (n)) /* where table N lies */
-#define TAIL (BASE + SIZE - 36u)    /* the last 36 bytes: a header whose table isn't lent as a whole */
+#define SIZE 0x10000u
+#define AT(n) (BASE + 0x200u * (n))       /* where table N lies */
+#define TAIL (BASE + SIZE - 36u)          /* the last 36 bytes: a header whose table isn't lent as a whole */
+#define CUT(n) (0x180000u + 0x1000u * (n)) /* three regions with the first bytes of a table each */
+#define CUT_SIZE 40u
+#define BIOS 0xe0000u /* the first area in which an RSDP is searched for, and the 16 bytes after it */
+#define BIOS_SIZE 0x20010u
+#define EBDA 0x90000u /* the second, by the word at 0x40e, and the 16 bytes after it */
+#define EBDA_SIZE 0x410u
 #define ONES UINT64_MAX
 #define HEADER(type, length) ((type) | (length) << 8) /* Type and Length of an entry, one byte each */
 
@@ -22,9 +28,17 @@ struct put {
 #define GENERIC(at, space, width, offset, access, address) \
     {at, 1, space}, {at + 1, 1, width}, {at + 2, 1, offset}, {at + 3, 1, access}, {at + 4, 8, address}
 
-enum { EMPTY, ARM, PC, ODD, HOLES, SUM, /* root tables */
+enum { EMPTY, ARM, PC, ODD, HOLES, SUM, DESKTOP, MOBILE, WORKSTATION, SERVER, SOHO, APPLIANCE, PERFORMANCE, TABLET,
+       RESERVED, WIDE, TIMER_5, LEAST, /* root tables, in the order of `tables` */
+       RSDP_0, RSDP_2, RSDP_MIXED, RSDP_LONG, RSDP_LOST, RSDP_CUT, RSDP_SHORT,
+       RSDP_NONE, /* RSDPs, and the last one is none */
        MADT_GIC, GTDT, SRAT, SLIT, MCFG, FADT, MADT_PC, HPET_SHORT, HPET, MADT_CUT, GTDT_CUT, SRAT_CUT, SLIT_ODD,
-       FADT_1, SRAT_HIGH };
+       FADT_1, SRAT_HIGH, FADT_DESKTOP, FADT_MOBILE, FADT_WORKSTATION, FADT_SERVER, FADT_SOHO, FADT_APPLIANCE,
+       FADT_PERFORMANCE, FADT_TABLET, FADT_RESERVED, FADT_WIDE, FADT_TIMER_5, MADT_MANY, MADT_FIRST, MADT_UNKNOWN,
+       MADT_SAPIC, SPCR_3, SPCR_2, SPCR_4, BGRT_90, BGRT_270, BGRT_180, HPET_0, HPET_1, HPET_3, HPET_11, HPET_PORT,
+       DSDT, DSDT_OTHER, SSDT_12, SSDT_0, FACS, FACS_SHORT, FADT_115, FADT_116, MADT_43, MADT_44, MCFG_43, MCFG_44,
+       HPET_55, HPET_56, BGRT_55, BGRT_56, SPCR_79, SPCR_80, GTDT_95, GTDT_96, SRAT_47, SRAT_48, SLIT_43, SLIT_44,
+       OEM2_35, OEM2_36 };
 
 /* Entry[n] of an RSDT, from 36 on (section 5.2.7), and of an XSDT (section 5.2.8). */
 PUTS(no_fields, {36, 0, 0});
@@ -32,6 +46,27 @@ PUTS(arm, {36, 4, AT(MADT_GIC)}, {40, 4, AT(GTDT)}, {44, 4, AT(SRAT)}, {48, 4, A
 PUTS(pc, {36, 8, AT(FADT)}, {44, 8, AT(MADT_PC)}, {52, 8, AT(HPET_SHORT)}, {60, 8, AT(HPET)});
 PUTS(odd, {36, 4, AT(MADT_CUT)}, {40, 4, AT(GTDT_CUT)}, {44, 4, AT(SRAT_CUT)}, {48, 4, AT(SLIT_ODD)});
 PUTS(holes, {36, 4, 0x200000}, {40, 4, TAIL}, {44, 4, AT(FADT_1)}, {48, 4, AT(SRAT_HIGH)});
+/* Machines that are named by their power profile. */
+PUTS(desktop, {36, 4, AT(FADT_DESKTOP)}, {40, 4, AT(MADT_MANY)}, {44, 4, AT(SPCR_3)}, {48, 4, AT(BGRT_90)},
+     {52, 4, AT(HPET_0)});
+PUTS(mobile, {36, 4, AT(FADT_MOBILE)}, {40, 4, AT(MADT_FIRST)}, {44, 4, AT(SPCR_2)}, {48, 4, AT(BGRT_270)},
+     {52, 4, AT(HPET_1)});
+PUTS(workstation, {36, 4, AT(FADT_WORKSTATION)}, {40, 4, AT(MADT_UNKNOWN)}, {44, 4, AT(SPCR_4)}, {48, 4, AT(BGRT_180)},
+     {52, 4, AT(HPET_3)});
+PUTS(server, {36, 4, AT(FADT_SERVER)}, {40, 4, AT(MADT_SAPIC)}, {44, 4, AT(HPET_11)});
+PUTS(soho, {36, 4, AT(FADT_SOHO)}, {40, 4, AT(HPET_PORT)});
+PUTS(appliance, {36, 4, AT(FADT_APPLIANCE)}, {40, 4, AT(SSDT_12)}, {44, 4, AT(SSDT_0)}, {48, 4, AT(SSDT_12)});
+PUTS(performance, {36, 4, AT(FADT_PERFORMANCE)});
+PUTS(tablet, {36, 4, AT(FADT_TABLET)});
+PUTS(reserved, {36, 4, AT(FADT_RESERVED)});
+PUTS(wide, {36, 8, AT(FADT_WIDE)});
+PUTS(timer_5, {36, 4, AT(FADT_TIMER_5)}, {40, 4, AT(MADT_FIRST)});
+/* Of each kind one that is a byte shorter than its fixed fields, and one that has just these. */
+PUTS(least, {36, 4, AT(FADT_115)}, {40, 4, AT(FADT_116)}, {44, 4, AT(MADT_43)}, {48, 4, AT(MADT_44)},
+     {52, 4, AT(MCFG_43)}, {56, 4, AT(MCFG_44)}, {60, 4, AT(HPET_55)}, {64, 4, AT(HPET_56)}, {68, 4, AT(BGRT_55)},
+     {72, 4, AT(BGRT_56)}, {76, 4, AT(SPCR_79)}, {80, 4, AT(SPCR_80)}, {84, 4, AT(GTDT_95)}, {88, 4, AT(GTDT_96)},
+     {92, 4, AT(SRAT_47)}, {96, 4, AT(SRAT_48)}, {100, 4, AT(SLIT_43)}, {104, 4, AT(SLIT_44)}, {108, 4, AT(OEM2_35)},
+     {112, 4, AT(OEM2_36)});
 
 PUTS(madt_gic,
     {44, 2, HEADER(0x0c, 24)}, {44 + 4, 4, 7} /* GIC ID */, {44 + 8, 8, 0x2f000000} /* Physical Base Address */,
@@ -126,50 +161,7 @@ PUTS(srat_high,
 PUTS(slit, {36, 8, 2}, {44, 1, 10}, {45, 1, 20}, {46, 1, 30}, {47, 1, 10});
 PUTS(slit_odd, {36, 8, 3}, {44, 1, 10}, {45, 1, 9}, {46, 1, 8}, {47, 1, 255}); /* of nine it has four */
 
-/* Base Address at 0, PCI Segment Group Number at 8, Start Bus Number at 10, End Bus Number at 11. */
-PUTS(mcfg,
-    {44, 8, 0x140000000}, {44 + 8, 2, 1}, {44 + 10, 1, 0x10}, {44 + 11, 1, 0x1f},
-    {60, 8, 0x50000000}, {60 + 8, 2, 2}, {60 + 10, 1, 5}, {60 + 11, 1, 4},
-    {76, 8, 0xfffffffffff00000}, {76 + 8, 2, 3}, {76 + 10, 1, 0}, {76 + 11, 1, 1},
-    {92, 8, 0xffffffffffe00000}, {92 + 8, 2, 4}, {92 + 10, 1, 0}, {92 + 11, 1, 0});
-
-PUTS(fadt,
-    {36, 4, 0x7000} /* FIRMWARE_CTRL */, {40, 4, 0x8000} /* DSDT */, {45, 1, 4} /* Preferred_PM_Profile */,
-    {46, 2, 9} /* SCI_INT */, {48, 4, 0xb2} /* SMI_CMD */, {52, 1, 0xa1} /* ACPI_ENABLE */,
-    {53, 1, 0xa0} /* ACPI_DISABLE */,
-    {54, 1, 0xf2} /* S4BIOS_REQ */, {55, 1, 0x80} /* PSTATE_CNT */, {56, 4, 0x600} /* PM1a_EVT_BLK */,
-    {60, 4, 0x680} /* PM1b_EVT_BLK */, {64, 4, 0x604} /* PM1a_CNT_BLK */, {72, 4, 0x650} /* PM2_CNT_BLK */,
-    {76, 4, 0x608} /* PM_TMR_BLK */, {80, 4, 0x620} /* GPE0_BLK */, {84, 4, 0x640} /* GPE1_BLK */,
-    {88, 1, 4} /* PM1_EVT_LEN */, {89, 1, 2} /* PM1_CNT_LEN */, {90, 1, 1} /* PM2_CNT_LEN */,
-    {91, 1, 4} /* PM_TMR_LEN */,
-    {92, 1, 16} /* GPE0_BLK_LEN */, {93, 1, 32} /* GPE1_BLK_LEN */, {94, 1, 0x40} /* GPE1_BASE */,
-    {95, 1, 0xe3} /* CST_CNT */,
-    {96, 2, 101} /* P_LVL2_LAT */, {98, 2, 1001} /* P_LVL3_LAT */, {100, 2, 1024} /* FLUSH_SIZE */,
-    {102, 2, 16} /* FLUSH_STRIDE */, {104, 1, 1} /* DUTY_OFFSET */, {105, 1, 3} /* DUTY_WIDTH */,
-    {106, 1, 13} /* DAY_ALRM */,
-    {107, 1, 14} /* MON_ALRM */, {108, 1, 50} /* CENTURY */, {109, 2, 0x13} /* IAPC_BOOT_ARCH */,
-    {112, 4, 0x4a5} /* Flags */,
-    GENERIC(116, 1, 8, 0, 1, 0xcf9) /* RESET_REG */, {128, 1, 6} /* RESET_VALUE */, {129, 2, 3} /* ARM_BOOT_ARCH */,
-    {132, 8, 0x123456000} /* X_FIRMWARE_CTRL; X_DSDT is 0 */,
-    GENERIC(148, 0, 32, 0, 3, 0x200000600) /* X_PM1a_EVT_BLK */,
-    GENERIC(172, 1, 16, 0, 5, 0x604) /* X_PM1a_CNT_BLK: Access Size 5 is reserved */,
-    GENERIC(244, 1, 8, 2, 1, 0x405) /* SLEEP_CONTROL_REG; SLEEP_STATUS_REG is zeros */);
-PUTS(fadt_1, {36, 4, 0x400000} /* FIRMWARE_CTRL */, {40, 4, 0x300000} /* DSDT */);
-
-PUTS(madt_pc,
-    {44, 2, HEADER(0, 8)}, {44 + 2, 1, 1} /* ACPI Processor UID */, {44 + 3, 1, 33} /* APIC ID */,
-    {44 + 4, 4, 1} /* Flags */,
-    {52, 2, HEADER(1, 12)}, {52 + 2, 1, 2} /* I/O APIC ID */, {52 + 4, 4, 0xfec00000} /* I/O APIC Address */,
-    {64, 2, HEADER(1, 12)}, {64 + 2, 1, 3} /* I/O APIC ID */, {64 + 4, 4, 0xfec01000} /* I/O APIC Address */,
-    {64 + 8, 4, 24} /* Global System Interrupt Base */,
-    {76, 2, HEADER(2, 10)}, {76 + 3, 1, 9} /* Source */, {76 + 4, 4, 20} /* Global System Interrupt */,
-    {76 + 8, 2, 5} /* Flags: active high, edge */,
-    {86, 2, HEADER(2, 10)}, {86 + 3, 1, 0} /* Source */,
-    {86 + 4, 4, 2} /* Global System Interrupt; Flags: as the bus */);
-
-/* Event Timer Block ID at 36, BASE_ADDRESS at 40, HPET Number at 52, Main Counter Minimum Clock_tick at 53, Page
- * Protection at 55. The short one ends before BASE_ADDRESS does. */
-PUTS(hpet, {36, 4, 0x8086a201}, GENERIC(40, 0, 64, 0, 0, 0x1fed00000), {52, 1, 1}, {53, 2, 0x80}, {55, 1, 2});
+#include "rows_tables_pc.h"
 
 static const struct table {
     uint64_t address;
@@ -179,11 +171,55 @@ static const struct table {
 } tables[] = {
     {AT(EMPTY), "RSDT", 1, 36, no_fields}, {AT(ARM), "RSDT", 1, 56, arm}, {AT(PC), "XSDT", 1, 68, pc},
     {AT(ODD), "RSDT", 1, 52, odd}, {AT(HOLES), "RSDT", 1, 52, holes}, {AT(SUM), "RSDT", 1, 56, arm},
+    {AT(DESKTOP), "RSDT", 1, 56, desktop}, {AT(MOBILE), "RSDT", 1, 56, mobile},
+    {AT(WORKSTATION), "RSDT", 1, 56, workstation}, {AT(SERVER), "RSDT", 1, 48, server}, {AT(SOHO), "RSDT", 1, 44, soho},
+    {AT(APPLIANCE), "RSDT", 1, 52, appliance}, {AT(PERFORMANCE), "RSDT", 1, 40, performance},
+    {AT(TABLET), "RSDT", 1, 40, tablet}, {AT(RESERVED), "RSDT", 1, 40, reserved}, {AT(WIDE), "XSDT", 1, 44, wide},
+    {AT(TIMER_5), "RSDT", 1, 44, timer_5}, {AT(LEAST), "RSDT", 1, 116, least},
     {AT(MADT_GIC), "APIC", 6, 346, madt_gic}, {AT(GTDT), "GTDT", 3, 260, gtdt}, {AT(SRAT), "SRAT", 3, 274, srat},
     {AT(SLIT), "SLIT", 1, 48, slit}, {AT(MCFG), "MCFG", 1, 108, mcfg}, {AT(FADT), "FACP", 6, 276, fadt},
     {AT(MADT_PC), "APIC", 4, 96, madt_pc}, {AT(HPET_SHORT), "HPET", 3, 48, no_fields}, {AT(HPET), "HPET", 1, 56, hpet},
     {AT(MADT_CUT), "APIC", 4, 69, madt_cut}, {AT(GTDT_CUT), "GTDT", 2, 124, gtdt_cut},
     {AT(SRAT_CUT), "SRAT", 1, 65, srat_cut}, {AT(SLIT_ODD), "SLIT", 1, 48, slit_odd},
     {AT(FADT_1), "FACP", 1, 116, fadt_1},
-    {AT(SRAT_HIGH), "SRAT", 3, 88, srat_high}, {TAIL, "OEM1", 1, 80, no_fields}};
+    {AT(SRAT_HIGH), "SRAT", 3, 88, srat_high}, {TAIL, "OEM1", 1, 80, no_fields},
+    {AT(FADT_DESKTOP), "FACP", 1, 116, fadt_desktop}, {AT(FADT_MOBILE), "FACP", 1, 116, fadt_mobile},
+    {AT(FADT_WORKSTATION), "FACP", 1, 116, fadt_workstation}, {AT(FADT_SERVER), "FACP", 1, 116, fadt_server},
+    {AT(FADT_SOHO), "FACP", 1, 116, fadt_soho}, {AT(FADT_APPLIANCE), "FACP", 1, 116, fadt_appliance},
+    {AT(FADT_PERFORMANCE), "FACP", 1, 116, fadt_performance}, {AT(FADT_TABLET), "FACP", 1, 116, fadt_tablet},
+    {AT(FADT_RESERVED), "FACP", 1, 116, fadt_reserved}, {AT(FADT_WIDE), "FACP", 6, 276, fadt_wide},
+    {AT(FADT_TIMER_5), "FACP", 6, 276, fadt_timer_5}, {AT(MADT_MANY), "APIC", 5, 221, madt_many},
+    {AT(MADT_FIRST), "APIC", 4, 68, madt_first}, {AT(MADT_UNKNOWN), "APIC", 5, 64, madt_unknown},
+    {AT(MADT_SAPIC), "APIC", 4, 60, madt_sapic}, {AT(SPCR_3), "SPCR", 3, 88, spcr_3},
+    {AT(SPCR_2), "SPCR", 2, 80, spcr_2},
+    {AT(SPCR_4), "SPCR", 4, 88, spcr_4}, {AT(BGRT_90), "BGRT", 1, 56, bgrt_90}, {AT(BGRT_270), "BGRT", 1, 56, bgrt_270},
+    {AT(BGRT_180), "BGRT", 1, 56, bgrt_180}, {AT(HPET_0), "HPET", 1, 56, hpet_0}, {AT(HPET_1), "HPET", 1, 56, hpet_1},
+    {AT(HPET_3), "HPET", 1, 56, hpet_3}, {AT(HPET_11), "HPET", 1, 56, hpet_11},
+    {AT(HPET_PORT), "HPET", 1, 56, hpet_port},
+    {AT(DSDT), "DSDT", 2, 60, no_fields}, {AT(DSDT_OTHER), "SSDT", 2, 60, no_fields},
+    {AT(SSDT_12), "SSDT", 2, 48, no_fields}, {AT(SSDT_0), "SSDT", 2, 36, no_fields},
+    {AT(FACS), "FACS", 0, 64, no_fields},
+    {AT(FACS_SHORT), "FACS", 0, 63, no_fields}, {CUT(0), "FACS", 0, 64, no_fields}, {CUT(1), "DSDT", 2, 60, no_fields},
+    {CUT(2), "RSDT", 1, 52, no_fields}, {AT(FADT_115), "FACP", 1, 115, no_fields},
+    {AT(FADT_116), "FACP", 1, 116, no_fields},
+    {AT(MADT_43), "APIC", 1, 43, no_fields}, {AT(MADT_44), "APIC", 1, 44, no_fields},
+    {AT(MCFG_43), "MCFG", 1, 43, no_fields}, {AT(MCFG_44), "MCFG", 1, 44, no_fields},
+    {AT(HPET_55), "HPET", 1, 55, no_fields}, {AT(HPET_56), "HPET", 1, 56, no_fields},
+    {AT(BGRT_55), "BGRT", 1, 55, no_fields}, {AT(BGRT_56), "BGRT", 1, 56, no_fields},
+    {AT(SPCR_79), "SPCR", 1, 79, no_fields}, {AT(SPCR_80), "SPCR", 1, 80, no_fields},
+    {AT(GTDT_95), "GTDT", 2, 95, no_fields}, {AT(GTDT_96), "GTDT", 2, 96, no_fields},
+    {AT(SRAT_47), "SRAT", 1, 47, no_fields}, {AT(SRAT_48), "SRAT", 1, 48, no_fields},
+    {AT(SLIT_43), "SLIT", 1, 43, no_fields}, {AT(SLIT_44), "SLIT", 1, 44, no_fields},
+    {AT(OEM2_35), "OEM2", 1, 35, no_fields}, {AT(OEM2_36), "OEM2", 1, 36, no_fields},
+    {BIOS + 0x10000, "RSDT", 1, 36, no_fields}};
+
+/* RSDPs: Revision at 15, RsdtAddress at 16, Length at 20, XsdtAddress at 24 (section 5.2.5.3). */
+static const struct rsdp {
+    uint64_t address;
+    unsigned revision, rsdt_address, length;
+    uint64_t xsdt_address;
+} rsdps[] = {
+    {AT(RSDP_0), 0, AT(ARM), 0, 0}, {AT(RSDP_2), 2, AT(EMPTY), 36, AT(PC)}, {AT(RSDP_MIXED), 2, AT(ARM), 36, 0},
+    {AT(RSDP_LONG), 2, 0, SIZE, AT(PC)}, {AT(RSDP_LOST), 2, 0, 36, 0x300000000}, {AT(RSDP_CUT), 0, CUT(2), 0, 0},
+    {AT(RSDP_SHORT), 2, 0, 35, AT(PC)}, {BIOS + 0x1ffe0, 0, BIOS + 0x10000, 0, 0}, {EBDA + 0x40, 0, 0x200000, 0, 0}};
 #endif
