@@ -314,15 +314,15 @@ static void faults(const struct acpi_source *source, const char *letters, const 
     }
 }
 
-acpi_status acpi_lines(const struct acpi_source *source, const struct printer *p, const struct printer *skipped,
-                       struct acpi_signature *named) {
+acpi_status acpi_lines(const struct acpi_source *source, const uint8_t *revision, const struct printer *p,
+                       const struct printer *skipped, struct acpi_signature *named) {
     static const char *const looked_up[] = {"FACP", "APIC", "MCFG", "HPET", "BGRT", "SPCR"};
     struct acpi_root root = {0};
     size_t i;
     acpi_status refused = acpi_open(source, &root, named);
     if (refused) return refused;
     say(p, "revision ");
-    say_number(p, root.revision);
+    say_number(p, revision ? *revision : root.revision);
     newline(p);
     tables(source, p);
     platform(source, p);

@@ -18,8 +18,8 @@ void say_signature(const struct printer *p, const uint8_t letters[4]);
 void say_refused(const struct printer *p, const char *what, acpi_status status, const struct acpi_signature *named);
 
 /* Prints what acpi_view prints of these tables on its standard output, and on `skipped` what it prints of
- * tables passed over, unless it is null. Answers ACPI_OK, or the refusal of opening the tables, and has then printed
- * nothing. */
-acpi_status acpi_lines(const struct acpi_source *source, const struct printer *p, const struct printer *skipped,
-                       struct acpi_signature *named);
+ * tables passed over, unless it is null. The revision is the one at `revision`, or that of acpi_open if it is null.
+ * Answers ACPI_OK, or the refusal of opening the tables, and has then printed nothing. */
+acpi_status acpi_lines(const struct acpi_source *source, const uint8_t *revision, const struct printer *p,
+                       const struct printer *skipped, struct acpi_signature *named);
 #endif

@@ -184,7 +184,7 @@ void kernel(uint32_t magic, uint32_t information) {
     if (magic != 0x2badb002 || !(low(info, 4) & 0x40)) stop("no memory map of a multiboot loader");
     source.regions_length = make_regions(info);
     choose_start(&source, info);
-    refused = acpi_lines(&source, &serial, &serial, &named);
+    refused = acpi_lines(&source, NULL, &serial, &serial, &named);
     if (refused) {
         say_refused(&serial, "refused", refused, &named);
     } else {
