@@ -61,7 +61,7 @@ module _ (overrides : List InterruptSourceOverride) where
   led_from n s (Some o) e leads = led_by n s o e leads
 
   -- an interrupt that a source's override leads to is taken
-  led : (n s : ℕ) → leads_to overrides n s ≡ true → is_taken overrides n ≡ true
+  pub led : (n s : ℕ) → leads_to overrides n s ≡ true → is_taken overrides n ≡ true
   led n s leads = led_from n s (override_for overrides s) refl leads
 
   -- an ISA interrupt goes where its override leads, or one to one if that input is free

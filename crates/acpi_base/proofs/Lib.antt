@@ -5,6 +5,7 @@ pub mod Cuts
 pub mod Damage
 pub mod Equalities
 pub mod Isa
+pub mod IsaGathered
 pub mod LentBytes
 pub mod LentRanges
 pub mod LentFronts

@@ -13,6 +13,7 @@ pub mod Guarded
 pub mod Header
 pub mod Interrupts
 pub mod Isa
+pub mod IsaOverrides
 pub mod Laws
 pub mod Lends
 pub mod Madt

@@ -10,6 +10,7 @@ mod entry_flags;
 mod gather;
 mod interrupt;
 mod isa;
+mod isa_overrides;
 mod item;
 mod items;
 pub mod laws;
@@ -24,6 +25,7 @@ pub use interrupt::{
     NmiProcessor, NmiSource, Polarity, TriggerMode,
 };
 pub use isa::{IsaInterrupt, straight, wired};
+pub use isa_overrides::IsaOverrides;
 pub use item::MadtItem;
 pub use items::MadtItems;
 pub use nmi_lines::LocalNmiLines;

@@ -1,9 +1,10 @@
 //! ISA interrupts, and the one that carries the machine's events, as Interrupt Source Overrides wire them
 //! (section 5.2.12.5).
 ghost use Rattle.std.specs.Prelude.{◌≡◌};
-ghost use Rattle.acpi_base.specs.Isa.{is_taken, isa_interrupt, leads_to, override_for, straight, wired};
+ghost use Rattle.acpi_base.specs.Isa.{isa_interrupt, override_for, straight, wired};
 
 use super::interrupt::{Apic, InterruptSourceOverride, Polarity, TriggerMode};
+use super::isa_overrides::IsaOverrides;
 use std::alloc::Allocator;
 
 /// An interrupt as it comes to the I/O APICs: an ISA interrupt, or the one that carries the machine's events
@@ -69,17 +70,11 @@ impl<A: Allocator> Apic<A> {
 fn isa_interrupt(overrides: &[InterruptSourceOverride], irq: u8) -> Option<IsaInterrupt>
     ensures { result ≡ isa_interrupt overrides.now irq }
 {
-    if irq > 15 {
-        return None;
+    let mut gathered = IsaOverrides::new(irq);
+    for wiring in overrides {
+        gathered.add(wiring);
     }
-    let (polarity, trigger_mode) = (Polarity::ActiveHigh, TriggerMode::Edge);
-    if let Some(wiring) = override_for(overrides, irq) {
-        return Some(wired(&wiring, polarity, trigger_mode));
-    }
-    if is_taken(overrides, irq) {
-        return None;
-    }
-    Some(straight(irq as u32, polarity, trigger_mode))
+    gathered.isa_interrupt()
 }
 
 /// The override of a source that counts: the last one.
@@ -96,28 +91,6 @@ fn override_for(
         }
     }
     last
-}
-
-/// Whether a source has an override, and it leads to the interrupt of a number.
-fn leads_to(overrides: &[InterruptSourceOverride], number: u8, source: u8) -> bool
-    ensures { result ≡ leads_to overrides.now number source }
-{
-    match override_for(overrides, source) {
-        Some(wiring) => wiring.global_system_interrupt == number as u32,
-        None => false,
-    }
-}
-
-/// Whether the override of some source leads to the interrupt of a number.
-fn is_taken(overrides: &[InterruptSourceOverride], number: u8) -> bool
-    ensures { result ≡ is_taken overrides.now number }
-{
-    for wiring in overrides {
-        if leads_to(overrides, number, wiring.isa_source) {
-            return true;
-        }
-    }
-    false
 }
 
 /// The interrupt that an Interrupt Source Override gives (section 5.2.12.5). If its flags conform to the bus, it has

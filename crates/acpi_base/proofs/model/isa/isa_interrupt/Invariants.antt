@@ -1,0 +1,7 @@
+use Rattle.std.proofs.Common.{take}
+use Rattle.acpi_base.specs.IsaOverrides.{IsGathered}
+use Rattle.acpi_base.proofs.model.isa.isa_interrupt.Given as goal
+
+-- those before the next one are gathered
+abbrev pub invariant-loop-wiring : goal.invariant-loop-wiring
+invariant-loop-wiring l = IsGathered l.irq (take l.wiring-index l.overrides) l.gathered

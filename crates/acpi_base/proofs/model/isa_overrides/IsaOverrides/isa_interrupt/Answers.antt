@@ -1,0 +1,12 @@
+use Rattle.std.proofs.Common.{arith, subst, sym}
+use Rattle.acpi_base.specs.IsaOverrides.{IsGathered}
+use Rattle.acpi_base.proofs.IsaGathered.{of_free, of_taken}
+use Rattle.acpi_base.proofs.model.isa_overrides.IsaOverrides.isa_interrupt.Goals as goal
+
+pub returns-then-taken : goal.returns-then-taken
+returns-then-taken c = λ irq overrides gathered.
+    of_taken irq overrides _ _ (subst (IsGathered irq overrides) (sym c.self.view_is) gathered) (omega arith) c.in_default.is c.self.invariant (omega arith)
+
+pub returns : goal.returns
+returns c = λ irq overrides gathered.
+    of_free irq overrides _ _ _ (subst (IsGathered irq overrides) (sym c.self.view_is) gathered) (omega arith) c.in_default.is c.self.invariant (omega arith) c.straight.ensures
