@@ -1,7 +1,7 @@
 //! How interrupts come to the I/O APICs, by walks along the entries of the MADT.
 ghost use Rattle.std.specs.Prelude.{◌≡◌, ◌≤◌, IfSome};
 ghost use Rattle.std.specs.List.{filter_map};
-ghost use Rattle.acpi_base.specs.Isa.{is_taken, isa_interrupt, leads_to, override_for, sci_interrupt};
+ghost use Rattle.acpi_base.specs.Isa.{isa_interrupt, override_for, sci_interrupt};
 ghost use Rattle.acpi_base.specs.Mapping.{bytes_of};
 ghost use Rattle.acpi_base.specs.Model.{io_apic_in, items_of, override_in};
 ghost use Rattle.acpi_base.specs.Pin.{base_of, nearest};
@@ -21,7 +21,7 @@ use acpi::platform::interrupt::{
     InterruptSourceOverride, IoApic, IsaInterrupt, Polarity, TriggerMode,
 };
 use acpi::{Lender, PhysicalMapping};
-use acpi_base::model::{MadtItem, straight, wired};
+use acpi_base::model::{IsaOverrides, MadtItem, straight, wired};
 
 /// The global system interrupt of one of the 16 ISA interrupts.
 pub fn isa(source: &Source<'_>, irq: u8) -> Result<InterruptRecord, Refusal>
@@ -84,17 +84,13 @@ fn interrupt_record(interrupt: IsaInterrupt) -> InterruptRecord
 fn isa_in<H: Lender>(madt: &PhysicalMapping<'_, H, Madt>, irq: u8) -> Option<IsaInterrupt>
     ensures { result ≡ isa_interrupt (filter_map override_in (items_of (bytes_of madt.now))) irq }
 {
-    if irq > 15 {
-        return None;
+    let mut gathered = IsaOverrides::new(irq);
+    for item in madt.items() {
+        if let MadtItem::Override(wiring) = item {
+            gathered.add(&wiring);
+        }
     }
-    let (polarity, trigger_mode) = (Polarity::ActiveHigh, TriggerMode::Edge);
-    if let Some(wiring) = override_for(madt, irq) {
-        return Some(wired(&wiring, polarity, trigger_mode));
-    }
-    if is_taken(madt, irq) {
-        return None;
-    }
-    Some(straight(irq as u32, polarity, trigger_mode))
+    gathered.isa_interrupt()
 }
 
 /// What `Apic::sci_interrupt` answers, out of the entries.
@@ -126,30 +122,6 @@ fn override_for<H: Lender>(
         }
     }
     last
-}
-
-/// Whether a source has an override, and it leads to the interrupt of a number.
-fn leads_to<H: Lender>(madt: &PhysicalMapping<'_, H, Madt>, number: u8, source: u8) -> bool
-    ensures { result ≡ leads_to (filter_map override_in (items_of (bytes_of madt.now))) number source }
-{
-    match override_for(madt, source) {
-        Some(wiring) => wiring.global_system_interrupt == number as u32,
-        None => false,
-    }
-}
-
-/// Whether the override of some source leads to the interrupt of a number.
-fn is_taken<H: Lender>(madt: &PhysicalMapping<'_, H, Madt>, number: u8) -> bool
-    ensures { result ≡ is_taken (filter_map override_in (items_of (bytes_of madt.now))) number }
-{
-    for item in madt.items() {
-        if let MadtItem::Override(wiring) = item
-            && leads_to(madt, number, wiring.isa_source)
-        {
-            return true;
-        }
-    }
-    false
 }
 
 /// The first I/O APIC of the greatest base that is at most the interrupt.
