@@ -1,8 +1,8 @@
--- What a guarded handler shows.
+-- What a guarded lender shows.
 use Rattle.acpi_base.specs.Ranges.{Ranges}
 use Rattle.acpi_base.specs.declared.memory.guarded.Guarded.{Guarded}
 
--- the handler that is asked
+-- the lender that its requests are passed on to
 abbrev pub guarded_by : {H : Type 0} → Guarded H → H
 guarded_by g = g.handler.now
 

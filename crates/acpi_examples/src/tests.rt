@@ -1,4 +1,6 @@
 //! Tests of the callers: the tables that they find and write.
+ghost use Rattle.std.specs.Prelude.{◌≡◌, true};
+ghost use Rattle.acpi_base.specs.Ranges.{is_listed};
 
 use crate::caller::graphic_address;
 use crate::reserved::{MemoryMap, reserve_tables};
@@ -9,8 +11,10 @@ use acpi::handler::{MappedRegion, RegionError};
 use acpi::madt::Madt;
 use acpi::platform::interrupt::InterruptModel;
 use acpi::sdt::Signature;
-use acpi::{AcpiError, AcpiHandler, AcpiResult, AcpiTables};
+use acpi::{AcpiError, AcpiHandler, AcpiResult, AcpiTables, Guarded, Lender, PhysicalMapping};
 use acpi_image::{MemoryImage, PlacedTable, WriteError};
+use acpi_testkit::handlers::Recording;
+use acpi_testkit::history::Event;
 use acpi_testkit::samples::graphics::two_tables;
 use acpi_testkit::samples::madts::with_madt;
 use acpi_testkit::samples::rsdps::two_roots;
@@ -25,6 +29,69 @@ fn check<T: Copy + Debug + PartialEq>(rt: &impl Abort, name: &str, found: T, wan
         found == wanted,
         "{name}: {found:?}, but {wanted:?} is wanted"
     );
+}
+
+/// The number of eight bytes at an address, from a lender that may be asked for it.
+fn number_at<L: Lender>(lender: &L, address: u64) -> AcpiResult<u64>
+    requires { L.may lender.now address 8 ≡ true }
+{
+    let number = PhysicalMapping::<L, u64>::map(lender, address, 8)?;
+    Ok(*number.get())
+}
+
+/// The number of eight bytes at an address, over a handler that may be asked only for the ranges of a list.
+/// For a number that isn't listed there is no proof.
+fn number_within<H: AcpiHandler>(
+    memory: &H,
+    ranges: &[(u64, usize)],
+    address: u64,
+) -> AcpiResult<u64>
+    requires { is_listed ranges.now address 8 ≡ true }
+{
+    number_at(&Guarded::new(memory, ranges), address)
+}
+
+/// What a handler is asked of a memory of 168 bytes from 0x1000 on, through a list of two numbers, the second
+/// of which has only four bytes there.
+static ASKED: [Event; 3] = [
+    Event::Lent {
+        address: 0x1000,
+        size: 8,
+        whole: 8,
+        lent: 168,
+    },
+    Event::Ended {
+        address: 0x1000,
+        shown: 8,
+        lent: 168,
+    },
+    Event::Refused {
+        address: 0x10A4,
+        size: 8,
+    },
+];
+
+/// Checks the answers through the list, and what the handler under it was asked.
+fn check_asked(rt: &impl Abort, region: &MappedRegion<'_>) {
+    let recording = Recording::new(region);
+    let listed = [(0x1000, 8), (0x10A4, 8)];
+    // The memory begins with "RSDT" and the length 44.
+    let first = number_within(&recording, &listed, 0x1000);
+    check(rt, "first", first, Ok(0x2C_5444_5352));
+    let second = number_within(&recording, &listed, 0x10A4);
+    check(rt, "second", second, Err(AcpiError::MapFailed));
+    assert!(rt;
+        recording.history().events() == ASKED.as_slice(),
+        "the requests"
+    );
+}
+
+#[test]
+fn a_guarded_handler_is_asked_for_what_is_listed(rt: HostRuntime) {
+    match MappedRegion::new(0x1000, &two_tables()) {
+        Ok(region) => check_asked(&rt, &region),
+        Err(error) => check(&rt, "mapped", Some(error), None),
+    }
 }
 
 /// How many bytes a kernel maps from 0x1000 on, the address at which it looks for the root table, and its

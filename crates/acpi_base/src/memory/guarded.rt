@@ -1,24 +1,27 @@
-//! A handler that may be asked for some ranges alone.
+//! A lender that may be asked for some ranges alone.
+ghost use Rattle.std.specs.Prelude.{◌&&◌};
 ghost use Rattle.acpi_base.specs.Ranges.{is_listed};
 
 use crate::error::AcpiResult;
-use crate::memory::handler::{AcpiHandler, Lender};
+use crate::memory::handler::Lender;
 
-/// A handler that may be asked for the ranges of a list and for no other, each a physical address and a
-/// number of bytes. Nothing is tested when it runs: a call over it is proved only if it asks for no
-/// range that isn't listed.
+/// A lender over another one, which it asks for what it is asked for, and for nothing else. It may be asked
+/// for the ranges of a list alone, each a physical address and a number of bytes, as far as the other one
+/// may be asked for them. A handler may be asked for any range.
+///
+/// Nothing is tested when it runs: a call over it is proved only if it asks for no range that isn't listed.
 #[derive(Drop)]
-pub struct Guarded<'h, H: AcpiHandler> {
+pub struct Guarded<'h, H: Lender> {
     handler: &'h H,
     ranges: &'h [(u64, usize)],
 }
 
-impl<'h, H: AcpiHandler> Guarded<'h, H> {
+impl<'h, H: Lender> Guarded<'h, H> {
     ghost use Rattle.std.specs.Prelude.{◌≡◌};
     ghost use Rattle.acpi_base.specs.Guarded.{guarded_by, listed_by};
 
-    /// A lender over a handler that may be asked for these ranges alone: physical addresses, and how many
-    /// bytes from each on.
+    /// A lender over another one, or over a handler, that may be asked for these ranges alone: physical
+    /// addresses, and how many bytes from each on.
     pub fn new(handler: &'h H, ranges: &'h [(u64, usize)]) -> Self
         ensures handler { guarded_by result ≡ handler.now }
         ensures ranges { listed_by result ≡ ranges.now }
@@ -27,18 +30,17 @@ impl<'h, H: AcpiHandler> Guarded<'h, H> {
     }
 }
 
-impl<H: AcpiHandler> Lender for Guarded<'_, H> {
+impl<H: Lender> Lender for Guarded<'_, H> {
     ghost memory = { λ g. H.memory g.handler.now };
 
-    ghost may = { λ g a n. is_listed g.ranges.now a n };
+    ghost may = { λ g a n. is_listed g.ranges.now a n && H.may g.handler.now a n };
 
     fn lend(&self, address: u64, size: usize) -> AcpiResult<&[u8]> {
-        self.handler.map_physical_region(address, size)
+        self.handler.lend(address, size)
     }
 
     fn end_loan(&self, address: u64, region_length: usize, mapped_length: usize) {
-        self.handler
-            .unmap_physical_region(address, region_length, mapped_length);
+        self.handler.end_loan(address, region_length, mapped_length);
     }
 
     ghost regions = { λ g. H.regions g.handler.now };
