@@ -9,7 +9,6 @@ mod found;
 pub mod handler;
 mod headers;
 pub mod hpet;
-pub mod laws;
 pub mod mcfg;
 mod members;
 pub mod platform;

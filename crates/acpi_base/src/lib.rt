@@ -14,7 +14,6 @@ pub mod bytes;
 pub mod entries;
 pub mod error;
 pub mod extended;
-pub mod laws;
 pub mod managed_slice;
 pub mod memory;
 pub mod model;

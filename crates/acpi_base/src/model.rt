@@ -13,7 +13,6 @@ mod isa;
 mod isa_overrides;
 mod item;
 mod items;
-pub mod laws;
 mod nmi_lines;
 mod pin;
 mod processor;

@@ -6,4 +6,3 @@
 
 pub mod bgrt;
 pub mod fadt;
-pub mod laws;

@@ -1,13 +1,13 @@
-//! Laws of comparisons and clones: each is the contract of a function that compares or clones. The laws of
-//! the definitions are in the crate `acpi_laws`.
+//! Laws of comparisons and clones of `acpi`'s types: each is the contract of a function that compares or
+//! clones.
 ghost use Rattle.std.specs.Prelude.{◌≡◌, IfOk, IsOk, Ok, None};
 ghost use Rattle.acpi_base.specs.Equality.{IsEquality};
 ghost use Rattle.acpi_base.specs.declared.model.interrupt.InterruptModel.TheVariants.{Unknown};
 
-use crate::handler::RegionError;
-use crate::hpet::PageProtection;
-use crate::platform::{MailboxCall, MailboxWrite, PlatformInfo, PmTimer};
-use crate::records::{AmlTable, Sdt, TableFault};
+use acpi::handler::RegionError;
+use acpi::hpet::PageProtection;
+use acpi::platform::{MailboxCall, MailboxWrite, PlatformInfo, PmTimer};
+use acpi::{AmlTable, Sdt, TableFault};
 use std::alloc::{AllocError, Allocator};
 
 /// Two `AmlTable`s compare as equal exactly if all their fields are equal.

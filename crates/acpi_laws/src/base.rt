@@ -1,5 +1,4 @@
-//! Laws of the names of tables, of comparisons and of conversions: each is the contract of a function. The
-//! laws of the definitions are in the crate `acpi_laws`.
+//! Laws of the names of tables, of comparisons and of conversions: each is the contract of a function.
 ghost use Rattle.std.specs.Prelude.{◌≡◌, ◌↔◌};
 ghost use Rattle.std.specs.Cmp.Lexicographic.{slice_cmp};
 ghost use Rattle.std.specs.Ordering.{nat_cmp};
@@ -8,12 +7,12 @@ ghost use Rattle.acpi_base.specs.Equality.{IsEquality};
 ghost use Rattle.acpi_base.specs.Names.{NamesAreSpelled};
 ghost use Rattle.acpi_base.specs.Text.{letters_of};
 
-use crate::address::{AccessSize, AddressSpace, GenericAddress};
-use crate::error::{AcpiError, MadtError};
-use crate::range::AddressRange;
-use crate::table::signature::Signature;
-use crate::tables::madt::MpProtectedModeWakeupCommand;
-use crate::tables::spcr::SpcrInterfaceType;
+use acpi_base::address::{AccessSize, AddressSpace, GenericAddress};
+use acpi_base::error::{AcpiError, MadtError};
+use acpi_base::range::AddressRange;
+use acpi_base::table::signature::Signature;
+use acpi_base::tables::madt::MpProtectedModeWakeupCommand;
+use acpi_base::tables::spcr::SpcrInterfaceType;
 use std::cmp::Ordering;
 
 /// Each constant of `Signature` has the four letters of its table (section 5.2.6).
@@ -23,7 +22,7 @@ pub fn names_are_spelled()
 
 /// Signatures are ordered as their four bytes are, the first byte first, and the order agrees with
 /// equality.
-#[tactic(auto, using(crate::proofs::SignatureOrder::equal_is))]
+#[tactic(auto, using(acpi_base::proofs::SignatureOrder::equal_is))]
 pub fn signature_order(a: &Signature, b: &Signature) -> Ordering
     ensures bytes { result ≡ slice_cmp nat_cmp (letters_of a.now) (letters_of b.now) }
     ensures equality { (result ≡ Equal) ↔ (a.now ≡ b.now) }

@@ -9,8 +9,8 @@ ghost use Rattle.acpi_fixed.specs.Brief.{BriefIsBrief};
 ghost use Rattle.acpi_fixed.specs.Fadt.{fadt_at, registers_of};
 ghost use Rattle.acpi_fixed.specs.Registers.{registers_at};
 
-use crate::bgrt::ImageType;
-use crate::fadt::PowerProfile;
+use acpi_fixed::bgrt::ImageType;
+use acpi_fixed::fadt::PowerProfile;
 use std::cmp::Ordering;
 use std::hash::{Hash, Hasher};
 

@@ -4,10 +4,10 @@ ghost use Rattle.std.specs.Prelude.{◌≡◌, IfOk, IsOk};
 ghost use Rattle.acpi_base.specs.Equality.{IsEquality};
 ghost use Rattle.acpi_base.specs.declared.model.interrupt.InterruptModel.TheVariants.{Unknown};
 
-use super::interrupt::{
-    Apic, InterruptModel, LocalInterruptLine, NmiProcessor, Polarity, TriggerMode,
+use acpi_base::model::{
+    Apic, InterruptModel, LocalInterruptLine, NmiProcessor, Polarity, Processor, ProcessorInfo,
+    ProcessorState, TriggerMode,
 };
-use super::processor::{Processor, ProcessorInfo, ProcessorState};
 use std::alloc::{AllocError, Allocator};
 
 /// Two `LocalInterruptLine`s compare as equal exactly if they are the same variant.
