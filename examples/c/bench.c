@@ -1,0 +1,140 @@
+/* bench IMAGE rsdt REVISION ADDRESS [BATCHES] | rsdp ADDRESS [BATCHES] | bios [BATCHES]: how long calls of the library
+ * take over an image.
+ *
+ * Each line names a call, says how many items or bytes it answers, and gives the nanoseconds that it takes: those of
+ * the fastest of so many batches, 1000 if nothing is said, each of as many calls as take 20 microseconds. Other work on
+ * the machine only adds to the time. With 0 batches no clock is read. */
+#define _POSIX_C_SOURCE 199309L
+#include "image.h"
+#include "start.h"
+#include <time.h>
+
+enum { MOST = 4096 }; /* how many items of a list are written */
+
+static struct acpi_source source;
+static struct acpi_signature wanted, named;
+
+/* Each of these makes one call, and writes how many items or bytes it answers. */
+static acpi_status open_root(size_t *count) {
+    struct acpi_root root = {0};
+    acpi_status refused = acpi_open(&source, &root, &named);
+    *count = root.length;
+    return refused;
+}
+static acpi_status find_wanted(size_t *count) {
+    struct acpi_table table = {0};
+    acpi_status refused = acpi_find_table(&source, wanted, &table, &named);
+    *count = table.length;
+    return refused;
+}
+static acpi_status list_tables(size_t *count) {
+    static struct acpi_table out[MOST];
+    return acpi_list_tables(&source, out, MOST, count, &named);
+}
+static acpi_status list_ssdts(size_t *count) {
+    static struct acpi_aml out[MOST];
+    return acpi_list_ssdts(&source, out, MOST, count, &named);
+}
+static acpi_status dsdt(size_t *count) {
+    struct acpi_aml aml = {0};
+    acpi_status refused = acpi_dsdt(&source, &aml, &named);
+    *count = aml.length;
+    return refused;
+}
+static acpi_status interrupt_model(size_t *count) {
+    struct acpi_interrupt_model model = {0};
+    acpi_status refused = acpi_interrupt_model(&source, &model, &named);
+    *count = model.io_apics + model.overrides + model.nmi_sources + model.nmi_lines + model.processors;
+    return refused;
+}
+static acpi_status list_processors(size_t *count) {
+    static struct acpi_processor out[MOST];
+    return acpi_list_processors(&source, out, MOST, count, &named);
+}
+static acpi_status hpet(size_t *count) {
+    struct acpi_hpet_block block = {0};
+    acpi_status refused = acpi_hpet(&source, &block, &named);
+    *count = 1;
+    return refused;
+}
+static acpi_status list_pci_regions(size_t *count) {
+    static struct acpi_pci_region out[MOST];
+    return acpi_list_pci_regions(&source, out, MOST, count, &named);
+}
+
+/* What is timed: a call, the signature that it looks up if it is a lookup, and what it answers. */
+static const struct call {
+    const char *name, *letters, *what;
+    acpi_status (*make)(size_t *count);
+} calls[] = {
+    {"acpi_open", "", "bytes", open_root},
+    {"acpi_find_table FACP", "FACP", "bytes", find_wanted},
+    {"acpi_find_table APIC", "APIC", "bytes", find_wanted},
+    {"acpi_find_table MCFG", "MCFG", "bytes", find_wanted},
+    {"acpi_find_table HPET", "HPET", "bytes", find_wanted},
+    {"acpi_find_table BGRT", "BGRT", "bytes", find_wanted},
+    {"acpi_find_table SPCR", "SPCR", "bytes", find_wanted},
+    {"acpi_list_tables", "", "items", list_tables},
+    {"acpi_list_ssdts", "", "items", list_ssdts},
+    {"acpi_dsdt", "", "bytes", dsdt},
+    {"acpi_interrupt_model", "", "items", interrupt_model},
+    {"acpi_list_processors", "", "items", list_processors},
+    {"acpi_hpet", "", "items", hpet},
+    {"acpi_list_pci_regions", "", "items", list_pci_regions},
+};
+
+static double now(void) {
+    struct timespec time = {0};
+    clock_gettime(CLOCK_MONOTONIC, &time);
+    return 1e9 * (double)time.tv_sec + (double)time.tv_nsec;
+}
+
+/* The nanoseconds that so many calls take. */
+static double batch(const struct call *call, long times) {
+    double start = now();
+    size_t count = 0;
+    while (times--) call->make(&count);
+    return now() - start;
+}
+
+/* The nanoseconds that one call takes in the fastest of so many batches. */
+static double least(const struct call *call, unsigned long batches) {
+    long times = 1;
+    double best = batch(call, times), next;
+    for (; best < 20000 && times < 1L << 20; best = batch(call, times)) times *= 2;
+    while (--batches)
+        if ((next = batch(call, times)) < best) best = next;
+    return best / (double)times;
+}
+
+int main(int argc, char **argv) {
+    static struct acpi_region regions[65536];
+    uint8_t *image, revision = 0;
+    int taken = start_of(argc, argv, &source, &revision);
+    unsigned long batches = taken + 1 == argc ? strtoul(argv[taken], NULL, 10) : 1000;
+    size_t i, length = 0, count = 0;
+    const char *unread;
+    if (!taken || taken + 1 < argc) {
+        fputs("usage: bench IMAGE rsdt REVISION ADDRESS [BATCHES] | rsdp ADDRESS [BATCHES] | bios [BATCHES]\n", stderr);
+        return 2;
+    }
+    image = contents(argv[1], &length);
+    if (!image) return fputs("refused: Unreadable\n", stderr), 1;
+    source.regions = regions;
+    unread = regions_of(image, length, regions, sizeof regions / sizeof *regions, &source.regions_length);
+    if (unread) return fprintf(stderr, "refused: %s\n", unread), 1;
+    for (i = 0; i < sizeof calls / sizeof *calls; i++) {
+        acpi_status refused;
+        memcpy(wanted.letters, calls[i].letters, strlen(calls[i].letters));
+        refused = calls[i].make(&count);
+        if (refused) {
+            printf("%s refused %u\n", calls[i].name, (unsigned)refused);
+            continue;
+        }
+        printf("%s %s %zu", calls[i].name, calls[i].what, count);
+        if (batches) printf(" ns %.1f", least(&calls[i], batches));
+        putchar('\n');
+    }
+    free(image);
+    return 0;
+}
