@@ -9,6 +9,4 @@ pub mod guarded;
 pub mod reserved;
 pub mod resolved;
 pub mod table_type;
-#[cfg(test)]
-mod tests;
 pub mod writer;

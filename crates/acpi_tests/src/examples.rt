@@ -1,17 +1,18 @@
-//! Tests of the callers: the tables that they find and write.
+//! The examples: the tables that they find and write.
 ghost use Rattle.std.specs.Prelude.{◌≡◌, true};
 ghost use Rattle.acpi_base.specs.Ranges.{is_listed};
 
-use crate::caller::graphic_address;
-use crate::reserved::{MemoryMap, reserve_tables};
-use crate::resolved::isa_pin;
-use crate::table_type::find_both;
-use crate::writer::{GuestError, tables_of_guest};
+use crate::checks::check;
 use acpi::handler::{MappedRegion, RegionError};
 use acpi::madt::Madt;
 use acpi::platform::interrupt::InterruptModel;
 use acpi::sdt::Signature;
 use acpi::{AcpiError, AcpiHandler, AcpiResult, AcpiTables, Guarded, Lender, PhysicalMapping};
+use acpi_examples::caller::graphic_address;
+use acpi_examples::reserved::{MemoryMap, reserve_tables};
+use acpi_examples::resolved::isa_pin;
+use acpi_examples::table_type::find_both;
+use acpi_examples::writer::{GuestError, tables_of_guest};
 use acpi_image::{MemoryImage, PlacedTable, WriteError};
 use acpi_testkit::handlers::Recording;
 use acpi_testkit::history::Event;
@@ -20,16 +21,7 @@ use acpi_testkit::samples::madts::with_madt;
 use acpi_testkit::samples::rsdps::two_roots;
 use acpi_testkit::samples::{front, put_graphic, seal_table};
 use std::alloc::Global;
-use std::fmt::Debug;
 use std::process::Abort;
-
-/// Checks that the value that was found is the one that is wanted.
-fn check<T: Copy + Debug + PartialEq>(rt: &impl Abort, name: &str, found: T, wanted: T) {
-    assert!(rt;
-        found == wanted,
-        "{name}: {found:?}, but {wanted:?} is wanted"
-    );
-}
 
 /// The number of eight bytes at an address, from a lender that may be asked for it.
 fn number_at<L: Lender>(lender: &L, address: u64) -> AcpiResult<u64>
@@ -196,14 +188,20 @@ const IO_APIC: [u8; 12] = [1, 12, 7, 0, 0, 0, 0xC0, 0xFE, 2, 0, 0, 0];
 /// one, so each is the interrupt of its own number.
 static PINS: [(u8, Option<(u8, u32)>); 3] = [(2, Some((7, 0))), (9, Some((7, 7))), (1, None)];
 
+/// The I/O APIC and the pin that an ISA interrupt comes to in a model.
+fn pin_in(model: &InterruptModel<Global>, irq: u8) -> Option<(u8, u32)> {
+    match model {
+        InterruptModel::Apic(apic) => isa_pin(apic, irq),
+        InterruptModel::Unknown => None,
+    }
+}
+
 /// The I/O APIC and the pin that an ISA interrupt comes to, by the MADT in a memory.
 fn pin_found<H: AcpiHandler>(alloc: Global, memory: &H, irq: u8) -> AcpiResult<Option<(u8, u32)>> {
-    let madt = AcpiTables::from_rsdt(memory, 0, 0x1000)?.find_table::<Madt>()?;
+    let tables = AcpiTables::from_rsdt(memory, 0, 0x1000)?;
+    let madt = tables.find_table::<Madt>()?;
     let (model, _) = madt.parse_interrupt_model_in(alloc)?;
-    match &model {
-        InterruptModel::Apic(apic) => Ok(isa_pin(apic, irq)),
-        InterruptModel::Unknown => Ok(None),
-    }
+    Ok(pin_in(&model, irq))
 }
 
 /// Checks the pins that are found in an image.

@@ -10,7 +10,7 @@ use std::alloc::Global;
 use std::process::Abort;
 
 /// A record: its start, its length, and the bytes after these.
-type Record = (u64, u64, &'static [u8]);
+pub(crate) type Record = (u64, u64, &'static [u8]);
 
 /// A request, by address and size, and the bytes that are lent, `None` where it is refused.
 type Request = (u64, usize, Option<&'static [u8]>);
@@ -32,9 +32,9 @@ const RSDT: &[u8] =
 const BGRT: &[u8] =
     b"BGRT\x38\0\0\0\0\x93\0\0\0\0\0\0\0\0\0\0\0\0\0\0\0\0\0\0\0\0\0\0\0\0\0\0\x01\0\x05\0\0\0\0\0\0\0\0\0\0\0\0\0\0\0\0\0";
 
-const ROOT: Record = (0x1000, 40, RSDT);
+pub(crate) const ROOT: Record = (0x1000, 40, RSDT);
 
-const GRAPHIC: Record = (0x2000, 56, BGRT);
+pub(crate) const GRAPHIC: Record = (0x2000, 56, BGRT);
 
 /// A start and a length of seven in each byte.
 const SEVENS: Record = (0x0707_0707_0707_0707, 0x0707_0707_0707_0707, &[]);
@@ -154,7 +154,7 @@ fn put(file: &mut Room, (start, length, bytes): (u64, u64, &[u8])) {
 }
 
 /// The file of some records, cut after so many bytes.
-fn file_of(records: &[Record], left: usize) -> Room {
+pub(crate) fn file_of(records: &[Record], left: usize) -> Room {
     let mut file = Room::EMPTY;
     for record in records {
         put(&mut file, *record);

@@ -1,14 +1,7 @@
-//! Bytes that are encoded in parts.
+//! Bytes of files.
 
 /// What stands at which offset.
 pub(crate) type Part = (usize, &'static [u8]);
-
-/// Bytes of which those that no part names are zero. They are no more than a room has.
-#[derive(Clone, Copy)]
-pub(crate) struct Bytes {
-    pub(crate) length: usize,
-    pub(crate) parts: &'static [Part],
-}
 
 /// Room for a file. It is no list, so that no test has to say what comes of memory that is refused.
 #[derive(Clone, Copy)]
@@ -24,27 +17,12 @@ impl Room {
         length: 0,
     };
 
-    /// Writes a part over what is there.
-    fn put_at(&mut self, offset: usize, part: &[u8]) {
-        for (there, byte) in self.bytes.iter_mut().skip(offset).zip(part) {
-            *there = *byte;
-        }
-    }
-
     /// Puts bytes after those that are there.
     pub(crate) fn push(&mut self, bytes: &[u8]) {
-        self.put_at(self.length, bytes);
-        self.length = self.length.wrapping_add(bytes.len());
-    }
-
-    /// The encoded bytes.
-    pub(crate) fn of(bytes: Bytes) -> Room {
-        let mut room = Room::EMPTY;
-        for (offset, part) in bytes.parts {
-            room.put_at(*offset, part);
+        for (there, byte) in self.bytes.iter_mut().skip(self.length).zip(bytes) {
+            *there = *byte;
         }
-        room.length = bytes.length;
-        room
+        self.length = self.length.wrapping_add(bytes.len());
     }
 
     /// Keeps no more than so many bytes.

@@ -1,0 +1,28 @@
+//! Tests of what rows can't say: files of memory that are read and written, mapped regions, mailboxes, values that are
+//! moved or let go, memory and writes that are refused, and the examples.
+#![tactic(auto)]
+
+#[cfg(test)]
+mod bytes;
+#[cfg(test)]
+mod checks;
+#[cfg(test)]
+mod examples;
+#[cfg(test)]
+mod pairing;
+#[cfg(test)]
+mod programs;
+#[cfg(test)]
+mod reading;
+#[cfg(test)]
+mod regions;
+#[cfg(test)]
+mod saving;
+#[cfg(test)]
+mod slices;
+#[cfg(test)]
+mod texts;
+#[cfg(test)]
+mod wakeup;
+#[cfg(test)]
+mod writing;

@@ -1,0 +1,143 @@
+//! What can't be seen of a program from outside: arguments that can't be had, how many files it asks for, and writes that
+//! are refused.
+
+use crate::checks::check;
+use crate::reading::{GRAPHIC, ROOT, file_of};
+use acpi_cli::args_or_none;
+use acpi_cli::files::{HostFiles, count};
+use acpi_dumping::run::dump;
+use acpi_packing::arguments::parse_command;
+use acpi_packing::program::pack;
+use acpi_packing::run::run;
+use acpi_packing::storage::HostStorage;
+use std::alloc::Global;
+use std::io::{ErrorKind, Write};
+use std::{fs, io};
+
+/// One argument that was had.
+fn one_argument(alloc: Global) -> io::Result<Vec<String>> {
+    let argument = String::from_str(alloc, "some.image")?;
+    Ok(vec![in alloc; argument]?)
+}
+
+/// How many arguments there are if these were had, or none if they are refused.
+fn count_of(alloc: Global, texts: io::Result<Vec<String>>) -> Option<usize> {
+    match args_or_none(alloc, texts) {
+        Ok(texts) => Some(texts.len()),
+        Err(_) => None,
+    }
+}
+
+#[test]
+fn arguments_that_cant_be_had(rt: HostRuntime) {
+    let alloc = rt.alloc();
+    let out_of_memory = Err(io::Error::from(ErrorKind::OutOfMemory));
+    let no_text = Err(io::Error::from(ErrorKind::InvalidData));
+    let found = [
+        count_of(alloc, one_argument(alloc)),
+        count_of(alloc, out_of_memory),
+        count_of(alloc, no_text),
+    ];
+    check(&rt, "arguments", found, [Some(1), None, Some(0)]);
+}
+
+/// A run: the arguments, the status, and how many files are asked for.
+type Run = (&'static [&'static str], u8, usize);
+
+/// Runs of `acpi_dump`. The file `asked.image` has an RSDT at 0x1000 that lists a BGRT.
+static DUMPS: [Run; 12] = [
+    (&[], 2, 0),
+    (&["asked.image"], 2, 0),
+    (&["asked.image", "rsdt", "256", "0x1000"], 2, 0),
+    (&["asked.image", "bios", "--table"], 2, 0),
+    (&["--help", "--version"], 2, 0),
+    (&["--help"], 0, 0),
+    (&["--version"], 0, 0),
+    (&["asked.image", "rsdt", "0", "0x1000"], 0, 1),
+    (
+        &["asked.image", "rsdt", "0", "0x1000", "--hex", "BGRT"],
+        0,
+        1,
+    ),
+    (
+        &["asked.image", "rsdt", "0", "0x1000", "--table", "FACP"],
+        1,
+        1,
+    ),
+    (&["asked.image", "bios"], 1, 1),
+    (&["missing.image", "bios"], 1, 1),
+];
+
+/// The status of a run of `acpi_dump`, and how many files it asks for.
+fn dumped(rt: &HostRuntime, arguments: &[&str]) -> Option<(u8, usize)> {
+    let mut files = HostFiles::new(rt);
+    let (mut out, mut err) = (Vec::new(rt.alloc()), Vec::new(rt.alloc()));
+    let status = dump(rt.alloc(), arguments, &mut files, &mut out, &mut err).ok()?;
+    Some((status, count(&files)))
+}
+
+/// Runs of `acpi_pack`.
+static PACKS: [Run; 7] = [
+    (&[], 2, 0),
+    (&["--Help"], 2, 0),
+    (&["--help", "tables"], 2, 0),
+    (&["--help", "--version"], 2, 0),
+    (&["--help"], 0, 0),
+    (&["--version"], 0, 0),
+    (&["out", "tables", "missing", "also missing"], 1, 2),
+];
+
+/// The status of a run of `acpi_pack`, and how many files it asks for.
+fn packed(rt: &HostRuntime, arguments: &[&str]) -> Option<(u8, usize)> {
+    let (mut files, mut storage) = (HostFiles::new(rt), HostStorage::new(rt));
+    let (mut out, mut err) = (Vec::new(rt.alloc()), Vec::new(rt.alloc()));
+    let status = pack(
+        rt.alloc(),
+        arguments,
+        &mut files,
+        &mut storage,
+        &mut out,
+        &mut err,
+    );
+    let status = status.ok()?;
+    Some((status, count(&files)))
+}
+
+#[test]
+fn no_more_files_are_asked_for(rt: HostRuntime) {
+    let image = file_of(&[ROOT, GRAPHIC], 128);
+    let is_written = fs::write(&rt, "asked.image", image.bytes()).is_ok();
+    for (arguments, status, asked) in &DUMPS {
+        let wanted = Some((*status, *asked));
+        check(&rt, "dump", dumped(&rt, *arguments), wanted);
+    }
+    for (arguments, status, asked) in &PACKS {
+        let wanted = Some((*status, *asked));
+        check(&rt, "pack", packed(&rt, *arguments), wanted);
+    }
+    let is_removed = fs::remove_file(&rt, "asked.image").is_ok();
+    check(&rt, "the image", (is_written, is_removed), (true, true));
+}
+
+/// A writer that takes nothing.
+#[derive(Drop)]
+struct Closed;
+
+impl Write for Closed {
+    fn write(&mut self, _buf: &[u8]) -> io::Result<usize> {
+        Err(io::Error::from(ErrorKind::Other))
+    }
+
+    fn flush(&mut self) -> io::Result<()> {
+        Ok(())
+    }
+}
+
+#[test]
+fn a_line_that_cant_be_printed_fails(rt: HostRuntime) {
+    let facs = b"FACS\x24\0\0\0\0\0\0\0\0\0\0\0\0\0\0\0\0\0\0\0\0\0\0\0\0\0\0\0\0\0\0\0";
+    let files = [Some(facs.as_slice())];
+    let asked = parse_command(rt.alloc(), &["out", "tables", "facs"]);
+    let outcome = asked.map(|asked| run(rt.alloc(), &asked, &files, &mut Closed));
+    check(&rt, "failed", matches!(outcome, Ok(Err(_))), true);
+}
