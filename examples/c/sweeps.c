@@ -1,0 +1,199 @@
+/* Sweeps over tables laid out by hand: each table's memory as two regions that touch, cut at each place, and each byte
+ * of a table but its Length changed to each other value. No lookup may take such a table: that by its signature and
+ * that of its own type refuse, nothing is written but the signature, and the list of faults has why it is passed over.
+ * Prints those that fail, and how many memories were tried. The status is 0 if all hold.
+ * For x86-64: cc -std=c99 -Iinclude examples/c/sweeps.c ARCHIVE -no-pie */
+#include "acpi.h"
+#include <stdio.h>
+#include <string.h>
+
+#define PAINT 0xa5
+#define AT(address, table) {address, table, sizeof table}
+enum { LENGTH = 4, REVISION = 8, OEMID = 10, OEM_TABLE_ID = 16, OEM_REVISION = 24 }; /* fields (section 5.2.6) */
+
+/* ---- Tables ------------------------------------------------------------------------------------------- */
+
+/* One table of each type that has a lookup of its own, each shorter than its layout, or ending in the front of an
+ * entry, and an RSDT that lists them. Byte 9 is Checksum. */
+static uint8_t rsdt[64] = {'R', 'S', 'D', 'T', 64, [9] = 0xe3, [37] = 0x20, [41] = 0x30, [45] = 0x40, [49] = 0x60,
+    [53] = 0x80, [57] = 0x90, [61] = 0xa0};
+static uint8_t facp[116] = {'F', 'A', 'C', 'P', 116, [8] = 0x02, 0xeb, [41] = 0x70, [45] = 0x02, [76] = 0x08, 0x06,
+    [91] = 0x04, [113] = 0x01};
+static uint8_t apic[76] = {'A', 'P', 'I', 'C', 76, [9] = 0x2e, [38] = 0xe0, 0xfe, [45] = 0x08, 0x01, 0x02, 0x01,
+    [53] = 0x08, 0x03, 0x04, [60] = 0x10, 0x10, [69] = 0x50};
+static uint8_t hpet[56] = {'H', 'P', 'E', 'T', 56, [9] = 0xee, [41] = 0x40, [43] = 0x09, [46] = 0xd0, 0xfe,
+    [53] = 0x80, 0x00, 0x12};
+static uint8_t mcfg[75] = {'M', 'C', 'F', 'G', 75, [9] = 0x8a, [47] = 0xe0, [55] = 0x0f, [63] = 0xf0,
+    [70] = 0x10, 0x1f};
+static uint8_t dsdt[40] = {'D', 'S', 'D', 'T', 40, [9] = 0x9f, [36] = 0x01, 0x02, 0x03, 0x04};
+static uint8_t bgrt[56] = {'B', 'G', 'R', 'T', 56, [9] = 0x93, [36] = 0x01, 0x00, 0x05};
+static uint8_t spcr[80] = {'S', 'P', 'C', 'R', 80, [8] = 0x02, 0x6a, [52] = 0x01, 0x04, [58] = 0x07};
+static uint8_t ssdt[40] = {'S', 'S', 'D', 'T', 40, [9] = 0x90, [36] = 0x01, 0x02, 0x03, 0x04};
+static const struct acpi_region each_type[] = {AT(0x1000, rsdt), AT(0x2000, facp), AT(0x3000, apic), AT(0x4000, hpet),
+    AT(0x6000, mcfg), AT(0x7000, dsdt), AT(0x8000, bgrt), AT(0x9000, spcr), AT(0xa000, ssdt)};
+
+/* A boot graphic alone, and its RSDT. */
+static uint8_t short_rsdt[40] = {'R', 'S', 'D', 'T', 40, [9] = 0x7b, [37] = 0x20};
+static const struct acpi_region graphic[] = {AT(0x1000, short_rsdt), AT(0x2000, bgrt)};
+
+/* ---- Lookups ------------------------------------------------------------------------------------------ */
+
+/* The outputs of a call. They are painted before it. */
+static union {
+    uint8_t bytes[512];
+    struct acpi_table table;
+    struct acpi_fault faults[2];
+    struct acpi_fixed_hardware fixed_hardware;
+    struct acpi_gic_distributor distributor;
+    struct acpi_hpet_block hpet;
+    struct acpi_pci_region pci_region;
+    struct acpi_boot_graphic graphic;
+    struct acpi_console console;
+} out;
+static size_t count;
+static struct acpi_signature named;
+
+static void paint(void) {
+    memset(&out, PAINT, sizeof out);
+    memset(&count, PAINT, sizeof count);
+    memset(&named, PAINT, sizeof named);
+}
+
+/* The lookup of a type: a call that asks for a table of this type before all else. */
+typedef acpi_status lookup(const struct acpi_source *source);
+#define LOOKUP(name, call, ...) \
+    static acpi_status find_##name(const struct acpi_source *s) { return acpi_##call(s, __VA_ARGS__, &named); }
+LOOKUP(facp, fixed_hardware, &out.fixed_hardware)
+LOOKUP(apic, gic_distributor, &out.distributor)
+LOOKUP(hpet, hpet, &out.hpet)
+LOOKUP(mcfg, list_pci_regions, &out.pci_region, 1, &count)
+LOOKUP(bgrt, boot_graphic, &out.graphic)
+LOOKUP(spcr, console, &out.console)
+
+/* A table that is swept over: region `index` of a memory. */
+static const struct swept {
+    const char *name;
+    const struct acpi_region *regions;
+    size_t regions_length, index;
+    lookup *find;
+    acpi_status found; /* what it answers over the memory as it is: this MADT describes no GIC */
+} tables[] = {
+    {"FACP", each_type, 9, 1, find_facp, ACPI_OK},   {"APIC", each_type, 9, 2, find_apic, ACPI_NO_GIC},
+    {"HPET", each_type, 9, 3, find_hpet, ACPI_OK},   {"MCFG", each_type, 9, 4, find_mcfg, ACPI_OK},
+    {"BGRT", each_type, 9, 6, find_bgrt, ACPI_OK},   {"SPCR", each_type, 9, 7, find_spcr, ACPI_OK},
+    {"BGRT", graphic, 2, 1, find_bgrt, ACPI_OK},
+};
+
+/* ---- Sweeps ------------------------------------------------------------------------------------------- */
+
+static unsigned long tried, failed;
+
+static void result(int holds, const struct swept *table, const char *what, size_t place, unsigned value) {
+    tried++;
+    if (holds) return;
+    failed++;
+    printf("FAILED: %s of %lu regions, %s %lu, %u\n", table->name, (unsigned long)table->regions_length, what,
+           (unsigned long)place, value);
+}
+
+static struct acpi_signature signature_of(const struct swept *table) {
+    struct acpi_signature made;
+    memcpy(made.letters, table->name, 4);
+    return made;
+}
+
+/* Whether bytes are painted. */
+static int are_painted(const void *bytes, size_t length) {
+    const uint8_t *byte = bytes;
+    while (length--) if (*byte++ != PAINT) return 0;
+    return 1;
+}
+
+/* Whether a refusal says that the table is missing, and writes nothing but its signature. */
+static int says_missing(const struct swept *table, acpi_status status) {
+    return status == ACPI_TABLE_MISSING && !memcmp(named.letters, table->name, 4) && are_painted(&out, sizeof out)
+        && are_painted(&count, sizeof count);
+}
+
+/* Whether no lookup takes the table, and it is listed with this fault alone, or not at all if this is 0. */
+static int is_passed_over(const struct swept *table, const struct acpi_source *source, acpi_status fault) {
+    paint();
+    if (!says_missing(table, acpi_find_table(source, signature_of(table), &out.table, &named))) return 0;
+    paint();
+    if (!says_missing(table, table->find(source))) return 0;
+    paint();
+    if (acpi_list_faults(source, signature_of(table), out.faults, 2, &count, &named)) return 0;
+    if (!fault) return count == 0 && are_painted(&out, sizeof out);
+    return count == 1 && out.faults[0].address == table->regions[table->index].address && out.faults[0].status == fault
+        && are_painted(&out.faults[1], sizeof out.faults[1]);
+}
+
+/* Whether each lookup takes the table as it is, and passes over nothing: else a refusal would show nothing. */
+static int is_found(const struct swept *table) {
+    const struct acpi_source source = {table->regions, table->regions_length, 0x1000, ACPI_START_RSDT};
+    const struct acpi_region *region = &table->regions[table->index];
+    if (acpi_find_table(&source, signature_of(table), &out.table, &named)) return 0;
+    if (out.table.address != region->address || out.table.length != region->length) return 0;
+    if (table->find(&source) != table->found) return 0;
+    return !acpi_list_faults(&source, signature_of(table), out.faults, 2, &count, &named) && count == 0;
+}
+
+/* The table in two regions, cut at each place. */
+static void sweep_cuts(const struct swept *table) {
+    struct acpi_region regions[10];
+    const struct acpi_source source = {regions, table->regions_length + 1, 0x1000, ACPI_START_RSDT};
+    struct acpi_region *front = &regions[table->index], *rest = front + 1;
+    size_t after = table->regions_length - table->index, whole = table->regions[table->index].length, cut;
+    memcpy(regions, table->regions, table->index * sizeof *regions);
+    memcpy(rest, table->regions + table->index, after * sizeof *regions);
+    *front = *rest;
+    for (cut = 1; cut < whole; cut++) {
+        front->length = cut;
+        rest->address = front->address + cut;
+        rest->bytes = front->bytes + cut;
+        rest->length = whole - cut;
+        result(is_passed_over(table, &source, ACPI_MAP_FAILED), table, "cut at", cut, 0);
+    }
+}
+
+/* Why a table is passed over that has this value in one byte, where both its texts were zeros: it bears another
+ * signature, which is no fault, a text isn't UTF-8, or it doesn't sum to 0. */
+static acpi_status fault_of(size_t offset, uint8_t value) {
+    if (offset < LENGTH) return ACPI_OK;
+    if (value >= 0x80 && OEMID <= offset && offset < OEM_TABLE_ID) return ACPI_SDT_INVALID_OEM_ID;
+    if (value >= 0x80 && OEM_TABLE_ID <= offset && offset < OEM_REVISION) return ACPI_SDT_INVALID_TABLE_ID;
+    return ACPI_SDT_INVALID_CHECKSUM;
+}
+
+/* The table with another value in one byte, each byte but those of Length and each other value. */
+static void sweep_bytes(const struct swept *table) {
+    struct acpi_region regions[9];
+    const struct acpi_source source = {regions, table->regions_length, 0x1000, ACPI_START_RSDT};
+    const struct acpi_region *region = &table->regions[table->index];
+    uint8_t bytes[116];
+    size_t offset;
+    unsigned bits;
+    memcpy(regions, table->regions, table->regions_length * sizeof *regions);
+    memcpy(bytes, region->bytes, region->length);
+    regions[table->index].bytes = bytes;
+    for (offset = 0; offset < region->length; offset++) {
+        if (LENGTH <= offset && offset < REVISION) continue;
+        for (bits = 1; bits < 256; bits++) {
+            bytes[offset] ^= (uint8_t)bits;
+            result(is_passed_over(table, &source, fault_of(offset, bytes[offset])), table, "byte", offset,
+                   bytes[offset]);
+            bytes[offset] ^= (uint8_t)bits;
+        }
+    }
+}
+
+int main(void) {
+    const struct swept *table = tables;
+    for (; table < tables + sizeof tables / sizeof *tables; table++) {
+        result(is_found(table), table, "as it is", 0, 0);
+        sweep_cuts(table);
+        sweep_bytes(table);
+    }
+    printf("%lu memories\n", tried);
+    return failed ? 1 : 0;
+}
