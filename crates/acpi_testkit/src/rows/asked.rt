@@ -1,9 +1,10 @@
 //! The questions of rows, and the answers of a program.
 
 use super::{Row, Rows};
+use acpi_cli::args;
 use std::alloc::{AllocError, Global};
 use std::fmt::{Debug, Display};
-use std::io;
+use std::{fs, io};
 
 /// The answers of a program to questions about rows.
 pub trait Answers {
@@ -45,18 +46,26 @@ pub fn named<T: Copy>(values: &[(&str, T)], name: &str) -> Option<T> {
 /// Refuses if reading or a write is refused, or memory runs out.
 pub fn ask_rows<A: Answers>(rt: &HostRuntime, answers: &A) -> io::Result<()> {
     let text = io::read_to_string(rt.alloc(), rt.reader())?;
-    let mut rows = Rows::new(rt.alloc());
-    let count = ask_lines(rt, answers, &mut rows, text.as_str())?;
+    let count = ask_text(rt, answers, text.as_str())?;
+    println!(rt; "{count} questions")
+}
+
+/// Asks the questions of the rows in the files that the program's arguments name. The rows of a file
+/// are only like those of the same file.
+///
+/// Prints and refuses as `ask_rows` does.
+pub fn ask_files<A: Answers>(rt: &HostRuntime, answers: &A) -> io::Result<()> {
+    let mut count = 0u64;
+    for file in &args(rt)? {
+        let text = fs::read_to_string(rt, file.as_str())?;
+        count = count.wrapping_add(ask_text(rt, answers, text.as_str())?);
+    }
     println!(rt; "{count} questions")
 }
 
 /// Takes each line, and counts those that ask.
-fn ask_lines<A: Answers>(
-    rt: &HostRuntime,
-    answers: &A,
-    rows: &mut Rows,
-    text: &str,
-) -> io::Result<u64> {
+fn ask_text<A: Answers>(rt: &HostRuntime, answers: &A, text: &str) -> io::Result<u64> {
+    let mut rows = Rows::new(rt.alloc());
     let mut count = 0u64;
     for line in text.lines() {
         if !rows.take(line)? {
