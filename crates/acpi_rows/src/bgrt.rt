@@ -1,9 +1,9 @@
 //! Boot graphics.
 
+use crate::hex_text::in_hex;
 use crate::named::field_of;
 use acpi::bgrt::Bgrt;
 use acpi::{AcpiTable, PhysicalRecord};
-use acpi_testkit::rows::shown;
 use std::alloc::{AllocError, Global};
 
 /// What a boot graphic answers.
@@ -13,9 +13,9 @@ pub(crate) fn answer(alloc: Global, bytes: &[u8], question: &str) -> Result<Stri
     }
     let table = Bgrt::read(bytes);
     match question {
-        "valid" => shown(alloc, &table.validate(bytes)),
-        "display" => shown(alloc, &(table.was_displayed(), table.orientation_offset())),
-        "image" => shown(alloc, &(table.image_type(), table.image_offset())),
+        "valid" => in_hex(alloc, &table.validate(bytes)),
+        "display" => in_hex(alloc, &(table.was_displayed(), table.orientation_offset())),
+        "image" => in_hex(alloc, &(table.image_type(), table.image_offset())),
         _ => field_of(alloc, &table, question),
     }
 }

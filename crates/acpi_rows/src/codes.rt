@@ -1,8 +1,8 @@
 //! Generic addresses, and codes by themselves.
 
+use crate::hex_text::in_hex;
 use acpi::address::{AccessSize, AddressSpace, GenericAddress};
 use acpi_base::madt::MpProtectedModeWakeupCommand;
-use acpi_testkit::rows::shown;
 use std::alloc::{AllocError, Global};
 
 /// What the twelve bytes of a generic address answer.
@@ -15,8 +15,8 @@ pub(crate) fn of_address(
         return Ok(String::new(alloc));
     };
     match question {
-        "read" => shown(alloc, &GenericAddress::from_raw(*raw)),
-        "codes" => shown(
+        "read" => in_hex(alloc, &GenericAddress::from_raw(*raw)),
+        "codes" => in_hex(
             alloc,
             &(AddressSpace::try_from(raw[0]), AccessSize::try_from(raw[3])),
         ),
@@ -33,7 +33,7 @@ pub(crate) fn of_command(
     match (question, bytes) {
         ("command", [low, high]) => {
             let command = MpProtectedModeWakeupCommand::try_from(u16::from_le_bytes([*low, *high]));
-            shown(alloc, &command.map(|command| (command, command as u16)))
+            in_hex(alloc, &command.map(|command| (command, command as u16)))
         }
         _ => Ok(String::new(alloc)),
     }

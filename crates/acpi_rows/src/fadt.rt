@@ -1,8 +1,10 @@
 //! The fixed hardware: fields, blocks of registers and flags.
 
+use crate::hex_text::in_hex;
 use crate::named::{field_of, set_names};
 use acpi::address::GenericAddress;
 use acpi::fadt::Fadt;
+use acpi::platform::PmTimer;
 use acpi::{AcpiResult, AcpiTable, PhysicalRecord};
 use acpi_testkit::rows::{named, shown};
 use std::alloc::{AllocError, Global};
@@ -14,11 +16,12 @@ pub(crate) fn answer(alloc: Global, bytes: &[u8], question: &str) -> Result<Stri
     }
     let table = Fadt::read(bytes);
     match question {
-        "valid" => shown(alloc, &table.validate(bytes)),
-        "header" => shown(alloc, table.header()),
-        "profile" => shown(alloc, &table.power_profile()),
-        "addresses" => shown(alloc, &(table.facs_address(), table.dsdt_address())),
-        "events" => shown(alloc, &(table.gpe0(), table.gpe1(), table.gpe1_base())),
+        "valid" => in_hex(alloc, &table.validate(bytes)),
+        "header" => in_hex(alloc, table.header()),
+        "profile" => in_hex(alloc, &table.power_profile()),
+        "addresses" => in_hex(alloc, &(table.facs_address(), table.dsdt_address())),
+        "events" => in_hex(alloc, &(table.gpe0(), table.gpe1(), table.gpe1_base())),
+        "timer" => shown(alloc, &PmTimer::new(&table)),
         "flags" => set_names(alloc, &FLAGS, &flags_of(&table)),
         _ => block_or_field(alloc, &table, question),
     }
@@ -27,7 +30,7 @@ pub(crate) fn answer(alloc: Global, bytes: &[u8], question: &str) -> Result<Stri
 /// The block of registers or the field of a name.
 fn block_or_field(alloc: Global, table: &Fadt, name: &str) -> Result<String, AllocError> {
     match named(&blocks(table), name) {
-        Some(block) => shown(alloc, &block),
+        Some(block) => in_hex(alloc, &block),
         None => field_of(alloc, table, name),
     }
 }

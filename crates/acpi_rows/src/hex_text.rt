@@ -1,10 +1,17 @@
-//! Text with its numbers in hexadecimal, as the bytes are that they are read from.
+//! Values as they are debugged, with their numbers in hexadecimal as the bytes are that they are read from.
 
+use acpi_testkit::rows::shown;
 use std::alloc::{AllocError, Global};
+use std::fmt::Debug;
+
+/// The text that `Debug` prints of a value, with its numbers in hexadecimal.
+pub(crate) fn in_hex<T: Debug>(alloc: Global, value: &T) -> Result<String, AllocError> {
+    text_in_hex(alloc, shown(alloc, value)?.as_str())
+}
 
 /// The same text with each decimal number in hexadecimal. Digits in names and in quotations are no
 /// numbers.
-pub(crate) fn in_hex(alloc: Global, text: &str) -> Result<String, AllocError> {
+fn text_in_hex(alloc: Global, text: &str) -> Result<String, AllocError> {
     let mut hex = String::new(alloc);
     let mut number: Option<u64> = None;
     let (mut is_name, mut is_quoted) = (false, false);

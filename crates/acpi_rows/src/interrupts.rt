@@ -1,9 +1,40 @@
 //! Where interrupts come to, as the overrides, the I/O APICs and the local NMIs of a MADT say.
 
-use acpi::madt::MadtEntry;
+use crate::hex_text::in_hex;
+use crate::texts::said;
+use acpi::handler::MappedRegion;
+use acpi::madt::{Madt, MadtEntry};
 use acpi::platform::interrupt::{Apic, InterruptModel};
+use acpi::{PhysicalMapping, PhysicalRecord};
 use acpi_testkit::rows::shown;
-use std::alloc::{AllocError, Global};
+use linked_list_allocator::LocalHeap;
+use std::alloc::{AllocError, Allocator, Global};
+
+/// The interrupt model of a MADT, in memory of an allocator.
+pub(crate) fn model<A: Allocator + Clone>(
+    alloc: Global,
+    allocator: A,
+    table: &[u8],
+) -> Result<String, AllocError> {
+    if table.len() < Madt::MIN_LENGTH {
+        return Ok(String::new(alloc));
+    }
+    let Ok(region) = MappedRegion::new(0, table) else {
+        return Ok(String::new(alloc));
+    };
+    let madt = PhysicalMapping::<_, Madt>::new(0, table, table.len(), &region);
+    said(alloc, madt.parse_interrupt_model_in(allocator))
+}
+
+/// The model of a table, gathered in a heap of 16 bytes, which has to be free again.
+pub(crate) fn model_in_16_bytes(alloc: Global, table: &[u8]) -> Result<String, AllocError> {
+    let heap = LocalHeap::new(alloc, 16)?;
+    let text = model(alloc, &heap, table)?;
+    match heap.used() {
+        0 => Ok(text),
+        used => shown(alloc, &used),
+    }
+}
 
 /// What a model of APICs answers: `isa`, `sci`, `pin` and `lines` of a decimal number.
 pub(crate) fn of_model(
@@ -26,9 +57,9 @@ fn of_apic(
     number: u32,
 ) -> Result<String, AllocError> {
     match word {
-        "isa" => shown(alloc, &apic.isa_interrupt((number % 0x100) as u8)),
-        "sci" => shown(alloc, &apic.sci_interrupt((number % 0x10000) as u16)),
-        "pin" => shown(
+        "isa" => in_hex(alloc, &apic.isa_interrupt((number % 0x100) as u8)),
+        "sci" => in_hex(alloc, &apic.sci_interrupt((number % 0x10000) as u16)),
+        "pin" => in_hex(
             alloc,
             &apic.io_apic_for(number).map(|it| (it.io_apic.id, it.pin)),
         ),
@@ -43,19 +74,19 @@ fn lines(alloc: Global, apic: &Apic<Global>, processor_uid: u32) -> Result<Strin
     for line in apic.local_nmi_lines_for(processor_uid) {
         lines.push(line)?;
     }
-    shown(alloc, &lines)
+    in_hex(alloc, &lines)
 }
 
 /// What the flags of an entry say: of a processor whether it is enabled and whether it can be enabled
 /// later, of a local NMI its polarity and its trigger mode.
 pub(crate) fn flags(alloc: Global, entry: Option<MadtEntry>) -> Result<String, AllocError> {
     match entry {
-        Some(MadtEntry::LocalApic(it)) => shown(alloc, &(it.is_enabled(), it.is_online_capable())),
+        Some(MadtEntry::LocalApic(it)) => in_hex(alloc, &(it.is_enabled(), it.is_online_capable())),
         Some(MadtEntry::LocalX2Apic(it)) => {
-            shown(alloc, &(it.is_enabled(), it.is_online_capable()))
+            in_hex(alloc, &(it.is_enabled(), it.is_online_capable()))
         }
-        Some(MadtEntry::LocalApicNmi(it)) => shown(alloc, &(it.polarity(), it.trigger_mode())),
-        Some(MadtEntry::X2ApicNmi(it)) => shown(alloc, &(it.polarity(), it.trigger_mode())),
+        Some(MadtEntry::LocalApicNmi(it)) => in_hex(alloc, &(it.polarity(), it.trigger_mode())),
+        Some(MadtEntry::X2ApicNmi(it)) => in_hex(alloc, &(it.polarity(), it.trigger_mode())),
         _ => Ok(String::new(alloc)),
     }
 }

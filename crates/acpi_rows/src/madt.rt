@@ -1,28 +1,39 @@
-//! The entries of a MADT, its fixed fields, and the interrupts that it describes.
+//! The entries of a MADT, its fixed fields, and the interrupts that it describes: numbers in the answers about a
+//! model of APICs or of a GIC are decimal.
 
-use crate::interrupts;
+use crate::hex_text::in_hex;
 use crate::named::field_of;
+use crate::{gic, interrupts};
 use acpi::PhysicalMapping;
 use acpi::handler::MappedRegion;
 use acpi::platform::interrupt::InterruptModel;
 use acpi_base::madt::{Madt, MadtEntry, MadtEntryIter};
-use acpi_testkit::rows::shown;
 use std::alloc::{AllocError, Global};
 
-/// What a MADT answers.
+/// What a MADT answers: the model of its APICs, that of its GIC, or what its bytes say.
 pub(crate) fn answer(alloc: Global, bytes: &[u8], question: &str) -> Result<String, AllocError> {
+    match question {
+        "model" => interrupts::model(alloc, alloc, bytes),
+        "model in 16 bytes" => interrupts::model_in_16_bytes(alloc, bytes),
+        _ if gic::is_asked(question) => gic::answer(alloc, bytes, question),
+        _ => of_entries(alloc, bytes, question),
+    }
+}
+
+/// What is asked of the entries.
+fn of_entries(alloc: Global, bytes: &[u8], question: &str) -> Result<String, AllocError> {
     let mut entries = MadtEntryIter::over(bytes);
     match question {
-        "walk" => shown(alloc, &walked(bytes)),
-        "entry" => shown(alloc, &entries.next()),
+        "walk" => in_hex(alloc, &walked(bytes)),
+        "entry" => in_hex(alloc, &entries.next()),
         "second entry" => {
             let _first = entries.next();
-            shown(alloc, &entries.next())
+            in_hex(alloc, &entries.next())
         }
         "flags of entry" => interrupts::flags(alloc, entries.next()),
-        "steps" => shown(alloc, &steps(entries)),
+        "steps" => in_hex(alloc, &steps(entries)),
         _ => match question.strip_prefix("trace interrupt at revision ") {
-            Some(revision) => shown(alloc, &trace_interrupt(entries, revision)),
+            Some(revision) => in_hex(alloc, &trace_interrupt(entries, revision)),
             None => of_mapping(alloc, bytes, question),
         },
     }
@@ -69,11 +80,11 @@ fn of_mapping(alloc: Global, bytes: &[u8], question: &str) -> Result<String, All
         &region,
     );
     match question {
-        "mapped" => shown(
+        "mapped" => in_hex(
             alloc,
             &(madt.entries().count(), madt.get_mpwk_mailbox_addr()),
         ),
-        "8259" => shown(alloc, &madt.supports_8259()),
+        "8259" => in_hex(alloc, &madt.supports_8259()),
         "interrupts" => of_model(alloc, &madt, question),
         _ => match question.strip_prefix("model ") {
             Some(asked) => of_model(alloc, &madt, asked),
@@ -91,7 +102,7 @@ fn of_model(
     match madt.parse_interrupt_model_in(alloc) {
         Ok(answer) if question == "interrupts" => interrupts_of(alloc, &answer.0),
         Ok(answer) => interrupts::of_model(alloc, &answer.0, question),
-        Err(refusal) => shown(alloc, &refusal),
+        Err(refusal) => in_hex(alloc, &refusal),
     }
 }
 
@@ -102,7 +113,7 @@ fn interrupts_of(alloc: Global, model: &InterruptModel<Global>) -> Result<String
         InterruptModel::Apic(apic) => {
             let (overrides, sources) = (&apic.interrupt_source_overrides, &apic.nmi_sources);
             let lines = apic.local_apic_nmi_lines.as_slice();
-            shown(alloc, &(overrides.as_slice(), sources.as_slice(), lines))
+            in_hex(alloc, &(overrides.as_slice(), sources.as_slice(), lines))
         }
     }
 }

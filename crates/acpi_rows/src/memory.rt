@@ -1,134 +1,129 @@
-//! What is found in memory, over each handler.
+//! Questions about a memory, as it is or with a change (`changes`).
+//!
+//! Each is asked over three handlers: one that lends all it has from an address on, one that lends just
+//! what is asked for, and one that records. All three have to answer the same, and each loan that is
+//! recorded has to have its one notice.
+//!
+//! - `search`, `areas ..` and `bios areas EBDA`: where an RSDP is found (`ways`, `areas`);
+//! - `fronts of the file`: the fronts of the file of the memory that are files too;
+//! - `most requests for QUESTION`: how often the question asks for the first bytes of a region, for the one that it
+//!   asks for most, and its answer;
+//! - `QUESTION over the generous handler`, `QUESTION over the exact handler`: over one handler alone;
+//! - all others are about tables (`tables`).
 
-use crate::areas::{areas_of, of_bios};
-use acpi::bgrt::Bgrt;
-use acpi::rsdp::Rsdp;
-use acpi::spcr::Spcr;
-use acpi::{AcpiHandler, AcpiResult, AcpiTables};
-use acpi_base::madt::Madt;
-use acpi_cli::{parse_address, parse_revision};
-use acpi_image::MemoryImage;
-use acpi_testkit::answers::place_of;
+mod areas;
+mod arm;
+mod changes;
+mod devices;
+mod heaps;
+mod numa;
+mod places;
+mod tables;
+mod types;
+mod ways;
+
+use crate::hex_text::in_hex;
+use crate::texts::Parts;
+use acpi::AcpiHandler;
+use acpi_image::{ImageError, MemoryImage};
 use acpi_testkit::handlers::{Exact, Recording};
-use acpi_testkit::rows::{Row, shown};
+use acpi_testkit::history::Flaw;
+use acpi_testkit::rows::{Region, Row, shown};
+use acpi_testkit::samples::front;
+use areas::of_bios;
+use changes::changed_file;
 use std::alloc::{AllocError, Global};
+use ways::searched;
 
-/// What a row's regions answer over an image, over a handler that lends just what is asked for, and
-/// over one that records its loans: one answer if all of them give it and each loan ends.
+/// The answer to a question about the memory of a row.
 pub(crate) fn answer(alloc: Global, row: &Row, question: &str) -> Result<String, AllocError> {
     if let Some(ebda) = question.strip_prefix("bios areas ") {
         return of_bios(alloc, ebda);
     }
-    let file = row.file(alloc)?;
+    let (change, asked) = changes::parse(question);
+    let file = changed_file(alloc, &row.regions, change)?;
+    if asked == "fronts of the file" {
+        return fronts(alloc, &file);
+    }
     match MemoryImage::from_bytes(alloc, &file) {
-        Ok(image) => agreed(alloc, &image, question),
+        Ok(image) => over_handlers(alloc, &image, &row.regions, asked),
         Err(refusal) => shown(alloc, &refusal),
     }
 }
 
-/// The one answer over each handler, or else all of them.
-fn agreed(alloc: Global, image: &MemoryImage<'_>, question: &str) -> Result<String, AllocError> {
-    let generous = asked(alloc, image, question)?;
-    let exact = asked(alloc, &Exact::new(image), question)?;
-    let recorded = recorded(alloc, image, question)?;
-    if generous == exact && generous == recorded {
-        return Ok(generous);
+/// How many bytes the fronts of a file have that are files too, if all others are cut short.
+fn fronts(alloc: Global, file: &[u8]) -> Result<String, AllocError> {
+    let mut whole = Vec::new(alloc);
+    for count in 0..file.len() {
+        match MemoryImage::from_bytes(alloc, front(file, count)) {
+            Ok(_) => whole.push(count)?,
+            Err(ImageError::Truncated) => {}
+            Err(refusal) => return shown(alloc, &refusal),
+        }
     }
-    format!(in alloc; "{generous} or {exact} or {recorded}")
+    shown(alloc, &whole)
 }
 
-/// The answer over a handler that records its loans, or what is wrong with these.
-fn recorded(alloc: Global, image: &MemoryImage<'_>, question: &str) -> Result<String, AllocError> {
-    let recording = Recording::new(image);
-    let said = asked(alloc, &recording, question)?;
+/// What all three handlers answer, or what each does, or what is wrong with the loans.
+fn over_handlers(
+    alloc: Global,
+    image: &MemoryImage<'_>,
+    regions: &[Region],
+    question: &str,
+) -> Result<String, AllocError> {
+    let exact = Exact::new(image);
+    let mut parts = Parts::new(alloc);
+    if let Some(asked) = question.strip_prefix("most requests for ") {
+        parts.add_other(most_requests(alloc, image, regions, asked));
+        parts.add_other(most_requests(alloc, &exact, regions, asked));
+    } else if let Some(asked) = question.strip_suffix(" over the generous handler") {
+        parts.add_other(over(alloc, image, asked));
+    } else if let Some(asked) = question.strip_suffix(" over the exact handler") {
+        parts.add_other(over(alloc, &exact, asked));
+    } else {
+        parts.add_other(over(alloc, image, question));
+        parts.add_other(over(alloc, &exact, question));
+        parts.add_other(recorded(alloc, &Recording::new(image), question));
+    }
+    parts.text()
+}
+
+/// What is answered over a handler.
+fn over<H: AcpiHandler>(alloc: Global, handler: &H, question: &str) -> Result<String, AllocError> {
+    let (word, areas) = question.split_once(' ').unwrap_or((question, ""));
+    match word {
+        "search" | "areas" => in_hex(alloc, &searched(alloc, handler, word, areas)),
+        _ => tables::answer(alloc, handler, question),
+    }
+}
+
+/// What is answered over a recording handler, or what is wrong with its loans then. A question that
+/// asks for more than a history has room for shows only its answer.
+fn recorded<H: AcpiHandler>(
+    alloc: Global,
+    recording: &Recording<'_, H>,
+    question: &str,
+) -> Result<String, AllocError> {
+    let text = over(alloc, recording, question)?;
     match recording.flaw() {
-        None => Ok(said),
+        None | Some(Flaw::Full) => Ok(text),
         Some(flaw) => shown(alloc, &flaw),
     }
 }
 
-/// What a handler's memory answers: what a search finds, or what is asked of the tables that a way
-/// in opens.
-fn asked<H: AcpiHandler>(alloc: Global, handler: &H, question: &str) -> Result<String, AllocError> {
-    let Some((what, way)) = question.split_once(" by ") else {
-        return shown(alloc, &searched(alloc, handler, question));
-    };
-    let tables = match opened(alloc, handler, way) {
-        Ok(tables) => tables,
-        Err(refusal) => return shown(alloc, &refusal),
-    };
-    match what {
-        "graphic" => shown(alloc, &(tables.revision(), place_of::<Bgrt, H>(&tables))),
-        "entries" => shown(alloc, &entries_of(&tables)),
-        _ => shown_console(alloc, &tables),
-    }
-}
-
-/// Where a search finds an RSDP, and how many bytes it has: in the areas after `areas`, or else in
-/// those of a BIOS.
-fn searched<H: AcpiHandler>(
+/// How often a question asks for the first bytes of a region, for the one that it asks for most.
+fn most_requests<H: AcpiHandler>(
     alloc: Global,
     handler: &H,
+    regions: &[Region],
     question: &str,
-) -> AcpiResult<(u64, usize)> {
-    let (word, areas) = question.split_once(' ').unwrap_or((question, ""));
-    let found = match word {
-        "areas" => Rsdp::search_in(handler, &areas_of(alloc, areas)?)?,
-        _ => Rsdp::search_for_on_bios(handler)?,
-    };
-    Ok((found.physical_start(), found.region_length()))
-}
-
-/// The tables that a way in opens: `bios`, `candidate`, the areas after `areas`, or the address of
-/// an RSDP after `rsdp` or of a root table after its revision.
-fn opened<'h, H: AcpiHandler>(
-    alloc: Global,
-    handler: &'h H,
-    way: &str,
-) -> AcpiResult<AcpiTables<'h, H>> {
-    let (word, place) = way.split_once(' ').unwrap_or((way, ""));
-    let address = parse_address(place).unwrap_or(0);
-    match word {
-        "areas" => AcpiTables::search_in(handler, &areas_of(alloc, place)?),
-        "bios" => AcpiTables::search_for_rsdp_bios(handler),
-        "candidate" => by_candidate(handler),
-        "rsdp" => AcpiTables::from_rsdp(handler, address),
-        _ => AcpiTables::from_rsdt(handler, parse_revision(word).unwrap_or(0), address),
-    }
-}
-
-/// The tables that the RSDP leads to which a search found.
-fn by_candidate<H: AcpiHandler>(handler: &H) -> AcpiResult<AcpiTables<'_, H>> {
-    AcpiTables::from_validated_rsdp(handler, Rsdp::search_for_on_bios(handler)?)
-}
-
-/// Where the MADT lies and how many bytes it has, how many entries, and whether they end at a
-/// malformed one.
-fn entries_of<H: AcpiHandler>(
-    tables: &AcpiTables<'_, H>,
-) -> AcpiResult<((u64, usize), (usize, bool))> {
-    let madt = tables.find_table::<Madt>()?;
-    let place = (madt.physical_start(), madt.region_length());
-    let mut entries = madt.entries();
-    let count = entries.by_ref().count();
-    Ok((place, (count, entries.ended_malformed())))
-}
-
-/// Where the serial console's table lies and how many bytes it has, its interrupts, its baud rate
-/// and clock, and its name.
-fn shown_console<H: AcpiHandler>(
-    alloc: Global,
-    tables: &AcpiTables<'_, H>,
 ) -> Result<String, AllocError> {
-    let console = match tables.find_table::<Spcr>() {
-        Ok(console) => console,
-        Err(refusal) => return shown(alloc, &refusal),
-    };
-    let place = (console.physical_start(), console.region_length());
-    let interrupts = (console.irq(), console.global_system_interrupt());
-    let rates = (console.baud_rate(), console.uart_clock_frequency());
-    shown(
-        alloc,
-        &(place, interrupts, rates, console.namespace_string()),
-    )
+    let recording = Recording::new(handler);
+    let text = recorded(alloc, &recording, question)?;
+    let history = recording.history();
+    let mut most = 0;
+    for region in regions {
+        most = history.requests_at(region.address).max(most);
+    }
+    format!(in alloc; "{most} {text}")
 }

@@ -1,6 +1,6 @@
 //! Flags and fields by their names.
 
-use acpi_testkit::rows::shown;
+use crate::hex_text::in_hex;
 use std::alloc::{AllocError, Global};
 use std::fmt::Debug;
 
@@ -29,7 +29,7 @@ pub(crate) fn field_of<T: Debug>(
     value: &T,
     name: &str,
 ) -> Result<String, AllocError> {
-    let text = shown(alloc, value)?;
+    let text = in_hex(alloc, value)?;
     let name = format!(in alloc; " {name}: ")?;
     let (_, rest) = text.split_once(name.as_str()).unwrap_or(("", ""));
     let (field, _) = rest.split_once(", ").unwrap_or((rest, ""));

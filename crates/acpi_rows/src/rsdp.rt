@@ -1,8 +1,8 @@
 //! RSDPs whose bytes are at hand.
 
+use crate::hex_text::in_hex;
 use acpi::PhysicalRecord;
 use acpi::rsdp::Rsdp;
-use acpi_testkit::rows::shown;
 use std::alloc::{AllocError, Global};
 
 /// What an RSDP answers.
@@ -12,10 +12,10 @@ pub(crate) fn answer(alloc: Global, bytes: &[u8], question: &str) -> Result<Stri
     }
     let rsdp = Rsdp::read(bytes);
     match question {
-        "valid" => shown(alloc, &rsdp.validate(bytes)),
-        "signature" => shown(alloc, &rsdp.signature()),
-        "oem id" => shown(alloc, &rsdp.oem_id()),
-        "fields" => shown(alloc, &fields_of(&rsdp)),
+        "valid" => in_hex(alloc, &rsdp.validate(bytes)),
+        "signature" => in_hex(alloc, &rsdp.signature()),
+        "oem id" => in_hex(alloc, &rsdp.oem_id()),
+        "fields" => in_hex(alloc, &fields_of(&rsdp)),
         _ => Ok(String::new(alloc)),
     }
 }

@@ -3,10 +3,10 @@ ghost use Rattle.std.specs.Prelude.{◌≤◌, length};
 
 mod sets;
 
+use crate::hex_text::in_hex;
 use acpi::handler::MappedRegion;
 use acpi::spcr::Spcr;
 use acpi::{AcpiTable, PhysicalMapping, PhysicalRecord};
-use acpi_testkit::rows::shown;
 use std::alloc::{AllocError, Global};
 
 /// What the table of a serial console answers.
@@ -16,12 +16,12 @@ pub(crate) fn answer(alloc: Global, bytes: &[u8], question: &str) -> Result<Stri
     }
     let table = Spcr::read(bytes);
     match question {
-        "valid" => shown(alloc, &table.validate(bytes)),
-        "interface" => shown(alloc, &table.interface_type()),
-        "base" => shown(alloc, &table.base_address()),
-        "interrupts" => shown(alloc, &(table.irq(), table.global_system_interrupt())),
-        "rates" => shown(alloc, &(table.baud_rate(), table.uart_clock_frequency())),
-        "pci" => shown(alloc, &pci_of(&table)),
+        "valid" => in_hex(alloc, &table.validate(bytes)),
+        "interface" => in_hex(alloc, &table.interface_type()),
+        "base" => in_hex(alloc, &table.base_address()),
+        "interrupts" => in_hex(alloc, &(table.irq(), table.global_system_interrupt())),
+        "rates" => in_hex(alloc, &(table.baud_rate(), table.uart_clock_frequency())),
+        "pci" => in_hex(alloc, &pci_of(&table)),
         "name" => shown_name(alloc, bytes),
         _ => sets::answer(alloc, &table, question),
     }
@@ -53,5 +53,5 @@ fn shown_name(alloc: Global, bytes: &[u8]) -> Result<String, AllocError>
         bytes.len(),
         &region,
     );
-    shown(alloc, &console.namespace_string())
+    in_hex(alloc, &console.namespace_string())
 }

@@ -1,7 +1,7 @@
 //! The byte sum.
 
+use crate::hex_text::in_hex;
 use acpi::sdt::byte_sum;
-use acpi_testkit::rows::shown;
 use acpi_testkit::samples::front;
 use std::alloc::{AllocError, Global};
 
@@ -11,8 +11,8 @@ pub(crate) fn answer(alloc: Global, bytes: &[u8], question: &str) -> Result<Stri
     let (words, number) = question.rsplit_once(' ').unwrap_or((question, ""));
     let number = number.parse::<u16>().unwrap_or(0) as usize;
     match words {
-        "byte sum of first" => shown(alloc, &byte_sum(front(bytes, number))),
-        "byte sums past" => shown(alloc, &sums_of(bytes.get(number..).unwrap_or(&[]))),
+        "byte sum of first" => in_hex(alloc, &byte_sum(front(bytes, number))),
+        "byte sums past" => in_hex(alloc, &sums_of(bytes.get(number..).unwrap_or(&[]))),
         _ => Ok(String::new(alloc)),
     }
 }

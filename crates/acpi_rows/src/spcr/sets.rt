@@ -1,9 +1,9 @@
 //! The sets of flags of the serial console's table.
 
+use crate::hex_text::in_hex;
 use crate::named::field_of;
 use acpi::spcr::{Spcr, SpcrFlowControl, SpcrInterruptType, SpcrTerminalType};
 use acpi_cli::parse_address;
-use acpi_testkit::rows::shown;
 use bitflags::Flags;
 use bitflags::parser::to_writer;
 use std::alloc::{AllocError, Global};
@@ -13,9 +13,9 @@ use std::alloc::{AllocError, Global};
 pub(crate) fn answer(alloc: Global, table: &Spcr, question: &str) -> Result<String, AllocError> {
     match question.split_once(" of ") {
         None => contained(alloc, table, question),
-        Some((word, "interrupt type")) => shown(alloc, &bits_of::<SpcrInterruptType>(word)),
-        Some((word, "terminal type")) => shown(alloc, &bits_of::<SpcrTerminalType>(word)),
-        Some((word, _)) => shown(alloc, &bits_of::<SpcrFlowControl>(word)),
+        Some((word, "interrupt type")) => in_hex(alloc, &bits_of::<SpcrInterruptType>(word)),
+        Some((word, "terminal type")) => in_hex(alloc, &bits_of::<SpcrTerminalType>(word)),
+        Some((word, _)) => in_hex(alloc, &bits_of::<SpcrFlowControl>(word)),
     }
 }
 

@@ -1,0 +1,132 @@
+//! Questions whose answers need memory, over heaps that may be too small.
+//!
+//! `QUESTION in SIZE TAKEN` asks over a heap of so many bytes, of which some are taken before, and `QUESTION in
+//! SIZE` over one of which none are.
+//! `QUESTION in growing heaps` asks over ever larger heaps. `held by platform` and `held by regions`
+//! ask how many bytes of the heap are taken by what is answered, while it is there. The lists take
+//! whole blocks of 16 bytes.
+
+use super::devices::{function, regions};
+use crate::platforms::of_answer;
+use crate::ranges;
+use crate::texts::{Parts, said};
+use acpi::madt::Madt;
+use acpi::{AcpiHandler, AcpiResult, AcpiTables, ManagedSlice, PciConfigRegions};
+use acpi_numa::MemoryAffinities;
+use acpi_testkit::rows::shown;
+use linked_list_allocator::LocalHeap;
+use std::alloc::{AllocError, Allocator, Global};
+
+/// The answer over a heap of this kind.
+pub(super) fn answer<H: AcpiHandler>(
+    alloc: Global,
+    tables: &AcpiTables<'_, H>,
+    asked: &str,
+    heap: &str,
+) -> Result<String, AllocError> {
+    let (size, taken) = heap.split_once(' ').unwrap_or((heap, ""));
+    let taken = taken.parse::<u32>().unwrap_or(0) as usize;
+    match size.parse::<u32>() {
+        Ok(size) => over_heap(alloc, tables, asked, size as usize, taken),
+        Err(_) => over_growing_heaps(alloc, tables, asked),
+    }
+}
+
+/// The answer over a heap of so many bytes, of which some are taken before. What is allocated for the
+/// answer has to be free again.
+fn over_heap<H: AcpiHandler>(
+    alloc: Global,
+    tables: &AcpiTables<'_, H>,
+    asked: &str,
+    size: usize,
+    taken: usize,
+) -> Result<String, AllocError> {
+    let heap = LocalHeap::new(alloc, size)?;
+    let _filled = ManagedSlice::new_in(taken, 0u8, &heap);
+    let used = heap.used();
+    let text = match asked {
+        "held by platform" => held(alloc, &heap, used, tables.platform_info_in(&heap)),
+        "held by regions" => held(alloc, &heap, used, PciConfigRegions::new_in(tables, &heap)),
+        _ => answer_in(alloc, tables, &heap, asked),
+    };
+    if heap.used() == used {
+        text
+    } else {
+        String::from_str(alloc, "left allocated")
+    }
+}
+
+/// How many more bytes of a heap are used than before, while an answer is there.
+fn held<T: Drop>(
+    alloc: Global,
+    heap: &LocalHeap,
+    used: usize,
+    _answer: AcpiResult<T>,
+) -> Result<String, AllocError> {
+    shown(alloc, &heap.used().wrapping_sub(used))
+}
+
+/// The answer in memory of a heap. A clone says nothing if there is none for the platform itself.
+fn answer_in<H: AcpiHandler>(
+    alloc: Global,
+    tables: &AcpiTables<'_, H>,
+    heap: &LocalHeap,
+    asked: &str,
+) -> Result<String, AllocError> {
+    match asked {
+        "platform" => said(alloc, tables.platform_info_in(heap)),
+        "model" => model(alloc, tables, heap),
+        "regions" => regions(alloc, PciConfigRegions::new_in(tables, heap)),
+        _ if ranges::is_asked(asked) => {
+            ranges::answer(alloc, MemoryAffinities::new_in(tables, heap), asked)
+        }
+        _ => match asked.strip_prefix("function ") {
+            Some(digits) => function(alloc, PciConfigRegions::new_in(tables, heap), digits),
+            None => of_answer(alloc, tables.platform_info_in(heap), asked),
+        },
+    }
+}
+
+/// The interrupt model of the first valid MADT, in memory of an allocator.
+pub(super) fn model<H: AcpiHandler, A: Allocator + Clone>(
+    alloc: Global,
+    tables: &AcpiTables<'_, H>,
+    allocator: A,
+) -> Result<String, AllocError> {
+    match tables.find_table::<Madt>() {
+        Ok(madt) => said(alloc, madt.parse_interrupt_model_in(allocator)),
+        Err(refusal) => shown(alloc, &refusal),
+    }
+}
+
+/// What is answered over heaps of ever more bytes, of which 16 are taken before: how often the least ones refuse
+/// memory, and the one answer of all others.
+fn over_growing_heaps<H: AcpiHandler>(
+    alloc: Global,
+    tables: &AcpiTables<'_, H>,
+    asked: &str,
+) -> Result<String, AllocError> {
+    let mut refused = 0u32;
+    let mut parts = Parts::new(alloc);
+    for blocks in 1..33usize {
+        let text = over_heap(alloc, tables, asked, 16 * blocks, 16)?;
+        if parts.is_empty() && matches!(text.as_str(), "AllocError" | "Acpi(AllocError)") {
+            refused = refused.wrapping_add(1);
+        } else {
+            parts.add_other(Ok(text));
+        }
+    }
+    let times = times_refused(refused, asked);
+    let text = parts.text()?;
+    format!(in alloc; "{times}; {text}")
+}
+
+/// How often memory is refused. Of ranges it is not said how often.
+fn times_refused(refused: u32, asked: &str) -> &'static str {
+    match refused {
+        0 => "never refused",
+        _ if ranges::is_asked(asked) => "refused",
+        1 => "once refused",
+        _ => "more than once refused",
+    }
+}

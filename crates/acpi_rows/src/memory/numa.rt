@@ -1,0 +1,59 @@
+//! Questions about processors and memory of nodes: `srat QUESTION` and `slit QUESTION` of the first valid table, and
+//! `from APIC to ADDRESS`.
+
+use crate::{slit, srat};
+use acpi::{AcpiHandler, AcpiTables};
+use acpi_cli::parse_address;
+use acpi_numa::{MemoryAffinities, NumaResult, Slit, SlitCalls, Srat, SratCalls};
+use acpi_testkit::rows::shown;
+use std::alloc::{AllocError, Global};
+
+/// The answer of the tables below a root.
+pub(super) fn answer<H: AcpiHandler>(
+    alloc: Global,
+    tables: &AcpiTables<'_, H>,
+    word: &str,
+    asked: &str,
+) -> Result<String, AllocError> {
+    match word {
+        "from" => distance(alloc, tables, asked),
+        "srat" => match tables.find_table::<Srat>() {
+            Ok(table) => srat::of_mapping(alloc, &table, asked),
+            Err(refusal) => shown(alloc, &refusal),
+        },
+        _ => match tables.find_table::<Slit>() {
+            Ok(table) => slit::of_mapping(alloc, &table, asked),
+            Err(refusal) => shown(alloc, &refusal),
+        },
+    }
+}
+
+/// How far the memory at an address is from the processor of a local APIC.
+fn distance<H: AcpiHandler>(
+    alloc: Global,
+    tables: &AcpiTables<'_, H>,
+    asked: &str,
+) -> Result<String, AllocError> {
+    let (apic, address) = asked.split_once(" to ").unwrap_or((asked, ""));
+    match (apic.parse::<u32>(), parse_address(address)) {
+        (Ok(apic), Some(address)) => shown(alloc, &distance_to(alloc, tables, apic, address)),
+        _ => Ok(String::new(alloc)),
+    }
+}
+
+/// How far the memory at an address is from the processor of a local APIC, by the SLIT, as a kernel asks: 10 is
+/// near. It is `None` if one of the two is in no domain, or if the SLIT doesn't have their distance.
+fn distance_to<H: AcpiHandler>(
+    alloc: Global,
+    tables: &AcpiTables<'_, H>,
+    apic_id: u32,
+    address: u64,
+) -> NumaResult<Option<u8>> {
+    let memory = MemoryAffinities::new(alloc, tables)?;
+    let srat = tables.find_table::<Srat>()?;
+    let slit = tables.find_table::<Slit>()?;
+    match (srat.domain_of_apic(apic_id), memory.domain_of(address)) {
+        (Some(from), Some(to)) => Ok(slit.distance(u64::from(from), u64::from(to))),
+        _ => Ok(None),
+    }
+}
