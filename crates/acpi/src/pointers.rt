@@ -1,40 +1,7 @@
 //! The pointers that a root table lists.
-ghost use Rattle.std.specs.Prelude.{◌≡◌, ◌≤◌, length};
-ghost use Rattle.acpi_base.specs.Bytes.{field_of};
+ghost use Rattle.std.specs.Prelude.{◌≤◌};
 
 use acpi_base::bytes::{field, skip};
-
-/// The number of eight bytes, the lowest first. They are named one by one, so that they are loaded at once: what is
-/// copied into an array first is stored in pieces, and the load waits for them.
-#[inline(always)]
-#[tactic(auto, unfolding(acpi_base::specs::Bytes::field_of))]
-fn eight(bytes: &[u8]) -> u64
-    requires { 8 ≤ length bytes.now }
-    ensures { result ≡ field_of bytes.now 0 8 }
-{
-    u64::from_le_bytes([
-        bytes[0], bytes[1], bytes[2], bytes[3], bytes[4], bytes[5], bytes[6], bytes[7],
-    ])
-}
-
-/// The number of four bytes, the lowest first.
-#[inline(always)]
-#[tactic(auto, unfolding(acpi_base::specs::Bytes::field_of))]
-fn four(bytes: &[u8]) -> u64
-    requires { 4 ≤ length bytes.now }
-    ensures { result ≡ field_of bytes.now 0 4 }
-{
-    u32::from_le_bytes([bytes[0], bytes[1], bytes[2], bytes[3]]) as u64
-}
-
-/// The pointer that comes next, out of line: if fewer bytes are left.
-#[inline(never)]
-fn fewer(bytes: &[u8], width: usize) -> u64
-    requires { width ≤ 8 }
-    ensures { result ≡ field_of bytes.now 0 width }
-{
-    field(bytes, 0, width)
-}
 
 /// The pointers that bytes encode, in order; a short remainder is one more pointer, filled up with zeros.
 #[derive(Drop)]
@@ -46,7 +13,8 @@ pub struct Pointers<'t> {
 }
 
 impl<'t> Pointers<'t> {
-    ghost use Rattle.std.specs.Prelude.{[], drop, slice_get};
+    ghost use Rattle.std.specs.Prelude.{◌≡◌, [], drop, slice_get};
+    ghost use Rattle.acpi_base.specs.Bytes.{field_of};
     ghost use Rattle.acpi.specs.Pointers.{pointers_left};
     ghost use Rattle.acpi.specs.Root.{pointers};
 
@@ -64,12 +32,10 @@ impl<'t> Pointers<'t> {
     fn first(&self) -> u64
         ensures { result ≡ field_of self.now.rest.now 0 self.now.width }
     {
-        if self.width == 8 && self.rest.len() >= 8 {
-            eight(self.rest)
-        } else if self.width == 4 && self.rest.len() >= 4 {
-            four(self.rest)
-        } else {
-            fewer(self.rest, self.width)
+        match self.width {
+            8 => field(self.rest, 0, 8),
+            4 => field(self.rest, 0, 4),
+            width => field(self.rest, 0, width),
         }
     }
 

@@ -32,14 +32,36 @@ pub fn filled_in<const N: usize>(bytes: &[u8], offset: usize) -> [u8; N]
     filled
 }
 
+/// The number of eight bytes, the lowest first. Here and in `number_of` they are named one by one, so that they are
+/// loaded at once: what is copied into an array first is stored in pieces, and the load waits for them.
+#[inline(always)]
+#[tactic(auto, unfolding(crate::specs::Bytes::field_of))]
+fn eight(bytes: &[u8]) -> u64
+    requires { 8 ≤ length bytes.now }
+    ensures { result ≡ field_of bytes.now 0 8 }
+{
+    u64::from_le_bytes([
+        bytes[0], bytes[1], bytes[2], bytes[3], bytes[4], bytes[5], bytes[6], bytes[7],
+    ])
+}
+
 /// The number that at most eight bytes encode, the lowest byte first.
 #[inline(always)]
+#[tactic(auto, unfolding(crate::specs::Bytes::field_of))]
 fn number_of(bytes: &[u8]) -> u64
     requires { length bytes.now ≤ 8 }
     ensures value { result ≡ number bytes.now }
     ensures fits { result < 2 ^ (8 * length bytes.now) }
 {
-    u64::from_le_bytes(filled(bytes, 0))
+    if bytes.len() == 8 {
+        return eight(bytes);
+    }
+    match bytes {
+        [a] => *a as u64,
+        [a, b] => u16::from_le_bytes([*a, *b]) as u64,
+        [a, b, c, d] => u32::from_le_bytes([*a, *b, *c, *d]) as u64,
+        _ => u64::from_le_bytes(filled(bytes, 0)),
+    }
 }
 
 /// The number that at most eight bytes encode, the lowest byte first, out of line: few tables end inside a
