@@ -280,7 +280,7 @@ impl fmt::Display for Signature {
 
     fn fmt<W: fmt::Write>(&self, f: &mut fmt::Formatter<W>) -> fmt::Result {
         match self.as_str() {
-            Some(text) => write!(f, "{text}"),
+            Some(text) => f.write_str(text),
             None => {
                 let [a, b, c, d] = self.0;
                 let (a, b, c, d) = (HexByte(a), HexByte(b), HexByte(c), HexByte(d));
