@@ -109,6 +109,33 @@ pub fn field_in(bytes: &[u8], offset: usize, n: usize) -> u64
     number_of(&rest[..n])
 }
 
+/// The number of the byte at an offset, which is there: `field_in` for a field of this width.
+#[inline(always)]
+pub fn u8_in(bytes: &[u8], offset: usize) -> u8
+    requires { offset + 1 ≤ length bytes.now }
+    ensures { result ≡ field_of bytes.now offset 1 }
+{
+    field_in(bytes, offset, 1) as u8
+}
+
+/// The number of the two bytes at an offset, which are there: `field_in` for a field of this width.
+#[inline(always)]
+pub fn u16_in(bytes: &[u8], offset: usize) -> u16
+    requires { offset + 2 ≤ length bytes.now }
+    ensures { result ≡ field_of bytes.now offset 2 }
+{
+    field_in(bytes, offset, 2) as u16
+}
+
+/// The number of the four bytes at an offset, which are there: `field_in` for a field of this width.
+#[inline(always)]
+pub fn u32_in(bytes: &[u8], offset: usize) -> u32
+    requires { offset + 4 ≤ length bytes.now }
+    ensures { result ≡ field_of bytes.now offset 4 }
+{
+    field_in(bytes, offset, 4) as u32
+}
+
 /// The text that the bytes encode in UTF-8, or `None` if they are not valid UTF-8.
 pub fn text_of(bytes: &[u8]) -> Option<&str>
     ensures { IsTextOf result bytes.now }

@@ -2,7 +2,7 @@
 //! (section 5.2.22).
 ghost use Rattle.std.specs.Prelude.{◌≡◌, ◌*◌};
 
-use acpi_base::bytes::{bits, field_in, has_bit};
+use acpi_base::bytes::{bits, field_in, has_bit, u8_in, u16_in, u32_in};
 use acpi_base::sdt::SdtHeader;
 use acpi_base::table::sum_refusal;
 use acpi_base::{AcpiResult, AcpiTable, PhysicalRecord, Signature};
@@ -36,12 +36,12 @@ impl PhysicalRecord for Bgrt {
     fn read(bytes: &[u8]) -> Self {
         Bgrt {
             header: SdtHeader::read(bytes),
-            version: field_in(bytes, 36, 2) as u16, // Version
-            status: field_in(bytes, 38, 1) as u8, // Status
-            image_type: field_in(bytes, 39, 1) as u8, // Image Type
+            version: u16_in(bytes, 36), // Version
+            status: u8_in(bytes, 38), // Status
+            image_type: u8_in(bytes, 39), // Image Type
             image_address: field_in(bytes, 40, 8), // Image Address
-            x: field_in(bytes, 48, 4) as u32, // Image Offset X
-            y: field_in(bytes, 52, 4) as u32, // Image Offset Y
+            x: u32_in(bytes, 48), // Image Offset X
+            y: u32_in(bytes, 52), // Image Offset Y
         }
     }
 }

@@ -6,7 +6,7 @@ ghost use Rattle.acpi_base.specs.Steps.{Gives};
 ghost use Rattle.acpi_base.specs.Table.{length_in};
 ghost use Rattle.acpi_base.specs.Text.{IsTextOf};
 
-use crate::bytes::{field_in, is_text, text_of};
+use crate::bytes::{is_text, text_of, u8_in, u32_in};
 pub use crate::bytes::{byte_sum, field};
 use crate::error::{AcpiError, AcpiResult};
 pub use crate::extended::ExtendedField;
@@ -48,9 +48,9 @@ impl PhysicalRecord for SdtHeader {
     fn read(bytes: &[u8]) -> Self {
         SdtHeader {
             signature: Signature::leading(bytes), // Signature
-            length: field_in(bytes, 4, 4) as u32, // Length
-            revision: field_in(bytes, 8, 1) as u8, // Revision
-            checksum: field_in(bytes, 9, 1) as u8, // Checksum
+            length: u32_in(bytes, 4), // Length
+            revision: u8_in(bytes, 8), // Revision
+            checksum: u8_in(bytes, 9), // Checksum
             // OEMID
             oem_id: [
                 bytes[10], bytes[11], bytes[12], bytes[13], bytes[14], bytes[15],
@@ -60,9 +60,9 @@ impl PhysicalRecord for SdtHeader {
                 bytes[16], bytes[17], bytes[18], bytes[19], bytes[20], bytes[21], bytes[22],
                 bytes[23],
             ],
-            oem_revision: field_in(bytes, 24, 4) as u32, // OEM Revision
-            creator_id: field_in(bytes, 28, 4) as u32, // Creator ID
-            creator_revision: field_in(bytes, 32, 4) as u32, // Creator Revision
+            oem_revision: u32_in(bytes, 24), // OEM Revision
+            creator_id: u32_in(bytes, 28), // Creator ID
+            creator_revision: u32_in(bytes, 32), // Creator Revision
         }
     }
 }

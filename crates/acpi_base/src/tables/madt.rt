@@ -9,7 +9,7 @@ mod sapic;
 mod wakeup;
 mod walk;
 
-use crate::bytes::{field_in, has_bit};
+use crate::bytes::{has_bit, u32_in};
 pub use crate::error::MadtError;
 use crate::error::{AcpiError, AcpiResult};
 use crate::memory::handler::{Lender, PhysicalRecord};
@@ -61,8 +61,8 @@ impl PhysicalRecord for Madt {
     fn read(bytes: &[u8]) -> Self {
         Madt {
             header: SdtHeader::read(bytes),
-            local_apic_address: field_in(bytes, 36, 4) as u32, // Local Interrupt Controller Address
-            flags: field_in(bytes, 40, 4) as u32, // Flags (Multiple APIC Flags)
+            local_apic_address: u32_in(bytes, 36), // Local Interrupt Controller Address
+            flags: u32_in(bytes, 40), // Flags (Multiple APIC Flags)
         }
     }
 }

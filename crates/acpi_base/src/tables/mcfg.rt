@@ -3,7 +3,7 @@
 
 mod ecam;
 
-use crate::bytes::{field_in, skip};
+use crate::bytes::{field_in, skip, u8_in, u16_in};
 use crate::error::AcpiResult;
 use crate::memory::handler::{Lender, PhysicalRecord};
 use crate::memory::mapping::PhysicalMapping;
@@ -94,9 +94,9 @@ impl PhysicalRecord for McfgEntry {
     fn read(bytes: &[u8]) -> Self {
         McfgEntry {
             base_address: field_in(bytes, 0, 8), // Base Address
-            pci_segment_group: field_in(bytes, 8, 2) as u16, // PCI Segment Group Number
-            bus_number_start: field_in(bytes, 10, 1) as u8, // Start Bus Number
-            bus_number_end: field_in(bytes, 11, 1) as u8, // End Bus Number
+            pci_segment_group: u16_in(bytes, 8), // PCI Segment Group Number
+            bus_number_start: u8_in(bytes, 10), // Start Bus Number
+            bus_number_end: u8_in(bytes, 11), // End Bus Number
         }
     }
 }

@@ -7,7 +7,7 @@ mod flags;
 mod interface;
 
 use crate::address::{GenericAddress, RawAddress};
-use crate::bytes::{bits, field, field_in, filled, has_bit, text_of};
+use crate::bytes::{bits, field, filled, has_bit, text_of, u8_in, u16_in, u32_in};
 use crate::error::{AcpiError, AcpiResult};
 use crate::memory::handler::{Lender, PhysicalRecord};
 use crate::memory::mapping::PhysicalMapping;
@@ -68,25 +68,25 @@ impl PhysicalRecord for Spcr {
     fn read(bytes: &[u8]) -> Self {
         Spcr {
             header: SdtHeader::read(bytes),
-            interface_type: field_in(bytes, 36, 1) as u8, // Interface Type
+            interface_type: u8_in(bytes, 36), // Interface Type
             base_address: filled(bytes, 40), // Base Address
-            interrupt_type: field_in(bytes, 52, 1) as u8, // Interrupt Type
-            irq: field_in(bytes, 53, 1) as u8, // IRQ
-            global_system_interrupt: field_in(bytes, 54, 4) as u32, // Global System Interrupt
-            configured_baud_rate: field_in(bytes, 58, 1) as u8, // Configured Baud Rate
-            parity: field_in(bytes, 59, 1) as u8, // Parity
-            stop_bits: field_in(bytes, 60, 1) as u8, // Stop Bits
-            flow_control: field_in(bytes, 61, 1) as u8, // Flow Control
-            terminal_type: field_in(bytes, 62, 1) as u8, // Terminal Type
-            language: field_in(bytes, 63, 1) as u8, // Language
-            pci_device_id: field_in(bytes, 64, 2) as u16, // PCI Device ID
-            pci_vendor_id: field_in(bytes, 66, 2) as u16, // PCI Vendor ID
-            pci_bus_number: field_in(bytes, 68, 1) as u8, // PCI Bus Number
-            pci_device_number: field_in(bytes, 69, 1) as u8, // PCI Device Number
-            pci_function_number: field_in(bytes, 70, 1) as u8, // PCI Function Number
-            pci_flags: field_in(bytes, 71, 4) as u32, // PCI Flags
-            pci_segment: field_in(bytes, 75, 1) as u8, // PCI Segment
-            uart_clock_frequency: field_in(bytes, 76, 4) as u32, // UART Clock Frequency
+            interrupt_type: u8_in(bytes, 52), // Interrupt Type
+            irq: u8_in(bytes, 53), // IRQ
+            global_system_interrupt: u32_in(bytes, 54), // Global System Interrupt
+            configured_baud_rate: u8_in(bytes, 58), // Configured Baud Rate
+            parity: u8_in(bytes, 59), // Parity
+            stop_bits: u8_in(bytes, 60), // Stop Bits
+            flow_control: u8_in(bytes, 61), // Flow Control
+            terminal_type: u8_in(bytes, 62), // Terminal Type
+            language: u8_in(bytes, 63), // Language
+            pci_device_id: u16_in(bytes, 64), // PCI Device ID
+            pci_vendor_id: u16_in(bytes, 66), // PCI Vendor ID
+            pci_bus_number: u8_in(bytes, 68), // PCI Bus Number
+            pci_device_number: u8_in(bytes, 69), // PCI Device Number
+            pci_function_number: u8_in(bytes, 70), // PCI Function Number
+            pci_flags: u32_in(bytes, 71), // PCI Flags
+            pci_segment: u8_in(bytes, 75), // PCI Segment
+            uart_clock_frequency: u32_in(bytes, 76), // UART Clock Frequency
             precise_baud_rate: field(bytes, 80, 4) as u32, // Precise Baud Rate
             namespace_length: field(bytes, 84, 2) as u16, // NamespaceStringLength
             namespace_offset: field(bytes, 86, 2) as u16, // NamespaceStringOffset

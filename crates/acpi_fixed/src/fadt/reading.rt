@@ -7,7 +7,7 @@ use super::extended::extended_number_in;
 use super::registers::Registers;
 use super::{ArmBootArchFlags, Fadt, FixedFeatureFlags, IaPcBootArchFlags};
 use acpi_base::PhysicalRecord;
-use acpi_base::bytes::{field, field_in};
+use acpi_base::bytes::{field, field_in, u8_in, u16_in, u32_in};
 use acpi_base::sdt::SdtHeader;
 
 impl PhysicalRecord for Fadt {
@@ -44,29 +44,29 @@ impl Fadt {
         let registers = Registers::read(bytes, WHOLE);
         Fadt {
             header: SdtHeader::read(bytes),
-            firmware_ctrl: field_in(bytes, 36, 4) as u32, // FIRMWARE_CTRL
-            dsdt_address: field_in(bytes, 40, 4) as u32, // DSDT
-            preferred_pm_profile: field_in(bytes, 45, 1) as u8, // Preferred_PM_Profile
-            sci_interrupt: field_in(bytes, 46, 2) as u16, // SCI_INT
-            smi_cmd_port: field_in(bytes, 48, 4) as u32, // SMI_CMD
-            acpi_enable: field_in(bytes, 52, 1) as u8, // ACPI_ENABLE
-            acpi_disable: field_in(bytes, 53, 1) as u8, // ACPI_DISABLE
-            s4bios_req: field_in(bytes, 54, 1) as u8, // S4BIOS_REQ
-            pstate_control: field_in(bytes, 55, 1) as u8, // PSTATE_CNT
+            firmware_ctrl: u32_in(bytes, 36), // FIRMWARE_CTRL
+            dsdt_address: u32_in(bytes, 40), // DSDT
+            preferred_pm_profile: u8_in(bytes, 45), // Preferred_PM_Profile
+            sci_interrupt: u16_in(bytes, 46), // SCI_INT
+            smi_cmd_port: u32_in(bytes, 48), // SMI_CMD
+            acpi_enable: u8_in(bytes, 52), // ACPI_ENABLE
+            acpi_disable: u8_in(bytes, 53), // ACPI_DISABLE
+            s4bios_req: u8_in(bytes, 54), // S4BIOS_REQ
+            pstate_control: u8_in(bytes, 55), // PSTATE_CNT
             registers,
-            gpe1_base: field_in(bytes, 94, 1) as u8, // GPE1_BASE
-            c_state_control: field_in(bytes, 95, 1) as u8, // CST_CNT
-            worst_c2_latency: field_in(bytes, 96, 2) as u16, // P_LVL2_LAT
-            worst_c3_latency: field_in(bytes, 98, 2) as u16, // P_LVL3_LAT
-            flush_size: field_in(bytes, 100, 2) as u16, // FLUSH_SIZE
-            flush_stride: field_in(bytes, 102, 2) as u16, // FLUSH_STRIDE
-            duty_offset: field_in(bytes, 104, 1) as u8, // DUTY_OFFSET
-            duty_width: field_in(bytes, 105, 1) as u8, // DUTY_WIDTH
-            day_alarm: field_in(bytes, 106, 1) as u8, // DAY_ALRM
-            month_alarm: field_in(bytes, 107, 1) as u8, // MON_ALRM
-            century: field_in(bytes, 108, 1) as u8, // CENTURY
-            iapc_boot_arch: IaPcBootArchFlags::new(field_in(bytes, 109, 2) as u16), // IAPC_BOOT_ARCH
-            flags: FixedFeatureFlags::new(field_in(bytes, 112, 4) as u32), // Flags (Fixed Feature Flags)
+            gpe1_base: u8_in(bytes, 94), // GPE1_BASE
+            c_state_control: u8_in(bytes, 95), // CST_CNT
+            worst_c2_latency: u16_in(bytes, 96), // P_LVL2_LAT
+            worst_c3_latency: u16_in(bytes, 98), // P_LVL3_LAT
+            flush_size: u16_in(bytes, 100), // FLUSH_SIZE
+            flush_stride: u16_in(bytes, 102), // FLUSH_STRIDE
+            duty_offset: u8_in(bytes, 104), // DUTY_OFFSET
+            duty_width: u8_in(bytes, 105), // DUTY_WIDTH
+            day_alarm: u8_in(bytes, 106), // DAY_ALRM
+            month_alarm: u8_in(bytes, 107), // MON_ALRM
+            century: u8_in(bytes, 108), // CENTURY
+            iapc_boot_arch: IaPcBootArchFlags::new(u16_in(bytes, 109)), // IAPC_BOOT_ARCH
+            flags: FixedFeatureFlags::new(u32_in(bytes, 112)), // Flags (Fixed Feature Flags)
             reset_value: field(bytes, 128, 1) as u8, // RESET_VALUE
             arm_boot_arch: ArmBootArchFlags::new(field(bytes, 129, 2) as u16), // ARM_BOOT_ARCH
             x_firmware_ctrl: extended_number_in(bytes, 132, WHOLE), // X_FIRMWARE_CTRL

@@ -1,7 +1,7 @@
 //! Entries of the APIC model (ACPI 6.4, sections 5.2.12.2 to 5.2.12.8, 5.2.12.12 and 5.2.12.13).
 
 use super::entry::EntryHeader;
-use crate::bytes::field_in;
+use crate::bytes::{field_in, u8_in, u16_in, u32_in};
 use crate::memory::handler::PhysicalRecord;
 
 /// Processor Local APIC: a processor and its local APIC (ACPI 6.4, section 5.2.12.2).
@@ -29,9 +29,9 @@ impl PhysicalRecord for LocalApicEntry {
     fn read(bytes: &[u8]) -> Self {
         LocalApicEntry {
             header: EntryHeader::read(bytes),
-            processor_id: field_in(bytes, 2, 1) as u8, // ACPI Processor UID
-            apic_id: field_in(bytes, 3, 1) as u8, // APIC ID
-            flags: field_in(bytes, 4, 4) as u32, // Flags (Local APIC Flags)
+            processor_id: u8_in(bytes, 2), // ACPI Processor UID
+            apic_id: u8_in(bytes, 3), // APIC ID
+            flags: u32_in(bytes, 4), // Flags (Local APIC Flags)
         }
     }
 }
@@ -61,9 +61,9 @@ impl PhysicalRecord for IoApicEntry {
     fn read(bytes: &[u8]) -> Self {
         IoApicEntry {
             header: EntryHeader::read(bytes),
-            io_apic_id: field_in(bytes, 2, 1) as u8, // I/O APIC ID
-            io_apic_address: field_in(bytes, 4, 4) as u32, // I/O APIC Address
-            global_system_interrupt_base: field_in(bytes, 8, 4) as u32, // Global System Interrupt Base
+            io_apic_id: u8_in(bytes, 2), // I/O APIC ID
+            io_apic_address: u32_in(bytes, 4), // I/O APIC Address
+            global_system_interrupt_base: u32_in(bytes, 8), // Global System Interrupt Base
         }
     }
 }
@@ -96,10 +96,10 @@ impl PhysicalRecord for InterruptSourceOverrideEntry {
     fn read(bytes: &[u8]) -> Self {
         InterruptSourceOverrideEntry {
             header: EntryHeader::read(bytes),
-            bus: field_in(bytes, 2, 1) as u8, // Bus
-            irq: field_in(bytes, 3, 1) as u8, // Source
-            global_system_interrupt: field_in(bytes, 4, 4) as u32, // Global System Interrupt
-            flags: field_in(bytes, 8, 2) as u16, // Flags (MPS INTI Flags)
+            bus: u8_in(bytes, 2), // Bus
+            irq: u8_in(bytes, 3), // Source
+            global_system_interrupt: u32_in(bytes, 4), // Global System Interrupt
+            flags: u16_in(bytes, 8), // Flags (MPS INTI Flags)
         }
     }
 }
@@ -127,8 +127,8 @@ impl PhysicalRecord for NmiSourceEntry {
     fn read(bytes: &[u8]) -> Self {
         NmiSourceEntry {
             header: EntryHeader::read(bytes),
-            flags: field_in(bytes, 2, 2) as u16, // Flags (MPS INTI Flags)
-            global_system_interrupt: field_in(bytes, 4, 4) as u32, // Global System Interrupt
+            flags: u16_in(bytes, 2), // Flags (MPS INTI Flags)
+            global_system_interrupt: u32_in(bytes, 4), // Global System Interrupt
         }
     }
 }
@@ -159,9 +159,9 @@ impl PhysicalRecord for LocalApicNmiEntry {
     fn read(bytes: &[u8]) -> Self {
         LocalApicNmiEntry {
             header: EntryHeader::read(bytes),
-            processor_id: field_in(bytes, 2, 1) as u8, // ACPI Processor UID
-            flags: field_in(bytes, 3, 2) as u16, // Flags (MPS INTI Flags)
-            nmi_line: field_in(bytes, 5, 1) as u8, // Local APIC LINT#
+            processor_id: u8_in(bytes, 2), // ACPI Processor UID
+            flags: u16_in(bytes, 3), // Flags (MPS INTI Flags)
+            nmi_line: u8_in(bytes, 5), // Local APIC LINT#
         }
     }
 }
@@ -218,9 +218,9 @@ impl PhysicalRecord for LocalX2ApicEntry {
     fn read(bytes: &[u8]) -> Self {
         LocalX2ApicEntry {
             header: EntryHeader::read(bytes),
-            x2apic_id: field_in(bytes, 4, 4) as u32, // X2APIC ID
-            flags: field_in(bytes, 8, 4) as u32, // Flags (Local APIC Flags)
-            processor_uid: field_in(bytes, 12, 4) as u32, // ACPI Processor UID
+            x2apic_id: u32_in(bytes, 4), // X2APIC ID
+            flags: u32_in(bytes, 8), // Flags (Local APIC Flags)
+            processor_uid: u32_in(bytes, 12), // ACPI Processor UID
         }
     }
 }
@@ -251,9 +251,9 @@ impl PhysicalRecord for X2ApicNmiEntry {
     fn read(bytes: &[u8]) -> Self {
         X2ApicNmiEntry {
             header: EntryHeader::read(bytes),
-            flags: field_in(bytes, 2, 2) as u16, // Flags (MPS INTI Flags)
-            processor_uid: field_in(bytes, 4, 4) as u32, // ACPI Processor UID
-            nmi_line: field_in(bytes, 8, 1) as u8, // Local x2APIC LINT#
+            flags: u16_in(bytes, 2), // Flags (MPS INTI Flags)
+            processor_uid: u32_in(bytes, 4), // ACPI Processor UID
+            nmi_line: u8_in(bytes, 8), // Local x2APIC LINT#
         }
     }
 }

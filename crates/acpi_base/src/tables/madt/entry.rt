@@ -10,7 +10,7 @@ use super::gic::{
 };
 use super::sapic::{IoSapicEntry, LocalSapicEntry, PlatformInterruptSourceEntry};
 use super::wakeup::MultiprocessorWakeupEntry;
-use crate::bytes::field_in;
+use crate::bytes::u8_in;
 use crate::entries::{EntryLayout, Grammar, Place, Width};
 use crate::memory::handler::PhysicalRecord;
 
@@ -35,8 +35,8 @@ impl PhysicalRecord for EntryHeader {
     #[inline(always)]
     fn read(bytes: &[u8]) -> Self {
         EntryHeader {
-            entry_type: field_in(bytes, 0, 1) as u8, // Type
-            length: field_in(bytes, 1, 1) as u8, // Length
+            entry_type: u8_in(bytes, 0), // Type
+            length: u8_in(bytes, 1), // Length
         }
     }
 }

@@ -1,7 +1,7 @@
 //! Entries of the GIC model (ACPI 6.4, sections 5.2.12.14 to 5.2.12.18).
 
 use super::entry::EntryHeader;
-use crate::bytes::{field, field_in};
+use crate::bytes::{field, field_in, u8_in, u16_in, u32_in};
 use crate::extended::ExtendedField;
 use crate::memory::handler::PhysicalRecord;
 
@@ -59,16 +59,16 @@ impl PhysicalRecord for GiccEntry {
     fn read(bytes: &[u8]) -> Self {
         GiccEntry {
             header: EntryHeader::read(bytes),
-            cpu_interface_number: field_in(bytes, 4, 4) as u32, // CPU Interface Number
-            processor_uid: field_in(bytes, 8, 4) as u32, // ACPI Processor UID
-            flags: field_in(bytes, 12, 4) as u32, // Flags (GICC CPU Interface Flags)
-            parking_protocol_version: field_in(bytes, 16, 4) as u32, // Parking Protocol Version
-            performance_interrupt_gsiv: field_in(bytes, 20, 4) as u32, // Performance Interrupt GSIV
+            cpu_interface_number: u32_in(bytes, 4), // CPU Interface Number
+            processor_uid: u32_in(bytes, 8), // ACPI Processor UID
+            flags: u32_in(bytes, 12), // Flags (GICC CPU Interface Flags)
+            parking_protocol_version: u32_in(bytes, 16), // Parking Protocol Version
+            performance_interrupt_gsiv: u32_in(bytes, 20), // Performance Interrupt GSIV
             parked_address: field_in(bytes, 24, 8), // Parked Address
             gic_registers_address: field_in(bytes, 32, 8), // Physical Base Address
             gic_virtual_registers_address: field_in(bytes, 40, 8), // GICV
             gic_hypervisor_registers_address: field_in(bytes, 48, 8), // GICH
-            vgic_maintenance_interrupt: field_in(bytes, 56, 4) as u32, // VGIC Maintenance interrupt
+            vgic_maintenance_interrupt: u32_in(bytes, 56), // VGIC Maintenance interrupt
             gicr_base_address: field_in(bytes, 60, 8), // GICR Base Address
             mpidr: field_in(bytes, 68, 8), // MPIDR
             processor_power_efficiency_class: field(bytes, 76, 1) as u8, // Processor Power Efficiency Class
@@ -105,10 +105,10 @@ impl PhysicalRecord for GicdEntry {
     fn read(bytes: &[u8]) -> Self {
         GicdEntry {
             header: EntryHeader::read(bytes),
-            gic_id: field_in(bytes, 4, 4) as u32, // GIC ID
+            gic_id: u32_in(bytes, 4), // GIC ID
             physical_base_address: field_in(bytes, 8, 8), // Physical Base Address
-            system_vector_base: field_in(bytes, 16, 4) as u32, // System Vector Base
-            gic_version: field_in(bytes, 20, 1) as u8, // GIC version
+            system_vector_base: u32_in(bytes, 16), // System Vector Base
+            gic_version: u8_in(bytes, 20), // GIC version
         }
     }
 }
@@ -142,11 +142,11 @@ impl PhysicalRecord for GicMsiFrameEntry {
     fn read(bytes: &[u8]) -> Self {
         GicMsiFrameEntry {
             header: EntryHeader::read(bytes),
-            frame_id: field_in(bytes, 4, 4) as u32, // GIC MSI Frame ID
+            frame_id: u32_in(bytes, 4), // GIC MSI Frame ID
             physical_base_address: field_in(bytes, 8, 8), // Physical Base Address
-            flags: field_in(bytes, 16, 4) as u32, // Flags (GIC MSI Frame Flags)
-            spi_count: field_in(bytes, 20, 2) as u16, // SPI Count
-            spi_base: field_in(bytes, 22, 2) as u16, // SPI Base
+            flags: u32_in(bytes, 16), // Flags (GIC MSI Frame Flags)
+            spi_count: u16_in(bytes, 20), // SPI Count
+            spi_base: u16_in(bytes, 22), // SPI Base
         }
     }
 }
@@ -175,7 +175,7 @@ impl PhysicalRecord for GicRedistributorEntry {
         GicRedistributorEntry {
             header: EntryHeader::read(bytes),
             discovery_range_base_address: field_in(bytes, 4, 8), // Discovery Range Base Address
-            discovery_range_length: field_in(bytes, 12, 4) as u32, // Discovery Range Length
+            discovery_range_length: u32_in(bytes, 12), // Discovery Range Length
         }
     }
 }
@@ -204,7 +204,7 @@ impl PhysicalRecord for GicInterruptTranslationServiceEntry {
     fn read(bytes: &[u8]) -> Self {
         GicInterruptTranslationServiceEntry {
             header: EntryHeader::read(bytes),
-            id: field_in(bytes, 4, 4) as u32, // GIC ITS ID
+            id: u32_in(bytes, 4), // GIC ITS ID
             physical_base_address: field_in(bytes, 8, 8), // Physical Base Address
         }
     }

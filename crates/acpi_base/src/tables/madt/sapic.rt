@@ -1,7 +1,7 @@
 //! Entries of the SAPIC model (ACPI 6.4, sections 5.2.12.9 to 5.2.12.11).
 
 use super::entry::EntryHeader;
-use crate::bytes::field_in;
+use crate::bytes::{field_in, u8_in, u16_in, u32_in};
 use crate::memory::handler::PhysicalRecord;
 
 /// I/O SAPIC: one that is used in place of the I/O APIC of the same id (ACPI 6.4, section 5.2.12.9).
@@ -29,8 +29,8 @@ impl PhysicalRecord for IoSapicEntry {
     fn read(bytes: &[u8]) -> Self {
         IoSapicEntry {
             header: EntryHeader::read(bytes),
-            io_apic_id: field_in(bytes, 2, 1) as u8, // I/O APIC ID
-            global_system_interrupt_base: field_in(bytes, 4, 4) as u32, // Global System Interrupt Base
+            io_apic_id: u8_in(bytes, 2), // I/O APIC ID
+            global_system_interrupt_base: u32_in(bytes, 4), // Global System Interrupt Base
             io_sapic_address: field_in(bytes, 8, 8), // I/O SAPIC Address
         }
     }
@@ -66,11 +66,11 @@ impl PhysicalRecord for LocalSapicEntry {
     fn read(bytes: &[u8]) -> Self {
         LocalSapicEntry {
             header: EntryHeader::read(bytes),
-            processor_id: field_in(bytes, 2, 1) as u8, // ACPI Processor ID
-            local_sapic_id: field_in(bytes, 3, 1) as u8, // Local SAPIC ID
-            local_sapic_eid: field_in(bytes, 4, 1) as u8, // Local SAPIC EID
-            flags: field_in(bytes, 8, 4) as u32, // Flags (Local APIC Flags)
-            processor_uid: field_in(bytes, 12, 4) as u32, // ACPI Processor UID Value
+            processor_id: u8_in(bytes, 2), // ACPI Processor ID
+            local_sapic_id: u8_in(bytes, 3), // Local SAPIC ID
+            local_sapic_eid: u8_in(bytes, 4), // Local SAPIC EID
+            flags: u32_in(bytes, 8), // Flags (Local APIC Flags)
+            processor_uid: u32_in(bytes, 12), // ACPI Processor UID Value
         }
     }
 }
@@ -108,13 +108,13 @@ impl PhysicalRecord for PlatformInterruptSourceEntry {
     fn read(bytes: &[u8]) -> Self {
         PlatformInterruptSourceEntry {
             header: EntryHeader::read(bytes),
-            flags: field_in(bytes, 2, 2) as u16, // Flags (MPS INTI Flags)
-            interrupt_type: field_in(bytes, 4, 1) as u8, // Interrupt Type
-            processor_id: field_in(bytes, 5, 1) as u8, // Processor ID
-            processor_eid: field_in(bytes, 6, 1) as u8, // Processor EID
-            io_sapic_vector: field_in(bytes, 7, 1) as u8, // I/O SAPIC Vector
-            global_system_interrupt: field_in(bytes, 8, 4) as u32, // Global System Interrupt
-            platform_interrupt_source_flags: field_in(bytes, 12, 4) as u32, // Platform Interrupt Source Flags
+            flags: u16_in(bytes, 2), // Flags (MPS INTI Flags)
+            interrupt_type: u8_in(bytes, 4), // Interrupt Type
+            processor_id: u8_in(bytes, 5), // Processor ID
+            processor_eid: u8_in(bytes, 6), // Processor EID
+            io_sapic_vector: u8_in(bytes, 7), // I/O SAPIC Vector
+            global_system_interrupt: u32_in(bytes, 8), // Global System Interrupt
+            platform_interrupt_source_flags: u32_in(bytes, 12), // Platform Interrupt Source Flags
         }
     }
 }

@@ -1,7 +1,7 @@
 //! The Multiprocessor Wakeup entry and its mailbox, by which processors are woken (section 5.2.12.19).
 
 use super::entry::EntryHeader;
-use crate::bytes::field_in;
+use crate::bytes::{field_in, u16_in};
 use crate::memory::handler::PhysicalRecord;
 
 /// Multiprocessor Wakeup: the mailbox by which the firmware is asked to wake a processor (section
@@ -28,7 +28,7 @@ impl PhysicalRecord for MultiprocessorWakeupEntry {
     fn read(bytes: &[u8]) -> Self {
         MultiprocessorWakeupEntry {
             header: EntryHeader::read(bytes),
-            mailbox_version: field_in(bytes, 2, 2) as u16, // MailBoxVersion
+            mailbox_version: u16_in(bytes, 2), // MailBoxVersion
             mailbox_address: field_in(bytes, 8, 8), // MailBoxAddress
         }
     }
