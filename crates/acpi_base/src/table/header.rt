@@ -44,7 +44,6 @@ impl PhysicalRecord for SdtHeader {
 
     ghost reading = { header_at };
 
-    #[tactic(auto, unfolding(crate::specs::Header::header_at))]
     fn read(bytes: &[u8]) -> Self {
         SdtHeader {
             signature: Signature::leading(bytes), // Signature
