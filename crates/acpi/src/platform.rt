@@ -19,13 +19,13 @@ use acpi_fixed::fadt::{FadtBrief, PowerProfile};
 use interrupt::InterruptModel;
 pub use mailbox::{Mailbox, MailboxCall, MailboxWrite};
 pub use scripted::ScriptedMailbox;
-use std::alloc::{Allocator, Global};
+use std::alloc::{AllocError, Allocator, Global};
 pub use timer::PmTimer;
 pub use wakeup::wakeup_aps;
 
 /// A machine's purpose, interrupt controllers, processors and power management timer, as its FADT (section
 /// 5.2.9) and its MADT (section 5.2.12) say.
-#[derive(Clone, Drop)]
+#[derive(Drop)]
 pub struct PlatformInfo<A: Allocator> {
     /// Preferred_PM_Profile: the machine's purpose, as the FADT says (section 5.2.9).
     pub power_profile: PowerProfile,
@@ -35,6 +35,30 @@ pub struct PlatformInfo<A: Allocator> {
     pub processor_info: Option<ProcessorInfo<A>>,
     /// The power management timer that the FADT describes (section 4.8.3.3), or `None` if it has none.
     pub pm_timer: Option<PmTimer>,
+}
+
+/// Clones with the fields of the original, or `AllocError` if memory is refused, or a clone of the
+/// allocator. If there is no interrupt model and no processor, nothing is asked for.
+impl<A: Allocator + Clone> Clone for PlatformInfo<A> {
+    ghost use Rattle.std.specs.Prelude.{◌≡◌};
+
+    ghost is_clone = { λ x y. y ≡ x };
+
+    ghost is_infallible = { λ x. ⟦<InterruptModel<A> as Clone>⟧.is_infallible x.interrupt_model
+        × ⟦<Option<ProcessorInfo<A>> as Clone>⟧.is_infallible x.processor_info };
+
+    fn clone(&self) -> Result<PlatformInfo<A>, AllocError> {
+        let interrupt_model = self.interrupt_model.clone()?;
+        match self.processor_info.clone() {
+            Ok(processor_info) => Ok(PlatformInfo {
+                power_profile: self.power_profile,
+                interrupt_model,
+                processor_info,
+                pm_timer: self.pm_timer,
+            }),
+            Err(refused) => Err(refused),
+        }
+    }
 }
 
 impl PlatformInfo<Global> {
