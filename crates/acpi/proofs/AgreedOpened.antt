@@ -1,5 +1,5 @@
 -- Memories that agree on the ranges of what leads to a root table open the same one.
-use Rattle.std.proofs.Common.{◌≡◌, ℕ, zero, suc, ◌+◌, List, ◌++◌, Option, Some, None, Result, Ok, Err, refl}
+use Rattle.std.proofs.Common.{◌≡◌, ℕ, zero, suc, ◌+◌, List, ◌++◌, Option, Some, None, Result, Ok, Err, refl, [], ◌∷◌}
 use Rattle.acpi_base.proofs.TableFootprints.{each_back, each_front, same_table}
 use Rattle.acpi_base.specs.Memory.{Memory, at}
 use Rattle.acpi_base.specs.Ranges as ranges
@@ -15,6 +15,9 @@ use Rattle.acpi.specs.Root.{root_kind}
 use Rattle.acpi.specs.Rsdp.{check_whole_at, length_of, root_of_rsdp, rsdp_at}
 use Rattle.acpi.specs.Search.{count_of, first_area, found_in, found_rsdp, or_else, room_of, second_area, walk, word_in}
 use Rattle.acpi.specs.declared.rsdp.area.Area.{Area}
+use Rattle.std.specs.Option.{option_or}
+use Rattle.acpi_base.specs.declared.range.AddressRange.{AddressRange}
+use Rattle.acpi.specs.Areas.{AreasDependOn, OpenedInAreasDependsOn, areas_ranges, count_in, first_in, found_among, found_in_areas, walk_in}
 
 -- ---- one RSDP
 
@@ -109,3 +112,26 @@ pub same_opened_by_search : OpenedBySearchDependsOn
 same_opened_by_search m n h =
     let front = same_search m n (each_front _ (search_ranges m) _ h) in
     rw front (same_by_search m n (found_rsdp m) (each_back _ (search_ranges m) _ h))
+
+-- ---- memories that agree on the ranges of a search in areas find the same RSDP there
+
+same_later_areas : (m n : Memory) (areas : List AddressRange) (o : Option (ℕ × List ℕ)) → (AgreesOn m n (areas_ranges m areas) → found_among n areas ≡ found_among m areas)
+    → AgreesOn m n (or_else_ranges o (areas_ranges m areas)) → option_or o (found_among n areas) ≡ option_or o (found_among m areas)
+same_later_areas m n areas (Some found) later h = refl
+same_later_areas m n areas None later h = later h
+
+same_among : (m n : Memory) (areas : List AddressRange) → AgreesOn m n (areas_ranges m areas) → found_among n areas ≡ found_among m areas
+same_among m n [] h = refl
+same_among m n (s ∷ areas) h =
+    let front = same_walk m n (count_in s) (first_in s) (each_front _ (walk_ranges m (count_in s) (first_in s)) _ h) in
+    let after = each_back _ (walk_ranges m (count_in s) (first_in s)) _ h in
+    rw front (same_later_areas m n areas (walk_in m s) (same_among m n areas) after)
+
+pub same_in_areas : AreasDependOn
+unfolding found_in_areas
+same_in_areas m n areas h = rw (same_among m n areas h) refl
+
+pub same_opened_in_areas : OpenedInAreasDependsOn
+same_opened_in_areas m n areas h =
+    let front = same_in_areas m n areas (each_front _ (areas_ranges m areas) _ h) in
+    rw front (same_by_search m n (found_in_areas m areas) (each_back _ (areas_ranges m areas) _ h))

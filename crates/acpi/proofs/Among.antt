@@ -1,10 +1,11 @@
 -- The search in areas that a caller gives: candidate by candidate, and in the reader's words.
-use Rattle.std.proofs.Common.{◌≡◌, ℕ, zero, suc, ◌+◌, ◌-◌, ◌*◌, ◌/◌, ◌<◌, ◌≤◌, List, [], ◌∷◌, ◌++◌, length, drop, length-drop, Bool, true, false, arith, refl, ap, sym, subst, ◌∙◌, Option, Some, None, Result, Ok, Err}
+use Rattle.std.proofs.Common.{◌≡◌, ℕ, zero, suc, ◌+◌, ◌-◌, ◌*◌, ◌/◌, ◌<◌, ◌≤◌, List, [], ◌∷◌, ◌++◌, length, drop, get_or, length-drop, Bool, true, false, arith, refl, ap, sym, subst, ◌∙◌, Option, Some, None, Result, Ok, Err}
 use Rattle.std.specs.Prelude.{◌&&◌, nat_le, IfOk, IsOk}
 use Rattle.std.specs.List.{AllByRecursion}
 use Rattle.std.specs.Option.{ok_or, option_or}
 use Rattle.std.specs.Result.{is_err}
 use Rattle.std.proofs.lemmas.Bool.Decides.{nat_tests}
+use Rattle.std.proofs.lemmas.List.{drop_all, drop_more}
 use Rattle.acpi_base.specs.Bytes.{part}
 use Rattle.acpi_base.specs.Memory.{Memory, IsMemory, at}
 use Rattle.acpi_base.specs.Steps.{Gives, lent}
@@ -18,9 +19,7 @@ use Rattle.acpi.specs.OpenedRanges.{opened_ranges, or_else_ranges, walk_ranges}
 use Rattle.acpi.specs.Rsdp.{length_of, root_of_rsdp, rsdp_at}
 use Rattle.acpi.specs.Search.{IsRefused, walk}
 use Rattle.acpi.proofs.Asked.{asked_next}
-use Rattle.acpi.proofs.Least.{Says, walk_says}
-use Rattle.acpi.proofs.Walk.{walk_later}
-use Rattle.acpi.proofs.Within.{lent_part}
+use Rattle.acpi.proofs.Search.{Says, lent_part, walk_later, walk_says}
 
 -- ---- what a loan shows
 
@@ -96,24 +95,37 @@ module _ (m : Memory) (n start : ℕ) where
       let same : k + 1 + r ≡ k + suc r = omega arith in
       subst (λ (x : ℕ). Allows may (walk_ranges m (n - x) (start + 16 * x))) same (asked_past_all may (k + 1) r next (omega (arith, most)) (next_refused k r refused))
 
-  -- if all are passed over, none is valid
-  pub walked_out : (all : Option (ℕ × List ℕ)) (k : ℕ) → walk m (n - k) (start + 16 * k) ≡ all → n ≤ k → None ≡ all
-  walked_out all k so_far over =
-      let none : n - k ≡ 0 = omega (arith, over) in rw none at so_far
+-- ---- the areas, one at a time
 
--- an area without candidates
-pub none_in_area : (m : Memory) (s : AddressRange) (count : ℕ) → count ≡ count_in s → count ≡ 0 → None ≡ walk_in m s
-none_in_area m s count is none =
-    let empty : count_in s ≡ 0 = sym is ∙ none in rw empty refl
+in_turn : (areas : List AddressRange) (i : ℕ) (d : AddressRange) → i < length areas → drop i areas ≡ get_or areas i d ∷ drop (i + 1) areas
+in_turn areas i d less = drop_more areas i d less
+
+pub area_in_turn : (may : ℕ → ℕ → Bool) (m : Memory) (areas : List AddressRange) (i : ℕ) (d : AddressRange) → i < length areas
+    → Allows may (areas_ranges m (drop i areas)) → Allows may (walk_ranges m (count_in (get_or areas i d)) (first_in (get_or areas i d)))
+area_in_turn may m areas i d less asked =
+    let s = get_or areas i d in
+    all_front may (walk_ranges m (count_in s) (first_in s)) _ (rw (in_turn areas i d less) at asked)
+
+pub found_in_turn : (m : Memory) (areas : List AddressRange) (i : ℕ) (d : AddressRange) (top : Option (ℕ × List ℕ)) (found : ℕ × List ℕ) → i < length areas
+    → found_among m (drop i areas) ≡ top → Some found ≡ walk_in m (get_or areas i d) → Some found ≡ top
+found_in_turn m areas i d top found less so_far here =
+    let first : option_or (walk_in m (get_or areas i d)) (found_among m (drop (i + 1) areas)) ≡ top = rw (in_turn areas i d less) at so_far in
+    rw (← here) at first
 
 -- areas after one that has no valid candidate
-pub later_areas : (may : ℕ → ℕ → Bool) (m : Memory) (s : AddressRange) (all areas : List AddressRange) (top : Option (ℕ × List ℕ)) → all ≡ s ∷ areas → found_among m all ≡ top
-    → Allows may (areas_ranges m all) → None ≡ walk_in m s → (found_among m areas ≡ top) × Allows may (areas_ranges m areas)
-later_areas may m s all areas top is so_far asked none =
-    let these : Allows may (walk_ranges m (count_in s) (first_in s) ++ or_else_ranges (walk_in m s) (areas_ranges m areas)) = rw is at asked in
+pub later_areas : (may : ℕ → ℕ → Bool) (m : Memory) (areas : List AddressRange) (i : ℕ) (d : AddressRange) (top : Option (ℕ × List ℕ)) → i < length areas
+    → found_among m (drop i areas) ≡ top → Allows may (areas_ranges m (drop i areas)) → None ≡ walk_in m (get_or areas i d)
+    → (found_among m (drop (i + 1) areas) ≡ top) × Allows may (areas_ranges m (drop (i + 1) areas))
+later_areas may m areas i d top less so_far asked none =
+    let s = get_or areas i d in
+    let later = drop (i + 1) areas in
+    let these : Allows may (walk_ranges m (count_in s) (first_in s) ++ or_else_ranges (walk_in m s) (areas_ranges m later)) = rw (in_turn areas i d less) at asked in
     let rest = all_back may (walk_ranges m (count_in s) (first_in s)) _ these in
-    let found : option_or (walk_in m s) (found_among m areas) ≡ top = rw is at so_far in
+    let found : option_or (walk_in m s) (found_among m later) ≡ top = rw (in_turn areas i d less) at so_far in
     (rw (← none) at found, rw (← none) at rest)
+
+pub no_area_left : (m : Memory) (areas : List AddressRange) (i : ℕ) (top : Option (ℕ × List ℕ)) → length areas ≤ i → found_among m (drop i areas) ≡ top → None ≡ top
+no_area_left m areas i top over so_far = rw (drop_all i areas over) at so_far
 
 -- ---- the root table that is opened
 

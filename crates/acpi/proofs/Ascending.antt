@@ -49,9 +49,6 @@ below_with : (m : Memory) (r : Region) (end : ℕ) → AllBelow end m → end �
 below_with [] r end h le = (omega arith, tt)
 below_with (s ∷ m) r end h le = (omega (arith, h.0), below_with m r end h.1 le)
 
-pub checked_none : (all : List MappedRegion) → IsChecked all 0 0 0
-checked_none all = record { same = refl; ascending = tt; below = tt }
-
 checked_at : (all : List MappedRegion) (i start end : ℕ) (r : MappedRegion) (rest : List MappedRegion) → IsChecked all i start end → drop i all ≡ r ∷ rest
     → start ≤ r.start → end ≤ r.start → check_after r.start (end_of (region_of r)) (regions_of rest) ≡ check_regions (regions_of all)
 checked_at all i start end r rest h e up apart =

@@ -1,8 +1,8 @@
 -- What may be asked for below a root table: each part of the ranges of a definition.
-use Rattle.std.proofs.Common.{refl, ap, sym, drop, slice_get, ◌≡◌, ℕ, zero, suc, ◌+◌, ◌-◌, ◌*◌, ◌<◌, List, [], ◌∷◌, ◌++◌, Bool, true, subst, Option, Some, None, Result, Ok, Err, arith}
-use Rattle.std.specs.Prelude.{MatchOption, flat_map}
+use Rattle.std.proofs.Common.{refl, ap, sym, drop, slice_get, ◌≡◌, ℕ, zero, suc, ◌+◌, ◌-◌, ◌*◌, ◌<◌, List, [], ◌∷◌, ◌++◌, Bool, subst, Option, Some, None, Result, Ok, Err, arith}
+use Rattle.std.specs.Prelude.{IsOk, MatchOption, flat_map}
 use Rattle.std.proofs.lemmas.Option.{get_or_from_slice_get}
-use Rattle.acpi_base.proofs.AllowedRanges.{all_back, all_front, all_here, all_rest}
+use Rattle.acpi_base.proofs.AllowedRanges.{all_back, all_front, all_rest}
 use Rattle.acpi_base.specs.declared.error.AcpiError.{AcpiError}
 use Rattle.acpi_base.specs.declared.table.signature.TheConstants.Signature.{DSDT}
 use Rattle.acpi_base.specs.Memory.{Memory}
@@ -16,10 +16,11 @@ use Rattle.acpi.specs.Lists.{fadt_kind, faults_of, unless_valid}
 use Rattle.acpi.specs.Lookup.{lookup}
 use Rattle.acpi.specs.Opened.{Opened, opened_from}
 use Rattle.acpi.specs.Root.{pointers, width_of}
+use Rattle.acpi.specs.declared.records.TableFault.{TableFault}
 use Rattle.acpi.specs.declared.root.RootPointer.{RootPointer}
 use Rattle.acpi.specs.OpenedRanges.{root_and_ranges, area_ranges, opened_by_rsdp_ranges, opened_by_search_ranges, opened_ranges, rsdp_ranges, search_ranges, walk_ranges}
 use Rattle.acpi.specs.Platform.{madt_kind}
-use Rattle.acpi.specs.Rsdp.{length_of, root_of_rsdp, rsdp_at}
+use Rattle.acpi.specs.Rsdp.{root_of_rsdp, rsdp_at}
 use Rattle.acpi.specs.Search.{count_of, first_area, found_in, found_rsdp, room_of, second_area, word_in}
 use Rattle.acpi.specs.declared.rsdp.area.Area.{Area}
 
@@ -33,9 +34,19 @@ pub faults_peeked : (m : Memory) (k : Kind) (p : ℕ) (all left : List ℕ) → 
     → faults_of m k all ≡ unless_valid p (table_at m k p) (faults_of m k left)
 faults_peeked m k p all left is moved = rw moved (ap (faults_of m k) (peeked all p is))
 
+-- none comes from a valid table on
+pub valid_last : (p : ℕ) (r : Result (List ℕ) AcpiError) (faults : List TableFault) → IsOk r → unless_valid p r faults ≡ []
+valid_last p (Ok table) faults ok = refl
+valid_last p (Err e) faults ok = absurd cc
+
 pub no_faults : (m : Memory) (k : Kind) (all : List ℕ) → None ≡ slice_get all 0 → faults_of m k all ≡ []
 no_faults m k [] is = refl
 no_faults m k (x ∷ all) is = cc
+
+-- the first member is valid
+pub found_member : (m : Memory) (k : Kind) (p : ℕ) (all ps table : List ℕ) (top : Result (ℕ × List ℕ) AcpiError)
+    → table_at m k p ≡ Ok table → all ≡ p ∷ ps → lookup m k all ≡ top → top ≡ Ok (p, table)
+found_member m k p all ps table top valid is so_far = sym (rw (is, valid) at so_far)
 
 module _ (may : ℕ → ℕ → Bool) where
   -- what lies after a step that passes
@@ -98,12 +109,6 @@ module _ (may : ℕ → ℕ → Bool) where
 
   -- ---- the RSDP
 
-  pub asked_rsdp : (m : Memory) (a : ℕ) → Allows may (rsdp_ranges m a) → may a 36 ≡ true
-  asked_rsdp m a h = all_here may (a, 36) _ h
-
-  pub asked_sum : (m : Memory) (a n : ℕ) (b : List ℕ) → Allows may (rsdp_ranges m a) → lent m a 36 ≡ Ok b → length_of b ≡ Ok (Some n) → may a n ≡ true
-  asked_sum m a n b h there long = all_here may (a, n) [] (rw (there, long) at (all_rest may (a, 36) _ h))
-
   pub asked_first : (m : Memory) (a : ℕ) → Allows may (opened_by_rsdp_ranges m a) → Allows may (rsdp_ranges m a)
   asked_first m a h = all_front may (rsdp_ranges m a) _ h
 
@@ -120,15 +125,9 @@ module _ (may : ℕ → ℕ → Bool) where
 
   -- ---- the search
 
-  pub asked_area : (m : Memory) (s : Area) → Allows may (area_ranges m s) → may s.start (room_of s) ≡ true
-  asked_area m s h = all_here may (s.start, room_of s) _ h
-
   pub asked_walk : (m : Memory) (s : Area) (b : List ℕ) → Allows may (area_ranges m s) → lent m s.start (room_of s) ≡ Ok b
       → Allows may (walk_ranges m (count_of s) s.start)
   asked_walk m s b h there = rw there at (all_rest may (s.start, room_of s) _ h)
-
-  pub asked_word : (m : Memory) → Allows may (search_ranges m) → may 0x40e 2 ≡ true
-  asked_word m h = all_here may (0x40e, 2) _ h
 
   pub asked_first_area : (m : Memory) (w : ℕ) → Allows may (search_ranges m) → word_in m ≡ Ok w → Allows may (area_ranges m first_area)
   asked_first_area m w h word =

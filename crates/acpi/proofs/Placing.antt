@@ -1,6 +1,6 @@
 -- What the pointers lead to and where it lies: which ranges that depends on, what it asks for, and
 -- how many items there are.
-use Rattle.std.proofs.Common.{◌≡◌, ℕ, ◌+◌, ◌≤◌, ◌<◌, ◌^◌, List, [], ◌∷◌, ◌++◌, Bool, true, length, length-append, length-drop, drop, Result, Ok, Err, refl, ap, arith}
+use Rattle.std.proofs.Common.{◌≡◌, ℕ, ◌+◌, ◌≤◌, ◌<◌, ◌^◌, List, [], ◌∷◌, ◌++◌, Bool, length, length-append, length-drop, drop, Result, Ok, Err, refl, ap, arith}
 use Rattle.std.specs.Prelude.{map, filter_map}
 use Rattle.std.specs.List.{cons_option}
 use Rattle.std.specs.Result.{result_ok}
@@ -154,9 +154,3 @@ module _ (may : ℕ → ℕ → Bool) where
   pub asked_facs_place : (m : Memory) (ps : List ℕ) (found : ℕ × List ℕ) → Allows may (led_ranges m ps) → lookup m fadt_kind ps ≡ Ok found
       → Allows may (facs_place_ranges m (fadt_at found.1))
   asked_facs_place m ps found h there = allowed.all_back may (dsdt_place_ranges m (fadt_at found.1)) _ (both_asked m ps found h there)
-
-  pub asked_facs_head : (m : Memory) (a : ℕ) → Allows may (facs_ranges m a) → may a 36 ≡ true
-  asked_facs_head m a h = allowed.all_here may (a, 36) _ h
-
-  pub asked_facs : (m : Memory) (a n : ℕ) (head : List ℕ) → Allows may (facs_ranges m a) → lent m a 36 ≡ Ok head → facs_length (header_at head) ≡ Ok n → may a n ≡ true
-  asked_facs m a n head h there long = allowed.all_here may (a, n) [] (rw (there, long) at (allowed.all_rest may (a, 36) _ h))

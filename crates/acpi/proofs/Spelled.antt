@@ -1,14 +1,18 @@
--- Bytes encode exactly one list of pointers.
-use Rattle.std.proofs.Common.{◌≡◌, ℕ, zero, suc, ◌+◌, ◌-◌, ◌*◌, ◌/◌, ◌%◌, ◌^◌, ◌<◌, ◌≤◌, List, [], ◌∷◌, ◌++◌, length, take, drop, inl, inr, refl, sym, ap, ◌∙◌, arith, length-append, append_assoc, length-drop}
+-- The pointers that a root table's bytes encode.
+use Rattle.std.proofs.Common.{◌≡◌, ℕ, zero, suc, ◌+◌, ◌-◌, ◌*◌, ◌/◌, ◌%◌, ◌^◌, ◌<◌, ◌≤◌, List, [], ◌∷◌, ◌++◌, length, take, drop, inl, inr, refl, sym, ap, ◌∙◌, arith, length-append, append_assoc, length-drop, Ok, ◌↔◌}
 use Rattle.std.specs.Prelude.{replicate, flat_map}
 use Rattle.std.specs.List.{AllByRecursion}
 use Rattle.std.proofs.lemmas.List.{length-replicate, append-nil, take-append-drop, take_at, drop_at, take_all, drop_all, length-take-le}
 use Rattle.std.proofs.lemmas.Bool.{cases_lt}
 use Rattle.std.proofs.Math.Nat.{mul-le-mul_left, pow-suc}
 use Rattle.acpi_base.proofs.Spelling.{IsBytes-drop, IsBytes-take, length-spelling, number-spelling}
-use Rattle.acpi_base.specs.Bytes.{IsBytes, number, spelling}
+use Rattle.acpi_base.specs.Bytes.{IsBytes, number, spelling, field_of}
 use Rattle.acpi.specs.Laws.{OnePointers}
-use Rattle.acpi.specs.Root.{IsPointers, pieces, pointers}
+use Rattle.acpi.specs.Root.{IsPointers, pieces, pointers, root_at, root_kind, width_of}
+use Rattle.acpi_base.proofs.LentBytes.{table_bytes}
+use Rattle.acpi_base.specs.Memory.{Memory, IsMemory}
+use Rattle.acpi.specs.declared.root.RootKind.{RootKind}
+use Rattle.acpi.specs.declared.root.RootKind.TheVariants.{Rsdt, Xsdt}
 
 length-spelled : (width : ℕ) (ps : List ℕ) → length (flat_map (spelling width) ps) ≡ width * length ps
 length-spelled width [] = omega arith
@@ -112,3 +116,45 @@ pointers_are width bytes w a = within_are (length bytes) width bytes (omega arit
 pub one_pointers : OnePointers
 one_pointers width bytes ps w a =
     (λ are. same_pointers width bytes ps (pointers width bytes) w are (pointers_are width bytes w a), λ same. rw same (pointers_are width bytes w a))
+
+-- ---- the pointers that bytes encode, one at a time
+
+-- more room than bytes changes nothing
+pieces_any : (n k w : ℕ) (bs : List ℕ) → 1 ≤ w → length bs ≤ n → length bs ≤ k → pieces n w bs ≡ pieces k w bs
+pieces_any zero zero w bs some hn hk = refl
+pieces_any zero (suc k) w [] some hn hk = refl
+pieces_any zero (suc k) w (b ∷ bs) some hn hk = absurd (omega arith)
+pieces_any (suc n) zero w [] some hn hk = refl
+pieces_any (suc n) zero w (b ∷ bs) some hn hk = absurd (omega arith)
+pieces_any (suc n) (suc k) w [] some hn hk = refl
+pieces_any (suc n) (suc k) w (b ∷ bs) some hn hk =
+    let len = length-drop w (b ∷ bs) in
+    ap (λ ps. number (take w (b ∷ bs)) ∷ ps) (pieces_any n k w (drop w (b ∷ bs)) some (omega (arith, len)) (omega (arith, len)))
+
+pub pointers_step : (w : ℕ) (bs : List ℕ) → 1 ≤ w → 0 < length bs → pointers w bs ≡ field_of bs 0 w ∷ pointers w (drop w bs)
+unfolding pointers field_of
+pointers_step w [] some h = absurd (omega arith)
+pointers_step w (b ∷ bs) some h =
+    let len = length-drop w (b ∷ bs) in
+    ap (λ ps. number (take w (b ∷ bs)) ∷ ps) (pieces_any (length bs) (length (drop w (b ∷ bs))) w (drop w (b ∷ bs)) some (omega (arith, len)) (omega arith))
+
+pub pointers_none : (w : ℕ) (bs : List ℕ) → length bs ≡ 0 → pointers w bs ≡ []
+unfolding pointers
+pointers_none w [] h = refl
+pointers_none w (b ∷ bs) h = absurd (omega arith)
+
+pub pointers_after : (w : ℕ) (bs : List ℕ) → 1 ≤ w → pointers w (drop w bs) ≡ drop 1 (pointers w bs)
+pointers_after w [] some =
+    let len : length (drop w []) ≡ 0 = omega (arith, length-drop {A = ℕ} w []) in
+    rw (pointers_none w (drop w []) len, pointers_none w [] refl) refl
+pointers_after w (b ∷ bs) some = rw (pointers_step w (b ∷ bs) some (omega arith)) refl
+
+-- ---- the bytes of a root table encode its pointers, and no others
+
+some_width : (kind : RootKind) → 0 < width_of kind
+some_width Rsdt = omega arith
+some_width Xsdt = omega arith
+
+pub root_pointers : (m : Memory) (kind : RootKind) (address : ℕ) (root : List ℕ) → IsMemory m → root_at m kind address ≡ Ok root → (ps : List ℕ) → IsPointers (width_of kind) (drop 36 root) ps ↔ (ps ≡ pointers (width_of kind) (drop 36 root))
+root_pointers m kind address root h e ps =
+    one_pointers (width_of kind) (drop 36 root) ps (some_width kind) (IsBytes-drop 36 root (table_bytes m (root_kind kind) address root h e))

@@ -117,11 +117,15 @@ abbrev pub or_else : {A E : Type 0} → Option A → Result A E → Result A E
 or_else (Some found) later = Ok found
 or_else None later = later
 
+-- what the area that is searched last has, or the refusal
+abbrev pub last_in : Memory → Area → Result (ℕ × List ℕ) AcpiError
+last_in m s = do
+  found ← found_in m s
+  or_else found (Err NoValidRsdp)
+
 -- the RSDP that the areas have, or the refusal
 unfoldable pub found_rsdp : Memory → Result (ℕ × List ℕ) AcpiError
 found_rsdp m = do
   word ← word_in m
   first ← found_in m first_area
-  or_else first (do
-    second ← found_in m (second_area word)
-    or_else second (Err NoValidRsdp))
+  or_else first (last_in m (second_area word))

@@ -55,13 +55,13 @@ impl<H: Lender, T: AcpiTable> Iterator for TableFaults<'_, '_, H, T> {
         // A pointer is passed only once its table is looked at: of those after a valid one, none may
         // be asked for.
         while let Some(address) = self.pointers.peek() {
-            match map_table::<H, T>(self.handler, address) {
-                Ok(_) => {
+            match refusal_at::<H, T>(self.handler, address) {
+                None => {
                     self.pointers.end();
                     return None;
                 }
-                Err(AcpiError::SdtInvalidSignature(_)) => self.pointers.pass(),
-                Err(error) => {
+                Some(AcpiError::SdtInvalidSignature(_)) => self.pointers.pass(),
+                Some(error) => {
                     self.pointers.pass();
                     return Some(TableFault { address, error });
                 }
@@ -69,4 +69,18 @@ impl<H: Lender, T: AcpiTable> Iterator for TableFaults<'_, '_, H, T> {
         }
         None
     }
+}
+
+ghost use Rattle.std.specs.Prelude.{◌≡◌, Err, IsOk, MatchOption};
+ghost use Rattle.acpi_base.specs.Ranges.{table_ranges};
+ghost use Rattle.acpi_base.specs.Table.{table_at};
+
+/// Why the table at an address is refused, or `None` if it is valid for `T`.
+#[inline(always)]
+fn refusal_at<H: Lender, T: AcpiTable>(handler: &H, address: u64) -> Option<AcpiError>
+    requires { Allows (H.may handler.now) (table_ranges (H.memory handler.now) T.kind address) }
+    ensures { MatchOption result (IsOk (table_at (H.memory handler.now) T.kind address))
+        (λ e. table_at (H.memory handler.now) T.kind address ≡ Err e) }
+{
+    map_table::<H, T>(handler, address).err()
 }

@@ -40,7 +40,7 @@ impl<'t> Pointers<'t> {
     }
 
     /// The pointer that comes next, if one does. It stays to come.
-    #[tactic(auto, using(crate::proofs::Pieces::pointers_step, crate::proofs::Pieces::pointers_none))]
+    #[tactic(auto, using(crate::proofs::Spelled::pointers_step, crate::proofs::Spelled::pointers_none))]
     pub(crate) fn peek(&self) -> Option<u64>
         ensures { result ≡ slice_get (pointers_left self.now) 0 }
     {
@@ -51,7 +51,7 @@ impl<'t> Pointers<'t> {
     }
 
     /// Leaves those after the one that comes next.
-    #[tactic(auto, using(crate::proofs::Pieces::pointers_after))]
+    #[tactic(auto, using(crate::proofs::Spelled::pointers_after))]
     pub(crate) fn pass(&mut self)
         ensures { pointers_left self.new ≡ drop 1 (pointers_left self.old) }
     {
@@ -59,7 +59,7 @@ impl<'t> Pointers<'t> {
     }
 
     /// Leaves no pointer to come.
-    #[tactic(auto, using(crate::proofs::Pieces::pointers_none))]
+    #[tactic(auto, using(crate::proofs::Spelled::pointers_none))]
     pub(crate) fn end(&mut self)
         ensures { pointers_left self.new ≡ [] }
     {
@@ -78,7 +78,7 @@ impl Iterator for Pointers<'_> {
     ghost remaining = { item_count (λ s. pointers_left s) };
 
     #[inline(always)]
-    #[tactic(auto, using(crate::proofs::Pieces::pointers_step, crate::proofs::Pieces::pointers_none))]
+    #[tactic(auto, using(crate::proofs::Spelled::pointers_step, crate::proofs::Spelled::pointers_none))]
     fn next(&mut self) -> Option<u64> {
         if self.rest.is_empty() {
             return None;

@@ -1,8 +1,8 @@
 //! The Root System Description Pointer (RSDP), which leads to the root table (section 5.2.5).
-ghost use Rattle.std.specs.Prelude.{◌≡◌, ◌<◌, true, IfOk};
+ghost use Rattle.std.specs.Prelude.{◌≡◌, ◌<◌, true, IfOk, Ok};
 ghost use Rattle.acpi_base.specs.Mapping.{IsOfMemory, start_of, bytes_of, handler_of};
 ghost use Rattle.acpi_base.specs.Ranges.{Allows};
-ghost use Rattle.acpi_base.specs.Steps.{Gives};
+ghost use Rattle.acpi_base.specs.Steps.{Gives, lent};
 ghost use Rattle.acpi.specs.OpenedRanges.{rsdp_ranges};
 ghost use Rattle.acpi.specs.Rsdp.{check_sum, check_whole_at, rsdp_at};
 
@@ -163,6 +163,7 @@ impl Rsdp {
     /// 20 bytes do not sum to 0 modulo 256. For a revision above 0 it also refuses with
     /// `RsdpInvalidChecksum` if the length is under 36 or above the number of bytes, or if that many
     /// bytes do not sum to 0 modulo 256.
+    #[tactic(auto, using(crate::proofs::Search::validated))]
     pub fn validate(&self, bytes: &[u8]) -> AcpiResult<()>
         requires least { 36 ≤ length bytes.now }
         requires read { self.now ≡ rsdp_of bytes.now }
@@ -248,6 +249,21 @@ fn check_whole<H: Lender>(handler: &H, address: u64, length: usize) -> AcpiResul
     check_sum(whole.bytes())
 }
 
+/// The checks of an RSDP whose 36 bytes are mapped.
+#[tactic(auto, unfolding(crate::specs::Rsdp::rsdp_at))]
+fn check_mapped<H: Lender>(handler: &H, rsdp: &PhysicalMapping<'_, H, Rsdp>) -> AcpiResult<()>
+    requires lent { lent (H.memory handler.now) (start_of rsdp.now) 36 ≡ Ok (bytes_of rsdp.now) }
+    requires asked { Allows (H.may handler.now)
+        (rsdp_ranges (H.memory handler.now) (start_of rsdp.now)) }
+    ensures { Gives (λ _. bytes_of rsdp.now) result
+        (rsdp_at (H.memory handler.now) (start_of rsdp.now)) }
+{
+    match rsdp.get().summed_length(rsdp.bytes())? {
+        None => Ok(()),
+        Some(length) => check_whole(handler, rsdp.physical_start(), length),
+    }
+}
+
 /// The valid RSDP at an address: a mapping of its 36 bytes.
 ///
 /// Refuses, in this order, with `MapFailed` if 36 bytes aren't lent, `RsdpIncorrectSignature`
@@ -267,8 +283,8 @@ pub(crate) fn map_rsdp<'h, H: Lender>(
     ensures rsdp { Gives (λ m. bytes_of m) result (rsdp_at (H.memory handler.now) address) }
 {
     let rsdp = PhysicalMapping::<'h, H, Rsdp>::map(handler, address, 36)?;
-    if let Some(length) = rsdp.get().summed_length(rsdp.bytes())? {
-        check_whole(handler, address, length)?;
+    match check_mapped(handler, &rsdp) {
+        Ok(()) => Ok(rsdp),
+        Err(error) => Err(error),
     }
-    Ok(rsdp)
 }

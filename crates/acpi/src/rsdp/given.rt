@@ -10,7 +10,7 @@ ghost use Rattle.acpi.specs.OpenedRanges.{rsdp_ranges, walk_ranges};
 ghost use Rattle.acpi.specs.Rsdp.{rsdp_at};
 ghost use Rattle.acpi.specs.Search.{IsRefused, placed, walk};
 
-use super::{Rsdp, check_whole};
+use super::{Rsdp, check_mapped};
 use acpi_base::bytes::skip;
 use acpi_base::{AcpiError, AcpiResult, AddressRange, Lender, PhysicalMapping, PhysicalRecord};
 
@@ -96,19 +96,34 @@ fn refused_front(bytes: &[u8], left: u64) -> u64
     left
 }
 
-/// The checks of an RSDP whose 36 bytes are mapped.
-#[tactic(auto, unfolding(crate::specs::Rsdp::rsdp_at))]
-fn check_mapped<H: Lender>(handler: &H, rsdp: &PhysicalMapping<'_, H, Rsdp>) -> AcpiResult<()>
-    requires lent { lent (H.memory handler.now) (start_of rsdp.now) 36 ≡ Ok (bytes_of rsdp.now) }
-    requires asked { Allows (H.may handler.now)
-        (rsdp_ranges (H.memory handler.now) (start_of rsdp.now)) }
-    ensures { Gives (λ _. bytes_of rsdp.now) result
-        (rsdp_at (H.memory handler.now) (start_of rsdp.now)) }
+/// An RSDP whose 36 bytes are mapped, if it is valid, or else how many candidates from there on are
+/// refused, as far as is known from what was lent there.
+fn valid_or_passed<'h, H: Lender>(
+    handler: &'h H,
+    address: u64,
+    rsdp: PhysicalMapping<'h, H, Rsdp>,
+    left: u64,
+) -> Result<PhysicalMapping<'h, H, Rsdp>, u64>
+    requires some { 0 < left }
+    requires low { 16 * left < 2 ^ 64 }
+    requires place { start_of rsdp ≡ address }
+    requires handler { handler_of rsdp ≡ handler.now }
+    requires all { IsOfMemory (H.memory handler.now) rsdp }
+    requires lent { lent (H.memory handler.now) address 36 ≡ Ok (bytes_of rsdp) }
+    requires asked { Allows (H.may handler.now) (rsdp_ranges (H.memory handler.now) address) }
+    ensures handler { IfOk result (λ m. handler_of m ≡ handler.now) }
+    ensures lent { IfOk result (λ m. IsOfMemory (H.memory handler.now) m) }
+    ensures place { IfOk result (λ m. start_of m ≡ address) }
+    ensures valid { IfOk result (λ m. rsdp_at (H.memory handler.now) address ≡ Ok (bytes_of m)) }
+    ensures some_passed { IfErr result (λ n. 0 < n) }
+    ensures most { IfErr result (λ n. n ≤ left) }
+    ensures refused { IfErr result (λ n. (i : ℕ) → i < n
+        → IsRefused (H.memory handler.now) (address + 16 * i)) }
 {
-    if let Some(length) = rsdp.get().summed_length(rsdp.bytes())? {
-        check_whole(handler, rsdp.physical_start(), length)?;
+    match check_mapped(handler, &rsdp) {
+        Ok(()) => Ok(rsdp),
+        Err(_) => Err(refused_front(rsdp.lent_bytes(), left)),
     }
-    Ok(())
 }
 
 /// The RSDP at an address, if it is valid, or else how many candidates from there on are refused,
@@ -130,12 +145,9 @@ fn tried<'h, H: Lender>(
     ensures refused { IfErr result (λ n. (i : ℕ) → i < n
         → IsRefused (H.memory handler.now) (address + 16 * i)) }
 {
-    let Ok(rsdp) = PhysicalMapping::<'h, H, Rsdp>::map(handler, address, 36) else {
-        return Err(1);
-    };
-    match check_mapped(handler, &rsdp) {
-        Ok(()) => Ok(rsdp),
-        Err(_) => Err(refused_front(rsdp.lent_bytes(), left)),
+    match PhysicalMapping::<'h, H, Rsdp>::map(handler, address, 36) {
+        Ok(rsdp) => valid_or_passed(handler, address, rsdp, left),
+        Err(_) => Err(1),
     }
 }
 
@@ -189,12 +201,10 @@ fn first_of_areas<'h, H: Lender>(
     ensures lent { IfSome result (λ m. IsOfMemory (H.memory handler.now) m) }
     ensures found { option_map placed result ≡ found_among (H.memory handler.now) areas.now }
 {
-    let mut rest = areas;
-    while let Some((area, others)) = rest.split_first() {
+    for area in areas {
         if let Some(found) = first_of_area(handler, area) {
             return Some(found);
         }
-        rest = others;
     }
     None
 }

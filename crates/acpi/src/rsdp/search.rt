@@ -8,7 +8,7 @@ ghost use Rattle.acpi_base.specs.Steps.{Gives, lent};
 ghost use Rattle.acpi_base.specs.Ranges.{Allows};
 ghost use Rattle.acpi.specs.OpenedRanges.{area_ranges, search_ranges, walk_ranges};
 ghost use Rattle.acpi.specs.Rsdp.{rsd_ptr};
-ghost use Rattle.acpi.specs.Search.{count_of, found_in, found_rsdp, placed, room_of, walk, word_in};
+ghost use Rattle.acpi.specs.Search.{count_of, found_in, found_rsdp, last_in, placed, room_of, walk, word_in};
 
 use super::area::{Area, FIRST_AREA, second_area};
 use super::raw_bytes::RawBytes;
@@ -27,7 +27,6 @@ fn has_signature(bytes: &[u8], offset: usize) -> bool
 }
 
 /// The least valid candidate of an area that is lent, with the 16 bytes after it, as these bytes.
-#[tactic(auto, using(crate::proofs::Within::length_lent))]
 fn first_candidate<'h, H: Lender>(
     handler: &'h H,
     area: Area,
@@ -60,7 +59,7 @@ fn first_candidate<'h, H: Lender>(
 /// The least valid candidate of an area, if it has one.
 ///
 /// Refuses with `MapFailed` if the area isn't lent with the 16 bytes after it.
-#[tactic(auto, using(crate::proofs::Asked::asked_area, crate::proofs::Asked::asked_walk), unfolding(crate::specs::Search::found_in))]
+#[tactic(auto, unfolding(crate::specs::Search::found_in))]
 fn search_area<'h, H: Lender>(
     handler: &'h H,
     area: Area,
@@ -87,8 +86,26 @@ fn area_word<H: Lender>(handler: &H) -> AcpiResult<u16>
     Ok(field(word.bytes(), 0, 2) as u16)
 }
 
+/// The least valid candidate of the area that is searched last.
+///
+/// Refuses with `MapFailed` if the area isn't lent with the 16 bytes after it, and with `NoValidRsdp` if no
+/// candidate is left.
+fn search_last<'h, H: Lender>(
+    handler: &'h H,
+    area: Area,
+) -> AcpiResult<PhysicalMapping<'h, H, Rsdp>>
+    requires some { area.start + 20 ≤ area.end }
+    requires low { area.end < 2 ^ 32 }
+    requires asked { Allows (H.may handler.now) (area_ranges (H.memory handler.now) area) }
+    ensures handler { IfOk result (λ m. handler_of m ≡ handler.now) }
+    ensures lent { IfOk result (λ m. IsOfMemory (H.memory handler.now) m) }
+    ensures found { Gives placed result (last_in (H.memory handler.now) area) }
+{
+    search_area(handler, area)?.ok_or(AcpiError::NoValidRsdp)
+}
+
 /// The RSDP that `search_for_on_bios` answers, or its refusal: the search, step by step.
-#[tactic(auto, using(crate::proofs::Asked::asked_word), unfolding(crate::specs::Search::found_rsdp))]
+#[tactic(auto, unfolding(crate::specs::Search::found_rsdp))]
 fn search_for_on_bios_exact<'h, H: Lender>(
     handler: &'h H,
 ) -> AcpiResult<PhysicalMapping<'h, H, Rsdp>>
@@ -98,10 +115,11 @@ fn search_for_on_bios_exact<'h, H: Lender>(
     ensures found { Gives placed result (found_rsdp (H.memory handler.now)) }
 {
     let word = area_word(handler)?;
-    if let Some(found) = search_area(handler, FIRST_AREA)? {
-        return Ok(found);
+    let first = search_area(handler, FIRST_AREA)?;
+    match first {
+        Some(found) => Ok(found),
+        None => search_last(handler, second_area(word)),
     }
-    search_area(handler, second_area(word))?.ok_or(AcpiError::NoValidRsdp)
 }
 
 impl Rsdp {
@@ -128,7 +146,6 @@ impl Rsdp {
     ///
     /// Refuses with `MapFailed` if the word or an area that is asked for isn't lent, and with
     /// `NoValidRsdp` if no candidate is left.
-    #[tactic(auto, using(crate::proofs::Least::searched, crate::proofs::Led::found_valid))]
     pub fn search_for_on_bios<'h, H: Lender>(
         handler: &'h H,
     ) -> AcpiResult<PhysicalMapping<'h, H, Rsdp>>

@@ -50,6 +50,7 @@ impl<'h, H: Lender> AcpiTables<'h, H> {
     /// not valid UTF-8, `RsdpInvalidChecksum` if the first 20 bytes don't sum to 0 modulo 256 or, above
     /// revision 0, the length is under 36, `MapFailed` if that many bytes aren't lent, and
     /// `RsdpInvalidChecksum` if they don't sum to 0 modulo 256. Then it refuses as `from_rsdt` does.
+    #[tactic(auto, using(crate::proofs::AgreedOpened::same_opened_by_rsdp))]
     pub fn from_rsdp(handler: &'h H, address: u64) -> AcpiResult<Self>
         requires { Allows (H.may handler.now) (opened_by_rsdp_ranges (H.memory handler.now) address) }
         ensures handler { IfOk result (λ t. lender_of t ≡ handler.now) }
@@ -82,6 +83,7 @@ impl<'h, H: Lender> AcpiTables<'h, H> {
     /// is tried if the root table is bad.
     ///
     /// Refuses first as that search does, with `MapFailed` or `NoValidRsdp`, and then as `from_rsdt` does.
+    #[tactic(auto, using(crate::proofs::AgreedOpened::same_opened_by_search))]
     pub fn search_for_rsdp_bios(handler: &'h H) -> AcpiResult<Self>
         requires { Allows (H.may handler.now) (opened_by_search_ranges (H.memory handler.now)) }
         ensures handler { IfOk result (λ t. lender_of t ≡ handler.now) }
@@ -112,6 +114,7 @@ impl<'h, H: Lender> AcpiTables<'h, H> {
     /// passes all checks of the RSDP.
     ///
     /// Refuses as `from_rsdt` does.
+    #[tactic(auto, using(crate::proofs::AgreedOpened::same_opened_by_rsdp))]
     pub fn from_validated_rsdp(
         handler: &'h H,
         mapping: PhysicalMapping<'h, H, Rsdp>,
@@ -133,7 +136,7 @@ impl<'h, H: Lender> AcpiTables<'h, H> {
     }
 
     /// What `from_validated_rsdp` answers: it maps the RSDP again, and opens the root table.
-    #[tactic(auto, using(crate::proofs::Led::valid_lent))]
+    #[tactic(auto, using(crate::proofs::Search::valid_lent))]
     fn from_validated_rsdp_exact(
         handler: &'h H,
         mapping: PhysicalMapping<'h, H, Rsdp>,

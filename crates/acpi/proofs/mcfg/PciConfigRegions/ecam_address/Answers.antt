@@ -1,4 +1,4 @@
-use Rattle.acpi.proofs.Ecam.{if_beside}
+use Rattle.acpi.proofs.Places.{if_beside}
 use Rattle.acpi.proofs.mcfg.PciConfigRegions.ecam_address.Goals as goal
 
 pub returns-clause-beside : goal.returns-clause-beside

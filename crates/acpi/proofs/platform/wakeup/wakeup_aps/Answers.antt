@@ -1,4 +1,4 @@
-use Rattle.std.proofs.Common.{rules, arith}
+use Rattle.std.proofs.Common.{arith}
 use Rattle.std.proofs.lemmas.Grind.{common_steps}
 use Rattle.acpi.proofs.Agreed.{mailbox_from_tables}
 use Rattle.acpi.proofs.platform.wakeup.wakeup_aps.Goals as goal

@@ -1,7 +1,25 @@
-use Rattle.acpi.proofs.Among.{later_areas}
+use Rattle.std.proofs.Common.{◌<◌, ◌≤◌, length, arith}
+use Rattle.acpi.proofs.Among.{area_in_turn, found_in_turn, later_areas, no_area_left}
 use Rattle.acpi.proofs.rsdp.given.first_of_areas.Goals as goal
+
+pub first_of_area-requires : goal.first_of_area-requires
+first_of_area-requires g c =
+    let h = c.args.handler.now in
+    let less : c.loop-area.area-index < length c.args.areas.now = omega arith in
+    area_in_turn (g.H.Lender.may h) (g.H.Lender.memory h) _ _ _ less c.loop-area.invariant.1
 
 pub loop-area-preserved : goal.loop-area-preserved
 loop-area-preserved g c =
     let h = c.args.handler.now in
-    later_areas (g.H.Lender.may h) (g.H.Lender.memory h) _ _ _ _ c.in-Some.ensures.cases.0 c.loop-area.invariant.0 c.loop-area.invariant.1 c.in_default-first_of_area.ensures.found
+    let less : c.loop-area.area-index < length c.args.areas.now = omega arith in
+    later_areas (g.H.Lender.may h) (g.H.Lender.memory h) _ _ _ _ less c.loop-area.invariant.0 c.loop-area.invariant.1 c.in_default.ensures.found
+
+pub returns-in-Some-clause-found : goal.returns-in-Some-clause-found
+returns-in-Some-clause-found g c =
+    let less : c.loop-area.area-index < length c.args.areas.now = omega arith in
+    found_in_turn (g.H.Lender.memory c.args.handler.now) _ _ _ _ _ less c.loop-area.invariant.0 c.in-Some.ensures.found
+
+pub returns-clause-found : goal.returns-clause-found
+returns-clause-found g c =
+    let over : length c.args.areas.now ≤ c.loop-area.area-index = omega arith in
+    no_area_left (g.H.Lender.memory c.args.handler.now) _ _ _ over c.loop-area.invariant.0

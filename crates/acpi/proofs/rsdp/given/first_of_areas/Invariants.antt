@@ -1,4 +1,4 @@
-use Rattle.std.proofs.Common.{◌≡◌, length}
+use Rattle.std.proofs.Common.{◌≡◌, drop}
 use Rattle.acpi_base.specs.Ranges.{Allows}
 use Rattle.acpi.specs.Areas.{areas_ranges, found_among}
 use Rattle.acpi.proofs.rsdp.given.first_of_areas.Given as goal
@@ -7,7 +7,4 @@ use Rattle.acpi.proofs.rsdp.given.first_of_areas.Given as goal
 abbrev pub invariant-loop-area : goal.invariant-loop-area
 invariant-loop-area g l =
     let m = g.H.Lender.memory l.handler in
-    (found_among m l.rest ≡ found_among m l.areas) × Allows (g.H.Lender.may l.handler) (areas_ranges m l.rest)
-
-abbrev pub decreases-loop-area : goal.decreases-loop-area
-decreases-loop-area g l = length l.rest
+    (found_among m (drop l.area-index l.areas) ≡ found_among m l.areas) × Allows (g.H.Lender.may l.handler) (areas_ranges m (drop l.area-index l.areas))

@@ -1,8 +1,7 @@
-use Rattle.std.proofs.Common.{◌+◌, ◌*◌, ◌<◌, ◌≤◌, sym, arith, ◌∙◌}
+use Rattle.std.proofs.Common.{◌≡◌, ◌+◌, ◌*◌, ◌<◌, ◌≤◌, sym, arith, ◌∙◌, length}
 use Rattle.acpi.specs.Search.{count_of, room_of}
 use Rattle.acpi.proofs.Asked.{asked_candidate, asked_next}
-use Rattle.acpi.proofs.Within.{unsigned_refused}
-use Rattle.acpi.proofs.Walk.{walk_here, walk_later, walk_past}
+use Rattle.acpi.proofs.Search.{length_lent, unsigned_refused, walk_here, walk_later, walk_past}
 use Rattle.acpi.proofs.rsdp.search.first_candidate.Goals as goal
 
 pub loop-k-preserved-then-not-has_signature : goal.loop-k-preserved-then-not-has_signature
@@ -32,3 +31,8 @@ pub map_rsdp-requires : goal.map_rsdp-requires
 map_rsdp-requires g c =
     let turn : c.loop-k.k < count_of c.args.area = omega arith in
     asked_candidate (g.H.Lender.may c.args.handler.now) (g.H.Lender.memory c.args.handler.now) _ _ _ turn c.loop-k.invariant.1
+
+pub has_signature-requires : goal.has_signature-requires
+has_signature-requires g c =
+    let long : length c.args.bytes.now ≡ room_of c.args.area = length_lent _ _ _ _ c.requires.lent in
+    omega arith

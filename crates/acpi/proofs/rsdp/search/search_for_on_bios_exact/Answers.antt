@@ -9,7 +9,7 @@ search_area-requires-clause-asked g c =
     let h = c.args.handler.now in
     asked_first_area (g.H.Lender.may h) (g.H.Lender.memory h) c.in_ok-word.word c.requires c.in_ok-word.ensures
 
-pub search_area-requires-2-clause-asked : goal.search_area-requires-2-clause-asked
-search_area-requires-2-clause-asked g c =
+pub search_last-requires-clause-asked : goal.search_last-requires-clause-asked
+search_last-requires-clause-asked g c =
     let h = c.args.handler.now in
-    subst (λ s. Allows (g.H.Lender.may h) (area_ranges (g.H.Lender.memory h) s)) (sym c.second_area.ensures.value) (asked_second_area (g.H.Lender.may h) (g.H.Lender.memory h) c.in_ok-word.word c.requires c.in_ok-word.ensures (rw c.in_default.is at c.in_ok-found.ensures.found))
+    subst (λ s. Allows (g.H.Lender.may h) (area_ranges (g.H.Lender.memory h) s)) (sym c.second_area.ensures.value) (asked_second_area (g.H.Lender.may h) (g.H.Lender.memory h) c.in_ok-word.word c.requires c.in_ok-word.ensures (rw c.in-None.is at c.in_ok-first.ensures.found))

@@ -1,6 +1,6 @@
 use Rattle.std.proofs.Common.{subst, sym}
 use Rattle.acpi_base.specs.Ranges.{Allows, table_ranges}
-use Rattle.acpi.proofs.Asked.{asked_member, later_kept}
+use Rattle.acpi.proofs.Asked.{asked_member, found_member, later_kept}
 use Rattle.acpi.specs.Tables.{may_of, memory_of}
 use Rattle.acpi.proofs.tables.AcpiTables.first_valid.Goals as goal
 
@@ -14,3 +14,7 @@ pub loop-address-preserved : goal.loop-address-preserved
 loop-address-preserved g c =
     later_kept (may_of c.args.self.now) (memory_of c.args.self.now) g.T.AcpiTable.kind
     c.in-Some.address _ _ _ c.in_default.field-0 (rw c.handler.ensures at c.in_default.ensures.table) c.in-Some.ensures.steps c.loop-address.invariant
+
+pub returns-in-Ok-clause-found : goal.returns-in-Ok-clause-found
+returns-in-Ok-clause-found g c =
+    rw c.in-Ok.ensures.place (found_member (memory_of c.args.self.now) g.T.AcpiTable.kind c.in-Some.address _ _ _ _ (rw c.handler.ensures at c.in-Ok.ensures.table) c.in-Some.ensures.steps c.loop-address.invariant.0)

@@ -1,7 +1,7 @@
 use Rattle.std.proofs.Common.{◌∙◌}
 use Rattle.acpi_base.specs.Mapping.{start_of}
 use Rattle.acpi.proofs.Asked.{asked_root}
-use Rattle.acpi.proofs.Led.{valid_lent}
+use Rattle.acpi.proofs.Search.{valid_lent}
 use Rattle.acpi.proofs.tables.AcpiTables.from_validated_rsdp_exact.Goals as goal
 
 pub from_root-requires : goal.from_root-requires

@@ -1,4 +1,4 @@
-use Rattle.acpi.proofs.Rooted.{root_pointers}
+use Rattle.acpi.proofs.Spelled.{root_pointers}
 use Rattle.acpi.proofs.tables.AcpiTables.open.Goals as goal
 
 pub returns-clause-pointers : goal.returns-clause-pointers
