@@ -76,6 +76,13 @@ unsigned_refused m a off size b hm e room other =
 abbrev pub there : ℕ → List ℕ → Option (ℕ × List ℕ)
 there a b = Some (a, b)
 
+-- what holds of all candidates, before the first
+pub not_begun : (P : ℕ → ℕ → Type 0) (n a : ℕ) → P n a → P (n - 0) (a + 16 * 0)
+not_begun P n a h =
+    let all : n - 0 ≡ n = omega arith in
+    let start : a + 16 * 0 ≡ a = omega arith in
+    rw (all, start) h
+
 walk_step : (m : Memory) (n a : ℕ) → 0 < n → walk m n a ≡ or_later (there a) (rsdp_at m a) (walk m (n - 1) (a + 16))
 walk_step m zero a some = absurd (omega arith)
 walk_step m (suc n) a some =

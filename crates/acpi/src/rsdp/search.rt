@@ -6,7 +6,7 @@ ghost use Rattle.acpi_base.specs.Bytes.{part};
 ghost use Rattle.acpi_base.specs.Mapping.{IsOfMemory, handler_of};
 ghost use Rattle.acpi_base.specs.Steps.{Gives, lent};
 ghost use Rattle.acpi_base.specs.Ranges.{Allows};
-ghost use Rattle.acpi.specs.OpenedRanges.{area_ranges, search_ranges, walk_ranges};
+ghost use Rattle.acpi.specs.OpenedRanges.{area_ranges, search_ranges};
 ghost use Rattle.acpi.specs.Rsdp.{rsd_ptr};
 ghost use Rattle.acpi.specs.Search.{count_of, found_in, found_rsdp, last_in, placed, room_of, walk, word_in};
 
@@ -35,8 +35,7 @@ fn first_candidate<'h, H: Lender>(
     requires some { area.start + 20 ≤ area.end }
     requires low { area.end < 2 ^ 32 }
     requires lent { lent (H.memory handler.now) area.start (room_of area) ≡ Ok bytes.now }
-    requires asked { Allows (H.may handler.now)
-        (walk_ranges (H.memory handler.now) (count_of area) area.start) }
+    requires asked { Allows (H.may handler.now) (area_ranges (H.memory handler.now) area) }
     ensures handler { IfSome result (λ m. handler_of m ≡ handler.now) }
     ensures lent { IfSome result (λ m. IsOfMemory (H.memory handler.now) m) }
     ensures found { option_map placed result

@@ -136,7 +136,6 @@ impl<'h, H: Lender> AcpiTables<'h, H> {
     }
 
     /// What `from_validated_rsdp` answers: it maps the RSDP again, and opens the root table.
-    #[tactic(auto, using(crate::proofs::Search::valid_lent))]
     fn from_validated_rsdp_exact(
         handler: &'h H,
         mapping: PhysicalMapping<'h, H, Rsdp>,

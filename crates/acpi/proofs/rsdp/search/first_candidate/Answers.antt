@@ -1,7 +1,9 @@
-use Rattle.std.proofs.Common.{◌≡◌, ◌+◌, ◌*◌, ◌<◌, ◌≤◌, sym, arith, ◌∙◌, length}
-use Rattle.acpi.specs.Search.{count_of, room_of}
-use Rattle.acpi.proofs.Asked.{asked_candidate, asked_next}
-use Rattle.acpi.proofs.Search.{length_lent, unsigned_refused, walk_here, walk_later, walk_past}
+use Rattle.std.proofs.Common.{refl, ◌≡◌, ◌+◌, ◌*◌, ◌<◌, ◌≤◌, sym, arith, ◌∙◌, length}
+use Rattle.acpi_base.specs.Ranges.{Allows}
+use Rattle.acpi.specs.OpenedRanges.{walk_ranges}
+use Rattle.acpi.specs.Search.{count_of, room_of, walk}
+use Rattle.acpi.proofs.Asked.{asked_candidate, asked_next, asked_walk}
+use Rattle.acpi.proofs.Search.{not_begun, length_lent, unsigned_refused, walk_here, walk_later, walk_past}
 use Rattle.acpi.proofs.rsdp.search.first_candidate.Goals as goal
 
 pub loop-k-preserved-then-not-has_signature : goal.loop-k-preserved-then-not-has_signature
@@ -36,3 +38,11 @@ pub has_signature-requires : goal.has_signature-requires
 has_signature-requires g c =
     let long : length c.args.bytes.now ≡ room_of c.args.area = length_lent _ _ _ _ c.requires.lent in
     omega arith
+
+pub loop-k-init : goal.loop-k-init
+loop-k-init g c =
+    let m = g.H.Lender.memory c.args.handler.now in
+    let may = g.H.Lender.may c.args.handler.now in
+    let s = c.args.area in
+    not_begun (λ n a. (walk m n a ≡ walk m (count_of s) s.start) × Allows may (walk_ranges m n a)) (count_of s) s.start
+    (refl, asked_walk may m s _ c.requires.asked c.requires.lent)
