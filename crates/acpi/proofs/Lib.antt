@@ -3,7 +3,6 @@ pub mod AgreedOpened
 pub mod Among
 pub mod Ascending
 pub mod Asked
-pub mod Brief
 pub mod Calls
 pub mod Equalities
 pub mod First

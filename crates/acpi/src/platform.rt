@@ -15,7 +15,7 @@ use crate::tables::AcpiTables;
 use acpi_base::madt::Madt;
 pub use acpi_base::model::{ModelAndProcessors, Processor, ProcessorInfo, ProcessorState};
 use acpi_base::{AcpiResult, Lender};
-use acpi_fixed::fadt::{FadtBrief, PowerProfile};
+use acpi_fixed::fadt::PowerProfile;
 use interrupt::InterruptModel;
 pub use mailbox::{Mailbox, MailboxCall, MailboxWrite};
 pub use scripted::ScriptedMailbox;
@@ -105,19 +105,12 @@ impl<A: Allocator + Clone> PlatformInfo<A> {
     }
 
     /// What `new_in` answers: it looks the first valid FADT up, and then goes on with the MADT.
-    #[tactic(auto, using(crate::proofs::Brief::profile_of_brief, crate::proofs::Brief::timer_in_brief))]
     fn new_in_exact<H: Lender>(tables: &AcpiTables<'_, H>, allocator: A) -> AcpiResult<Self>
         requires { AllowsBelow tables.now platform_ranges }
         ensures { GivesPlatform tables.now result }
     {
-        // It is looked at where it lies, so that it isn't copied.
-        let found = tables.find_table_exact::<FadtBrief>();
-        match &found {
-            Ok(fadt) => {
-                PlatformInfo::beside(fadt.power_profile(), PmTimer::of(fadt), tables, allocator)
-            }
-            Err(error) => Err(*error),
-        }
+        let fadt = tables.find_fadt_exact()?;
+        PlatformInfo::beside(fadt.power_profile(), PmTimer::of(&fadt), tables, allocator)
     }
 
     /// The platform of the first valid MADT, and of what the FADT says: a profile, and a timer or its

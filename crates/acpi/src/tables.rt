@@ -20,7 +20,7 @@ use acpi_base::bytes::skip;
 use acpi_base::sdt::{SdtHeader, map_sdt};
 use acpi_base::table::{ValidTable, valid_at};
 use acpi_base::{AcpiError, AcpiResult, AcpiTable, Lender, PhysicalMapping, Signature};
-use acpi_fixed::fadt::FadtBrief;
+use acpi_fixed::fadt::{Fadt, FadtView};
 use std::alloc::{Allocator, Global};
 
 /// The tables that a root table leads to: an RSDT (section 5.2.7) or an XSDT (section 5.2.8). Its pointers
@@ -46,7 +46,7 @@ impl<'h, H: Lender> AcpiTables<'h, H> {
     ghost use Rattle.acpi_base.specs.declared.table.signature.TheConstants.Signature.{DSDT};
     ghost use Rattle.acpi.specs.Footprint.{AllowsBelow, FootprintBelow, dsdt_ranges, header_ranges};
     ghost use Rattle.acpi.specs.Footprint.{lookup_ranges, platform_ranges, ssdt_ranges};
-    ghost use Rattle.acpi.specs.Lists.{dsdt_stream, stream_at};
+    ghost use Rattle.acpi.specs.Lists.{dsdt_stream, fadt_kind, stream_at};
     ghost use Rattle.acpi.specs.Lists.{faults_of, ssdt_streams, valid_headers};
     ghost use Rattle.acpi.specs.Lookup.{IsFirstValid, NoneValid, lookup};
     ghost use Rattle.acpi.specs.PlatformAnswer.{GivesPlatform, PlatformFootprint};
@@ -91,7 +91,7 @@ impl<'h, H: Lender> AcpiTables<'h, H> {
 
     /// What `find_table` answers: a mapping of the first member that is valid for `T`.
     #[inline(always)]
-    pub(crate) fn find_table_exact<T: AcpiTable>(&self) -> AcpiResult<PhysicalMapping<'h, H, T>>
+    fn find_table_exact<T: AcpiTable>(&self) -> AcpiResult<PhysicalMapping<'h, H, T>>
         requires { AllowsBelow self.now (λ m. lookup_ranges m T.kind) }
         ensures handler { IfOk result (λ m. handler_of m ≡ lender_of self.now) }
         ensures lent { IfOk result (λ m. IsOfMemory (memory_of self.now) m) }
@@ -132,6 +132,37 @@ impl<'h, H: Lender> AcpiTables<'h, H> {
             (Gives (λ m. (start_of m, bytes_of m)) result) }
     {
         self.find_table_exact::<T>()
+    }
+
+    /// The first member of the root table that is a valid FADT (section 5.2.9), as `find_table` finds it: a
+    /// field of it is read when it is asked for.
+    ///
+    /// Refuses as `find_table` does.
+    pub fn find_fadt(&self) -> AcpiResult<FadtView<'h, H>>
+        requires { AllowsBelow self.now (λ m. lookup_ranges m fadt_kind) }
+        ensures handler { IfOk result (λ v. handler_of v.mapping ≡ lender_of self.now) }
+        // However many bytes were lent, all of them are the memory's.
+        ensures lent { IfOk result (λ v. IsOfMemory (memory_of self.now) v.mapping) }
+        ensures exact { Gives (λ v. (start_of v.mapping, bytes_of v.mapping)) result
+            (of_tables self.now (λ m. lookup m fadt_kind)) }
+        // It depends on what that lookup depends on.
+        ensures footprint { FootprintBelow self.now (λ m. lookup_ranges m fadt_kind)
+            (λ n. lookup n fadt_kind)
+            (Gives (λ v. (start_of v.mapping, bytes_of v.mapping)) result) }
+    {
+        self.find_fadt_exact()
+    }
+
+    /// What `find_fadt` answers: a view of the first member that is valid for `Fadt`.
+    pub(crate) fn find_fadt_exact(&self) -> AcpiResult<FadtView<'h, H>>
+        requires { AllowsBelow self.now (λ m. lookup_ranges m fadt_kind) }
+        ensures handler { IfOk result (λ v. handler_of v.mapping ≡ lender_of self.now) }
+        ensures lent { IfOk result (λ v. IsOfMemory (memory_of self.now) v.mapping) }
+        ensures found { Gives (λ v. (start_of v.mapping, bytes_of v.mapping)) result
+            (of_tables self.now (λ m. lookup m fadt_kind)) }
+    {
+        let found = self.first_valid::<Fadt>()?;
+        Ok(FadtView::new(found))
     }
 
     /// The headers (section 5.2.6) of all members that are valid under the signatures that they have, in
@@ -184,17 +215,12 @@ impl<'h, H: Lender> AcpiTables<'h, H> {
     }
 
     /// What `dsdt` answers: it looks the first valid FADT up, and the table that this leads to.
-    #[tactic(auto, using(crate::proofs::Brief::dsdt_of_brief))]
     fn dsdt_exact(&self) -> AcpiResult<AmlTable>
         requires { AllowsBelow self.now dsdt_ranges }
         ensures { result ≡ of_tables self.now dsdt_stream }
     {
-        // It is looked at where it lies, so that it isn't copied.
-        let found = self.find_table_exact::<FadtBrief>();
-        match &found {
-            Ok(fadt) => self.dsdt_at(fadt.dsdt_address()?),
-            Err(error) => Err(*error),
-        }
+        let fadt = self.find_fadt_exact()?;
+        self.dsdt_at(fadt.dsdt_address()?)
     }
 
     /// The AML of the DSDT at an address.

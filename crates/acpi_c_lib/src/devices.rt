@@ -12,7 +12,6 @@ use crate::regions::Mapped;
 use acpi::HpetInfo;
 use acpi::address::{AccessSize, AddressSpace, GenericAddress};
 use acpi::bgrt::{Bgrt, ImageType};
-use acpi::fadt::FadtBrief;
 use acpi::hpet::PageProtection;
 use acpi::platform::PmTimer;
 
@@ -45,13 +44,12 @@ fn protection_code(protection: PageProtection) -> u8
 }
 
 /// The power management timer of the first valid FADT.
-#[tactic(auto, using(acpi::proofs::Brief::timer_in_brief))]
 pub fn timer(source: &Source<'_>) -> Result<Timer, Refusal>
     ensures { result ≡ timer_below source.now }
 {
     let memory = Mapped::new(source.regions)?;
     let tables = open(&memory, source)?;
-    let fadt = tables.find_table::<FadtBrief>()?;
+    let fadt = tables.find_fadt()?;
     let timer = PmTimer::of(&fadt)?;
     Ok(timer_record(timer))
 }

@@ -20,7 +20,6 @@ use crate::opening::open;
 use crate::records::Source;
 use crate::refusal::Refusal;
 use crate::regions::Mapped;
-use acpi::fadt::FadtBrief;
 use acpi::madt::Madt;
 use acpi::platform::PmTimer;
 use acpi::{AcpiHandler, AcpiResult, AcpiTables, Lender, PhysicalMapping};
@@ -39,7 +38,6 @@ pub(crate) struct ApicMadt<'h, H: Lender> {
 /// Refuses, in this order, with `TableMissing` if no valid FADT is listed, with `InvalidMadt` for the first entry of
 /// the MADT at fault, and with the refusal of the FADT's timer: as `PlatformInfo::new` does, so what is answered is
 /// what that call answers.
-#[tactic(auto, using(acpi::proofs::Brief::timer_in_brief))]
 pub(crate) fn apic_madt<'h, H: AcpiHandler>(
     tables: &AcpiTables<'h, H>,
 ) -> AcpiResult<Option<ApicMadt<'h, H>>>
@@ -47,7 +45,7 @@ pub(crate) fn apic_madt<'h, H: AcpiHandler>(
         (of_tables tables.now platform_model) }
     ensures counts { IfOk result (λ o. IfSome o (λ x. x.counts ≡ counts_of (items_of (bytes_of x.madt)))) }
 {
-    let fadt = tables.find_table::<FadtBrief>()?;
+    let fadt = tables.find_fadt()?;
     let timer = PmTimer::of(&fadt);
     let found = found_madt(tables)?;
     timer?;

@@ -15,7 +15,6 @@ use crate::opening::open;
 use crate::records::Source;
 use crate::refusal::Refusal;
 use crate::regions::Mapped;
-use acpi::fadt::Fadt;
 use acpi::madt::Madt;
 use acpi::platform::interrupt::{
     InterruptSourceOverride, IoApic, IsaInterrupt, Polarity, TriggerMode,
@@ -45,9 +44,9 @@ pub fn sci(source: &Source<'_>) -> Result<InterruptRecord, Refusal>
     let memory = Mapped::new(source.regions)?;
     let tables = open(&memory, source)?;
     let found = apic_madt(&tables)?;
-    let fadt = tables.find_table::<Fadt>()?;
+    let fadt = tables.find_fadt()?;
     match found {
-        Some(found) => Ok(interrupt_record(sci_in(&found.madt, fadt.sci_interrupt))),
+        Some(found) => Ok(interrupt_record(sci_in(&found.madt, fadt.sci_interrupt()))),
         None => Err(Refusal::NoApics),
     }
 }

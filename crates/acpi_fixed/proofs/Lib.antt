@@ -1,2 +1,1 @@
-pub mod FadtBrief
 pub mod ExtendedFields

@@ -3,20 +3,21 @@
 ghost use Rattle.std.specs.Prelude.{◌≡◌};
 ghost use Rattle.acpi_fixed.specs.Fadt.{profile_for};
 
-mod brief;
 mod extended;
 mod flags;
+mod places;
 mod reading;
 mod registers;
+mod view;
 
 use acpi_base::address::GenericAddress;
 use acpi_base::sdt::SdtHeader;
 use acpi_base::table::sum_refusal;
 use acpi_base::{AcpiError, AcpiResult, AcpiTable, PhysicalRecord, Signature};
-pub use brief::FadtBrief;
 pub use flags::{ArmBootArchFlags, FixedFeatureFlags, IaPcBootArchFlags};
 pub use registers::GpeBlock;
 use registers::{Registers, address_from, register_from};
+pub use view::FadtView;
 
 /// Preferred_PM_Profile: the machine's purpose (ACPI 6.4, section 5.2.9).
 #[derive(Clone, Copy, Debug, PartialEq, Eq)]

@@ -5,7 +5,6 @@ ghost use Rattle.std.specs.Hash.{isize};
 ghost use Rattle.std.specs.Ordering.{nat_cmp};
 ghost use Rattle.acpi_base.specs.Equality.{IsEquality};
 ghost use Rattle.acpi_fixed.specs.Bgrt.{rank_of};
-ghost use Rattle.acpi_fixed.specs.Brief.{BriefIsBrief};
 ghost use Rattle.acpi_fixed.specs.Fadt.{fadt_at, registers_of};
 ghost use Rattle.acpi_fixed.specs.Registers.{registers_at};
 
@@ -46,10 +45,4 @@ pub fn image_type_hash<H: Hasher>(form: &ImageType, state: &mut H)
 /// The registers in the record of a FADT are those that the table's bytes give.
 pub fn registers_are_the_tables(table: &[u8])
     ensures { registers_of (fadt_at table.now) ≡ registers_at table.now }
-{}
-
-/// A `FadtBrief` says of a table's bytes what the whole `Fadt` says: the address of the DSDT, the profile,
-/// the flags and the timer's block.
-pub fn a_brief_is_of_its_table()
-    ensures { BriefIsBrief }
 {}

@@ -1,9 +1,9 @@
 //! The Power Management Timer (section 4.8.3.3).
 ghost use Rattle.std.specs.Prelude.{◌≡◌};
 
-use acpi_base::AcpiResult;
 use acpi_base::address::GenericAddress;
-use acpi_fixed::fadt::{Fadt, FadtBrief, FixedFeatureFlags};
+use acpi_base::{AcpiResult, Lender};
+use acpi_fixed::fadt::{Fadt, FadtView, FixedFeatureFlags};
 
 /// The Power Management Timer (section 4.8.3.3), as the FADT describes it (section 5.2.9).
 #[derive(Clone, Copy, Debug, PartialEq, Eq)]
@@ -15,7 +15,7 @@ pub struct PmTimer {
 }
 
 impl PmTimer {
-    ghost use Rattle.acpi_fixed.specs.Brief.{brief_flags, brief_timer_block};
+    ghost use Rattle.acpi_fixed.specs.View.{viewed};
     ghost use Rattle.acpi.specs.Timer.{timer_from, timer_of};
 
     /// The Power Management Timer that a FADT describes (sections 4.8.3.3 and 5.2.9), or `None` if it has
@@ -28,11 +28,11 @@ impl PmTimer {
         PmTimer::from_block(fadt.pm_timer_block(), fadt.flags)
     }
 
-    /// The Power Management Timer that a FADT describes, by the part of it that a platform needs.
+    /// What `new` answers, of a FADT that is read where it lies.
     ///
-    /// Refuses with `InvalidGenericAddress` if the timer's block is refused.
-    pub fn of(fadt: &FadtBrief) -> AcpiResult<Option<PmTimer>>
-        ensures { result ≡ timer_from (brief_timer_block fadt.now) (brief_flags fadt.now) }
+    /// Refuses as `new` does.
+    pub fn of<H: Lender>(fadt: &FadtView<'_, H>) -> AcpiResult<Option<PmTimer>>
+        ensures { result ≡ timer_of (viewed fadt.now) }
     {
         PmTimer::from_block(fadt.pm_timer_block(), fadt.flags())
     }

@@ -10,7 +10,7 @@ use acpi_base::sdt::{SdtHeader, map_sdt};
 use acpi_base::{
     AcpiError, AcpiResult, AcpiTable, AddressRange, Lender, PhysicalMapping, Signature,
 };
-use acpi_fixed::fadt::Fadt;
+use acpi_fixed::fadt::FadtView;
 
 impl<'h, H: Lender> AcpiTables<'h, H> {
     ghost use Rattle.std.specs.Prelude.{◌≡◌, ◌^◌, ◌<◌, ◌≤◌, ◌+◌, List, Ok, IfOk, length, map};
@@ -19,6 +19,7 @@ impl<'h, H: Lender> AcpiTables<'h, H> {
     ghost use Rattle.acpi_base.specs.Ranges.{Allows};
     ghost use Rattle.acpi_base.specs.Steps.{Gives};
     ghost use Rattle.acpi_base.specs.Table.{plain_kind};
+    ghost use Rattle.acpi_fixed.specs.View.{viewed};
     ghost use Rattle.acpi.specs.Footprint.{AllowsBelow, FootprintBelow, header_ranges, lookup_ranges};
     ghost use Rattle.acpi.specs.Lookup.{lookup};
     ghost use Rattle.acpi.specs.Members.{kind_ranges, members_of, tables_found};
@@ -182,22 +183,17 @@ impl<'h, H: Lender> AcpiTables<'h, H> {
         ensures facs { result.1
             ≡ result_ok (of_tables self.now (led_by facs_place)) }
     {
-        // It is looked at where it lies, so that it isn't copied.
-        let found = self.find_table_exact::<Fadt>();
-        match &found {
-            Ok(table) => {
-                let fadt = table.get();
-                (self.dsdt_place(fadt).ok(), self.facs_place(fadt).ok())
-            }
+        match self.find_fadt_exact() {
+            Ok(fadt) => (self.dsdt_place(&fadt).ok(), self.facs_place(&fadt).ok()),
             Err(_) => (None, None),
         }
     }
 
     /// Where the DSDT lies that a FADT leads to, if it is valid.
     #[tactic(auto, unfolding(crate::specs::Places::dsdt_place))]
-    fn dsdt_place(&self, fadt: &Fadt) -> AcpiResult<AddressRange>
-        requires { Allows (may_of self.now) (dsdt_place_ranges (memory_of self.now) fadt.now) }
-        ensures { result ≡ dsdt_place (memory_of self.now) fadt.now }
+    fn dsdt_place(&self, fadt: &FadtView<'_, H>) -> AcpiResult<AddressRange>
+        requires { Allows (may_of self.now) (dsdt_place_ranges (memory_of self.now) (viewed fadt.now)) }
+        ensures { result ≡ dsdt_place (memory_of self.now) (viewed fadt.now) }
     {
         let address = fadt.dsdt_address()?;
         let dsdt = map_sdt(self.root.handler(), address, Signature::DSDT)?;
@@ -208,9 +204,9 @@ impl<'h, H: Lender> AcpiTables<'h, H> {
     }
 
     /// Where the FACS lies that a FADT leads to.
-    fn facs_place(&self, fadt: &Fadt) -> AcpiResult<AddressRange>
-        requires { Allows (may_of self.now) (facs_place_ranges (memory_of self.now) fadt.now) }
-        ensures { result ≡ facs_place (memory_of self.now) fadt.now }
+    fn facs_place(&self, fadt: &FadtView<'_, H>) -> AcpiResult<AddressRange>
+        requires { Allows (may_of self.now) (facs_place_ranges (memory_of self.now) (viewed fadt.now)) }
+        ensures { result ≡ facs_place (memory_of self.now) (viewed fadt.now) }
     {
         facs_at(self.root.handler(), fadt.facs_address()?)
     }

@@ -7,17 +7,18 @@ ghost use Rattle.acpi_base.specs.Bytes.{filled_part};
 ghost use Rattle.acpi_fixed.specs.Registers.{HasBlocks, extended_address, extended_bytes, extended_number, has_extended};
 
 use acpi_base::address::RawAddress;
-use acpi_base::bytes::{field, field_in};
+use acpi_base::bytes::field_in;
 
 /// Whether FADT Major Version, at 8, is 2 or above and the table has the `n` bytes at an offset.
 #[inline(always)]
 #[tactic(auto, using(crate::proofs::ExtendedFields::field_known))]
 fn is_extended(table: &[u8], offset: usize, n: usize, whole: bool) -> bool
+    requires table { 116 ≤ length table.now }
     requires offset { offset + n ≤ 276 }
     requires whole { (whole ≡ true) → HasBlocks table.now × (offset + n ≤ 244) }
     ensures { result ≡ has_extended table.now offset n }
 {
-    whole || (field(table, 8, 1) >= 2 && offset + n <= table.len())
+    whole || (field_in(table, 8, 1) >= 2 && offset + n <= table.len())
 }
 
 /// The twelve bytes of a generic address at an offset, all of which are there. They stand one by one, since
@@ -38,6 +39,7 @@ pub(super) fn address_in(table: &[u8], offset: usize) -> RawAddress
 /// these bytes.
 #[inline(always)]
 pub(super) fn extended_number_in(table: &[u8], offset: usize, whole: bool) -> u64
+    requires table { 116 ≤ length table.now }
     requires offset { offset + 8 ≤ 244 }
     requires whole { (whole ≡ true) → HasBlocks table.now }
     ensures { result ≡ extended_number table.now offset }
@@ -53,6 +55,7 @@ pub(super) fn extended_number_in(table: &[u8], offset: usize, whole: bool) -> u6
 /// have all of these bytes.
 #[inline(always)]
 pub(super) fn extended_bytes_in(table: &[u8], offset: usize, whole: bool) -> RawAddress
+    requires table { 116 ≤ length table.now }
     requires offset { offset + 12 ≤ 244 }
     requires whole { (whole ≡ true) → HasBlocks table.now }
     ensures { result ≡ extended_bytes table.now offset }
@@ -68,7 +71,8 @@ pub(super) fn extended_bytes_in(table: &[u8], offset: usize, whole: bool) -> Raw
 /// doesn't have all of these bytes.
 #[inline(always)]
 pub(super) fn extended_address_in(table: &[u8], offset: usize) -> Option<RawAddress>
-    requires { offset + 12 ≤ 276 }
+    requires table { 116 ≤ length table.now }
+    requires offset { offset + 12 ≤ 276 }
     ensures { result ≡ extended_address table.now offset }
 {
     if is_extended(table, offset, 12, false) {

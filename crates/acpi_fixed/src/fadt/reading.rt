@@ -5,7 +5,7 @@ ghost use Rattle.acpi_fixed.specs.Registers.{HasBlocks};
 
 use super::extended::extended_number_in;
 use super::registers::Registers;
-use super::{ArmBootArchFlags, Fadt, FixedFeatureFlags, IaPcBootArchFlags};
+use super::{ArmBootArchFlags, Fadt, FixedFeatureFlags, IaPcBootArchFlags, places};
 use acpi_base::PhysicalRecord;
 use acpi_base::bytes::{field, field_in, u8_in, u16_in, u32_in};
 use acpi_base::sdt::SdtHeader;
@@ -44,17 +44,17 @@ impl Fadt {
         let registers = Registers::read(bytes, WHOLE);
         Fadt {
             header: SdtHeader::read(bytes),
-            firmware_ctrl: u32_in(bytes, 36), // FIRMWARE_CTRL
-            dsdt_address: u32_in(bytes, 40), // DSDT
-            preferred_pm_profile: u8_in(bytes, 45), // Preferred_PM_Profile
-            sci_interrupt: u16_in(bytes, 46), // SCI_INT
-            smi_cmd_port: u32_in(bytes, 48), // SMI_CMD
-            acpi_enable: u8_in(bytes, 52), // ACPI_ENABLE
-            acpi_disable: u8_in(bytes, 53), // ACPI_DISABLE
+            firmware_ctrl: u32_in(bytes, places::FIRMWARE_CTRL),
+            dsdt_address: u32_in(bytes, places::DSDT),
+            preferred_pm_profile: u8_in(bytes, places::PREFERRED_PM_PROFILE),
+            sci_interrupt: u16_in(bytes, places::SCI_INT),
+            smi_cmd_port: u32_in(bytes, places::SMI_CMD),
+            acpi_enable: u8_in(bytes, places::ACPI_ENABLE),
+            acpi_disable: u8_in(bytes, places::ACPI_DISABLE),
             s4bios_req: u8_in(bytes, 54), // S4BIOS_REQ
             pstate_control: u8_in(bytes, 55), // PSTATE_CNT
             registers,
-            gpe1_base: u8_in(bytes, 94), // GPE1_BASE
+            gpe1_base: u8_in(bytes, places::GPE1_BASE),
             c_state_control: u8_in(bytes, 95), // CST_CNT
             worst_c2_latency: u16_in(bytes, 96), // P_LVL2_LAT
             worst_c3_latency: u16_in(bytes, 98), // P_LVL3_LAT
@@ -65,12 +65,12 @@ impl Fadt {
             day_alarm: u8_in(bytes, 106), // DAY_ALRM
             month_alarm: u8_in(bytes, 107), // MON_ALRM
             century: u8_in(bytes, 108), // CENTURY
-            iapc_boot_arch: IaPcBootArchFlags::new(u16_in(bytes, 109)), // IAPC_BOOT_ARCH
-            flags: FixedFeatureFlags::new(u32_in(bytes, 112)), // Flags (Fixed Feature Flags)
-            reset_value: field(bytes, 128, 1) as u8, // RESET_VALUE
-            arm_boot_arch: ArmBootArchFlags::new(field(bytes, 129, 2) as u16), // ARM_BOOT_ARCH
-            x_firmware_ctrl: extended_number_in(bytes, 132, WHOLE), // X_FIRMWARE_CTRL
-            x_dsdt_address: extended_number_in(bytes, 140, WHOLE), // X_DSDT
+            iapc_boot_arch: IaPcBootArchFlags::new(u16_in(bytes, places::IAPC_BOOT_ARCH)),
+            flags: FixedFeatureFlags::new(u32_in(bytes, places::FLAGS)),
+            reset_value: field(bytes, places::RESET_VALUE, 1) as u8,
+            arm_boot_arch: ArmBootArchFlags::new(field(bytes, places::ARM_BOOT_ARCH, 2) as u16),
+            x_firmware_ctrl: extended_number_in(bytes, places::X_FIRMWARE_CTRL, WHOLE),
+            x_dsdt_address: extended_number_in(bytes, places::X_DSDT, WHOLE),
         }
     }
 }

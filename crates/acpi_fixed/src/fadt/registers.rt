@@ -6,10 +6,12 @@ ghost use Rattle.acpi_fixed.specs.Registers.{HasBlocks, address_or, register_of}
 mod gpe;
 
 use super::extended::{address_in, extended_address_in, extended_bytes_in};
+use super::places;
 use acpi_base::address::{AccessSize, AddressSpace, GenericAddress, RawAddress};
 use acpi_base::bytes::{field_in, filled, filled_in};
 use acpi_base::{AcpiError, AcpiResult};
 pub use gpe::GpeBlock;
+pub(super) use gpe::base_beside;
 
 /// The 64-bit address if it is not 0, else the 32-bit one.
 ///
@@ -36,6 +38,14 @@ pub(crate) fn register_from(raw: Option<RawAddress>) -> AcpiResult<Option<Generi
     }
 }
 
+/// The offsets of a block's address, of its length and of its extended field in a table.
+#[derive(Clone, Copy)]
+pub(super) struct BlockPlace {
+    pub(super) address: usize,
+    pub(super) size: usize,
+    pub(super) extended: usize,
+}
+
 /// A block of registers: by the number of bytes and the first port that the first versions of the table
 /// have, and by its extended field, which is zeros if the table has none. It is bytes alone, so that no
 /// gaps lie between blocks.
@@ -50,28 +60,22 @@ impl RegisterBlock {
     ghost use Rattle.acpi_fixed.specs.Registers.{block_at, block_of, port_of, usable_extended};
     ghost use Rattle.acpi_fixed.specs.Registers.{optional_block_of, ports_at, timer_block_of};
 
-    /// The block whose address, length and extended field a table has at these offsets. The extended field
-    /// isn't tested for if the table is known to have all of them.
+    /// The block that a table has at a place. The extended field isn't tested for if the table is known to
+    /// have all of them.
     #[inline(always)]
     #[tactic(auto, unfolding(crate::specs::Registers::block_at))]
-    pub(super) fn read(
-        table: &[u8],
-        address: usize,
-        size: usize,
-        extended: usize,
-        whole: bool,
-    ) -> RegisterBlock
+    pub(super) fn read(table: &[u8], place: BlockPlace, whole: bool) -> RegisterBlock
         requires table { 116 ≤ length table.now }
-        requires address { address + 4 ≤ 116 }
-        requires size { size + 1 ≤ 116 }
-        requires extended { extended + 12 ≤ 244 }
+        requires address { place.address + 4 ≤ 116 }
+        requires size { place.size + 1 ≤ 116 }
+        requires extended { place.extended + 12 ≤ 244 }
         requires whole { (whole ≡ true) → HasBlocks table.now }
-        ensures { result ≡ block_at table.now address size extended }
+        ensures { result ≡ block_at table.now place.address place.size place.extended }
     {
         RegisterBlock {
-            size: field_in(table, size, 1) as u8,
-            port: filled_in(table, address),
-            extended: extended_bytes_in(table, extended, whole),
+            size: field_in(table, place.size, 1) as u8,
+            port: filled_in(table, place.address),
+            extended: extended_bytes_in(table, place.extended, whole),
         }
     }
 
@@ -171,8 +175,8 @@ pub(crate) struct Registers {
 impl Registers {
     ghost use Rattle.acpi_fixed.specs.Registers.{registers_at};
 
-    /// The registers that a table gives, each block by the offsets of its address, of its length and of its
-    /// extended field. The blocks aren't tested for if the table is known to have all of them.
+    /// The registers that a table gives. The blocks aren't tested for if the table is known to have all of
+    /// them.
     #[inline(always)]
     pub(super) fn read(table: &[u8], whole: bool) -> Registers
         requires table { 116 ≤ length table.now }
@@ -180,22 +184,22 @@ impl Registers {
         ensures { result ≡ registers_at table.now }
     {
         let reset = if whole {
-            address_in(table, 116)
+            address_in(table, places::RESET_REG)
         } else {
-            filled(table, 116)
-        }; // RESET_REG
+            filled(table, places::RESET_REG)
+        };
         Registers {
-            pm1a_event: RegisterBlock::read(table, 56, 88, 148, whole), // PM1a_EVT_BLK, PM1_EVT_LEN, X_PM1a_EVT_BLK
-            pm1b_event: RegisterBlock::read(table, 60, 88, 160, whole), // PM1b_EVT_BLK, PM1_EVT_LEN, X_PM1b_EVT_BLK
-            pm1a_control: RegisterBlock::read(table, 64, 89, 172, whole), // PM1a_CNT_BLK, PM1_CNT_LEN, X_PM1a_CNT_BLK
-            pm1b_control: RegisterBlock::read(table, 68, 89, 184, whole), // PM1b_CNT_BLK, PM1_CNT_LEN, X_PM1b_CNT_BLK
-            pm2_control: RegisterBlock::read(table, 72, 90, 196, whole), // PM2_CNT_BLK, PM2_CNT_LEN, X_PM2_CNT_BLK
-            pm_timer: RegisterBlock::read(table, 76, 91, 208, whole), // PM_TMR_BLK, PM_TMR_LEN, X_PM_TMR_BLK
-            gpe0: RegisterBlock::read(table, 80, 92, 220, whole), // GPE0_BLK, GPE0_BLK_LEN, X_GPE0_BLK
-            gpe1: RegisterBlock::read(table, 84, 93, 232, whole), // GPE1_BLK, GPE1_BLK_LEN, X_GPE1_BLK
+            pm1a_event: RegisterBlock::read(table, places::PM1A_EVENT, whole),
+            pm1b_event: RegisterBlock::read(table, places::PM1B_EVENT, whole),
+            pm1a_control: RegisterBlock::read(table, places::PM1A_CONTROL, whole),
+            pm1b_control: RegisterBlock::read(table, places::PM1B_CONTROL, whole),
+            pm2_control: RegisterBlock::read(table, places::PM2_CONTROL, whole),
+            pm_timer: RegisterBlock::read(table, places::PM_TIMER, whole),
+            gpe0: RegisterBlock::read(table, places::GPE0, whole),
+            gpe1: RegisterBlock::read(table, places::GPE1, whole),
             reset,
-            sleep_control: extended_address_in(table, 244), // SLEEP_CONTROL_REG
-            sleep_status: extended_address_in(table, 256), // SLEEP_STATUS_REG
+            sleep_control: extended_address_in(table, places::SLEEP_CONTROL_REG),
+            sleep_status: extended_address_in(table, places::SLEEP_STATUS_REG),
         }
     }
 }

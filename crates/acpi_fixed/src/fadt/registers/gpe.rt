@@ -1,6 +1,6 @@
 //! The blocks of registers of general purpose events, by their length in bytes (section 4.8.4.1).
 ghost use Rattle.std.specs.Prelude.{◌≡◌};
-ghost use Rattle.acpi_fixed.specs.Gpe.{block_from, gpe_of};
+ghost use Rattle.acpi_fixed.specs.Gpe.{base_beside, block_from, gpe_of};
 
 use super::RegisterBlock;
 use crate::fadt::Fadt;
@@ -32,11 +32,21 @@ fn block_from(raw: &RawAddress, byte_length: u8) -> AcpiResult<GpeBlock>
     })
 }
 
+/// The number of the first event of a block, if there is one.
+pub(crate) fn base_beside(base: u8, block: AcpiResult<Option<GpeBlock>>) -> Option<u8>
+    ensures { result ≡ base_beside base block }
+{
+    match block {
+        Ok(Some(_)) => Some(base),
+        Ok(None) | Err(_) => None,
+    }
+}
+
 impl RegisterBlock {
     /// The block by its length in bytes, or `None` if that is 0 or neither field gives an address.
     ///
     /// Refuses a reserved space of the extended field with `InvalidGenericAddress`.
-    fn gpe(&self) -> AcpiResult<Option<GpeBlock>>
+    pub(crate) fn gpe(&self) -> AcpiResult<Option<GpeBlock>>
         ensures { result ≡ gpe_of self.now }
     {
         if self.size == 0 {
@@ -90,9 +100,6 @@ impl Fadt {
     pub fn gpe1_base(&self) -> Option<u8>
         ensures { result ≡ gpe1_base_of self.now }
     {
-        match self.gpe1() {
-            Ok(Some(_)) => Some(self.gpe1_base),
-            Ok(None) | Err(_) => None,
-        }
+        base_beside(self.gpe1_base, self.gpe1())
     }
 }

@@ -2,12 +2,12 @@ use Rattle.acpi.proofs.Asked.{asked_model, asked_profile}
 use Rattle.acpi.specs.Tables.{may_of, memory_of, pointers_of}
 use Rattle.acpi.proofs.platform.PlatformInfo.new_in_exact.Goals as goal
 
-pub find_table_exact-found-requires : goal.find_table_exact-found-requires
-find_table_exact-found-requires g c =
+pub find_fadt_exact-requires : goal.find_fadt_exact-requires
+find_fadt_exact-requires g c =
     let t = c.args.tables.now in
     asked_profile (may_of t) (memory_of t) (pointers_of t) c.requires
 
 pub beside-requires : goal.beside-requires
 beside-requires g c =
     let t = c.args.tables.now in
-    asked_model (may_of t) (memory_of t) (pointers_of t) _ c.requires (rw c.in-Ok.is at c.find_table_exact-found.ensures.found)
+    asked_model (may_of t) (memory_of t) (pointers_of t) _ c.requires c.in_ok-fadt.ensures.found

@@ -2,17 +2,17 @@ use Rattle.acpi.proofs.Placing.{asked_dsdt_place, asked_facs_place, asked_led_fa
 use Rattle.acpi.specs.Tables.{may_of, memory_of, pointers_of}
 use Rattle.acpi.proofs.tables.AcpiTables.led.Goals as goal
 
-pub find_table_exact-found-requires : goal.find_table_exact-found-requires
-find_table_exact-found-requires g c =
+pub find_fadt_exact-requires : goal.find_fadt_exact-requires
+find_fadt_exact-requires g c =
     let t = c.args.self.now in
     asked_led_fadt (may_of t) (memory_of t) (pointers_of t) c.requires
 
 pub dsdt_place-requires : goal.dsdt_place-requires
 dsdt_place-requires g c =
     let t = c.args.self.now in
-    rw c.get-fadt.ensures (asked_dsdt_place (may_of t) (memory_of t) (pointers_of t) _ c.requires (rw c.in-Ok.is at c.find_table_exact-found.ensures.found))
+    asked_dsdt_place (may_of t) (memory_of t) (pointers_of t) _ c.requires c.in-Ok.ensures.found
 
 pub facs_place-requires : goal.facs_place-requires
 facs_place-requires g c =
     let t = c.args.self.now in
-    rw c.get-fadt.ensures (asked_facs_place (may_of t) (memory_of t) (pointers_of t) _ c.requires (rw c.in-Ok.is at c.find_table_exact-found.ensures.found))
+    asked_facs_place (may_of t) (memory_of t) (pointers_of t) _ c.requires c.in-Ok.ensures.found
