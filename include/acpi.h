@@ -481,6 +481,21 @@ acpi_status acpi_sci_interrupt(const struct acpi_source *source, struct acpi_int
 acpi_status acpi_io_apic_pin(const struct acpi_source *source, uint32_t global_system_interrupt, struct acpi_pin *out,
                              struct acpi_signature *named);
 
+struct acpi_isa_route {
+    struct acpi_interrupt interrupt; /* what acpi_isa_interrupt answers, or zeros */
+    struct acpi_pin pin;             /* what acpi_io_apic_pin answers for it, or zeros */
+    uint8_t present;                 /* 0: acpi_isa_interrupt refuses it with ACPI_NO_SUCH_INTERRUPT */
+    uint8_t has_pin;                 /* 0: it isn't present, or acpi_io_apic_pin refuses it with ACPI_NO_SUCH_IO_APIC */
+};
+struct acpi_isa_interrupts {
+    struct acpi_isa_route routes[16]; /* item n is irq n */
+};
+
+/* All 16 ISA interrupts at once, each with its pin (sections 5.2.12.3 and 5.2.12.5). Refuses then as
+ * acpi_interrupt_model does, and with ACPI_NO_APICS if the model isn't known. */
+acpi_status acpi_list_isa_interrupts(const struct acpi_source *source, struct acpi_isa_interrupts *out,
+                                     struct acpi_signature *named);
+
 /* ---- Arm: the generic interrupt controller (MADT, section 5.2.12) ---------------------------------- */
 
 /* A polarity is 1 active high or 3 active low, and a trigger 1 edge or 3 level, as in enum acpi_polarity and

@@ -57,8 +57,11 @@ inside && /^    pub [a-z_0-9]+: / {
         place(8, 8); has_field(field == "bytes" ? "length" : field "_length", begin, 8)
         next
     }
-    if (match(type, /^\[u8; [0-9]+/)) place(substr(type, 6, RLENGTH - 5) + 0, 1)
-    else if (type in size_of) place(size_of[type], align_of[type])
+    if (match(type, /^\[[A-Za-z0-9]+; [0-9]+/)) {
+        split(substr(type, 2, RLENGTH - 1), items, "; ")
+        if (!(items[1] in size_of)) fail("no layout is known of " items[1])
+        place(size_of[items[1]] * items[2], align_of[items[1]])
+    } else if (type in size_of) place(size_of[type], align_of[type])
     else fail("no layout is known of " type)
     has_field(field, begin, at - begin)
 }

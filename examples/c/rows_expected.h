@@ -20,6 +20,11 @@
     GOOD(fixed_hardware, machine, NULL, NO, 1, facs, dsdt, 0, 1, 0, 0, 0, 1, ABSENT, 0, 1, 0, 0, 0, 1, ABSENT, \
          ABSENT, ABSENT, ABSENT, ABSENT, 0, 0, 0, 0, 0, 1, ABSENT, ABSENT, 0, 0, 0, 0, 0, 0, 0, 0, \
          0, 0, 0, 0, 0, 0, 0, 0, 0, profile, 0, 0, 0, 0, 0, 0, 0, 0, 0, 0, 0, 0)
+/* An ISA interrupt that is active high and by edge: at PC's first I/O APIC, whose base is 0, and at none, since the
+ * base of DESKTOP's is 48. */
+#define PINNED(number) number, ACPI_POLARITY_HIGH, ACPI_TRIGGER_EDGE, 0xfec00000, 0, 2, number, 1, 1
+#define UNPINNED(number) number, ACPI_POLARITY_HIGH, ACPI_TRIGGER_EDGE, 0, 0, 0, 0, 1, 0
+#define NO_ROUTE 0, 0, 0, 0, 0, 0, 0, 0, 0
 /* The first of two tables is a byte too short. */
 #define LEAST_OF(letters, short_one) \
     GOOD(list_faults, LEAST, letters, NO, 1, AT(short_one), ACPI_SDT_INVALID_LENGTH)
@@ -217,6 +222,15 @@ static const struct row rows[] = {
     REFUSED(isa_interrupt, PC, NULL, A(2), ACPI_NO_SUCH_INTERRUPT, NULL), /* 2 is taken by interrupt 0 */
     REFUSED(isa_interrupt, PC, NULL, A(16), ACPI_NO_SUCH_INTERRUPT, NULL),
     GOOD(io_apic_pin, PC, NULL, A(30), 1, 0xfec01000, 24, 3, 6),
+    GOOD(list_isa_interrupts, PC, NULL, NO, 16, PINNED(2), PINNED(1), NO_ROUTE, PINNED(3), PINNED(4), PINNED(5),
+         PINNED(6), PINNED(7), PINNED(8), PINNED(20), PINNED(10), PINNED(11), PINNED(12), PINNED(13), PINNED(14),
+         PINNED(15)),
+    GOOD(list_isa_interrupts, DESKTOP, NULL, NO, 16, UNPINNED(0), UNPINNED(1), UNPINNED(2), UNPINNED(3), UNPINNED(4),
+         37, ACPI_POLARITY_LOW, ACPI_TRIGGER_LEVEL, 0, 0, 0, 0, 1, 0, UNPINNED(6), UNPINNED(7), UNPINNED(8),
+         UNPINNED(9), UNPINNED(10), UNPINNED(11), UNPINNED(38), UNPINNED(13), UNPINNED(14), UNPINNED(15)),
+    REFUSED(list_isa_interrupts, HOLES, NULL, NO, ACPI_NO_APICS, NULL),
+    REFUSED(list_isa_interrupts, SERVER, NULL, NO, ACPI_MADT_UNEXPECTED_ENTRY, NULL),
+    REFUSED(list_isa_interrupts, EMPTY, NULL, NO, ACPI_TABLE_MISSING, "FACP"),
 
     GOOD(gic_distributor, ARM, NULL, NO, 1, 0x2f000000, 7, 5, 3),
     GOOD(list_gic_cpu_interfaces, ARM, NULL, NO, 2,

@@ -107,13 +107,14 @@ static void places(const struct acpi_source *source) {
 /* How the 16 ISA interrupts come to the I/O APICs. */
 static void pins(const struct acpi_source *source) {
     struct acpi_signature named = {{0}};
-    for (uint8_t irq = 0; irq < 16; irq++) {
-        struct acpi_interrupt interrupt = {0};
-        struct acpi_pin pin = {0};
-        if (acpi_isa_interrupt(source, irq, &interrupt, &named)) continue;
-        named_number("isa ", irq), named_number(" gsi ", interrupt.global_system_interrupt);
-        if (!acpi_io_apic_pin(source, interrupt.global_system_interrupt, &pin, &named))
-            named_number(" ioapic ", pin.io_apic.id), named_number(" pin ", pin.pin);
+    struct acpi_isa_interrupts isa;
+    if (acpi_list_isa_interrupts(source, &isa, &named)) return;
+    for (size_t irq = 0; irq < 16; irq++) {
+        const struct acpi_isa_route *route = isa.routes + irq;
+        if (!route->present) continue;
+        named_number("isa ", irq), named_number(" gsi ", route->interrupt.global_system_interrupt);
+        if (route->has_pin)
+            named_number(" ioapic ", route->pin.io_apic.id), named_number(" pin ", route->pin.pin);
         line();
     }
 }

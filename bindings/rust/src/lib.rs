@@ -25,8 +25,8 @@ pub use error::{AcpiError, AcpiResult, MadtError};
 pub use records::{
     AmlTable, ArmTimer, ArmTimers, BootGraphic, Console, EcamRange, Fault, FixedHardware, GenericAddress,
     GicCpuInterface, GicDistributor, GicMsiFrame, GicTranslationService, GpeBlock, GtFrame, HpetInfo, Interrupt,
-    InterruptModel, InterruptSourceOverride, IoApic, IoApicPin, Localities, MemoryAffinity, NmiLine, NmiSource,
-    PciRegion, PmTimer, Processor, Range, Region, Register, Root, Signature, Table, Watchdog,
+    InterruptModel, InterruptSourceOverride, IoApic, IoApicPin, IsaInterrupts, IsaRoute, Localities, MemoryAffinity,
+    NmiLine, NmiSource, PciRegion, PmTimer, Processor, Range, Region, Register, Root, Signature, Table, Watchdog,
 };
 use core::marker::PhantomData;
 use records::Source;
@@ -260,6 +260,9 @@ impl<'k> AcpiTables<'k> {
         /// The I/O APIC that a global system interrupt comes to, and the pin there (section 5.2.13). Refuses as
         /// `interrupt_model` does, and with `NoApics` and `NoSuchIoApic`.
         io_apic_for = acpi_io_apic_pin(global_system_interrupt: u32) -> IoApicPin;
+        /// All 16 ISA interrupts, each with its pin: item N is what `isa_interrupt` and `io_apic_for` answer for N.
+        /// Refuses as `interrupt_model` does, and with `NoApics`.
+        isa_interrupts = acpi_list_isa_interrupts() -> IsaInterrupts;
         /// The distributor of the machine's GIC (section 5.2.12.15). Refuses with `TableMissing`, `InvalidMadt` and
         /// `NoGic`.
         gic_distributor = acpi_gic_distributor() -> GicDistributor;

@@ -27,6 +27,7 @@ calls! {
     one acpi_isa_interrupt(irq: u8) -> Interrupt;
     one acpi_sci_interrupt() -> Interrupt;
     one acpi_io_apic_pin(global_system_interrupt: u32) -> IoApicPin;
+    one acpi_list_isa_interrupts() -> IsaInterrupts;
     one acpi_gic_distributor() -> GicDistributor;
     one acpi_arm_timers() -> ArmTimers;
     one acpi_domain_of_address(address: u64) -> u32;

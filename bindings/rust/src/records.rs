@@ -159,6 +159,10 @@ records! {
     Interrupt { global_system_interrupt: u32, polarity: u8, trigger: u8, }
     /// A pin of an I/O APIC, counted from 0 (sections 5.2.12.3 and 5.2.13).
     IoApicPin { io_apic: IoApic, pin: u32, }
+    /// How an ISA interrupt comes to the I/O APICs: the interrupt, if `present` is 1, and its pin, if `has_pin` is 1.
+    IsaRoute { interrupt: Interrupt, pin: IoApicPin, present: u8, has_pin: u8, }
+    /// The 16 ISA interrupts: item N is interrupt N.
+    IsaInterrupts { routes: [IsaRoute; 16], }
     /// The distributor of a GIC (GICD, section 5.2.12.15). Its version: 1 to 4; 0: the hardware tells.
     GicDistributor { address: u64, id: u32, system_vector_base: u32, version: u8, }
     /// A processor and its interface to the GIC (GICC, section 5.2.12.14). For each address and interrupt 0 stands for

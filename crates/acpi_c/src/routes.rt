@@ -1,9 +1,11 @@
 //! How interrupts come to the I/O APICs.
 ghost use Rattle.acpi_c_lib.specs.Answers.{Answers};
+ghost use Rattle.acpi_c_lib.specs.IsaList.{isa_list_below};
 ghost use Rattle.acpi_c_lib.specs.Routes.{isa_below, pin_below, sci_below};
 
 use acpi_c_lib::answer::answer;
-use acpi_c_lib::interrupt_records::{InterruptRecord, PinRecord};
+use acpi_c_lib::interrupt_records::{InterruptRecord, IsaInterrupts, PinRecord};
+use acpi_c_lib::isa_list::isa_list;
 use acpi_c_lib::records::{Name, Source};
 use acpi_c_lib::routes::{isa, pin, sci};
 
@@ -56,4 +58,19 @@ pub extern "C" fn acpi_io_apic_pin(
     ensures { Answers result out.old out.new named.old named.new (pin_below source.now interrupt) }
 {
     answer(pin(source, interrupt), out, named)
+}
+
+/// The 16 ISA interrupts, each as `acpi_isa_interrupt` answers it, with what `acpi_io_apic_pin` answers for it.
+///
+/// Refuses as `acpi_interrupt_model` does, and then with `ACPI_NO_APICS` if no valid MADT has an entry of a machine
+/// with APICs.
+#[unsafe(no_mangle)]
+pub extern "C" fn acpi_list_isa_interrupts(
+    source: &Source<'_>,
+    out: &mut IsaInterrupts,
+    named: &mut Name,
+) -> u32
+    ensures { Answers result out.old out.new named.old named.new (isa_list_below source.now) }
+{
+    answer(isa_list(source), out, named)
 }

@@ -3,6 +3,7 @@ pub mod BootProcessor
 pub mod Clipping
 pub mod CountedList
 pub mod Filling
+pub mod IsaList
 pub mod Listing
 pub mod Lying
 pub mod Names

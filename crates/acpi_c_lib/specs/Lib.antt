@@ -10,6 +10,7 @@ pub mod Ecam
 pub mod Faults
 pub mod Fixed
 pub mod Held
+pub mod IsaList
 pub mod Missing
 pub mod Model
 pub mod Numa

@@ -111,3 +111,26 @@ pub struct PinRecord {
     /// The number of its pin, from 0 on: the interrupt less Global System Interrupt Base.
     pub pin: u32,
 }
+
+/// How one of the ISA interrupts comes to the I/O APICs (sections 5.2.12.3 and 5.2.12.5). C sees
+/// `struct acpi_isa_route`.
+#[repr(C)]
+#[derive(Clone, Copy)]
+pub struct IsaRoute {
+    /// The interrupt, or zeros.
+    pub interrupt: InterruptRecord,
+    /// The pin that it comes to, or zeros.
+    pub pin: PinRecord,
+    /// Whether there is such an interrupt: it has an override, or no other one's override has taken its number.
+    pub present: u8,
+    /// Whether it comes to an I/O APIC: not each base is above it.
+    pub has_pin: u8,
+}
+
+/// The 16 ISA interrupts. C sees `struct acpi_isa_interrupts`.
+#[repr(C)]
+#[derive(Clone, Copy)]
+pub struct IsaInterrupts {
+    /// Of each, by its number, how it comes to the I/O APICs.
+    pub routes: [IsaRoute; 16],
+}

@@ -1,4 +1,5 @@
 //! Laws of the definitions, each the contract of a call that does nothing.
+ghost use Rattle.acpi_c_lib.specs.IsaList.{ItemsAreAnswers};
 ghost use Rattle.acpi_c_lib.specs.Missing.{MembersHaveHoles, OpeningHasHole};
 
 /// Each member of the root table that is refused with `MapFailed` has a range among those that
@@ -11,4 +12,10 @@ pub fn members_refused_have_ranges()
 /// lies in no one region.
 pub fn a_refused_opening_has_a_range()
     ensures { OpeningHasHole }
+{}
+
+/// Each item of `acpi_list_isa_interrupts` is what `acpi_isa_interrupt` answers for its number, and
+/// `acpi_io_apic_pin` for the global system interrupt of that.
+pub fn items_are_answers()
+    ensures { ItemsAreAnswers }
 {}

@@ -20,6 +20,7 @@ pub mod gic;
 mod interrupt_codes;
 pub mod interrupt_records;
 pub mod interrupts;
+pub mod isa_list;
 pub mod laws;
 pub mod missing;
 pub mod numa;

@@ -11,6 +11,7 @@ ghost use Rattle.acpi_c_lib.specs.Routes.{is_nearer, isa_below, pin_below, sci_b
 use crate::interrupt_codes::{io_apic_record, polarity_code, trigger_code};
 use crate::interrupt_records::{InterruptRecord, PinRecord};
 use crate::interrupts::apic_madt;
+use crate::isa_list::overrides_in;
 use crate::opening::open;
 use crate::records::Source;
 use crate::refusal::Refusal;
@@ -20,7 +21,7 @@ use acpi::platform::interrupt::{
     InterruptSourceOverride, IoApic, IsaInterrupt, Polarity, TriggerMode,
 };
 use acpi::{Lender, PhysicalMapping};
-use acpi_base::model::{IsaOverrides, MadtItem, straight, wired};
+use acpi_base::model::{MadtItem, straight, wired};
 
 /// The global system interrupt of one of the 16 ISA interrupts.
 pub fn isa(source: &Source<'_>, irq: u8) -> Result<InterruptRecord, Refusal>
@@ -69,7 +70,7 @@ pub fn pin(source: &Source<'_>, interrupt: u32) -> Result<PinRecord, Refusal>
     }
 }
 
-fn interrupt_record(interrupt: IsaInterrupt) -> InterruptRecord
+pub(crate) fn interrupt_record(interrupt: IsaInterrupt) -> InterruptRecord
     ensures { result ≡ routes.interrupt_record interrupt }
 {
     InterruptRecord {
@@ -83,13 +84,7 @@ fn interrupt_record(interrupt: IsaInterrupt) -> InterruptRecord
 fn isa_in<H: Lender>(madt: &PhysicalMapping<'_, H, Madt>, irq: u8) -> Option<IsaInterrupt>
     ensures { result ≡ isa_interrupt (filter_map override_in (items_of (bytes_of madt.now))) irq }
 {
-    let mut gathered = IsaOverrides::new(irq);
-    for item in madt.items() {
-        if let MadtItem::Override(wiring) = item {
-            gathered.add(&wiring);
-        }
-    }
-    gathered.isa_interrupt()
+    overrides_in(madt).isa_interrupt(irq)
 }
 
 /// What `Apic::sci_interrupt` answers, out of the entries.

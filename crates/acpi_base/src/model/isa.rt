@@ -70,11 +70,11 @@ impl<A: Allocator> Apic<A> {
 fn isa_interrupt(overrides: &[InterruptSourceOverride], irq: u8) -> Option<IsaInterrupt>
     ensures { result ≡ isa_interrupt overrides.now irq }
 {
-    let mut gathered = IsaOverrides::new(irq);
+    let mut gathered = IsaOverrides::new();
     for wiring in overrides {
         gathered.add(wiring);
     }
-    gathered.isa_interrupt()
+    gathered.isa_interrupt(irq)
 }
 
 /// The override of a source that counts: the last one.

@@ -4,4 +4,4 @@ use Rattle.acpi_base.proofs.model.isa.isa_interrupt.Given as goal
 
 -- those before the next one are gathered
 abbrev pub invariant-loop-wiring : goal.invariant-loop-wiring
-invariant-loop-wiring l = IsGathered l.irq (take l.wiring-index l.overrides) l.gathered
+invariant-loop-wiring l = IsGathered (take l.wiring-index l.overrides) l.gathered

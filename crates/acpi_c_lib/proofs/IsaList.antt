@@ -1,0 +1,164 @@
+-- The ISA interrupts' pins, found by one walk along the I/O APICs.
+use Rattle.std.proofs.Common.{◌≡◌, ℕ, ◌+◌, ◌<◌, ◌≤◌, ◌⊎◌, inl, inr, Bool, true, false, List, [], ◌∷◌, length, get_or, set, get_or-set_same, get_or-set_other, arith, map, drop, refl, sym, subst, ◌∙◌, ap, Option, Some, None, Result, Ok, Err}
+use Rattle.std.specs.Prelude.{◌==◌}
+use Rattle.std.specs.List.{filter_map}
+use Rattle.std.proofs.lemmas.Bool.Decides.{nat_tests}
+use Rattle.std.proofs.lemmas.List.FromFn.{fill_by_all, get_or-map-range_with_len}
+use Rattle.acpi_base.specs.Pin.{io_apic_for, nearest}
+use Rattle.acpi_base.specs.declared.model.interrupt.IoApic.{IoApic}
+use Rattle.acpi_base.specs.declared.model.isa.IsaInterrupt.{IsaInterrupt}
+use Rattle.acpi_base.specs.declared.model.item.MadtItem.{MadtItem}
+use Rattle.acpi_base.specs.declared.model.item.MadtItem.TheVariants as items
+use Rattle.acpi_base.proofs.Pin.{kept, one_nearer, or_nearer}
+use Rattle.acpi_base.specs.Memory.{Memory}
+use Rattle.acpi_base.specs.Model.{io_apic_in}
+use Rattle.acpi_base.specs.Steps.{◌>>=◌}
+use Rattle.acpi_base.specs.declared.error.AcpiError.{AcpiError}
+use Rattle.acpi_base.specs.declared.model.interrupt.InterruptModel.TheVariants as model
+use Rattle.acpi.specs.Opened.{Opened}
+use Rattle.acpi.specs.Root.{pointers, width_of}
+use Rattle.acpi_c_lib.specs.Below.{named, opened_in, refused_as}
+use Rattle.acpi_c_lib.specs.IsaList.{ItemsAreAnswers, isa_list_of, isa_numbers, isa_route, nearer_of, no_route, number_of, route_by, route_of}
+use Rattle.acpi_c_lib.specs.Model.{Platform, below_platform, platform_model}
+use Rattle.acpi_c_lib.specs.Regions.{memory_in}
+use Rattle.acpi_c_lib.specs.Routes.{interrupt_or, isa_of, joined, pin_below, pin_of, pin_or}
+use Rattle.acpi_c_lib.specs.declared.interrupt_records.InterruptRecord.{InterruptRecord}
+use Rattle.acpi_c_lib.specs.declared.interrupt_records.IsaInterrupts.{IsaInterrupts}
+use Rattle.acpi_c_lib.specs.declared.interrupt_records.PinRecord.{PinRecord}
+use Rattle.acpi_c_lib.specs.declared.records.Source.{Source}
+use Rattle.acpi_c_lib.specs.declared.refusal.Refusal.{Refusal}
+use Rattle.acpi_c_lib.specs.declared.interrupt_records.IsaRoute.{IsaRoute}
+
+-- ---- a loop over the numbers
+
+-- one thing holds of the routes below a number, and another from there on
+abbrev pub Turned : (ℕ → IsaRoute → Type 0) → (ℕ → IsaRoute → Type 0) → ℕ → List IsaRoute → Type 0
+Turned Below From irq routes =
+    ((n : ℕ) → n < irq → Below n (get_or routes n no_route)) × ((n : ℕ) → irq ≤ n → From n (get_or routes n no_route))
+
+module _ (Below From : ℕ → IsaRoute → Type 0) (irq : ℕ) (routes : List IsaRoute) (turned : Turned Below From irq routes) where
+  at_or_below : (n : ℕ) (here : Bool) → (n == irq) ≡ here → n < irq + 1 → (n ≡ irq) ⊎ (n < irq)
+  at_or_below n true is small = inl (grind (arith, nat_tests))
+  at_or_below n false is small = inr (grind (arith, nat_tests))
+
+  pub turned_more : (new : IsaRoute) → irq < length routes → Below irq new → Turned Below From (irq + 1) (set routes irq new)
+  turned_more new fits is = (
+    λ n small. elim (at_or_below n (n == irq) refl small) [
+      | inl here ↦ subst (λ n. Below n (get_or (set routes irq new) n no_route)) (sym here) (subst (Below irq) (sym (get_or-set_same routes irq new no_route fits)) is)
+      | inr below ↦ subst (Below n) (sym (get_or-set_other routes irq n new no_route (λ e. omega arith))) (turned.0 n below)
+    ],
+    λ n large. subst (From n) (sym (get_or-set_other routes irq n new no_route (λ e. omega arith))) (turned.1 n (omega arith)),
+  )
+
+  pub turned_kept : Below irq (get_or routes irq no_route) → Turned Below From (irq + 1) routes
+  turned_kept is = (
+    λ n small. elim (at_or_below n (n == irq) refl small) [
+      | inl here ↦ subst (λ n. Below n (get_or routes n no_route)) (sym here) is
+      | inr below ↦ turned.0 n below
+    ],
+    λ n large. turned.1 n (omega arith),
+  )
+
+-- ---- a walk along the I/O APICs
+
+-- each interrupt has the nearest of the I/O APICs so far, which with those that are left are all
+abbrev pub Routed : (ℕ → Option IsaInterrupt) → List IsaRoute → List IoApic → List IoApic → Type 0
+Routed isa routes left all =
+    (irq : ℕ) → irq < 16 → (found : Option IoApic)
+    × (get_or routes irq no_route ≡ route_of (isa irq) found)
+    × (or_nearer found (nearest (number_of (isa irq)) left) ≡ nearest (number_of (isa irq)) all)
+
+-- what one I/O APIC changes of a route
+abbrev pub MeetsAt : IoApic → IsaRoute → IsaRoute → Type 0
+MeetsAt x before after =
+    (interrupt : Option IsaInterrupt) (found : Option IoApic) → before ≡ route_of interrupt found
+    → after ≡ route_of interrupt (nearer_of (number_of interrupt) found x)
+
+same_nearer : (n : ℕ) (found : Option IoApic) (x : IoApic) → nearer_of n found x ≡ kept n found x
+same_nearer n None x = refl
+same_nearer n (Some y) x = refl
+
+pub none_met : (isa : ℕ → Option IsaInterrupt) (routes : List IsaRoute) (all : List IoApic) → ((irq : ℕ) → irq < 16 → get_or routes irq no_route ≡ route_of (isa irq) None)
+    → Routed isa routes all all
+none_met isa routes all is = λ irq small. (None, is irq small, refl)
+
+pub one_met : (isa : ℕ → Option IsaInterrupt) (before after : List IsaRoute) (x : IoApic) (left all : List IoApic) → ((irq : ℕ) → irq < 16 → MeetsAt x (get_or before irq no_route) (get_or after irq no_route))
+    → Routed isa before (x ∷ left) all
+    → Routed isa after left all
+one_met isa before after x left all meets routed = λ irq small.
+    let so_far = routed irq small in
+    let n = number_of (isa irq) in
+    (nearer_of n so_far.0 x, meets irq small (isa irq) so_far.0 so_far.1, ap (λ o. or_nearer o (nearest n left)) (same_nearer n so_far.0 x) ∙ one_nearer n so_far.0 x (nearest n left) ∙ so_far.2)
+
+-- other items change nothing
+pub none_more : (item : MadtItem) (left : List MadtItem) → ((x : IoApic) → item ≡ items.IoApic x → ⊥) → filter_map io_apic_in (item ∷ left) ≡ filter_map io_apic_in left
+none_more (items.IoApic x) left other = absurd (other x refl)
+none_more (items.Processor uid id enabled) left other = refl
+none_more (items.Override x) left other = refl
+none_more (items.NmiSource x) left other = refl
+none_more (items.NmiLine x) left other = refl
+none_more (items.LocalApicAddress x) left other = refl
+none_more items.Wakeup left other = refl
+
+found_last : (found : Option IoApic) → or_nearer found None ≡ found
+found_last None = refl
+found_last (Some x) = refl
+
+-- after the last one, each is what is answered for its number
+pub all_met : (isa : ℕ → Option IsaInterrupt) (answer : ℕ → IsaRoute) (routes : List IsaRoute) (all : List IoApic) → length routes ≡ 16
+    → ((irq : ℕ) → route_of (isa irq) (nearest (number_of (isa irq)) all) ≡ answer irq) → Routed isa routes [] all → routes ≡ map answer isa_numbers
+unfolding isa_numbers
+all_met isa answer routes all long same routed =
+    fill_by_all answer routes 16 no_route long (λ irq small.
+    let end = routed irq small in
+    end.1 ∙ ap (route_of (isa irq)) (sym (found_last end.0) ∙ end.2) ∙ same irq)
+
+-- what is found for an interrupt is what is answered for it
+pub same_answer : (io_apics : List IoApic) (o : Option IsaInterrupt) → route_of o (nearest (number_of o) io_apics) ≡ route_by (λ n. pin_or (io_apic_for io_apics n)) (interrupt_or o)
+same_answer io_apics (Some i) = refl
+same_answer io_apics None = refl
+
+-- ---- the law
+
+-- what is shown of the platform is shown of what it is, or the refusal
+shown_after : {A : Type 0} (f : Platform → A) (r : Result Platform AcpiError) → refused_as (named f r) ≡ named f (refused_as (named (λ p. p) r))
+shown_after f (Ok p) = refl
+shown_after f (Err e) = refl
+
+shown_in : {A : Type 0} (f : Platform → A) (m : Memory) (o : Result Opened Refusal)
+    → (o >>= λ o. refused_as (named f (platform_model m (pointers (width_of o.kind) (drop 36 o.root)))))
+    ≡ named f (o >>= λ o. refused_as (named (λ p. p) (platform_model m (pointers (width_of o.kind) (drop 36 o.root)))))
+shown_in f m (Ok o) = shown_after f (platform_model m (pointers (width_of o.kind) (drop 36 o.root)))
+shown_in f m (Err e) = refl
+
+shown_over : {A : Type 0} (f : Platform → A) (s : Source) (m : Result Memory Refusal)
+    → (m >>= λ m. opened_in m s >>= λ o. refused_as (named f (platform_model m (pointers (width_of o.kind) (drop 36 o.root)))))
+    ≡ named f (m >>= λ m. opened_in m s >>= λ o. refused_as (named (λ p. p) (platform_model m (pointers (width_of o.kind) (drop 36 o.root)))))
+shown_over f s (Ok m) = shown_in f m (opened_in m s)
+shown_over f s (Err e) = refl
+
+shown : {A : Type 0} (f : Platform → A) (s : Source) → below_platform s f ≡ named f (below_platform s (λ p. p))
+shown f s = shown_over f s (memory_in s.regions.now)
+
+same_pins : (one two : ℕ → Result PinRecord Refusal) (r : Result InterruptRecord Refusal) → ((n : ℕ) → one n ≡ two n) → route_by one r ≡ route_by two r
+same_pins one two (Ok i) same = rw (same i.global_system_interrupt)
+same_pins one two (Err e) same = refl
+
+-- of a platform that is found, or of the refusal
+item_of : (r : Result Platform Refusal) (list : IsaInterrupts) (irq : ℕ) → joined (named isa_list_of r) ≡ Ok list → irq < 16
+    → get_or list.routes irq no_route ≡ route_by (λ n. joined (named (pin_of n) r)) (joined (named (isa_of irq) r))
+unfolding isa_numbers
+item_of (Ok (model.Apic apic, processors)) list irq is small =
+    let platform : Platform = (model.Apic apic, processors) in
+    let same : map (isa_route platform) isa_numbers ≡ list.routes = ap (λ (l : IsaInterrupts). l.routes) (ok_is _ _ is) in
+    subst (λ routes. get_or routes irq no_route ≡ isa_route platform irq) same (get_or-map-range_with_len (isa_route platform) 0 16 irq irq no_route small (omega arith)) where
+      ok_is : (x y : IsaInterrupts) → ◌≡◌ {A = Result IsaInterrupts Refusal} (Ok x) (Ok y) → x ≡ y
+      ok_is x y e = cc
+item_of (Ok (model.Unknown, processors)) list irq is small = absurd cc
+item_of (Err e) list irq is small = absurd cc
+
+pub items_are_answers : ItemsAreAnswers
+items_are_answers s list is irq small =
+    item_of (below_platform s (λ p. p)) list irq (ap joined (sym (shown isa_list_of s)) ∙ is) small
+    ∙ same_pins _ (pin_below s) _ (λ n. ap joined (sym (shown (pin_of n) s)))
+    ∙ ap (route_by (pin_below s)) (ap joined (sym (shown (isa_of irq) s)))

@@ -1,0 +1,15 @@
+use Rattle.std.proofs.Common.{◌≡◌, length}
+use Rattle.std.specs.List.{filter_map}
+use Rattle.acpi_base.specs.Isa.{isa_interrupt}
+use Rattle.acpi_base.specs.Items.{items_left}
+use Rattle.acpi_base.specs.Mapping.{bytes_of}
+use Rattle.acpi_base.specs.Model.{io_apic_in, items_of, override_in}
+use Rattle.acpi_c_lib.proofs.IsaList.{Routed}
+use Rattle.acpi_c_lib.proofs.isa_list.isa_list_in.Given as goal
+
+-- each interrupt has the nearest so far, and with those that are left they are all
+abbrev pub invariant-loop-item : goal.invariant-loop-item
+invariant-loop-item g l =
+    (length l.routes ≡ 16)
+    × Routed (isa_interrupt (filter_map override_in (items_of (bytes_of l.madt)))) l.routes
+    (filter_map io_apic_in (items_left l.item-iterator)) (filter_map io_apic_in (items_left l.initial.item-iterator))

@@ -1,0 +1,82 @@
+-- The 16 ISA interrupts at once, each as the calls for one answer it.
+use Rattle.std.specs.Prelude.{◌≡◌, ℕ, ◌-◌, ◌<◌, ◌&&◌, nat_le, List, map, slice_index_or, Option, Some, None, Result, Ok, Err, if◌then◌else◌}
+use Rattle.std.specs.List.{range_with_len}
+use Rattle.std.specs.Option.{option_map}
+use Rattle.acpi_base.specs.Pin.{base_of}
+use Rattle.acpi_base.specs.declared.model.interrupt.InterruptModel.TheVariants as model
+use Rattle.acpi_base.specs.declared.model.interrupt.IoApic.{IoApic}
+use Rattle.acpi_base.specs.declared.model.isa.IsaInterrupt.{IsaInterrupt}
+use Rattle.acpi_c_lib.specs.Model.{Platform, below_platform}
+use Rattle.acpi_c_lib.specs.Routes.{interrupt_record, is_nearer, isa_below, isa_of, joined, pin_below, pin_of, pin_or}
+use Rattle.acpi_c_lib.specs.declared.interrupt_records.InterruptRecord.{InterruptRecord}
+use Rattle.acpi_c_lib.specs.declared.interrupt_records.IsaInterrupts.{IsaInterrupts}
+use Rattle.acpi_c_lib.specs.declared.interrupt_records.IsaRoute.{IsaRoute}
+use Rattle.acpi_c_lib.specs.declared.interrupt_records.PinRecord.{PinRecord}
+use Rattle.acpi_c_lib.specs.declared.records.Source.{Source}
+use Rattle.acpi_c_lib.specs.declared.refusal.Refusal.{Refusal}
+use Rattle.acpi_c_lib.specs.declared.refusal.Refusal.TheVariants.{NoApics}
+
+abbrev pub no_interrupt : InterruptRecord
+no_interrupt = record { global_system_interrupt = 0; polarity = 0; trigger = 0 }
+
+abbrev pub no_pin : PinRecord
+no_pin = record {
+  io_apic = record { address = 0; global_system_interrupt_base = 0; id = 0 };
+  pin = 0;
+}
+
+abbrev pub no_route : IsaRoute
+no_route = record { interrupt = no_interrupt; pin = no_pin; present = 0; has_pin = 0 }
+
+-- an interrupt, and what is answered for its pin
+abbrev pub routed : InterruptRecord → Result PinRecord Refusal → IsaRoute
+routed i (Ok pin) = record { interrupt = i; pin = pin; present = 1; has_pin = 1 }
+routed i (Err e) = record { interrupt = i; pin = no_pin; present = 1; has_pin = 0 }
+
+-- what is answered for an interrupt, and then for its pin
+abbrev pub route_by : (ℕ → Result PinRecord Refusal) → Result InterruptRecord Refusal → IsaRoute
+route_by pin (Ok i) = routed i (pin i.global_system_interrupt)
+route_by pin (Err e) = no_route
+
+-- what the calls for one answer for this one
+abbrev pub isa_route : Platform → ℕ → IsaRoute
+isa_route platform irq = route_by (λ interrupt. pin_of interrupt platform) (isa_of irq platform)
+
+-- the numbers of the ISA interrupts
+unfoldable pub isa_numbers : List ℕ
+isa_numbers = range_with_len 0 16
+
+abbrev pub isa_list : Platform → IsaInterrupts
+isa_list platform = record { routes = map (isa_route platform) isa_numbers }
+
+-- the list of a model of APICs
+abbrev pub isa_list_of : Platform → Result IsaInterrupts Refusal
+isa_list_of (model.Apic apic, processors) = Ok (isa_list (model.Apic apic, processors))
+isa_list_of (model.Unknown, processors) = Err NoApics
+
+abbrev pub isa_list_below : Source → Result IsaInterrupts Refusal
+isa_list_below s = joined (below_platform s isa_list_of)
+
+-- the law: each item is what the calls for one answer
+abbrev pub ItemsAreAnswers : Type 0
+ItemsAreAnswers = (s : Source) (list : IsaInterrupts) → isa_list_below s ≡ Ok list
+    → (irq : ℕ) → irq < 16
+    → slice_index_or list.routes irq no_route ≡ route_by (pin_below s) (isa_below s irq)
+
+-- ---- as far as a walk along the I/O APICs has come
+
+-- the number of an interrupt, if there is one
+abbrev pub number_of : Option IsaInterrupt → ℕ
+number_of (Some i) = i.global_system_interrupt
+number_of None = 0
+
+-- an interrupt, if there is one, that comes to this I/O APIC
+abbrev pub route_of : Option IsaInterrupt → Option IoApic → IsaRoute
+route_of (Some i) found =
+    routed (interrupt_record i) (pin_or (option_map (λ x. (x, i.global_system_interrupt - base_of x)) found))
+route_of None found = no_route
+
+-- the I/O APIC so far, or this one if it is nearer to the interrupt
+abbrev pub nearer_of : ℕ → Option IoApic → IoApic → Option IoApic
+nearer_of interrupt found x =
+    if nat_le (base_of x) interrupt && is_nearer found x then Some x else found

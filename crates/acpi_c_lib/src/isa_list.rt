@@ -1,0 +1,153 @@
+//! How all ISA interrupts come to the I/O APICs, by one walk along the overrides and one along the I/O APICs.
+ghost use Rattle.std.specs.Prelude.{◌≡◌, ◌<◌, ℕ, None, slice_index_or};
+ghost use Rattle.std.specs.List.{filter_map};
+ghost use Rattle.acpi_base.specs.Isa.{isa_interrupt};
+ghost use Rattle.acpi_base.specs.IsaOverrides.{IsGathered};
+ghost use Rattle.acpi_base.specs.Mapping.{bytes_of};
+ghost use Rattle.acpi_base.specs.Model.{io_apic_in, items_of, override_in};
+ghost use Rattle.acpi_base.specs.Pin.{nearest};
+ghost use Rattle.acpi_c_lib.specs.IsaList as list;
+ghost use Rattle.acpi_c_lib.specs.IsaList.{isa_list_below, nearer_of, number_of, route_of};
+ghost use Rattle.acpi_c_lib.specs.Model.{model_by};
+
+use crate::interrupt_codes::io_apic_record;
+use crate::interrupt_records::{InterruptRecord, IoApicRecord, IsaInterrupts, IsaRoute, PinRecord};
+use crate::interrupts::apic_madt;
+use crate::opening::open;
+use crate::records::Source;
+use crate::refusal::Refusal;
+use crate::regions::Mapped;
+use crate::routes::interrupt_record;
+use acpi::madt::Madt;
+use acpi::platform::interrupt::{IoApic, IsaInterrupt};
+use acpi::{Lender, PhysicalMapping};
+use acpi_base::model::{IsaOverrides, MadtItem};
+
+/// The 16 ISA interrupts, each with its pin.
+pub fn isa_list(source: &Source<'_>) -> Result<IsaInterrupts, Refusal>
+    ensures { result ≡ isa_list_below source.now }
+{
+    let memory = Mapped::new(source.regions)?;
+    let tables = open(&memory, source)?;
+    let Some(found) = apic_madt(&tables)? else {
+        return Err(Refusal::NoApics);
+    };
+    Ok(isa_list_in(&found.madt))
+}
+
+/// Those of a MADT that describes APICs.
+fn isa_list_in<H: Lender>(madt: &PhysicalMapping<'_, H, Madt>) -> IsaInterrupts
+    ensures { result ≡ list.isa_list (model_by (Some (bytes_of madt.now))) }
+{
+    let mut routes = interrupts_in(madt);
+    for item in madt.items() {
+        if let MadtItem::IoApic(io_apic) = item {
+            meet_all(&mut routes, &io_apic);
+        }
+    }
+    IsaInterrupts { routes }
+}
+
+/// Each ISA interrupt, without its pin.
+fn interrupts_in<H: Lender>(madt: &PhysicalMapping<'_, H, Madt>) -> [IsaRoute; 16]
+    ensures { (irq : ℕ) → irq < 16 → slice_index_or result irq list.no_route
+        ≡ route_of (isa_interrupt (filter_map override_in (items_of (bytes_of madt.now))) irq) None }
+{
+    let gathered = overrides_in(madt);
+    let mut routes = [no_route(); 16];
+    for irq in 0..16 {
+        if let Some(interrupt) = gathered.isa_interrupt(irq as u8) {
+            routes[irq] = without_pin(interrupt);
+        }
+    }
+    routes
+}
+
+/// What the overrides among the entries say of the ISA interrupts.
+pub(crate) fn overrides_in<H: Lender>(madt: &PhysicalMapping<'_, H, Madt>) -> IsaOverrides
+    ensures { IsGathered (filter_map override_in (items_of (bytes_of madt.now))) result }
+{
+    let mut gathered = IsaOverrides::new();
+    for item in madt.items() {
+        if let MadtItem::Override(wiring) = item {
+            gathered.add(&wiring);
+        }
+    }
+    gathered
+}
+
+/// Of each interrupt, the pin of this I/O APIC if it is nearer than the one so far.
+fn meet_all(routes: &mut [IsaRoute; 16], io_apic: &IoApic)
+    ensures { (irq : ℕ) → irq < 16 → (interrupt : _) (found : _)
+        → slice_index_or routes.old irq list.no_route ≡ route_of interrupt found
+        → slice_index_or routes.new irq list.no_route
+        ≡ route_of interrupt (nearer_of (number_of interrupt) found io_apic.now) }
+{
+    for irq in 0..16 {
+        routes[irq] = meet(routes[irq], io_apic);
+    }
+}
+
+/// Of an interrupt, the pin of this I/O APIC if it is nearer than the one so far.
+fn meet(route: IsaRoute, io_apic: &IoApic) -> IsaRoute
+    ensures { (interrupt : _) (found : _) → route ≡ route_of interrupt found
+        → result ≡ route_of interrupt (nearer_of (number_of interrupt) found io_apic.now) }
+{
+    let interrupt = route.interrupt.global_system_interrupt;
+    let base = io_apic.global_system_interrupt_base;
+    let is_nearer = route.has_pin == 0 || route.pin.io_apic.global_system_interrupt_base < base;
+    if route.present == 0 || base > interrupt || !is_nearer {
+        return route;
+    }
+    let pin = PinRecord {
+        io_apic: io_apic_record(io_apic),
+        pin: interrupt - base,
+    };
+    IsaRoute {
+        interrupt: route.interrupt,
+        pin,
+        present: 1,
+        has_pin: 1,
+    }
+}
+
+/// An interrupt that comes to no I/O APIC so far.
+fn without_pin(interrupt: IsaInterrupt) -> IsaRoute
+    ensures { result ≡ route_of (Some interrupt) None }
+{
+    IsaRoute {
+        interrupt: interrupt_record(interrupt),
+        pin: no_pin(),
+        present: 1,
+        has_pin: 0,
+    }
+}
+
+/// What stands for an interrupt that there isn't.
+fn no_route() -> IsaRoute
+    ensures { result ≡ list.no_route }
+{
+    IsaRoute {
+        interrupt: InterruptRecord {
+            global_system_interrupt: 0,
+            polarity: 0,
+            trigger: 0,
+        },
+        pin: no_pin(),
+        present: 0,
+        has_pin: 0,
+    }
+}
+
+fn no_pin() -> PinRecord
+    ensures { result ≡ list.no_pin }
+{
+    PinRecord {
+        io_apic: IoApicRecord {
+            address: 0,
+            global_system_interrupt_base: 0,
+            id: 0,
+        },
+        pin: 0,
+    }
+}
