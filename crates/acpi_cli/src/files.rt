@@ -1,9 +1,9 @@
 //! Files as a program asks for them: each name that it asks for is listed, with the bytes that were read.
-ghost use Rattle.std.specs.Prelude.{◌≡◌, ◌++◌, ◌∷◌, ℕ, List, [], IfOk, OnErr, OnOk, Option, drop, length, map};
+ghost use Rattle.std.specs.Prelude.{◌≡◌, ◌++◌, ◌∷◌, ℕ, List, [], IfOk, OnErr, OnOk, Option, length, map};
 ghost use Rattle.std.specs.Option.{option_copied};
-ghost use Rattle.acpi_cli.specs.Reads.{Asks, AsksFront, FileRead, contents_of, read_of};
+ghost use Rattle.acpi_cli.specs.Reads.{FileRead, read_of};
 
-use std::alloc::{AllocError, Global};
+use std::alloc::AllocError;
 use std::fs;
 
 /// A file that was asked for: its name, and the bytes that were read of it, if it can be read.
@@ -97,50 +97,10 @@ pub fn count<F: Files>(files: &F) -> usize
     files.readings().len()
 }
 
-/// Asks for the files of these names, each once and in order.
-///
-/// Refuses if memory for the list is refused, and then asks for no further file.
-#[tactic(auto, using(crate::proofs::Asking::next_name, crate::proofs::Asking::all_names, crate::proofs::Asking::none_asked))]
-pub fn read_all<F: Files>(files: &mut F, names: &[&str]) -> Result<(), AllocError>
-    ensures asked { OnOk result (Asks (map (λ n. n.now) names.now) (F.asked files.old) (F.asked files.new)) }
-    ensures refused { OnErr result (AsksFront (map (λ n. n.now) names.now) (F.asked files.old) (F.asked files.new)) }
+/// The bytes that were read of the file that was asked for last, or `None` if it can't be read.
+pub fn last_content<F: Files>(files: &F) -> Option<&[u8]>
+    ensures { (before : List FileRead) (last : FileRead) → F.asked files.now ≡ before ++ last ∷ []
+        → option_copied result ≡ last.content }
 {
-    for name in names {
-        files.read(name)?;
-    }
-    Ok(())
-}
-
-/// The bytes that were read of the files that were asked for after the first `start` of them, in order, each
-/// `None` if the file can't be read.
-///
-/// Refuses if it runs out of memory.
-pub fn contents_from<F: Files>(
-    alloc: Global,
-    files: &F,
-    start: usize,
-) -> Result<Vec<Option<&[u8]>>, AllocError>
-    ensures { IfOk result (λ v.
-        map option_copied v.items ≡ contents_of (drop start (F.asked files.now))) }
-{
-    let readings = files.readings();
-    if start < readings.len() {
-        contents(alloc, &readings[start..])
-    } else {
-        Ok(Vec::new(alloc))
-    }
-}
-
-/// The bytes that were read of these files, in order.
-///
-/// Refuses if it runs out of memory.
-fn contents(alloc: Global, readings: &[Reading]) -> Result<Vec<Option<&[u8]>>, AllocError>
-    ensures { IfOk result (λ v.
-        map option_copied v.items ≡ contents_of (map read_of readings.now)) }
-{
-    let mut contents = Vec::new(alloc);
-    for reading in readings {
-        contents.push(reading.content())?;
-    }
-    Ok(contents)
+    files.readings().last()?.content()
 }

@@ -4,7 +4,7 @@ use crate::arguments::{Asked, Shown, parse};
 use crate::listing::print_lines;
 use crate::shown::print_tables;
 use acpi::{AcpiHandler, AcpiTables};
-use acpi_cli::files::{Files, contents_from, count, read_all};
+use acpi_cli::files::{Files, last_content};
 use acpi_cli::root::Root;
 use acpi_image_reader::MemoryImage;
 use std::alloc::Global;
@@ -85,10 +85,8 @@ fn print_file<F: Files, W: Write, E: Write>(
     let [name, ..] = arguments else {
         return Ok(2);
     };
-    let start = count(files);
-    read_all(files, &[*name])?;
-    let contents = contents_from(alloc, files, start)?;
-    let Some(Some(bytes)) = contents.first() else {
+    files.read(name)?;
+    let Some(bytes) = last_content(files) else {
         return refuse(name, &"Unreadable", err);
     };
     match MemoryImage::from_bytes(alloc, bytes) {

@@ -1,9 +1,3 @@
-pub mod Counting
-pub mod Labels
-pub mod Laid
+pub mod Files
 pub mod Memories
-pub mod PackedTables
-pub mod Packing
-pub mod Pairs
 pub mod Placing
-pub mod Saving

@@ -1,11 +1,11 @@
 -- Where tables are placed.
-use Rattle.std.proofs.Common.{◌≡◌, ℕ, ◌+◌, ◌%◌, ◌^◌, ◌<◌, ◌≤◌, Bool, true, false, List, [], ◌∷◌, ◌++◌, length, map, append_assoc, Some, None, Result, Ok, Err, refl, sym, ap, ◌∙◌, arith, inl, inr, if◌then◌else◌}
+use Rattle.std.proofs.Common.{◌≡◌, ℕ, ◌+◌, ◌%◌, ◌^◌, ◌<◌, ◌≤◌, Bool, true, false, List, [], ◌∷◌, ◌++◌, length, map, Some, None, Result, Ok, Err, refl, sym, ap, ◌∙◌, arith, inl, inr, if◌then◌else◌}
 use Rattle.std.specs.Prelude.{◌⊎◌, nat_le, nat_lt, ◌||◌, Option}
 use Rattle.std.proofs.lemmas.Bool.{leb-false, leb-true, ltb-true, or_cases, or_parts}
 use Rattle.acpi_base.specs.Memory.{Memory, Region, end_of}
 use Rattle.acpi_base.specs.Steps.{◌>>=◌}
 use Rattle.acpi_base.proofs.Steps.{bind_ok}
-use Rattle.acpi_packing.specs.Place.{ArePlaced, IsPlaced, aligned, place_at, place_or, placed_from, room, start_at}
+use Rattle.acpi_packing.specs.Place.{ArePlaced, IsPlaced, aligned, place_at, place_or, placed_from, start_at}
 use Rattle.std.proofs.lemmas.List.{append-nil, length-map}
 use Rattle.acpi_image.specs.Written.{placed, placed_region}
 use Rattle.acpi_image.specs.declared.write.PlacedTable.{PlacedTable}
@@ -14,9 +14,6 @@ use Rattle.acpi_packing.specs.declared.error.Refusal.TheVariants.{NoRoom}
 
 abbrev done : Memory → Result Memory Refusal
 done m = Ok m
-
-abbrev checked : Result (Unit {0}) Refusal
-checked = Ok tt
 
 -- regions, and those after them
 abbrev pub behind : Memory → Result Memory Refusal → Result Memory Refusal
@@ -127,35 +124,6 @@ pub placed_count : (fixed : Region) (from : ℕ) (ts : List (List ℕ)) (tables 
 placed_count fixed from ts tables e =
     sym (length-map tables placed_region) ∙ sym (length-map (placed tables) (λ r. r.bytes)) ∙ ap length (placed_bytes fixed from ts (placed tables) e)
 
--- ---- a table at a time
-
-behind_one : (before : Memory) (x : Region) (r : Result Memory Refusal) → behind (before ++ (x ∷ [])) r ≡ behind before (r >>= λ more. done (x ∷ more))
-behind_one before x (Ok more) = ap done (append_assoc before (x ∷ []) more)
-behind_one before x (Err e) = refl
-
--- the next table has its address
-pub placed_next : (fixed : Region) (from : ℕ) (before : Memory) (t : List ℕ) (ts : List (List ℕ)) (a : ℕ) → place_at fixed from (length t) ≡ Some a
-    → behind (before ++ (record { start = a; bytes = t } ∷ [])) (placed_from fixed (a + length t) ts) ≡ behind before (placed_from fixed from (t ∷ ts))
-placed_next fixed from before t ts a e = rw e (behind_one before (record { start = a; bytes = t }) (placed_from fixed (a + length t) ts))
-
--- the next table has none
-pub placed_stops : (fixed : Region) (from : ℕ) (before : Memory) (t : List ℕ) (ts : List (List ℕ)) → place_at fixed from (length t) ≡ None
-    → behind before (placed_from fixed from (t ∷ ts)) ≡ Err NoRoom
-placed_stops fixed from before t ts e = rw e refl
-
+-- no table is left
 pub placed_all : (fixed : Region) (from : ℕ) (before : Memory) → behind before (placed_from fixed from []) ≡ Ok before
 placed_all fixed from before = ap done (append-nil before)
-
--- ---- room
-
-room_behind : (x : Region) (r : Result Memory Refusal) → (r >>= λ _. checked) ≡ ((r >>= λ more. done (x ∷ more)) >>= λ _. checked)
-room_behind x (Ok more) = refl
-room_behind x (Err e) = refl
-
--- the next table has its address
-pub room_next : (fixed : Region) (from : ℕ) (t : List ℕ) (ts : List (List ℕ)) (a : ℕ) → place_at fixed from (length t) ≡ Some a → room fixed (a + length t) ts ≡ room fixed from (t ∷ ts)
-room_next fixed from t ts a e = rw e (room_behind (record { start = a; bytes = t }) (placed_from fixed (a + length t) ts))
-
--- the next table has none
-pub room_stops : (fixed : Region) (from : ℕ) (t : List ℕ) (ts : List (List ℕ)) → place_at fixed from (length t) ≡ None → room fixed from (t ∷ ts) ≡ Err NoRoom
-room_stops fixed from t ts e = rw e refl

@@ -2,7 +2,10 @@
 use Rattle.std.specs.Prelude.{ℕ, List, drop, map, Option}
 use Rattle.std.specs.Option.{option_copied}
 use Rattle.std.specs.Borrow.{Bor}
+use Rattle.acpi_base.specs.Memory.{Memory}
+use Rattle.acpi_packing.specs.Pack.{regions}
 use Rattle.acpi_packing.specs.Sources.{entries}
+use Rattle.acpi_packing.specs.declared.place.FilesAt.{FilesAt}
 use Rattle.acpi_packing.specs.declared.sources.FilesOfRole.{FilesOfRole}
 use Rattle.acpi_packing.specs.declared.sources.IndexedFile.{IndexedFile}
 
@@ -20,3 +23,7 @@ entry_of e = (e.index, e.bytes.now)
 -- the files of a role that are still to come
 abbrev pub entries_left : FilesOfRole → List (ℕ × List ℕ)
 entries_left s = entries s.role s.index (contents (drop s.index s.files.now))
+
+-- the regions of the files that are still to come
+abbrev pub regions_left : FilesAt → Memory
+regions_left s = regions s.addresses.now (contents s.files.now)

@@ -9,6 +9,7 @@ pub mod listing;
 mod pack;
 mod place;
 pub mod program;
+mod reading;
 pub mod run;
 pub mod save;
 mod sources;

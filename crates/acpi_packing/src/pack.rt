@@ -16,7 +16,7 @@ ghost use Rattle.acpi_packing.specs.declared.error.Refusal.TheVariants.{OutOfMem
 ghost use Rattle.acpi_packing.specs.declared.sources.FileRole.TheVariants.{Dsdt};
 
 use crate::error::{FileError, Refusal};
-use crate::place::{check_room, place, place_one};
+use crate::place::{check_room, files_at, place, place_one};
 use crate::sources::{
     FileBytes, FileRole, bytes_of, check_contents, check_tables, listed_count, of_role,
 };
@@ -35,6 +35,7 @@ const RSDP: u64 = 0xe0000;
 const FIRST: u64 = 0x100000;
 
 /// Whether two tables share a byte.
+#[tactic(auto, using(acpi_image::proofs::Places::tables_share))]
 fn share(one: &PlacedTable<'_>, other: &PlacedTable<'_>) -> bool
     ensures { result ≡ share (placed_region one.now) (placed_region other.now) }
 {
@@ -46,11 +47,7 @@ fn shares_byte(addresses: &[u64], files: &[FileBytes<'_>], table: &PlacedTable<'
     ensures { result ≡ shares_any (regions addresses.now (contents files.now))
         (placed_region table.now) }
 {
-    for index in 0..addresses.len().min(files.len()) {
-        let earlier = PlacedTable {
-            address: addresses[index],
-            bytes: bytes_of(files[index]),
-        };
+    for earlier in files_at(addresses, files) {
         if share(&earlier, table) {
             return true;
         }
@@ -100,14 +97,15 @@ fn check_places(addresses: &[u64], files: &[FileBytes<'_>]) -> Result<(), Refusa
 /// Puts the records of files at their addresses, one after the other.
 ///
 /// Refuses with `OutOfMemory`.
+#[tactic(auto, using(acpi_image::proofs::WrittenMemory::each_fits))]
 fn put_files(file: &mut Vec<u8>, addresses: &[u64], files: &[FileBytes<'_>]) -> Result<(), Refusal>
     ensures put { let all = regions addresses.now (contents files.now) in
         OnOk result (file.new.items ≡ file.old.items ++ flat_map record_spelling all) }
     ensures refused { IfErr result (λ e. e ≡ OutOfMemory) }
     ensures bytes { OnOk result (IsBytes file.new.items) }
 {
-    for index in 0..addresses.len().min(files.len()) {
-        put_region(file, addresses[index], bytes_of(files[index]))?;
+    for table in files_at(addresses, files) {
+        put_region(file, table.address, table.bytes)?;
     }
     Ok(())
 }
@@ -229,7 +227,6 @@ fn put_tables(file: &mut Vec<u8>, tables: &[PlacedTable<'_>]) -> Result<(), Refu
     ensures put { OnOk result
         (file.new.items ≡ file.old.items ++ flat_map record_spelling (placed tables.now)) }
     ensures refused { IfErr result (λ e. e ≡ OutOfMemory) }
-    ensures bytes { OnOk result (IsBytes file.new.items) }
 {
     for table in tables {
         put_region(file, table.address, table.bytes)?;
@@ -241,6 +238,7 @@ fn put_tables(file: &mut Vec<u8>, tables: &[PlacedTable<'_>]) -> Result<(), Refu
 /// DSDT.
 ///
 /// Refuses with `OutOfMemory`.
+#[tactic(auto, using(acpi_image::proofs::WrittenMemory::each_fits))]
 fn put_all(
     file: &mut Vec<u8>,
     root: u64,

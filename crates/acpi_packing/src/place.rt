@@ -2,15 +2,57 @@
 ghost use Rattle.std.specs.Prelude.{◌≡◌, ◌≢◌, ◌+◌, ◌^◌, ◌<◌, length, IfErr, IfOk, IfSome, Ok, Err};
 ghost use Rattle.acpi_image.specs.Written.{placed, placed_region};
 ghost use Rattle.acpi_base.specs.Memory.{end_of};
-ghost use Rattle.acpi_packing.specs.Held.{contents};
+ghost use Rattle.acpi_packing.specs.Held.{contents, regions_left};
+ghost use Rattle.acpi_packing.specs.Pack.{regions};
 ghost use Rattle.acpi_packing.specs.Place.{ArePlaced, aligned, place_at, placed_from, room};
 ghost use Rattle.acpi_packing.specs.Sources.{listed};
 ghost use Rattle.acpi_packing.specs.declared.error.Refusal.TheVariants.{OutOfMemory};
 
 use crate::error::Refusal;
-use crate::sources::{FileBytes, FileRole, of_role};
+use crate::sources::{FileBytes, FileRole, bytes_of, of_role};
 use acpi_image::PlacedTable;
 use std::alloc::Global;
+
+/// The files at their addresses, in order.
+#[derive(Drop)]
+pub(crate) struct FilesAt<'a, 'f> {
+    addresses: &'f [u64],
+    files: &'f [FileBytes<'a>],
+}
+
+impl<'a> Iterator for FilesAt<'a, '_> {
+    ghost use Rattle.std.specs.Iterator.{YieldsFirstBy, item_count};
+    ghost use Rattle.acpi_image.specs.Written.{placed_region};
+    ghost use Rattle.acpi_packing.specs.Held.{regions_left};
+
+    type Item = PlacedTable<'a>;
+
+    ghost next_gives = { YieldsFirstBy placed_region (λ s. regions_left s) };
+
+    ghost remaining = { item_count (λ s. regions_left s) };
+
+    fn next(&mut self) -> Option<PlacedTable<'a>> {
+        let [address, addresses @ ..] = self.addresses else {
+            return None;
+        };
+        let [file, files @ ..] = self.files else {
+            return None;
+        };
+        self.addresses = addresses;
+        self.files = files;
+        Some(PlacedTable {
+            address: *address,
+            bytes: bytes_of(*file),
+        })
+    }
+}
+
+/// The files at their addresses, in order.
+pub(crate) fn files_at<'a, 'f>(addresses: &'f [u64], files: &'f [FileBytes<'a>]) -> FilesAt<'a, 'f>
+    ensures { regions_left result ≡ regions addresses.now (contents files.now) }
+{
+    FilesAt { addresses, files }
+}
 
 /// The least multiple of 16 from an address on.
 fn aligned(address: u128) -> u128

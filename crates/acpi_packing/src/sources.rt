@@ -101,7 +101,7 @@ impl<'a> Iterator for FilesOfRole<'a, '_> {
 }
 
 /// The files of a role, in order.
-#[tactic(auto, using(crate::proofs::Counting::entries_few))]
+#[tactic(auto, using(crate::proofs::Files::entries_few))]
 pub(crate) fn of_role<'a, 'f>(files: &'f [FileBytes<'a>], role: FileRole) -> FilesOfRole<'a, 'f>
     ensures all { entries_left result ≡ sources.entries role 0 (contents files.now) }
     ensures few { length (entries_left result) ≤ length files.now }

@@ -1,11 +1,12 @@
 -- Writing in steps.
-use Rattle.std.proofs.Common.{ℕ, List, [], ◌++◌, OnOk, ap, inl, inr}
-use Rattle.std.specs.Prelude.{Option, Result, Ok, Err}
+use Rattle.std.proofs.Common.{◌≡◌, ℕ, false, List, [], ◌∷◌, ◌++◌, OnOk, ap, inl, inr, refl}
+use Rattle.std.specs.Prelude.{Option, Result, Ok, Err, flat_map, map}
 use Rattle.std.specs.Io.KnownBytes.{Appends}
 use Rattle.std.proofs.KnownBytes.{Appends-nil, Appends-trans}
 use Rattle.acpi_base.specs.Steps.{GivesOrFull}
 use Rattle.acpi_base.specs.declared.error.AcpiError.{AcpiError}
-use Rattle.acpi_report.specs.Lines.{IsPartText, lines_or_refusal}
+use Rattle.acpi_base.specs.declared.tables.mcfg.McfgEntry.{McfgEntry}
+use Rattle.acpi_report.specs.Lines.{IsPartText, lines_or_refusal, region_line, region_lines, shown_line}
 use Rattle.acpi_report.specs.Writing.{AppendsSome, Still}
 
 -- these bytes, and then those
@@ -50,3 +51,9 @@ said_or_full Asks part lines said defined a b gives written =
 pub on_ok : {T E : Type 0} (r : Result T E) (P Q : Type 0) → (P → Q) → OnOk r P → OnOk r Q
 on_ok (Ok x) P Q follows p = follows p
 on_ok (Err e) P Q follows p = tt
+
+-- the lines of the regions that a walk shows
+pub shown_lines : (regions : List McfgEntry)
+    → flat_map shown_line (map (λ e. (e, false)) regions) ≡ region_lines regions
+shown_lines [] = refl
+shown_lines (e ∷ regions) = ap (λ rest. region_line e ++ rest) (shown_lines regions)

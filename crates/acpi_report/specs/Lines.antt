@@ -98,6 +98,10 @@ region_line region = line (
     ∷ codes " " ∷ decimal region.bus_number_end
     ∷ codes " " ∷ address_text region.base_address ∷ [])
 
+-- that of a region as a walk shows it, whether its buses are used up or not
+abbrev pub shown_line : McfgEntry × Bool → List ℕ
+shown_line shown = region_line shown.0
+
 -- bgrt displayed yes|no angle A offset X Y
 abbrev pub graphic_line : Bgrt → List ℕ
 graphic_line graphic = line (

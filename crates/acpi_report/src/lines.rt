@@ -9,8 +9,8 @@ ghost use Rattle.acpi_report.specs.Output.{IsLines, skipped_lines_of};
 ghost use Rattle.acpi_report.specs.Writing.{AppendsSome};
 ghost use Rattle.acpi_report.specs.Lines.{IsPciText, bgrt_lines, console_line, dsdt_lines};
 ghost use Rattle.acpi_report.specs.Lines.{graphic_line, header_line, header_lines, hpet_line};
-ghost use Rattle.acpi_report.specs.Lines.{hpet_lines, lines_or_refusal, refused_line, region_line, region_lines};
-ghost use Rattle.acpi_report.specs.Lines.{revision_line, skipped_line, spcr_lines};
+ghost use Rattle.acpi_report.specs.Lines.{hpet_lines, lines_or_refusal, refused_line, region_lines};
+ghost use Rattle.acpi_report.specs.Lines.{revision_line, shown_line, skipped_line, spcr_lines};
 ghost use Rattle.acpi_report.specs.Lines.{ssdt_lines, stream_line, yes_or_no};
 
 mod listed;
@@ -21,14 +21,14 @@ use acpi::bgrt::Bgrt;
 use acpi::fadt::Fadt;
 use acpi::hpet::HpetTable;
 use acpi::madt::Madt;
-use acpi::mcfg::{Mcfg, PciConfigEntry};
-use acpi::sdt::{SdtHeader, Signature};
+use acpi::mcfg::{Mcfg, PciConfigEntry, PciConfigEntryIterator};
+use acpi::sdt::SdtHeader;
 use acpi::spcr::Spcr;
 use acpi::{
-    AcpiError, AcpiHandler, AcpiResult, AcpiTable, AcpiTables, AmlTable, HpetInfo,
-    PciConfigRegions, TableFault,
+    AcpiError, AcpiHandler, AcpiResult, AcpiTable, AcpiTables, AmlTable, HpetInfo, Lender,
+    PciConfigRegions, SdtHeaderIterator, SsdtIterator, TableFault, TableFaults,
 };
-pub(crate) use listed::{Line, print_each};
+pub(crate) use listed::{Line, Walk, print_each, print_walk};
 pub(crate) use pieces::{Piece, write_line};
 pub use platform::print_platform;
 use std::alloc::{Allocator, Global};
@@ -63,7 +63,6 @@ pub fn print_parts<H: AcpiHandler, W: Write>(
 /// HPET, BGRT and SPCR, in this order.
 ///
 /// Refuses with the refusal of the first write that is refused.
-#[tactic(auto, using(crate::proofs::Writing::then_more))]
 pub fn print_skipped_tables<H: AcpiHandler, E: Write>(
     tables: &AcpiTables<'_, H>,
     err: &mut E,
@@ -80,7 +79,6 @@ pub fn print_skipped_tables<H: AcpiHandler, E: Write>(
 }
 
 /// Prints the line of each table that the lookup of a type passes over, but for those of another signature.
-#[tactic(auto, using(crate::proofs::Writing::still_all, crate::proofs::Writing::still_less, crate::proofs::Writing::still_none))]
 fn print_skipped<H: AcpiHandler, T: AcpiTable, E: Write>(
     tables: &AcpiTables<'_, H>,
     err: &mut E,
@@ -88,23 +86,35 @@ fn print_skipped<H: AcpiHandler, T: AcpiTable, E: Write>(
     ensures { OnOk result (Appends (E.contents err.old) (E.contents err.new)
         (flat_map (skipped_line T.SIGNATURE) (of_tables tables.now (λ m. faults_of m T.kind)))) }
 {
-    for fault in tables.faults::<T>() {
-        print_fault(T::SIGNATURE, fault, err)?;
-    }
-    Ok(())
+    print_walk(tables.faults::<T>(), err)
 }
 
-/// Prints `skipped SIG ADDRESS: REFUSAL`.
-fn print_fault<E: Write>(signature: Signature, fault: TableFault, err: &mut E) -> io::Result<()>
-    ensures { OnOk result (Appends (E.contents err.old) (E.contents err.new)
-        (skipped_line signature fault)) }
-{
-    let pieces = [
-        Piece::Name("skipped ", signature),
-        Piece::Address(" ", fault.address),
-        Piece::Refusal(": ", fault.error),
-    ];
-    write_line(&pieces, err)
+/// Prints `skipped SIG ADDRESS: REFUSAL` for each fault.
+impl<H: Lender, T: AcpiTable> Walk for TableFaults<'_, '_, H, T> {
+    ghost use Rattle.std.specs.Prelude.{flat_map};
+    ghost use Rattle.std.proofs.Common.{ap};
+    ghost use Rattle.acpi.specs.Walks.{faults_left};
+    ghost use Rattle.acpi_report.specs.Lines.{skipped_line};
+
+    ghost item_line = { skipped_line T.SIGNATURE };
+
+    ghost lines = { λ s. flat_map (skipped_line T.SIGNATURE) (faults_left H.memory T.kind s) };
+
+    fn print_item<W: Write>(fault: TableFault, err: &mut W) -> io::Result<()>
+        ensures { OnOk result (Appends (W.contents err.old) (W.contents err.new)
+            (skipped_line T.SIGNATURE fault)) }
+    {
+        let pieces = [
+            Piece::Name("skipped ", T::SIGNATURE),
+            Piece::Address(" ", fault.address),
+            Piece::Refusal(": ", fault.error),
+        ];
+        write_line(&pieces, err)
+    }
+
+    ghost next = { λ s t x e. ap (flat_map (skipped_line T.SIGNATURE)) e };
+
+    ghost end = { λ s t e. ap (flat_map (skipped_line T.SIGNATURE)) e.0 };
 }
 
 /// Prints `revision R`, the one that the tables were opened with.
@@ -121,7 +131,6 @@ fn print_revision<H: AcpiHandler, W: Write>(
 }
 
 /// Prints `table SIG length L revision R` for each valid table.
-#[tactic(auto, using(crate::proofs::Writing::still_all, crate::proofs::Writing::still_less, crate::proofs::Writing::still_none))]
 fn print_headers<H: AcpiHandler, W: Write>(
     tables: &AcpiTables<'_, H>,
     out: &mut W,
@@ -129,23 +138,35 @@ fn print_headers<H: AcpiHandler, W: Write>(
     ensures { OnOk result (Appends (W.contents out.old) (W.contents out.new)
         (header_lines (memory_of tables.now) (pointers_of tables.now))) }
 {
-    for header in tables.headers() {
-        print_header(&header, out)?;
-    }
-    Ok(())
+    print_walk(tables.headers(), out)
 }
 
-/// Prints `table SIG length L revision R`.
-fn print_header<W: Write>(header: &SdtHeader, out: &mut W) -> io::Result<()>
-    ensures { OnOk result (Appends (W.contents out.old) (W.contents out.new)
-        (header_line header.now)) }
-{
-    let pieces = [
-        Piece::Name("table ", header.signature),
-        Piece::Number(" length ", header.length as u64),
-        Piece::Number(" revision ", header.revision as u64),
-    ];
-    write_line(&pieces, out)
+/// Prints `table SIG length L revision R` for each header.
+impl<H: Lender> Walk for SdtHeaderIterator<'_, '_, H> {
+    ghost use Rattle.std.specs.Prelude.{flat_map};
+    ghost use Rattle.std.proofs.Common.{ap};
+    ghost use Rattle.acpi.specs.Walks.{headers_left};
+    ghost use Rattle.acpi_report.specs.Lines.{header_line};
+
+    ghost item_line = { header_line };
+
+    ghost lines = { λ s. flat_map header_line (headers_left H.memory s) };
+
+    fn print_item<W: Write>(header: SdtHeader, out: &mut W) -> io::Result<()>
+        ensures { OnOk result (Appends (W.contents out.old) (W.contents out.new)
+            (header_line header)) }
+    {
+        let pieces = [
+            Piece::Name("table ", header.signature),
+            Piece::Number(" length ", header.length as u64),
+            Piece::Number(" revision ", header.revision as u64),
+        ];
+        write_line(&pieces, out)
+    }
+
+    ghost next = { λ s t x e. ap (flat_map header_line) e };
+
+    ghost end = { λ s t e. ap (flat_map header_line) e.0 };
 }
 
 /// Prints `dsdt ADDRESS length L` for the AML of the DSDT, or its refusal.
@@ -160,15 +181,34 @@ fn print_dsdt<H: AcpiHandler, W: Write>(tables: &AcpiTables<'_, H>, out: &mut W)
 }
 
 /// Prints `ssdt ADDRESS length L` for the AML of each valid SSDT.
-#[tactic(auto, using(crate::proofs::Writing::still_all, crate::proofs::Writing::still_less, crate::proofs::Writing::still_none))]
 fn print_ssdts<H: AcpiHandler, W: Write>(tables: &AcpiTables<'_, H>, out: &mut W) -> io::Result<()>
     ensures { OnOk result (Appends (W.contents out.old) (W.contents out.new)
         (ssdt_lines (memory_of tables.now) (pointers_of tables.now))) }
 {
-    for stream in tables.ssdts() {
-        print_stream("ssdt", stream, out)?;
+    print_walk(tables.ssdts(), out)
+}
+
+/// Prints `ssdt ADDRESS length L` for each stream.
+impl<H: Lender> Walk for SsdtIterator<'_, '_, H> {
+    ghost use Rattle.std.specs.Prelude.{codes, flat_map};
+    ghost use Rattle.std.proofs.Common.{ap};
+    ghost use Rattle.acpi.specs.Walks.{ssdts_left};
+    ghost use Rattle.acpi_report.specs.Lines.{stream_line};
+
+    ghost item_line = { stream_line (codes "ssdt") };
+
+    ghost lines = { λ s. flat_map (stream_line (codes "ssdt")) (ssdts_left H.memory s) };
+
+    fn print_item<W: Write>(stream: AmlTable, out: &mut W) -> io::Result<()>
+        ensures { OnOk result (Appends (W.contents out.old) (W.contents out.new)
+            (stream_line (codes "ssdt") stream)) }
+    {
+        print_stream("ssdt", stream, out)
     }
-    Ok(())
+
+    ghost next = { λ s t x e. ap (flat_map (stream_line (codes "ssdt"))) e };
+
+    ghost end = { λ s t e. ap (flat_map (stream_line (codes "ssdt"))) e.0 };
 }
 
 /// Prints the line of the event timer block, or its refusal.
@@ -212,7 +252,7 @@ pub fn print_pci<H: AcpiHandler, A: Allocator + Clone, W: Write>(
 }
 
 /// Prints the lines of the regions that are found, or their refusal.
-#[tactic(auto, using(crate::proofs::Writing::still_all, crate::proofs::Writing::still_less, crate::proofs::Writing::still_none, crate::proofs::Regions::shown_lines))]
+#[tactic(auto, using(crate::proofs::Writing::shown_lines))]
 fn print_regions<A: Allocator, W: Write>(
     found: AcpiResult<PciConfigRegions<A>>,
     out: &mut W,
@@ -220,29 +260,40 @@ fn print_regions<A: Allocator, W: Write>(
     ensures { OnOk result (Appends (W.contents out.old) (W.contents out.new)
         (lines_or_refusal (codes "pci") region_lines found)) }
 {
-    let regions = match found {
-        Ok(regions) => regions,
-        Err(refusal) => return print_refused("pci", refusal, out),
-    };
-    for region in regions.iter() {
-        print_region(region, out)?;
+    match found {
+        Ok(regions) => print_walk(regions.iter(), out),
+        Err(refusal) => print_refused("pci", refusal, out),
     }
-    Ok(())
 }
 
-/// Prints `pci SEGMENT FIRST LAST ADDRESS`.
-fn print_region<W: Write>(region: PciConfigEntry, out: &mut W) -> io::Result<()>
-    ensures { OnOk result (Appends (W.contents out.old) (W.contents out.new)
-        (region_line (shown_in region).0)) }
-{
-    let (first, last) = region.bus_range.into_inner();
-    let pieces = [
-        Piece::Number("pci ", region.segment_group as u64),
-        Piece::Number(" ", first as u64),
-        Piece::Number(" ", last as u64),
-        Piece::Address(" ", region.physical_address),
-    ];
-    write_line(&pieces, out)
+/// Prints `pci SEGMENT FIRST LAST ADDRESS` for each region.
+impl Walk for PciConfigEntryIterator<'_> {
+    ghost use Rattle.std.specs.Prelude.{flat_map};
+    ghost use Rattle.std.proofs.Common.{ap};
+    ghost use Rattle.acpi.specs.Pci.{shown_in, shown_left};
+    ghost use Rattle.acpi_report.specs.Lines.{shown_line};
+
+    ghost item_line = { λ region. shown_line (shown_in region) };
+
+    ghost lines = { λ s. flat_map shown_line (shown_left s) };
+
+    fn print_item<W: Write>(region: PciConfigEntry, out: &mut W) -> io::Result<()>
+        ensures { OnOk result (Appends (W.contents out.old) (W.contents out.new)
+            (shown_line (shown_in region))) }
+    {
+        let (first, last) = region.bus_range.into_inner();
+        let pieces = [
+            Piece::Number("pci ", region.segment_group as u64),
+            Piece::Number(" ", first as u64),
+            Piece::Number(" ", last as u64),
+            Piece::Address(" ", region.physical_address),
+        ];
+        write_line(&pieces, out)
+    }
+
+    ghost next = { λ s t x e. ap (flat_map shown_line) e };
+
+    ghost end = { λ s t e. ap (flat_map shown_line) e.0 };
 }
 
 /// Prints the line of the boot graphic, or its refusal.

@@ -1,6 +1,7 @@
 //! The program over any writers.
 ghost use Rattle.std.specs.Prelude.{◌≡◌, ◌≢◌, ◌⊎◌, IfOk, IfSome, None, OnOk, map};
-ghost use Rattle.std.specs.Io.KnownBytes.{Appends};
+ghost use Rattle.std.specs.Io.Buffered.{writer_contents};
+ghost use Rattle.std.specs.Io.KnownBytes.{Appends, Keeps};
 ghost use Rattle.std.specs.Option.{option_copied};
 ghost use Rattle.acpi_cli.specs.Root.{opened_for};
 ghost use Rattle.acpi_report.specs.Command.{root_for};
@@ -56,7 +57,7 @@ pub fn run<W: Write, E: Write>(
 /// command. It flushes both outputs, whatever is refused, and answers the status.
 ///
 /// Refuses with the refusal of the first write or flush that is refused.
-#[tactic(auto, using(crate::proofs::Flushed::ends_kept))]
+#[tactic(auto, using(crate::proofs::Running::ends_kept))]
 pub fn print_run<W: Write, E: Write>(
     alloc: Global,
     asked: Option<Root>,
@@ -70,12 +71,11 @@ pub fn print_run<W: Write, E: Write>(
         (W.contents out.old) (W.contents out.new) (E.contents err.old) (E.contents err.new)) }
 {
     let printed = print_all(alloc, asked, image, out, err);
-    let shown = out.flush();
-    let told = err.flush();
-    let status = printed?;
-    shown?;
-    told?;
-    Ok(status)
+    let flushed = out.flush().and(err.flush());
+    match printed {
+        Ok(status) => flushed.and(Ok(status)),
+        refused => refused,
+    }
 }
 
 /// Runs the program, as `print_run` does, over writers of which 32 KiB each are gathered before they are
@@ -97,7 +97,16 @@ pub fn run_gathered<W: Write + Drop, E: Write + Drop>(
     let mut out = BufWriter::with_capacity(alloc, BUFFERED, out)?;
     let mut err = BufWriter::with_capacity(alloc, BUFFERED, err)?;
     let status = print_run(alloc, asked, image, &mut out, &mut err)?;
-    Ok((status, out.into_inner()?, err.into_inner()?))
+    Ok((status, writer_of(out)?, writer_of(err)?))
+}
+
+/// The writer under a buffer, once all that is gathered is written.
+///
+/// Refuses with the refusal of a write.
+fn writer_of<W: Write + Drop>(gathered: BufWriter<W>) -> io::Result<W>
+    ensures { IfOk result (λ w. Keeps (writer_contents W.contents gathered) (W.contents w)) }
+{
+    Ok(gathered.into_inner()?)
 }
 
 /// Prints the lines, or the first fault, and answers the status.
@@ -140,7 +149,7 @@ pub fn refuse<D: Display + Drop, E: Write>(refusal: D, err: &mut E) -> io::Resul
 }
 
 /// Prints the lines of the tables in a memory, and answers the status.
-#[tactic(auto, using(crate::proofs::Output::no_lines))]
+#[tactic(auto, using(crate::proofs::Running::no_lines))]
 fn print_image<H: AcpiHandler, W: Write, E: Write>(
     alloc: Global,
     handler: &H,

@@ -1,26 +1,15 @@
 //! The program over any files and any writers.
-ghost use Rattle.std.specs.Prelude.{◌≡◌, IfOk, OnErr, map};
-ghost use Rattle.std.specs.Option.{option_copied};
+ghost use Rattle.std.specs.Prelude.{IfOk, OnErr, map};
 ghost use Rattle.acpi_cli.specs.Reads.{AsksFront};
 ghost use Rattle.acpi_report.specs.Command.{files_of};
-ghost use Rattle.acpi_report.specs.View.{Views, first_of};
+ghost use Rattle.acpi_report.specs.View.{Views};
 
 use crate::arguments::{files_named, parse_command};
 use crate::run::run_gathered;
-use acpi_cli::files::{Files, contents_from, count, read_all};
+use acpi_cli::files::{Files, last_content};
 use std::alloc::Global;
 use std::io;
 use std::io::Write;
-
-/// The bytes of the first file, or `None` if there is no such file or it can't be read.
-fn first_of<'f>(contents: &[Option<&'f [u8]>]) -> Option<&'f [u8]>
-    ensures { option_copied result ≡ first_of (map option_copied contents.now) }
-{
-    match contents {
-        [first, ..] => *first,
-        [] => None,
-    }
-}
 
 /// Runs the program on the arguments after its name. They are judged first. If they are a command, the file
 /// that the first of them names is read, and no other; if they are not, no file is read. It answers the
@@ -43,8 +32,11 @@ pub fn view<F: Files, W: Write + Drop, E: Write + Drop>(
         (F.asked files.old) (F.asked files.new)) }
 {
     let asked = parse_command(arguments);
-    let start = count(files);
-    read_all(files, files_named(asked, arguments))?;
-    let contents = contents_from(alloc, files, start)?;
-    run_gathered(alloc, asked, first_of(&contents), out, err)
+    match files_named(asked, arguments) {
+        [name, ..] => {
+            files.read(name)?;
+            run_gathered(alloc, asked, last_content(files), out, err)
+        }
+        [] => run_gathered(alloc, asked, None, out, err),
+    }
 }

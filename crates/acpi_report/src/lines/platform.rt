@@ -27,7 +27,6 @@ use std::io::Write;
 /// Memory for it is an allocator's.
 ///
 /// Refuses with the refusal of the first write that is refused.
-#[tactic(auto, using(crate::proofs::Writing::said_or_full))]
 pub fn print_platform<H: AcpiHandler, A: Allocator + Clone, W: Write>(
     alloc: A,
     tables: &AcpiTables<'_, H>,
@@ -55,7 +54,6 @@ fn print_found<A: Allocator, W: Write>(
 }
 
 /// Prints the lines of the profile, of the interrupt model, of the processors and of the timer.
-#[tactic(auto, using(crate::proofs::Writing::then_more))]
 fn print_info<A: Allocator, W: Write>(platform: &PlatformInfo<A>, out: &mut W) -> io::Result<()>
     ensures { OnOk result (Appends (W.contents out.old) (W.contents out.new)
         (info_lines platform.now)) }
@@ -108,7 +106,6 @@ fn print_model<A: Allocator, W: Write>(model: &InterruptModel<A>, out: &mut W) -
 }
 
 /// Prints the line of the local APICs, then the lines of each list.
-#[tactic(auto, using(crate::proofs::Writing::then_more))]
 fn print_apic<A: Allocator, W: Write>(apic: &Apic<A>, out: &mut W) -> io::Result<()>
     ensures { OnOk result (Appends (W.contents out.old) (W.contents out.new)
         (apic_lines apic.now)) }

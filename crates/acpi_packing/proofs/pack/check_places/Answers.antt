@@ -1,5 +1,5 @@
 use Rattle.std.proofs.Common.{◌∙◌, sym}
-use Rattle.acpi_packing.proofs.Packing.{place_checked, regions_past}
+use Rattle.acpi_packing.proofs.Files.{place_checked, regions_past}
 use Rattle.acpi_packing.proofs.pack.check_places.Goals as goal
 
 pub loop-index-preserved : goal.loop-index-preserved

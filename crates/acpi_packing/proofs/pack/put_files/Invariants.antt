@@ -1,11 +1,11 @@
-use Rattle.std.proofs.Common.{◌≡◌, ◌++◌, drop}
+use Rattle.std.proofs.Common.{◌≡◌, ◌++◌}
 use Rattle.std.specs.Prelude.{flat_map}
 use Rattle.acpi_image_reader.specs.Image.{record_spelling}
-use Rattle.acpi_packing.specs.Held.{contents}
+use Rattle.acpi_packing.specs.Held.{contents, regions_left}
 use Rattle.acpi_packing.specs.Pack.{regions}
 use Rattle.acpi_packing.proofs.pack.put_files.Given as goal
 
-abbrev pub invariant-loop-index : goal.invariant-loop-index
-invariant-loop-index l =
-    l.file.items ++ flat_map record_spelling (regions (drop l.index l.addresses) (contents (drop l.index l.files)))
-    ≡ l.initial.file.items ++ flat_map record_spelling (regions l.addresses (contents l.files))
+abbrev pub invariant-loop-table : goal.invariant-loop-table
+invariant-loop-table l =
+    l.file.items ++ flat_map record_spelling (regions_left l.table-iterator)
+    ≡ l.initial.file.items ++ flat_map record_spelling (regions l.addresses (contents l.fn.files))

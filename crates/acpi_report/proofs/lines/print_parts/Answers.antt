@@ -1,7 +1,7 @@
 use Rattle.acpi.specs.Opened.{opened_of}
 use Rattle.acpi.specs.Tables.{memory_of, pointers_of}
 use Rattle.std.specs.Io.KnownBytes.{Appends}
-use Rattle.acpi_report.proofs.Output.{all_lines}
+use Rattle.acpi_report.proofs.Running.{all_lines}
 use Rattle.acpi_report.proofs.Writing.{on_ok}
 use Rattle.acpi_report.specs.Lines.{spcr_lines}
 use Rattle.acpi_report.specs.Output.{IsLines}

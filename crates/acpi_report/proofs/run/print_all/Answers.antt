@@ -1,6 +1,6 @@
 use Rattle.std.proofs.Common.{ap}
 use Rattle.std.specs.Option.{option_copied}
-use Rattle.acpi_report.proofs.Refused.{image_ends, unreadable_ends, usage_ends}
+use Rattle.acpi_report.proofs.Running.{image_ends, unreadable_ends, usage_ends}
 use Rattle.acpi_report.proofs.run.print_all.Goals as goal
 
 pub returns-in_default-image : goal.returns-in_default-image

@@ -1,6 +1,6 @@
 use Rattle.std.proofs.Common.{map}
 use Rattle.std.specs.Option.{option_copied}
-use Rattle.acpi_report.proofs.Viewing.{printed}
+use Rattle.acpi_report.proofs.Running.{printed}
 use Rattle.acpi_report.proofs.run.run.Goals as goal
 
 pub returns-clause-printed : goal.returns-clause-printed

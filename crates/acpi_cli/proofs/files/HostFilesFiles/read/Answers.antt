@@ -1,7 +1,18 @@
-use Rattle.std.proofs.Common.{◌∙◌, ◌++◌, ◌∷◌, [], ap}
-use Rattle.std.specs.Prelude.{option_map}
-use Rattle.acpi_cli.proofs.Asking.{listed}
+use Rattle.std.proofs.Common.{◌≡◌, ◌∙◌, ◌++◌, ◌∷◌, ℕ, List, [], ap, map}
+use Rattle.std.specs.Prelude.{option_map, string_bytes}
+use Rattle.std.proofs.lemmas.List.{map-append}
+use Rattle.acpi_cli.specs.Reads.{read_of}
+use Rattle.acpi_cli.specs.declared.files.Reading.{Reading}
 use Rattle.acpi_cli.proofs.files.HostFilesFiles.read.Goals as goal
+
+-- one more is listed
+listed : (before after : List Reading) (r : Reading) (name : List ℕ)
+    → after ≡ before ++ r ∷ [] → string_bytes r.name ≡ name
+    → map read_of after
+    ≡ map read_of before ++ record { name = name; content = option_map (λ v. v.items) r.content } ∷ []
+listed before after r name grown named = ap (map read_of) grown ∙ map-append read_of before (r ∷ [])
+    ∙ ap (λ n. map read_of before ++ record { name = n; content = option_map (λ v. v.items) r.content } ∷ [])
+    named
 
 pub returns-clause-asked : goal.returns-clause-asked
 returns-clause-asked c = (

@@ -1,13 +1,13 @@
 -- Asking for files one after the other.
-use Rattle.std.proofs.Common.{Bor, ◌-◌, take, ◌+◌, ◌<◌, ◌≤◌, drop, get_or, length, subst, ◌≡◌, ◌∙◌, ℕ, List, [], ◌∷◌, ◌++◌, ap, map, refl, sym}
-use Rattle.std.specs.Prelude.{Option, option_map, string_bytes}
+use Rattle.std.proofs.Common.{Bor, ◌+◌, ◌<◌, ◌≤◌, drop, get_or, length, subst, ◌≡◌, ◌∙◌, ℕ, List, [], ◌∷◌, ◌++◌, ap, arith, map, refl, sym}
+use Rattle.std.specs.Prelude.{Option}
 use Rattle.std.proofs.Math.ListN.{drop_of_length-le}
-use Rattle.std.proofs.lemmas.List.{drop-map, drop_more, take_rest, append_assoc, append-nil, map-append}
-use Rattle.acpi_cli.specs.Reads.{Asks, AsksUntil, FileRead, read_of}
-use Rattle.acpi_cli.specs.declared.files.Reading.{Reading}
+use Rattle.std.proofs.lemmas.List.{drop_more, append_assoc, append-nil, map-append}
+use Rattle.acpi_cli.specs.Reads.{Asks, AsksUntil, FileRead}
+use Rattle.acpi_packing.proofs.reading.read_all.Goals as goal
 
 -- at first none was asked for
-pub none_asked : (names : List (List ℕ)) (before : List FileRead) → AsksUntil names names before before
+none_asked : (names : List (List ℕ)) (before : List FileRead) → AsksUntil names names before before
 none_asked names before = record {
   front = [];
   names_are = refl;
@@ -15,7 +15,7 @@ none_asked names before = record {
 }
 
 -- one more is asked for
-pub next_asked : (n : List ℕ) (left names : List (List ℕ)) (before now after : List FileRead)
+next_asked : (n : List ℕ) (left names : List (List ℕ)) (before now after : List FileRead)
     → AsksUntil (n ∷ left) names before now
     → ((content : Option (List ℕ)) × (after ≡ now ++ record { name = n; content = content } ∷ []))
     → AsksUntil left names before after
@@ -32,7 +32,7 @@ next_asked n left names before now after until (content, grown) = record {
 }
 
 -- none is left
-pub all_asked : (names : List (List ℕ)) (before after : List FileRead)
+all_asked : (names : List (List ℕ)) (before after : List FileRead)
     → AsksUntil [] names before after → Asks names before after
 all_asked names before after until = record {
   reads = until.asks.reads;
@@ -40,17 +40,8 @@ all_asked names before after until = record {
   grown = until.asks.grown;
 }
 
--- one more is listed
-pub listed : (before after : List Reading) (r : Reading) (name : List ℕ)
-    → after ≡ before ++ r ∷ [] → string_bytes r.name ≡ name
-    → map read_of after
-    ≡ map read_of before ++ record { name = name; content = option_map (λ v. v.items) r.content } ∷ []
-listed before after r name grown named = ap (map read_of) grown ∙ map-append read_of before (r ∷ [])
-    ∙ ap (λ n. map read_of before ++ record { name = n; content = option_map (λ v. v.items) r.content } ∷ [])
-    named
-
 -- one more name is asked for, of names that are borrowed and come one after the other
-pub next_name : (names : List (Bor (List ℕ))) (i : ℕ) (n : Bor (List ℕ)) (before now after : List FileRead)
+next_name : (names : List (Bor (List ℕ))) (i : ℕ) (n : Bor (List ℕ)) (before now after : List FileRead)
     → i < length names
     → AsksUntil (map (λ n. n.now) (drop i names)) (map (λ n. n.now) names) before now
     → ((content : Option (List ℕ))
@@ -63,15 +54,22 @@ next_name names i n before now after inside until grown =
     (drop_more names i n inside) until)
     grown
 
-pub all_names : (names : List (Bor (List ℕ))) (i : ℕ) (before after : List FileRead)
+all_names : (names : List (Bor (List ℕ))) (i : ℕ) (before after : List FileRead)
     → length names ≤ i → AsksUntil (map (λ n. n.now) (drop i names)) (map (λ n. n.now) names) before after
     → Asks (map (λ n. n.now) names) before after
 all_names names i before after over until = all_asked (map (λ n. n.now) names) before after
     (subst (λ left. AsksUntil (map (λ n. n.now) left) (map (λ n. n.now) names) before after)
     (drop_of_length-le names over) until)
 
--- those after the first so many
-pub later_read : (readings : List Reading) (start : ℕ)
-    → map read_of (take (length readings - start) (drop start readings)) ≡ drop start (map read_of readings)
-later_read readings start =
-    ap (map read_of) (take_rest readings start) ∙ sym (drop-map read_of start readings)
+pub loop-name-init : goal.loop-name-init
+loop-name-init g c = none_asked _ _
+
+pub loop-name-preserved : goal.loop-name-preserved
+loop-name-preserved g c =
+    next_name c.args.names.now c.loop-name.name-index _ _ _ _ c.loop-name-test.true
+    c.loop-name.invariant c.in_ok-read.ensures.asked
+
+pub returns-clause-asked : goal.returns-clause-asked
+returns-clause-asked g c =
+    let over : length c.args.names.now ≤ c.loop-name.name-index = omega (arith, c.loop-name-test.false) in
+    all_names c.args.names.now c.loop-name.name-index _ _ over c.loop-name.invariant

@@ -1,6 +1,6 @@
 use Rattle.std.proofs.Common.{drop, map}
 use Rattle.acpi_cli.specs.Reads.{AsksUntil}
-use Rattle.acpi_cli.proofs.files.read_all.Given as goal
+use Rattle.acpi_packing.proofs.reading.read_all.Given as goal
 
 -- the names still to come are left
 abbrev pub invariant-loop-name : goal.invariant-loop-name

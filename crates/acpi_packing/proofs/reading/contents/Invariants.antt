@@ -1,7 +1,7 @@
 use Rattle.std.proofs.Common.{◌≡◌, ◌++◌, drop, map}
 use Rattle.std.specs.Option.{option_copied}
 use Rattle.acpi_cli.specs.Reads.{contents_of, read_of}
-use Rattle.acpi_cli.proofs.files.contents.Given as goal
+use Rattle.acpi_packing.proofs.reading.contents.Given as goal
 
 abbrev pub invariant-loop-reading : goal.invariant-loop-reading
 invariant-loop-reading l =

@@ -1,5 +1,5 @@
--- Files at their addresses.
-use Rattle.std.proofs.Common.{◌≡◌, ℕ, zero, suc, ◌+◌, ◌<◌, ◌≤◌, List, [], ◌∷◌, ◌++◌, length, drop, take, get_or, drop-cons, add-one, Ok, refl, ap, arith, inl, inr}
+-- Files: how many are of a role, and what lies at their addresses.
+use Rattle.std.proofs.Common.{◌≡◌, ℕ, zero, suc, ◌+◌, ◌<◌, ◌≤◌, List, [], ◌∷◌, ◌++◌, length, drop, take, get_or, drop-cons, add-one, Ok, refl, ap, arith, inl, inr, Bool, true, false, if◌then◌else◌}
 use Rattle.std.specs.Prelude.{Option, min}
 use Rattle.std.specs.Borrow.{Bor}
 use Rattle.std.proofs.Math.ListN.{drop_of_length-le}
@@ -7,7 +7,25 @@ use Rattle.std.proofs.lemmas.Bool.{cases_lt}
 use Rattle.acpi_base.specs.Memory.{Memory, Region}
 use Rattle.acpi_packing.specs.Held.{content, contents}
 use Rattle.acpi_packing.specs.Pack.{check_place, check_places, regions}
-use Rattle.acpi_packing.specs.Sources.{bytes_in}
+use Rattle.acpi_packing.specs.Sources.{bytes_in, entries, is_of}
+use Rattle.std.proofs.lemmas.List.{length-map}
+use Rattle.acpi_packing.specs.declared.sources.FileRole.{FileRole}
+
+-- ---- how many are of a role
+
+few_by : (b : Bool) (e : ℕ × List ℕ) (es : List (ℕ × List ℕ)) (n : ℕ) → length es ≤ n → length (if b then e ∷ es else es) ≤ suc n
+few_by true e es n few = omega (arith, few)
+few_by false e es n few = omega (arith, few)
+
+few : (role : FileRole) (n : ℕ) (files : List (Option (List ℕ))) → length (entries role n files) ≤ length files
+few role n [] = omega arith
+few role n (file ∷ files) = few_by (is_of role (bytes_in file)) (n, bytes_in file) (entries role (n + 1) files) (length files) (few role (n + 1) files)
+
+-- no more than there are files
+pub entries_few : (role : FileRole) (files : List (Option (Bor (List ℕ)))) → length (entries role 0 (contents files)) ≤ length files
+entries_few role files = rw (length-map files content) at (few role 0 (contents files))
+
+-- ---- files at their addresses
 
 -- the file at an index, at its address
 abbrev region_at : ℕ → List ℕ → List (Option (Bor (List ℕ))) → ℕ → Option (Bor (List ℕ)) → Region
