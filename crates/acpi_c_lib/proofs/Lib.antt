@@ -9,4 +9,3 @@ pub mod Lying
 pub mod Names
 pub mod TimerCounts
 pub mod Unlent
-pub mod UnlentRoot

@@ -1,117 +1,134 @@
--- What is refused because it isn't lent has a range that isn't lent.
-use Rattle.std.proofs.Common.{◌≡◌, ◌⊎◌, inl, inr, ℕ, ◌≤◌, Bool, true, false, List, Option, Some, None, Result, Ok, Err, refl, sym, ap, subst, ◌∙◌, arith}
-use Rattle.std.specs.Prelude.{◌&&◌, ◌==◌, nat_le, take, length}
-use Rattle.std.specs.Option.{ok_or}
-use Rattle.std.specs.Str.{bytes_eq, is_utf8}
-use Rattle.std.proofs.lemmas.Bool.{le-ltb, leb-true}
-use Rattle.acpi_base.specs.Bytes.{field_of, sum_of}
-use Rattle.acpi_base.specs.Header.{check_names, check_table, header_at}
+-- Where what leads to a table is refused because it isn't lent.
+use Rattle.std.proofs.Common.{◌≡◌, ℕ, ◌≤◌, List, [], ◌∷◌, ◌++◌, Bool, true, false, Option, Some, None, Result, Ok, Err, arith, refl, sym, ap, subst, ◌∙◌, if◌then◌else◌}
+use Rattle.std.specs.Prelude.{◌==◌}
+use Rattle.std.specs.List.{last_or}
+use Rattle.std.specs.Option.{option_map}
+use Rattle.std.specs.Result.{is_ok}
+use Rattle.acpi_base.specs.Bytes.{field_of}
+use Rattle.acpi_base.specs.Header.{check_names, check_table}
 use Rattle.acpi_base.specs.Memory.{Memory, at}
-use Rattle.acpi_base.specs.Steps.{◌>>=◌, holds, lent}
-use Rattle.acpi_base.specs.Table.{length_in, own_table_at, plain_kind, table_at, table_of, whole_of}
+use Rattle.acpi_base.specs.Ranges as ranges
+use Rattle.acpi_base.specs.Ranges.{Ranges}
+use Rattle.acpi_base.specs.Steps.{◌>>=◌, lent}
+use Rattle.acpi_base.specs.Table.{length_in, table_at, table_of, whole_of}
 use Rattle.acpi_base.specs.declared.error.AcpiError.{AcpiError}
-use Rattle.acpi_base.specs.declared.error.AcpiError.TheVariants.{MapFailed, SdtInvalidChecksum, SdtInvalidLength, SdtInvalidOemId, SdtInvalidSignature, SdtInvalidTableId}
+use Rattle.acpi_base.specs.declared.error.AcpiError.TheVariants.{MapFailed, NoValidRsdp}
 use Rattle.acpi_base.specs.declared.table.header.SdtHeader.{SdtHeader}
 use Rattle.acpi_base.specs.declared.table.signature.Signature.{Signature}
-use Rattle.acpi_c_lib.specs.Missing.{IsThere, MembersHaveHoles, hole_at, hole_if, range_of, table_hole, table_hole_by}
+use Rattle.acpi.specs.Opened.{opened_at, opened_by_rsdp, opened_by_search, opened_from}
+use Rattle.acpi.specs.OpenedRanges.{area_ranges, opened_by_rsdp_ranges, opened_by_search_ranges, opened_ranges, or_else_ranges, search_ranges}
+use Rattle.acpi.specs.Root.{root_of_revision}
+use Rattle.acpi.specs.Rsdp.{check_first, check_sum, extended_length_of, length_of, rsdp_at, rsdp_of}
+use Rattle.acpi.specs.Search.{first_area, found_in, found_rsdp, or_else, room_of, second_area, word_in}
+use Rattle.acpi_c_lib.specs.Below.{refused_as}
+use Rattle.acpi_c_lib.specs.declared.refusal.Refusal.{Refusal}
+use Rattle.acpi_c_lib.specs.declared.refusal.Refusal.TheVariants.{Acpi, UnknownStart}
+use Rattle.acpi_c_lib.specs.Missing.{IsUnlent, OpeningHasHole, hole, last_range, range_of}
 
--- ---- steps that refuse
-
-pub bind_err : {A B E : Type 0} (r : Result A E) (f : A → Result B E) (e : E) → (r >>= f) ≡ Err e → (r ≡ Err e) ⊎ ((x : A) × (r ≡ Ok x) × (f x ≡ Err e))
-bind_err (Ok x) f e h = inr (x, refl, h)
-bind_err (Err d) f e h = inl cc
-
-pub check_not : (b : Bool) (d : AcpiError) → (d ≡ MapFailed → ⊥) → holds b d ≡ Err MapFailed → ⊥
-check_not true d other h = cc
-check_not false d other h = other cc
-
-pub step_not : {A : Type 0} (b : Bool) (d : AcpiError) (f : Unit {0} → Result A AcpiError) → (d ≡ MapFailed → ⊥) → (f tt ≡ Err MapFailed → ⊥) → (holds b d >>= f) ≡ Err MapFailed → ⊥
-step_not true d f other rest h = rest h
-step_not false d f other rest h = other cc
-
-pub unlent_none : (o : Option (List ℕ)) (e : AcpiError) → ok_or o MapFailed ≡ Err e → o ≡ None
-unlent_none None e h = refl
-unlent_none (Some b) e h = cc
-
--- ---- the checks of a table
+-- ---- the checks, which refuse by other errors
 
 names_not : (s : Signature) (h : SdtHeader) → check_names s h ≡ Err MapFailed → ⊥
 unfolding check_names
-names_not s h e =
-    let last : Unit {0} → Result (Unit {0}) AcpiError = λ (x : Unit {0}). holds (is_utf8 h.oem_table_id) (SdtInvalidTableId s) in
-    let later : Unit {0} → Result (Unit {0}) AcpiError = λ (x : Unit {0}). holds (is_utf8 h.oem_id) (SdtInvalidOemId s) >>= last in
-    step_not (bytes_eq h.signature.0 s.0 && is_utf8 h.signature.0) (SdtInvalidSignature s) later (λ q. cc)
-    (step_not (is_utf8 h.oem_id) (SdtInvalidOemId s) last (λ q. cc) (check_not (is_utf8 h.oem_table_id) (SdtInvalidTableId s) (λ q. cc))) e
+names_not s h e = grind arith
 
-length_not : (s : Signature) (least : ℕ) (h : SdtHeader) → length_in s least h ≡ Err MapFailed → ⊥
+pub length_not : (s : Signature) (h : SdtHeader) → length_in s 36 h ≡ Err MapFailed → ⊥
 unfolding length_in
-length_not s least h e =
-    elim (bind_err (check_names s h) (λ _. holds (nat_le least h.length) (SdtInvalidLength s) >>= λ _. Ok h.length) MapFailed e)
-    [ inl a ↦ names_not s h a | inr w ↦ step_not (nat_le least h.length) (SdtInvalidLength s) (λ _. Ok h.length) (λ q. cc) (λ q. cc) w.2 ]
+length_not s h e = grind (arith, names_not)
 
-table_not : (s : Signature) (b : List ℕ) → check_table s b ≡ Err MapFailed → ⊥
+pub length_same : (s : Signature) (h : SdtHeader) (n : ℕ) → length_in s 36 h ≡ Ok n → h.length ≡ n
+unfolding length_in
+length_same s h n e = grind arith
+
+pub table_not : (s : Signature) (b : List ℕ) → check_table s b ≡ Err MapFailed → ⊥
 unfolding check_table
-table_not s b e =
-    let last : Unit {0} → Result (Unit {0}) AcpiError = λ (x : Unit {0}). holds (sum_of (take (field_of b 4 4) b) == 0) (SdtInvalidChecksum s) in
-    let later : Unit {0} → Result (Unit {0}) AcpiError = λ (x : Unit {0}). holds (nat_le 36 (field_of b 4 4) && nat_le (field_of b 4 4) (length b)) (SdtInvalidLength s) >>= last in
-    elim (bind_err (check_names s (header_at b)) later MapFailed e) [
-      | inl a ↦ names_not s (header_at b) a
-      | inr w ↦ step_not (nat_le 36 (field_of b 4 4) && nat_le (field_of b 4 4) (length b)) (SdtInvalidLength s) last (λ q. cc)
-          (check_not (sum_of (take (field_of b 4 4) b) == 0) (SdtInvalidChecksum s) (λ q. cc)) w.2
-    ]
+table_not s b e = grind (arith, names_not)
 
-names_then : {A : Type 0} (r : Result (Unit {0}) AcpiError) (f : Unit {0} → Result A AcpiError) (y : A) → (r >>= f) ≡ Ok y → f tt ≡ Ok y
-names_then (Ok tt) f y e = e
-names_then (Err d) f y e = cc
+pub sum_not : (b : List ℕ) → check_sum b ≡ Err MapFailed → ⊥
+unfolding check_sum
+sum_not b e = grind arith
 
-length_then : (b : Bool) (d : AcpiError) (x n : ℕ) → (holds b d >>= λ _. Ok x) ≡ Ok n → (b ≡ true) × (x ≡ n)
-length_then true d x n e = (refl, cc)
-length_then false d x n e = cc
+pub rsdp_not : (b : List ℕ) → length_of b ≡ Err MapFailed → ⊥
+unfolding length_of check_first
+rsdp_not b e = grind (arith, sum_not)
 
-length_said : (s : Signature) (least n : ℕ) (h : SdtHeader) → length_in s least h ≡ Ok n → (nat_le least h.length ≡ true) × (h.length ≡ n)
-unfolding length_in
-length_said s least n h e =
-    length_then (nat_le least h.length) (SdtInvalidLength s) h.length n (names_then (check_names s h) (λ _. holds (nat_le least h.length) (SdtInvalidLength s) >>= λ _. Ok h.length) n e)
+pub rsdp_length : (b : List ℕ) (o : Option ℕ) → length_of b ≡ Ok o → extended_length_of (rsdp_of b) ≡ o
+unfolding length_of
+rsdp_length b o e = grind arith
 
--- ---- its range
+pub rsdp_long : (b : List ℕ) (n : ℕ) → length_of b ≡ Ok (Some n) → 36 ≤ n
+unfolding length_of
+rsdp_long b n e = grind arith
 
-pub hole_there : (m : Memory) (p n : ℕ) → 36 ≤ n → at m p n ≡ None → IsThere m (hole_at m p n)
-hole_there m p n long e = (range_of p n, rw (le-ltb n 2 (omega (arith, long)), e) refl, e)
+-- ---- the last range
 
-whole_there : (m : Memory) (s : Signature) (p : ℕ) (head : List ℕ) → whole_of m s 36 p head ≡ Err MapFailed → IsThere m (table_hole_by m p (Ok head))
-unfolding whole_of
-whole_there m s p head e =
-    elim (bind_err (length_in s 36 (header_at head)) (λ n. lent m p n) MapFailed e) [
-      | inl a ↦ absurd (length_not s 36 (header_at head) a)
-      | inr w ↦
-          let said = length_said s 36 w.0 (header_at head) w.1 in
-          let gone : at m p w.0 ≡ None = unlent_none (at m p w.0) MapFailed w.2 in
-          hole_there m p (header_at head).length (leb-true 36 (header_at head).length said.0) (ap (at m p) said.1 ∙ gone)
-    ]
+-- a definition without ranges has no last one
+pub no_hole : {A : Type 0} (r : Result A AcpiError) → hole r [] ≡ None
+no_hole r = grind arith
 
-of_there : (m : Memory) (s : Signature) (p : ℕ) (head : List ℕ) → table_of m (plain_kind s) p head ≡ Err MapFailed → IsThere m (table_hole_by m p (Ok head))
-unfolding table_of
-of_there m s p head e =
-    elim (bind_err (whole_of m s 36 p head) (λ table. check_table s table >>= λ _. Ok table) MapFailed e) [
-      | inl a ↦ whole_there m s p head a
-      | inr w ↦ elim (bind_err (check_table s w.0) (λ _. Ok w.0) MapFailed w.2) [ inl a ↦ absurd (table_not s w.0 a) | inr v ↦ cc ]
-    ]
+pub last_append : {A : Type 0} (o : Option A) (xs ys : List A) → last_or o (xs ++ ys) ≡ last_or (last_or o xs) ys
+last_append o [] ys = refl
+last_append o (x ∷ xs) ys = last_append (Some x) xs ys
 
-table_there_by : (m : Memory) (s : Signature) (p : ℕ) (o : Result (List ℕ) AcpiError) → lent m p 36 ≡ o → (o >>= table_of m (plain_kind s) p) ≡ Err MapFailed → IsThere m (table_hole_by m p o)
-table_there_by m s p (Ok head) is e = of_there m s p head e
-table_there_by m s p (Err d) is e = (range_of p 36, refl, unlent_none (at m p 36) d is)
+-- ---- the search
 
-pub table_there : (m : Memory) (s : Signature) (p : ℕ) → table_at m (plain_kind s) p ≡ Err MapFailed → IsThere m (table_hole m p)
-unfolding table_at
-table_there m s p e = table_there_by m s p (lent m p 36) refl e
+-- where it is refused: at the word, or if that is lent at the first area, or if that is lent too at the second
+abbrev pub refused_by : Bool → ℕ × ℕ → (ℕ → ℕ × ℕ) → Result (List ℕ) AcpiError → ℕ × ℕ
+refused_by true first second (Ok b) = second (field_of b 0 2)
+refused_by false first second (Ok b) = first
+refused_by ok first second (Err e) = (0x40e, 2)
 
-own_there_by : (m : Memory) (p : ℕ) (o : Result (List ℕ) AcpiError) → lent m p 36 ≡ o → (o >>= λ head. table_at m (plain_kind (header_at head).signature) p) ≡ Err MapFailed → IsThere m (table_hole m p)
-own_there_by m p (Ok head) is e = table_there m (header_at head).signature p e
-own_there_by m p (Err d) is e = rw is (range_of p 36, refl, unlent_none (at m p 36) d is)
+abbrev pub refused_at : Bool → Result (List ℕ) AcpiError → ℕ × ℕ
+refused_at ok r = refused_by ok (first_area.start, room_of first_area) (λ w. ((second_area w).start, room_of (second_area w))) r
 
-own_there : (m : Memory) (p : ℕ) → own_table_at m p ≡ Err MapFailed → IsThere m (table_hole m p)
-unfolding own_table_at
-own_there m p e = own_there_by m p (lent m p 36) refl e
+search_by : (m : Memory) (ok : Bool) (s : _) (t : ℕ → _) (r : Result (List ℕ) AcpiError) → is_ok (lent m s.start (room_of s)) ≡ ok → lent m 0x40e 2 ≡ r
+    → ((r >>= λ b. Ok (field_of b 0 2)) >>= λ word. found_in m s >>= λ first. or_else first (found_in m (t word) >>= λ second. or_else second (Err NoValidRsdp))) ≡ Err MapFailed
+    → let at_end = refused_by ok (s.start, room_of s) (λ w. ((t w).start, room_of (t w))) r in
+    (last_or (Some (0x40e, 2)) (ranges.◌>>=◌ (r >>= λ b. Ok (field_of b 0 2)) (λ word. area_ranges m s ++ ranges.◌>>=◌ (found_in m s) (λ first. or_else_ranges first (area_ranges m (t word))))) ≡ Some at_end)
+    × (at m at_end.0 at_end.1 ≡ None)
+unfolding found_in
+search_by m true s t (Ok b) first is e = rw last_append (grind arith)
+search_by m false s t (Ok b) first is e = rw last_append (grind arith)
+search_by m ok s t (Err d) first is e = grind arith
 
-pub members_have_holes : MembersHaveHoles
-members_have_holes m p e = subst (λ o. IsThere m (hole_if o (table_hole m p))) (sym e) (own_there m p e)
+search_last : (m : Memory) (ok : Bool) → is_ok (lent m first_area.start (room_of first_area)) ≡ ok → found_rsdp m ≡ Err MapFailed
+    → let r = refused_at ok (lent m 0x40e 2) in (last_or None (search_ranges m) ≡ Some r) × (at m r.0 r.1 ≡ None)
+unfolding found_rsdp word_in
+search_last m ok first e = search_by m ok first_area second_area (lent m 0x40e 2) first refl e
+
+pub search_refused : (m : Memory) (ok : Bool) (o : Result (List ℕ) AcpiError) (x : _) → is_ok (lent m first_area.start (room_of first_area)) ≡ ok → lent m 0x40e 2 ≡ o → x ≡ range_of (refused_at ok o)
+    → found_rsdp m ≡ Err MapFailed → last_range (search_ranges m) ≡ Some x
+search_refused m ok o x first is place e =
+    ap (option_map range_of) (search_last m ok first e).0 ∙ ap (λ q. Some (range_of (refused_at ok q))) is ∙ sym (ap (λ y. Some y) place)
+
+search_unlent : (m : Memory) → found_rsdp m ≡ Err MapFailed → IsUnlent m (last_range (search_ranges m))
+search_unlent m e =
+    let last = search_last m (is_ok (lent m first_area.start (room_of first_area))) refl e in
+    subst (λ o. IsUnlent m (option_map range_of o)) (sym last.0) last.1
+
+-- ---- opening
+
+from_unlent : (m : Memory) (place : _) → opened_from m place ≡ Err MapFailed → IsUnlent m (last_range (opened_ranges m place))
+unfolding table_at table_of whole_of
+from_unlent m place e = grind (arith, length_not, table_not)
+
+rsdp_unlent : (m : Memory) (a : ℕ) → opened_by_rsdp m a ≡ Err MapFailed → IsUnlent m (last_range (opened_by_rsdp_ranges m a))
+unfolding rsdp_at
+rsdp_unlent m a e = grind (arith, sum_not, rsdp_not, from_unlent)
+
+by_search_unlent : (m : Memory) → opened_by_search m ≡ Err MapFailed → IsUnlent m (last_range (opened_by_search_ranges m))
+by_search_unlent m e = rw last_append (grind (arith, search_unlent, from_unlent))
+
+refused_is : {A : Type 0} (r : Result A AcpiError) → refused_as r ≡ Err (Acpi MapFailed) → r ≡ Err MapFailed
+refused_is r e = grind arith
+
+started : {A : Type 0} (m : Memory) (b : Bool) (r : Result A AcpiError) (later : Result A Refusal) (R S : Ranges) → (r ≡ Err MapFailed → IsUnlent m (last_range R)) → (later ≡ Err (Acpi MapFailed) → IsUnlent m (last_range S))
+    → (if b then refused_as r else later) ≡ Err (Acpi MapFailed) → IsUnlent m (last_range (if b then R else S))
+started m true r later R S first second e = first (refused_is r e)
+started m false r later R S first second e = second e
+
+pub opening_unlent : OpeningHasHole
+opening_unlent m s =
+    started m (s.start == 0) (opened_by_rsdp m s.address) _ (opened_by_rsdp_ranges m s.address) _ (rsdp_unlent m s.address)
+    (started m (s.start == 1) (opened_at m (0, s.address)) _ (opened_ranges m (root_of_revision 0 s.address)) _ (from_unlent m (root_of_revision 0 s.address))
+    (started m (s.start == 2) (opened_at m (2, s.address)) _ (opened_ranges m (root_of_revision 2 s.address)) _ (from_unlent m (root_of_revision 2 s.address))
+    (started m (s.start == 3) (opened_by_search m) (Err UnknownStart) (opened_by_search_ranges m) [] (by_search_unlent m) (λ q. cc))))

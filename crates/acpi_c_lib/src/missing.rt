@@ -1,11 +1,24 @@
 //! The ranges of memory that a caller has to map before the calls can read all tables.
-ghost use Rattle.std.specs.Prelude.{◌≡◌, ◌+◌, ◌++◌, ◌^◌, ◌<◌, length};
+ghost use Rattle.std.specs.Prelude.{◌≡◌, [], ◌+◌, ◌++◌, ◌^◌, ◌<◌, ◌≤◌, filter_map, length, Err, Some};
+ghost use Rattle.std.specs.List.{cons_option};
+ghost use Rattle.std.specs.Result.{is_ok};
+ghost use Rattle.acpi_base.specs.Ranges.{own_table_ranges, table_ranges};
 ghost use Rattle.acpi_base.specs.Steps.{lent};
+ghost use Rattle.acpi_base.specs.Table.{own_table_at, plain_kind, table_at};
+ghost use Rattle.acpi_base.specs.declared.error.AcpiError.TheVariants.{MapFailed};
+ghost use Rattle.acpi_base.specs.declared.table.signature.Signature.{Signature};
+ghost use Rattle.acpi.specs.Opened.{opened_by_rsdp, opened_by_search, opened_from};
+ghost use Rattle.acpi.specs.OpenedRanges.{opened_by_rsdp_ranges, opened_by_search_ranges, opened_ranges};
+ghost use Rattle.acpi.specs.OpenedRanges.{search_ranges};
+ghost use Rattle.acpi.specs.Places.{dsdt_place, dsdt_place_ranges, facs_place, facs_place_ranges};
 ghost use Rattle.acpi.specs.Pointers.{pointers_left};
+ghost use Rattle.acpi.specs.Rsdp.{root_of};
+ghost use Rattle.acpi.specs.Search.{found_rsdp, room_of, second_area};
 ghost use Rattle.acpi_c_lib.specs.Answers.{Fills, put_from};
-ghost use Rattle.acpi_c_lib.specs.Missing as missing;
-ghost use Rattle.acpi_c_lib.specs.Missing.{holes_in, missing_below, opening_hole, pair_list};
-ghost use Rattle.acpi_c_lib.specs.Missing.{rsdp_hole, search_hole, table_hole};
+ghost use Rattle.acpi_c_lib.specs.Below.{opened_in};
+ghost use Rattle.acpi_c_lib.specs.Missing.{hole, last_range, member_hole, missing_below};
+ghost use Rattle.acpi_c_lib.specs.Missing.{opening_ranges, range_of};
+ghost use Rattle.acpi_c_lib.specs.declared.refusal.Refusal.TheVariants.{Acpi};
 
 use crate::answer::put;
 use crate::opening::open;
@@ -28,53 +41,45 @@ pub fn missing(source: &Source<'_>, out: &mut [Range]) -> Result<usize, Refusal>
                 Ok(fadt) => (dsdt_hole(&memory, &fadt), facs_hole(&memory, &fadt)),
                 Err(_) => (None, None),
             };
-            Ok(fill_all(&memory, tables.addresses(), led, out))
+            Ok(fill(&memory, tables.addresses(), led, out))
         }
         Err(Refusal::Acpi(AcpiError::MapFailed)) => {
-            Ok(put_hole(opening_hole(&memory, source), out))
+            let refused = opening_hole(&memory, source);
+            Ok(put_pair((Some(refused), None), out, 0))
         }
         Err(Refusal::Acpi(_)) => Ok(0),
         Err(refusal) => Err(refusal),
     }
 }
 
-/// Writes a range, if there is one, and says how many there are.
-fn put_hole(hole: Option<Range>, out: &mut [Range]) -> usize
-    ensures count { result ≡ length (missing.hole_list hole) }
-    ensures items { out.new ≡ put_from out.old 0 (missing.hole_list hole) }
-{
-    match hole {
-        Some(range) => {
-            put(out, 0, range);
-            1
-        }
-        None => 0,
-    }
-}
-
-/// The ranges of the members, and then a pair of others.
-#[tactic(auto, using(crate::proofs::CountedList::put_both))]
-fn fill_all<H: AcpiHandler>(
+/// Writes where the members are refused that aren't lent, and then a pair of ranges, and says how many there are.
+fn fill<H: AcpiHandler>(
     handler: &H,
     addresses: Pointers<'_>,
     others: (Option<Range>, Option<Range>),
     out: &mut [Range],
 ) -> usize
     requires { length (pointers_left addresses) < 2 ^ 32 }
-    ensures count { result ≡ length (holes_in (H.memory handler.now) (pointers_left addresses.entry)
-        ++ pair_list others) }
-    ensures items { out.new ≡ put_from out.old 0
-        (holes_in (H.memory handler.now) (pointers_left addresses.entry) ++ pair_list others) }
+    ensures count { result ≡ length (filter_map (member_hole (H.memory handler.now))
+        (pointers_left addresses.entry) ++ cons_option others.0 (cons_option others.1 [])) }
+    ensures items { out.new ≡ put_from out.old 0 (filter_map (member_hole (H.memory handler.now))
+        (pointers_left addresses.entry) ++ cons_option others.0 (cons_option others.1 [])) }
 {
-    let count = fill_holes(handler, addresses, out);
+    let mut count = 0;
+    for address in addresses {
+        if let Some(range) = member_hole(handler, address) {
+            put(out, count, range);
+            count += 1;
+        }
+    }
     put_pair(others, out, count)
 }
 
 /// Writes those of a pair that are there from an index on, and says where the next would stand.
 fn put_pair(pair: (Option<Range>, Option<Range>), out: &mut [Range], from: usize) -> usize
     requires { from < 2 ^ 32 }
-    ensures count { result ≡ from + length (pair_list pair) }
-    ensures items { out.new ≡ put_from out.old from (pair_list pair) }
+    ensures count { result ≡ from + length (cons_option pair.0 (cons_option pair.1 [])) }
+    ensures items { out.new ≡ put_from out.old from (cons_option pair.0 (cons_option pair.1 [])) }
 {
     let mut count = from;
     if let Some(range) = pair.0 {
@@ -88,205 +93,161 @@ fn put_pair(pair: (Option<Range>, Option<Range>), out: &mut [Range], from: usize
     count
 }
 
-/// The ranges of the members that aren't lent.
-fn fill_holes<H: AcpiHandler>(handler: &H, addresses: Pointers<'_>, out: &mut [Range]) -> usize
-    requires { length (pointers_left addresses) < 2 ^ 32 }
-    ensures fits { result < 2 ^ 32 }
-    ensures count { result ≡ length (holes_in (H.memory handler.now) (pointers_left addresses.entry)) }
-    ensures items { out.new
-        ≡ put_from out.old 0 (holes_in (H.memory handler.now) (pointers_left addresses.entry)) }
+/// So many bytes from an address.
+fn range(address: u64, length: u32) -> Range
+    ensures { result ≡ range_of (address, length) }
 {
-    let mut count = 0;
-    for address in addresses {
-        if let Some(hole) = member_hole(handler, address) {
-            put(out, count, hole);
-            count += 1;
-        }
+    Range {
+        address,
+        length: length as u64,
     }
-    count
 }
 
-/// The range of a member that isn't lent.
+/// Whether so many bytes are lent, of which there are at least two.
+fn is_lent<H: AcpiHandler>(handler: &H, address: u64, length: u32) -> bool
+    requires { 2 ≤ length }
+    ensures { result ≡ is_ok (lent (H.memory handler.now) address length) }
+{
+    PhysicalMapping::<'_, H, u16>::map(handler, address, length as usize).is_ok()
+}
+
+/// Where a table is refused that isn't lent, whatever its signature: its header, or as many bytes as that says (section
+/// 5.2.6).
+#[tactic(auto, using(crate::proofs::Unlent::length_not, crate::proofs::Unlent::length_same), unfolding(acpi_base::specs::Table::own_table_at, acpi_base::specs::Table::table_at, acpi_base::specs::Table::table_of, acpi_base::specs::Table::whole_of))]
+fn table_hole<H: AcpiHandler>(handler: &H, address: u64) -> Range
+    ensures named { let m = H.memory handler.now in (s : Signature)
+        → table_at m (plain_kind s) address ≡ Err MapFailed
+        → last_range (table_ranges m (plain_kind s) address) ≡ Some result }
+    ensures own { let m = H.memory handler.now in own_table_at m address ≡ Err MapFailed
+        → last_range (own_table_ranges m address) ≡ Some result }
+{
+    match PhysicalMapping::<'_, H, SdtHeader>::map(handler, address, 36) {
+        Ok(head) => range(address, head.length),
+        Err(_) => range(address, 36),
+    }
+}
+
+/// Where a member of the root table is refused, if that is because it isn't lent.
 fn member_hole<H: AcpiHandler>(handler: &H, address: u64) -> Option<Range>
-    ensures { result ≡ missing.member_hole (H.memory handler.now) address }
+    ensures { result ≡ member_hole (H.memory handler.now) address }
 {
     match map_own_sdt(handler, address) {
-        Err(AcpiError::MapFailed) => table_hole(handler, address),
+        Err(AcpiError::MapFailed) => Some(table_hole(handler, address)),
         _ => None,
     }
 }
 
-/// The range of the DSDT that a FADT leads to (section 5.2.11.1).
+/// Where the DSDT that a FADT leads to is refused so (section 5.2.11.1).
+#[tactic(auto, using(crate::proofs::Unlent::no_hole), unfolding(acpi::specs::Places::dsdt_place))]
 fn dsdt_hole<H: AcpiHandler>(handler: &H, fadt: &Fadt) -> Option<Range>
-    ensures { result ≡ missing.dsdt_hole (H.memory handler.now) fadt.now }
+    ensures { let m = H.memory handler.now in
+        result ≡ hole (dsdt_place m fadt.now) (dsdt_place_ranges m fadt.now) }
 {
-    match fadt.dsdt_address() {
-        Ok(address) => match map_sdt(handler, address, Signature::DSDT) {
-            Err(AcpiError::MapFailed) => table_hole(handler, address),
-            _ => None,
-        },
-        Err(_) => None,
+    let address = fadt.dsdt_address().ok()?;
+    match map_sdt(handler, address, Signature::DSDT) {
+        Err(AcpiError::MapFailed) => Some(table_hole(handler, address)),
+        _ => None,
     }
 }
 
-/// The range of the FACS that a FADT leads to (section 5.2.10).
+/// Where the FACS that a FADT leads to is refused so: its first 36 bytes, or as many as its Length says, which is at
+/// least 64 (section 5.2.10).
+#[tactic(auto, using(crate::proofs::Unlent::no_hole), unfolding(acpi::specs::Places::facs_at, acpi::specs::Places::facs_length))]
 fn facs_hole<H: AcpiHandler>(handler: &H, fadt: &Fadt) -> Option<Range>
-    ensures { result ≡ missing.facs_hole (H.memory handler.now) fadt.now }
+    ensures { let m = H.memory handler.now in
+        result ≡ hole (facs_place m fadt.now) (facs_place_ranges m fadt.now) }
 {
-    match fadt.facs_address() {
-        Ok(address) => facs_hole_at(handler, address),
-        Err(_) => None,
-    }
-}
-
-/// The range of the FACS at an address: its first 36 bytes if these aren't lent, or as many as its Length says, which
-/// is at least 64.
-fn facs_hole_at<H: AcpiHandler>(handler: &H, address: u64) -> Option<Range>
-    ensures { result ≡ missing.facs_hole_at (H.memory handler.now) address
-        (lent (H.memory handler.now) address 36) }
-{
-    match PhysicalMapping::<'_, H, SdtHeader>::map(handler, address, 36) {
-        Ok(head) => {
-            if head.signature == Signature::FACS && head.length >= 64 {
-                hole_at(handler, address, head.length)
-            } else {
-                None
-            }
-        }
-        Err(_) => Some(Range {
-            address,
-            length: 36,
-        }),
-    }
-}
-
-/// Of a table's header, and as many bytes as it says, the first that isn't lent.
-fn table_hole<H: AcpiHandler>(handler: &H, address: u64) -> Option<Range>
-    ensures { result ≡ table_hole (H.memory handler.now) address }
-{
-    match PhysicalMapping::<'_, H, SdtHeader>::map(handler, address, 36) {
-        Ok(head) => hole_at(handler, address, head.length),
-        Err(_) => Some(Range {
-            address,
-            length: 36,
-        }),
-    }
-}
-
-/// So many bytes, unless they are lent, or are fewer than two.
-fn hole_at<H: AcpiHandler>(handler: &H, address: u64, length: u32) -> Option<Range>
-    ensures { result ≡ missing.hole_at (H.memory handler.now) address length }
-{
-    if length < 2 {
+    let address = fadt.facs_address().ok()?;
+    let Ok(head) = PhysicalMapping::<'_, H, SdtHeader>::map(handler, address, 36) else {
+        return Some(range(address, 36));
+    };
+    let is_facs = head.signature == Signature::FACS && head.length >= 64;
+    if !is_facs || is_lent(handler, address, head.length) {
         return None;
     }
-    match PhysicalMapping::<'_, H, u16>::map(handler, address, length as usize) {
-        Ok(_) => None,
-        Err(_) => Some(Range {
-            address,
-            length: length as u64,
-        }),
-    }
+    Some(range(address, head.length))
 }
 
-/// The range that opening the tables was refused.
-fn opening_hole<H: AcpiHandler>(handler: &H, source: &Source<'_>) -> Option<Range>
-    ensures { result ≡ opening_hole (H.memory handler.now) source.now }
+/// Where opening is refused because something isn't lent.
+fn opening_hole<H: AcpiHandler>(handler: &H, source: &Source<'_>) -> Range
+    requires { opened_in (H.memory handler.now) source.now ≡ Err (Acpi MapFailed) }
+    ensures { last_range (opening_ranges (H.memory handler.now) source.now) ≡ Some result }
 {
     match source.start {
         0 => rsdp_hole(handler, source.address),
-        1 => table_hole(handler, source.address),
-        2 => table_hole(handler, source.address),
-        3 => search_hole(handler),
-        _ => None,
+        1 | 2 => table_hole(handler, source.address),
+        _ => search_hole(handler),
     }
 }
 
-/// Of an RSDP, and of the root table that it leads to, the first range that isn't lent.
-fn rsdp_hole<H: AcpiHandler>(handler: &H, address: u64) -> Option<Range>
-    ensures { result ≡ rsdp_hole (H.memory handler.now) address }
+/// Where opening by an RSDP is refused so: its 36 bytes, or as many as its Length says, or those of the root table
+/// (section 5.2.5.3).
+#[tactic(auto, using(crate::proofs::Unlent::rsdp_not, crate::proofs::Unlent::rsdp_length, crate::proofs::Unlent::rsdp_long, crate::proofs::Unlent::sum_not), unfolding(acpi::specs::Rsdp::rsdp_at))]
+fn rsdp_hole<H: AcpiHandler>(handler: &H, address: u64) -> Range
+    requires { opened_by_rsdp (H.memory handler.now) address ≡ Err MapFailed }
+    ensures { last_range (opened_by_rsdp_ranges (H.memory handler.now) address) ≡ Some result }
 {
-    match PhysicalMapping::<'_, H, Rsdp>::map(handler, address, 36) {
-        Ok(rsdp) => first_hole(
-            whole_hole(handler, address, rsdp.length()),
-            table_hole(handler, root_address(&rsdp)),
+    let Ok(rsdp) = PhysicalMapping::<'_, H, Rsdp>::map(handler, address, 36) else {
+        return range(address, 36);
+    };
+    match rsdp.length() {
+        Some(length) if length >= 36 && !is_lent(handler, address, length) => range(
+            address, length,
         ),
-        Err(_) => Some(Range {
-            address,
-            length: 36,
-        }),
+        _ => root_hole(handler, &rsdp),
     }
 }
 
-/// The first of two, if there is one.
-fn first_hole(first: Option<Range>, second: Option<Range>) -> Option<Range>
-    ensures { result ≡ missing.first_hole first second }
+/// Where the root table that an RSDP leads to is refused so: that at XsdtAddress, or at RsdtAddress if there is none or
+/// it is 0 (section 5.2.5.3).
+fn root_hole<H: AcpiHandler>(handler: &H, rsdp: &Rsdp) -> Range
+    ensures { let m = H.memory handler.now in opened_from m (root_of rsdp.now) ≡ Err MapFailed
+        → last_range (opened_ranges m (root_of rsdp.now)) ≡ Some result }
 {
-    match first {
-        Some(range) => Some(range),
-        None => second,
-    }
-}
-
-/// The whole of an RSDP that has a Length, unless it is lent: above revision 0 (section 5.2.5.3).
-fn whole_hole<H: AcpiHandler>(handler: &H, address: u64, length: Option<u32>) -> Option<Range>
-    ensures { result ≡ missing.whole_hole (H.memory handler.now) address length }
-{
-    match length {
-        Some(length) => hole_at(handler, address, length),
-        None => None,
-    }
-}
-
-/// The address of the root table that an RSDP leads to (section 5.2.5.3): XsdtAddress, or RsdtAddress if there is
-/// none or it is 0.
-fn root_address(rsdp: &Rsdp) -> u64
-    ensures { result ≡ missing.root_address rsdp.now }
-{
-    match rsdp.xsdt_address() {
+    let address = match rsdp.xsdt_address() {
         None | Some(0) => u64::from(rsdp.rsdt_address()),
         Some(address) => address,
-    }
+    };
+    table_hole(handler, address)
 }
 
-/// Of the BIOS areas, and of the root table that the RSDP in them leads to, the first range that isn't
-/// lent.
-fn search_hole<H: AcpiHandler>(handler: &H) -> Option<Range>
-    ensures { result ≡ search_hole (H.memory handler.now) }
+/// Where opening by the search is refused so: the search, or the root table that the RSDP leads to.
+#[tactic(auto, using(crate::proofs::Unlent::last_append))]
+fn search_hole<H: AcpiHandler>(handler: &H) -> Range
+    requires { opened_by_search (H.memory handler.now) ≡ Err MapFailed }
+    ensures { last_range (opened_by_search_ranges (H.memory handler.now)) ≡ Some result }
 {
     match Rsdp::search_for_on_bios(handler) {
-        Ok(rsdp) => table_hole(handler, root_address(&rsdp)),
+        Ok(rsdp) => root_hole(handler, &rsdp),
         Err(_) => areas_hole(handler),
     }
 }
 
-/// Of what a search looks at, the first that isn't lent: the word at 0x40e, which is the segment of the extended BIOS
-/// data area (EBDA), the first area, 0xe0000..0x100000, and the second one, each with 16 bytes after it (section
-/// 5.2.5.1).
-fn areas_hole<H: AcpiHandler>(handler: &H) -> Option<Range>
-    ensures { result ≡ missing.areas_hole (H.memory handler.now) }
+/// Where the search is refused: the word at 0x40e, which is the segment of the extended BIOS data area (EBDA), or the
+/// first area, 0xe0000..0x100000, or the second one, each with 16 bytes after it (section 5.2.5.1).
+#[tactic(auto, using(crate::proofs::Unlent::search_refused))]
+fn areas_hole<H: AcpiHandler>(handler: &H) -> Range
+    requires { found_rsdp (H.memory handler.now) ≡ Err MapFailed }
+    ensures { last_range (search_ranges (H.memory handler.now)) ≡ Some result }
 {
-    match PhysicalMapping::<'_, H, u16>::map(handler, 0x40e, 2) {
-        Ok(word) => first_hole(
-            hole_at(handler, 0xe0000, 0x20010),
-            second_hole(handler, *word.get()),
-        ),
-        Err(_) => Some(Range {
-            address: 0x40e,
-            length: 2,
-        }),
+    let Ok(word) = PhysicalMapping::<'_, H, u16>::map(handler, 0x40e, 2) else {
+        return range(0x40e, 2);
+    };
+    if !is_lent(handler, 0xe0000, 0x20010) {
+        return range(0xe0000, 0x20010);
     }
+    second_hole(*word.get())
 }
 
-/// The second area with 16 bytes after it, unless it is lent: the EBDA's first 1024 bytes, or, if its address is under
-/// 0x80000 or is 0x9ffff or above, 0x80000..0xa0000 (section 5.2.5.1).
-fn second_hole<H: AcpiHandler>(handler: &H, word: u16) -> Option<Range>
-    ensures { result ≡ missing.second_hole (H.memory handler.now) word }
+/// The second area with 16 bytes after it: the EBDA's first 1024 bytes, or, if its address is under 0x80000 or is
+/// 0x9ffff or above, 0x80000..0xa0000 (section 5.2.5.1).
+fn second_hole(word: u16) -> Range
+    ensures { let area = second_area word in result ≡ range_of (area.start, room_of area) }
 {
     let start = 16 * word as u64;
     if start >= 0x80000 && start < 0x9ffff {
-        hole_at(handler, start, 1040)
+        range(start, 1040)
     } else {
-        hole_at(handler, 0x80000, 0x20010)
+        range(0x80000, 0x20010)
     }
 }
