@@ -5,12 +5,7 @@ ghost use Rattle.acpi_c_lib.specs.Clip.{AnswersClip};
 use acpi_c_lib::clip::clip_ranges;
 use acpi_c_lib::records::Range;
 
-/// The memory that ranges hold, in order: of the bytes in a window those that one of `ranges` holds and
-/// none of `without`, as many ranges as there is room for, and how many there are. What touches or
-/// overlaps is one range in the answer, and a range of no bytes is none.
-///
-/// Refuses with `ACPI_RANGE_TOO_HIGH` if the address after the last byte of one of `ranges`, of one of `without` or of
-/// the window is above 2^64 - 1.
+/// The memory in a window that ranges hold, without some that are left out, in order.
 #[unsafe(no_mangle)]
 pub extern "C" fn acpi_clip_ranges(
     ranges: &[Range],

@@ -1,17 +1,38 @@
-//! Devices that tables of their own describe.
+//! The fixed hardware, the serial console, and devices that tables of their own describe.
 ghost use Rattle.acpi_c_lib.specs.Answers.{Answers};
+ghost use Rattle.acpi_c_lib.specs.Console.{console_below};
 ghost use Rattle.acpi_c_lib.specs.Devices.{graphic_below, timer_below};
+ghost use Rattle.acpi_c_lib.specs.Fixed.{fixed_below};
 ghost use Rattle.acpi_c_lib.specs.Shown.{hpet_below};
 
 use acpi_c_lib::answer::answer;
+use acpi_c_lib::console::console;
 use acpi_c_lib::devices::{graphic, hpet, timer};
+use acpi_c_lib::fixed::fixed;
+use acpi_c_lib::fixed_records::{Console, FixedHardware};
 use acpi_c_lib::records::{BootGraphic, Hpet, Name, Source, Timer};
 
-/// The block of event timers of the first valid HPET, whose signature section 5.2.6 reserves and whose layout is the
-/// IA-PC HPET Specification's.
-///
-/// Refuses as opening the tables does, and then, in this order, with `ACPI_TABLE_MISSING` for "HPET", and with
-/// `ACPI_INVALID_GENERIC_ADDRESS` if Address Space ID of BASE_ADDRESS isn't 0, system memory.
+/// The fixed hardware (section 5.2.9).
+#[unsafe(no_mangle)]
+pub extern "C" fn acpi_fixed_hardware(
+    source: &Source<'_>,
+    out: &mut FixedHardware,
+    named: &mut Name,
+) -> u32
+    ensures { Answers result out.old out.new named.old named.new (fixed_below source.now) }
+{
+    answer(fixed(source), out, named)
+}
+
+/// The serial console that the firmware used (SPCR).
+#[unsafe(no_mangle)]
+pub extern "C" fn acpi_console(source: &Source<'_>, out: &mut Console, named: &mut Name) -> u32
+    ensures { Answers result out.old out.new named.old named.new (console_below source.now) }
+{
+    answer(console(source), out, named)
+}
+
+/// The block of event timers (HPET).
 #[unsafe(no_mangle)]
 pub extern "C" fn acpi_hpet(source: &Source<'_>, out: &mut Hpet, named: &mut Name) -> u32
     ensures { Answers result out.old out.new named.old named.new (hpet_below source.now) }
@@ -19,11 +40,7 @@ pub extern "C" fn acpi_hpet(source: &Source<'_>, out: &mut Hpet, named: &mut Nam
     answer(hpet(source), out, named)
 }
 
-/// The power management timer of the first valid FADT (sections 4.8.3.3 and 5.2.9).
-///
-/// Refuses as opening the tables does, and then, in this order, with `ACPI_TABLE_MISSING` for "FACP", and with
-/// `ACPI_INVALID_GENERIC_ADDRESS` if X_PM_TMR_BLK has a reserved code. That there is no timer is no refusal: its
-/// `present` is 0.
+/// The power management timer (sections 4.8.3.3 and 5.2.9).
 #[unsafe(no_mangle)]
 pub extern "C" fn acpi_pm_timer(source: &Source<'_>, out: &mut Timer, named: &mut Name) -> u32
     ensures { Answers result out.old out.new named.old named.new (timer_below source.now) }
@@ -31,9 +48,7 @@ pub extern "C" fn acpi_pm_timer(source: &Source<'_>, out: &mut Timer, named: &mu
     answer(timer(source), out, named)
 }
 
-/// The image that the firmware showed: that of the first valid BGRT (section 5.2.22).
-///
-/// Refuses as opening the tables does, and then with `ACPI_TABLE_MISSING` for "BGRT".
+/// The image that the firmware showed (section 5.2.22).
 #[unsafe(no_mangle)]
 pub extern "C" fn acpi_boot_graphic(
     source: &Source<'_>,

@@ -1,16 +1,47 @@
-//! The interrupt model.
-ghost use Rattle.acpi_c_lib.specs.Answers.{AnswersList};
-ghost use Rattle.acpi_c_lib.specs.Model.{below_platform, io_apics_of, nmi_lines_of, nmi_sources_of, overrides_of};
+//! The interrupt model and the processors, and how interrupts come to the I/O APICs.
+ghost use Rattle.acpi_c_lib.specs.Answers.{Answers, AnswersList};
+ghost use Rattle.acpi_c_lib.specs.IsaList.{isa_list_below};
+ghost use Rattle.acpi_c_lib.specs.Model.{below_platform, counts_of, io_apics_of, nmi_lines_of, nmi_sources_of, overrides_of, processors_of};
+ghost use Rattle.acpi_c_lib.specs.Routes.{isa_below, pin_below, sci_below};
 
 use acpi_c_lib::answer::answer;
-use acpi_c_lib::interrupt_records::{IoApicRecord, NmiLineRecord, NmiSourceRecord, OverrideRecord};
-use acpi_c_lib::interrupts::{io_apics, nmi_lines, nmi_sources, overrides};
+use acpi_c_lib::interrupt_records::{
+    InterruptRecord, IoApicRecord, IsaInterrupts, Model, NmiLineRecord, NmiSourceRecord, OverrideRecord,
+    PinRecord, ProcessorRecord,
+};
+use acpi_c_lib::interrupts::entries;
+use acpi_c_lib::isa_list::isa_list;
+use acpi_c_lib::processors::{model, processors};
 use acpi_c_lib::records::{Name, Source};
+use acpi_c_lib::routes::{isa, pin, sci};
 
-/// The I/O APICs, in the order of the first valid MADT (section 5.2.12.3): as many as there is room for, and how many
-/// there are. There are none if no valid MADT has an entry of a machine with APICs.
-///
-/// Refuses as `acpi_interrupt_model` does.
+/// Which controllers interrupts come to, and how many of each sort there are (section 5.2.12).
+#[unsafe(no_mangle)]
+pub extern "C" fn acpi_interrupt_model(
+    source: &Source<'_>,
+    out: &mut Model,
+    named: &mut Name,
+) -> u32
+    ensures { Answers result out.old out.new named.old named.new (below_platform source.now counts_of) }
+{
+    answer(model(source), out, named)
+}
+
+/// The processors, the boot processor first (sections 5.2.12.2 and 5.2.12.12).
+#[unsafe(no_mangle)]
+pub extern "C" fn acpi_list_processors(
+    source: &Source<'_>,
+    out: &mut [ProcessorRecord],
+    count: &mut usize,
+    named: &mut Name,
+) -> u32
+    ensures { AnswersList result out.old out.new count.old count.new named.old named.new
+        (below_platform source.now processors_of) }
+{
+    answer(processors(source, out), count, named)
+}
+
+/// The I/O APICs (section 5.2.12.3).
 #[unsafe(no_mangle)]
 pub extern "C" fn acpi_list_io_apics(
     source: &Source<'_>,
@@ -21,13 +52,10 @@ pub extern "C" fn acpi_list_io_apics(
     ensures { AnswersList result out.old out.new count.old count.new named.old named.new
         (below_platform source.now io_apics_of) }
 {
-    answer(io_apics(source, out), count, named)
+    answer(entries(source, out), count, named)
 }
 
-/// The Interrupt Source Override entries (section 5.2.12.5), in the order of the first valid MADT: as many as there is
-/// room for, and how many there are.
-///
-/// Refuses as `acpi_interrupt_model` does.
+/// The Interrupt Source Override entries (section 5.2.12.5).
 #[unsafe(no_mangle)]
 pub extern "C" fn acpi_list_overrides(
     source: &Source<'_>,
@@ -38,13 +66,10 @@ pub extern "C" fn acpi_list_overrides(
     ensures { AnswersList result out.old out.new count.old count.new named.old named.new
         (below_platform source.now overrides_of) }
 {
-    answer(overrides(source, out), count, named)
+    answer(entries(source, out), count, named)
 }
 
-/// The NMI Source entries (section 5.2.12.6), which name the I/O APIC pins that are non-maskable, in the order of the
-/// first valid MADT: as many as there is room for, and how many there are.
-///
-/// Refuses as `acpi_interrupt_model` does.
+/// The NMI Source entries (section 5.2.12.6).
 #[unsafe(no_mangle)]
 pub extern "C" fn acpi_list_nmi_sources(
     source: &Source<'_>,
@@ -55,13 +80,10 @@ pub extern "C" fn acpi_list_nmi_sources(
     ensures { AnswersList result out.old out.new count.old count.new named.old named.new
         (below_platform source.now nmi_sources_of) }
 {
-    answer(nmi_sources(source, out), count, named)
+    answer(entries(source, out), count, named)
 }
 
-/// The Local APIC NMI and Local x2APIC NMI entries (sections 5.2.12.7 and 5.2.12.13), which name LINT pins, in the order
-/// of the first valid MADT: as many as there is room for, and how many there are.
-///
-/// Refuses as `acpi_interrupt_model` does.
+/// The Local APIC NMI and Local x2APIC NMI entries (sections 5.2.12.7 and 5.2.12.13).
 #[unsafe(no_mangle)]
 pub extern "C" fn acpi_list_nmi_lines(
     source: &Source<'_>,
@@ -72,5 +94,55 @@ pub extern "C" fn acpi_list_nmi_lines(
     ensures { AnswersList result out.old out.new count.old count.new named.old named.new
         (below_platform source.now nmi_lines_of) }
 {
-    answer(nmi_lines(source, out), count, named)
+    answer(entries(source, out), count, named)
+}
+
+/// The global system interrupt of one of the 16 ISA interrupts (section 5.2.12.5).
+#[unsafe(no_mangle)]
+pub extern "C" fn acpi_isa_interrupt(
+    source: &Source<'_>,
+    irq: u8,
+    out: &mut InterruptRecord,
+    named: &mut Name,
+) -> u32
+    ensures { Answers result out.old out.new named.old named.new (isa_below source.now irq) }
+{
+    answer(isa(source, irq), out, named)
+}
+
+/// The global system interrupt of the System Control Interrupt (sections 5.2.9 and 5.2.12.5).
+#[unsafe(no_mangle)]
+pub extern "C" fn acpi_sci_interrupt(
+    source: &Source<'_>,
+    out: &mut InterruptRecord,
+    named: &mut Name,
+) -> u32
+    ensures { Answers result out.old out.new named.old named.new (sci_below source.now) }
+{
+    answer(sci(source), out, named)
+}
+
+/// The I/O APIC that a global system interrupt comes to, and the pin there (section 5.2.12.3).
+#[unsafe(no_mangle)]
+pub extern "C" fn acpi_io_apic_pin(
+    source: &Source<'_>,
+    interrupt: u32,
+    out: &mut PinRecord,
+    named: &mut Name,
+) -> u32
+    ensures { Answers result out.old out.new named.old named.new (pin_below source.now interrupt) }
+{
+    answer(pin(source, interrupt), out, named)
+}
+
+/// The 16 ISA interrupts, each as `acpi_isa_interrupt` answers it, with what `acpi_io_apic_pin` answers for it.
+#[unsafe(no_mangle)]
+pub extern "C" fn acpi_list_isa_interrupts(
+    source: &Source<'_>,
+    out: &mut IsaInterrupts,
+    named: &mut Name,
+) -> u32
+    ensures { Answers result out.old out.new named.old named.new (isa_list_below source.now) }
+{
+    answer(isa_list(source), out, named)
 }

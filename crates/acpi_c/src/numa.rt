@@ -10,13 +10,7 @@ use acpi_c_lib::numa::{
 use acpi_c_lib::numa_records::{LocalitiesRecord, MemoryAffinityRecord};
 use acpi_c_lib::records::{Name, Source};
 
-/// The ranges of memory that the first valid SRAT puts into domains, in order: those of its enabled entries of memory
-/// that have at least one byte (section 5.2.16.2). As many as there is room for, and how many there are. They may
-/// overlap.
-///
-/// Refuses as opening the tables does, and then, in this order: `ACPI_TABLE_MISSING` for "SRAT",
-/// `ACPI_NUMA_INVALID_ENTRY_LENGTH` if the entries end before the table does, and `ACPI_NUMA_INVALID_MEMORY_RANGE` if
-/// one of these ranges ends above 2^64 - 1.
+/// The ranges of memory that the SRAT puts into domains (section 5.2.16.2).
 #[unsafe(no_mangle)]
 pub extern "C" fn acpi_list_memory_affinities(
     source: &Source<'_>,
@@ -30,10 +24,7 @@ pub extern "C" fn acpi_list_memory_affinities(
     answer(affinities(source, out), count, named)
 }
 
-/// The domain of the memory at a physical address: that of the first range of `acpi_list_memory_affinities` that holds
-/// it (section 5.2.16.2).
-///
-/// Refuses as `acpi_list_memory_affinities` does, and with `ACPI_NO_DOMAIN` if no range holds the address.
+/// The domain of the memory at a physical address (section 5.2.16.2).
 #[unsafe(no_mangle)]
 pub extern "C" fn acpi_domain_of_address(
     source: &Source<'_>,
@@ -47,11 +38,7 @@ pub extern "C" fn acpi_domain_of_address(
     answer(domain_of_address(source, address), out, named)
 }
 
-/// The domain of the processor whose local APIC or x2APIC has an id: that of the last enabled entry for it in the first
-/// valid SRAT (sections 5.2.16.1 and 5.2.16.3). Entries after a malformed one are not looked at.
-///
-/// Refuses as opening the tables does, and then, in this order: `ACPI_TABLE_MISSING` for "SRAT", and `ACPI_NO_DOMAIN`
-/// if there is no such entry.
+/// The domain of the processor of a local APIC or x2APIC (sections 5.2.16.1 and 5.2.16.3).
 #[unsafe(no_mangle)]
 pub extern "C" fn acpi_domain_of_apic(
     source: &Source<'_>,
@@ -65,11 +52,7 @@ pub extern "C" fn acpi_domain_of_apic(
     answer(domain_of_apic(source, local_apic_id), out, named)
 }
 
-/// The domain of the processor of a uid, which has an interface to the GIC: that of the last enabled GICC entry for it
-/// in the first valid SRAT (section 5.2.16.4). Entries after a malformed one are not looked at.
-///
-/// Refuses as opening the tables does, and then, in this order: `ACPI_TABLE_MISSING` for "SRAT", and `ACPI_NO_DOMAIN`
-/// if there is no such entry.
+/// The domain of a processor with an interface to the GIC (section 5.2.16.4).
 #[unsafe(no_mangle)]
 pub extern "C" fn acpi_domain_of_processor(
     source: &Source<'_>,
@@ -83,12 +66,7 @@ pub extern "C" fn acpi_domain_of_processor(
     answer(domain_of_processor(source, uid), out, named)
 }
 
-/// How far one locality is from another, by the first valid SLIT (section 5.2.17), in the table's units, of which 10 is
-/// the distance of a locality from itself. 255 stands for 'unreachable', and is given as it is.
-///
-/// Refuses as opening the tables does, and then, in this order: `ACPI_TABLE_MISSING` for "SLIT", and
-/// `ACPI_NO_DISTANCE` if one of the two isn't below the number of localities, or if the table ends before the byte of
-/// the pair.
+/// How far one locality is from another (section 5.2.17).
 #[unsafe(no_mangle)]
 pub extern "C" fn acpi_distance(
     source: &Source<'_>,
@@ -102,10 +80,7 @@ pub extern "C" fn acpi_distance(
     answer(distance(source, from, to), out, named)
 }
 
-/// How many localities the first valid SLIT has distances of, and whether the table can be believed (section 5.2.17).
-/// Each byte of the table is looked at at most once.
-///
-/// Refuses as opening the tables does, and then with `ACPI_TABLE_MISSING` for "SLIT".
+/// How many localities the SLIT has distances of, and whether it can be believed (section 5.2.17).
 #[unsafe(no_mangle)]
 pub extern "C" fn acpi_localities(
     source: &Source<'_>,

@@ -1,15 +1,13 @@
 //! PCI configuration space.
 ghost use Rattle.acpi_c_lib.specs.Answers.{Answers, AnswersList};
-ghost use Rattle.acpi_c_lib.specs.Shown.{ecam_below, pci_below, pci_regions_below};
+ghost use Rattle.acpi_c_lib.specs.Shown.{ecam_below, ecam_ranges_below, pci_below, pci_regions_below};
 
 use acpi_c_lib::answer::answer;
-use acpi_c_lib::pci::{ecam_address, pci_regions, physical_address};
+use acpi_c_lib::fixed_records::EcamRange;
+use acpi_c_lib::pci::{ecam_address, ecam_ranges, pci_regions, physical_address};
 use acpi_c_lib::records::{Name, PciRegion, Source};
 
-/// The regions of PCI configuration space, in the order of the first valid MCFG (PCI Firmware Specification, section
-/// 4.1.2): as many as there is room for, and how many there are.
-///
-/// Refuses as opening the tables does, and then with `ACPI_TABLE_MISSING` for "MCFG".
+/// The regions of configuration space (PCI Firmware Specification, section 4.1.2).
 #[unsafe(no_mangle)]
 pub extern "C" fn acpi_list_pci_regions(
     source: &Source<'_>,
@@ -23,12 +21,7 @@ pub extern "C" fn acpi_list_pci_regions(
     answer(pci_regions(source, out), count, named)
 }
 
-/// The physical address of a function's configuration space, with a region's base taken as that of its first bus, as
-/// the Rust crate `acpi` has it. Of several regions that hold the bus the first counts.
-///
-/// Refuses as opening the tables does, and then, in this order, with `ACPI_TABLE_MISSING` for "MCFG", and with
-/// `ACPI_NO_SUCH_FUNCTION` if no region holds the bus, for a device above 31, a function above 7, and a sum of 2^64 or
-/// more.
+/// Where a function lies if a region's base is that of its first bus, as the Rust crate `acpi` has it.
 #[unsafe(no_mangle)]
 pub extern "C" fn acpi_pci_physical_address(
     source: &Source<'_>,
@@ -49,12 +42,7 @@ pub extern "C" fn acpi_pci_physical_address(
     )
 }
 
-/// The physical address of a function's configuration space, with a region's base taken as that of bus 0 (PCI Firmware
-/// Specification, section 4.1.2): this is what a kernel wants. Of several regions that hold the bus the first counts.
-///
-/// Refuses as opening the tables does, and then, in this order, with `ACPI_TABLE_MISSING` for "MCFG", and with
-/// `ACPI_NO_SUCH_FUNCTION` if no region holds the bus, for a device above 31, a function above 7, and a sum of 2^64 or
-/// more.
+/// Where a function lies: a region's base is that of bus 0 (PCI Firmware Specification, section 4.1.2).
 #[unsafe(no_mangle)]
 pub extern "C" fn acpi_pci_ecam_address(
     source: &Source<'_>,
@@ -73,4 +61,18 @@ pub extern "C" fn acpi_pci_ecam_address(
         out,
         named,
     )
+}
+
+/// The memory that each region of configuration space takes, by the base of bus 0.
+#[unsafe(no_mangle)]
+pub extern "C" fn acpi_list_ecam_ranges(
+    source: &Source<'_>,
+    out: &mut [EcamRange],
+    count: &mut usize,
+    named: &mut Name,
+) -> u32
+    ensures { AnswersList result out.old out.new count.old count.new named.old named.new
+        (ecam_ranges_below source.now) }
+{
+    answer(ecam_ranges(source, out), count, named)
 }

@@ -1,15 +1,25 @@
-//! The tables that the root table lists.
+//! The root table and the tables that it lists.
 ghost use Rattle.acpi_c_lib.specs.Answers.{Answers, AnswersList};
-ghost use Rattle.acpi_c_lib.specs.Shown.{dsdt_below, table_below, tables_below};
+ghost use Rattle.acpi_c_lib.specs.Faults.{faults_below};
+ghost use Rattle.acpi_c_lib.specs.Shown.{dsdt_below, root_below, table_below, tables_below};
+ghost use Rattle.acpi_c_lib.specs.Walked.{nth_below, ranges_below, ssdts_below};
 
 use acpi_c_lib::answer::answer;
-use acpi_c_lib::records::{Aml, Name, Source, Table};
+use acpi_c_lib::faults::faults;
+use acpi_c_lib::opening::root;
+use acpi_c_lib::records::{Aml, Fault, Name, Range, Root, Source, Table};
 use acpi_c_lib::tables::{dsdt, find, tables};
+use acpi_c_lib::walks::{nth, ranges, ssdts};
 
-/// All tables that are listed and valid under the signatures that they bear, in the order of the root
-/// table, repeats kept (section 5.2.6): as many as there is room for, and how many there are.
-///
-/// Refuses as opening the tables does, and with nothing else.
+/// The root table (sections 5.2.7 and 5.2.8).
+#[unsafe(no_mangle)]
+pub extern "C" fn acpi_open(source: &Source<'_>, out: &mut Root, named: &mut Name) -> u32
+    ensures { Answers result out.old out.new named.old named.new (root_below source.now) }
+{
+    answer(root(source), out, named)
+}
+
+/// All tables that are valid under the signatures that they bear, in the order of the root table.
 #[unsafe(no_mangle)]
 pub extern "C" fn acpi_list_tables(
     source: &Source<'_>,
@@ -24,8 +34,6 @@ pub extern "C" fn acpi_list_tables(
 }
 
 /// The first valid table of a signature (section 5.2.6).
-///
-/// Refuses as opening the tables does, and then with `ACPI_TABLE_MISSING`, which carries the signature.
 #[unsafe(no_mangle)]
 pub extern "C" fn acpi_find_table(
     source: &Source<'_>,
@@ -38,15 +46,67 @@ pub extern "C" fn acpi_find_table(
     answer(find(source, name), out, named)
 }
 
-/// The AML of the DSDT that the first valid FADT names (sections 5.2.9 and 5.2.11.1): its physical address after the 36
-/// bytes of header, and its length in bytes.
-///
-/// Refuses as opening the tables does, and then, in this order, with `ACPI_TABLE_MISSING` for "FACP", with
-/// `ACPI_INVALID_DSDT_ADDRESS`, and with the refusal of the table at that address, which carries "DSDT" if it carries a
-/// signature.
+/// The AML of the DSDT (sections 5.2.9 and 5.2.11.1).
 #[unsafe(no_mangle)]
 pub extern "C" fn acpi_dsdt(source: &Source<'_>, out: &mut Aml, named: &mut Name) -> u32
     ensures { Answers result out.old out.new named.old named.new (dsdt_below source.now) }
 {
     answer(dsdt(source), out, named)
+}
+
+/// The valid table of a signature that so many others of it are listed before (section 5.2.6).
+#[unsafe(no_mangle)]
+pub extern "C" fn acpi_find_nth_table(
+    source: &Source<'_>,
+    name: Name,
+    index: usize,
+    out: &mut Table,
+    named: &mut Name,
+) -> u32
+    ensures { Answers result out.old out.new named.old named.new (nth_below source.now name index) }
+{
+    answer(nth(source, name, index), out, named)
+}
+
+/// The AML of all valid SSDTs (section 5.2.11.2).
+#[unsafe(no_mangle)]
+pub extern "C" fn acpi_list_ssdts(
+    source: &Source<'_>,
+    out: &mut [Aml],
+    count: &mut usize,
+    named: &mut Name,
+) -> u32
+    ensures { AnswersList result out.old out.new count.old count.new named.old named.new
+        (ssdts_below source.now) }
+{
+    answer(ssdts(source, out), count, named)
+}
+
+/// The memory that the tables take (sections 5.2.6, 5.2.9 and 5.2.10).
+#[unsafe(no_mangle)]
+pub extern "C" fn acpi_list_ranges(
+    source: &Source<'_>,
+    out: &mut [Range],
+    count: &mut usize,
+    named: &mut Name,
+) -> u32
+    ensures { AnswersList result out.old out.new count.old count.new named.old named.new
+        (ranges_below source.now) }
+{
+    answer(ranges(source, out), count, named)
+}
+
+/// The tables that a lookup of a signature passes over, and why (section 5.2.6).
+#[unsafe(no_mangle)]
+pub extern "C" fn acpi_list_faults(
+    source: &Source<'_>,
+    name: Name,
+    out: &mut [Fault],
+    count: &mut usize,
+    named: &mut Name,
+) -> u32
+    ensures { AnswersList result out.old out.new count.old count.new named.old named.new
+        (faults_below source.now name) }
+{
+    answer(faults(source, name, out), count, named)
 }

@@ -1,5 +1,5 @@
 -- The ISA interrupts' pins, found by one walk along the I/O APICs.
-use Rattle.std.proofs.Common.{◌≡◌, ℕ, ◌+◌, ◌<◌, ◌≤◌, ◌⊎◌, inl, inr, Bool, true, false, List, [], ◌∷◌, length, get_or, set, get_or-set_same, get_or-set_other, arith, map, drop, refl, sym, subst, ◌∙◌, ap, Option, Some, None, Result, Ok, Err}
+use Rattle.std.proofs.Common.{Unit, ◌≡◌, ℕ, ◌+◌, ◌<◌, ◌≤◌, ◌⊎◌, inl, inr, Bool, true, false, List, [], ◌∷◌, length, get_or, set, get_or-set_same, get_or-set_other, arith, map, drop, refl, sym, subst, ◌∙◌, ap, Option, Some, None, Result, Ok, Err}
 use Rattle.std.specs.Prelude.{◌==◌}
 use Rattle.std.specs.List.{filter_map}
 use Rattle.std.proofs.lemmas.Bool.Decides.{nat_tests}
@@ -13,15 +13,14 @@ use Rattle.acpi_base.proofs.Pin.{kept, one_nearer, or_nearer}
 use Rattle.acpi_base.specs.Memory.{Memory}
 use Rattle.acpi_base.specs.Model.{io_apic_in}
 use Rattle.acpi_base.specs.Steps.{◌>>=◌}
-use Rattle.acpi_base.specs.declared.error.AcpiError.{AcpiError}
-use Rattle.acpi_base.specs.declared.model.interrupt.InterruptModel.TheVariants as model
+use Rattle.acpi_base.specs.Isa.{isa_interrupt}
+use Rattle.acpi_base.specs.declared.model.interrupt.Apic.{Apic}
 use Rattle.acpi.specs.Opened.{Opened}
 use Rattle.acpi.specs.Root.{pointers, width_of}
-use Rattle.acpi_c_lib.specs.Below.{named, opened_in, refused_as}
-use Rattle.acpi_c_lib.specs.IsaList.{ItemsAreAnswers, isa_list_of, isa_numbers, isa_route, nearer_of, no_route, number_of, route_by, route_of}
-use Rattle.acpi_c_lib.specs.Model.{Platform, below_platform, platform_model}
+use Rattle.acpi_c_lib.specs.Below.{below, opened_in}
+use Rattle.acpi_c_lib.specs.IsaList.{ItemsAreAnswers, isa_list, isa_numbers, isa_route, nearer_of, no_route, number_of, route_by, route_of}
 use Rattle.acpi_c_lib.specs.Regions.{memory_in}
-use Rattle.acpi_c_lib.specs.Routes.{interrupt_or, isa_of, joined, pin_below, pin_of, pin_or}
+use Rattle.acpi_c_lib.specs.Routes.{apics_in, interrupt_or, pin_below, pin_or}
 use Rattle.acpi_c_lib.specs.declared.interrupt_records.InterruptRecord.{InterruptRecord}
 use Rattle.acpi_c_lib.specs.declared.interrupt_records.IsaInterrupts.{IsaInterrupts}
 use Rattle.acpi_c_lib.specs.declared.interrupt_records.PinRecord.{PinRecord}
@@ -120,45 +119,49 @@ same_answer io_apics None = refl
 
 -- ---- the law
 
--- what is shown of the platform is shown of what it is, or the refusal
-shown_after : {A : Type 0} (f : Platform → A) (r : Result Platform AcpiError) → refused_as (named f r) ≡ named f (refused_as (named (λ p. p) r))
-shown_after f (Ok p) = refl
-shown_after f (Err e) = refl
-
-shown_in : {A : Type 0} (f : Platform → A) (m : Memory) (o : Result Opened Refusal)
-    → (o >>= λ o. refused_as (named f (platform_model m (pointers (width_of o.kind) (drop 36 o.root)))))
-    ≡ named f (o >>= λ o. refused_as (named (λ p. p) (platform_model m (pointers (width_of o.kind) (drop 36 o.root)))))
-shown_in f m (Ok o) = shown_after f (platform_model m (pointers (width_of o.kind) (drop 36 o.root)))
+-- what is made of the APICs is made of them where they are found, or the refusal
+shown_in : {A : Type 0} (f : Apic (Unit {0}) → Result A Refusal) (m : Memory) (o : Result Opened Refusal)
+    → (o >>= λ o. apics_in m (pointers (width_of o.kind) (drop 36 o.root)) >>= f)
+    ≡ ((o >>= λ o. apics_in m (pointers (width_of o.kind) (drop 36 o.root))) >>= f)
+shown_in f m (Ok o) = refl
 shown_in f m (Err e) = refl
 
-shown_over : {A : Type 0} (f : Platform → A) (s : Source) (m : Result Memory Refusal)
-    → (m >>= λ m. opened_in m s >>= λ o. refused_as (named f (platform_model m (pointers (width_of o.kind) (drop 36 o.root)))))
-    ≡ named f (m >>= λ m. opened_in m s >>= λ o. refused_as (named (λ p. p) (platform_model m (pointers (width_of o.kind) (drop 36 o.root)))))
+shown_over : {A : Type 0} (f : Apic (Unit {0}) → Result A Refusal) (s : Source) (m : Result Memory Refusal)
+    → (m >>= λ m. opened_in m s >>= λ o. apics_in m (pointers (width_of o.kind) (drop 36 o.root)) >>= f)
+    ≡ ((m >>= λ m. opened_in m s >>= λ o. apics_in m (pointers (width_of o.kind) (drop 36 o.root))) >>= f)
 shown_over f s (Ok m) = shown_in f m (opened_in m s)
 shown_over f s (Err e) = refl
 
-shown : {A : Type 0} (f : Platform → A) (s : Source) → below_platform s f ≡ named f (below_platform s (λ p. p))
+shown : {A : Type 0} (f : Apic (Unit {0}) → Result A Refusal) (s : Source) → below s (λ m ps. apics_in m ps >>= f) ≡ (below s apics_in >>= f)
 shown f s = shown_over f s (memory_in s.regions.now)
 
 same_pins : (one two : ℕ → Result PinRecord Refusal) (r : Result InterruptRecord Refusal) → ((n : ℕ) → one n ≡ two n) → route_by one r ≡ route_by two r
 same_pins one two (Ok i) same = rw (same i.global_system_interrupt)
 same_pins one two (Err e) same = refl
 
--- of a platform that is found, or of the refusal
-item_of : (r : Result Platform Refusal) (list : IsaInterrupts) (irq : ℕ) → joined (named isa_list_of r) ≡ Ok list → irq < 16
-    → get_or list.routes irq no_route ≡ route_by (λ n. joined (named (pin_of n) r)) (joined (named (isa_of irq) r))
+isa_by : ℕ → Apic (Unit {0}) → Result InterruptRecord Refusal
+isa_by irq apic = interrupt_or (isa_interrupt apic.interrupt_source_overrides irq)
+
+pin_by : ℕ → Apic (Unit {0}) → Result PinRecord Refusal
+pin_by n apic = pin_or (io_apic_for apic.io_apics n)
+
+list_by : Apic (Unit {0}) → Result IsaInterrupts Refusal
+list_by apic = Ok (isa_list apic.interrupt_source_overrides apic.io_apics)
+
+-- of APICs that are found, or of the refusal
+item_of : (r : Result (Apic (Unit {0})) Refusal) (list : IsaInterrupts) (irq : ℕ) → (r >>= list_by) ≡ Ok list → irq < 16
+    → get_or list.routes irq no_route ≡ route_by (λ n. r >>= pin_by n) (r >>= isa_by irq)
 unfolding isa_numbers
-item_of (Ok (model.Apic apic, processors)) list irq is small =
-    let platform : Platform = (model.Apic apic, processors) in
-    let same : map (isa_route platform) isa_numbers ≡ list.routes = ap (λ (l : IsaInterrupts). l.routes) (ok_is _ _ is) in
-    subst (λ routes. get_or routes irq no_route ≡ isa_route platform irq) same (get_or-map-range_with_len (isa_route platform) 0 16 irq irq no_route small (omega arith)) where
+item_of (Ok apic) list irq is small =
+    let route : ℕ → IsaRoute = isa_route apic.interrupt_source_overrides apic.io_apics in
+    let same : map route isa_numbers ≡ list.routes = ap (λ (l : IsaInterrupts). l.routes) (ok_is _ _ is) in
+    subst (λ routes. get_or routes irq no_route ≡ route irq) same (get_or-map-range_with_len route 0 16 irq irq no_route small (omega arith)) where
       ok_is : (x y : IsaInterrupts) → ◌≡◌ {A = Result IsaInterrupts Refusal} (Ok x) (Ok y) → x ≡ y
       ok_is x y e = cc
-item_of (Ok (model.Unknown, processors)) list irq is small = absurd cc
 item_of (Err e) list irq is small = absurd cc
 
 pub items_are_answers : ItemsAreAnswers
 items_are_answers s list is irq small =
-    item_of (below_platform s (λ p. p)) list irq (ap joined (sym (shown isa_list_of s)) ∙ is) small
-    ∙ same_pins _ (pin_below s) _ (λ n. ap joined (sym (shown (pin_of n) s)))
-    ∙ ap (route_by (pin_below s)) (ap joined (sym (shown (isa_of irq) s)))
+    item_of (below s apics_in) list irq (sym (shown list_by s) ∙ is) small
+    ∙ same_pins _ (pin_below s) _ (λ n. sym (shown (pin_by n) s))
+    ∙ ap (route_by (pin_below s)) (sym (shown (isa_by irq) s))

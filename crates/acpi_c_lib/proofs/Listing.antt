@@ -1,15 +1,16 @@
--- A list is answered as it was filled in.
-use Rattle.std.proofs.Common.{ℕ, List, length, subst}
-use Rattle.std.specs.Prelude.{Result, Ok, Err}
-use Rattle.acpi_c_lib.specs.Answers.{Answers, AnswersList, Fills}
-use Rattle.acpi_c_lib.specs.declared.records.Name.{Name}
+-- A list that is written is what is said of the tables that a caller names.
+use Rattle.std.proofs.Common.{◌≡◌, ℕ, List, drop, ap}
+use Rattle.std.specs.Prelude.{Result, Ok}
+use Rattle.acpi_base.specs.Memory.{Memory}
+use Rattle.acpi.specs.Opened.{Opened}
+use Rattle.acpi.specs.Root.{pointers, width_of}
+use Rattle.acpi_c_lib.specs.Answers.{Fills, Writes, result_map}
+use Rattle.acpi_c_lib.specs.Below.{below, opened_in}
+use Rattle.acpi_c_lib.specs.Regions.{memory_in}
+use Rattle.acpi_c_lib.specs.declared.records.Source.{Source}
 use Rattle.acpi_c_lib.specs.declared.refusal.Refusal.{Refusal}
 
-pub answers_list : {X : Type 0} (said : Result ℕ Refusal) (below : Result (List X) Refusal) (status : ℕ) (old new : List X) (old_count new_count : ℕ) (old_name new_name : Name)
-    → Answers status old_count new_count old_name new_name said → Fills said old new below → AnswersList status old new old_count new_count old_name new_name below
-answers_list said (Ok xs) status old new old_count new_count old_name new_name a f =
-    let b : Answers status old_count new_count old_name new_name (Ok (length xs)) = subst (λ r. Answers status old_count new_count old_name new_name r) f.0 a in
-    (b.0, f.1, b.1, b.2)
-answers_list said (Err e) status old new old_count new_count old_name new_name a f =
-    let b : Answers status old_count new_count old_name new_name (Err e) = subst (λ r. Answers status old_count new_count old_name new_name r) f.0 a in
-    (b.0, f.1, b.1, b.2)
+pub listed : {A X : Type 0} (s : Source) (m : Memory) (o : Opened) (answer : Memory → List ℕ → Result A Refusal) (show : A → List X) (x : A) (n : ℕ) (old new : List X)
+    → memory_in s.regions.now ≡ Ok m → opened_in m s ≡ Ok o → answer m (pointers (width_of o.kind) (drop 36 o.root)) ≡ Ok x → Writes n old new (show x)
+    → Fills (Ok n) old new (result_map show (below s answer))
+listed s m o answer show x n old new a b c written = rw (a, b, c) (ap Ok written.0, written.1)

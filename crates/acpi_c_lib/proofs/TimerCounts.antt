@@ -1,5 +1,5 @@
 -- How many frames and watchdogs there are at most, and how frames are written block by block.
-use Rattle.std.proofs.Common.{◌≡◌, ℕ, zero, suc, ◌+◌, ◌*◌, ◌≤◌, Bool, true, false, List, [], ◌∷◌, ◌++◌, length, drop, Option, Some, None, refl, ap, sym, ◌∙◌, arith, length-append, length-drop, slice_set, inl, inr}
+use Rattle.std.proofs.Common.{◌≡◌, ℕ, zero, suc, ◌+◌, ◌*◌, ◌≤◌, Bool, true, false, List, [], ◌∷◌, ◌++◌, length, drop, Option, Some, None, refl, ap, sym, ◌∙◌, arith, length-append, length-drop, inl, inr}
 use Rattle.std.specs.Prelude.{◌==◌, ◌&&◌, ◌||◌, not, nat_le, map, if◌then◌else◌}
 use Rattle.std.specs.List.{AllByRecursion, concat, cons_option, filter_map}
 use Rattle.std.proofs.lemmas.Bool.Decides.{nat_tests}
@@ -10,6 +10,7 @@ use Rattle.acpi_base.specs.Entries.{IsEntry, cut}
 use Rattle.acpi_arm.specs.Timers as arm
 use Rattle.acpi_arm.specs.Timers.{Timer, frame_count, frames_fit, is_sound, kind_of, sound_front, timer_bytes, timer_count, timer_of, timers_grammar, timers_layout, watchdog_at}
 use Rattle.acpi_arm.specs.declared.frames.GtFrame.{GtFrame}
+use Rattle.acpi_c_lib.proofs.CountedList.{put_parts}
 use Rattle.acpi_c_lib.specs.Answers.{put_from}
 use Rattle.acpi_c_lib.specs.ArmTimers.{frame_record, frames_in, frames_of, frames_shown, watchdog_in, watchdogs_shown}
 use Rattle.acpi_c_lib.specs.declared.arm_records.GtFrameRecord.{GtFrameRecord}
@@ -98,10 +99,6 @@ watchdogs_few table =
 
 -- ---- blocks one after the other
 
-pub put_both : {X : Type 0} (old : List X) (n : ℕ) (xs ys : List X) → put_from old n (xs ++ ys) ≡ put_from (put_from old n xs) (n + length xs) ys
-put_both old n [] ys = ap (λ k. put_from old k ys) (omega arith)
-put_both old n (x ∷ xs) ys = put_both (slice_set old n x) (n + 1) xs ys ∙ ap (λ k. put_from (put_from (slice_set old n x) (n + 1) xs) k ys) (omega arith)
-
 -- the frames that are left before a block, with the block's frames first
 
 pub block_first : (all : ℕ) (count : ℕ) (block : ℕ) (frames : List GtFrame) (left more : List Timer) → left ≡ inl (block, frames) ∷ more → count + length (frames_of left) ≡ all
@@ -115,4 +112,4 @@ pub block_written : (old out : List GtFrameRecord) (all : List GtFrameRecord) (c
     → put_from (put_from out count (map (frame_record block) frames)) (count + length (map (frame_record block) frames)) (frames_of more) ≡ put_from old 0 all
 block_written old out all count block frames left more e h =
     let whole = rw e at h in
-    sym (put_both out count (map (frame_record block) frames) (frames_of more)) ∙ whole
+    sym (put_parts out count (map (frame_record block) frames) (frames_of more)) ∙ whole

@@ -6,6 +6,11 @@ use Rattle.acpi_c_lib.specs.Codes.{code_of, signature_of}
 use Rattle.acpi_c_lib.specs.declared.records.Name.{Name}
 use Rattle.acpi_c_lib.specs.declared.refusal.Refusal.{Refusal}
 
+-- what is made of the value, or the refusal
+abbrev pub result_map : {A B E : Type 0} → (A → B) → Result A E → Result B E
+result_map f (Ok x) = Ok (f x)
+result_map f (Err e) = Err e
+
 -- a signature as C has it, or else what was there
 abbrev pub signature_or : Name → Option Signature → Name
 signature_or old (Some s) = record { letters = letters_of s }
@@ -28,20 +33,25 @@ abbrev pub put_from : {X : Type 0} → List X → ℕ → List X → List X
 put_from xs n [] = xs
 put_from xs n (y ∷ ys) = put_from (slice_set xs n y) (n + 1) ys
 
--- how many items there are, and these written as far as there is room; or the refusal, and nothing
--- written
-abbrev pub Fills : {X : Type 0} → Result ℕ Refusal → List X → List X → Result (List X) Refusal → Type 0
-Fills said old new (Ok xs) = (said ≡ Ok (length xs)) × (new ≡ put_from old 0 xs)
-Fills said old new (Err e) = (said ≡ Err e) × (new ≡ old)
+-- this is how many items there are, and they were written as far as there is room
+abbrev pub Writes : {X : Type 0} → ℕ → List X → List X → List X → Type 0
+Writes count old new xs = (count ≡ length xs) × (new ≡ put_from old 0 xs)
 
--- 0, the items as far as there is room, and how many there are in all; or the refusal's number, and
--- nothing written but its signature
+-- the items of an answer; a refusal has none
+abbrev pub items_said : {X : Type 0} → Result (List X) Refusal → List X
+items_said (Ok xs) = xs
+items_said (Err e) = []
+
+-- how many items there are, or the refusal; and the items were written as far as there is room
+abbrev pub Fills : {X : Type 0} → Result ℕ Refusal → List X → List X → Result (List X) Refusal → Type 0
+Fills count old new said = (count ≡ result_map length said) × (new ≡ put_from old 0 (items_said said))
+
+-- how many items there are is answered as any value is, and the items were written as far as there is room
 abbrev pub AnswersList : {X : Type 0} → ℕ → List X → List X → ℕ → ℕ → Name → Name
     → Result (List X) Refusal → Type 0
-AnswersList status old new old_count new_count old_name new_name (Ok xs) =
-    (status ≡ 0) × (new ≡ put_from old 0 xs) × (new_count ≡ length xs) × (new_name ≡ old_name)
-AnswersList status old new old_count new_count old_name new_name (Err e) =
-    (status ≡ code_of e) × (new ≡ old) × (new_count ≡ old_count) × (new_name ≡ name_or old_name e)
+AnswersList status old new old_count new_count old_name new_name said =
+    Answers status old_count new_count old_name new_name (result_map length said)
+    × (new ≡ put_from old 0 (items_said said))
 
 -- ---- values that are described
 

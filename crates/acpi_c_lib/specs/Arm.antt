@@ -1,6 +1,9 @@
 -- The generic interrupt controller (GIC) of an Arm machine as C gets it.
-use Rattle.std.specs.Prelude.{ℕ, List, map, Option, Some, None, Result, Ok, Err}
+use Rattle.std.specs.Prelude.{ℕ, List, map, Option, Some, None, Result}
+use Rattle.std.specs.Option.{ok_or, unwrap_or}
 use Rattle.acpi_base.specs.Interrupts.{trigger_code}
+use Rattle.acpi_base.specs.Memory.{Memory}
+use Rattle.acpi_base.specs.Steps.{◌>>=◌}
 use Rattle.acpi_arm.specs.Gic.{found_gic}
 use Rattle.acpi_arm.specs.declared.gic.GicModel.{GicModel}
 use Rattle.acpi_arm.specs.declared.gic.part.GicCpuInterface.{GicCpuInterface}
@@ -9,7 +12,8 @@ use Rattle.acpi_arm.specs.declared.gic.part.GicMsiFrame.{GicMsiFrame}
 use Rattle.acpi_arm.specs.declared.gic.part.GicRedistributors.{GicRedistributors}
 use Rattle.acpi_arm.specs.declared.gic.part.GicTranslationService.{GicTranslationService}
 use Rattle.acpi_arm.specs.declared.gic.part.SpiRange.{SpiRange}
-use Rattle.acpi_c_lib.specs.Below.{below_source, named}
+use Rattle.acpi_c_lib.specs.Answers.{result_map}
+use Rattle.acpi_c_lib.specs.Below.{below, refused_as}
 use Rattle.acpi_c_lib.specs.Devices.{flag}
 use Rattle.acpi_c_lib.specs.declared.arm_records.CpuInterfaceRecord.{CpuInterfaceRecord}
 use Rattle.acpi_c_lib.specs.declared.arm_records.DistributorRecord.{DistributorRecord}
@@ -24,15 +28,15 @@ use Rattle.acpi_c_lib.specs.declared.refusal.Refusal.TheVariants.{NoGic}
 abbrev pub Gic : Type 0
 Gic = GicModel (Unit {0})
 
--- the GIC that a MADT describes, or that it describes none
-abbrev pub gic_or : Result (Option Gic) Refusal → Result Gic Refusal
-gic_or (Ok (Some gic)) = Ok gic
-gic_or (Ok None) = Err NoGic
-gic_or (Err e) = Err e
+-- the GIC that the first valid MADT describes
+abbrev pub gic_in : Memory → List ℕ → Result Gic Refusal
+gic_in m ps = do
+  found ← refused_as (found_gic m ps)
+  ok_or found NoGic
 
--- what is shown of the GIC that the first valid MADT describes
+-- what is shown of it
 abbrev pub below_gic : {A : Type 0} → Source → (Gic → A) → Result A Refusal
-below_gic s show = named show (gic_or (below_source s found_gic))
+below_gic s show = result_map show (below s gic_in)
 
 -- ---- the distributor (section 5.2.12.15)
 
@@ -49,11 +53,6 @@ distributor_shown gic = distributor_record gic.distributor
 
 -- ---- processors' interfaces (section 5.2.12.14)
 
--- a number, or 0 for none
-abbrev pub or_zero : Option ℕ → ℕ
-or_zero (Some n) = n
-or_zero None = 0
-
 unfoldable pub cpu_interface_record : GicCpuInterface → CpuInterfaceRecord
 cpu_interface_record x = record {
   mpidr = x.mpidr;
@@ -68,7 +67,7 @@ cpu_interface_record x = record {
   maintenance_interrupt = x.maintenance_interrupt;
   parking_protocol_version = x.parking_protocol_version;
   spe_overflow_interrupt = x.spe_overflow_interrupt;
-  trace_buffer_interrupt = or_zero x.trace_buffer_interrupt;
+  trace_buffer_interrupt = unwrap_or x.trace_buffer_interrupt 0;
   is_enabled = flag x.is_enabled;
   is_online_capable = flag x.is_online_capable;
   performance_trigger = trigger_code x.performance_trigger;

@@ -2,15 +2,15 @@
 use Rattle.std.specs.Prelude.{ℕ, ◌-◌, ◌^◌, nat_lt, Bool, List, [], ◌∷◌, ◌++◌, map, Option, Some, None, Result}
 use Rattle.std.proofs.Common.{inl, inr}
 use Rattle.std.specs.List.{filter_map}
+use Rattle.std.specs.Option.{unwrap_or}
 use Rattle.acpi_base.specs.Interrupts.{polarity_code, trigger_code}
-use Rattle.acpi.specs.Lookup.{lookup}
 use Rattle.acpi_arm.specs.Gtdt.{control_base_of, gtdt_at, gtdt_kind, read_base_of, virtual_el2_of}
 use Rattle.acpi_arm.specs.Timers.{Timer, missing_of, timers_of}
 use Rattle.acpi_arm.specs.declared.frames.GtFrame.{GtFrame}
 use Rattle.acpi_arm.specs.declared.gtdt.ArmTimer.{ArmTimer}
 use Rattle.acpi_arm.specs.declared.gtdt.Gtdt.{Gtdt}
 use Rattle.acpi_arm.specs.declared.timers.SbsaWatchdog.{SbsaWatchdog}
-use Rattle.acpi_c_lib.specs.Below.{below_source, named}
+use Rattle.acpi_c_lib.specs.Below.{below_first}
 use Rattle.acpi_c_lib.specs.Devices.{flag}
 use Rattle.acpi_c_lib.specs.declared.arm_records.ArmTimerRecord.{ArmTimerRecord}
 use Rattle.acpi_c_lib.specs.declared.arm_records.ArmTimersRecord.{ArmTimersRecord}
@@ -21,13 +21,11 @@ use Rattle.acpi_c_lib.specs.declared.refusal.Refusal.{Refusal}
 
 -- what is shown of the bytes of the first valid GTDT
 abbrev pub gtdt_below : {A : Type 0} → Source → (List ℕ → A) → Result A Refusal
-gtdt_below s show =
-    below_source s (λ m ps. named (λ found. show found.1) (lookup m gtdt_kind ps))
+gtdt_below s show = below_first gtdt_kind s show
 
 -- an address, or all ones for none
 abbrev pub or_ones : Option ℕ → ℕ
-or_ones (Some address) = address
-or_ones None = 2 ^ 64 - 1
+or_ones address = unwrap_or address (2 ^ 64 - 1)
 
 -- ---- the timers of every processor
 

@@ -2,9 +2,12 @@
 use Rattle.std.specs.Prelude.{ℕ, ◌==◌, List, drop, Result, Ok, Err, if◌then◌else◌}
 use Rattle.acpi_base.specs.Memory.{Memory}
 use Rattle.acpi_base.specs.Steps.{◌>>=◌}
+use Rattle.acpi_base.specs.Table.{Kind}
 use Rattle.acpi_base.specs.declared.error.AcpiError.{AcpiError}
+use Rattle.acpi.specs.Lookup.{lookup}
 use Rattle.acpi.specs.Opened.{Opened, opened_at, opened_by_rsdp, opened_by_search}
 use Rattle.acpi.specs.Root.{pointers, width_of}
+use Rattle.acpi_c_lib.specs.Answers.{result_map}
 use Rattle.acpi_c_lib.specs.Regions.{memory_in}
 use Rattle.acpi_c_lib.specs.declared.records.Source.{Source}
 use Rattle.acpi_c_lib.specs.declared.refusal.Refusal.{Refusal}
@@ -26,19 +29,21 @@ opened_in m s =
     else Err UnknownStart
 
 -- what a definition over a memory and the root table in it says of the tables that a caller names
-abbrev pub opened_below : {A : Type 0} → Source → (Memory → Opened → Result A AcpiError)
-    → Result A Refusal
+abbrev pub opened_below : {A : Type 0} → Source → (Memory → Opened → Result A Refusal) → Result A Refusal
 opened_below s answer = do
   m ← memory_in s.regions.now
   o ← opened_in m s
-  refused_as (answer m o)
+  answer m o
 
 -- what a definition over a memory and the pointers of the root table in it says of the tables that a caller names
+abbrev pub below : {A : Type 0} → Source → (Memory → List ℕ → Result A Refusal) → Result A Refusal
+below s answer = opened_below s (λ m o. answer m (pointers (width_of o.kind) (drop 36 o.root)))
+
+-- the same of a definition of the library
 abbrev pub below_source : {A : Type 0} → Source → (Memory → List ℕ → Result A AcpiError)
     → Result A Refusal
-below_source s answer = opened_below s (λ m o. answer m (pointers (width_of o.kind) (drop 36 o.root)))
+below_source s answer = below s (λ m ps. refused_as (answer m ps))
 
--- the value under C's names
-abbrev pub named : {A B E : Type 0} → (A → B) → Result A E → Result B E
-named f (Ok x) = Ok (f x)
-named f (Err e) = Err e
+-- what is shown of the bytes of the first valid table of a kind
+abbrev pub below_first : {A : Type 0} → Kind → Source → (List ℕ → A) → Result A Refusal
+below_first kind s show = below_source s (λ m ps. result_map (λ found. show found.1) (lookup m kind ps))

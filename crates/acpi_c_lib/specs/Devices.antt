@@ -1,5 +1,5 @@
 -- Registers, the timer and the boot graphic as C gets them.
-use Rattle.std.specs.Prelude.{ℕ, ◌*◌, Bool, true, false, List, Option, Some, None, Result}
+use Rattle.std.specs.Prelude.{ℕ, ◌*◌, Bool, true, false, List, Option, Some, None, Result, Ok, Err}
 use Rattle.acpi_base.specs.Address.{size_code, space_code}
 use Rattle.acpi_base.specs.Bits.{bits_of, has_bit}
 use Rattle.acpi_base.specs.Memory.{Memory}
@@ -15,9 +15,11 @@ use Rattle.acpi.specs.Lists.{fadt_kind}
 use Rattle.acpi.specs.Lookup.{lookup}
 use Rattle.acpi.specs.Timer.{timer_of}
 use Rattle.acpi.specs.declared.platform.timer.PmTimer.{PmTimer}
-use Rattle.acpi_c_lib.specs.Below.{below_source, named}
+use Rattle.acpi_c_lib.specs.Answers.{result_map}
+use Rattle.acpi_c_lib.specs.Below.{below_first, below_source}
 use Rattle.acpi_c_lib.specs.declared.records.BootGraphic.{BootGraphic}
 use Rattle.acpi_c_lib.specs.declared.records.Generic.{Generic}
+use Rattle.acpi_c_lib.specs.declared.records.Register.{Register}
 use Rattle.acpi_c_lib.specs.declared.records.Source.{Source}
 use Rattle.acpi_c_lib.specs.declared.records.Timer.{Timer}
 use Rattle.acpi_c_lib.specs.declared.refusal.Refusal.{Refusal}
@@ -38,6 +40,21 @@ generic_record a = record {
 abbrev pub no_register : Generic
 no_register = record { address = 0; space = 0; bit_width = 0; bit_offset = 0; access_size = 0 }
 
+-- a register; or zeros, and 0 if there is none or 2 if its address is refused
+abbrev pub optional_register : Result (Option GenericAddress) AcpiError → Register
+optional_register (Ok (Some a)) = record { at = generic_record a; present = 1 }
+optional_register (Ok None) = record { at = no_register; present = 0 }
+optional_register (Err e) = record { at = no_register; present = 2 }
+
+-- the same of a register that is there, if it isn't refused
+abbrev pub required_register : Result GenericAddress AcpiError → Register
+required_register said = optional_register (result_map Some said)
+
+-- none, or one that may be refused
+abbrev pub register_if : Option (Result GenericAddress AcpiError) → Register
+register_if (Some said) = required_register said
+register_if None = optional_register (Ok None)
+
 -- ---- the power management timer (section 4.8.3.3)
 
 abbrev pub timer_record : Option PmTimer → Timer
@@ -52,7 +69,7 @@ timer_in m ps = do
   timer_of (fadt_at found.1)
 
 abbrev pub timer_below : Source → Result Timer Refusal
-timer_below s = below_source s (λ m ps. named timer_record (timer_in m ps))
+timer_below s = below_source s (λ m ps. result_map timer_record (timer_in m ps))
 
 -- ---- the boot graphic (section 5.2.22)
 
@@ -71,5 +88,4 @@ bgrt_kind = sdt_kind BGRT 56
 
 -- the image of the first valid BGRT
 abbrev pub graphic_below : Source → Result BootGraphic Refusal
-graphic_below s =
-    below_source s (λ m ps. named (λ found. graphic_record (bgrt_at found.1)) (lookup m bgrt_kind ps))
+graphic_below s = below_first bgrt_kind s (λ table. graphic_record (bgrt_at table))

@@ -1,5 +1,6 @@
 -- The fixed hardware (FADT, section 5.2.9) as C gets it.
 use Rattle.std.specs.Prelude.{ℕ, Option, Some, None, Result, Ok, Err}
+use Rattle.std.specs.Result.{result_unwrap_or}
 use Rattle.acpi_base.specs.Address.{generic_address_of, space_code}
 use Rattle.acpi_base.specs.declared.error.AcpiError.{AcpiError}
 use Rattle.acpi_fixed.specs.Fadt.{dsdt_address_of, facs_address_of, fadt_at, pm_timer_of, profile_of, registers_of}
@@ -11,18 +12,12 @@ use Rattle.acpi_fixed.specs.declared.fadt.PowerProfile.{PowerProfile}
 use Rattle.acpi_fixed.specs.declared.fadt.PowerProfile.TheVariants as profiles
 use Rattle.acpi_fixed.specs.declared.fadt.registers.gpe.GpeBlock.{GpeBlock}
 use Rattle.acpi.specs.Lists.{fadt_kind}
-use Rattle.acpi.specs.Lookup.{lookup}
-use Rattle.acpi_c_lib.specs.Below.{below_source, named}
-use Rattle.acpi_c_lib.specs.Register.{optional_register, required_register}
+use Rattle.acpi_c_lib.specs.Below.{below_first}
+use Rattle.acpi_c_lib.specs.Devices.{optional_register, required_register}
 use Rattle.acpi_c_lib.specs.declared.fixed_records.FixedHardware.{FixedHardware}
 use Rattle.acpi_c_lib.specs.declared.fixed_records.Gpe.{Gpe}
 use Rattle.acpi_c_lib.specs.declared.records.Source.{Source}
 use Rattle.acpi_c_lib.specs.declared.refusal.Refusal.{Refusal}
-
--- an address is refused only if it is 0
-abbrev pub address_or_zero : Result ℕ AcpiError → ℕ
-address_or_zero (Ok a) = a
-address_or_zero (Err e) = 0
 
 abbrev pub profile_code : PowerProfile → ℕ
 profile_code profiles.Unspecified = 0
@@ -48,8 +43,9 @@ gpe_record (Err e) = no_gpe 2
 
 abbrev pub fixed_record : Fadt → FixedHardware
 fixed_record f = record {
-  facs_address = address_or_zero (facs_address_of f);
-  dsdt_address = address_or_zero (dsdt_address_of f);
+  -- an address is refused only if it is 0
+  facs_address = result_unwrap_or (facs_address_of f) 0;
+  dsdt_address = result_unwrap_or (dsdt_address_of f) 0;
   pm1a_event = required_register (block_of (registers_of f).pm1a_event);
   pm1b_event = optional_register (optional_block_of (registers_of f).pm1b_event);
   pm1a_control = required_register (block_of (registers_of f).pm1a_control);
@@ -89,5 +85,4 @@ fixed_record f = record {
 
 -- the fixed hardware of the first valid FADT
 abbrev pub fixed_below : Source → Result FixedHardware Refusal
-fixed_below s =
-    below_source s (λ m ps. named (λ found. fixed_record (fadt_at found.1)) (lookup m fadt_kind ps))
+fixed_below s = below_first fadt_kind s (λ table. fixed_record (fadt_at table))

@@ -2,19 +2,21 @@
 use Rattle.std.specs.Prelude.{◌≡◌, ℕ, ◌-◌, ◌<◌, ◌&&◌, nat_le, List, map, slice_index_or, Option, Some, None, Result, Ok, Err, if◌then◌else◌}
 use Rattle.std.specs.List.{range_with_len}
 use Rattle.std.specs.Option.{option_map}
-use Rattle.acpi_base.specs.Pin.{base_of}
-use Rattle.acpi_base.specs.declared.model.interrupt.InterruptModel.TheVariants as model
+use Rattle.acpi_base.specs.Isa.{isa_interrupt}
+use Rattle.acpi_base.specs.Memory.{Memory}
+use Rattle.acpi_base.specs.Pin.{base_of, io_apic_for}
+use Rattle.acpi_base.specs.Steps.{◌>>=◌}
+use Rattle.acpi_base.specs.declared.model.interrupt.InterruptSourceOverride.{InterruptSourceOverride}
 use Rattle.acpi_base.specs.declared.model.interrupt.IoApic.{IoApic}
 use Rattle.acpi_base.specs.declared.model.isa.IsaInterrupt.{IsaInterrupt}
-use Rattle.acpi_c_lib.specs.Model.{Platform, below_platform}
-use Rattle.acpi_c_lib.specs.Routes.{interrupt_record, is_nearer, isa_below, isa_of, joined, pin_below, pin_of, pin_or}
+use Rattle.acpi_c_lib.specs.Below.{below}
+use Rattle.acpi_c_lib.specs.Routes.{apics_in, interrupt_or, interrupt_record, is_nearer, isa_below, pin_below, pin_or}
 use Rattle.acpi_c_lib.specs.declared.interrupt_records.InterruptRecord.{InterruptRecord}
 use Rattle.acpi_c_lib.specs.declared.interrupt_records.IsaInterrupts.{IsaInterrupts}
 use Rattle.acpi_c_lib.specs.declared.interrupt_records.IsaRoute.{IsaRoute}
 use Rattle.acpi_c_lib.specs.declared.interrupt_records.PinRecord.{PinRecord}
 use Rattle.acpi_c_lib.specs.declared.records.Source.{Source}
 use Rattle.acpi_c_lib.specs.declared.refusal.Refusal.{Refusal}
-use Rattle.acpi_c_lib.specs.declared.refusal.Refusal.TheVariants.{NoApics}
 
 abbrev pub no_interrupt : InterruptRecord
 no_interrupt = record { global_system_interrupt = 0; polarity = 0; trigger = 0 }
@@ -38,24 +40,26 @@ abbrev pub route_by : (ℕ → Result PinRecord Refusal) → Result InterruptRec
 route_by pin (Ok i) = routed i (pin i.global_system_interrupt)
 route_by pin (Err e) = no_route
 
--- what the calls for one answer for this one
-abbrev pub isa_route : Platform → ℕ → IsaRoute
-isa_route platform irq = route_by (λ interrupt. pin_of interrupt platform) (isa_of irq platform)
+-- what the calls for one answer for this one, by the overrides and the I/O APICs
+abbrev pub isa_route : List InterruptSourceOverride → List IoApic → ℕ → IsaRoute
+isa_route overrides io_apics irq =
+    route_by (λ n. pin_or (io_apic_for io_apics n)) (interrupt_or (isa_interrupt overrides irq))
 
 -- the numbers of the ISA interrupts
 unfoldable pub isa_numbers : List ℕ
 isa_numbers = range_with_len 0 16
 
-abbrev pub isa_list : Platform → IsaInterrupts
-isa_list platform = record { routes = map (isa_route platform) isa_numbers }
+abbrev pub isa_list : List InterruptSourceOverride → List IoApic → IsaInterrupts
+isa_list overrides io_apics = record { routes = map (isa_route overrides io_apics) isa_numbers }
 
 -- the list of a model of APICs
-abbrev pub isa_list_of : Platform → Result IsaInterrupts Refusal
-isa_list_of (model.Apic apic, processors) = Ok (isa_list (model.Apic apic, processors))
-isa_list_of (model.Unknown, processors) = Err NoApics
+abbrev pub isa_list_in : Memory → List ℕ → Result IsaInterrupts Refusal
+isa_list_in m ps = do
+  apic ← apics_in m ps
+  Ok (isa_list apic.interrupt_source_overrides apic.io_apics)
 
 abbrev pub isa_list_below : Source → Result IsaInterrupts Refusal
-isa_list_below s = joined (below_platform s isa_list_of)
+isa_list_below s = below s isa_list_in
 
 -- the law: each item is what the calls for one answer
 abbrev pub ItemsAreAnswers : Type 0

@@ -6,7 +6,6 @@ pub mod Clip
 pub mod Codes
 pub mod Console
 pub mod Devices
-pub mod Ecam
 pub mod Faults
 pub mod Fixed
 pub mod Held
@@ -15,7 +14,6 @@ pub mod Missing
 pub mod Model
 pub mod Numa
 pub mod Regions
-pub mod Register
 pub mod Routes
 pub mod Shown
 pub mod Walked

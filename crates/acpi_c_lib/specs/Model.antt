@@ -19,7 +19,8 @@ use Rattle.acpi_base.specs.declared.model.processor.ProcessorState.{ProcessorSta
 use Rattle.acpi_base.specs.declared.model.processor.ProcessorState.TheVariants.{Disabled, Running, WaitingForSipi}
 use Rattle.acpi.specs.Platform.{platform_of}
 use Rattle.acpi.specs.declared.platform.PlatformInfo.{PlatformInfo}
-use Rattle.acpi_c_lib.specs.Below.{below_source, named}
+use Rattle.acpi_c_lib.specs.Answers.{result_map}
+use Rattle.acpi_c_lib.specs.Below.{below_source}
 use Rattle.acpi_c_lib.specs.Devices.{flag}
 use Rattle.acpi_c_lib.specs.declared.interrupt_records.IoApicRecord.{IoApicRecord}
 use Rattle.acpi_c_lib.specs.declared.interrupt_records.Model as record_of
@@ -44,11 +45,11 @@ models_of info = (info.interrupt_model, info.processor_info)
 
 -- the model and the processors of the platform
 abbrev pub platform_model : Memory → List ℕ → Result Platform AcpiError
-platform_model m ps = named models_of (platform_of m ps)
+platform_model m ps = result_map models_of (platform_of m ps)
 
 -- what a definition over the platform says of the tables that a caller names
 abbrev pub below_platform : {A : Type 0} → Source → (Platform → A) → Result A Refusal
-below_platform s show = below_source s (λ m ps. named show (platform_model m ps))
+below_platform s show = result_map show (below_source s platform_model)
 
 -- ---- I/O APICs (section 5.2.12.3)
 

@@ -1,16 +1,18 @@
 -- Domains and distances as C gets them.
-use Rattle.std.specs.Prelude.{◌≡◌, ◌≤◌, ◌↔◌, ℕ, List, map, Option, Some, None, Result, Ok, Err}
+use Rattle.std.specs.Prelude.{◌≡◌, ◌≤◌, ◌↔◌, ℕ, List, map, Result, Ok, Err}
+use Rattle.std.specs.Option.{ok_or}
+use Rattle.acpi_base.specs.Memory.{Memory}
 use Rattle.acpi_base.specs.Steps.{◌>>=◌}
 use Rattle.acpi_base.specs.Table.{Kind, sdt_kind}
 use Rattle.acpi_base.specs.declared.table.signature.TheConstants.Signature.{SLIT}
-use Rattle.acpi.specs.Lookup.{lookup}
 use Rattle.acpi_numa.specs.Affinities.{domain_at, found_affinities, srat_kind}
 use Rattle.acpi_numa.specs.Slit.{IsSane, distance_of, localities_of}
 use Rattle.acpi_numa.specs.Srat.{domain_of_apic, domain_of_processor}
 use Rattle.acpi_numa.specs.declared.error.NumaError.{NumaError}
 use Rattle.acpi_numa.specs.declared.error.NumaError.TheVariants as numa
 use Rattle.acpi_numa.specs.declared.srat.affinities.MemoryRange.{MemoryRange}
-use Rattle.acpi_c_lib.specs.Below.{below_source, named}
+use Rattle.acpi_c_lib.specs.Answers.{result_map}
+use Rattle.acpi_c_lib.specs.Below.{below, below_first, refused_as}
 use Rattle.acpi_c_lib.specs.Devices.{flag}
 use Rattle.acpi_c_lib.specs.declared.numa_records.LocalitiesRecord.{LocalitiesRecord}
 use Rattle.acpi_c_lib.specs.declared.numa_records.MemoryAffinityRecord.{MemoryAffinityRecord}
@@ -31,9 +33,9 @@ numa_refused (Err e) = Err (numa_refusal e)
 -- ---- ranges of memory
 
 -- the ranges of memory that the first valid SRAT puts into domains (section 5.2.16.2)
-abbrev pub affinities_in : Source → Result (List MemoryRange) Refusal
-affinities_in s = do
-  said ← below_source s found_affinities
+abbrev pub affinities_in : Memory → List ℕ → Result (List MemoryRange) Refusal
+affinities_in m ps = do
+  said ← refused_as (found_affinities m ps)
   numa_refused said
 
 abbrev pub affinity_record : MemoryRange → MemoryAffinityRecord
@@ -46,50 +48,35 @@ affinity_record r = record {
 }
 
 abbrev pub affinities_below : Source → Result (List MemoryAffinityRecord) Refusal
-affinities_below s = named (map affinity_record) (affinities_in s)
+affinities_below s = result_map (map affinity_record) (below s affinities_in)
 
 -- ---- domains
 
--- a domain, or that there is none
-abbrev pub domain_or : Result (Option ℕ) Refusal → Result ℕ Refusal
-domain_or (Ok (Some domain)) = Ok domain
-domain_or (Ok None) = Err NoDomain
-domain_or (Err e) = Err e
-
 -- the domain of the first range in which an address lies
 abbrev pub domain_of_address_below : Source → ℕ → Result ℕ Refusal
-domain_of_address_below s address =
-    domain_or (named (λ ranges. domain_at ranges address) (affinities_in s))
-
--- what is shown of the bytes of the first valid SRAT
-abbrev pub srat_below : {A : Type 0} → Source → (List ℕ → A) → Result A Refusal
-srat_below s show =
-    below_source s (λ m ps. named (λ found. show found.1) (lookup m srat_kind ps))
+domain_of_address_below s address = do
+  ranges ← below s affinities_in
+  ok_or (domain_at ranges address) NoDomain
 
 abbrev pub domain_of_apic_below : Source → ℕ → Result ℕ Refusal
-domain_of_apic_below s id = domain_or (srat_below s (λ table. domain_of_apic table id))
+domain_of_apic_below s id = do
+  found ← below_first srat_kind s (λ table. domain_of_apic table id)
+  ok_or found NoDomain
 
 abbrev pub domain_of_processor_below : Source → ℕ → Result ℕ Refusal
-domain_of_processor_below s uid = domain_or (srat_below s (λ table. domain_of_processor table uid))
+domain_of_processor_below s uid = do
+  found ← below_first srat_kind s (λ table. domain_of_processor table uid)
+  ok_or found NoDomain
 
 -- ---- distances (SLIT, section 5.2.17)
 
 abbrev pub slit_kind : Kind
 slit_kind = sdt_kind SLIT 44
 
--- what is shown of the bytes of the first valid SLIT
-abbrev pub slit_below : {A : Type 0} → Source → (List ℕ → A) → Result A Refusal
-slit_below s show =
-    below_source s (λ m ps. named (λ found. show found.1) (lookup m slit_kind ps))
-
--- a distance, or that there is none
-abbrev pub distance_or : Result (Option ℕ) Refusal → Result ℕ Refusal
-distance_or (Ok (Some distance)) = Ok distance
-distance_or (Ok None) = Err NoDistance
-distance_or (Err e) = Err e
-
 abbrev pub distance_below : Source → ℕ → ℕ → Result ℕ Refusal
-distance_below s from to = distance_or (slit_below s (λ table. distance_of table from to))
+distance_below s from to = do
+  found ← below_first slit_kind s (λ table. distance_of table from to)
+  ok_or found NoDistance
 
 -- the size of the matrix of a table's bytes, and 1 exactly if the table can be believed, or else 0
 abbrev pub IsLocalities : List ℕ → LocalitiesRecord → Type 0
@@ -98,4 +85,4 @@ IsLocalities table r =
 
 -- the bytes of the first valid SLIT
 abbrev pub slit_in : Source → Result (List ℕ) Refusal
-slit_in s = slit_below s (λ table. table)
+slit_in s = below_first slit_kind s (λ table. table)

@@ -1,29 +1,25 @@
 -- How interrupts come to the I/O APICs, as C gets it.
-use Rattle.std.specs.Prelude.{ℕ, Bool, true, nat_lt, List, Option, Some, None, Result, Ok, Err}
+use Rattle.std.specs.Prelude.{◌×◌, ℕ, Bool, true, nat_lt, List, Option, Some, None, Result, Ok, Err}
+use Rattle.std.specs.Option.{ok_or}
 use Rattle.acpi_base.specs.Interrupts.{polarity_code, trigger_code}
 use Rattle.acpi_base.specs.Isa.{isa_interrupt, sci_interrupt}
 use Rattle.acpi_base.specs.Memory.{Memory}
 use Rattle.acpi_base.specs.Pin.{base_of, io_apic_for}
 use Rattle.acpi_base.specs.Steps.{◌>>=◌}
-use Rattle.acpi_base.specs.declared.error.AcpiError.{AcpiError}
+use Rattle.acpi_base.specs.declared.model.interrupt.Apic.{Apic}
 use Rattle.acpi_base.specs.declared.model.interrupt.InterruptModel.TheVariants as model
 use Rattle.acpi_base.specs.declared.model.interrupt.IoApic.{IoApic}
 use Rattle.acpi_base.specs.declared.model.isa.IsaInterrupt.{IsaInterrupt}
 use Rattle.acpi_fixed.specs.Fadt.{fadt_at}
 use Rattle.acpi.specs.Lists.{fadt_kind}
 use Rattle.acpi.specs.Lookup.{lookup}
-use Rattle.acpi_c_lib.specs.Below.{below_source}
-use Rattle.acpi_c_lib.specs.Model.{Platform, below_platform, io_apic_record, platform_model}
+use Rattle.acpi_c_lib.specs.Below.{below, refused_as}
+use Rattle.acpi_c_lib.specs.Model.{Platform, io_apic_record, platform_model}
 use Rattle.acpi_c_lib.specs.declared.interrupt_records.InterruptRecord.{InterruptRecord}
 use Rattle.acpi_c_lib.specs.declared.interrupt_records.PinRecord.{PinRecord}
 use Rattle.acpi_c_lib.specs.declared.records.Source.{Source}
 use Rattle.acpi_c_lib.specs.declared.refusal.Refusal.{Refusal}
 use Rattle.acpi_c_lib.specs.declared.refusal.Refusal.TheVariants.{NoApics, NoSuchInterrupt, NoSuchIoApic}
-
--- a refusal of what is found, after those before it
-abbrev pub joined : {A : Type 0} → Result (Result A Refusal) Refusal → Result A Refusal
-joined (Ok said) = said
-joined (Err e) = Err e
 
 abbrev pub interrupt_record : IsaInterrupt → InterruptRecord
 interrupt_record i = record {
@@ -32,49 +28,59 @@ interrupt_record i = record {
   trigger = trigger_code i.trigger_mode;
 }
 
+-- the APICs of a platform
+abbrev pub apics_of : Platform → Result (Apic (Unit {0})) Refusal
+apics_of (model.Apic apic, processors) = Ok apic
+apics_of (model.Unknown, processors) = Err NoApics
+
+-- the APICs of the platform of the tables
+abbrev pub apics_in : Memory → List ℕ → Result (Apic (Unit {0})) Refusal
+apics_in m ps = do
+  platform ← refused_as (platform_model m ps)
+  apics_of platform
+
 -- an interrupt, or that there is none such
 abbrev pub interrupt_or : Option IsaInterrupt → Result InterruptRecord Refusal
-interrupt_or (Some i) = Ok (interrupt_record i)
-interrupt_or None = Err NoSuchInterrupt
+interrupt_or o = do
+  found ← ok_or o NoSuchInterrupt
+  Ok (interrupt_record found)
 
--- an ISA interrupt of a model of APICs
-abbrev pub isa_of : ℕ → Platform → Result InterruptRecord Refusal
-isa_of irq (model.Apic apic, processors) =
-    interrupt_or (isa_interrupt apic.interrupt_source_overrides irq)
-isa_of irq (model.Unknown, processors) = Err NoApics
+-- an ISA interrupt
+abbrev pub isa_in : ℕ → Memory → List ℕ → Result InterruptRecord Refusal
+isa_in irq m ps = do
+  apic ← apics_in m ps
+  interrupt_or (isa_interrupt apic.interrupt_source_overrides irq)
 
 abbrev pub isa_below : Source → ℕ → Result InterruptRecord Refusal
-isa_below s irq = joined (below_platform s (isa_of irq))
+isa_below s irq = below s (isa_in irq)
 
--- the interrupt of the machine's events, of a model of APICs
-abbrev pub sci_of : ℕ → Platform → Result InterruptRecord Refusal
-sci_of sci (model.Apic apic, processors) =
-    Ok (interrupt_record (sci_interrupt apic.interrupt_source_overrides sci))
-sci_of sci (model.Unknown, processors) = Err NoApics
-
--- the interrupt of SCI_INT of the first valid FADT (section 5.2.9)
-abbrev pub sci_in : Memory → List ℕ → Result (Result InterruptRecord Refusal) AcpiError
+-- the interrupt of the machine's events, SCI_INT of the first valid FADT (section 5.2.9)
+abbrev pub sci_in : Memory → List ℕ → Result InterruptRecord Refusal
 sci_in m ps = do
-  platform ← platform_model m ps
-  found ← lookup m fadt_kind ps
-  Ok (sci_of (fadt_at found.1).sci_interrupt platform)
+  platform ← refused_as (platform_model m ps)
+  fadt ← refused_as (lookup m fadt_kind ps)
+  apic ← apics_of platform
+  Ok (interrupt_record (sci_interrupt apic.interrupt_source_overrides (fadt_at fadt.1).sci_interrupt))
 
 abbrev pub sci_below : Source → Result InterruptRecord Refusal
-sci_below s = joined (below_source s sci_in)
-
--- an I/O APIC and a pin, or that there is none such
-abbrev pub pin_or : Option (IoApic × ℕ) → Result PinRecord Refusal
-pin_or (Some found) = Ok (record { io_apic = io_apic_record found.0; pin = found.1 })
-pin_or None = Err NoSuchIoApic
+sci_below s = below s sci_in
 
 -- whether an I/O APIC is nearer than the one so far
 abbrev pub is_nearer : Option IoApic → IoApic → Bool
 is_nearer None x = true
 is_nearer (Some y) x = nat_lt (base_of y) (base_of x)
 
-abbrev pub pin_of : ℕ → Platform → Result PinRecord Refusal
-pin_of interrupt (model.Apic apic, processors) = pin_or (io_apic_for apic.io_apics interrupt)
-pin_of interrupt (model.Unknown, processors) = Err NoApics
+-- an I/O APIC and a pin, or that there is none such
+abbrev pub pin_or : Option (IoApic × ℕ) → Result PinRecord Refusal
+pin_or o = do
+  found ← ok_or o NoSuchIoApic
+  Ok (record { io_apic = io_apic_record found.0; pin = found.1 })
+
+-- the I/O APIC that an interrupt comes to, and the pin there
+abbrev pub pin_in : ℕ → Memory → List ℕ → Result PinRecord Refusal
+pin_in interrupt m ps = do
+  apic ← apics_in m ps
+  pin_or (io_apic_for apic.io_apics interrupt)
 
 abbrev pub pin_below : Source → ℕ → Result PinRecord Refusal
-pin_below s interrupt = joined (below_platform s (pin_of interrupt))
+pin_below s interrupt = below s (pin_in interrupt)

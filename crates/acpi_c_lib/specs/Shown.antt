@@ -1,11 +1,15 @@
 -- What the calls answer of the tables that a caller names.
-use Rattle.std.specs.Prelude.{ℕ, List, filter_map, length, map, Option, Some, None, Result, Ok, Err}
+use Rattle.std.specs.Prelude.{ℕ, List, filter_map, length, map, Option, Some, None, Result, Ok}
+use Rattle.std.specs.Option.{ok_or}
 use Rattle.std.specs.Result.{result_ok}
+use Rattle.acpi_base.specs.Ecam.{ecam_range}
 use Rattle.acpi_base.specs.Header.{header_at}
 use Rattle.acpi_base.specs.Memory.{Memory}
+use Rattle.acpi_base.specs.Steps.{◌>>=◌}
 use Rattle.acpi_base.specs.Table.{own_table_at, plain_kind}
 use Rattle.acpi_base.specs.Text.{letters_of}
 use Rattle.acpi_base.specs.declared.error.AcpiError.{AcpiError}
+use Rattle.acpi_base.specs.declared.range.AddressRange.{AddressRange}
 use Rattle.acpi_base.specs.declared.table.signature.Signature.{Signature}
 use Rattle.acpi_base.specs.declared.tables.mcfg.McfgEntry.{McfgEntry}
 use Rattle.acpi.specs.Ecam.{ecam_address}
@@ -19,7 +23,9 @@ use Rattle.acpi.specs.declared.hpet.HpetInfo.{HpetInfo}
 use Rattle.acpi.specs.declared.hpet.PageProtection.{PageProtection}
 use Rattle.acpi.specs.declared.hpet.PageProtection.TheVariants as protection
 use Rattle.acpi.specs.declared.records.AmlTable.{AmlTable}
-use Rattle.acpi_c_lib.specs.Below.{below_source, named, opened_below}
+use Rattle.acpi_c_lib.specs.Answers.{result_map}
+use Rattle.acpi_c_lib.specs.Below.{below_source, opened_below}
+use Rattle.acpi_c_lib.specs.declared.fixed_records.EcamRange.{EcamRange}
 use Rattle.acpi_c_lib.specs.declared.records.Aml.{Aml}
 use Rattle.acpi_c_lib.specs.declared.records.Hpet.{Hpet}
 use Rattle.acpi_c_lib.specs.declared.records.Name.{Name}
@@ -56,7 +62,7 @@ table_record found = record {
 
 -- the tables of all members that are valid under their own signatures, in order
 abbrev pub tables_in : Memory → List ℕ → List Table
-tables_in m ps = filter_map (λ p. result_ok (named (λ b. table_record (p, b)) (own_table_at m p))) ps
+tables_in m ps = filter_map (λ p. result_ok (result_map (λ b. table_record (p, b)) (own_table_at m p))) ps
 
 abbrev pub tables_below : Source → Result (List Table) Refusal
 tables_below s = below_source s (λ m ps. Ok (tables_in m ps))
@@ -67,7 +73,7 @@ signature_named name = record { 0 = name.letters }
 
 -- the first valid table of a name
 abbrev pub first_named : Name → Memory → List ℕ → Result Table AcpiError
-first_named name m ps = named table_record (lookup m (plain_kind (signature_named name)) ps)
+first_named name m ps = result_map table_record (lookup m (plain_kind (signature_named name)) ps)
 
 abbrev pub table_below : Source → Name → Result Table Refusal
 table_below s name = below_source s (first_named name)
@@ -76,7 +82,7 @@ abbrev pub aml_record : AmlTable → Aml
 aml_record s = record { address = s.address; length = s.length }
 
 abbrev pub dsdt_below : Source → Result Aml Refusal
-dsdt_below s = below_source s (λ m ps. named aml_record (dsdt_stream m ps))
+dsdt_below s = below_source s (λ m ps. result_map aml_record (dsdt_stream m ps))
 
 -- ---- PCI configuration space (MCFG; PCI Firmware Specification, section 4.1.2)
 
@@ -89,21 +95,31 @@ pci_record e = record {
 }
 
 abbrev pub pci_regions_below : Source → Result (List PciRegion) Refusal
-pci_regions_below s = below_source s (λ m ps. named (map pci_record) (found_regions m ps))
+pci_regions_below s = below_source s (λ m ps. result_map (map pci_record) (found_regions m ps))
 
--- an address, or that there is no such function
-abbrev pub function_at : Result (Option ℕ) Refusal → Result ℕ Refusal
-function_at (Ok (Some a)) = Ok a
-function_at (Ok None) = Err NoSuchFunction
-function_at (Err e) = Err e
+-- a segment group and the memory of its buses, or zeros
+abbrev pub span_record : ℕ → Option AddressRange → EcamRange
+span_record group (Some r) =
+    record { address = r.address; length = r.length; segment_group = group; present = 1 }
+span_record group None = record { address = 0; length = 0; segment_group = group; present = 0 }
+
+-- the memory of a region's buses, with its base taken as that of bus 0 (PCI Firmware Specification, section 4.1.2)
+abbrev pub ecam_record : McfgEntry → EcamRange
+ecam_record e = span_record e.pci_segment_group (ecam_range e)
+
+-- the memory of each region of the first valid MCFG, in order
+abbrev pub ecam_ranges_below : Source → Result (List EcamRange) Refusal
+ecam_ranges_below s = below_source s (λ m ps. result_map (map ecam_record) (found_regions m ps))
 
 abbrev pub pci_below : Source → ℕ → ℕ → ℕ → ℕ → Result ℕ Refusal
-pci_below s segment bus device function = function_at (below_source s (λ m ps.
-    named (λ rs. pci_address rs segment bus device function) (found_regions m ps)))
+pci_below s segment bus device function = do
+  regions ← below_source s found_regions
+  ok_or (pci_address regions segment bus device function) NoSuchFunction
 
 abbrev pub ecam_below : Source → ℕ → ℕ → ℕ → ℕ → Result ℕ Refusal
-ecam_below s segment bus device function = function_at (below_source s (λ m ps.
-    named (λ rs. ecam_address rs segment bus device function) (found_regions m ps)))
+ecam_below s segment bus device function = do
+  regions ← below_source s found_regions
+  ok_or (ecam_address regions segment bus device function) NoSuchFunction
 
 -- ---- devices
 
@@ -123,4 +139,4 @@ hpet_record i = record {
 }
 
 abbrev pub hpet_below : Source → Result Hpet Refusal
-hpet_below s = below_source s (λ m ps. named hpet_record (hpet_of m ps))
+hpet_below s = below_source s (λ m ps. result_map hpet_record (hpet_of m ps))

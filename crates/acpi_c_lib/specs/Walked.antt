@@ -1,6 +1,8 @@
 -- What walks along the members of the root table answer.
-use Rattle.std.specs.Prelude.{ℕ, List, drop, length, map, slice_get, Option, Some, None, Result, Ok, Err}
+use Rattle.std.specs.Prelude.{ℕ, List, drop, length, map, slice_get, Result, Ok}
+use Rattle.std.specs.Option.{ok_or}
 use Rattle.acpi_base.specs.Memory.{Memory}
+use Rattle.acpi_base.specs.Steps.{◌>>=◌}
 use Rattle.acpi_base.specs.Table.{plain_kind}
 use Rattle.acpi_base.specs.declared.error.AcpiError.{AcpiError}
 use Rattle.acpi_base.specs.declared.error.AcpiError.TheVariants.{TableMissing}
@@ -20,14 +22,11 @@ use Rattle.acpi_c_lib.specs.declared.records.Source.{Source}
 use Rattle.acpi_c_lib.specs.declared.records.Table.{Table}
 use Rattle.acpi_c_lib.specs.declared.refusal.Refusal.{Refusal}
 
--- the table, or that it is missing
-abbrev pub found_or : Signature → Option (ℕ × List ℕ) → Result Table AcpiError
-found_or s (Some found) = Ok (table_record found)
-found_or s None = Err (TableMissing s)
-
--- the valid table of a signature with so many before it
+-- the valid table of a signature with so many before it, or that it is missing
 abbrev pub nth_in : Memory → Signature → ℕ → List ℕ → Result Table AcpiError
-nth_in m s index ps = found_or s (slice_get (tables_found m (plain_kind s) ps) index)
+nth_in m s index ps = do
+  found ← ok_or (slice_get (tables_found m (plain_kind s) ps) index) (TableMissing s)
+  Ok (table_record found)
 
 abbrev pub nth_below : Source → Name → ℕ → Result Table Refusal
 nth_below s name index = below_source s (λ m ps. nth_in m (signature_named name) index ps)

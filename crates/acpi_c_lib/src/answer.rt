@@ -1,5 +1,5 @@
 //! How an answer is written for C.
-ghost use Rattle.std.specs.Prelude.{◌≡◌, slice_set};
+ghost use Rattle.std.specs.Prelude.{◌≡◌};
 ghost use Rattle.acpi_c_lib.specs.Answers.{Answers, name_or};
 
 use crate::records::Name;
@@ -30,14 +30,5 @@ fn name(refusal: Refusal, named: &mut Name)
         *named = Name {
             letters: signature.to_bytes(),
         };
-    }
-}
-
-/// Writes an item at an index, if there is room.
-pub(crate) fn put<T: Copy>(out: &mut [T], index: usize, item: T)
-    ensures { out.new ≡ slice_set out.old index item }
-{
-    if index < out.len() {
-        out[index] = item;
     }
 }

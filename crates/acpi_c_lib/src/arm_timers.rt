@@ -1,13 +1,13 @@
 //! The generic timers of an Arm machine, by the GTDT.
 ghost use Rattle.std.specs.Prelude.{◌≡◌, ◌+◌, ◌^◌, ◌<◌, length, map, nat_lt};
 ghost use Rattle.acpi_arm.specs.Timers.{frames_left, missing_left};
-ghost use Rattle.acpi_c_lib.specs.Answers.{Fills, put_from};
+ghost use Rattle.acpi_c_lib.specs.Answers.{Fills, Writes, put_from};
 ghost use Rattle.acpi_c_lib.specs.ArmTimers as timers;
 ghost use Rattle.acpi_c_lib.specs.ArmTimers.{frames_shown, gtdt_below, timers_shown, watchdogs_shown};
 
-use crate::answer::put;
 use crate::arm_records::{ArmTimerRecord, ArmTimersRecord, GtFrameRecord, WatchdogRecord};
-use crate::interrupt_codes::{polarity_code, trigger_code};
+use crate::interrupts::{polarity_code, trigger_code};
+use crate::lists::put;
 use crate::opening::open;
 use crate::records::Source;
 use crate::refusal::Refusal;
@@ -55,10 +55,7 @@ fn timers_record(gtdt: &Gtdt, is_malformed: bool) -> ArmTimersRecord
 fn or_ones(address: Option<u64>) -> u64
     ensures { result ≡ timers.or_ones address }
 {
-    match address {
-        Some(address) => address,
-        None => u64::MAX,
-    }
+    address.unwrap_or(u64::MAX)
 }
 
 fn timer_record(timer: &ArmTimer) -> ArmTimerRecord
@@ -100,10 +97,9 @@ pub fn frames(source: &Source<'_>, out: &mut [GtFrameRecord]) -> Result<usize, R
 }
 
 /// The frames of all blocks of a GTDT.
-#[tactic(auto, using(crate::proofs::TimerCounts::frames_few, crate::proofs::TimerCounts::put_both))]
+#[tactic(auto, using(crate::proofs::TimerCounts::frames_few, crate::proofs::CountedList::put_parts))]
 fn fill_frames(table: &[u8], out: &mut [GtFrameRecord]) -> usize
-    ensures count { result ≡ length (frames_shown table.now) }
-    ensures items { out.new ≡ put_from out.old 0 (frames_shown table.now) }
+    ensures { Writes result out.old out.new (frames_shown table.now) }
 {
     let mut count = 0;
     for timer in PlatformTimerIter::over(table) {
@@ -164,8 +160,7 @@ pub fn watchdogs(source: &Source<'_>, out: &mut [WatchdogRecord]) -> Result<usiz
 /// The watchdogs of a GTDT.
 #[tactic(auto, using(crate::proofs::TimerCounts::watchdogs_few))]
 fn fill_watchdogs(table: &[u8], out: &mut [WatchdogRecord]) -> usize
-    ensures count { result ≡ length (watchdogs_shown table.now) }
-    ensures items { out.new ≡ put_from out.old 0 (watchdogs_shown table.now) }
+    ensures { Writes result out.old out.new (watchdogs_shown table.now) }
 {
     let mut count = 0;
     for timer in PlatformTimerIter::over(table) {

@@ -4,7 +4,7 @@ ghost use Rattle.std.specs.Prelude.{◌≡◌, ◌+◌, ◌^◌, ◌<◌, true};
 ghost use Rattle.acpi_c_lib.specs.Clip as clip;
 ghost use Rattle.acpi_c_lib.specs.Clip.{AnswersClip, FillsClipped, change_in, change_of};
 
-use crate::answer::put;
+use crate::lists::put;
 use crate::records::Range;
 use crate::refusal::Refusal;
 

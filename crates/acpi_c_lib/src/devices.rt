@@ -6,14 +6,14 @@ ghost use Rattle.acpi_c_lib.specs.Devices as devices;
 ghost use Rattle.acpi_c_lib.specs.Shown.{hpet_below, protection_code};
 
 use crate::opening::open;
-use crate::records::{BootGraphic, Generic, Hpet, Source, Timer};
+use crate::records::{BootGraphic, Generic, Hpet, Register, Source, Timer};
 use crate::refusal::Refusal;
 use crate::regions::Mapped;
-use acpi::HpetInfo;
 use acpi::address::{AccessSize, AddressSpace, GenericAddress};
 use acpi::bgrt::{Bgrt, ImageType};
 use acpi::hpet::PageProtection;
 use acpi::platform::PmTimer;
+use acpi::{AcpiResult, HpetInfo};
 
 /// The block of event timers that the first valid HPET describes.
 pub fn hpet(source: &Source<'_>) -> Result<Hpet, Refusal>
@@ -94,6 +94,47 @@ pub(crate) fn no_register() -> Generic
         bit_width: 0,
         bit_offset: 0,
         access_size: 0,
+    }
+}
+
+/// A register, or that there is none, or that its address is refused.
+pub(crate) fn optional_register(said: AcpiResult<Option<GenericAddress>>) -> Register
+    ensures { result ≡ devices.optional_register said }
+{
+    match said {
+        Ok(Some(at)) => Register {
+            at: generic_record(&at),
+            present: 1,
+        },
+        Ok(None) => Register {
+            at: no_register(),
+            present: 0,
+        },
+        Err(_) => Register {
+            at: no_register(),
+            present: 2,
+        },
+    }
+}
+
+/// A register, or that its address is refused.
+pub(crate) fn required_register(said: AcpiResult<GenericAddress>) -> Register
+    ensures { result ≡ devices.required_register said }
+{
+    match said {
+        Ok(at) => optional_register(Ok(Some(at))),
+        Err(error) => optional_register(Err(error)),
+    }
+}
+
+/// A register, or that there is none, or that its address is refused: for a call that reads the address only if
+/// there is one.
+pub(crate) fn register_if(said: Option<AcpiResult<GenericAddress>>) -> Register
+    ensures { result ≡ devices.register_if said }
+{
+    match said {
+        Some(said) => required_register(said),
+        None => optional_register(Ok(None)),
     }
 }
 

@@ -2,105 +2,51 @@
 ghost use Rattle.std.specs.Prelude.{◌≡◌, ◌^◌, ◌<◌, length, map};
 ghost use Rattle.acpi.specs.Lists.{faults_of};
 ghost use Rattle.acpi.specs.Pointers.{pointers_left};
-ghost use Rattle.acpi.specs.Tables.{lender_of, of_tables};
-ghost use Rattle.acpi.specs.Walks.{faults_left};
-ghost use Rattle.acpi_base.specs.Table.{plain_kind};
-ghost use Rattle.acpi_c_lib.specs.Answers.{Fills, put_from};
+ghost use Rattle.acpi_base.specs.Table.{table_at};
+ghost use Rattle.acpi_c_lib.specs.Answers.{Fills, Writes, result_map};
 ghost use Rattle.acpi_c_lib.specs.Faults.{fault_record, faults_below, kind_named};
 
-use crate::answer::put;
+use crate::lists::put;
 use crate::opening::open;
 use crate::records::{Fault, Name, Source};
 use crate::refusal::{Refusal, acpi_code};
 use crate::regions::Mapped;
+use crate::tables::signature_named;
 use acpi::bgrt::Bgrt;
 use acpi::fadt::Fadt;
 use acpi::hpet::HpetTable;
 use acpi::madt::Madt;
 use acpi::mcfg::Mcfg;
-use acpi::sdt::{Signature, map_sdt};
+use acpi::sdt::{Signature, map_sdt, map_table};
 use acpi::spcr::Spcr;
-use acpi::{AcpiError, AcpiHandler, AcpiTable, AcpiTables, Pointers, TableFault, TableFaults};
+use acpi::{AcpiError, AcpiHandler, AcpiResult, AcpiTable, Pointers, TableFault};
 use acpi_arm::gtdt::Gtdt;
 use acpi_numa::{Slit, Srat};
 
 /// Lists the tables that a lookup of a signature passes over, and why.
-#[tactic(auto, using(crate::proofs::Names::signature_is))]
 pub fn faults(source: &Source<'_>, name: Name, out: &mut [Fault]) -> Result<usize, Refusal>
     ensures { Fills result out.old out.new (faults_below source.now name) }
 {
     let memory = Mapped::new(source.regions)?;
     let tables = open(&memory, source)?;
-    let signature = Signature::from_bytes(name.letters);
-    Ok(fill_named(&memory, &tables, signature, out))
+    Ok(fill_faults(&memory, tables.addresses(), signature_named(name), out))
 }
 
-/// The faults of a lookup of this signature.
-fn fill_named<H: AcpiHandler>(
-    handler: &H,
-    tables: &AcpiTables<'_, H>,
-    signature: Signature,
-    out: &mut [Fault],
-) -> usize
-    requires { lender_of tables.now ≡ handler.now }
-    ensures count { result ≡ length (of_tables tables.now (λ m. faults_of m (kind_named signature))) }
-    ensures items { out.new ≡ put_from out.old 0 (map fault_record
-        (of_tables tables.now (λ m. faults_of m (kind_named signature)))) }
-{
-    if signature == Signature::FADT {
-        fill::<H, Fadt>(tables.faults(), out)
-    } else if signature == Signature::MADT {
-        fill::<H, Madt>(tables.faults(), out)
-    } else if signature == Signature::MCFG {
-        fill::<H, Mcfg>(tables.faults(), out)
-    } else if signature == Signature::HPET {
-        fill::<H, HpetTable>(tables.faults(), out)
-    } else if signature == Signature::BGRT {
-        fill::<H, Bgrt>(tables.faults(), out)
-    } else if signature == Signature::SPCR {
-        fill::<H, Spcr>(tables.faults(), out)
-    } else if signature == Signature::GTDT {
-        fill::<H, Gtdt>(tables.faults(), out)
-    } else if signature == Signature::SRAT {
-        fill::<H, Srat>(tables.faults(), out)
-    } else if signature == Signature::SLIT {
-        fill::<H, Slit>(tables.faults(), out)
-    } else {
-        fill_plain(handler, tables.addresses(), signature, out)
-    }
-}
-
-/// The faults of a type that this library reads.
-fn fill<H: AcpiHandler, T: AcpiTable>(faults: TableFaults<'_, '_, H, T>, out: &mut [Fault]) -> usize
-    requires { length (faults_left H.memory T.kind faults) < 2 ^ 32 }
-    ensures count { result ≡ length (faults_left H.memory T.kind faults.entry) }
-    ensures items { out.new ≡ put_from out.old 0 (map fault_record (faults_left H.memory T.kind faults.entry)) }
-{
-    let mut count = 0;
-    for fault in faults {
-        put(out, count, fault_record(fault));
-        count += 1;
-    }
-    count
-}
-
-/// The faults of a signature of which only the header and the sum matter.
-fn fill_plain<H: AcpiHandler>(
+/// The faults of a lookup of a signature.
+fn fill_faults<H: AcpiHandler>(
     handler: &H,
     addresses: Pointers<'_>,
     signature: Signature,
     out: &mut [Fault],
 ) -> usize
     requires { length (pointers_left addresses) < 2 ^ 32 }
-    ensures count { result ≡ length (faults_of (H.memory handler.now) (plain_kind signature)
-        (pointers_left addresses.entry)) }
-    ensures items { out.new ≡ put_from out.old 0 (map fault_record (faults_of (H.memory handler.now)
-        (plain_kind signature) (pointers_left addresses.entry))) }
+    ensures { Writes result out.old out.new (map fault_record (faults_of (H.memory handler.now)
+        (kind_named signature) (pointers_left addresses.entry))) }
 {
     let mut count = 0;
     for address in addresses {
-        match map_sdt(handler, address, signature) {
-            Ok(_) => break,
+        match looked_at(handler, address, signature) {
+            Ok(()) => break,
             Err(AcpiError::SdtInvalidSignature(_)) => {}
             Err(error) => {
                 put(out, count, fault_record(TableFault { address, error }));
@@ -109,6 +55,43 @@ fn fill_plain<H: AcpiHandler>(
         }
     }
     count
+}
+
+/// Whether a lookup of a signature takes the table at an address, or why it passes it over.
+#[tactic(auto, using(crate::proofs::Names::same_signature), unfolding(crate::specs::Faults::least_named))]
+fn looked_at<H: AcpiHandler>(handler: &H, address: u64, signature: Signature) -> AcpiResult<()>
+    ensures { result ≡ result_map (λ _. tt) (table_at (H.memory handler.now) (kind_named signature) address) }
+{
+    if signature == Signature::FADT {
+        taken::<H, Fadt>(handler, address)
+    } else if signature == Signature::MADT {
+        taken::<H, Madt>(handler, address)
+    } else if signature == Signature::MCFG {
+        taken::<H, Mcfg>(handler, address)
+    } else if signature == Signature::HPET {
+        taken::<H, HpetTable>(handler, address)
+    } else if signature == Signature::BGRT {
+        taken::<H, Bgrt>(handler, address)
+    } else if signature == Signature::SPCR {
+        taken::<H, Spcr>(handler, address)
+    } else if signature == Signature::GTDT {
+        taken::<H, Gtdt>(handler, address)
+    } else if signature == Signature::SRAT {
+        taken::<H, Srat>(handler, address)
+    } else if signature == Signature::SLIT {
+        taken::<H, Slit>(handler, address)
+    } else {
+        map_sdt(handler, address, signature)?;
+        Ok(())
+    }
+}
+
+/// Whether the table at an address is one of this type, or why it isn't.
+fn taken<H: AcpiHandler, T: AcpiTable>(handler: &H, address: u64) -> AcpiResult<()>
+    ensures { result ≡ result_map (λ _. tt) (table_at (H.memory handler.now) T.kind address) }
+{
+    map_table::<H, T>(handler, address)?;
+    Ok(())
 }
 
 fn fault_record(fault: TableFault) -> Fault

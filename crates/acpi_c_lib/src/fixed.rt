@@ -5,13 +5,12 @@ ghost use Rattle.acpi_fixed.specs.Flags.{arm_bits, feature_bits, pc_bits};
 ghost use Rattle.acpi_c_lib.specs.Fixed as fixed;
 ghost use Rattle.acpi_c_lib.specs.Fixed.{fixed_below, fixed_record};
 
-use crate::devices::space_code;
+use crate::devices::{optional_register, required_register, space_code};
 use crate::fixed_records::{FixedHardware, Gpe};
 use crate::opening::open;
 use crate::records::Source;
 use crate::refusal::Refusal;
 use crate::regions::Mapped;
-use crate::register::{optional_register, required_register};
 use acpi::AcpiResult;
 use acpi::fadt::{Fadt, GpeBlock, PowerProfile};
 use acpi_base::bytes::{field, field_in};
@@ -57,8 +56,8 @@ fn fixed_record(fadt: &Fadt, flags: RawFlags) -> FixedHardware
     ensures { result ≡ fixed_record fadt.now }
 {
     FixedHardware {
-        facs_address: address_or_zero(fadt.facs_address()),
-        dsdt_address: address_or_zero(fadt.dsdt_address()),
+        facs_address: fadt.facs_address().unwrap_or(0),
+        dsdt_address: fadt.dsdt_address().unwrap_or(0),
         pm1a_event: required_register(fadt.pm1a_event_block()),
         pm1b_event: optional_register(fadt.pm1b_event_block()),
         pm1a_control: required_register(fadt.pm1a_control_block()),
@@ -94,16 +93,6 @@ fn fixed_record(fadt: &Fadt, flags: RawFlags) -> FixedHardware
         month_alarm: fadt.month_alarm,
         century: fadt.century,
         reset_value: fadt.reset_value,
-    }
-}
-
-/// An address, or 0 if it is refused.
-fn address_or_zero(said: AcpiResult<u64>) -> u64
-    ensures { result ≡ fixed.address_or_zero said }
-{
-    match said {
-        Ok(address) => address,
-        Err(_) => 0,
     }
 }
 

@@ -3,25 +3,28 @@
 ghost use Rattle.std.specs.Prelude.{◌≡◌, ◌^◌, ◌<◌, length, map, IfOk, IfSome};
 ghost use Rattle.std.specs.List.{filter_map};
 ghost use Rattle.std.specs.Option.{option_map};
+ghost use Rattle.acpi_base.specs.Interrupts.{polarity_code, trigger_code};
 ghost use Rattle.acpi_base.specs.Items.{counts_of, items_left};
 ghost use Rattle.acpi_base.specs.Mapping.{bytes_of};
-ghost use Rattle.acpi_base.specs.Model.{items_of, io_apic_in, nmi_line_in, nmi_source_in, override_in};
+ghost use Rattle.acpi_base.specs.Model.{items_of};
 ghost use Rattle.acpi_base.specs.Steps.{Gives};
 ghost use Rattle.acpi.specs.Platform.{model_in};
 ghost use Rattle.acpi.specs.Tables.{of_tables};
-ghost use Rattle.acpi_c_lib.specs.Answers.{Fills, put_from};
-ghost use Rattle.acpi_c_lib.specs.Model.{io_apic_record, model_by, nmi_line_record, nmi_source_record, override_record, platform_model};
-ghost use Rattle.acpi_c_lib.specs.Model.{below_platform, io_apics_of, nmi_lines_of, nmi_sources_of, overrides_of};
+ghost use Rattle.acpi_c_lib.specs.Answers.{Fills, Writes};
+ghost use Rattle.acpi_c_lib.specs.Model.{below_platform, io_apic_record, model_by, platform_model};
 
-use crate::answer::put;
-use crate::interrupt_codes::{io_apic_record, nmi_line_record, nmi_source_record, override_record};
 use crate::interrupt_records::{IoApicRecord, NmiLineRecord, NmiSourceRecord, OverrideRecord};
+use crate::lists::put;
 use crate::opening::open;
 use crate::records::Source;
 use crate::refusal::Refusal;
 use crate::regions::Mapped;
 use acpi::madt::Madt;
 use acpi::platform::PmTimer;
+use acpi::platform::interrupt::{
+    InterruptSourceOverride, IoApic, LocalInterruptLine, NmiLine, NmiProcessor, NmiSource,
+    Polarity, TriggerMode,
+};
 use acpi::{AcpiHandler, AcpiResult, AcpiTables, Lender, PhysicalMapping};
 use acpi_base::model::{Counts, MadtItem, MadtItems};
 
@@ -84,114 +87,213 @@ pub(crate) fn items_of<'m, H: Lender>(madt: &'m PhysicalMapping<'_, H, Madt>) ->
     madt.items()
 }
 
-/// Lists the I/O APICs of the first valid MADT.
-pub fn io_apics(source: &Source<'_>, out: &mut [IoApicRecord]) -> Result<usize, Refusal>
-    ensures { Fills result out.old out.new (below_platform source.now io_apics_of) }
+/// A record of C's of what entries of a MADT say.
+pub trait MadtRecord: Copy {
+    ghost use Rattle.std.specs.Prelude.{◌≡◌, ℕ, List, [], Option, Some, None, map};
+    ghost use Rattle.std.specs.List.{filter_map};
+    ghost use Rattle.std.specs.Option.{option_map};
+    ghost use Rattle.acpi_base.specs.Model.{items_of};
+    ghost use Rattle.acpi_base.specs.declared.model.item.MadtItem.{MadtItem};
+    ghost use Rattle.acpi_c_lib.specs.Model.{Platform, model_by};
+
+    /// What it shows.
+    type Part;
+
+    // What an entry says, if it is of this sort.
+    ghost part_in: { MadtItem → Option Self.Part };
+
+    // The record of it.
+    ghost record_of: { Self.Part → Self };
+
+    // The records of those that a platform has.
+    ghost shown: { Platform → List Self };
+
+    /// The record of what an entry says, if it is of this sort.
+    fn said(item: MadtItem) -> Option<Self>
+        ensures { result ≡ option_map record_of (part_in item) };
+
+    // They are those that the entries of the MADT say, and none if the model is unknown.
+    ghost of_entries: { (table : List ℕ)
+        → shown (model_by (Some table)) ≡ map record_of (filter_map part_in (items_of table)) };
+
+    ghost of_none: { shown (model_by None) ≡ [] };
+}
+
+/// Lists what entries of one sort say, by the first valid MADT.
+pub fn entries<R: MadtRecord>(source: &Source<'_>, out: &mut [R]) -> Result<usize, Refusal>
+    ensures { Fills result out.old out.new (below_platform source.now R.shown) }
 {
     let memory = Mapped::new(source.regions)?;
     let tables = open(&memory, source)?;
     match apic_madt(&tables)? {
-        Some(found) => Ok(fill_io_apics(items_of(&found.madt), out)),
+        Some(found) => Ok(fill_entries(items_of(&found.madt), out)),
         None => Ok(0),
     }
 }
 
-fn fill_io_apics(items: MadtItems<'_>, out: &mut [IoApicRecord]) -> usize
+fn fill_entries<R: MadtRecord>(items: MadtItems<'_>, out: &mut [R]) -> usize
     requires { length (items_left items) < 2 ^ 63 }
-    ensures count { result ≡ length (map io_apic_record (filter_map io_apic_in (items_left items.entry))) }
-    ensures items { out.new ≡ put_from out.old 0
-        (map io_apic_record (filter_map io_apic_in (items_left items.entry))) }
+    ensures { Writes result out.old out.new (map R.record_of (filter_map R.part_in (items_left items.entry))) }
 {
     let mut count = 0;
     for item in items {
-        if let MadtItem::IoApic(found) = item {
-            put(out, count, io_apic_record(&found));
+        if let Some(record) = R::said(item) {
+            put(out, count, record);
             count += 1;
         }
     }
     count
 }
 
-/// Lists the Interrupt Source Override entries of the first valid MADT.
-pub fn overrides(source: &Source<'_>, out: &mut [OverrideRecord]) -> Result<usize, Refusal>
-    ensures { Fills result out.old out.new (below_platform source.now overrides_of) }
-{
-    let memory = Mapped::new(source.regions)?;
-    let tables = open(&memory, source)?;
-    match apic_madt(&tables)? {
-        Some(found) => Ok(fill_overrides(items_of(&found.madt), out)),
-        None => Ok(0),
-    }
-}
+impl MadtRecord for IoApicRecord {
+    ghost use Rattle.std.specs.Prelude.{refl};
+    ghost use Rattle.acpi_base.specs.Model.{io_apic_in};
+    ghost use Rattle.acpi_c_lib.specs.Model.{io_apic_record, io_apics_of};
 
-fn fill_overrides(items: MadtItems<'_>, out: &mut [OverrideRecord]) -> usize
-    requires { length (items_left items) < 2 ^ 63 }
-    ensures count { result ≡ length (map override_record (filter_map override_in (items_left items.entry))) }
-    ensures items { out.new ≡ put_from out.old 0
-        (map override_record (filter_map override_in (items_left items.entry))) }
-{
-    let mut count = 0;
-    for item in items {
-        if let MadtItem::Override(found) = item {
-            put(out, count, override_record(&found));
-            count += 1;
+    type Part = IoApic;
+
+    ghost part_in = { io_apic_in };
+
+    ghost record_of = { io_apic_record };
+
+    ghost shown = { io_apics_of };
+
+    ghost of_entries = { λ table. refl };
+
+    ghost of_none = { refl };
+
+    fn said(item: MadtItem) -> Option<IoApicRecord> {
+        match item {
+            MadtItem::IoApic(found) => Some(io_apic_record(&found)),
+            _ => None,
         }
     }
-    count
 }
 
-/// Lists the NMI Source entries of the first valid MADT.
-pub fn nmi_sources(source: &Source<'_>, out: &mut [NmiSourceRecord]) -> Result<usize, Refusal>
-    ensures { Fills result out.old out.new (below_platform source.now nmi_sources_of) }
-{
-    let memory = Mapped::new(source.regions)?;
-    let tables = open(&memory, source)?;
-    match apic_madt(&tables)? {
-        Some(found) => Ok(fill_nmi_sources(items_of(&found.madt), out)),
-        None => Ok(0),
-    }
-}
+impl MadtRecord for OverrideRecord {
+    ghost use Rattle.std.specs.Prelude.{refl};
+    ghost use Rattle.acpi_base.specs.Model.{override_in};
+    ghost use Rattle.acpi_c_lib.specs.Model.{override_record, overrides_of};
 
-fn fill_nmi_sources(items: MadtItems<'_>, out: &mut [NmiSourceRecord]) -> usize
-    requires { length (items_left items) < 2 ^ 63 }
-    ensures count { result ≡ length (map nmi_source_record (filter_map nmi_source_in (items_left items.entry))) }
-    ensures items { out.new ≡ put_from out.old 0
-        (map nmi_source_record (filter_map nmi_source_in (items_left items.entry))) }
-{
-    let mut count = 0;
-    for item in items {
-        if let MadtItem::NmiSource(found) = item {
-            put(out, count, nmi_source_record(&found));
-            count += 1;
+    type Part = InterruptSourceOverride;
+
+    ghost part_in = { override_in };
+
+    ghost record_of = { override_record };
+
+    ghost shown = { overrides_of };
+
+    ghost of_entries = { λ table. refl };
+
+    ghost of_none = { refl };
+
+    fn said(item: MadtItem) -> Option<OverrideRecord> {
+        match item {
+            MadtItem::Override(found) => Some(OverrideRecord {
+                global_system_interrupt: found.global_system_interrupt,
+                isa_source: found.isa_source,
+                polarity: polarity_code(found.polarity),
+                trigger: trigger_code(found.trigger_mode),
+            }),
+            _ => None,
         }
     }
-    count
 }
 
-/// Lists the Local APIC NMI and Local x2APIC NMI entries of the first valid MADT.
-pub fn nmi_lines(source: &Source<'_>, out: &mut [NmiLineRecord]) -> Result<usize, Refusal>
-    ensures { Fills result out.old out.new (below_platform source.now nmi_lines_of) }
-{
-    let memory = Mapped::new(source.regions)?;
-    let tables = open(&memory, source)?;
-    match apic_madt(&tables)? {
-        Some(found) => Ok(fill_nmi_lines(items_of(&found.madt), out)),
-        None => Ok(0),
-    }
-}
+impl MadtRecord for NmiSourceRecord {
+    ghost use Rattle.std.specs.Prelude.{refl};
+    ghost use Rattle.acpi_base.specs.Model.{nmi_source_in};
+    ghost use Rattle.acpi_c_lib.specs.Model.{nmi_source_record, nmi_sources_of};
 
-fn fill_nmi_lines(items: MadtItems<'_>, out: &mut [NmiLineRecord]) -> usize
-    requires { length (items_left items) < 2 ^ 63 }
-    ensures count { result ≡ length (map nmi_line_record (filter_map nmi_line_in (items_left items.entry))) }
-    ensures items { out.new ≡ put_from out.old 0
-        (map nmi_line_record (filter_map nmi_line_in (items_left items.entry))) }
-{
-    let mut count = 0;
-    for item in items {
-        if let MadtItem::NmiLine(found) = item {
-            put(out, count, nmi_line_record(&found));
-            count += 1;
+    type Part = NmiSource;
+
+    ghost part_in = { nmi_source_in };
+
+    ghost record_of = { nmi_source_record };
+
+    ghost shown = { nmi_sources_of };
+
+    ghost of_entries = { λ table. refl };
+
+    ghost of_none = { refl };
+
+    fn said(item: MadtItem) -> Option<NmiSourceRecord> {
+        match item {
+            MadtItem::NmiSource(found) => Some(NmiSourceRecord {
+                global_system_interrupt: found.global_system_interrupt,
+                polarity: polarity_code(found.polarity),
+                trigger: trigger_code(found.trigger_mode),
+            }),
+            _ => None,
         }
     }
-    count
+}
+
+impl MadtRecord for NmiLineRecord {
+    ghost use Rattle.std.specs.Prelude.{refl};
+    ghost use Rattle.acpi_base.specs.Model.{nmi_line_in};
+    ghost use Rattle.acpi_c_lib.specs.Model.{nmi_line_record, nmi_lines_of};
+
+    type Part = NmiLine;
+
+    ghost part_in = { nmi_line_in };
+
+    ghost record_of = { nmi_line_record };
+
+    ghost shown = { nmi_lines_of };
+
+    ghost of_entries = { λ table. refl };
+
+    ghost of_none = { refl };
+
+    fn said(item: MadtItem) -> Option<NmiLineRecord> {
+        let MadtItem::NmiLine(found) = item else {
+            return None;
+        };
+        let (processor_uid, of_all) = match found.processor {
+            NmiProcessor::All => (0, 1),
+            NmiProcessor::ProcessorUid(uid) => (uid, 0),
+        };
+        let lint = match found.line {
+            LocalInterruptLine::Lint0 => 0,
+            LocalInterruptLine::Lint1 => 1,
+        };
+        Some(NmiLineRecord {
+            processor_uid,
+            of_all,
+            lint,
+        })
+    }
+}
+
+pub(crate) fn io_apic_record(found: &IoApic) -> IoApicRecord
+    ensures { result ≡ io_apic_record found.now }
+{
+    IoApicRecord {
+        address: found.address,
+        global_system_interrupt_base: found.global_system_interrupt_base,
+        id: found.id,
+    }
+}
+
+/// The code of a polarity: Polarity, bits 0 and 1 of MPS INTI Flags (section 5.2.12.5).
+pub(crate) fn polarity_code(polarity: Polarity) -> u8
+    ensures { result ≡ polarity_code polarity }
+{
+    match polarity {
+        Polarity::SameAsBus => 0,
+        Polarity::ActiveHigh => 1,
+        Polarity::ActiveLow => 3,
+    }
+}
+
+/// The code of a trigger mode: Trigger Mode, bits 2 and 3 of MPS INTI Flags (section 5.2.12.5).
+pub(crate) fn trigger_code(trigger_mode: TriggerMode) -> u8
+    ensures { result ≡ trigger_code trigger_mode }
+{
+    match trigger_mode {
+        TriggerMode::SameAsBus => 0,
+        TriggerMode::Edge => 1,
+        TriggerMode::Level => 3,
+    }
 }

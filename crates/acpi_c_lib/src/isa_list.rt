@@ -1,5 +1,5 @@
 //! How all ISA interrupts come to the I/O APICs, by one walk along the overrides and one along the I/O APICs.
-ghost use Rattle.std.specs.Prelude.{◌≡◌, ◌<◌, ℕ, None, slice_index_or};
+ghost use Rattle.std.specs.Prelude.{◌≡◌, ◌<◌, ℕ, Some, None, slice_index_or};
 ghost use Rattle.std.specs.List.{filter_map};
 ghost use Rattle.acpi_base.specs.Isa.{isa_interrupt};
 ghost use Rattle.acpi_base.specs.IsaOverrides.{IsGathered};
@@ -8,11 +8,9 @@ ghost use Rattle.acpi_base.specs.Model.{io_apic_in, items_of, override_in};
 ghost use Rattle.acpi_base.specs.Pin.{nearest};
 ghost use Rattle.acpi_c_lib.specs.IsaList as list;
 ghost use Rattle.acpi_c_lib.specs.IsaList.{isa_list_below, nearer_of, number_of, route_of};
-ghost use Rattle.acpi_c_lib.specs.Model.{model_by};
 
-use crate::interrupt_codes::io_apic_record;
 use crate::interrupt_records::{InterruptRecord, IoApicRecord, IsaInterrupts, IsaRoute, PinRecord};
-use crate::interrupts::apic_madt;
+use crate::interrupts::{apic_madt, io_apic_record};
 use crate::opening::open;
 use crate::records::Source;
 use crate::refusal::Refusal;
@@ -29,15 +27,14 @@ pub fn isa_list(source: &Source<'_>) -> Result<IsaInterrupts, Refusal>
 {
     let memory = Mapped::new(source.regions)?;
     let tables = open(&memory, source)?;
-    let Some(found) = apic_madt(&tables)? else {
-        return Err(Refusal::NoApics);
-    };
+    let found = apic_madt(&tables)?.ok_or(Refusal::NoApics)?;
     Ok(isa_list_in(&found.madt))
 }
 
 /// Those of a MADT that describes APICs.
 fn isa_list_in<H: Lender>(madt: &PhysicalMapping<'_, H, Madt>) -> IsaInterrupts
-    ensures { result ≡ list.isa_list (model_by (Some (bytes_of madt.now))) }
+    ensures { let items = items_of (bytes_of madt.now) in
+        result ≡ list.isa_list (filter_map override_in items) (filter_map io_apic_in items) }
 {
     let mut routes = interrupts_in(madt);
     for item in madt.items() {

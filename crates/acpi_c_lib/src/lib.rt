@@ -1,5 +1,5 @@
-//! The calls of the library for C. The crate `acpi_c` exports each of them, and says in which order it refuses. Sections
-//! are those of ACPI 6.4 unless another document is named.
+//! The calls of the library for C. The crate `acpi_c` exports each of them, and `include/acpi.h` says in which order it
+//! refuses. Sections are those of ACPI 6.4 unless another document is named.
 //!
 //! Each call can be called with any numbers. One that is passed a source checks the regions, opens the tables anew, and
 //! answers what it found, or a refusal. No call takes memory or keeps a state. A list writes as many items as there is
@@ -12,16 +12,15 @@ pub mod arm_timers;
 pub mod clip;
 pub mod console;
 pub mod devices;
-pub mod ecam;
 pub mod faults;
 pub mod fixed;
 pub mod fixed_records;
 pub mod gic;
-mod interrupt_codes;
 pub mod interrupt_records;
 pub mod interrupts;
 pub mod isa_list;
 pub mod laws;
+mod lists;
 pub mod missing;
 pub mod numa;
 pub mod numa_records;
@@ -31,7 +30,6 @@ pub mod processors;
 pub mod records;
 pub mod refusal;
 pub mod regions;
-mod register;
 pub mod routes;
 pub mod tables;
 pub mod walks;

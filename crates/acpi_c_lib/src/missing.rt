@@ -20,7 +20,7 @@ ghost use Rattle.acpi_c_lib.specs.Missing.{hole, last_range, member_hole, missin
 ghost use Rattle.acpi_c_lib.specs.Missing.{opening_ranges, range_of};
 ghost use Rattle.acpi_c_lib.specs.declared.refusal.Refusal.TheVariants.{Acpi};
 
-use crate::answer::put;
+use crate::lists::put;
 use crate::opening::open;
 use crate::records::{Range, Source};
 use crate::refusal::Refusal;

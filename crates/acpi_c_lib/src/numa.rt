@@ -5,7 +5,7 @@ ghost use Rattle.acpi_c_lib.specs.Answers.{Fills, GivesSome, put_from};
 ghost use Rattle.acpi_c_lib.specs.Numa.{IsLocalities, affinities_below, affinity_record, distance_below, slit_in};
 ghost use Rattle.acpi_c_lib.specs.Numa.{domain_of_address_below, domain_of_apic_below, domain_of_processor_below};
 
-use crate::answer::put;
+use crate::lists::put;
 use crate::numa_records::{LocalitiesRecord, MemoryAffinityRecord};
 use crate::opening::open;
 use crate::records::Source;
@@ -75,10 +75,7 @@ pub fn domain_of_address(source: &Source<'_>, address: u64) -> Result<u32, Refus
     let tables = open(&memory, source)?;
     let srat = tables.find_table::<Srat>()?;
     affinities_count(srat.bytes())?;
-    match domain_in(srat.bytes(), address) {
-        Some(domain) => Ok(domain),
-        None => Err(Refusal::NoDomain),
-    }
+    domain_in(srat.bytes(), address).ok_or(Refusal::NoDomain)
 }
 
 /// The domain of the first range in a SRAT's bytes that holds an address.
@@ -103,10 +100,7 @@ pub fn domain_of_apic(source: &Source<'_>, local_apic_id: u32) -> Result<u32, Re
     let memory = Mapped::new(source.regions)?;
     let tables = open(&memory, source)?;
     let srat = tables.find_table::<Srat>()?;
-    match srat.domain_of_apic(local_apic_id) {
-        Some(domain) => Ok(domain),
-        None => Err(Refusal::NoDomain),
-    }
+    srat.domain_of_apic(local_apic_id).ok_or(Refusal::NoDomain)
 }
 
 /// The domain of the processor of a uid, which has an interface to the GIC, by the first valid SRAT.
@@ -116,10 +110,7 @@ pub fn domain_of_processor(source: &Source<'_>, uid: u32) -> Result<u32, Refusal
     let memory = Mapped::new(source.regions)?;
     let tables = open(&memory, source)?;
     let srat = tables.find_table::<Srat>()?;
-    match srat.domain_of_processor(uid) {
-        Some(domain) => Ok(domain),
-        None => Err(Refusal::NoDomain),
-    }
+    srat.domain_of_processor(uid).ok_or(Refusal::NoDomain)
 }
 
 /// How far one locality is from another, by the first valid SLIT.
@@ -129,10 +120,7 @@ pub fn distance(source: &Source<'_>, from: u64, to: u64) -> Result<u8, Refusal>
     let memory = Mapped::new(source.regions)?;
     let tables = open(&memory, source)?;
     let slit = tables.find_table::<Slit>()?;
-    match slit.distance(from, to) {
-        Some(distance) => Ok(distance),
-        None => Err(Refusal::NoDistance),
-    }
+    slit.distance(from, to).ok_or(Refusal::NoDistance)
 }
 
 /// How many localities the first valid SLIT has distances of, and whether it can be believed.

@@ -1,42 +1,19 @@
 //! PCI configuration space.
-ghost use Rattle.std.specs.Prelude.{◌≡◌, ◌≤◌, length, map, IfSome};
+ghost use Rattle.std.specs.Prelude.{◌≡◌, ◌≤◌, IfSome};
 ghost use Rattle.acpi_base.specs.Mcfg.{mcfg_entries_left};
 ghost use Rattle.acpi.specs.Ecam.{ecam_address};
 ghost use Rattle.acpi.specs.Pci.{pci_address, region_of};
-ghost use Rattle.acpi_c_lib.specs.Answers.{Fills, put_from};
-ghost use Rattle.acpi_c_lib.specs.Shown.{ecam_below, pci_below, pci_record, pci_regions_below};
+ghost use Rattle.acpi_c_lib.specs.Answers.{Fills};
+ghost use Rattle.acpi_c_lib.specs.Shown.{ecam_below, ecam_ranges_below, pci_below, pci_regions_below, span_record};
 
-use crate::answer::put;
+use crate::fixed_records::EcamRange;
+use crate::lists::{Shown, Walk, fill};
 use crate::opening::open;
 use crate::records::{PciRegion, Source};
 use crate::refusal::Refusal;
 use crate::regions::Mapped;
+use acpi::AddressRange;
 use acpi::mcfg::{Mcfg, McfgEntry, McfgEntryIter};
-
-/// The regions of an MCFG.
-fn fill_regions(entries: McfgEntryIter<'_>, out: &mut [PciRegion]) -> usize
-    ensures count { result ≡ length (map pci_record (mcfg_entries_left entries.entry)) }
-    ensures items { out.new ≡ put_from out.old 0 (map pci_record (mcfg_entries_left entries.entry)) }
-{
-    let total = entries.len();
-    let mut count = 0;
-    for entry in entries {
-        put(out, count, pci_region(&entry));
-        count += 1;
-    }
-    total
-}
-
-fn pci_region(entry: &McfgEntry) -> PciRegion
-    ensures { result ≡ pci_record entry.now }
-{
-    PciRegion {
-        base_address: entry.base_address,
-        segment_group: entry.pci_segment_group,
-        first_bus: entry.bus_number_start,
-        last_bus: entry.bus_number_end,
-    }
-}
 
 /// Lists the regions of PCI configuration space of the first valid MCFG.
 pub fn pci_regions(source: &Source<'_>, out: &mut [PciRegion]) -> Result<usize, Refusal>
@@ -45,7 +22,30 @@ pub fn pci_regions(source: &Source<'_>, out: &mut [PciRegion]) -> Result<usize, 
     let memory = Mapped::new(source.regions)?;
     let tables = open(&memory, source)?;
     let mcfg = tables.find_table::<Mcfg>()?;
-    Ok(fill_regions(mcfg.entries(), out))
+    Ok(fill(mcfg.entries(), out))
+}
+
+impl Walk for McfgEntryIter<'_> {
+    ghost use Rattle.acpi_base.specs.Mcfg.{mcfg_entries_left};
+
+    ghost left = { λ s. mcfg_entries_left s };
+
+    ghost gives_first = { λ s item t given. given };
+}
+
+impl Shown<PciRegion> for McfgEntry {
+    ghost use Rattle.acpi_c_lib.specs.Shown.{pci_record};
+
+    ghost record_of = { pci_record };
+
+    fn record(self) -> PciRegion {
+        PciRegion {
+            base_address: self.base_address,
+            segment_group: self.pci_segment_group,
+            first_bus: self.bus_number_start,
+            last_bus: self.bus_number_end,
+        }
+    }
 }
 
 /// The first region of a segment group that holds a bus.
@@ -113,10 +113,7 @@ pub fn physical_address(
     let memory = Mapped::new(source.regions)?;
     let tables = open(&memory, source)?;
     let mcfg = tables.find_table::<Mcfg>()?;
-    match function_in(mcfg.entries(), segment, bus, device, function) {
-        Some(address) => Ok(address),
-        None => Err(Refusal::NoSuchFunction),
-    }
+    function_in(mcfg.entries(), segment, bus, device, function).ok_or(Refusal::NoSuchFunction)
 }
 
 /// The physical address of a PCI function's configuration space, with a region's base as that of bus 0.
@@ -132,8 +129,44 @@ pub fn ecam_address(
     let memory = Mapped::new(source.regions)?;
     let tables = open(&memory, source)?;
     let mcfg = tables.find_table::<Mcfg>()?;
-    match ecam_in(mcfg.entries(), segment, bus, device, function) {
-        Some(address) => Ok(address),
-        None => Err(Refusal::NoSuchFunction),
+    ecam_in(mcfg.entries(), segment, bus, device, function).ok_or(Refusal::NoSuchFunction)
+}
+
+/// Lists the memory that each region of PCI configuration space takes, by the first valid MCFG.
+pub fn ecam_ranges(source: &Source<'_>, out: &mut [EcamRange]) -> Result<usize, Refusal>
+    ensures { Fills result out.old out.new (ecam_ranges_below source.now) }
+{
+    let memory = Mapped::new(source.regions)?;
+    let tables = open(&memory, source)?;
+    let mcfg = tables.find_table::<Mcfg>()?;
+    Ok(fill(mcfg.entries(), out))
+}
+
+impl Shown<EcamRange> for McfgEntry {
+    ghost use Rattle.acpi_c_lib.specs.Shown.{ecam_record};
+
+    ghost record_of = { ecam_record };
+
+    fn record(self) -> EcamRange {
+        span_record(self.pci_segment_group, self.ecam_range())
+    }
+}
+
+fn span_record(segment_group: u16, range: Option<AddressRange>) -> EcamRange
+    ensures { result ≡ span_record segment_group range }
+{
+    match range {
+        Some(range) => EcamRange {
+            address: range.address,
+            length: range.length,
+            segment_group,
+            present: 1,
+        },
+        None => EcamRange {
+            address: 0,
+            length: 0,
+            segment_group,
+            present: 0,
+        },
     }
 }

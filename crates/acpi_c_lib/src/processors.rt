@@ -4,12 +4,12 @@ ghost use Rattle.std.specs.List.{filter_map};
 ghost use Rattle.std.specs.Option.{option_map};
 ghost use Rattle.acpi_base.specs.Items.{items_left};
 ghost use Rattle.acpi_base.specs.Model.{last_address, local_apic_address_in, processor_in, state_of};
-ghost use Rattle.acpi_c_lib.specs.Answers.{Fills, put_from};
+ghost use Rattle.acpi_c_lib.specs.Answers.{Fills, Writes};
 ghost use Rattle.acpi_c_lib.specs.Model.{below_platform, counts_of, processor_record, processors_in, processors_of, state_code};
 
-use crate::answer::put;
 use crate::interrupt_records::{Model, ProcessorRecord};
 use crate::interrupts::{apic_madt, items_of};
+use crate::lists::put;
 use crate::opening::open;
 use crate::records::Source;
 use crate::refusal::Refusal;
@@ -80,8 +80,7 @@ pub fn processors(source: &Source<'_>, out: &mut [ProcessorRecord]) -> Result<us
 #[tactic(auto, using(crate::proofs::BootProcessor::next_some, crate::proofs::BootProcessor::next_none))]
 fn fill_processors(items: MadtItems<'_>, out: &mut [ProcessorRecord]) -> usize
     requires { length (items_left items) < 2 ^ 63 }
-    ensures count { result ≡ length (processors_in (items_left items.entry)) }
-    ensures items { out.new ≡ put_from out.old 0 (processors_in (items_left items.entry)) }
+    ensures { Writes result out.old out.new (processors_in (items_left items.entry)) }
 {
     let mut count = 0;
     for item in items {

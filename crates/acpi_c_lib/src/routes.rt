@@ -8,9 +8,8 @@ ghost use Rattle.acpi_base.specs.Pin.{base_of, nearest};
 ghost use Rattle.acpi_c_lib.specs.Routes as routes;
 ghost use Rattle.acpi_c_lib.specs.Routes.{is_nearer, isa_below, pin_below, sci_below};
 
-use crate::interrupt_codes::{io_apic_record, polarity_code, trigger_code};
 use crate::interrupt_records::{InterruptRecord, PinRecord};
-use crate::interrupts::apic_madt;
+use crate::interrupts::{apic_madt, io_apic_record, polarity_code, trigger_code};
 use crate::isa_list::overrides_in;
 use crate::opening::open;
 use crate::records::Source;
@@ -29,13 +28,9 @@ pub fn isa(source: &Source<'_>, irq: u8) -> Result<InterruptRecord, Refusal>
 {
     let memory = Mapped::new(source.regions)?;
     let tables = open(&memory, source)?;
-    let Some(found) = apic_madt(&tables)? else {
-        return Err(Refusal::NoApics);
-    };
-    match isa_in(&found.madt, irq) {
-        Some(interrupt) => Ok(interrupt_record(interrupt)),
-        None => Err(Refusal::NoSuchInterrupt),
-    }
+    let found = apic_madt(&tables)?.ok_or(Refusal::NoApics)?;
+    let interrupt = isa_in(&found.madt, irq).ok_or(Refusal::NoSuchInterrupt)?;
+    Ok(interrupt_record(interrupt))
 }
 
 /// The global system interrupt of the System Control Interrupt.
@@ -46,10 +41,8 @@ pub fn sci(source: &Source<'_>) -> Result<InterruptRecord, Refusal>
     let tables = open(&memory, source)?;
     let found = apic_madt(&tables)?;
     let fadt = tables.find_fadt()?;
-    match found {
-        Some(found) => Ok(interrupt_record(sci_in(&found.madt, fadt.sci_interrupt()))),
-        None => Err(Refusal::NoApics),
-    }
+    let found = found.ok_or(Refusal::NoApics)?;
+    Ok(interrupt_record(sci_in(&found.madt, fadt.sci_interrupt())))
 }
 
 /// The I/O APIC that a global system interrupt comes to, and the pin there.
@@ -58,16 +51,12 @@ pub fn pin(source: &Source<'_>, interrupt: u32) -> Result<PinRecord, Refusal>
 {
     let memory = Mapped::new(source.regions)?;
     let tables = open(&memory, source)?;
-    let Some(found) = apic_madt(&tables)? else {
-        return Err(Refusal::NoApics);
-    };
-    match nearest(&found.madt, interrupt) {
-        Some(io_apic) => Ok(PinRecord {
-            io_apic: io_apic_record(&io_apic),
-            pin: interrupt - io_apic.global_system_interrupt_base,
-        }),
-        None => Err(Refusal::NoSuchIoApic),
-    }
+    let found = apic_madt(&tables)?.ok_or(Refusal::NoApics)?;
+    let io_apic = nearest(&found.madt, interrupt).ok_or(Refusal::NoSuchIoApic)?;
+    Ok(PinRecord {
+        io_apic: io_apic_record(&io_apic),
+        pin: interrupt - io_apic.global_system_interrupt_base,
+    })
 }
 
 pub(crate) fn interrupt_record(interrupt: IsaInterrupt) -> InterruptRecord

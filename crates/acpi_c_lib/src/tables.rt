@@ -1,18 +1,17 @@
 //! The tables that the root table lists.
 ghost use Rattle.std.specs.Prelude.{◌≡◌, ◌^◌, ◌<◌, length};
 ghost use Rattle.acpi.specs.Pointers.{pointers_left};
-ghost use Rattle.acpi.specs.Tables.{of_tables};
 ghost use Rattle.acpi_base.specs.Mapping.{bytes_of, start_of};
-ghost use Rattle.acpi_c_lib.specs.Answers.{Fills, put_from};
-ghost use Rattle.acpi_c_lib.specs.Shown.{dsdt_below, first_named, table_below, table_record, tables_below, tables_in};
+ghost use Rattle.acpi_c_lib.specs.Answers.{Fills, Writes};
+ghost use Rattle.acpi_c_lib.specs.Shown.{dsdt_below, signature_named, table_below, table_record, tables_below, tables_in};
 
-use crate::answer::put;
+use crate::lists::put;
 use crate::opening::open;
 use crate::records::{Aml, Name, Source, Table};
 use crate::refusal::Refusal;
 use crate::regions::Mapped;
 use acpi::sdt::{SdtHeader, Signature, map_own_sdt};
-use acpi::{AcpiHandler, AcpiResult, AcpiTables, PhysicalMapping, Pointers};
+use acpi::{AcpiHandler, PhysicalMapping, Pointers};
 
 /// A table, by its mapping.
 pub(crate) fn entry<H: AcpiHandler>(table: &PhysicalMapping<'_, H, SdtHeader>) -> Table
@@ -30,10 +29,8 @@ pub(crate) fn entry<H: AcpiHandler>(table: &PhysicalMapping<'_, H, SdtHeader>) -
 /// The tables that are valid under their own signatures.
 fn fill_tables<H: AcpiHandler>(handler: &H, addresses: Pointers<'_>, out: &mut [Table]) -> usize
     requires { length (pointers_left addresses) < 2 ^ 32 }
-    ensures count { result
-        ≡ length (tables_in (H.memory handler.now) (pointers_left addresses.entry)) }
-    ensures items { out.new
-        ≡ put_from out.old 0 (tables_in (H.memory handler.now) (pointers_left addresses.entry)) }
+    ensures { Writes result out.old out.new
+        (tables_in (H.memory handler.now) (pointers_left addresses.entry)) }
 {
     let mut count = 0;
     for address in addresses {
@@ -60,17 +57,16 @@ pub fn find(source: &Source<'_>, name: Name) -> Result<Table, Refusal>
 {
     let memory = Mapped::new(source.regions)?;
     let tables = open(&memory, source)?;
-    let table = first_named(&tables, name)?;
-    Ok(table)
+    let table = tables.find_sdt(signature_named(name))?;
+    Ok(entry(&table))
 }
 
-/// The first valid table whose signature is these letters.
+/// The signature of four letters.
 #[tactic(auto, using(crate::proofs::Names::signature_is))]
-fn first_named<H: AcpiHandler>(tables: &AcpiTables<'_, H>, name: Name) -> AcpiResult<Table>
-    ensures { result ≡ of_tables tables.now (first_named name) }
+pub(crate) fn signature_named(name: Name) -> Signature
+    ensures { result ≡ signature_named name }
 {
-    let table = tables.find_sdt(Signature::from_bytes(name.letters))?;
-    Ok(entry(&table))
+    Signature::from_bytes(name.letters)
 }
 
 /// The AML of the DSDT that the first valid FADT names.

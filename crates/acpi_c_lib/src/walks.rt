@@ -1,21 +1,21 @@
 //! Walks along the members of the root table: all tables of a signature, SSDTs, and the memory that the
 //! tables take.
-ghost use Rattle.std.specs.Prelude.{◌≡◌, ◌^◌, ◌<◌, length, map};
-ghost use Rattle.acpi.specs.Placed.{places_left};
+ghost use Rattle.std.specs.Prelude.{◌≡◌};
 ghost use Rattle.acpi.specs.Pointers.{pointers_left};
-ghost use Rattle.acpi.specs.Walks.{ssdts_left};
-ghost use Rattle.acpi_c_lib.specs.Answers.{Fills, put_from};
-ghost use Rattle.acpi_c_lib.specs.Shown.{aml_record, signature_named};
-ghost use Rattle.acpi_c_lib.specs.Walked.{nth_below, nth_in, range_record, ranges_below, ssdts_below};
+ghost use Rattle.acpi_c_lib.specs.Answers.{Fills};
+ghost use Rattle.acpi_c_lib.specs.Walked.{nth_below, nth_in, ranges_below, ssdts_below};
 
-use crate::answer::put;
+use crate::lists::{Shown, Walk, fill};
 use crate::opening::open;
 use crate::records::{Aml, Name, Range, Source, Table};
 use crate::refusal::Refusal;
 use crate::regions::Mapped;
-use crate::tables::entry;
+use crate::tables::{entry, signature_named};
 use acpi::sdt::{Signature, map_sdt};
-use acpi::{AcpiError, AcpiHandler, AcpiResult, Lender, Pointers, SsdtIterator, TableRanges};
+use acpi::{
+    AcpiError, AcpiHandler, AcpiResult, AddressRange, AmlTable, Lender, Pointers, SsdtIterator,
+    TableRanges,
+};
 
 /// The valid table of a signature that so many other valid ones of it are listed before.
 pub fn nth(source: &Source<'_>, name: Name, index: usize) -> Result<Table, Refusal>
@@ -23,26 +23,8 @@ pub fn nth(source: &Source<'_>, name: Name, index: usize) -> Result<Table, Refus
 {
     let memory = Mapped::new(source.regions)?;
     let tables = open(&memory, source)?;
-    let table = nth_named(&memory, tables.addresses(), name, index)?;
+    let table = nth_of(&memory, tables.addresses(), signature_named(name), index)?;
     Ok(table)
-}
-
-/// The valid table whose signature is these letters with so many before it.
-#[tactic(auto, using(crate::proofs::Names::signature_is))]
-fn nth_named<H: AcpiHandler>(
-    handler: &H,
-    addresses: Pointers<'_>,
-    name: Name,
-    index: usize,
-) -> AcpiResult<Table>
-    ensures { result ≡ nth_in (H.memory handler.now) (signature_named name) index (pointers_left addresses.entry) }
-{
-    nth_of(
-        handler,
-        addresses,
-        Signature::from_bytes(name.letters),
-        index,
-    )
 }
 
 /// The table of a signature with so many before it.
@@ -73,27 +55,28 @@ pub fn ssdts(source: &Source<'_>, out: &mut [Aml]) -> Result<usize, Refusal>
 {
     let memory = Mapped::new(source.regions)?;
     let tables = open(&memory, source)?;
-    Ok(fill_ssdts(tables.ssdts(), out))
+    Ok(fill(tables.ssdts(), out))
 }
 
-fn fill_ssdts<H: Lender>(ssdts: SsdtIterator<'_, '_, H>, out: &mut [Aml]) -> usize
-    requires { length (ssdts_left H.memory ssdts) < 2 ^ 32 }
-    ensures count { result ≡ length (map aml_record (ssdts_left H.memory ssdts.entry)) }
-    ensures items { out.new ≡ put_from out.old 0 (map aml_record (ssdts_left H.memory ssdts.entry)) }
-{
-    let mut count = 0;
-    for stream in ssdts {
-        put(
-            out,
-            count,
-            Aml {
-                address: stream.address,
-                length: stream.length,
-            },
-        );
-        count += 1;
+impl<H: Lender> Walk for SsdtIterator<'_, '_, H> {
+    ghost use Rattle.acpi.specs.Walks.{ssdts_left};
+
+    ghost left = { ssdts_left H.memory };
+
+    ghost gives_first = { λ s item t given. given };
+}
+
+impl Shown<Aml> for AmlTable {
+    ghost use Rattle.acpi_c_lib.specs.Shown.{aml_record};
+
+    ghost record_of = { aml_record };
+
+    fn record(self) -> Aml {
+        Aml {
+            address: self.address,
+            length: self.length,
+        }
     }
-    count
 }
 
 /// Lists the memory that the tables take.
@@ -102,25 +85,26 @@ pub fn ranges(source: &Source<'_>, out: &mut [Range]) -> Result<usize, Refusal>
 {
     let memory = Mapped::new(source.regions)?;
     let tables = open(&memory, source)?;
-    Ok(fill_ranges(tables.ranges(), out))
+    Ok(fill(tables.ranges(), out))
 }
 
-fn fill_ranges<H: Lender>(ranges: TableRanges<'_, '_, H>, out: &mut [Range]) -> usize
-    requires { length (places_left H.memory ranges) < 2 ^ 32 }
-    ensures count { result ≡ length (map range_record (places_left H.memory ranges.entry)) }
-    ensures items { out.new ≡ put_from out.old 0 (map range_record (places_left H.memory ranges.entry)) }
-{
-    let mut count = 0;
-    for range in ranges {
-        put(
-            out,
-            count,
-            Range {
-                address: range.address,
-                length: range.length,
-            },
-        );
-        count += 1;
+impl<H: Lender> Walk for TableRanges<'_, '_, H> {
+    ghost use Rattle.acpi.specs.Placed.{places_left};
+
+    ghost left = { places_left H.memory };
+
+    ghost gives_first = { λ s item t given. given };
+}
+
+impl Shown<Range> for AddressRange {
+    ghost use Rattle.acpi_c_lib.specs.Walked.{range_record};
+
+    ghost record_of = { range_record };
+
+    fn record(self) -> Range {
+        Range {
+            address: self.address,
+            length: self.length,
+        }
     }
-    count
 }

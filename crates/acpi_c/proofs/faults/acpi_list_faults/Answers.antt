@@ -1,5 +1,0 @@
-use Rattle.acpi_c_lib.proofs.Listing.{answers_list}
-use Rattle.acpi_c.proofs.faults.acpi_list_faults.Goals as goal
-
-pub returns : goal.returns
-returns c = answers_list _ _ _ _ _ _ _ _ _ c.answer.ensures c.faults.ensures

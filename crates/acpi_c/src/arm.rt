@@ -1,0 +1,122 @@
+//! The generic interrupt controller (GIC) and the generic timers of an Arm machine.
+ghost use Rattle.acpi_c_lib.specs.Answers.{Answers, AnswersList};
+ghost use Rattle.acpi_c_lib.specs.Arm.{below_gic, cpu_interfaces_shown, distributor_shown, msi_frames_shown, redistributors_shown, translation_services_shown};
+ghost use Rattle.acpi_c_lib.specs.ArmTimers.{frames_shown, gtdt_below, timers_shown, watchdogs_shown};
+
+use acpi_c_lib::answer::answer;
+use acpi_c_lib::arm_records::{
+    ArmTimersRecord, CpuInterfaceRecord, DistributorRecord, GtFrameRecord, MsiFrameRecord,
+    TranslationServiceRecord, WatchdogRecord,
+};
+use acpi_c_lib::arm_timers::{arm_timers, frames, watchdogs};
+use acpi_c_lib::gic::{distributor, parts};
+use acpi_c_lib::records::{Name, Range, Source};
+
+/// The distributor of the GIC (section 5.2.12.15).
+#[unsafe(no_mangle)]
+pub extern "C" fn acpi_gic_distributor(
+    source: &Source<'_>,
+    out: &mut DistributorRecord,
+    named: &mut Name,
+) -> u32
+    ensures { Answers result out.old out.new named.old named.new
+        (below_gic source.now distributor_shown) }
+{
+    answer(distributor(source), out, named)
+}
+
+/// The processors' interfaces to the GIC (section 5.2.12.14).
+#[unsafe(no_mangle)]
+pub extern "C" fn acpi_list_gic_cpu_interfaces(
+    source: &Source<'_>,
+    out: &mut [CpuInterfaceRecord],
+    count: &mut usize,
+    named: &mut Name,
+) -> u32
+    ensures { AnswersList result out.old out.new count.old count.new named.old named.new
+        (below_gic source.now cpu_interfaces_shown) }
+{
+    answer(parts(source, out), count, named)
+}
+
+/// The ranges of memory that hold redistributors (section 5.2.12.17).
+#[unsafe(no_mangle)]
+pub extern "C" fn acpi_list_gic_redistributors(
+    source: &Source<'_>,
+    out: &mut [Range],
+    count: &mut usize,
+    named: &mut Name,
+) -> u32
+    ensures { AnswersList result out.old out.new count.old count.new named.old named.new
+        (below_gic source.now redistributors_shown) }
+{
+    answer(parts(source, out), count, named)
+}
+
+/// The services that translate interrupts (section 5.2.12.18).
+#[unsafe(no_mangle)]
+pub extern "C" fn acpi_list_gic_translation_services(
+    source: &Source<'_>,
+    out: &mut [TranslationServiceRecord],
+    count: &mut usize,
+    named: &mut Name,
+) -> u32
+    ensures { AnswersList result out.old out.new count.old count.new named.old named.new
+        (below_gic source.now translation_services_shown) }
+{
+    answer(parts(source, out), count, named)
+}
+
+/// The frames that turn messages into interrupts (section 5.2.12.16).
+#[unsafe(no_mangle)]
+pub extern "C" fn acpi_list_gic_msi_frames(
+    source: &Source<'_>,
+    out: &mut [MsiFrameRecord],
+    count: &mut usize,
+    named: &mut Name,
+) -> u32
+    ensures { AnswersList result out.old out.new count.old count.new named.old named.new
+        (below_gic source.now msi_frames_shown) }
+{
+    answer(parts(source, out), count, named)
+}
+
+/// The timers of every processor (section 5.2.24).
+#[unsafe(no_mangle)]
+pub extern "C" fn acpi_arm_timers(
+    source: &Source<'_>,
+    out: &mut ArmTimersRecord,
+    named: &mut Name,
+) -> u32
+    ensures { Answers result out.old out.new named.old named.new (gtdt_below source.now timers_shown) }
+{
+    answer(arm_timers(source), out, named)
+}
+
+/// The frames of the blocks of timers, block by block (section 5.2.24.1.1).
+#[unsafe(no_mangle)]
+pub extern "C" fn acpi_list_gt_frames(
+    source: &Source<'_>,
+    out: &mut [GtFrameRecord],
+    count: &mut usize,
+    named: &mut Name,
+) -> u32
+    ensures { AnswersList result out.old out.new count.old count.new named.old named.new
+        (gtdt_below source.now frames_shown) }
+{
+    answer(frames(source, out), count, named)
+}
+
+/// The watchdogs of the Server Base System Architecture (section 5.2.24.1.2).
+#[unsafe(no_mangle)]
+pub extern "C" fn acpi_list_watchdogs(
+    source: &Source<'_>,
+    out: &mut [WatchdogRecord],
+    count: &mut usize,
+    named: &mut Name,
+) -> u32
+    ensures { AnswersList result out.old out.new count.old count.new named.old named.new
+        (gtdt_below source.now watchdogs_shown) }
+{
+    answer(watchdogs(source, out), count, named)
+}
