@@ -6,8 +6,8 @@ ghost use Rattle.acpi_c_lib.specs.Routes.{isa_below, pin_below, sci_below};
 
 use acpi_c_lib::answer::answer;
 use acpi_c_lib::interrupt_records::{
-    InterruptRecord, IoApicRecord, IsaInterrupts, Model, NmiLineRecord, NmiSourceRecord, OverrideRecord,
-    PinRecord, ProcessorRecord,
+    InterruptRecord, IoApicRecord, IsaInterrupts, Model, NmiLineRecord, NmiSourceRecord,
+    OverrideRecord, PinRecord, ProcessorRecord,
 };
 use acpi_c_lib::interrupts::entries;
 use acpi_c_lib::isa_list::isa_list;
@@ -144,5 +144,5 @@ pub extern "C" fn acpi_list_isa_interrupts(
 ) -> u32
     ensures { Answers result out.old out.new named.old named.new (isa_list_below source.now) }
 {
-    answer(isa_list(source), out, named)
+    answer(isa_list(source, out), &mut (), named)
 }

@@ -1,5 +1,5 @@
 -- The ISA interrupts' pins, found by one walk along the I/O APICs.
-use Rattle.std.proofs.Common.{Unit, ◌≡◌, ℕ, ◌+◌, ◌<◌, ◌≤◌, ◌⊎◌, inl, inr, Bool, true, false, List, [], ◌∷◌, length, get_or, set, get_or-set_same, get_or-set_other, arith, map, drop, refl, sym, subst, ◌∙◌, ap, Option, Some, None, Result, Ok, Err}
+use Rattle.std.proofs.Common.{◌≡◌, ℕ, ◌+◌, ◌<◌, ◌≤◌, ◌⊎◌, inl, inr, Bool, true, false, List, [], ◌∷◌, length, get_or, set, get_or-set_same, get_or-set_other, arith, map, drop, refl, sym, subst, ◌∙◌, ap, Option, Some, None, Result, Ok, Err}
 use Rattle.std.specs.Prelude.{◌==◌}
 use Rattle.std.specs.List.{filter_map}
 use Rattle.std.proofs.lemmas.Bool.Decides.{nat_tests}
@@ -47,15 +47,6 @@ module _ (Below From : ℕ → IsaRoute → Type 0) (irq : ℕ) (routes : List I
       | inr below ↦ subst (Below n) (sym (get_or-set_other routes irq n new no_route (λ e. omega arith))) (turned.0 n below)
     ],
     λ n large. subst (From n) (sym (get_or-set_other routes irq n new no_route (λ e. omega arith))) (turned.1 n (omega arith)),
-  )
-
-  pub turned_kept : Below irq (get_or routes irq no_route) → Turned Below From (irq + 1) routes
-  turned_kept is = (
-    λ n small. elim (at_or_below n (n == irq) refl small) [
-      | inl here ↦ subst (λ n. Below n (get_or routes n no_route)) (sym here) is
-      | inr below ↦ turned.0 n below
-    ],
-    λ n large. turned.1 n (omega arith),
   )
 
 -- ---- a walk along the I/O APICs
@@ -139,13 +130,13 @@ same_pins : (one two : ℕ → Result PinRecord Refusal) (r : Result InterruptRe
 same_pins one two (Ok i) same = rw (same i.global_system_interrupt)
 same_pins one two (Err e) same = refl
 
-isa_by : ℕ → Apic (Unit {0}) → Result InterruptRecord Refusal
+abbrev isa_by : ℕ → Apic (Unit {0}) → Result InterruptRecord Refusal
 isa_by irq apic = interrupt_or (isa_interrupt apic.interrupt_source_overrides irq)
 
-pin_by : ℕ → Apic (Unit {0}) → Result PinRecord Refusal
+abbrev pin_by : ℕ → Apic (Unit {0}) → Result PinRecord Refusal
 pin_by n apic = pin_or (io_apic_for apic.io_apics n)
 
-list_by : Apic (Unit {0}) → Result IsaInterrupts Refusal
+abbrev list_by : Apic (Unit {0}) → Result IsaInterrupts Refusal
 list_by apic = Ok (isa_list apic.interrupt_source_overrides apic.io_apics)
 
 -- of APICs that are found, or of the refusal

@@ -1,5 +1,5 @@
 -- How interrupts come to the I/O APICs, as C gets it.
-use Rattle.std.specs.Prelude.{◌×◌, ℕ, Bool, true, nat_lt, List, Option, Some, None, Result, Ok, Err}
+use Rattle.std.specs.Prelude.{ℕ, Bool, true, nat_lt, List, Option, Some, None, Result, Ok, Err}
 use Rattle.std.specs.Option.{ok_or}
 use Rattle.acpi_base.specs.Interrupts.{polarity_code, trigger_code}
 use Rattle.acpi_base.specs.Isa.{isa_interrupt, sci_interrupt}

@@ -1,13 +1,12 @@
 //! How all ISA interrupts come to the I/O APICs, by one walk along the overrides and one along the I/O APICs.
-ghost use Rattle.std.specs.Prelude.{◌≡◌, ◌<◌, ℕ, Some, None, slice_index_or};
+ghost use Rattle.std.specs.Prelude.{◌≡◌, ◌<◌, ℕ, None, map, slice_index_or};
 ghost use Rattle.std.specs.List.{filter_map};
 ghost use Rattle.acpi_base.specs.Isa.{isa_interrupt};
 ghost use Rattle.acpi_base.specs.IsaOverrides.{IsGathered};
 ghost use Rattle.acpi_base.specs.Mapping.{bytes_of};
 ghost use Rattle.acpi_base.specs.Model.{io_apic_in, items_of, override_in};
-ghost use Rattle.acpi_base.specs.Pin.{nearest};
 ghost use Rattle.acpi_c_lib.specs.IsaList as list;
-ghost use Rattle.acpi_c_lib.specs.IsaList.{isa_list_below, nearer_of, number_of, route_of};
+ghost use Rattle.acpi_c_lib.specs.IsaList.{WritesOne, isa_list_below, nearer_of, number_of, route_of};
 
 use crate::interrupt_records::{InterruptRecord, IoApicRecord, IsaInterrupts, IsaRoute, PinRecord};
 use crate::interrupts::{apic_madt, io_apic_record};
@@ -21,43 +20,39 @@ use acpi::platform::interrupt::{IoApic, IsaInterrupt};
 use acpi::{Lender, PhysicalMapping};
 use acpi_base::model::{IsaOverrides, MadtItem};
 
-/// The 16 ISA interrupts, each with its pin.
-pub fn isa_list(source: &Source<'_>) -> Result<IsaInterrupts, Refusal>
-    ensures { result ≡ isa_list_below source.now }
+/// Writes the 16 ISA interrupts, each with its pin. They are written in place, since a copy takes much of the stack.
+pub fn isa_list(source: &Source<'_>, out: &mut IsaInterrupts) -> Result<(), Refusal>
+    ensures { WritesOne result out.old out.new (isa_list_below source.now) }
 {
     let memory = Mapped::new(source.regions)?;
     let tables = open(&memory, source)?;
     let found = apic_madt(&tables)?.ok_or(Refusal::NoApics)?;
-    Ok(isa_list_in(&found.madt))
+    write_routes(&found.madt, &mut out.routes);
+    Ok(())
 }
 
-/// Those of a MADT that describes APICs.
-fn isa_list_in<H: Lender>(madt: &PhysicalMapping<'_, H, Madt>) -> IsaInterrupts
-    ensures { let items = items_of (bytes_of madt.now) in
-        result ≡ list.isa_list (filter_map override_in items) (filter_map io_apic_in items) }
+/// Writes those of a MADT that describes APICs.
+fn write_routes<H: Lender>(madt: &PhysicalMapping<'_, H, Madt>, routes: &mut [IsaRoute; 16])
+    ensures { let items = items_of (bytes_of madt.now) in routes.new
+        ≡ map (list.isa_route (filter_map override_in items) (filter_map io_apic_in items)) list.isa_numbers }
 {
-    let mut routes = interrupts_in(madt);
+    write_interrupts(madt, routes);
     for item in madt.items() {
         if let MadtItem::IoApic(io_apic) = item {
-            meet_all(&mut routes, &io_apic);
+            meet_all(routes, &io_apic);
         }
     }
-    IsaInterrupts { routes }
 }
 
-/// Each ISA interrupt, without its pin.
-fn interrupts_in<H: Lender>(madt: &PhysicalMapping<'_, H, Madt>) -> [IsaRoute; 16]
-    ensures { (irq : ℕ) → irq < 16 → slice_index_or result irq list.no_route
+/// Writes each ISA interrupt, without its pin.
+fn write_interrupts<H: Lender>(madt: &PhysicalMapping<'_, H, Madt>, routes: &mut [IsaRoute; 16])
+    ensures { (irq : ℕ) → irq < 16 → slice_index_or routes.new irq list.no_route
         ≡ route_of (isa_interrupt (filter_map override_in (items_of (bytes_of madt.now))) irq) None }
 {
     let gathered = overrides_in(madt);
-    let mut routes = [no_route(); 16];
     for irq in 0..16 {
-        if let Some(interrupt) = gathered.isa_interrupt(irq as u8) {
-            routes[irq] = without_pin(interrupt);
-        }
+        routes[irq] = without_pin(gathered.isa_interrupt(irq as u8));
     }
-    routes
 }
 
 /// What the overrides among the entries say of the ISA interrupts.
@@ -108,15 +103,18 @@ fn meet(route: IsaRoute, io_apic: &IoApic) -> IsaRoute
     }
 }
 
-/// An interrupt that comes to no I/O APIC so far.
-fn without_pin(interrupt: IsaInterrupt) -> IsaRoute
-    ensures { result ≡ route_of (Some interrupt) None }
+/// An interrupt, if there is one, that comes to no I/O APIC so far.
+fn without_pin(interrupt: Option<IsaInterrupt>) -> IsaRoute
+    ensures { result ≡ route_of interrupt None }
 {
-    IsaRoute {
-        interrupt: interrupt_record(interrupt),
-        pin: no_pin(),
-        present: 1,
-        has_pin: 0,
+    match interrupt {
+        Some(interrupt) => IsaRoute {
+            interrupt: interrupt_record(interrupt),
+            pin: no_pin(),
+            present: 1,
+            has_pin: 0,
+        },
+        None => no_route(),
     }
 }
 

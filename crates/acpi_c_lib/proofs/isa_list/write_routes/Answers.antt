@@ -6,7 +6,7 @@ use Rattle.acpi_base.specs.Mapping.{bytes_of}
 use Rattle.acpi_base.specs.Model.{io_apic_in, items_of, override_in}
 use Rattle.acpi_c_lib.specs.IsaList.{isa_route}
 use Rattle.acpi_c_lib.proofs.IsaList.{Routed, all_met, none_more, one_met, same_answer}
-use Rattle.acpi_c_lib.proofs.isa_list.isa_list_in.Goals as goal
+use Rattle.acpi_c_lib.proofs.isa_list.write_routes.Goals as goal
 
 pub loop-item-preserved-in-IoApic : goal.loop-item-preserved-in-IoApic
 loop-item-preserved-in-IoApic g c =
@@ -39,6 +39,5 @@ returns g c =
     let none : filter_map io_apic_in (items_left c.loop-item.item-iterator) ≡ [] = ap (filter_map io_apic_in) c.in-None.ensures.steps.0 in
     let routed = subst (λ xs. Routed (isa_interrupt overrides) c.loop-item.routes xs io_apics) none
     (subst (λ all. Routed (isa_interrupt overrides) c.loop-item.routes (filter_map io_apic_in (items_left c.loop-item.item-iterator)) all) whole c.loop-item.invariant.1) in
-    ap (λ routes. record { routes = routes })
-    (all_met (isa_interrupt overrides) (isa_route overrides io_apics) c.loop-item.routes io_apics c.loop-item.invariant.0
-    (λ irq. same_answer io_apics (isa_interrupt overrides irq)) routed)
+    all_met (isa_interrupt overrides) (isa_route overrides io_apics) c.loop-item.routes io_apics c.loop-item.invariant.0
+    (λ irq. same_answer io_apics (isa_interrupt overrides irq)) routed

@@ -5,7 +5,7 @@ use Rattle.acpi_base.specs.Items.{items_left}
 use Rattle.acpi_base.specs.Mapping.{bytes_of}
 use Rattle.acpi_base.specs.Model.{io_apic_in, items_of, override_in}
 use Rattle.acpi_c_lib.proofs.IsaList.{Routed}
-use Rattle.acpi_c_lib.proofs.isa_list.isa_list_in.Given as goal
+use Rattle.acpi_c_lib.proofs.isa_list.write_routes.Given as goal
 
 -- each interrupt has the nearest so far, and with those that are left they are all
 abbrev pub invariant-loop-item : goal.invariant-loop-item
