@@ -1,7 +1,6 @@
 //! Boot graphics.
 
-use crate::hex_text::in_hex;
-use crate::named::field_of;
+use crate::named::one_in_hex;
 use acpi::bgrt::Bgrt;
 use acpi::{AcpiTable, PhysicalRecord};
 use std::alloc::{AllocError, Global};
@@ -12,10 +11,13 @@ pub(crate) fn answer(alloc: Global, bytes: &[u8], question: &str) -> Result<Stri
         return Ok(String::new(alloc));
     }
     let table = Bgrt::read(bytes);
-    match question {
-        "valid" => in_hex(alloc, &table.validate(bytes)),
-        "display" => in_hex(alloc, &(table.was_displayed(), table.orientation_offset())),
-        "image" => in_hex(alloc, &(table.image_type(), table.image_offset())),
-        _ => field_of(alloc, &table, question),
-    }
+    let display = (table.was_displayed(), table.orientation_offset());
+    let image = (table.image_type(), table.image_offset());
+    let values = (
+        ("valid", table.validate(bytes)),
+        ("display", display),
+        ("image", image),
+        table,
+    );
+    one_in_hex(alloc, &values, question)
 }

@@ -1,6 +1,7 @@
 //! Generic addresses, and codes by themselves.
 
 use crate::hex_text::in_hex;
+use crate::named::one_in_hex;
 use acpi::address::{AccessSize, AddressSpace, GenericAddress};
 use acpi_base::madt::MpProtectedModeWakeupCommand;
 use std::alloc::{AllocError, Global};
@@ -14,14 +15,9 @@ pub(crate) fn of_address(
     let Some(raw) = bytes.first_chunk::<12>() else {
         return Ok(String::new(alloc));
     };
-    match question {
-        "read" => in_hex(alloc, &GenericAddress::from_raw(*raw)),
-        "codes" => in_hex(
-            alloc,
-            &(AddressSpace::try_from(raw[0]), AccessSize::try_from(raw[3])),
-        ),
-        _ => Ok(String::new(alloc)),
-    }
+    let codes = (AddressSpace::try_from(raw[0]), AccessSize::try_from(raw[3]));
+    let values = (("read", GenericAddress::from_raw(*raw)), ("codes", codes));
+    one_in_hex(alloc, &values, question)
 }
 
 /// The wakeup command of the number that two bytes hold, and the command's own number.

@@ -2,6 +2,7 @@
 //!
 //! A question names a part of the model. `QUESTION in full heap` asks where no memory is left.
 
+use crate::named::one_of;
 use acpi::{AcpiResult, ManagedSlice};
 use acpi_arm::gic::{GicCpuInterface, GicModel};
 use acpi_base::model::TriggerMode;
@@ -9,41 +10,30 @@ use acpi_testkit::rows::{named, shown};
 use linked_list_allocator::LocalHeap;
 use std::alloc::{AllocError, Allocator, Global};
 
-/// A part of the model.
-#[derive(Clone, Copy)]
-enum Part {
-    Distributor,
-    Interfaces,
-    Redistributors,
-    Services,
-    Frames,
-    Counts,
-    Flags,
-    TraceBuffer,
-}
-
-const PARTS: [(&str, Part); 8] = [
-    ("distributor", Part::Distributor),
-    ("interfaces", Part::Interfaces),
-    ("redistributors", Part::Redistributors),
-    ("services", Part::Services),
-    ("frames", Part::Frames),
-    ("counts", Part::Counts),
-    ("interface flags", Part::Flags),
-    ("trace buffer", Part::TraceBuffer),
+/// The parts of the model.
+const PARTS: [(&str, ()); 8] = [
+    ("distributor", ()),
+    ("interfaces", ()),
+    ("redistributors", ()),
+    ("services", ()),
+    ("frames", ()),
+    ("counts", ()),
+    ("interface flags", ()),
+    ("trace buffer", ()),
 ];
 
 /// The part that a question names, and whether it asks where no memory is left.
-fn part_of(question: &str) -> (Option<Part>, bool) {
+fn part_of(question: &str) -> (&str, bool) {
     match question.strip_suffix(" in full heap") {
-        Some(asked) => (named(&PARTS, asked), true),
-        None => (named(&PARTS, question), false),
+        Some(asked) => (asked, true),
+        None => (question, false),
     }
 }
 
 /// Whether a question is about the GIC.
 pub(crate) fn is_asked(question: &str) -> bool {
-    part_of(question).0.is_some()
+    let (asked, _) = part_of(question);
+    named(&PARTS, asked).is_some()
 }
 
 /// What a MADT answers.
@@ -78,21 +68,21 @@ pub(crate) fn said<A: Allocator>(
 fn of_model<A: Allocator>(
     alloc: Global,
     model: &GicModel<A>,
-    part: Option<Part>,
+    part: &str,
 ) -> Result<String, AllocError> {
-    let Some(part) = part else {
-        return Ok(String::new(alloc));
-    };
-    match part {
-        Part::Distributor => shown(alloc, &model.distributor),
-        Part::Interfaces => shown(alloc, &model.cpu_interfaces.as_slice()),
-        Part::Redistributors => shown(alloc, &model.redistributors.as_slice()),
-        Part::Services => shown(alloc, &model.translation_services.as_slice()),
-        Part::Frames => shown(alloc, &model.msi_frames.as_slice()),
-        Part::Counts => shown(alloc, &counts(model)),
-        Part::Flags => shown(alloc, &model.cpu_interfaces.as_slice().first().map(flags)),
-        Part::TraceBuffer => shown(alloc, &model.cpu_interfaces.as_slice().first().map(trace)),
-    }
+    let interfaces = model.cpu_interfaces.as_slice();
+    let first = interfaces.first();
+    let values = (
+        ("distributor", &model.distributor),
+        ("interfaces", interfaces),
+        ("redistributors", model.redistributors.as_slice()),
+        ("services", model.translation_services.as_slice()),
+        ("frames", model.msi_frames.as_slice()),
+        ("counts", counts(model)),
+        ("interface flags", first.map(flags)),
+        ("trace buffer", first.map(trace)),
+    );
+    one_of(alloc, &values, part)
 }
 
 /// How many items each list has.

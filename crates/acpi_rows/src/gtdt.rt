@@ -1,5 +1,6 @@
 //! The timers that a GTDT describes.
 
+use crate::named::one_of;
 use acpi::{AcpiTable, PhysicalRecord};
 use acpi_arm::gtdt::{Gtdt, PlatformTimer, PlatformTimerIter};
 use acpi_testkit::rows::shown;
@@ -10,21 +11,21 @@ pub(crate) fn answer(alloc: Global, bytes: &[u8], question: &str) -> Result<Stri
     if bytes.len() < 96 {
         return Ok(String::new(alloc));
     }
-    let table = Gtdt::read(bytes);
-    match question {
-        "valid" => shown(alloc, &table.validate(bytes)),
-        "bases" => shown(
-            alloc,
-            &(table.counter_control_base(), table.counter_read_base()),
-        ),
-        "secure el1" => shown(alloc, &table.secure_el1_timer),
-        "non-secure el1" => shown(alloc, &table.non_secure_el1_timer),
-        "virtual el1" => shown(alloc, &table.virtual_el1_timer),
-        "el2" => shown(alloc, &table.el2_timer),
-        "virtual el2" => shown(alloc, &table.virtual_el2_timer()),
-        "platform" => platform(alloc, PlatformTimerIter::over(bytes)),
-        _ => Ok(String::new(alloc)),
+    if question == "platform" {
+        return platform(alloc, PlatformTimerIter::over(bytes));
     }
+    let table = Gtdt::read(bytes);
+    let bases = (table.counter_control_base(), table.counter_read_base());
+    let values = (
+        ("valid", table.validate(bytes)),
+        ("bases", bases),
+        ("secure el1", table.secure_el1_timer),
+        ("non-secure el1", table.non_secure_el1_timer),
+        ("virtual el1", table.virtual_el1_timer),
+        ("el2", table.el2_timer),
+        ("virtual el2", table.virtual_el2_timer()),
+    );
+    one_of(alloc, &values, question)
 }
 
 /// The timers of the platform, and how they end. Each is parted from the next by a semicolon.

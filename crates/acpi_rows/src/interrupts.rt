@@ -1,7 +1,8 @@
 //! Where interrupts come to, as the overrides, the I/O APICs and the local NMIs of a MADT say.
 
 use crate::hex_text::in_hex;
-use crate::texts::said;
+use crate::named::one_in_hex;
+use crate::platforms::said_model;
 use acpi::handler::MappedRegion;
 use acpi::madt::{Madt, MadtEntry};
 use acpi::platform::interrupt::{Apic, InterruptModel};
@@ -23,7 +24,7 @@ pub(crate) fn model<A: Allocator + Clone>(
         return Ok(String::new(alloc));
     };
     let madt = PhysicalMapping::<_, Madt>::new(0, table, table.len(), &region);
-    said(alloc, madt.parse_interrupt_model_in(allocator))
+    said_model(alloc, madt.parse_interrupt_model_in(allocator))
 }
 
 /// The model of a table, gathered in a heap of 16 bytes, which has to be free again.
@@ -56,16 +57,16 @@ fn of_apic(
     word: &str,
     number: u32,
 ) -> Result<String, AllocError> {
-    match word {
-        "isa" => in_hex(alloc, &apic.isa_interrupt((number % 0x100) as u8)),
-        "sci" => in_hex(alloc, &apic.sci_interrupt((number % 0x10000) as u16)),
-        "pin" => in_hex(
-            alloc,
-            &apic.io_apic_for(number).map(|it| (it.io_apic.id, it.pin)),
-        ),
-        "lines" => lines(alloc, apic, number),
-        _ => Ok(String::new(alloc)),
+    if word == "lines" {
+        return lines(alloc, apic, number);
     }
+    let pin = apic.io_apic_for(number).map(|it| (it.io_apic.id, it.pin));
+    let values = (
+        ("isa", apic.isa_interrupt((number % 0x100) as u8)),
+        ("sci", apic.sci_interrupt((number % 0x10000) as u16)),
+        ("pin", pin),
+    );
+    one_in_hex(alloc, &values, word)
 }
 
 /// The inputs that NMIs come to of one processor.

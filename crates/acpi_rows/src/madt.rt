@@ -2,7 +2,7 @@
 //! model of APICs or of a GIC are decimal.
 
 use crate::hex_text::in_hex;
-use crate::named::field_of;
+use crate::named::one_in_hex;
 use crate::{gic, interrupts};
 use acpi::PhysicalMapping;
 use acpi::handler::MappedRegion;
@@ -24,14 +24,8 @@ pub(crate) fn answer(alloc: Global, bytes: &[u8], question: &str) -> Result<Stri
 fn of_entries(alloc: Global, bytes: &[u8], question: &str) -> Result<String, AllocError> {
     let mut entries = MadtEntryIter::over(bytes);
     match question {
-        "walk" => in_hex(alloc, &walked(bytes)),
-        "entry" => in_hex(alloc, &entries.next()),
-        "second entry" => {
-            let _first = entries.next();
-            in_hex(alloc, &entries.next())
-        }
+        "walk" | "steps" | "entry" | "second entry" => walked(alloc, bytes, question),
         "flags of entry" => interrupts::flags(alloc, entries.next()),
-        "steps" => in_hex(alloc, &steps(entries)),
         _ => match question.strip_prefix("trace interrupt at revision ") {
             Some(revision) => in_hex(alloc, &trace_interrupt(entries, revision)),
             None => of_mapping(alloc, bytes, question),
@@ -39,11 +33,19 @@ fn of_entries(alloc: Global, bytes: &[u8], question: &str) -> Result<String, All
     }
 }
 
-/// How many entries there are, and whether they end at a malformed one.
-fn walked(bytes: &[u8]) -> (usize, bool) {
+/// How many entries there are and whether they end at a malformed one, four steps, and the first two
+/// entries.
+fn walked(alloc: Global, bytes: &[u8], question: &str) -> Result<String, AllocError> {
     let mut entries = MadtEntryIter::over(bytes);
     let count = entries.by_ref().count();
-    (count, entries.ended_malformed())
+    let mut some = MadtEntryIter::over(bytes);
+    let values = (
+        ("walk", (count, entries.ended_malformed())),
+        ("steps", steps(MadtEntryIter::over(bytes))),
+        ("entry", some.next()),
+        ("second entry", some.next()),
+    );
+    one_in_hex(alloc, &values, question)
 }
 
 /// Whether the end was malformed as far as is known before each of four steps, and whether the step
@@ -79,18 +81,29 @@ fn of_mapping(alloc: Global, bytes: &[u8], question: &str) -> Result<String, All
         bytes.len(),
         &region,
     );
-    match question {
-        "mapped" => in_hex(
-            alloc,
-            &(madt.entries().count(), madt.get_mpwk_mailbox_addr()),
-        ),
-        "8259" => in_hex(alloc, &madt.supports_8259()),
-        "interrupts" => of_model(alloc, &madt, question),
-        _ => match question.strip_prefix("model ") {
-            Some(asked) => of_model(alloc, &madt, asked),
-            None => field_of(alloc, madt.get(), question),
-        },
+    if question == "interrupts" {
+        return of_model(alloc, &madt, question);
     }
+    match question.strip_prefix("model ") {
+        Some(asked) => of_model(alloc, &madt, asked),
+        None => one_value(alloc, &madt, madt.entries().count(), question),
+    }
+}
+
+/// How many entries a mapping has and the mailbox, what it says of older interrupt controllers, and its fields.
+fn one_value(
+    alloc: Global,
+    madt: &PhysicalMapping<'_, MappedRegion<'_>, Madt>,
+    count: usize,
+    name: &str,
+) -> Result<String, AllocError> {
+    let mapped = (count, madt.get_mpwk_mailbox_addr());
+    let values = (
+        ("mapped", mapped),
+        ("8259", madt.supports_8259()),
+        madt.get(),
+    );
+    one_in_hex(alloc, &values, name)
 }
 
 /// What the interrupt model answers.
@@ -100,8 +113,8 @@ fn of_model(
     question: &str,
 ) -> Result<String, AllocError> {
     match madt.parse_interrupt_model_in(alloc) {
-        Ok(answer) if question == "interrupts" => interrupts_of(alloc, &answer.0),
-        Ok(answer) => interrupts::of_model(alloc, &answer.0, question),
+        Ok((model, _processors)) if question == "interrupts" => interrupts_of(alloc, &model),
+        Ok((model, _processors)) => interrupts::of_model(alloc, &model, question),
         Err(refusal) => in_hex(alloc, &refusal),
     }
 }

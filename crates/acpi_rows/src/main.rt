@@ -1,8 +1,9 @@
 //! Checks what tables' bytes and memories answer, and what `acpi_view` prints of files, against the rows of the
 //! files that its arguments name, whose lines `acpi_testkit::rows` describes.
 //!
-//! The bytes of a row are a memory, a table by itself, or a file. Expected values are worked out by hand from the
-//! layouts of the tables. Numbers in an answer are decimal, or hexadecimal where it shows what bytes hold.
+//! The bytes of a row are a memory, also under the kind `loans`, a table by itself, or a file. Expected values are
+//! worked out by hand from the layouts of the tables. Numbers in an answer are decimal, or hexadecimal where it shows
+//! what bytes hold.
 #![tactic(auto)]
 
 mod bgrt;
@@ -12,6 +13,7 @@ mod gic;
 mod gtdt;
 mod hex_text;
 mod interrupts;
+mod loans;
 mod madt;
 mod mcfg;
 mod memory;
@@ -28,11 +30,15 @@ mod sums;
 mod texts;
 
 use acpi_testkit::rows::{Answers, Row, ask_files};
+use loans::{Scenes, validity};
 use std::alloc::{AllocError, Global};
 use std::io;
 
-/// The answers of this library.
-struct Library;
+/// The answers of this library, and the scene that is asked for.
+#[derive(Drop)]
+struct Library {
+    scenes: Scenes,
+}
 
 impl Answers for Library {
     fn answer(&self, alloc: Global, row: &Row, question: &str) -> Result<String, AllocError> {
@@ -45,6 +51,8 @@ impl Answers for Library {
             "command" => codes::of_command(alloc, table, question),
             "fadt" => fadt::answer(alloc, table, question),
             "gtdt" => gtdt::answer(alloc, table, question),
+            "header" => validity(alloc, table, question),
+            "loans" => self.scenes.answer(alloc, row, question),
             "madt" => madt::answer(alloc, table, question),
             "mcfg" => mcfg::answer(alloc, table, question),
             "rsdp" => rsdp::answer(alloc, table, question),
@@ -58,5 +66,6 @@ impl Answers for Library {
 }
 
 fn main(rt: HostRuntime) -> io::Result<()> {
-    ask_files(&rt, &Library)
+    let scenes = Scenes::new(rt.alloc());
+    ask_files(&rt, &Library { scenes })
 }

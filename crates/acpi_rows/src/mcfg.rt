@@ -1,6 +1,6 @@
 //! The regions of PCI configuration space.
 
-use crate::hex_text::in_hex;
+use crate::named::one_in_hex;
 use crate::texts::listed;
 use acpi::mcfg::McfgEntryIter;
 use acpi_testkit::rows::shown;
@@ -8,15 +8,20 @@ use std::alloc::{AllocError, Global};
 
 /// What an MCFG answers.
 pub(crate) fn answer(alloc: Global, bytes: &[u8], question: &str) -> Result<String, AllocError> {
-    let mut regions = McfgEntryIter::over(bytes);
+    let regions = McfgEntryIter::over(bytes);
     match question {
-        "length" => in_hex(alloc, &regions.len()),
-        "count" => in_hex(alloc, &regions.count()),
-        "first" => in_hex(alloc, &regions.next()),
-        "last" => in_hex(alloc, &regions.last()),
         "entries" => listed(alloc, regions),
         "steps" => steps(alloc, regions),
-        _ => Ok(String::new(alloc)),
+        _ => one_in_hex(
+            alloc,
+            &(
+                ("length", regions.len()),
+                ("first", McfgEntryIter::over(bytes).next()),
+                ("last", McfgEntryIter::over(bytes).last()),
+                ("count", regions.count()),
+            ),
+            question,
+        ),
     }
 }
 

@@ -20,7 +20,7 @@ mod numa;
 mod places;
 mod tables;
 mod types;
-mod ways;
+pub(crate) mod ways;
 
 use crate::hex_text::in_hex;
 use crate::texts::Parts;
@@ -92,7 +92,8 @@ fn over_handlers(
 fn over<H: AcpiHandler>(alloc: Global, handler: &H, question: &str) -> Result<String, AllocError> {
     let (word, areas) = question.split_once(' ').unwrap_or((question, ""));
     match word {
-        "search" | "areas" => in_hex(alloc, &searched(alloc, handler, word, areas)),
+        "search" => in_hex(alloc, &searched(alloc, handler, None)),
+        "areas" => in_hex(alloc, &searched(alloc, handler, Some(areas))),
         _ => tables::answer(alloc, handler, question),
     }
 }

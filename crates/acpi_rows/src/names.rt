@@ -157,3 +157,11 @@ fn refusal_of(name: &str, signature: Signature) -> AcpiError {
         _ => named(&REFUSALS, name).unwrap_or(AcpiError::TableMissing(signature)),
     }
 }
+
+/// The signature of four characters, or of eight hexadecimal digits.
+pub(crate) fn signature_of(name: &str) -> Signature {
+    match name.as_bytes() {
+        [a, b, c, d] => Signature::from_bytes([*a, *b, *c, *d]),
+        _ => Signature::from_bytes(u32::from_str_radix(name, 16).unwrap_or(0).to_be_bytes()),
+    }
+}

@@ -1,11 +1,12 @@
 //! What is said of a platform and of its parts.
 
-use crate::texts::{Parts, Says, said};
+use crate::texts::Parts;
 use acpi::platform::interrupt::{Apic, InterruptModel};
 use acpi::platform::{ModelAndProcessors, PlatformInfo, ProcessorInfo};
 use acpi::{AcpiHandler, AcpiResult, AcpiTables};
 use acpi_testkit::rows::shown;
 use std::alloc::{AllocError, Allocator, Global};
+use std::fmt::Debug;
 
 /// What each of the four calls answers, if all say the same.
 pub(crate) fn platform<H: AcpiHandler>(
@@ -13,66 +14,82 @@ pub(crate) fn platform<H: AcpiHandler>(
     tables: &AcpiTables<'_, H>,
 ) -> Result<String, AllocError> {
     let mut parts = Parts::new(alloc);
-    parts.add_other(said(alloc, PlatformInfo::new(alloc, tables)));
-    parts.add_other(said(alloc, PlatformInfo::new_in(tables, alloc)));
-    parts.add_other(said(alloc, tables.platform_info(alloc)));
-    parts.add_other(said(alloc, tables.platform_info_in(alloc)));
+    parts.add_other(said_platform(alloc, PlatformInfo::new(alloc, tables)));
+    parts.add_other(said_platform(alloc, PlatformInfo::new_in(tables, alloc)));
+    parts.add_other(said_platform(alloc, tables.platform_info(alloc)));
+    parts.add_other(said_platform(alloc, tables.platform_info_in(alloc)));
     parts.text()
 }
 
-impl<A: Allocator> Says for PlatformInfo<A> {
-    fn add_to(&self, parts: &mut Parts) {
-        parts.add("for", &self.power_profile);
-        if let Some(timer) = &self.pm_timer {
-            parts.add("timer", timer);
+/// What a platform says, or the refusal.
+pub(crate) fn said_platform<A: Allocator, E: Debug + Drop>(
+    alloc: Global,
+    answer: Result<PlatformInfo<A>, E>,
+) -> Result<String, AllocError> {
+    let mut parts = Parts::new(alloc);
+    match answer {
+        Ok(platform) => {
+            parts.add("for", &platform.power_profile);
+            if let Some(timer) = &platform.pm_timer {
+                parts.add("timer", timer);
+            }
+            add_model(&mut parts, &platform.interrupt_model);
+            add_processors(&mut parts, &platform.processor_info);
+            let_go(platform);
         }
-        self.interrupt_model.add_to(parts);
-        self.processor_info.add_to(parts);
+        Err(refusal) => parts.add_text(shown(alloc, &refusal)),
     }
+    parts.text()
 }
 
-impl<A: Allocator> Says for ModelAndProcessors<A> {
-    fn add_to(&self, parts: &mut Parts) {
-        self.0.add_to(parts);
-        self.1.add_to(parts);
-    }
+/// Lets a platform go, part by part: the proof of letting it go at once takes long.
+pub(crate) fn let_go<A: Allocator>(platform: PlatformInfo<A>) {
+    let PlatformInfo {
+        interrupt_model: _model,
+        processor_info: _processors,
+        ..
+    } = platform;
 }
 
-impl<A: Allocator> Says for InterruptModel<A> {
-    fn add_to(&self, parts: &mut Parts) {
-        match self {
-            InterruptModel::Unknown => parts.add_words("unknown model"),
-            InterruptModel::Apic(apic) => apic.add_to(parts),
+/// What an interrupt model and the processors say, or the refusal.
+pub(crate) fn said_model<A: Allocator, E: Debug + Drop>(
+    alloc: Global,
+    answer: Result<ModelAndProcessors<A>, E>,
+) -> Result<String, AllocError> {
+    let mut parts = Parts::new(alloc);
+    match answer {
+        Ok((model, processors)) => {
+            add_model(&mut parts, &model);
+            add_processors(&mut parts, &processors);
         }
+        Err(refusal) => parts.add_text(shown(alloc, &refusal)),
+    }
+    parts.text()
+}
+
+fn add_model<A: Allocator>(parts: &mut Parts, model: &InterruptModel<A>) {
+    match model {
+        InterruptModel::Unknown => parts.add_words("unknown model"),
+        InterruptModel::Apic(apic) => add_apics(parts, apic),
     }
 }
 
-impl<A: Allocator> Says for Apic<A> {
-    fn add_to(&self, parts: &mut Parts) {
-        parts.add_place("local apics at", self.local_apic_address);
-        if self.also_has_legacy_pics {
-            parts.add_words("legacy pics");
-        }
-        parts.add_list("io apics", self.io_apics.as_slice());
-        parts.add_list("nmi lines", self.local_apic_nmi_lines.as_slice());
-        parts.add_list("overrides", self.interrupt_source_overrides.as_slice());
-        parts.add_list("nmi sources", self.nmi_sources.as_slice());
+fn add_apics<A: Allocator>(parts: &mut Parts, apic: &Apic<A>) {
+    parts.add_place("local apics at", apic.local_apic_address);
+    if apic.also_has_legacy_pics {
+        parts.add_words("legacy pics");
     }
+    parts.add_list("io apics", apic.io_apics.as_slice());
+    parts.add_list("nmi lines", apic.local_apic_nmi_lines.as_slice());
+    parts.add_list("overrides", apic.interrupt_source_overrides.as_slice());
+    parts.add_list("nmi sources", apic.nmi_sources.as_slice());
 }
 
-/// The processors, if there are any.
-impl<A: Allocator> Says for Option<ProcessorInfo<A>> {
-    fn add_to(&self, parts: &mut Parts) {
-        if let Some(processors) = self {
-            processors.add_to(parts);
-        }
-    }
-}
-
-impl<A: Allocator> Says for ProcessorInfo<A> {
-    fn add_to(&self, parts: &mut Parts) {
-        parts.add("boot", &self.boot_processor);
-        parts.add_list("others", self.application_processors.as_slice());
+/// Adds the processors, if there are any.
+fn add_processors<A: Allocator>(parts: &mut Parts, processors: &Option<ProcessorInfo<A>>) {
+    if let Some(processors) = processors {
+        parts.add("boot", &processors.boot_processor);
+        parts.add_list("others", processors.application_processors.as_slice());
     }
 }
 
@@ -83,7 +100,11 @@ pub(crate) fn of_answer<A: Allocator + Clone>(
     asked: &str,
 ) -> Result<String, AllocError> {
     match answer {
-        Ok(platform) => of_platform(alloc, &platform, asked),
+        Ok(platform) => {
+            let text = of_platform(alloc, &platform, asked);
+            let_go(platform);
+            text
+        }
         Err(_) => Ok(String::new(alloc)),
     }
 }
@@ -96,8 +117,10 @@ fn of_platform<A: Allocator + Clone>(
     asked: &str,
 ) -> Result<String, AllocError> {
     match asked {
-        "clone" => said(alloc, platform.clone()),
-        "clone of the model" => said(alloc, platform.interrupt_model.clone()),
+        "clone" => said_platform(alloc, platform.clone()),
+        "clone of the model" => {
+            said_model(alloc, platform.interrupt_model.clone().map(|it| (it, None)))
+        }
         _ => match (&platform.interrupt_model, &platform.processor_info) {
             (InterruptModel::Apic(apic), Some(processors)) => {
                 of_parts(alloc, apic, processors, asked)
@@ -119,13 +142,20 @@ fn of_parts<A: Allocator + Clone>(
             Ok(clone) => shown(alloc, &clone.as_slice()),
             Err(refusal) => shown(alloc, &refusal),
         },
-        "clone of the apics" => said(alloc, apic.clone()),
-        "clone of the processors" => said(
-            alloc,
-            processors
-                .clone()
-                .map(|it| (InterruptModel::Unknown, Some(it))),
-        ),
+        "clone of the apics" => {
+            said_model(
+                alloc,
+                apic.clone().map(|it| (InterruptModel::Apic(it), None)),
+            )
+        }
+        "clone of the processors" => {
+            said_model(
+                alloc,
+                processors
+                    .clone()
+                    .map(|it| (InterruptModel::Unknown, Some(it))),
+            )
+        }
         _ => match asked.strip_prefix("processor ") {
             Some(index) => processor(alloc, processors, index),
             None => Ok(String::new(alloc)),

@@ -1,6 +1,7 @@
 //! Questions about the ranges of memory that a SRAT puts into domains: `ranges`, `count`, `printed` (the
 //! refusal as it is printed), and `domain ADDRESS`. A refusal is the answer to each.
 
+use crate::named::one_of;
 use acpi_cli::parse_address;
 use acpi_numa::{MemoryAffinities, NumaResult};
 use acpi_testkit::rows::{printed, shown};
@@ -29,12 +30,15 @@ fn of_ranges<A: Allocator>(
     affinities: &MemoryAffinities<A>,
     question: &str,
 ) -> Result<String, AllocError> {
-    match question {
-        "ranges" => shown(alloc, &affinities.ranges()),
-        "count" => shown(alloc, &affinities.ranges().len()),
-        _ => match question.strip_prefix("domain ").and_then(parse_address) {
-            Some(address) => shown(alloc, &affinities.domain_of(address)),
-            None => Ok(String::new(alloc)),
-        },
-    }
+    let (word, address) = question.split_once(' ').unwrap_or((question, ""));
+    let ranges = affinities.ranges();
+    let values = (
+        ("ranges", ranges),
+        ("count", ranges.len()),
+        (
+            "domain",
+            affinities.domain_of(parse_address(address).unwrap_or(0)),
+        ),
+    );
+    one_of(alloc, &values, word)
 }

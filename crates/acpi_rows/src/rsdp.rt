@@ -1,6 +1,6 @@
 //! RSDPs whose bytes are at hand.
 
-use crate::hex_text::in_hex;
+use crate::named::one_in_hex;
 use acpi::PhysicalRecord;
 use acpi::rsdp::Rsdp;
 use std::alloc::{AllocError, Global};
@@ -11,13 +11,13 @@ pub(crate) fn answer(alloc: Global, bytes: &[u8], question: &str) -> Result<Stri
         return Ok(String::new(alloc));
     }
     let rsdp = Rsdp::read(bytes);
-    match question {
-        "valid" => in_hex(alloc, &rsdp.validate(bytes)),
-        "signature" => in_hex(alloc, &rsdp.signature()),
-        "oem id" => in_hex(alloc, &rsdp.oem_id()),
-        "fields" => in_hex(alloc, &fields_of(&rsdp)),
-        _ => Ok(String::new(alloc)),
-    }
+    let values = (
+        ("valid", rsdp.validate(bytes)),
+        ("signature", rsdp.signature()),
+        ("oem id", rsdp.oem_id()),
+        ("fields", fields_of(&rsdp)),
+    );
+    one_in_hex(alloc, &values, question)
 }
 
 /// Revision and length, both checksums, and the addresses of both root tables.

@@ -1,20 +1,19 @@
 //! Questions about a SLIT: `localities`, `sane`, and `distance FROM TO`.
 
+use crate::named::one_of;
 use acpi_numa::{Distances, SlitCalls};
-use acpi_testkit::rows::shown;
 use std::alloc::{AllocError, Global};
 
 /// What a SLIT's bytes answer.
 pub(crate) fn answer(alloc: Global, table: &[u8], question: &str) -> Result<String, AllocError> {
     let distances = Distances::over(table);
-    match question {
-        "localities" => shown(alloc, &distances.localities()),
-        "sane" => shown(alloc, &distances.is_sane()),
-        _ => match pair_of(question) {
-            Some((from, to)) => shown(alloc, &distances.distance(from, to)),
-            None => Ok(String::new(alloc)),
-        },
-    }
+    let (word, from, to) = parts_of(question);
+    let values = (
+        ("localities", distances.localities()),
+        ("sane", distances.is_sane()),
+        ("distance", distances.distance(from, to)),
+    );
+    one_of(alloc, &values, word)
 }
 
 /// What a mapping of a SLIT answers.
@@ -23,18 +22,22 @@ pub(crate) fn of_mapping<T: SlitCalls>(
     slit: &T,
     question: &str,
 ) -> Result<String, AllocError> {
-    match question {
-        "localities" => shown(alloc, &slit.distances().localities()),
-        "sane" => shown(alloc, &slit.is_sane()),
-        _ => match pair_of(question) {
-            Some((from, to)) => shown(alloc, &slit.distance(from, to)),
-            None => Ok(String::new(alloc)),
-        },
-    }
+    let (word, from, to) = parts_of(question);
+    let values = (
+        ("localities", slit.distances().localities()),
+        ("sane", slit.is_sane()),
+        ("distance", slit.distance(from, to)),
+    );
+    one_of(alloc, &values, word)
 }
 
-/// The two localities of `distance FROM TO`.
-fn pair_of(question: &str) -> Option<(u64, u64)> {
-    let (from, to) = question.strip_prefix("distance ")?.split_once(' ')?;
-    Some((from.parse::<u64>().ok()?, to.parse::<u64>().ok()?))
+/// The word of a question, and the two localities of `distance FROM TO`.
+fn parts_of(question: &str) -> (&str, u64, u64) {
+    let (word, pair) = question.split_once(' ').unwrap_or((question, ""));
+    let (from, to) = pair.split_once(' ').unwrap_or((pair, ""));
+    (
+        word,
+        from.parse::<u64>().unwrap_or(0),
+        to.parse::<u64>().unwrap_or(0),
+    )
 }

@@ -4,9 +4,11 @@ ghost use Rattle.std.specs.Prelude.{◌≤◌, length};
 mod sets;
 
 use crate::hex_text::in_hex;
+use crate::named::one_in_hex;
 use acpi::handler::MappedRegion;
 use acpi::spcr::Spcr;
-use acpi::{AcpiTable, PhysicalMapping, PhysicalRecord};
+use acpi::{AcpiResult, AcpiTable, PhysicalMapping, PhysicalRecord};
+use sets::{bits_in, names_in};
 use std::alloc::{AllocError, Global};
 
 /// What the table of a serial console answers.
@@ -15,16 +17,47 @@ pub(crate) fn answer(alloc: Global, bytes: &[u8], question: &str) -> Result<Stri
         return Ok(String::new(alloc));
     }
     let table = Spcr::read(bytes);
-    match question {
-        "valid" => in_hex(alloc, &table.validate(bytes)),
-        "interface" => in_hex(alloc, &table.interface_type()),
-        "base" => in_hex(alloc, &table.base_address()),
-        "interrupts" => in_hex(alloc, &(table.irq(), table.global_system_interrupt())),
-        "rates" => in_hex(alloc, &(table.baud_rate(), table.uart_clock_frequency())),
-        "pci" => in_hex(alloc, &pci_of(&table)),
-        "name" => shown_name(alloc, bytes),
-        _ => sets::answer(alloc, &table, question),
+    match question.split_once(" of ") {
+        Some((word, set)) => bits_in(alloc, word, set),
+        None if question == "name" => shown_name(alloc, bytes),
+        None => of_table(alloc, &table, table.validate(bytes), question),
     }
+}
+
+/// The names in a set of flags, or what else has a name.
+fn of_table(
+    alloc: Global,
+    table: &Spcr,
+    valid: AcpiResult<()>,
+    question: &str,
+) -> Result<String, AllocError> {
+    match question {
+        "interrupt type" => names_in(alloc, &table.interrupt_type()),
+        "terminal type" => names_in(alloc, &table.terminal_type()),
+        "flow control" => names_in(alloc, &table.flow_control()),
+        _ => one_value(alloc, table, valid, question),
+    }
+}
+
+/// What else has a name: a value that is worked out, or a field.
+fn one_value(
+    alloc: Global,
+    table: &Spcr,
+    valid: AcpiResult<()>,
+    name: &str,
+) -> Result<String, AllocError> {
+    let interrupts = (table.irq(), table.global_system_interrupt());
+    let rates = (table.baud_rate(), table.uart_clock_frequency());
+    let values = (
+        ("valid", valid),
+        ("interface", table.interface_type()),
+        ("base", table.base_address()),
+        ("interrupts", interrupts),
+        ("rates", rates),
+        ("pci", pci_of(table)),
+        table,
+    );
+    one_in_hex(alloc, &values, name)
 }
 
 /// The ids of the device and of its vendor, and its bus, device and function.

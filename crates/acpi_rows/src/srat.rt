@@ -7,6 +7,7 @@
 //! - `apic ID`, `processor UID`: the domain of a processor;
 //! - those of `ranges`.
 
+use crate::named::one_of;
 use crate::ranges;
 use acpi_numa::{Domains, MemoryAffinities, SratCalls, SratEntry, SratEntryIter};
 use acpi_testkit::rows::shown;
@@ -14,14 +15,20 @@ use std::alloc::{AllocError, Global};
 
 /// What a SRAT's bytes answer.
 pub(crate) fn answer(alloc: Global, table: &[u8], question: &str) -> Result<String, AllocError> {
-    let domains = Domains::over(table);
-    match asked(question) {
-        ("entries", _) => walked(alloc, domains.entries()),
-        ("apic", number) => shown(alloc, &domains.domain_of_apic(number)),
-        ("processor", number) => shown(alloc, &domains.domain_of_processor(number)),
-        ("entry" | "enabled" | "bits", _) => one_entry(alloc, domains.entries(), question),
-        _ => ranges::answer(alloc, MemoryAffinities::over(table, alloc), question),
+    if ranges::is_asked(question) {
+        return ranges::answer(alloc, MemoryAffinities::over(table, alloc), question);
     }
+    let domains = Domains::over(table);
+    let (word, number) = asked(question);
+    if is_of_entry(word) {
+        return one_entry(alloc, domains.entries(), word, number);
+    }
+    let values = (
+        ("entries", walked(domains.entries())),
+        ("apic", domains.domain_of_apic(number)),
+        ("processor", domains.domain_of_processor(number)),
+    );
+    one_of(alloc, &values, word)
 }
 
 /// What a mapping of a SRAT answers.
@@ -30,12 +37,16 @@ pub(crate) fn of_mapping<T: SratCalls>(
     srat: &T,
     question: &str,
 ) -> Result<String, AllocError> {
-    match asked(question) {
-        ("entries", _) => walked(alloc, srat.entries()),
-        ("apic", number) => shown(alloc, &srat.domain_of_apic(number)),
-        ("processor", number) => shown(alloc, &srat.domain_of_processor(number)),
-        _ => one_entry(alloc, srat.domains().entries(), question),
+    let (word, number) = asked(question);
+    if is_of_entry(word) {
+        return one_entry(alloc, srat.domains().entries(), word, number);
     }
+    let values = (
+        ("entries", walked(srat.entries())),
+        ("apic", srat.domain_of_apic(number)),
+        ("processor", srat.domain_of_processor(number)),
+    );
+    one_of(alloc, &values, word)
 }
 
 /// The word of a question, and the number after it.
@@ -45,27 +56,35 @@ fn asked(question: &str) -> (&str, u32) {
 }
 
 /// How many entries there are, and whether they have ended malformed before and after.
-fn walked(alloc: Global, mut entries: SratEntryIter<'_>) -> Result<String, AllocError> {
+fn walked(mut entries: SratEntryIter<'_>) -> (bool, u32, bool) {
     let before = entries.ended_malformed();
     let mut count = 0u32;
     for _ in entries.by_ref() {
         count = count.wrapping_add(1);
     }
-    shown(alloc, &(before, count, entries.ended_malformed()))
+    (before, count, entries.ended_malformed())
 }
 
-/// What is asked of one entry.
+/// Whether a question is about one entry.
+fn is_of_entry(word: &str) -> bool {
+    matches!(word, "entry" | "enabled" | "bits")
+}
+
+/// What is asked of the entry with so many before it.
 fn one_entry(
     alloc: Global,
     mut entries: SratEntryIter<'_>,
-    question: &str,
+    word: &str,
+    number: u32,
 ) -> Result<String, AllocError> {
-    let (word, number) = asked(question);
-    match (word, entries.nth(number as usize)) {
-        (_, None) => String::from_str(alloc, "none"),
-        ("entry", Some(entry)) => shown(alloc, &entry),
-        ("enabled", Some(entry)) => shown(alloc, &entry.is_enabled()),
-        (_, Some(entry)) => bits_of(alloc, &entry),
+    match entries.nth(number as usize) {
+        None => String::from_str(alloc, "none"),
+        Some(entry) if word == "bits" => bits_of(alloc, &entry),
+        Some(entry) => one_of(
+            alloc,
+            &(("entry", entry), ("enabled", entry.is_enabled())),
+            word,
+        ),
     }
 }
 

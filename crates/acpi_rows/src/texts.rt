@@ -19,25 +19,6 @@ where
     shown(alloc, &list)
 }
 
-/// What says its parts.
-pub(crate) trait Says {
-    /// Adds the parts.
-    fn add_to(&self, parts: &mut Parts);
-}
-
-/// What an answer says, or the refusal.
-pub(crate) fn said<T: Says + Drop, E: Debug + Drop>(
-    alloc: Global,
-    answer: Result<T, E>,
-) -> Result<String, AllocError> {
-    let mut parts = Parts::new(alloc);
-    match answer {
-        Ok(value) => value.add_to(&mut parts),
-        Err(refusal) => parts.add_text(shown(alloc, &refusal)),
-    }
-    parts.text()
-}
-
 /// Parts with their names, of which those that are empty are left out. If memory for one is refused,
 /// it is the text that is refused.
 #[derive(Drop)]

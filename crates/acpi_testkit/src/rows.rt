@@ -1,5 +1,5 @@
-//! Rows, each of them bytes and questions about these, read from lines of text. `ask_rows` asks the
-//! questions on standard input, and `ask_files` those in the files that a program's arguments name.
+//! Rows, each of them bytes and questions about these, read from lines of text. `ask_files` asks those in the
+//! files that a program's arguments name.
 //!
 //! A line is blank, or one of these. An address is `0x` and hexadecimal digits, and all other
 //! numbers are decimal.
@@ -23,7 +23,7 @@ mod regions;
 
 use crate::samples::placed::{Margins, add_record};
 use acpi_cli::parse_address;
-pub use asked::{Answers, ask_files, ask_rows, named, printed, shown};
+pub use asked::{Answers, ask_files, named, printed, shown};
 pub use regions::Region;
 use std::alloc::{AllocError, Global};
 use std::mem;

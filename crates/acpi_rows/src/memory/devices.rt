@@ -1,5 +1,6 @@
 //! Questions about timers, the configuration space of PCI functions and mailboxes.
 
+use crate::named::one_of;
 use crate::texts::listed;
 use acpi::mcfg::PciConfigRegions;
 use acpi::platform::{ScriptedMailbox, wakeup_aps};
@@ -7,82 +8,49 @@ use acpi::{AcpiHandler, AcpiResult, AcpiTables, HpetInfo};
 use acpi_testkit::rows::shown;
 use std::alloc::{AllocError, Allocator, Global};
 
-/// What the id of the block of timers says: the revision and the number of comparators, whether the
-/// counter has 64 bits and the block stands in for older timers' interrupts, and the vendor.
-pub(super) fn hpet_id<H: AcpiHandler>(
+/// `hpet`, the block of timers, and `hpet id`, what its id says: the revision and the number of comparators,
+/// whether the counter has 64 bits and the block stands in for older timers' interrupts, and the vendor.
+pub(super) fn timers<H: AcpiHandler>(
     alloc: Global,
     tables: &AcpiTables<'_, H>,
+    asked: &str,
 ) -> Result<String, AllocError> {
-    let parts = HpetInfo::new(tables).map(|info| {
+    let info = HpetInfo::new(tables);
+    let parts = info.map(|info| {
         let counts = (info.hardware_rev(), info.num_comparators());
         let flags = (info.main_counter_is_64bits(), info.legacy_irq_capable());
         (counts, flags, info.pci_vendor_id())
     });
-    shown(alloc, &parts)
+    one_of(alloc, &(("hpet", info), ("hpet id", parts)), asked)
 }
 
-/// The regions of configuration space.
-pub(super) fn regions<A: Allocator>(
+/// `regions`, those of configuration space, `ecam ranges`, where each lies by the base of bus 0, `function` and
+/// `ecam`, where that of a function lies: the latter if the base of its region is that of bus 0.
+pub(super) fn of_regions<A: Allocator>(
     alloc: Global,
     answer: AcpiResult<PciConfigRegions<A>>,
+    asked: &str,
 ) -> Result<String, AllocError> {
-    match answer {
-        Ok(regions) => listed(alloc, regions.iter()),
-        Err(refusal) => shown(alloc, &refusal),
-    }
-}
-
-/// Where the configuration space of each region lies by the base of bus 0.
-pub(super) fn ecam_ranges<A: Allocator>(
-    alloc: Global,
-    answer: AcpiResult<PciConfigRegions<A>>,
-) -> Result<String, AllocError> {
-    match answer {
-        Ok(regions) => listed(alloc, regions.ecam_ranges()),
-        Err(refusal) => shown(alloc, &refusal),
-    }
-}
-
-/// Where the configuration space of a function lies. Five bytes in hexadecimal digits name it: its
-/// segment group, its bus, its device and its own number.
-pub(super) fn function<A: Allocator>(
-    alloc: Global,
-    answer: AcpiResult<PciConfigRegions<A>>,
-    digits: &str,
-) -> Result<String, AllocError> {
-    match (answer, function_of(digits)) {
-        (Ok(regions), Some((segment, bus, device, number))) => {
-            place(
-                alloc,
-                regions.physical_address(segment, bus, device, number),
-            )
-        }
+    match (answer, asked) {
         (Err(refusal), _) => shown(alloc, &refusal),
-        (Ok(_), None) => Ok(String::new(alloc)),
+        (Ok(regions), "regions") => listed(alloc, regions.iter()),
+        (Ok(regions), "ecam ranges") => listed(alloc, regions.ecam_ranges()),
+        (Ok(regions), _) => place(alloc, address_in(&regions, asked)),
     }
 }
 
-/// The address of a function if a region's base is that of bus 0.
-pub(super) fn ecam_function<A: Allocator>(
-    alloc: Global,
-    answer: AcpiResult<PciConfigRegions<A>>,
-    digits: &str,
-) -> Result<String, AllocError> {
-    match (answer, function_of(digits)) {
-        (Ok(regions), Some((segment, bus, device, number))) => {
-            place(alloc, regions.ecam_address(segment, bus, device, number))
-        }
-        (Err(refusal), _) => shown(alloc, &refusal),
-        (Ok(_), None) => Ok(String::new(alloc)),
-    }
-}
-
-/// The segment group, the bus, the device and the number of a function.
-fn function_of(digits: &str) -> Option<(u16, u8, u8, u8)> {
+/// The address of a function. Five bytes in hexadecimal digits name it: its segment group, its bus, its
+/// device and its own number.
+fn address_in<A: Allocator>(regions: &PciConfigRegions<A>, asked: &str) -> Option<u64> {
+    let (word, digits) = asked.split_once(' ')?;
     let mut bytes = [0; 5];
     hex::decode_to_slice(digits, &mut bytes).ok()?;
     let [high, low, bus, device, number] = bytes;
-    Some((u16::from_be_bytes([high, low]), bus, device, number))
+    let segment = u16::from_be_bytes([high, low]);
+    match word {
+        "function" => regions.physical_address(segment, bus, device, number),
+        _ => regions.ecam_address(segment, bus, device, number),
+    }
 }
 
 /// An address, if there is one.

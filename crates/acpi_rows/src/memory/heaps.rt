@@ -6,11 +6,12 @@
 //! ask how many bytes of the heap are taken by what is answered, while it is there. The lists take
 //! whole blocks of 16 bytes.
 
-use super::devices::{function, regions};
-use crate::platforms::of_answer;
+use super::devices::of_regions;
+use crate::platforms::{let_go, of_answer, said_model, said_platform};
 use crate::ranges;
-use crate::texts::{Parts, said};
+use crate::texts::Parts;
 use acpi::madt::Madt;
+use acpi::platform::PlatformInfo;
 use acpi::{AcpiHandler, AcpiResult, AcpiTables, ManagedSlice, PciConfigRegions};
 use acpi_numa::MemoryAffinities;
 use acpi_testkit::rows::shown;
@@ -45,8 +46,11 @@ fn over_heap<H: AcpiHandler>(
     let _filled = ManagedSlice::new_in(taken, 0u8, &heap);
     let used = heap.used();
     let text = match asked {
-        "held by platform" => held(alloc, &heap, used, tables.platform_info_in(&heap)),
-        "held by regions" => held(alloc, &heap, used, PciConfigRegions::new_in(tables, &heap)),
+        "held by platform" => held_by_platform(alloc, &heap, used, tables.platform_info_in(&heap)),
+        "held by regions" => {
+            let _regions = PciConfigRegions::new_in(tables, &heap);
+            held(alloc, &heap, used)
+        }
         _ => answer_in(alloc, tables, &heap, asked),
     };
     if heap.used() == used {
@@ -56,14 +60,23 @@ fn over_heap<H: AcpiHandler>(
     }
 }
 
-/// How many more bytes of a heap are used than before, while an answer is there.
-fn held<T: Drop>(
+/// How many more bytes of a heap are used than before.
+fn held(alloc: Global, heap: &LocalHeap, used: usize) -> Result<String, AllocError> {
+    shown(alloc, &heap.used().wrapping_sub(used))
+}
+
+/// The same, while a platform is there.
+fn held_by_platform<A: Allocator>(
     alloc: Global,
     heap: &LocalHeap,
     used: usize,
-    _answer: AcpiResult<T>,
+    answer: AcpiResult<PlatformInfo<A>>,
 ) -> Result<String, AllocError> {
-    shown(alloc, &heap.used().wrapping_sub(used))
+    let text = held(alloc, heap, used);
+    if let Ok(platform) = answer {
+        let_go(platform);
+    }
+    text
 }
 
 /// The answer in memory of a heap. A clone says nothing if there is none for the platform itself.
@@ -73,17 +86,15 @@ fn answer_in<H: AcpiHandler>(
     heap: &LocalHeap,
     asked: &str,
 ) -> Result<String, AllocError> {
-    match asked {
-        "platform" => said(alloc, tables.platform_info_in(heap)),
+    let (word, _) = asked.split_once(' ').unwrap_or((asked, ""));
+    match word {
+        "platform" => said_platform(alloc, tables.platform_info_in(heap)),
         "model" => model(alloc, tables, heap),
-        "regions" => regions(alloc, PciConfigRegions::new_in(tables, heap)),
+        "regions" | "function" => of_regions(alloc, PciConfigRegions::new_in(tables, heap), asked),
         _ if ranges::is_asked(asked) => {
             ranges::answer(alloc, MemoryAffinities::new_in(tables, heap), asked)
         }
-        _ => match asked.strip_prefix("function ") {
-            Some(digits) => function(alloc, PciConfigRegions::new_in(tables, heap), digits),
-            None => of_answer(alloc, tables.platform_info_in(heap), asked),
-        },
+        _ => of_answer(alloc, tables.platform_info_in(heap), asked),
     }
 }
 
@@ -94,7 +105,7 @@ pub(super) fn model<H: AcpiHandler, A: Allocator + Clone>(
     allocator: A,
 ) -> Result<String, AllocError> {
     match tables.find_table::<Madt>() {
-        Ok(madt) => said(alloc, madt.parse_interrupt_model_in(allocator)),
+        Ok(madt) => said_model(alloc, madt.parse_interrupt_model_in(allocator)),
         Err(refusal) => shown(alloc, &refusal),
     }
 }

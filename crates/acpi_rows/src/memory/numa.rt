@@ -2,7 +2,7 @@
 //! `from APIC to ADDRESS`.
 
 use crate::{slit, srat};
-use acpi::{AcpiHandler, AcpiTables};
+use acpi::{AcpiHandler, AcpiResult, AcpiTables};
 use acpi_cli::parse_address;
 use acpi_numa::{MemoryAffinities, NumaResult, Slit, SlitCalls, Srat, SratCalls};
 use acpi_testkit::rows::shown;
@@ -49,11 +49,27 @@ fn distance_to<H: AcpiHandler>(
     apic_id: u32,
     address: u64,
 ) -> NumaResult<Option<u8>> {
-    let memory = MemoryAffinities::new(alloc, tables)?;
-    let srat = tables.find_table::<Srat>()?;
+    let to = domain_at(alloc, tables, address)?;
+    let from = domain_of(tables, apic_id)?;
     let slit = tables.find_table::<Slit>()?;
-    match (srat.domain_of_apic(apic_id), memory.domain_of(address)) {
+    match (from, to) {
         (Some(from), Some(to)) => Ok(slit.distance(u64::from(from), u64::from(to))),
         _ => Ok(None),
     }
+}
+
+/// The domain of the memory at an address.
+fn domain_at<H: AcpiHandler>(
+    alloc: Global,
+    tables: &AcpiTables<'_, H>,
+    address: u64,
+) -> NumaResult<Option<u32>> {
+    let memory = MemoryAffinities::new(alloc, tables)?;
+    Ok(memory.domain_of(address))
+}
+
+/// The domain of the processor of a local APIC.
+fn domain_of<H: AcpiHandler>(tables: &AcpiTables<'_, H>, apic_id: u32) -> AcpiResult<Option<u32>> {
+    let srat = tables.find_table::<Srat>()?;
+    Ok(srat.domain_of_apic(apic_id))
 }

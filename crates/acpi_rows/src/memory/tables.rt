@@ -16,7 +16,7 @@ use acpi::madt::Madt;
 use acpi::mcfg::Mcfg;
 use acpi::sdt::{SdtHeader, Signature};
 use acpi::spcr::Spcr;
-use acpi::{AcpiHandler, AcpiResult, AcpiTables, HpetInfo, PciConfigRegions};
+use acpi::{AcpiHandler, AcpiResult, AcpiTables, PciConfigRegions};
 use acpi_arm::gic::GicModel;
 use acpi_numa::MemoryAffinities;
 use acpi_testkit::answers::place_of;
@@ -54,97 +54,115 @@ fn answers_of<H: AcpiHandler>(
     parts.text()
 }
 
-/// A question that names no table, function or processor.
+/// What a question is about.
 #[derive(Clone, Copy)]
-enum Question {
-    Revision,
+enum Subject {
     Headers,
-    WholeHeaders,
-    Dsdt,
-    Ssdts,
-    Hpet,
-    HpetId,
-    Mailbox,
+    Places,
+    Timers,
     Regions,
-    EcamRanges,
     Platform,
+    Processor,
     Model,
-    Ends,
-    AfterTheLast,
-    Graphic,
-    Entries,
-    Console,
+    Nodes,
+    Mapped,
+    Alone,
 }
 
-const QUESTIONS: [(&str, Question); 17] = [
-    ("revision", Question::Revision),
-    ("headers", Question::Headers),
-    ("whole headers", Question::WholeHeaders),
-    ("dsdt", Question::Dsdt),
-    ("ssdts", Question::Ssdts),
-    ("hpet", Question::Hpet),
-    ("hpet id", Question::HpetId),
-    ("mailbox", Question::Mailbox),
-    ("regions", Question::Regions),
-    ("ecam ranges", Question::EcamRanges),
-    ("platform", Question::Platform),
-    ("model", Question::Model),
-    ("ends", Question::Ends),
-    ("after the last", Question::AfterTheLast),
-    ("graphic", Question::Graphic),
-    ("entries", Question::Entries),
-    ("console", Question::Console),
+/// What a question is about, by its first word.
+const SUBJECTS: [(&str, Subject); 23] = [
+    ("headers", Subject::Headers),
+    ("whole", Subject::Headers),
+    ("ssdts", Subject::Headers),
+    ("after", Subject::Headers),
+    ("places", Subject::Places),
+    ("hpet", Subject::Timers),
+    ("regions", Subject::Regions),
+    ("ecam", Subject::Regions),
+    ("function", Subject::Regions),
+    ("platform", Subject::Platform),
+    ("processor", Subject::Processor),
+    ("model", Subject::Model),
+    ("from", Subject::Nodes),
+    ("slit", Subject::Nodes),
+    ("srat", Subject::Nodes),
+    ("mapped", Subject::Mapped),
+    ("revision", Subject::Alone),
+    ("dsdt", Subject::Alone),
+    ("mailbox", Subject::Alone),
+    ("ends", Subject::Alone),
+    ("graphic", Subject::Alone),
+    ("entries", Subject::Alone),
+    ("console", Subject::Alone),
 ];
 
-/// The answer of the tables below a root.
+/// The answer of the tables below a root: about what the first word names, the GIC (`gic`), domains of memory
+/// (`ranges`), or a type of table (`types`).
 fn answer_of<H: AcpiHandler>(
     alloc: Global,
     tables: &AcpiTables<'_, H>,
     asked: &str,
 ) -> Result<String, AllocError> {
-    let Some(question) = named(&QUESTIONS, asked) else {
-        return about(alloc, tables, asked);
-    };
-    match question {
-        Question::Revision => shown(alloc, &tables.revision()),
-        Question::Headers => listed(alloc, tables.headers().map(front_of)),
-        Question::WholeHeaders => listed(alloc, tables.headers()),
-        Question::Dsdt => shown(alloc, &tables.dsdt()),
-        Question::Ssdts => listed(alloc, tables.ssdts()),
-        Question::Hpet => shown(alloc, &HpetInfo::new(tables)),
-        Question::HpetId => devices::hpet_id(alloc, tables),
-        Question::Mailbox => devices::mailbox(alloc, tables),
-        Question::Regions => devices::regions(alloc, PciConfigRegions::new(alloc, tables)),
-        Question::EcamRanges => devices::ecam_ranges(alloc, PciConfigRegions::new(alloc, tables)),
-        Question::Platform => platform(alloc, tables),
-        Question::Model => heaps::model(alloc, tables, alloc),
-        Question::Ends => ends(alloc, tables),
-        Question::AfterTheLast => after_the_last(alloc, tables),
-        Question::Graphic => in_hex(alloc, &(tables.revision(), place_of::<Bgrt, H>(tables))),
-        Question::Entries => in_hex(alloc, &entries_of(tables)),
-        Question::Console => console(alloc, tables),
+    let (word, name) = asked.split_once(' ').unwrap_or((asked, ""));
+    match named(&SUBJECTS, word) {
+        Some(subject) => about(alloc, tables, subject, asked),
+        None if gic::is_asked(asked) => gic::said(alloc, GicModel::new(alloc, tables), asked),
+        None if ranges::is_asked(asked) => {
+            ranges::answer(alloc, MemoryAffinities::new(alloc, tables), asked)
+        }
+        None => types::answer(alloc, tables, word, name),
     }
 }
 
-/// What is asked about something with a name, about a GIC (`gic`), or about domains of memory (`ranges`).
 fn about<H: AcpiHandler>(
+    alloc: Global,
+    tables: &AcpiTables<'_, H>,
+    subject: Subject,
+    asked: &str,
+) -> Result<String, AllocError> {
+    let (word, name) = asked.split_once(' ').unwrap_or((asked, ""));
+    match subject {
+        Subject::Headers => headers(alloc, tables, asked),
+        Subject::Places => places::answer(alloc, tables, name),
+        Subject::Timers => devices::timers(alloc, tables, asked),
+        Subject::Regions => devices::of_regions(alloc, PciConfigRegions::new(alloc, tables), asked),
+        Subject::Platform => platform(alloc, tables),
+        Subject::Processor => of_answer(alloc, tables.platform_info(alloc), asked),
+        Subject::Model => heaps::model(alloc, tables, alloc),
+        Subject::Nodes => numa::answer(alloc, tables, word, name),
+        Subject::Mapped => arm::mapped(alloc, tables, name),
+        Subject::Alone => alone(alloc, tables, asked),
+    }
+}
+
+/// A question that names nothing else.
+fn alone<H: AcpiHandler>(
     alloc: Global,
     tables: &AcpiTables<'_, H>,
     asked: &str,
 ) -> Result<String, AllocError> {
-    let (word, name) = asked.split_once(' ').unwrap_or((asked, ""));
-    match word {
-        "function" => devices::function(alloc, PciConfigRegions::new(alloc, tables), name),
-        "ecam" => devices::ecam_function(alloc, PciConfigRegions::new(alloc, tables), name),
-        "processor" => of_answer(alloc, tables.platform_info(alloc), asked),
-        "places" => places::answer(alloc, tables, name),
-        "mapped" => arm::mapped(alloc, tables, name),
-        "from" | "slit" | "srat" => numa::answer(alloc, tables, word, name),
-        _ if gic::is_asked(asked) => gic::said(alloc, GicModel::new(alloc, tables), asked),
-        _ if ranges::is_asked(asked) => {
-            ranges::answer(alloc, MemoryAffinities::new(alloc, tables), asked)
-        }
-        _ => types::answer(alloc, tables, word, name),
+    match asked {
+        "revision" => shown(alloc, &tables.revision()),
+        "dsdt" => shown(alloc, &tables.dsdt()),
+        "mailbox" => devices::mailbox(alloc, tables),
+        "ends" => ends(alloc, tables),
+        "graphic" => in_hex(alloc, &(tables.revision(), place_of::<Bgrt, H>(tables))),
+        "entries" => in_hex(alloc, &entries_of(tables)),
+        _ => console(alloc, tables),
+    }
+}
+
+/// The headers of the tables or the SSDTs, all or what comes after the last of them.
+fn headers<H: AcpiHandler>(
+    alloc: Global,
+    tables: &AcpiTables<'_, H>,
+    asked: &str,
+) -> Result<String, AllocError> {
+    match asked {
+        "headers" => listed(alloc, tables.headers().map(front_of)),
+        "whole headers" => listed(alloc, tables.headers()),
+        "ssdts" => listed(alloc, tables.ssdts()),
+        _ => after_the_last(alloc, tables),
     }
 }
 
@@ -161,25 +179,33 @@ fn front_of(header: SdtHeader) -> (Signature, u32, u8, u8) {
 /// How many entries the MADT has and how many the MCFG, the addresses of the DSDT and the FACS, and
 /// the name of the console: what stands last in its table.
 fn ends<H: AcpiHandler>(alloc: Global, tables: &AcpiTables<'_, H>) -> Result<String, AllocError> {
-    let entries = match tables.find_table::<Madt>() {
-        Ok(madt) => madt.entries().count(),
-        Err(refusal) => return shown(alloc, &refusal),
-    };
-    let regions = match tables.find_table::<Mcfg>() {
-        Ok(mcfg) => mcfg.entries().count(),
-        Err(refusal) => return shown(alloc, &refusal),
-    };
-    let addresses = match tables.find_table::<Fadt>() {
-        Ok(fadt) => (fadt.dsdt_address(), fadt.facs_address()),
-        Err(refusal) => return shown(alloc, &refusal),
-    };
-    match tables.find_table::<Spcr>() {
-        Ok(spcr) => shown(
-            alloc,
-            &((entries, regions), addresses, spcr.namespace_string()),
-        ),
-        Err(refusal) => shown(alloc, &refusal),
+    match (counts_and_addresses(tables), tables.find_table::<Spcr>()) {
+        (Ok((counts, addresses)), Ok(spcr)) => {
+            shown(alloc, &(counts, addresses, spcr.namespace_string()))
+        }
+        (Err(refusal), _) | (_, Err(refusal)) => shown(alloc, &refusal),
     }
+}
+
+/// The counts and the addresses of `ends`.
+fn counts_and_addresses<H: AcpiHandler>(
+    tables: &AcpiTables<'_, H>,
+) -> AcpiResult<((usize, usize), (AcpiResult<u64>, AcpiResult<u64>))> {
+    let (_, (entries, _)) = entries_of(tables)?;
+    let regions = region_count(tables)?;
+    Ok(((entries, regions), addresses_of(tables)?))
+}
+
+fn region_count<H: AcpiHandler>(tables: &AcpiTables<'_, H>) -> AcpiResult<usize> {
+    let mcfg = tables.find_table::<Mcfg>()?;
+    Ok(mcfg.entries().count())
+}
+
+fn addresses_of<H: AcpiHandler>(
+    tables: &AcpiTables<'_, H>,
+) -> AcpiResult<(AcpiResult<u64>, AcpiResult<u64>)> {
+    let fadt = tables.find_table::<Fadt>()?;
+    Ok((fadt.dsdt_address(), fadt.facs_address()))
 }
 
 /// How many headers there are and how many SSDTs, and what comes if one more of each is asked for.

@@ -7,7 +7,7 @@ use acpi::hpet::HpetTable;
 use acpi::madt::Madt;
 use acpi::mcfg::Mcfg;
 use acpi::spcr::Spcr;
-use acpi::{AcpiHandler, AcpiTable, AcpiTables};
+use acpi::{AcpiHandler, AcpiTable, AcpiTables, PhysicalMapping};
 use acpi_testkit::answers::place_of;
 use acpi_testkit::rows::{named, shown};
 use std::alloc::{AllocError, Global};
@@ -39,13 +39,15 @@ enum Fact {
     Faults,
     Bytes,
     Lent,
+    Found,
 }
 
-const FACTS: [(&str, Fact); 4] = [
+const FACTS: [(&str, Fact); 5] = [
     ("place", Fact::Place),
     ("faults", Fact::Faults),
     ("bytes", Fact::Bytes),
     ("lent", Fact::Lent),
+    ("found", Fact::Found),
 ];
 
 /// What is asked of the type of table that has a signature, or of `each` of the six.
@@ -101,5 +103,11 @@ fn of_type<T: AcpiTable, H: AcpiHandler>(
             alloc,
             &tables.find_table::<T>().map(|it| it.mapped_length()),
         ),
+        Fact::Found => listed(alloc, tables.find_tables::<T>().map(ends_of)),
     }
+}
+
+/// Where a table lies, and how long it is.
+fn ends_of<H: AcpiHandler, T: AcpiTable>(table: PhysicalMapping<'_, H, T>) -> (u64, usize) {
+    (table.physical_start(), table.region_length())
 }

@@ -2,27 +2,35 @@
 
 use super::areas::areas_of;
 use acpi::rsdp::Rsdp;
-use acpi::{AcpiHandler, AcpiResult, AcpiTables, AddressRange};
+use acpi::{AcpiHandler, AcpiResult, AcpiTables, AddressRange, PhysicalMapping};
 use acpi_cli::{parse_address, parse_revision};
 use std::alloc::Global;
 
-/// Where a search finds an RSDP, and how many bytes it has: in these areas, or else in those of a BIOS.
+/// The RSDP that a search finds in these areas, or else in those of a BIOS.
+pub(crate) fn candidate<'h, H: AcpiHandler>(
+    alloc: Global,
+    handler: &'h H,
+    areas: Option<&str>,
+) -> AcpiResult<PhysicalMapping<'h, H, Rsdp>> {
+    match areas {
+        Some(areas) => Rsdp::search_in(handler, &areas_of(alloc, areas)?),
+        None => Rsdp::search_for_on_bios(handler),
+    }
+}
+
+/// Where that RSDP lies, and how many bytes it has.
 pub(super) fn searched<H: AcpiHandler>(
     alloc: Global,
     handler: &H,
-    word: &str,
-    areas: &str,
+    areas: Option<&str>,
 ) -> AcpiResult<(u64, usize)> {
-    let found = match word {
-        "areas" => Rsdp::search_in(handler, &areas_of(alloc, areas)?)?,
-        _ => Rsdp::search_for_on_bios(handler)?,
-    };
+    let found = candidate(alloc, handler, areas)?;
     Ok((found.physical_start(), found.region_length()))
 }
 
-/// The tables that a way leads to: `bios`, `candidate`, the areas after `areas`, `area LENGTH ADDRESS`, `rsdp
-/// ADDRESS`, or `rsdt REVISION ADDRESS` for a root table.
-pub(super) fn open<'h, H: AcpiHandler>(
+/// The tables that a way leads to: `bios`, `candidate` or `validated`, the areas after `areas` or `within`, `area LENGTH
+/// ADDRESS`, `rsdp ADDRESS`, or `rsdt REVISION ADDRESS` for a root table.
+pub(crate) fn open<'h, H: AcpiHandler>(
     alloc: Global,
     handler: &'h H,
     way: &str,
@@ -35,15 +43,12 @@ pub(super) fn open<'h, H: AcpiHandler>(
             let length = number.parse::<u64>().unwrap_or(0);
             AcpiTables::search_in(handler, &[AddressRange { address, length }])
         }
-        "areas" => AcpiTables::search_in(handler, &areas_of(alloc, place)?),
+        "areas" | "within" => AcpiTables::search_in(handler, &areas_of(alloc, place)?),
         "bios" => AcpiTables::search_for_rsdp_bios(handler),
-        "candidate" => by_candidate(handler),
+        "candidate" | "validated" => {
+            AcpiTables::from_validated_rsdp(handler, Rsdp::search_for_on_bios(handler)?)
+        }
         "rsdp" => AcpiTables::from_rsdp(handler, address),
         _ => AcpiTables::from_rsdt(handler, parse_revision(number).unwrap_or(0), address),
     }
-}
-
-/// The tables that the RSDP leads to which a search found.
-fn by_candidate<H: AcpiHandler>(handler: &H) -> AcpiResult<AcpiTables<'_, H>> {
-    AcpiTables::from_validated_rsdp(handler, Rsdp::search_for_on_bios(handler)?)
 }

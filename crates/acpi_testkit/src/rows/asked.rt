@@ -38,42 +38,59 @@ pub fn named<T: Copy>(values: &[(&str, T)], name: &str) -> Option<T> {
     None
 }
 
-/// Asks the questions of the rows on standard input.
-///
-/// Prints each question with another answer than the row has, each line that is not understood,
-/// and at last how many questions there were.
-///
-/// Refuses if reading or a write is refused, or memory runs out.
-pub fn ask_rows<A: Answers>(rt: &HostRuntime, answers: &A) -> io::Result<()> {
-    let text = io::read_to_string(rt.alloc(), rt.reader())?;
-    let count = ask_text(rt, answers, text.as_str())?;
-    println!(rt; "{count} questions")
+/// How many questions were asked, and what was refused last: a file, a write or memory.
+#[derive(Drop)]
+struct Asked {
+    count: u64,
+    refused: Option<io::Error>,
+}
+
+impl Asked {
+    /// Keeps a refusal for `ask_files`, so that no question has to give up for it.
+    fn keep(&mut self, outcome: io::Result<()>) {
+        if let Err(refusal) = outcome {
+            self.refused = Some(refusal);
+        }
+    }
 }
 
 /// Asks the questions of the rows in the files that the program's arguments name. The rows of a file
 /// are only like those of the same file.
 ///
-/// Prints and refuses as `ask_rows` does.
+/// Prints each question with another answer than the row has, each line that is not understood,
+/// and at last how many questions there were.
+///
+/// Refuses if reading or a write is refused, or memory runs out.
 pub fn ask_files<A: Answers>(rt: &HostRuntime, answers: &A) -> io::Result<()> {
-    let mut count = 0u64;
+    let mut asked = Asked {
+        count: 0,
+        refused: None,
+    };
     for file in &args(rt)? {
-        let text = fs::read_to_string(rt, file.as_str())?;
-        count = count.wrapping_add(ask_text(rt, answers, text.as_str())?);
-    }
-    println!(rt; "{count} questions")
-}
-
-/// Takes each line, and counts those that ask.
-fn ask_text<A: Answers>(rt: &HostRuntime, answers: &A, text: &str) -> io::Result<u64> {
-    let mut rows = Rows::new(rt.alloc());
-    let mut count = 0u64;
-    for line in text.lines() {
-        if !rows.take(line)? {
-            ask(rt, answers, &rows.row, line)?;
-            count = count.wrapping_add(1);
+        match fs::read_to_string(rt, file.as_str()) {
+            Ok(text) => ask_text(rt, answers, &mut asked, text.as_str()),
+            Err(refusal) => asked.keep(Err(refusal)),
         }
     }
-    Ok(count)
+    match asked.refused {
+        Some(refusal) => Err(refusal),
+        None => println!(rt; "{} questions", asked.count),
+    }
+}
+
+/// Takes each line, and asks those that ask.
+fn ask_text<A: Answers>(rt: &HostRuntime, answers: &A, asked: &mut Asked, text: &str) {
+    let mut rows = Rows::new(rt.alloc());
+    for line in text.lines() {
+        match rows.take(line) {
+            Ok(true) => {}
+            Ok(false) => {
+                asked.count = asked.count.wrapping_add(1);
+                asked.keep(ask(rt, answers, &rows.row, line));
+            }
+            Err(refusal) => asked.keep(Err(io::Error::from(refusal))),
+        }
+    }
 }
 
 /// Asks the question of a line about a row, and prints the line if it is not understood, or the answer is

@@ -1,8 +1,9 @@
 //! Mappings that a scene keeps.
 
-use crate::said::{Pair, Place};
-use crate::step::{Step, signature_of};
-use crate::verb::Verb;
+use super::said::{Pair, Place};
+use super::step::Step;
+use super::verb::Verb;
+use crate::names::signature_of;
 use acpi::bgrt::Bgrt;
 use acpi::sdt::{SdtHeader, map_own_sdt, map_sdt, map_table};
 use acpi::{AcpiHandler, AcpiResult, Lender, PhysicalMapping};

@@ -1,12 +1,12 @@
 //! Steps that ask something of the tables.
 
-use crate::gathered::{say_gic, say_memory};
-use crate::lists::{list_headers, list_members, list_ranges, list_streams};
-use crate::said::{Hex, Pair, Place};
-use crate::step::{Step, signature_of};
-use crate::summaries::summary;
-use crate::transcript::Transcript;
-use crate::verb::{Kind, Verb};
+use super::gathered::sum_up;
+use super::lists::{list_headers, list_members, list_ranges, list_streams};
+use super::said::{Hex, Pair, Place};
+use super::step::Step;
+use super::transcript::Transcript;
+use super::verb::{Kind, Verb};
+use crate::names::signature_of;
 use acpi::bgrt::Bgrt;
 use acpi::fadt::Fadt;
 use acpi::hpet::HpetTable;
@@ -34,12 +34,9 @@ pub(crate) fn ask<H: AcpiHandler>(
         Verb::Ranges => list_ranges(transcript, tables, step.most()),
         Verb::Checks => count_checks(transcript, tables),
         Verb::Dsdt => say_dsdt(transcript, tables),
-        Verb::Platform | Verb::Hpet | Verb::Pci | Verb::Wake => {
-            sum_up(alloc, transcript, tables, step);
-        }
-        Verb::Gic => say_gic(alloc, transcript, tables, step),
-        Verb::Memory => say_memory(alloc, transcript, tables, step),
-        _ => transcript.say(&"no such question"),
+        Verb::Fadt => say_fadt(transcript, tables),
+        Verb::Unknown => transcript.say(&"no such question"),
+        _ => sum_up(alloc, transcript, tables, step),
     }
 }
 
@@ -51,15 +48,16 @@ fn say_dsdt<H: AcpiHandler>(transcript: &mut Transcript<'_>, tables: &AcpiTables
     }
 }
 
-/// Says a summary.
-fn sum_up<H: AcpiHandler>(
-    alloc: Global,
-    transcript: &mut Transcript<'_>,
-    tables: &AcpiTables<'_, H>,
-    step: Step<'_>,
-) {
-    match summary(alloc, tables, step) {
-        Ok(number) => transcript.say(&Hex(number)),
+/// Says where the FADT lies, and then, while its bytes are lent, where it places the DSDT.
+fn say_fadt<H: AcpiHandler>(transcript: &mut Transcript<'_>, tables: &AcpiTables<'_, H>) {
+    match tables.find_fadt() {
+        Ok(fadt) => {
+            transcript.say(&Hex(fadt.physical_start()));
+            match fadt.dsdt_address() {
+                Ok(address) => transcript.say(&Hex(address)),
+                Err(error) => transcript.say(&error),
+            }
+        }
         Err(error) => transcript.say(&error),
     }
 }

@@ -1,7 +1,7 @@
 //! Steps that list what the tables are.
 
-use crate::said::{Hex, Pair};
-use crate::transcript::Transcript;
+use super::said::{Hex, Pair};
+use super::transcript::Transcript;
 use acpi::{AcpiHandler, AcpiTables};
 
 /// Lists the members: the address that the root table has, and the header there or why it is refused.

@@ -1,6 +1,6 @@
 //! What happened at a handler, as text.
 
-use crate::said::Place;
+use super::said::Place;
 use acpi::{AcpiHandler, AcpiResult, PhysicalMapping, PhysicalRecord};
 use acpi_testkit::history::{Event, History};
 use std::alloc::{AllocError, Global};

@@ -1,13 +1,13 @@
 //! What a step says.
 
-use crate::verb::Verb;
-use acpi::sdt::Signature;
+use super::verb::Verb;
 use acpi_cli::parse_address;
 
 /// What a step is made of: a verb, and a name, a number and an address if it has them, in any
 /// order.
 #[derive(Clone, Copy)]
 pub(crate) struct Step<'s> {
+    pub(crate) text: &'s str,
     pub(crate) verb: Verb,
     pub(crate) name: &'s str,
     pub(crate) number: Option<u16>,
@@ -18,6 +18,7 @@ impl<'s> Step<'s> {
     pub(crate) fn of(text: &'s str) -> Step<'s> {
         let (verb, rest) = text.split_once(' ').unwrap_or((text, ""));
         let mut step = Step {
+            text,
             verb: Verb::of(verb),
             name: "",
             number: None,
@@ -40,21 +41,16 @@ impl<'s> Step<'s> {
         self.number.unwrap_or(0)
     }
 
-    /// The number as a revision, 255 at most.
-    pub(crate) fn revision(&self) -> u8 {
-        u8::try_from(self.count()).unwrap_or(u8::MAX)
+    /// The areas that a search is to go through, if the step names one.
+    pub(crate) fn areas(&self) -> Option<&'s str> {
+        match self.text.split_once(' ') {
+            Some((_, areas)) => Some(areas),
+            None => None,
+        }
     }
 
     /// How many items are listed at most.
     pub(crate) fn most(&self) -> usize {
         self.number.unwrap_or(u16::MAX) as usize
-    }
-}
-
-/// The signature of a name of four letters; that of a boot graphic for any other.
-pub(crate) fn signature_of(name: &str) -> Signature {
-    match name.as_bytes() {
-        [a, b, c, d] => Signature::from_bytes([*a, *b, *c, *d]),
-        _ => Signature::BGRT,
     }
 }

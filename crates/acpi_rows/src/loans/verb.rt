@@ -1,14 +1,12 @@
 //! What steps do, and the tables that they name.
 
-/// What a step does, as `main` says.
+use acpi_testkit::rows::named;
+
+/// What a step does, as `loans` says.
 #[derive(Clone, Copy)]
 pub(crate) enum Verb {
-    Rsdt,
-    Rsdp,
-    Bios,
-    Validated,
+    Open,
     Search,
-    Within,
     Close,
     Release,
     Show,
@@ -28,6 +26,7 @@ pub(crate) enum Verb {
     Ranges,
     Checks,
     Dsdt,
+    Fadt,
     Platform,
     Hpet,
     Pci,
@@ -38,13 +37,13 @@ pub(crate) enum Verb {
     Unknown,
 }
 
-const VERBS: [(&str, Verb); 31] = [
-    ("rsdt", Verb::Rsdt),
-    ("rsdp", Verb::Rsdp),
-    ("bios", Verb::Bios),
-    ("validated", Verb::Validated),
+const VERBS: [(&str, Verb); 32] = [
+    ("rsdt", Verb::Open),
+    ("rsdp", Verb::Open),
+    ("bios", Verb::Open),
+    ("validated", Verb::Open),
     ("search", Verb::Search),
-    ("within", Verb::Within),
+    ("within", Verb::Open),
     ("close", Verb::Close),
     ("release", Verb::Release),
     ("show", Verb::Show),
@@ -64,6 +63,7 @@ const VERBS: [(&str, Verb); 31] = [
     ("ranges", Verb::Ranges),
     ("checks", Verb::Checks),
     ("dsdt", Verb::Dsdt),
+    ("fadt", Verb::Fadt),
     ("platform", Verb::Platform),
     ("hpet", Verb::Hpet),
     ("pci", Verb::Pci),
@@ -104,14 +104,4 @@ impl Kind {
     pub(crate) fn of(name: &str) -> Option<Kind> {
         named(&KINDS, name)
     }
-}
-
-/// The value of a name.
-fn named<T: Copy>(values: &[(&str, T)], name: &str) -> Option<T> {
-    for (other, value) in values {
-        if *other == name {
-            return Some(*value);
-        }
-    }
-    None
 }

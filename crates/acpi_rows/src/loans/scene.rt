@@ -1,13 +1,13 @@
 //! A scene: what its steps open and keep.
 
-use crate::kept::{Kept, mapped};
-use crate::lookups::ask;
-use crate::said::Pair;
-use crate::step::Step;
-use crate::transcript::Transcript;
-use crate::verb::Verb;
-use acpi::rsdp::Rsdp;
-use acpi::{AcpiHandler, AcpiResult, AcpiTables, AddressRange, Lender, PhysicalMapping};
+use super::kept::{Kept, mapped};
+use super::lookups::ask;
+use super::said::Pair;
+use super::step::Step;
+use super::transcript::Transcript;
+use super::verb::Verb;
+use crate::memory::ways::{candidate, open};
+use acpi::{AcpiHandler, AcpiResult, AcpiTables, Lender};
 use acpi_testkit::history::History;
 use std::alloc::{AllocError, Global};
 use std::cell::Cell;
@@ -45,10 +45,11 @@ impl<'r, H: AcpiHandler> Scene<'r, H> {
     /// Does a step.
     fn perform(&mut self, alloc: Global, step: Step<'_>) {
         match step.verb {
-            Verb::Rsdt | Verb::Rsdp | Verb::Bios | Verb::Validated | Verb::Within => {
-                self.open(step);
+            Verb::Open => self.open(alloc, step.text),
+            Verb::Search => {
+                self.transcript
+                    .find(candidate(alloc, self.handler, step.areas()));
             }
-            Verb::Search => self.transcript.find(searched(self.handler, step)),
             Verb::Close => self.tables = None,
             Verb::Release => self.release(step.count() as usize),
             Verb::Show => self.show(alloc),
@@ -61,8 +62,8 @@ impl<'r, H: AcpiHandler> Scene<'r, H> {
     }
 
     /// Opens tables, and keeps them if there are any.
-    fn open(&mut self, step: Step<'_>) {
-        match opened(self.handler, step) {
+    fn open(&mut self, alloc: Global, way: &str) {
+        match open(alloc, self.handler, way) {
             Err(error) => self.transcript.say(&error),
             Ok(tables) => {
                 let revision = tables.revision();
@@ -116,37 +117,6 @@ impl<'r, H: AcpiHandler> Scene<'r, H> {
                 Err(_) => self.transcript.require(false),
             }
         }
-    }
-}
-
-/// The RSDP that a search finds: in so many bytes from an address on if the step gives a number, or
-/// else in the areas of a BIOS.
-fn searched<'h, H: AcpiHandler>(
-    handler: &'h H,
-    step: Step<'_>,
-) -> AcpiResult<PhysicalMapping<'h, H, Rsdp>> {
-    match step.number {
-        None => Rsdp::search_for_on_bios(handler),
-        Some(_) => Rsdp::search_in(handler, &[area_of(step)]),
-    }
-}
-
-/// The area that a step says: so many bytes from its address on.
-fn area_of(step: Step<'_>) -> AddressRange {
-    AddressRange {
-        address: step.address,
-        length: step.count() as u64,
-    }
-}
-
-/// The tables that a step opens.
-fn opened<'h, H: AcpiHandler>(handler: &'h H, step: Step<'_>) -> AcpiResult<AcpiTables<'h, H>> {
-    match step.verb {
-        Verb::Rsdt => AcpiTables::from_rsdt(handler, step.revision(), step.address),
-        Verb::Rsdp => AcpiTables::from_rsdp(handler, step.address),
-        Verb::Bios => AcpiTables::search_for_rsdp_bios(handler),
-        Verb::Within => AcpiTables::search_in(handler, &[area_of(step)]),
-        _ => AcpiTables::from_validated_rsdp(handler, Rsdp::search_for_on_bios(handler)?),
     }
 }
 
