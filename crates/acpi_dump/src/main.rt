@@ -4,7 +4,7 @@
 
 use acpi_cli::files::HostFiles;
 use acpi_cli::{args, borrowed};
-use acpi_dumping::run::dump;
+use acpi_dump_lib::run::dump;
 use std::io;
 use std::process::ExitCode;
 

@@ -7,8 +7,8 @@
 
 use acpi_cli::files::HostFiles;
 use acpi_cli::{args, borrowed};
-use acpi_packing::program::pack;
-use acpi_packing::storage::HostStorage;
+use acpi_pack_lib::program::pack;
+use acpi_pack_lib::storage::HostStorage;
 use std::io;
 use std::process::ExitCode;
 

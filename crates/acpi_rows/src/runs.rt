@@ -10,9 +10,9 @@ mod writes;
 
 use acpi_cli::root::Root;
 use acpi_image::{PlacedTable, write_image};
-use acpi_report::arguments::{files_named, parse_command};
-use acpi_report::run::run;
 use acpi_testkit::rows::shown;
+use acpi_view_lib::arguments::{files_named, parse_command};
+use acpi_view_lib::run::run;
 use heaps::{over_heaps, without_memory};
 use std::alloc::{AllocError, Global};
 use std::io::Write;

@@ -1,7 +1,7 @@
 //! Files that are not saved, for what no program can be given. `crates/acpi_pack/runs` has all else that comes of saving.
 
 use crate::checks::check;
-use acpi_packing::save::{SaveError, save};
+use acpi_pack_lib::save::{SaveError, save};
 use std::fs;
 
 /// Why a file is not saved, and whether nothing has its name then.

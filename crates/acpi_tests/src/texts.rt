@@ -2,7 +2,7 @@
 
 use crate::checks::check;
 use acpi_image::{ImageError, WriteError};
-use acpi_packing::{FileError, Refusal};
+use acpi_pack_lib::{FileError, Refusal};
 use std::alloc::Global;
 use std::fmt::Display;
 

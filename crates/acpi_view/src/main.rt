@@ -7,7 +7,7 @@
 
 use acpi_cli::files::HostFiles;
 use acpi_cli::{args, borrowed};
-use acpi_report::view::view;
+use acpi_view_lib::view::view;
 use std::io;
 use std::process::ExitCode;
 

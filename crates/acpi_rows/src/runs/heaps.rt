@@ -3,8 +3,8 @@
 use super::Chosen;
 use acpi::{AcpiHandler, AcpiTables, ManagedSlice};
 use acpi_image::{ImageError, MemoryImage};
-use acpi_report::lines::{print_pci, print_platform};
-use acpi_report::run::refuse;
+use acpi_view_lib::lines::{print_pci, print_platform};
+use acpi_view_lib::run::refuse;
 use linked_list_allocator::LocalHeap;
 use std::alloc::Global;
 use std::io;

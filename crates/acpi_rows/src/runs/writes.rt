@@ -1,8 +1,8 @@
 //! What is written at a time, and writes that are refused.
 
 use super::refusing::{Refused, Refusing};
-use acpi_report::arguments::parse_command;
-use acpi_report::run::run_gathered;
+use acpi_view_lib::arguments::parse_command;
+use acpi_view_lib::run::run_gathered;
 use std::alloc::Global;
 use std::io;
 use std::io::Write;

@@ -1,0 +1,25 @@
+-- Pairs of arguments.
+use Rattle.std.proofs.Common.{◌≡◌, ℕ, List, ◌++◌, length, map}
+use Rattle.std.specs.Prelude.{Option}
+use Rattle.std.specs.Borrow.{Bor}
+use Rattle.std.specs.Option.{option_map}
+use Rattle.acpi_pack_lib.specs.Arguments.{addresses_in, names_in}
+use Rattle.acpi_pack_lib.proofs.arguments.parse_memory.Given as goal
+
+-- addresses, and those after them
+abbrev pub behind : List ℕ → Option (List ℕ) → Option (List ℕ)
+behind addresses rest = option_map (λ more. addresses ++ more) rest
+
+abbrev pub texts_of : List (Bor (List ℕ)) → List (List ℕ)
+texts_of words = map (λ w. w.now) words
+
+-- the pairs so far, and those to come
+pub record SoFar (addresses : List ℕ) (names rest words : List (Bor (List ℕ))) : Type 0 where
+  pub addressed : behind addresses (addresses_in (texts_of rest)) ≡ addresses_in (texts_of words)
+  pub named : texts_of names ++ names_in (texts_of rest) ≡ names_in (texts_of words)
+
+abbrev pub invariant-loop-rest : goal.invariant-loop-rest
+invariant-loop-rest l = SoFar l.addresses.items l.names.items l.rest l.words
+
+abbrev pub decreases-loop-rest : goal.decreases-loop-rest
+decreases-loop-rest l = length l.rest

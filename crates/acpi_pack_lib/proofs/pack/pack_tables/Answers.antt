@@ -1,0 +1,261 @@
+-- What is packed of tables is a memory, is opened there, and lists the files in order.
+use Rattle.std.proofs.Common.{◌≡◌, ℕ, ◌+◌, ◌^◌, ◌<◌, ◌≤◌, false, List, [], ◌∷◌, ◌++◌, length, map, drop, Some, None, Result, Ok, Err, refl, sym, ap, subst, ◌∙◌, arith, ne_eqb}
+use Rattle.std.specs.Prelude.{◌==◌, IfOk, Option}
+use Rattle.std.specs.List.{AllByRecursion, Contains}
+use Rattle.std.specs.Option.{ok_or}
+use Rattle.std.proofs.lemmas.Bool.{ltb-true}
+use Rattle.std.proofs.lemmas.List.{append-nil, length-map, length-replicate}
+use Rattle.acpi_base.proofs.Steps.{bind_ok, holds_ok}
+use Rattle.acpi_base.specs.Bytes.{IsBytes}
+use Rattle.acpi_base.specs.Memory.{Memory, Region, AreApart, IsMemory, end_of}
+use Rattle.acpi_base.specs.Steps.{◌>>=◌}
+use Rattle.acpi.specs.Lists.{valid_tables}
+use Rattle.acpi.specs.Opened.{opened_by_rsdp}
+use Rattle.acpi.specs.Root.{pointers, root_at, width_of}
+use Rattle.acpi.specs.Rsdp.{rsdp_at}
+use Rattle.acpi.specs.declared.root.RootKind.TheVariants.{Xsdt}
+use Rattle.acpi_image.proofs.Placed.{every_in}
+use Rattle.acpi_image_reader.proofs.Sharing.{memory_with}
+use Rattle.acpi_image.proofs.Written.{length-root_to, length-rsdp_to}
+use Rattle.acpi_image.proofs.WrittenRoot.{pointers_are, root_there}
+use Rattle.acpi_image.proofs.WrittenRsdp.{IsRsdp, is_rsdp, rsdp_there}
+use Rattle.acpi_image_reader.specs.Image.{IsImage}
+use Rattle.acpi_image.specs.Written.{root_length, root_record, root_to, rsdp_record, rsdp_to, starts_of}
+use Rattle.acpi_pack_lib.proofs.Memories.{HasPlace, file_is, has_place, is_file, placed_apart, placed_behind, placed_memory, same_regions, tables_valid}
+use Rattle.acpi_pack_lib.proofs.Placing.{is_placed, placed_bytes, placed_law}
+use Rattle.acpi_pack_lib.specs.Pack.{all_regions, check_place, dsdt_address, dsdt_at, file_of, first_address, fixed_of, laid_out, listed_or, packed_tables, rsdp_address, rsdp_place, unless_second}
+use Rattle.acpi_pack_lib.specs.Packed.{IsPacked, IsRight, opened_with}
+use Rattle.acpi_pack_lib.specs.Place.{ArePlaced, place_at, placed_from}
+use Rattle.acpi_pack_lib.specs.Sources.{bytes_of, check_tables, entries}
+use Rattle.acpi_pack_lib.specs.declared.error.Refusal.{Refusal}
+use Rattle.acpi_pack_lib.specs.declared.error.Refusal.TheVariants.{NoRoom}
+use Rattle.acpi_pack_lib.specs.declared.sources.FileRole.TheVariants.{Dsdt, Listed}
+use Rattle.acpi_pack_lib.proofs.pack.pack_tables.Goals as goal
+
+abbrev AllBytes : Memory → Type 0
+AllBytes m = AllByRecursion (λ r. IsBytes r.bytes) m
+
+-- ---- lists
+
+all_front : {X : Type 0} (P : X → Type 0) (xs ys : List X) → AllByRecursion P (xs ++ ys) → AllByRecursion P xs
+all_front P [] ys h = tt
+all_front P (x ∷ xs) ys h = (h.0, all_front P xs ys h.1)
+
+all_rest : {X : Type 0} (P : X → Type 0) (xs ys : List X) → AllByRecursion P (xs ++ ys) → AllByRecursion P ys
+all_rest P [] ys h = h
+all_rest P (x ∷ xs) ys h = all_rest P xs ys h.1
+
+all_both : {X : Type 0} (P : X → Type 0) (xs ys : List X) → AllByRecursion P xs → AllByRecursion P ys → AllByRecursion P (xs ++ ys)
+all_both P [] ys h k = k
+all_both P (x ∷ xs) ys h k = (h.0, all_both P xs ys h.1 k)
+
+of_bytes : (ts : Memory) → AllByRecursion IsRight (map (λ t. t.bytes) ts) → AllByRecursion (λ t. IsRight t.bytes) ts
+of_bytes [] h = tt
+of_bytes (t ∷ ts) h = (h.0, of_bytes ts h.1)
+
+low_starts : (fixed : Region) (from : ℕ) (ts : Memory) → ArePlaced fixed from ts → AllByRecursion (λ p. p < 2 ^ 64) (starts_of ts)
+low_starts fixed from [] h = tt
+low_starts fixed from (t ∷ ts) h =
+    let ends = h.0.ends in
+    (omega arith, low_starts fixed (end_of t) ts h.1)
+
+-- ---- the DSDT
+
+abbrev DsdtIs : Option Region → Type 0
+DsdtIs None = Unit {0}
+DsdtIs (Some r) = HasPlace (rsdp_place ∷ []) r
+
+abbrev dsdt_done : Option Region → Result (Option Region) Refusal
+dsdt_done d = Ok d
+
+same_dsdt : (x y : Option Region) → dsdt_done x ≡ dsdt_done y → x ≡ y
+same_dsdt x y e = cc
+
+only_one : (r : Region) (others : List (ℕ × List ℕ)) (d : Option Region) → unless_second r others ≡ Ok d → Some r ≡ d
+only_one r [] d e = same_dsdt _ _ e
+only_one r (x ∷ others) d e = absurd cc
+
+dsdt_known : (address : Option ℕ) (found : List (ℕ × List ℕ)) (d : Option Region) → dsdt_at address found ≡ Ok d → DsdtIs d
+dsdt_known address [] d e = subst (λ (o : Option Region). DsdtIs o) (same_dsdt _ _ e) tt
+dsdt_known None (first ∷ others) d e = subst (λ (o : Option Region). DsdtIs o) (same_dsdt _ _ e) tt
+dsdt_known (Some a) (first ∷ others) d e =
+    let parts = bind_ok (check_place first.0 (rsdp_place ∷ []) (record { start = a; bytes = first.1 })) _ d e in
+    let place = has_place first.0 (rsdp_place ∷ []) (record { start = a; bytes = first.1 }) parts.0 parts.1 in
+    subst (λ (o : Option Region). DsdtIs o) (only_one _ others d parts.2) place
+
+-- ---- where all lies
+
+-- what was laid out
+record IsLaid (dsdt : Option Region) (listed : List (List ℕ)) (m : Memory) : Type 0 where
+  pub root : ℕ
+  pub tables : Memory
+  pub short : root_length Xsdt (length listed) < 2 ^ 32
+  pub root_is : place_at (fixed_of dsdt) first_address (root_length Xsdt (length listed)) ≡ Some root
+  pub tables_are : placed_from (fixed_of dsdt) (root + root_length Xsdt (length listed)) listed ≡ Ok tables
+  pub all : all_regions root tables dsdt ≡ m
+
+some_is : (o : Option ℕ) (x : ℕ) → ok_or o NoRoom ≡ Ok x → o ≡ Some x
+some_is None x e = absurd cc
+some_is (Some y) x e = cc
+
+laid_is : (dsdt : Option Region) (listed : List (List ℕ)) (m : Memory) → laid_out dsdt listed ≡ Ok m → IsLaid dsdt listed m
+unfolding laid_out
+laid_is dsdt listed m e =
+    let first = holds_ok _ _ _ m e in
+    let second = bind_ok (ok_or (place_at (fixed_of dsdt) first_address (root_length Xsdt (length listed))) NoRoom) _ m first.1 in
+    let third = bind_ok (placed_from (fixed_of dsdt) (second.0 + root_length Xsdt (length listed)) listed) _ m second.2 in
+    record {
+      root = second.0;
+      tables = third.0;
+      short = ltb-true _ _ first.0;
+      root_is = some_is _ _ second.1;
+      tables_are = third.1;
+      all = same_regions _ _ third.2;
+    }
+
+module _ (dsdt : Option Region) (listed : List (List ℕ)) (m : Memory) (laid : IsLaid dsdt listed m) where
+  abbrev root_region : Region
+  root_region = root_record Xsdt laid.root (starts_of laid.tables)
+
+  bytes_are : map (λ t. t.bytes) laid.tables ≡ listed
+  bytes_are = placed_bytes (fixed_of dsdt) _ listed laid.tables laid.tables_are
+
+  as_many : length (starts_of laid.tables) ≡ length listed
+  as_many = length-map laid.tables (λ t. t.start) ∙ sym (length-map laid.tables (λ t. t.bytes)) ∙ ap length bytes_are
+
+  root_long : length root_region.bytes ≡ root_length Xsdt (length listed)
+  root_long = length-root_to Xsdt (starts_of laid.tables) ∙ ap (root_length Xsdt) as_many
+
+  all_placed : ArePlaced (fixed_of dsdt) first_address (root_region ∷ laid.tables)
+  all_placed =
+      let there : place_at (fixed_of dsdt) first_address (length root_region.bytes) ≡ Some laid.root = rw root_long laid.root_is in
+      let behind : placed_from (fixed_of dsdt) (end_of root_region) listed ≡ Ok laid.tables = rw root_long laid.tables_are in
+      (is_placed (fixed_of dsdt) first_address root_region.bytes laid.root there, placed_law (fixed_of dsdt) (end_of root_region) listed laid.tables behind)
+
+  module _ (known : DsdtIs dsdt) (bytes : AllBytes (all_regions laid.root laid.tables dsdt)) where
+    abbrev first_region : Region
+    first_region = rsdp_record rsdp_address 2 laid.root
+
+    placed_ones : IsMemory (root_region ∷ laid.tables)
+    placed_ones =
+        placed_memory (fixed_of dsdt) first_address (root_region ∷ laid.tables) all_placed (bytes.1.0, all_front (λ r. IsBytes r.bytes) laid.tables (listed_or dsdt) bytes.1.1)
+
+    first_ends : end_of first_region ≤ first_address
+    first_ends = let few = length-rsdp_to 2 laid.root in omega (arith, few)
+
+    first_apart : AllByRecursion (AreApart first_region) (root_region ∷ laid.tables)
+    first_apart = placed_behind (fixed_of dsdt) first_region first_address (root_region ∷ laid.tables) first_ends all_placed
+
+-- a region that keeps away from the RSDP's place keeps away from the RSDP
+from_place : (root : ℕ) (d : Region) → AreApart rsdp_place d → AreApart (rsdp_record rsdp_address 2 root) d
+from_place root d h a here there =
+    let same : length (rsdp_to 2 root) ≡ length rsdp_place.bytes = length-rsdp_to 2 root ∙ sym (length-replicate {A = ℕ} 36 0) in
+    h a (rw same at here) there
+
+with_dsdt : (dsdt : Option Region) (root : ℕ) (ms : Memory) → DsdtIs dsdt → AllBytes (listed_or dsdt) → IsMemory ms → AllByRecursion (λ r. AreApart r (fixed_of dsdt)) ms
+    → IsMemory (ms ++ listed_or dsdt)
+with_dsdt None root ms known bytes h apart = rw append-nil h
+with_dsdt (Some d) root ms known bytes h apart = memory_with ms d h (known.ends, bytes.0) apart
+
+dsdt_apart : (dsdt : Option Region) (root : ℕ) → DsdtIs dsdt → AllByRecursion (AreApart (rsdp_record rsdp_address 2 root)) (listed_or dsdt)
+dsdt_apart None root known = tt
+dsdt_apart (Some d) root known = (from_place root d known.apart.0, tt)
+
+all_memory : (dsdt : Option Region) (listed : List (List ℕ)) (m : Memory) (laid : IsLaid dsdt listed m) (known : DsdtIs dsdt) → AllBytes (all_regions laid.root laid.tables dsdt)
+    → IsMemory (all_regions laid.root laid.tables dsdt)
+all_memory dsdt listed m laid known bytes =
+    let few = length-rsdp_to 2 laid.root in
+    let placed = placed_ones dsdt listed m laid known bytes in
+    let last = all_rest (λ r. IsBytes r.bytes) laid.tables (listed_or dsdt) bytes.1.1 in
+    let front = root_record Xsdt laid.root (starts_of laid.tables) ∷ laid.tables in
+    let behind : IsMemory (front ++ listed_or dsdt) =
+    with_dsdt dsdt laid.root front known last placed (placed_apart (fixed_of dsdt) first_address front (all_placed dsdt listed m laid)) in
+    let apart : AllByRecursion (AreApart (rsdp_record rsdp_address 2 laid.root)) (front ++ listed_or dsdt) =
+    all_both (AreApart (rsdp_record rsdp_address 2 laid.root)) front (listed_or dsdt) (first_apart dsdt listed m laid known bytes) (dsdt_apart dsdt laid.root known) in
+    ((omega (arith, few), bytes.0), (apart, behind))
+
+module _ (dsdt : Option Region) (listed : List (List ℕ)) (m : Memory) (laid : IsLaid dsdt listed m) (memory : IsMemory (all_regions laid.root laid.tables dsdt)) where
+  abbrev all : Memory
+  all = all_regions laid.root laid.tables dsdt
+
+  abbrev ps : List ℕ
+  ps = starts_of laid.tables
+
+  high : first_address ≤ laid.root
+  high = (all_placed dsdt listed m laid).0.behind
+
+  low : end_of (root_record Xsdt laid.root ps) < 2 ^ 64
+  low = (all_placed dsdt listed m laid).0.ends
+
+  some : (laid.root == 0) ≡ false
+  some = ne_eqb _ _ (λ e. absurd (omega (arith, high, e)))
+
+  rsdp_tested : IsRsdp 2 laid.root (rsdp_to 2 laid.root)
+  rsdp_tested = is_rsdp 2 laid.root some (omega (arith, low)) (λ e. absurd cc)
+
+  rsdp_is : rsdp_at all rsdp_address ≡ Ok (rsdp_to 2 laid.root)
+  rsdp_is = rsdp_there all (rsdp_record rsdp_address 2 laid.root) memory (every_in all).0 (length-rsdp_to 2 laid.root) 2 laid.root rsdp_tested
+
+  root_is : root_at all Xsdt laid.root ≡ Ok (root_to Xsdt ps)
+  root_is = root_there all Xsdt laid.root ps memory (every_in all).1.0 (rw (as_many dsdt listed m laid) laid.short)
+
+  opened_is : opened_by_rsdp all rsdp_address ≡ Ok (opened_with laid.root ps)
+  opened_is = rw (rsdp_is, rsdp_tested.leads_to, root_is) refl
+
+  listed_are : pointers (width_of Xsdt) (drop 36 (root_to Xsdt ps)) ≡ ps
+  listed_are = pointers_are Xsdt ps (low_starts (fixed_of dsdt) _ laid.tables (all_placed dsdt listed m laid).1)
+
+  valid_are : AllByRecursion IsRight listed → valid_tables all ps ≡ listed
+  valid_are right =
+      let same = bytes_are dsdt listed m laid in
+      let there = all_front (Contains all) laid.tables (listed_or dsdt) (every_in all).1.1 in
+      tables_valid all laid.tables memory there (of_bytes laid.tables (rw same right)) ∙ same
+
+-- ---- what a call packs
+
+abbrev laid_for : List (Option (List ℕ)) → Result Memory Refusal
+laid_for files = dsdt_at (dsdt_address (bytes_of (entries Listed 0 files))) (entries Dsdt 0 files) >>= λ dsdt. laid_out dsdt (bytes_of (entries Listed 0 files))
+
+record Packs (files : List (Option (List ℕ))) (m : Memory) : Type 0 where
+  pub dsdt : Option Region
+  pub known : DsdtIs dsdt
+  pub laid : IsLaid dsdt (bytes_of (entries Listed 0 files)) m
+
+packs : (files : List (Option (List ℕ))) (m : Memory) → packed_tables files ≡ Ok m → Packs files m
+unfolding packed_tables
+packs files m e =
+    let first = bind_ok (check_tables 0 files) (λ _. laid_for files) m e in
+    let second = bind_ok (dsdt_at (dsdt_address (bytes_of (entries Listed 0 files))) (entries Dsdt 0 files)) (λ dsdt. laid_out dsdt (bytes_of (entries Listed 0 files))) m first.2 in
+    record {
+      dsdt = second.0;
+      known = dsdt_known _ _ second.0 second.1;
+      laid = laid_is second.0 _ m second.2;
+    }
+
+tables_packed : (files : List (Option (List ℕ))) (file : List ℕ) → IsBytes file → file_of (packed_tables files) ≡ Ok file → IsPacked files file
+tables_packed files file bytes e =
+    let known = file_is (packed_tables files) file bytes e in
+    let p = packs files known.all known.packed_is in
+    let same = p.laid.all in
+    let listed = bytes_of (entries Listed 0 files) in
+    let memory = all_memory p.dsdt listed known.all p.laid p.known (subst (λ (k : Memory). AllBytes k) (sym same) known.bytes) in
+    record {
+      root = p.laid.root;
+      tables = p.laid.tables;
+      dsdt = p.dsdt;
+      packed = known.packed_is ∙ ap (λ (k : Memory). Ok k) (sym same);
+      file_is = is_file (all_regions p.laid.root p.laid.tables p.dsdt) file memory (subst (λ (k : Memory). IsImage file k) (sym same) known.image);
+      bytes = bytes_are p.dsdt listed known.all p.laid;
+      placed = all_placed p.dsdt listed known.all p.laid;
+      opened = opened_is p.dsdt listed known.all p.laid memory;
+      listed = listed_are p.dsdt listed known.all p.laid memory;
+      valid = valid_are p.dsdt listed known.all p.laid memory;
+    }
+
+tables_answer : {V : Type 0} (items : V → List ℕ) (r : Result V Refusal) (files : List (Option (List ℕ))) → IfOk r (λ v. IsBytes (items v))
+    → IfOk r (λ v. file_of (packed_tables files) ≡ Ok (items v)) → IfOk r (λ v. IsPacked files (items v))
+tables_answer items (Ok v) files bytes said = tables_packed files (items v) bytes said
+tables_answer items (Err e) files bytes said = tt
+
+pub returns-clause-law : goal.returns-clause-law
+returns-clause-law c = tables_answer (λ v. v.items) c.pack_tables_exact.result _ c.pack_tables_exact.ensures.bytes c.pack_tables_exact.ensures.exact

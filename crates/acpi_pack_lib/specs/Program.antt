@@ -1,0 +1,100 @@
+-- What the program does with its arguments, its files, its storage and its outputs.
+use Rattle.std.specs.Prelude.{◌≡◌, ℕ, List, [], ◌∷◌, ◌++◌, codes, Option, Some, None, Result, Ok, Err}
+use Rattle.std.specs.Io.KnownBytes.{Appends}
+use Rattle.acpi_cli.specs.Reads.{Asks, FileRead, contents_of}
+use Rattle.acpi_pack_lib.specs.Listing.{labels_of, listing}
+use Rattle.acpi_pack_lib.specs.Run.{Ends}
+use Rattle.acpi_pack_lib.specs.Save.{save_error_text}
+use Rattle.acpi_pack_lib.specs.Saves.{FileSaved}
+use Rattle.acpi_pack_lib.specs.Told.{told_of}
+use Rattle.acpi_pack_lib.specs.Arguments.{Request, request_in}
+use Rattle.acpi_pack_lib.specs.declared.run.Outcome.{Outcome}
+use Rattle.acpi_pack_lib.specs.declared.run.Outcome.TheVariants as outcome
+use Rattle.acpi_pack_lib.specs.declared.save.SaveError.{SaveError}
+
+-- the files that are read for a request; none for no command
+abbrev pub files_for : Option Request → List (List ℕ)
+files_for None = []
+files_for (Some r) = r.names
+
+-- ---- after an image is made
+
+abbrev pub unsaved_line : List ℕ → SaveError → List ℕ
+unsaved_line name e = codes "refused " ++ name ++ codes ": " ++ save_error_text e ++ codes "\n"
+
+-- what lies where in the image is printed once it is saved, and else why it is not
+abbrev pub IsTold : Request → List (Option (List ℕ)) → List ℕ → Result (Unit {0}) SaveError → ℕ
+    → Option (List ℕ) → Option (List ℕ) → Option (List ℕ) → Option (List ℕ) → Type 0
+IsTold r files image (Ok saved) status out out_after err err_after =
+    (status ≡ 0) × (err_after ≡ err) × ((text : List ℕ)
+    × (listing (labels_of r.addresses r.names files) image ≡ Ok text) × Appends out out_after text)
+IsTold r files image (Err e) status out out_after err err_after =
+    (status ≡ 1) × (out_after ≡ out) × Appends err err_after (unsaved_line r.out e)
+
+-- the image was to be saved once, under the name that is asked for, and nothing else was
+pub record Saves (r : Request) (files : List (Option (List ℕ))) (image : List ℕ)
+    (saved saved_after : List FileSaved) (status : ℕ)
+    (out out_after err err_after : Option (List ℕ)) : Type 0 where
+  pub answer : Result (Unit {0}) SaveError
+  pub grown : saved_after ≡ saved
+      ++ record { name = r.out; sources = r.names; bytes = image; answer = answer } ∷ []
+  pub told : IsTold r files image answer status out out_after err err_after
+
+-- nothing was to be saved, and nothing more is printed
+pub record SavesNothing (saved saved_after : List FileSaved)
+    (out out_after err err_after : Option (List ℕ)) : Type 0 where
+  pub same : saved_after ≡ saved
+  pub shown : out_after ≡ out
+  pub told : err_after ≡ err
+
+-- an image is saved; a refusal gives 1, and no command 2
+abbrev pub Follows : Option Request → List (Option (List ℕ)) → Outcome → List FileSaved
+    → List FileSaved → ℕ → Option (List ℕ) → Option (List ℕ) → Option (List ℕ) → Option (List ℕ)
+    → Type 0
+Follows None files said saved saved_after status out out_after err err_after =
+    (status ≡ 2) × SavesNothing saved saved_after out out_after err err_after
+Follows (Some r) files (outcome.Image image) saved saved_after status out out_after err err_after =
+    Saves r files image.items saved saved_after status out out_after err err_after
+Follows (Some r) files said saved saved_after status out out_after err err_after =
+    (status ≡ 1) × SavesNothing saved saved_after out out_after err err_after
+
+-- ---- all of it
+
+-- the files that the arguments name were asked for, in order, and for no command none; what is
+-- printed, saved and answered is what follows of the bytes that were read of them
+pub record Packs (arguments : List (List ℕ)) (asked asked_after : List FileRead)
+    (saved saved_after : List FileSaved) (status : ℕ)
+    (out out_after err err_after : Option (List ℕ)) : Type 0 where
+  pub asks : Asks (files_for (request_in arguments)) asked asked_after
+  pub outcome : Outcome
+  pub between : Option (List ℕ)
+  pub ends : Ends (request_in arguments) (contents_of asks.reads) outcome err between
+  pub follows : Follows (request_in arguments) (contents_of asks.reads) outcome saved saved_after
+      status out out_after between err_after
+
+-- ---- the program
+
+-- a text is printed on the output, and nothing else is done
+pub record Tells (text : List ℕ) (asked asked_after : List FileRead)
+    (saved saved_after : List FileSaved) (status : ℕ)
+    (out out_after err err_after : Option (List ℕ)) : Type 0 where
+  pub done : status ≡ 0
+  pub unasked : asked_after ≡ asked
+  pub unsaved : saved_after ≡ saved
+  pub shown : Appends out out_after text
+  pub told : err_after ≡ err
+
+abbrev pub RunsBy : Option (List ℕ) → List (List ℕ) → List FileRead → List FileRead → List FileSaved
+    → List FileSaved → ℕ → Option (List ℕ) → Option (List ℕ) → Option (List ℕ) → Option (List ℕ)
+    → Type 0
+RunsBy (Some text) arguments asked asked_after saved saved_after status out out_after err err_after =
+    Tells text asked asked_after saved saved_after status out out_after err err_after
+RunsBy None arguments asked asked_after saved saved_after status out out_after err err_after =
+    Packs arguments asked asked_after saved saved_after status out out_after err err_after
+
+-- arguments that ask what the program tells of itself are told it, and all others are packed by
+abbrev pub Runs : List (List ℕ) → List FileRead → List FileRead → List FileSaved
+    → List FileSaved → ℕ → Option (List ℕ) → Option (List ℕ) → Option (List ℕ) → Option (List ℕ)
+    → Type 0
+Runs arguments asked asked_after saved saved_after status out out_after err err_after =
+    RunsBy (told_of arguments) arguments asked asked_after saved saved_after status out out_after err err_after

@@ -1,0 +1,33 @@
+//! The texts that the program tells of itself.
+ghost use Rattle.std.specs.Prelude.{◌≡◌, map, option_map};
+ghost use Rattle.acpi_pack_lib.specs.Told.{told_of, told_to};
+
+/// The text that says how the program is called.
+const HELP: &str = "usage: acpi_pack OUT memory ADDRESS FILE [ADDRESS FILE]... | tables FILE...
+       acpi_pack --help | --version
+";
+
+/// The text that says the program's version.
+const VERSION: &str = "acpi_pack 5.2.0\n";
+
+/// The text that an argument asks for, or `None` if it asks for none.
+fn told_to(argument: &str) -> Option<&'static str>
+    ensures { option_map (λ t. t.now) result ≡ told_to argument.now }
+{
+    match argument {
+        "--help" => Some(HELP),
+        "--version" => Some(VERSION),
+        _ => None,
+    }
+}
+
+/// The text that arguments ask for, or `None` if they ask for none: how the program is called for `--help`
+/// alone, and its version for `--version` alone.
+pub(crate) fn told(arguments: &[&str]) -> Option<&'static str>
+    ensures { option_map (λ t. t.now) result ≡ told_of (map (λ w. w.now) arguments.now) }
+{
+    match arguments {
+        [argument] => told_to(argument),
+        _ => None,
+    }
+}

@@ -1,0 +1,146 @@
+//! The program over any files, any storage and any writers.
+ghost use Rattle.std.specs.Prelude.{◌≡◌, IfOk, OnErr, map, option_map};
+ghost use Rattle.acpi_cli.specs.Reads.{AsksFront};
+ghost use Rattle.acpi_pack_lib.specs.Held.{contents};
+ghost use Rattle.acpi_pack_lib.specs.Program.{Follows, Packs, Runs, Saves, files_for};
+ghost use Rattle.acpi_pack_lib.specs.Arguments.{request_in, request_of};
+
+use crate::arguments::{Command, parse_command};
+use crate::help::told;
+use crate::listing::record_lines;
+use crate::reading::{contents_from, read_all};
+use crate::run::{Outcome, run};
+use crate::sources::FileBytes;
+use crate::storage::Storage;
+use acpi_cli::files::{Files, count};
+use std::alloc::{AllocError, Global};
+use std::io;
+use std::io::Write;
+
+/// The files that are read for a command, or none if there is none.
+fn files_named<'c, 'w>(asked: &'c Option<Command<'w>>) -> &'c [&'w str]
+    ensures { map (λ n. n.now) result.now ≡ files_for (option_map request_of asked.now) }
+{
+    match asked {
+        Some(command) => &command.names,
+        None => &[],
+    }
+}
+
+/// Saves an image, and prints the lines of its records, or why it isn't saved. It answers the status: 0
+/// if it is saved, and else 1.
+///
+/// Refuses if a write is refused or memory runs out.
+fn save_image<S: Storage, W: Write, E: Write>(
+    alloc: Global,
+    command: &Command<'_>,
+    files: &[FileBytes<'_>],
+    image: Vec<u8>,
+    storage: &mut S,
+    out: &mut W,
+    err: &mut E,
+) -> io::Result<u8>
+    ensures { IfOk result (λ s. Saves (request_of command.now) (contents files.now) image.items
+        (S.saved storage.old) (S.saved storage.new) s
+        (W.contents out.old) (W.contents out.new) (E.contents err.old) (E.contents err.new)) }
+{
+    let Ok(lines) = record_lines(alloc, command, files, &image) else {
+        return Err(io::Error::from(AllocError));
+    };
+    match storage.save(command.out, &command.names, image)? {
+        Ok(()) => {
+            out.write_all(lines.as_bytes())?;
+            Ok(0)
+        }
+        Err(refusal) => {
+            let name = command.out;
+            writeln!(err, "refused {name}: {refusal}")?;
+            Ok(1)
+        }
+    }
+}
+
+/// Does what follows of a run's outcome: saves the image, if there is one. It answers the status.
+///
+/// Refuses if a write is refused or memory runs out.
+fn finish<S: Storage, W: Write, E: Write>(
+    alloc: Global,
+    asked: &Option<Command<'_>>,
+    files: &[FileBytes<'_>],
+    outcome: Outcome,
+    storage: &mut S,
+    out: &mut W,
+    err: &mut E,
+) -> io::Result<u8>
+    ensures { IfOk result (λ s. Follows (option_map request_of asked.now) (contents files.now) outcome
+        (S.saved storage.old) (S.saved storage.new) s
+        (W.contents out.old) (W.contents out.new) (E.contents err.old) (E.contents err.new)) }
+{
+    match (asked, outcome) {
+        (None, _) => Ok(2),
+        (Some(command), Outcome::Image(image)) => {
+            save_image(alloc, command, files, image, storage, out, err)
+        }
+        (Some(_), _) => Ok(1),
+    }
+}
+
+/// Packs the files that the arguments name. They are judged first; if they are a command, the files that they
+/// name are read, in order, and else none. If `run` answers an image, it is saved, and then the lines of its
+/// records are printed on the output. It answers the status: 0 if the image is saved, 1 if something is
+/// refused, and 2 if the arguments are not a command.
+///
+/// Refuses if a write is refused, or memory for anything but the image itself.
+fn pack_asked<F: Files, S: Storage, W: Write, E: Write>(
+    alloc: Global,
+    arguments: &[&str],
+    files: &mut F,
+    storage: &mut S,
+    out: &mut W,
+    err: &mut E,
+) -> io::Result<u8>
+    ensures exact { IfOk result (λ s. Packs (map (λ w. w.now) arguments.now)
+        (F.asked files.old) (F.asked files.new) (S.saved storage.old) (S.saved storage.new) s
+        (W.contents out.old) (W.contents out.new) (E.contents err.old) (E.contents err.new)) }
+    // No other file is asked for if it is refused.
+    ensures refused { OnErr result (AsksFront (files_for (request_in (map (λ w. w.now) arguments.now)))
+        (F.asked files.old) (F.asked files.new)) }
+{
+    let asked = parse_command(alloc, arguments)?;
+    let start = count(files);
+    read_all(files, files_named(&asked))?;
+    let sources = contents_from(alloc, files, start)?;
+    let outcome = run(alloc, &asked, &sources, err)?;
+    finish(alloc, &asked, &sources, outcome, storage, out, err)
+}
+
+/// Runs the program on the arguments after its name, and answers the status. `--help` and `--version` alone
+/// print how the program is called and its version, on the output, and nothing else is done: the status is
+/// 0. If other arguments are a command, the files that it names are read, in order, and the image that is
+/// made of them is saved; then the lines of its records are printed on the output. The status is 0 if the
+/// image is saved, 1 if something is refused, and 2 if the arguments are not a command.
+///
+/// Refuses if a write is refused, or memory for anything but the image itself.
+pub fn pack<F: Files, S: Storage, W: Write, E: Write>(
+    alloc: Global,
+    arguments: &[&str],
+    files: &mut F,
+    storage: &mut S,
+    out: &mut W,
+    err: &mut E,
+) -> io::Result<u8>
+    ensures exact { IfOk result (λ s. Runs (map (λ w. w.now) arguments.now)
+        (F.asked files.old) (F.asked files.new) (S.saved storage.old) (S.saved storage.new) s
+        (W.contents out.old) (W.contents out.new) (E.contents err.old) (E.contents err.new)) }
+    // No other file is asked for if it is refused.
+    ensures refused { OnErr result (AsksFront (files_for (request_in (map (λ w. w.now) arguments.now)))
+        (F.asked files.old) (F.asked files.new)) }
+{
+    match told(arguments) {
+        Some(text) => {
+            out.write_all(text.as_bytes())?;
+            Ok(0)
+        }
+        None => pack_asked(alloc, arguments, files, storage, out, err),
+    }
+}

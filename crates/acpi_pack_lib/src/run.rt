@@ -1,0 +1,181 @@
+//! The program over files that are read, and over any writer.
+ghost use Rattle.std.specs.Prelude.{◌≡◌, ◌++◌, IfErr, IfOk, OnOk, Some, Ok, map, option_map, string_bytes};
+ghost use Rattle.acpi_pack_lib.specs.Held.{contents, entries_left};
+ghost use Rattle.acpi_pack_lib.specs.Pack.{RefusesOrRunsOut, file_of};
+ghost use Rattle.acpi_pack_lib.specs.Run.{IsReport, left_out_by, left_out_lines, packed_by};
+ghost use Rattle.acpi_pack_lib.specs.Run.{Ends, refused_line, refused_name, usage_line};
+ghost use Rattle.acpi_pack_lib.specs.Arguments.{addresses_of, request_of};
+
+use crate::arguments::{Command, Form};
+use crate::error::Refusal;
+use crate::listing::name_of;
+use crate::pack::{dsdt_address, pack_files, pack_tables};
+use crate::sources::{FileBytes, FileRole, FilesOfRole, of_role};
+use std::alloc::{AllocError, Global};
+use std::io;
+use std::io::Write;
+
+/// The outcome of a run.
+#[derive(Drop)]
+pub enum Outcome {
+    /// The bytes of the image that is to be saved.
+    Image(Vec<u8>),
+    /// Nothing is packed, for this refusal.
+    Refused(Refusal),
+    /// The arguments are not a command.
+    NoCommand,
+}
+
+/// The image that a command asks for.
+///
+/// Refuses as `pack_files` and `pack_tables` do.
+fn packed(alloc: Global, form: &Form, files: &[FileBytes<'_>]) -> Result<Vec<u8>, Refusal>
+    ensures exact { IfOk result (λ v.
+        file_of (packed_by (addresses_of form.now) (contents files.now)) ≡ Ok v.items) }
+    ensures refused { IfErr result (λ e.
+        RefusesOrRunsOut (packed_by (addresses_of form.now) (contents files.now)) e) }
+{
+    match form {
+        Form::Memory(addresses) => pack_files(alloc, addresses, files),
+        Form::Tables => pack_tables(alloc, files),
+    }
+}
+
+/// Puts a line for each of these files, which are left out.
+///
+/// Refuses if it runs out of memory.
+fn put_left_out(
+    text: &mut String,
+    names: &[&str],
+    files: FilesOfRole<'_, '_>,
+) -> Result<(), AllocError>
+    ensures { OnOk result (string_bytes text.new ≡ string_bytes text.old
+        ++ left_out_lines (map (λ n. n.now) names.now) (entries_left files.entry)) }
+{
+    for file in files {
+        let name = name_of(names, file.index);
+        writeln!(text, "left out {name}")?;
+    }
+    Ok(())
+}
+
+/// A line for each file of a command that is left out.
+///
+/// Refuses if it runs out of memory.
+fn left_out(
+    alloc: Global,
+    form: &Form,
+    names: &[&str],
+    files: &[FileBytes<'_>],
+) -> Result<String, AllocError>
+    ensures { IfOk result (λ t. string_bytes t ≡ left_out_lines (map (λ n. n.now) names.now)
+        (left_out_by (addresses_of form.now) (contents files.now))) }
+{
+    let mut text = String::new(alloc);
+    if let Form::Memory(_) = form {
+        return Ok(text);
+    }
+    put_left_out(&mut text, names, of_role(files, FileRole::Unlisted))?;
+    if dsdt_address(files).is_none() {
+        put_left_out(&mut text, names, of_role(files, FileRole::Dsdt))?;
+    }
+    Ok(text)
+}
+
+/// The name of the file that a refusal is about.
+fn refused_name<'w>(command: &Command<'w>, refusal: Refusal) -> &'w str
+    ensures { result.now ≡ refused_name (request_of command.now) refusal }
+{
+    match refusal {
+        Refusal::File(index, _) => name_of(&command.names, index),
+        Refusal::NoRoom | Refusal::OutOfMemory => command.out,
+    }
+}
+
+/// The line that says why nothing is packed.
+///
+/// Refuses if it runs out of memory.
+fn refused_line(
+    alloc: Global,
+    command: &Command<'_>,
+    refusal: Refusal,
+) -> Result<String, AllocError>
+    ensures { IfOk result (λ t. string_bytes t ≡ refused_line (request_of command.now) refusal) }
+{
+    let name = refused_name(command, refusal);
+    let mut text = String::new(alloc);
+    writeln!(text, "refused {name}: {refusal}")?;
+    Ok(text)
+}
+
+/// The line on the usage.
+///
+/// Refuses if it runs out of memory.
+fn usage_line(alloc: Global) -> Result<String, AllocError>
+    ensures { IfOk result (λ t. string_bytes t ≡ usage_line) }
+{
+    let usage = "usage: acpi_pack OUT memory ADDRESS FILE [ADDRESS FILE]... | tables FILE...\n";
+    String::from_str(alloc, usage)
+}
+
+/// The outcome of a command, and the text that is printed of it.
+///
+/// Refuses if memory for the text is refused.
+fn report_command(
+    alloc: Global,
+    command: &Command<'_>,
+    files: &[FileBytes<'_>],
+) -> Result<(Outcome, String), AllocError>
+    ensures { IfOk result (λ r.
+        IsReport (Some (request_of command.now)) (contents files.now) r.0 (string_bytes r.1)) }
+{
+    let image = match packed(alloc, &command.form, files) {
+        Ok(image) => image,
+        Err(refusal) => {
+            let text = refused_line(alloc, command, refusal)?;
+            return Ok((Outcome::Refused(refusal), text));
+        }
+    };
+    let text = left_out(alloc, &command.form, &command.names, files)?;
+    Ok((Outcome::Image(image), text))
+}
+
+/// The outcome of the command that is asked for, if any, and the text that is printed of it.
+///
+/// Refuses if memory for the text is refused.
+fn report(
+    alloc: Global,
+    asked: &Option<Command<'_>>,
+    files: &[FileBytes<'_>],
+) -> Result<(Outcome, String), AllocError>
+    ensures { IfOk result (λ r. IsReport (option_map request_of asked.now)
+        (contents files.now) r.0 (string_bytes r.1)) }
+{
+    match asked {
+        Some(command) => report_command(alloc, command, files),
+        None => Ok((Outcome::NoCommand, usage_line(alloc)?)),
+    }
+}
+
+/// Runs the program on a command, or on `None` if the arguments are not a command, and on the files that it
+/// names, in order, `None` for one that can't be read. It answers the outcome, and prints lines: one for each
+/// file that is left out, or one that says why nothing is packed, or the usage.
+///
+/// Faults are found in this order: arguments that are not a command, then the refusals of `pack_files` or
+/// `pack_tables`.
+///
+/// Refuses if a write to standard error, or memory for the lines, is refused.
+pub fn run<E: Write>(
+    alloc: Global,
+    asked: &Option<Command<'_>>,
+    files: &[FileBytes<'_>],
+    err: &mut E,
+) -> io::Result<Outcome>
+    // The outcome is the one that is defined, and so is all that is printed.
+    ensures exact { IfOk result (λ o. Ends (option_map request_of asked.now) (contents files.now) o
+        (E.contents err.old) (E.contents err.new)) }
+{
+    let (outcome, text) = report(alloc, asked, files)?;
+    err.write_all(text.as_bytes())?;
+    Ok(outcome)
+}

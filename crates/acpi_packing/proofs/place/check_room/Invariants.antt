@@ -1,9 +1,0 @@
-use Rattle.std.proofs.Common.{◌≡◌}
-use Rattle.acpi_image.specs.Written.{placed_region}
-use Rattle.acpi_packing.specs.Held.{contents, entries_left}
-use Rattle.acpi_packing.specs.Place.{room}
-use Rattle.acpi_packing.specs.Sources.{bytes_of, listed}
-use Rattle.acpi_packing.proofs.place.check_room.Given as goal
-
-abbrev pub invariant-loop-table : goal.invariant-loop-table
-invariant-loop-table l = room (placed_region l.fixed) l.next (bytes_of (entries_left l.table-iterator)) ≡ room (placed_region l.fixed) l.fn.from (listed (contents l.files))

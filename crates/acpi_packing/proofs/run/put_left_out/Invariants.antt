@@ -1,8 +1,0 @@
-use Rattle.std.proofs.Common.{◌≡◌, ◌++◌, map}
-use Rattle.std.specs.Prelude.{string_bytes}
-use Rattle.acpi_packing.specs.Held.{entries_left}
-use Rattle.acpi_packing.specs.Run.{left_out_lines}
-use Rattle.acpi_packing.proofs.run.put_left_out.Given as goal
-
-abbrev pub invariant-loop-file : goal.invariant-loop-file
-invariant-loop-file l = string_bytes l.text ++ left_out_lines (map (λ n. n.now) l.names) (entries_left l.file-iterator) ≡ string_bytes l.initial.text ++ left_out_lines (map (λ n. n.now) l.names) (entries_left l.fn.files)

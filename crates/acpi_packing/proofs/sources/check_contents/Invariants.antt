@@ -1,7 +1,0 @@
-use Rattle.std.proofs.Common.{◌≡◌, drop}
-use Rattle.acpi_packing.specs.Held.{contents}
-use Rattle.acpi_packing.specs.Sources as sources
-use Rattle.acpi_packing.proofs.sources.check_contents.Given as goal
-
-abbrev pub invariant-loop-index : goal.invariant-loop-index
-invariant-loop-index l = sources.check_contents l.index (contents (drop l.index l.files)) ≡ sources.check_contents 0 (contents l.files)

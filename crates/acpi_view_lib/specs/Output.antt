@@ -1,0 +1,121 @@
+-- What a run prints, as the image's bytes define it.
+use Rattle.std.specs.Prelude.{◌≡◌, ◌⊎◌, ℕ, List, [], ◌∷◌, ◌++◌, drop, codes, Option, Some, None, Result, Ok, Err}
+use Rattle.std.specs.Global.{Global}
+use Rattle.std.specs.Io.KnownBytes.{Appends}
+use Rattle.acpi_base.specs.ErrorText.{error_text}
+use Rattle.acpi_base.specs.Memory.{Memory}
+use Rattle.acpi_base.specs.declared.error.AcpiError.{AcpiError}
+use Rattle.acpi.specs.Hpet.{hpet_kind}
+use Rattle.acpi.specs.Lists.{fadt_kind}
+use Rattle.acpi.specs.Opened.{Opened}
+use Rattle.acpi.specs.Pci.{mcfg_kind}
+use Rattle.acpi.specs.Platform.{madt_kind}
+use Rattle.acpi.specs.Root.{pointers, width_of}
+use Rattle.acpi_image_reader.specs.ErrorText.{image_error_text}
+use Rattle.acpi_image_reader.specs.Image.{records_in}
+use Rattle.acpi_image_reader.specs.declared.error.ImageError.{ImageError}
+use Rattle.acpi_view_lib.specs.Command.{root_for}
+use Rattle.acpi_view_lib.specs.Lines.{IsPciText, bgrt_kind, bgrt_lines, dsdt_lines, header_lines, hpet_lines, line, revision_line, skipped_lines, spcr_kind, spcr_lines, ssdt_lines}
+use Rattle.acpi_view_lib.specs.PlatformLines.{IsPlatformText}
+use Rattle.acpi_cli.specs.Root.{opened_for}
+use Rattle.acpi_view_lib.specs.Status.{RunsOutWith, status_with}
+use Rattle.acpi_view_lib.specs.Writing.{AppendsSome}
+use Rattle.acpi_cli.specs.declared.root.Root.{Root}
+
+-- ---- standard output
+
+-- the pointers of a root table that is opened
+abbrev pub pointers_in : Opened → List ℕ
+pointers_in opened = pointers (width_of opened.kind) (drop 36 opened.root)
+
+-- all lines in order, if the platform and the PCI regions have these
+abbrev pub lines_of : List ℕ → List ℕ → Memory → Opened → List ℕ
+lines_of platform pci m opened = let ps = pointers_in opened in
+    revision_line opened.revision
+    ++ header_lines m ps
+    ++ dsdt_lines m ps
+    ++ ssdt_lines m ps
+    ++ platform
+    ++ hpet_lines m ps
+    ++ pci
+    ++ bgrt_lines m ps
+    ++ spcr_lines m ps
+
+-- the text is all lines, with those that are defined for the platform and the PCI regions, or with the one that says
+-- that memory runs out, if they ask for it
+pub record IsLines (m : Memory) (opened : Opened) (text : List ℕ) : Type 0 where
+  pub platform : List ℕ
+  pub pci : List ℕ
+  pub platform_is : IsPlatformText Global m (pointers_in opened) platform
+  pub pci_is : IsPciText m (pointers_in opened) pci
+  pub whole : text ≡ lines_of platform pci m opened
+
+-- ---- standard error
+
+-- for each type of table that is looked for, why tables were passed over
+abbrev pub skipped_lines_of : Memory → Opened → List ℕ
+skipped_lines_of m opened = let ps = pointers_in opened in
+    skipped_lines m fadt_kind ps
+    ++ skipped_lines m madt_kind ps
+    ++ skipped_lines m mcfg_kind ps
+    ++ skipped_lines m hpet_kind ps
+    ++ skipped_lines m bgrt_kind ps
+    ++ skipped_lines m spcr_kind ps
+
+abbrev pub usage_line : List ℕ
+usage_line =
+    line (codes "usage: acpi_view IMAGE rsdt REVISION ADDRESS | rsdp ADDRESS | bios" ∷ [])
+
+-- refused: NAME
+abbrev pub refusal_line : List ℕ → List ℕ
+refusal_line name = line (codes "refused: " ∷ name ∷ [])
+
+-- ---- both, of arguments and a file
+
+-- the memory and the root table in it that are found, or the one line that says why there are none
+abbrev pub Found : Type 0
+Found = Result (Memory × Opened) (List ℕ)
+
+abbrev pub found_in : Memory → Result Opened AcpiError → Found
+found_in m (Ok opened) = Ok (m, opened)
+found_in m (Err e) = Err (refusal_line (error_text e))
+
+abbrev pub found_over : Root → Result Memory ImageError → Found
+found_over root (Ok m) = found_in m (opened_for m root)
+found_over root (Err refusal) = Err (refusal_line (image_error_text refusal))
+
+abbrev pub found_with : Option Root → Option (List ℕ) → Found
+found_with None file = Err usage_line
+found_with (Some root) None = Err (refusal_line (codes "Unreadable"))
+found_with (Some root) (Some file) = found_over root (records_in file)
+
+abbrev pub found_for : List (List ℕ) → Option (List ℕ) → Found
+found_for arguments file = found_with (root_for arguments) file
+
+-- a text of standard output: all lines, or nothing if nothing is found
+abbrev pub IsOutput : Found → List ℕ → Type 0
+IsOutput (Ok found) text = IsLines found.0 found.1 text
+IsOutput (Err complaint) text = text ≡ []
+
+-- the text of standard error: the tables passed over, or why nothing is found
+abbrev pub stderr_of : Found → List ℕ
+stderr_of (Ok found) = skipped_lines_of found.0 found.1
+stderr_of (Err complaint) = complaint
+
+-- standard output grew by its text and by nothing else, and standard error by its own
+pub record Prints (found : Found) (out out_after err err_after : Option (List ℕ)) : Type 0 where
+  pub lines : AppendsSome (IsOutput found) out out_after
+  pub complaints : Appends err err_after (stderr_of found)
+
+-- how a run ends of which each write is taken: with the status that is defined, and what is found is
+-- printed, or if memory can run out, with 1 and a line that says so
+abbrev pub EndsWith : Option Root → Option (List ℕ) → ℕ
+    → Option (List ℕ) → Option (List ℕ) → Option (List ℕ) → Option (List ℕ) → Type 0
+EndsWith asked file status out out_after err err_after =
+    ((status ≡ status_with asked file) × Prints (found_with asked file) out out_after err err_after)
+    ⊎ ((status ≡ 1) × RunsOutWith asked file
+    × Prints (Err (refusal_line (codes "OutOfMemory"))) out out_after err err_after)
+
+abbrev pub Ends : List (List ℕ) → Option (List ℕ) → ℕ
+    → Option (List ℕ) → Option (List ℕ) → Option (List ℕ) → Option (List ℕ) → Type 0
+Ends arguments file = EndsWith (root_for arguments) file

@@ -1,0 +1,389 @@
+//! The lines that the program prints.
+ghost use Rattle.std.specs.Prelude.{◌≡◌, OnOk, codes, flat_map};
+ghost use Rattle.std.specs.Io.KnownBytes.{Appends};
+ghost use Rattle.acpi.specs.Lists.{faults_of};
+ghost use Rattle.acpi.specs.Pci.{shown_in};
+ghost use Rattle.acpi.specs.Tables.{memory_of, of_tables, pointers_of, revision_of};
+ghost use Rattle.acpi.specs.Opened.{opened_of};
+ghost use Rattle.acpi_view_lib.specs.Output.{IsLines, skipped_lines_of};
+ghost use Rattle.acpi_view_lib.specs.Writing.{AppendsSome};
+ghost use Rattle.acpi_view_lib.specs.Lines.{IsPciText, bgrt_lines, console_line, dsdt_lines};
+ghost use Rattle.acpi_view_lib.specs.Lines.{graphic_line, header_line, header_lines, hpet_line};
+ghost use Rattle.acpi_view_lib.specs.Lines.{hpet_lines, lines_or_refusal, refused_line, region_lines};
+ghost use Rattle.acpi_view_lib.specs.Lines.{revision_line, shown_line, skipped_line, spcr_lines};
+ghost use Rattle.acpi_view_lib.specs.Lines.{ssdt_lines, stream_line, yes_or_no};
+
+mod listed;
+mod pieces;
+mod platform;
+
+use acpi::bgrt::Bgrt;
+use acpi::fadt::Fadt;
+use acpi::hpet::HpetTable;
+use acpi::madt::Madt;
+use acpi::mcfg::{Mcfg, PciConfigEntry, PciConfigEntryIterator};
+use acpi::sdt::SdtHeader;
+use acpi::spcr::Spcr;
+use acpi::{
+    AcpiError, AcpiHandler, AcpiResult, AcpiTable, AcpiTables, AmlTable, HpetInfo, Lender,
+    PciConfigRegions, SdtHeaderIterator, SsdtIterator, TableFault, TableFaults,
+};
+pub(crate) use listed::{Line, Walk, print_each, print_walk};
+pub(crate) use pieces::{Piece, write_line};
+pub use platform::print_platform;
+use std::alloc::{Allocator, Global};
+use std::io;
+use std::io::Write;
+
+/// Prints the lines of each part of the tables, in this order: the revision, the valid tables' headers, the
+/// AML of the DSDT and of the SSDTs, the platform, the HPET, the regions of PCI configuration space, the boot
+/// graphic (BGRT) and the serial console (SPCR). A part that is refused is one line that says why.
+///
+/// Refuses with the refusal of the first write that is refused.
+pub fn print_parts<H: AcpiHandler, W: Write>(
+    alloc: Global,
+    tables: &AcpiTables<'_, H>,
+    out: &mut W,
+) -> io::Result<()>
+    ensures { OnOk result (AppendsSome (IsLines (memory_of tables.now) (opened_of tables.now))
+        (W.contents out.old) (W.contents out.new)) }
+{
+    print_revision(tables, out)?;
+    print_headers(tables, out)?;
+    print_dsdt(tables, out)?;
+    print_ssdts(tables, out)?;
+    print_platform(alloc, tables, out)?;
+    print_hpet(tables, out)?;
+    print_pci(alloc, tables, out)?;
+    print_bgrt(tables, out)?;
+    print_spcr(tables, out)
+}
+
+/// Prints a line for each table that a lookup passes over as faulty, with the refusal, for FADT, MADT, MCFG,
+/// HPET, BGRT and SPCR, in this order.
+///
+/// Refuses with the refusal of the first write that is refused.
+pub fn print_skipped_tables<H: AcpiHandler, E: Write>(
+    tables: &AcpiTables<'_, H>,
+    err: &mut E,
+) -> io::Result<()>
+    ensures { OnOk result (Appends (E.contents err.old) (E.contents err.new)
+        (skipped_lines_of (memory_of tables.now) (opened_of tables.now))) }
+{
+    print_skipped::<H, Fadt, E>(tables, err)?;
+    print_skipped::<H, Madt, E>(tables, err)?;
+    print_skipped::<H, Mcfg, E>(tables, err)?;
+    print_skipped::<H, HpetTable, E>(tables, err)?;
+    print_skipped::<H, Bgrt, E>(tables, err)?;
+    print_skipped::<H, Spcr, E>(tables, err)
+}
+
+/// Prints the line of each table that the lookup of a type passes over, but for those of another signature.
+fn print_skipped<H: AcpiHandler, T: AcpiTable, E: Write>(
+    tables: &AcpiTables<'_, H>,
+    err: &mut E,
+) -> io::Result<()>
+    ensures { OnOk result (Appends (E.contents err.old) (E.contents err.new)
+        (flat_map (skipped_line T.SIGNATURE) (of_tables tables.now (λ m. faults_of m T.kind)))) }
+{
+    print_walk(tables.faults::<T>(), err)
+}
+
+/// Prints `skipped SIG ADDRESS: REFUSAL` for each fault.
+impl<H: Lender, T: AcpiTable> Walk for TableFaults<'_, '_, H, T> {
+    ghost use Rattle.std.specs.Prelude.{flat_map};
+    ghost use Rattle.std.proofs.Common.{ap};
+    ghost use Rattle.acpi.specs.Walks.{faults_left};
+    ghost use Rattle.acpi_view_lib.specs.Lines.{skipped_line};
+
+    ghost item_line = { skipped_line T.SIGNATURE };
+
+    ghost lines = { λ s. flat_map (skipped_line T.SIGNATURE) (faults_left H.memory T.kind s) };
+
+    fn print_item<W: Write>(fault: TableFault, err: &mut W) -> io::Result<()>
+        ensures { OnOk result (Appends (W.contents err.old) (W.contents err.new)
+            (skipped_line T.SIGNATURE fault)) }
+    {
+        let pieces = [
+            Piece::Name("skipped ", T::SIGNATURE),
+            Piece::Address(" ", fault.address),
+            Piece::Refusal(": ", fault.error),
+        ];
+        write_line(&pieces, err)
+    }
+
+    ghost next = { λ s t x e. ap (flat_map (skipped_line T.SIGNATURE)) e };
+
+    ghost end = { λ s t e. ap (flat_map (skipped_line T.SIGNATURE)) e.0 };
+}
+
+/// Prints `revision R`, the one that the tables were opened with.
+#[tactic(auto, unfolding(crate::specs::Lines::revision_line))]
+fn print_revision<H: AcpiHandler, W: Write>(
+    tables: &AcpiTables<'_, H>,
+    out: &mut W,
+) -> io::Result<()>
+    ensures { OnOk result (Appends (W.contents out.old) (W.contents out.new)
+        (revision_line (revision_of tables.now))) }
+{
+    let revision = tables.revision() as u64;
+    write_line(&[Piece::Number("revision ", revision)], out)
+}
+
+/// Prints `table SIG length L revision R` for each valid table.
+fn print_headers<H: AcpiHandler, W: Write>(
+    tables: &AcpiTables<'_, H>,
+    out: &mut W,
+) -> io::Result<()>
+    ensures { OnOk result (Appends (W.contents out.old) (W.contents out.new)
+        (header_lines (memory_of tables.now) (pointers_of tables.now))) }
+{
+    print_walk(tables.headers(), out)
+}
+
+/// Prints `table SIG length L revision R` for each header.
+impl<H: Lender> Walk for SdtHeaderIterator<'_, '_, H> {
+    ghost use Rattle.std.specs.Prelude.{flat_map};
+    ghost use Rattle.std.proofs.Common.{ap};
+    ghost use Rattle.acpi.specs.Walks.{headers_left};
+    ghost use Rattle.acpi_view_lib.specs.Lines.{header_line};
+
+    ghost item_line = { header_line };
+
+    ghost lines = { λ s. flat_map header_line (headers_left H.memory s) };
+
+    fn print_item<W: Write>(header: SdtHeader, out: &mut W) -> io::Result<()>
+        ensures { OnOk result (Appends (W.contents out.old) (W.contents out.new)
+            (header_line header)) }
+    {
+        let pieces = [
+            Piece::Name("table ", header.signature),
+            Piece::Number(" length ", header.length as u64),
+            Piece::Number(" revision ", header.revision as u64),
+        ];
+        write_line(&pieces, out)
+    }
+
+    ghost next = { λ s t x e. ap (flat_map header_line) e };
+
+    ghost end = { λ s t e. ap (flat_map header_line) e.0 };
+}
+
+/// Prints `dsdt ADDRESS length L` for the AML of the DSDT, or its refusal.
+fn print_dsdt<H: AcpiHandler, W: Write>(tables: &AcpiTables<'_, H>, out: &mut W) -> io::Result<()>
+    ensures { OnOk result (Appends (W.contents out.old) (W.contents out.new)
+        (dsdt_lines (memory_of tables.now) (pointers_of tables.now))) }
+{
+    match tables.dsdt() {
+        Ok(stream) => print_stream("dsdt", stream, out),
+        Err(refusal) => print_refused("dsdt", refusal, out),
+    }
+}
+
+/// Prints `ssdt ADDRESS length L` for the AML of each valid SSDT.
+fn print_ssdts<H: AcpiHandler, W: Write>(tables: &AcpiTables<'_, H>, out: &mut W) -> io::Result<()>
+    ensures { OnOk result (Appends (W.contents out.old) (W.contents out.new)
+        (ssdt_lines (memory_of tables.now) (pointers_of tables.now))) }
+{
+    print_walk(tables.ssdts(), out)
+}
+
+/// Prints `ssdt ADDRESS length L` for each stream.
+impl<H: Lender> Walk for SsdtIterator<'_, '_, H> {
+    ghost use Rattle.std.specs.Prelude.{codes, flat_map};
+    ghost use Rattle.std.proofs.Common.{ap};
+    ghost use Rattle.acpi.specs.Walks.{ssdts_left};
+    ghost use Rattle.acpi_view_lib.specs.Lines.{stream_line};
+
+    ghost item_line = { stream_line (codes "ssdt") };
+
+    ghost lines = { λ s. flat_map (stream_line (codes "ssdt")) (ssdts_left H.memory s) };
+
+    fn print_item<W: Write>(stream: AmlTable, out: &mut W) -> io::Result<()>
+        ensures { OnOk result (Appends (W.contents out.old) (W.contents out.new)
+            (stream_line (codes "ssdt") stream)) }
+    {
+        print_stream("ssdt", stream, out)
+    }
+
+    ghost next = { λ s t x e. ap (flat_map (stream_line (codes "ssdt"))) e };
+
+    ghost end = { λ s t e. ap (flat_map (stream_line (codes "ssdt"))) e.0 };
+}
+
+/// Prints the line of the event timer block, or its refusal.
+fn print_hpet<H: AcpiHandler, W: Write>(tables: &AcpiTables<'_, H>, out: &mut W) -> io::Result<()>
+    ensures { OnOk result (Appends (W.contents out.old) (W.contents out.new)
+        (hpet_lines (memory_of tables.now) (pointers_of tables.now))) }
+{
+    match HpetInfo::new(tables) {
+        Ok(info) => print_timers(&info, out),
+        Err(refusal) => print_refused("hpet", refusal, out),
+    }
+}
+
+/// Prints `hpet ADDRESS number N tick T`.
+fn print_timers<W: Write>(info: &HpetInfo, out: &mut W) -> io::Result<()>
+    ensures { OnOk result (Appends (W.contents out.old) (W.contents out.new)
+        (hpet_line info.now)) }
+{
+    let pieces = [
+        Piece::Address("hpet ", info.base_address),
+        Piece::Number(" number ", info.hpet_number as u64),
+        Piece::Number(" tick ", info.clock_tick_unit as u64),
+    ];
+    write_line(&pieces, out)
+}
+
+/// Prints the lines of the regions of PCI configuration space, or the one line of their refusal. Memory for
+/// them is an allocator's.
+///
+/// Refuses with the refusal of the first write that is refused.
+#[tactic(auto, using(crate::proofs::Writing::said_or_full))]
+pub fn print_pci<H: AcpiHandler, A: Allocator + Clone, W: Write>(
+    alloc: A,
+    tables: &AcpiTables<'_, H>,
+    out: &mut W,
+) -> io::Result<()>
+    ensures { OnOk result (AppendsSome (IsPciText (memory_of tables.now) (pointers_of tables.now))
+        (W.contents out.old) (W.contents out.new)) }
+{
+    print_regions(PciConfigRegions::new_in(tables, alloc), out)
+}
+
+/// Prints the lines of the regions that are found, or their refusal.
+#[tactic(auto, using(crate::proofs::Writing::shown_lines))]
+fn print_regions<A: Allocator, W: Write>(
+    found: AcpiResult<PciConfigRegions<A>>,
+    out: &mut W,
+) -> io::Result<()>
+    ensures { OnOk result (Appends (W.contents out.old) (W.contents out.new)
+        (lines_or_refusal (codes "pci") region_lines found)) }
+{
+    match found {
+        Ok(regions) => print_walk(regions.iter(), out),
+        Err(refusal) => print_refused("pci", refusal, out),
+    }
+}
+
+/// Prints `pci SEGMENT FIRST LAST ADDRESS` for each region.
+impl Walk for PciConfigEntryIterator<'_> {
+    ghost use Rattle.std.specs.Prelude.{flat_map};
+    ghost use Rattle.std.proofs.Common.{ap};
+    ghost use Rattle.acpi.specs.Pci.{shown_in, shown_left};
+    ghost use Rattle.acpi_view_lib.specs.Lines.{shown_line};
+
+    ghost item_line = { λ region. shown_line (shown_in region) };
+
+    ghost lines = { λ s. flat_map shown_line (shown_left s) };
+
+    fn print_item<W: Write>(region: PciConfigEntry, out: &mut W) -> io::Result<()>
+        ensures { OnOk result (Appends (W.contents out.old) (W.contents out.new)
+            (shown_line (shown_in region))) }
+    {
+        let (first, last) = region.bus_range.into_inner();
+        let pieces = [
+            Piece::Number("pci ", region.segment_group as u64),
+            Piece::Number(" ", first as u64),
+            Piece::Number(" ", last as u64),
+            Piece::Address(" ", region.physical_address),
+        ];
+        write_line(&pieces, out)
+    }
+
+    ghost next = { λ s t x e. ap (flat_map shown_line) e };
+
+    ghost end = { λ s t e. ap (flat_map shown_line) e.0 };
+}
+
+/// Prints the line of the boot graphic, or its refusal.
+fn print_bgrt<H: AcpiHandler, W: Write>(tables: &AcpiTables<'_, H>, out: &mut W) -> io::Result<()>
+    ensures { OnOk result (Appends (W.contents out.old) (W.contents out.new)
+        (bgrt_lines (memory_of tables.now) (pointers_of tables.now))) }
+{
+    match tables.find_table::<Bgrt>() {
+        Ok(graphic) => print_graphic(&graphic, out),
+        Err(refusal) => print_refused("bgrt", refusal, out),
+    }
+}
+
+/// Prints `bgrt displayed yes|no angle A offset X Y`.
+fn print_graphic<W: Write>(graphic: &Bgrt, out: &mut W) -> io::Result<()>
+    ensures { OnOk result (Appends (W.contents out.old) (W.contents out.new)
+        (graphic_line graphic.now)) }
+{
+    let displayed = yes_or_no(graphic.was_displayed());
+    let angle = graphic.orientation_offset();
+    let (x, y) = graphic.image_offset();
+    let pieces = [
+        Piece::Word("bgrt displayed ", displayed),
+        Piece::Number(" angle ", angle as u64),
+        Piece::Number(" offset ", x as u64),
+        Piece::Number(" ", y as u64),
+    ];
+    write_line(&pieces, out)
+}
+
+/// `yes` if it holds, else `no`.
+fn yes_or_no(holds: bool) -> &'static str
+    ensures { result.now ≡ yes_or_no holds }
+{
+    if holds { "yes" } else { "no" }
+}
+
+/// Prints the line of the serial console, or its refusal.
+fn print_spcr<H: AcpiHandler, W: Write>(tables: &AcpiTables<'_, H>, out: &mut W) -> io::Result<()>
+    ensures { OnOk result (Appends (W.contents out.old) (W.contents out.new)
+        (spcr_lines (memory_of tables.now) (pointers_of tables.now))) }
+{
+    match tables.find_table::<Spcr>() {
+        Ok(console) => print_console(&console, out),
+        Err(refusal) => print_refused("spcr", refusal, out),
+    }
+}
+
+/// Prints `spcr baud B irq I gsi G`.
+fn print_console<W: Write>(console: &Spcr, out: &mut W) -> io::Result<()>
+    ensures { OnOk result (Appends (W.contents out.old) (W.contents out.new)
+        (console_line console.now)) }
+{
+    let pieces = [
+        Piece::Text("spcr"),
+        Piece::Setting("baud", console.baud_rate()),
+        Piece::Setting("irq", widened(console.irq())),
+        Piece::Setting("gsi", console.global_system_interrupt()),
+    ];
+    write_line(&pieces, out)
+}
+
+/// The number in four bytes.
+fn widened(number: Option<u8>) -> Option<u32>
+    ensures { result ≡ number }
+{
+    match number {
+        Some(number) => Some(u32::from(number)),
+        None => None,
+    }
+}
+
+/// Prints `PART ADDRESS length L` for a stream of AML.
+fn print_stream<W: Write>(part: &str, stream: AmlTable, out: &mut W) -> io::Result<()>
+    ensures { OnOk result (Appends (W.contents out.old) (W.contents out.new)
+        (stream_line part.now stream)) }
+{
+    let pieces = [
+        Piece::Text(part),
+        Piece::Address(" ", stream.address),
+        Piece::Number(" length ", stream.length as u64),
+    ];
+    write_line(&pieces, out)
+}
+
+/// Prints `PART: REFUSAL`, if this part is refused.
+fn print_refused<W: Write>(part: &str, refusal: AcpiError, out: &mut W) -> io::Result<()>
+    ensures { OnOk result (Appends (W.contents out.old) (W.contents out.new)
+        (refused_line part.now refusal)) }
+{
+    let pieces = [Piece::Text(part), Piece::Refusal(": ", refusal)];
+    write_line(&pieces, out)
+}

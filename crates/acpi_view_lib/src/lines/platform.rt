@@ -1,0 +1,275 @@
+//! The lines of the platform.
+ghost use Rattle.std.specs.Prelude.{◌≡◌, ℕ, OnOk, codes, flat_map};
+ghost use Rattle.std.specs.Io.KnownBytes.{Appends};
+ghost use Rattle.acpi_fixed.specs.Fadt.{profile_for};
+ghost use Rattle.acpi.specs.Tables.{memory_of, pointers_of};
+ghost use Rattle.acpi_view_lib.specs.Lines.{lines_or_refusal};
+ghost use Rattle.acpi_view_lib.specs.PlatformLines.{IsPlatformText, apic_line, apic_lines, info_lines};
+ghost use Rattle.acpi_view_lib.specs.PlatformLines.{input_word, io_apic_line, model_lines};
+ghost use Rattle.acpi_view_lib.specs.PlatformLines.{nmi_input_line, nmi_source_line, override_line};
+ghost use Rattle.acpi_view_lib.specs.PlatformLines.{polarity_word, processor_line, processor_lines};
+ghost use Rattle.acpi_view_lib.specs.PlatformLines.{profile_line, profile_number, state_word};
+ghost use Rattle.acpi_view_lib.specs.PlatformLines.{timer_line, trigger_word};
+ghost use Rattle.acpi_view_lib.specs.Writing.{AppendsSome};
+
+use super::{Line, Piece, print_each, print_refused, write_line, yes_or_no};
+use acpi::platform::interrupt::{
+    Apic, InterruptModel, InterruptSourceOverride, IoApic, LocalInterruptLine, NmiLine,
+    NmiProcessor, NmiSource, Polarity, TriggerMode,
+};
+use acpi::platform::{PmTimer, Processor, ProcessorInfo, ProcessorState};
+use acpi::{AcpiHandler, AcpiResult, AcpiTables, PlatformInfo, PowerProfile};
+use std::alloc::Allocator;
+use std::io;
+use std::io::Write;
+
+/// Prints the lines of the platform, as the FADT and the MADT describe it, or the one line of its refusal.
+/// Memory for it is an allocator's.
+///
+/// Refuses with the refusal of the first write that is refused.
+pub fn print_platform<H: AcpiHandler, A: Allocator + Clone, W: Write>(
+    alloc: A,
+    tables: &AcpiTables<'_, H>,
+    out: &mut W,
+) -> io::Result<()>
+    ensures { OnOk result (AppendsSome
+        (IsPlatformText A (memory_of tables.now) (pointers_of tables.now))
+        (W.contents out.old) (W.contents out.new)) }
+{
+    print_found(tables.platform_info_in(alloc), out)
+}
+
+/// Prints the lines of the platform that is found, or its refusal.
+fn print_found<A: Allocator, W: Write>(
+    found: AcpiResult<PlatformInfo<A>>,
+    out: &mut W,
+) -> io::Result<()>
+    ensures { OnOk result (Appends (W.contents out.old) (W.contents out.new)
+        (lines_or_refusal (codes "platform") info_lines found)) }
+{
+    match found {
+        Ok(platform) => print_info(&platform, out),
+        Err(refusal) => print_refused("platform", refusal, out),
+    }
+}
+
+/// Prints the lines of the profile, of the interrupt model, of the processors and of the timer.
+fn print_info<A: Allocator, W: Write>(platform: &PlatformInfo<A>, out: &mut W) -> io::Result<()>
+    ensures { OnOk result (Appends (W.contents out.old) (W.contents out.new)
+        (info_lines platform.now)) }
+{
+    print_profile(platform.power_profile, out)?;
+    print_model(&platform.interrupt_model, out)?;
+    print_processors(&platform.processor_info, out)?;
+    print_timer(platform.pm_timer, out)
+}
+
+/// Prints `platform profile N`.
+#[tactic(auto, unfolding(crate::specs::PlatformLines::profile_line))]
+fn print_profile<W: Write>(profile: PowerProfile, out: &mut W) -> io::Result<()>
+    ensures { OnOk result (Appends (W.contents out.old) (W.contents out.new)
+        (profile_line profile)) }
+{
+    let number = profile_number(profile) as u64;
+    write_line(&[Piece::Number("platform profile ", number)], out)
+}
+
+/// The code of Preferred_PM_Profile that stands for a profile.
+fn profile_number(profile: PowerProfile) -> u8
+    ensures value { result ≡ profile_number profile }
+    // A profile is read from no other number.
+    ensures code { (code : ℕ) → profile_for code ≡ profile → result ≡ code }
+{
+    match profile {
+        PowerProfile::Unspecified => 0,
+        PowerProfile::Desktop => 1,
+        PowerProfile::Mobile => 2,
+        PowerProfile::Workstation => 3,
+        PowerProfile::EnterpriseServer => 4,
+        PowerProfile::SohoServer => 5,
+        PowerProfile::AppliancePc => 6,
+        PowerProfile::PerformanceServer => 7,
+        PowerProfile::Tablet => 8,
+        PowerProfile::Reserved(number) => number,
+    }
+}
+
+/// Prints `model unknown`, or the lines of the APICs.
+fn print_model<A: Allocator, W: Write>(model: &InterruptModel<A>, out: &mut W) -> io::Result<()>
+    ensures { OnOk result (Appends (W.contents out.old) (W.contents out.new)
+        (model_lines model.now)) }
+{
+    match model {
+        InterruptModel::Unknown => write_line(&[Piece::Text("model unknown")], out),
+        InterruptModel::Apic(apic) => print_apic(apic, out),
+    }
+}
+
+/// Prints the line of the local APICs, then the lines of each list.
+fn print_apic<A: Allocator, W: Write>(apic: &Apic<A>, out: &mut W) -> io::Result<()>
+    ensures { OnOk result (Appends (W.contents out.old) (W.contents out.new)
+        (apic_lines apic.now)) }
+{
+    print_local_apic(apic, out)?;
+    print_each(apic.io_apics.as_slice(), out)?;
+    print_each(apic.interrupt_source_overrides.as_slice(), out)?;
+    print_each(apic.nmi_sources.as_slice(), out)?;
+    print_each(apic.local_apic_nmi_lines.as_slice(), out)
+}
+
+/// Prints `model apic ADDRESS pics yes|no`.
+#[tactic(auto, unfolding(crate::specs::PlatformLines::apic_line))]
+fn print_local_apic<A: Allocator, W: Write>(apic: &Apic<A>, out: &mut W) -> io::Result<()>
+    ensures { OnOk result (Appends (W.contents out.old) (W.contents out.new)
+        (apic_line apic.now)) }
+{
+    let pieces = [
+        Piece::Address("model apic ", apic.local_apic_address),
+        Piece::Word(" pics ", yes_or_no(apic.also_has_legacy_pics)),
+    ];
+    write_line(&pieces, out)
+}
+
+/// Prints `ioapic ID ADDRESS BASE`.
+impl Line for IoApic {
+    ghost line = { io_apic_line };
+
+    fn print<W: Write>(&self, out: &mut W) -> io::Result<()> {
+        let pieces = [
+            Piece::Number("ioapic ", self.id as u64),
+            Piece::Address(" ", self.address as u64),
+            Piece::Number(" ", self.global_system_interrupt_base as u64),
+        ];
+        write_line(&pieces, out)
+    }
+}
+
+/// Prints `override SOURCE GSI POLARITY TRIGGER`.
+impl Line for InterruptSourceOverride {
+    ghost line = { override_line };
+
+    fn print<W: Write>(&self, out: &mut W) -> io::Result<()> {
+        let pieces = [
+            Piece::Number("override ", self.isa_source as u64),
+            Piece::Number(" ", self.global_system_interrupt as u64),
+            Piece::Word(" ", polarity_word(self.polarity)),
+            Piece::Word(" ", trigger_word(self.trigger_mode)),
+        ];
+        write_line(&pieces, out)
+    }
+}
+
+/// Prints `nmi GSI POLARITY TRIGGER`.
+impl Line for NmiSource {
+    ghost line = { nmi_source_line };
+
+    fn print<W: Write>(&self, out: &mut W) -> io::Result<()> {
+        let pieces = [
+            Piece::Number("nmi ", self.global_system_interrupt as u64),
+            Piece::Word(" ", polarity_word(self.polarity)),
+            Piece::Word(" ", trigger_word(self.trigger_mode)),
+        ];
+        write_line(&pieces, out)
+    }
+}
+
+/// The word of a polarity: `bus`, `high` or `low`.
+fn polarity_word(polarity: Polarity) -> &'static str
+    ensures { result.now ≡ polarity_word polarity }
+{
+    match polarity {
+        Polarity::SameAsBus => "bus",
+        Polarity::ActiveHigh => "high",
+        Polarity::ActiveLow => "low",
+    }
+}
+
+/// The word of a trigger mode: `bus`, `edge` or `level`.
+fn trigger_word(trigger: TriggerMode) -> &'static str
+    ensures { result.now ≡ trigger_word trigger }
+{
+    match trigger {
+        TriggerMode::SameAsBus => "bus",
+        TriggerMode::Edge => "edge",
+        TriggerMode::Level => "level",
+    }
+}
+
+/// Prints `line all|UID lint0|lint1`.
+impl Line for NmiLine {
+    ghost line = { nmi_input_line };
+
+    fn print<W: Write>(&self, out: &mut W) -> io::Result<()> {
+        let whose = match self.processor {
+            NmiProcessor::All => Piece::Text("line all"),
+            NmiProcessor::ProcessorUid(uid) => Piece::Number("line ", uid as u64),
+        };
+        write_line(&[whose, Piece::Word(" ", input_word(self.line))], out)
+    }
+}
+
+/// The word of a LINT pin: `lint0` or `lint1`.
+fn input_word(input: LocalInterruptLine) -> &'static str
+    ensures { result.now ≡ input_word input }
+{
+    match input {
+        LocalInterruptLine::Lint0 => "lint0",
+        LocalInterruptLine::Lint1 => "lint1",
+    }
+}
+
+/// Prints the line of each processor, the boot processor's first.
+#[tactic(auto, using(crate::proofs::Writing::then_more))]
+fn print_processors<A: Allocator, W: Write>(
+    listed: &Option<ProcessorInfo<A>>,
+    out: &mut W,
+) -> io::Result<()>
+    ensures { OnOk result (Appends (W.contents out.old) (W.contents out.new)
+        (processor_lines listed.now)) }
+{
+    let Some(info) = listed else {
+        return Ok(());
+    };
+    info.boot_processor.print(out)?;
+    print_each(info.application_processors.as_slice(), out)
+}
+
+/// Prints `processor UID ID running|waiting|disabled`.
+impl Line for Processor {
+    ghost line = { processor_line };
+
+    fn print<W: Write>(&self, out: &mut W) -> io::Result<()> {
+        let pieces = [
+            Piece::Number("processor ", self.processor_uid as u64),
+            Piece::Number(" ", self.local_apic_id as u64),
+            Piece::Word(" ", state_word(self.state)),
+        ];
+        write_line(&pieces, out)
+    }
+}
+
+/// The word of a processor's state: `disabled`, `waiting` or `running`.
+fn state_word(state: ProcessorState) -> &'static str
+    ensures { result.now ≡ state_word state }
+{
+    match state {
+        ProcessorState::Disabled => "disabled",
+        ProcessorState::WaitingForSipi => "waiting",
+        ProcessorState::Running => "running",
+    }
+}
+
+/// Prints `timer none`, or `timer ADDRESS bits 24|32`.
+fn print_timer<W: Write>(timer: Option<PmTimer>, out: &mut W) -> io::Result<()>
+    ensures { OnOk result (Appends (W.contents out.old) (W.contents out.new)
+        (timer_line timer)) }
+{
+    let Some(timer) = timer else {
+        return write_line(&[Piece::Text("timer none")], out);
+    };
+    let pieces = [
+        Piece::Address("timer ", timer.base.address),
+        Piece::Word(" bits ", if timer.supports_32bit { "32" } else { "24" }),
+    ];
+    write_line(&pieces, out)
+}
