@@ -2,16 +2,16 @@
  * Specification, version 6.4, unless another document is named. Names of fields, as Length or SCI_INT, are those of the
  * document that lays the table out.
  *
- * No call keeps a state, takes memory or calls back. Each one gets the memory that the caller has mapped
- * (struct acpi_source), checks it, opens the tables in it anew, and answers. It can be called with any
- * numbers in these structs and over any bytes.
+ * No call keeps a state, takes memory or calls back, so any number may run at once, each with outputs of its own. Each
+ * one but acpi_clip_ranges gets the memory that the caller has mapped (struct acpi_source), checks it, opens the tables
+ * in it anew, and answers. It can be called with any numbers in these structs and over any bytes.
  *
  * What the caller keeps: no pointer is null, each is aligned for its type and points to as many items as
  * the length beside it says, all initialised; an output shares no byte with an input or another output;
  * and while a call runs nobody writes what it reads, nor touches what it writes. For a length of 0 the
  * pointer isn't null either. Interrupts may be on if the caller's ABI allows for the red zone; SSE2 is
  * used, so a kernel enables it first (CR0.EM clear, CR4.OSFXSR set), and the stack is aligned as the ABI
- * says.
+ * says. A call may change every vector register, as the ABI allows.
  *
  * What each call answers: ACPI_OK and all its outputs written, or the number of the first refusal and
  * nothing written, but for `named`: if the refusal carries a signature (8 to 13 of enum acpi_refusal),
@@ -25,12 +25,21 @@
  * A field that says whether something holds is 0 for no and 1 for yes.
  *
  * "Lent" are bytes that lie in one of the caller's regions, all in the same one. A table is valid if 36 bytes
- * are lent at its address, it has its signature, its OEMID and its OEM Table ID are valid UTF-8, its Length
- * is at least that of its fixed fields, so many bytes are lent, and they sum to 0 modulo 256 (section 5.2.6).
+ * are lent at its address, it has its signature, this, its OEMID and its OEM Table ID are valid UTF-8, its Length
+ * is at least its least length, that many bytes are lent, and they sum to 0 modulo 256 (section 5.2.6).
+ *
+ * The least length is where the fixed fields end: 116 for an FADT, 44 for a MADT, an MCFG or a SLIT, 48 for an SRAT,
+ * 56 for an HPET or a BGRT, 80 for an SPCR, 96 for a GTDT, and 36 for any other table. It is 36 for every listed table
+ * that acpi_find_table, acpi_find_nth_table, acpi_list_tables or acpi_list_ranges answers, or that
+ * acpi_list_missing_ranges has a range of.
+ *
+ * Bytes of a field past the end of its table or entry are read as 0, and a field is read in every Revision of its
+ * table, unless the field below says otherwise. A field X_... of an FADT is read as 0 below revision 2, and if the
+ * table hasn't all its bytes.
  *
  * Each call below that has a source refuses first, in this order: ACPI_REGIONS_NOT_ASCENDING and
- * ACPI_REGION_TOO_HIGH for the regions one after the other, ACPI_UNKNOWN_START, and then what opening the
- * tables refuses:
+ * ACPI_REGION_TOO_HIGH for the regions one after the other, ACPI_UNKNOWN_START, and then, but for
+ * acpi_list_missing_ranges, what opening the tables refuses:
  *   start at an RSDP   ACPI_MAP_FAILED if 36 bytes aren't lent there, ACPI_RSDP_INCORRECT_SIGNATURE,
  *                      ACPI_RSDP_INVALID_OEM_ID, ACPI_RSDP_INVALID_CHECKSUM for its first 20 bytes, or, above
  *                      revision 0, if its Length is under 36, then ACPI_MAP_FAILED if that many bytes aren't
@@ -44,7 +53,10 @@
  *                      ..._TABLE_ID, ..._LENGTH if its Length is under 36, ACPI_MAP_FAILED if that many bytes
  *                      aren't lent, ACPI_SDT_INVALID_CHECKSUM (sections 5.2.6 to 5.2.8); those that carry a
  *                      signature carry "RSDT" or "XSDT"
- * Only what it refuses after that stands at the call, after "Refuses then", in order. */
+ * Only what it refuses after that stands at the call, after "Refuses then", in order.
+ *
+ * The members of the root table are what its pointers lead to, from byte 36 on, of 4 bytes in an RSDT and 8 in an XSDT.
+ * Fewer bytes at the end are a pointer too, as if zeros followed. */
 #ifndef ACPI_H
 #define ACPI_H
 #include <stddef.h>
@@ -70,7 +82,7 @@ enum acpi_refusal {
     ACPI_SDT_INVALID_SIGNATURE = 8,    /* another Signature stands there, or one that isn't UTF-8 */
     ACPI_SDT_INVALID_OEM_ID = 9,       /* OEMID isn't UTF-8 */
     ACPI_SDT_INVALID_TABLE_ID = 10,    /* OEM Table ID isn't UTF-8 */
-    ACPI_SDT_INVALID_LENGTH = 11,      /* Length is less than the table's fixed fields */
+    ACPI_SDT_INVALID_LENGTH = 11,      /* Length is less than the table's least length */
     ACPI_SDT_INVALID_CHECKSUM = 12,    /* the table's bytes don't sum to 0 */
     ACPI_TABLE_MISSING = 13,           /* no valid table of this signature is listed */
     ACPI_INVALID_FACS_ADDRESS = 14,    /* no call of this header answers it: a FACS at 0 is none */
@@ -85,15 +97,20 @@ enum acpi_refusal {
     ACPI_NO_APICS = 23,                /* no valid MADT has an entry of a machine with APICs: the model is unknown */
     ACPI_NO_SUCH_INTERRUPT = 24,       /* no ISA interrupt of this number comes to an I/O APIC */
     ACPI_NO_SUCH_IO_APIC = 25,         /* no I/O APIC has this global system interrupt */
-    /* 32 to 38: the entries of a valid MADT (section 5.2.12). */
-    ACPI_MADT_UNEXPECTED_ENTRY = 32,   /* its Type is of a SAPIC, a platform interrupt source or a GIC */
+    /* 32 to 38: the entries of a valid MADT (section 5.2.12), one after the other from byte 44 on. One begins where its
+     * Length is at most the bytes left and at least 8, 12, 10, 8, 6, 12, 16, 16, 16, 16, 12, 76, 24, 24, 16, 20 and 16
+     * for Types 0 to 0x10, and 2 for any other Type, whose entries are passed over. */
+    ACPI_MADT_UNEXPECTED_ENTRY = 32,   /* its Type is of a SAPIC, a platform interrupt source (6 to 8) or a GIC (0xb to
+                                        * 0xf) */
     ACPI_MADT_INTERRUPT_OVERRIDE_ENTRY_HAS_INVALID_BUS = 33, /* Bus isn't 0, ISA (section 5.2.12.5) */
     ACPI_MADT_INVALID_LOCAL_NMI_LINE = 34,        /* LINT# isn't 0 or 1 (sections 5.2.12.7 and 5.2.12.13) */
     ACPI_MADT_MPS_INTI_INVALID_POLARITY = 35,     /* Polarity of the flags is 2, reserved (section 5.2.12.5) */
     ACPI_MADT_MPS_INTI_INVALID_TRIGGER_MODE = 36, /* Trigger Mode of the flags is 2, reserved (section 5.2.12.5) */
     ACPI_MADT_WAKEUP_APS_TIMEOUT = 37,   /* no call of this header answers it: none wakes processors */
     ACPI_MADT_INVALID_ENTRY_LENGTH = 38, /* bytes of the table are left in which no entry begins */
-    ACPI_NUMA_INVALID_ENTRY_LENGTH = 40, /* bytes of the SRAT are left in which no entry begins (section 5.2.16) */
+    ACPI_NUMA_INVALID_ENTRY_LENGTH = 40, /* bytes of the SRAT are left in which no entry begins (section 5.2.16): as in
+                                          * a MADT, but from byte 48 on, and with a Length of at least 16, 40, 24, 18,
+                                          * 12, 32 and 32 for Types 0 to 6 */
     ACPI_NUMA_INVALID_MEMORY_RANGE = 41, /* the address after a range of memory in the SRAT is above 2^64 - 1 */
     ACPI_NO_GIC = 42,                    /* the MADT has no GICD entry (section 5.2.12.15) */
     ACPI_NO_DOMAIN = 43,                 /* the SRAT puts the address or processor into no domain */
@@ -122,8 +139,9 @@ enum acpi_start {
     ACPI_START_BIOS_SEARCH = 3 /* the RSDP is searched for in the BIOS areas; `address` isn't looked at */
 };
 
-/* Where tables are looked for. The regions stand in ascending order and share no byte. A table has to lie
- * in one region: regions that touch aren't joined (acpi_clip_ranges joins ranges). */
+/* Where tables are looked for. The regions stand in ascending order and share no byte: each, also one of no bytes,
+ * begins at the end of the one before it or above. A table has to lie in one region: regions that touch aren't joined
+ * (acpi_clip_ranges joins ranges). */
 struct acpi_source {
     const struct acpi_region *regions;
     size_t regions_length; /* how many regions there are */
@@ -175,9 +193,10 @@ acpi_status acpi_open(const struct acpi_source *source, struct acpi_root *out, s
  * comes. If opening the tables is refused with ACPI_MAP_FAILED, it is the one range that was refused. If the tables
  * are opened, it is one for each member of the root table, in order, that is passed over with ACPI_MAP_FAILED: its 36
  * bytes of header (section 5.2.6), or as many bytes as its header says. One for the DSDT and one for the FACS of the
- * first valid FADT come after these, if they aren't lent (sections 5.2.11.1 and 5.2.10). There is none if opening
- * refuses otherwise. Each has at least two bytes. Refuses: ACPI_REGIONS_NOT_ASCENDING, ACPI_REGION_TOO_HIGH,
- * ACPI_UNKNOWN_START, and nothing else. */
+ * first valid FADT come after these, for the same reason (sections 5.2.11.1 and 5.2.10; the FACS needs its Signature
+ * and a Length of at least 64 before so many bytes are asked for). There is none if opening refuses otherwise. Each has
+ * at least two bytes. Refuses: ACPI_REGIONS_NOT_ASCENDING, ACPI_REGION_TOO_HIGH, ACPI_UNKNOWN_START, and nothing
+ * else. */
 acpi_status acpi_list_missing_ranges(const struct acpi_source *source, struct acpi_range *out, size_t room,
                                      size_t *count, struct acpi_signature *named);
 
@@ -197,10 +216,9 @@ acpi_status acpi_find_table(const struct acpi_source *source, struct acpi_signat
 acpi_status acpi_find_nth_table(const struct acpi_source *source, struct acpi_signature signature, size_t index,
                                 struct acpi_table *out, struct acpi_signature *named);
 
-/* The members of the root table that a lookup of a signature passes over for another reason than another Signature, in
- * order, up to the first that it takes (section 5.2.6). The lookup is that of the calls for this table: those for an
- * FADT, MADT, MCFG, HPET, BGRT, SPCR, GTDT, SRAT or SLIT take none that is shorter than its fixed fields; of another
- * table they ask for a header. Refuses nothing more than what stands at the top. */
+/* The members of the root table that a lookup of a signature passes over for another reason than another Signature, or
+ * one that isn't UTF-8, in order, up to the first that it takes (section 5.2.6). The lookup is that of the calls for
+ * this table: it asks for the table's least length. Refuses nothing more than what stands at the top. */
 acpi_status acpi_list_faults(const struct acpi_source *source, struct acpi_signature signature, struct acpi_fault *out,
                              size_t room, size_t *count, struct acpi_signature *named);
 
@@ -239,7 +257,7 @@ struct acpi_register {
 struct acpi_pm_timer {
     struct acpi_generic_address base; /* X_PM_TMR_BLK or PM_TMR_BLK: its register. Zeros unless it is present */
     uint8_t present;                  /* 0: there is none. 1: it is at `base` */
-    uint8_t is_32_bit;                /* TMR_VAL_EXT: 1 if it counts in 32 bits, 0 if in 24 */
+    uint8_t is_32_bit;                /* TMR_VAL_EXT: 1 if it counts in 32 bits, 0 if in 24. 0 unless it is present */
 };
 struct acpi_hpet_block {
     uint64_t base_address;         /* BASE_ADDRESS: of the registers, in memory */
@@ -247,8 +265,8 @@ struct acpi_hpet_block {
     uint16_t clock_tick_unit; /* Main Counter Minimum Clock_tick in Periodic Mode: the least ticks of a periodic
                                * timer */
     uint8_t number;           /* HPET Number: of the block, from 0 on */
-    uint8_t page_protection;  /* Page Protection: 0 nothing is promised, 1 the 4 KiB may be accessed, 2 the 64 KiB,
-                               * 3 reserved */
+    uint8_t page_protection;  /* Page Protection, bits 0 to 3: 0 nothing is promised, 1 the 4 KiB may be accessed, 2 the
+                               * 64 KiB, 3 a reserved code, 3 to 15 */
 };
 struct acpi_boot_graphic {
     uint64_t address;     /* Image Address: of the image */
@@ -263,17 +281,21 @@ struct acpi_gpe_block { /* general purpose events (sections 4.8.4.1 and 5.2.9), 
     uint8_t space;       /* as in struct acpi_generic_address; 0 unless it is present */
     uint8_t byte_length; /* GPEn_BLK_LEN: first the status bits, in the second half the enable bits; 0 unless it is
                           * present */
-    uint8_t present;     /* 0: there is none. 1: there is one. 2: its address is refused */
+    uint8_t present;     /* 0: there is none, as if GPEn_BLK_LEN is 0. 1: there is one. 2: its address is refused, for
+                          * Address Space ID alone: Access Size isn't looked at */
 };
-struct acpi_fixed_hardware { /* FADT, section 5.2.9. A block is that of the X_ field if this gives an address. */
+/* FADT, section 5.2.9. An address is that of the X_ field if this isn't 0, and a block is that of the X_ field if its
+ * Address isn't 0. Else a block is I/O ports at the other field, of eight bits for each byte of its length (PM1_EVT_LEN
+ * to GPE1_BLK_LEN), which may be 0; from 32 bytes on it is refused, but for gpe0_block and gpe1_block. */
+struct acpi_fixed_hardware {
     uint64_t facs_address;               /* X_FIRMWARE_CTRL or FIRMWARE_CTRL. 0: none */
     uint64_t dsdt_address;               /* X_DSDT or DSDT. 0: none */
     struct acpi_register pm1a_event, pm1b_event;     /* X_PM1n_EVT_BLK or PM1n_EVT_BLK: status and enable bits */
     struct acpi_register pm1a_control, pm1b_control; /* X_PM1n_CNT_BLK or PM1n_CNT_BLK: control registers */
     struct acpi_register pm2_control;    /* X_PM2_CNT_BLK or PM2_CNT_BLK */
-    struct acpi_register pm_timer;       /* X_PM_TMR_BLK or PM_TMR_BLK, section 4.8.3.3 */
-    struct acpi_register gpe0, gpe1;     /* X_GPEn_BLK or GPEn_BLK. Refused if a port's block has 32 bytes or more, see
-                                          * gpe0_block */
+    struct acpi_register pm_timer;       /* X_PM_TMR_BLK or PM_TMR_BLK, section 4.8.3.3. None if PM_TMR_LEN isn't 4 */
+    struct acpi_register gpe0, gpe1;     /* X_GPEn_BLK or GPEn_BLK, also if GPEn_BLK_LEN is 0. For ports of 32 bytes and
+                                          * more see gpe0_block */
     struct acpi_register reset;          /* RESET_REG: counts only if bit 10 of `flags` (RESET_REG_SUP) is set */
     struct acpi_register sleep_control;  /* SLEEP_CONTROL_REG, of a machine of reduced hardware */
     struct acpi_register sleep_status;   /* SLEEP_STATUS_REG, of a machine of reduced hardware */
@@ -298,10 +320,12 @@ struct acpi_fixed_hardware { /* FADT, section 5.2.9. A block is that of the X_ f
 };
 struct acpi_console { /* SPCR, whose layout is Microsoft's, and so are these names of its fields */
     struct acpi_register base;           /* Base Address: of the registers. None if all its twelve bytes are 0 */
-    uint32_t baud_rate;                  /* Precise Baud Rate, or what Configured Baud Rate stands for; 0 unless it is
-                                          * there. In bits in a second */
+    uint32_t baud_rate;                  /* Precise Baud Rate, or if that is 0 what Configured Baud Rate stands for: 3
+                                          * 9600, 4 19200, 6 57600, 7 115200; 0 unless it is there. In bits in a
+                                          * second */
     uint32_t global_system_interrupt;    /* Global System Interrupt; 0 unless it is there */
-    uint32_t clock_frequency;            /* UART Clock Frequency, in Hz. 0: the table doesn't say */
+    uint32_t clock_frequency;            /* UART Clock Frequency, in Hz. 0: the table doesn't say, or is below revision
+                                          * 3 */
     uint32_t pci_flags;                  /* PCI Flags. Bit 0: neither switch the device off nor look for its like */
     uint16_t pci_device_id, pci_vendor_id; /* PCI Device ID, PCI Vendor ID. 0xffff: the port is no PCI device */
     uint8_t interface;                   /* Interface Type: 0 16550, 1 16450, 3 PL011, ... */
@@ -314,22 +338,22 @@ struct acpi_console { /* SPCR, whose layout is Microsoft's, and so are these nam
     uint8_t pci_device, pci_function;    /* PCI Device Number, PCI Function Number */
 };
 
-/* The fixed hardware of the first valid FADT (section 5.2.9). A field past the end of a short table is 0. Refuses
- * then: ACPI_TABLE_MISSING "FACP". A register whose address is refused is no refusal: its `present` is 2. Those
- * of pm1a and reset are present at address 0 too, and those of sleep if the table has a field for them: 0 stands for
- * none. On a machine of reduced hardware (HW_REDUCED_ACPI, bit 20 of `flags`) those of pm1, pm2, gpe and the timer
- * mean nothing. */
+/* The fixed hardware of the first valid FADT (section 5.2.9). Refuses then: ACPI_TABLE_MISSING "FACP". A register whose
+ * address is refused is no refusal: its `present` is 2. Those of pm1a and reset are present at address 0 too, and those
+ * of sleep if the table is of revision 2 or above and has all twelve bytes: 0 stands for none. On a machine of reduced
+ * hardware (HW_REDUCED_ACPI, bit 20 of `flags`) those of pm1, pm2, gpe and the timer mean nothing. */
 acpi_status acpi_fixed_hardware(const struct acpi_source *source, struct acpi_fixed_hardware *out,
                                 struct acpi_signature *named);
 
 /* The serial console that the firmware used: the first valid SPCR, whose signature section 5.2.6 reserves and whose
- * layout is Microsoft's. A field past the end of a short table is 0. Refuses then: ACPI_TABLE_MISSING "SPCR". A base
- * whose address is refused is no refusal: its `present` is 2. */
+ * layout is Microsoft's. Refuses then: ACPI_TABLE_MISSING "SPCR". A base whose address is refused is no refusal: its
+ * `present` is 2. */
 acpi_status acpi_console(const struct acpi_source *source, struct acpi_console *out, struct acpi_signature *named);
 
 /* The power management timer of the first valid FADT, which counts at 3.579545 MHz (sections 4.8.3.3 and 5.2.9).
- * Refuses then: ACPI_TABLE_MISSING "FACP", ACPI_INVALID_GENERIC_ADDRESS if X_PM_TMR_BLK has a reserved code. No timer
- * is no refusal: `present` is 0 if PM_TMR_LEN isn't 4, or no field gives an address. */
+ * Refuses then: ACPI_TABLE_MISSING "FACP", ACPI_INVALID_GENERIC_ADDRESS if PM_TMR_LEN is 4 and X_PM_TMR_BLK has an
+ * Address that isn't 0 and a reserved code. No timer is no refusal: `present` is 0 if PM_TMR_LEN isn't 4, or no field
+ * gives an address. */
 acpi_status acpi_pm_timer(const struct acpi_source *source, struct acpi_pm_timer *out, struct acpi_signature *named);
 
 /* The block of event timers of the first valid HPET, whose signature section 5.2.6 reserves and whose layout is the
@@ -355,9 +379,9 @@ struct acpi_ecam_range {
     uint8_t present;          /* 0 if the last bus is below the first, or the range ends at 2^64 or above */
 };
 
-/* The regions of PCI configuration space, as the first valid MCFG has them, in its order. Section 5.2.6 reserves the
- * signature, and the layout is that of the PCI Firmware Specification, section 4.1.2. Refuses then: ACPI_TABLE_MISSING
- * "MCFG". */
+/* The regions of PCI configuration space, as the first valid MCFG has them, in its order: 16 bytes for each from byte
+ * 44 on, and fewer at the end are none. Section 5.2.6 reserves the signature, and the layout is that of the PCI
+ * Firmware Specification, section 4.1.2. Refuses then: ACPI_TABLE_MISSING "MCFG". */
 acpi_status acpi_list_pci_regions(const struct acpi_source *source, struct acpi_pci_region *out, size_t room,
                                   size_t *count, struct acpi_signature *named);
 
@@ -411,7 +435,7 @@ struct acpi_nmi_source { /* NMI Source, section 5.2.12.6 */
     uint32_t global_system_interrupt; /* Global System Interrupt */
     uint8_t polarity, trigger;        /* Polarity and Trigger Mode of Flags */
 };
-struct acpi_nmi_line { /* Local APIC NMI and Local x2APIC NMI, sections 5.2.12.7 and 5.2.12.13 */
+struct acpi_nmi_line { /* Local APIC NMI and Local x2APIC NMI, sections 5.2.12.7 and 5.2.12.13. Flags aren't read */
     uint32_t processor_uid; /* ACPI Processor UID; 0 if it is of all processors */
     uint8_t of_all;         /* whether ACPI Processor UID is 0xff, or 0xffffffff for an x2APIC: all processors */
     uint8_t lint;           /* Local APIC LINT#: 0 LINT0, 1 LINT1 */
@@ -424,10 +448,11 @@ struct acpi_processor { /* Processor Local APIC and Processor Local x2APIC, sect
 };
 
 /* Which controllers interrupts come to, and how many items the five lists below have, by the first valid MADT
- * (section 5.2.12). A machine without a valid MADT, or whose MADT has no entry of a machine with APICs, is no refusal:
- * the model isn't known, and the lists are empty. Refuses then: ACPI_TABLE_MISSING "FACP", 32 to 38 of enum
- * acpi_refusal for the first entry of the MADT at fault, in the order of its entries, and ACPI_INVALID_GENERIC_ADDRESS
- * if acpi_pm_timer refuses with that. */
+ * (section 5.2.12). A machine without a valid MADT, or whose MADT has no entry of a machine with APICs (Types 0 to 5, 9
+ * and 0xa: a Multiprocessor Wakeup, 0x10, is none), is no refusal: the model isn't known, and the lists are empty.
+ * Refuses then: ACPI_TABLE_MISSING "FACP", 32 to 38 of enum acpi_refusal for the first entry of the MADT at fault, in
+ * the order of its entries, and of one entry's faults the least, and ACPI_INVALID_GENERIC_ADDRESS if acpi_pm_timer
+ * refuses with that. */
 acpi_status acpi_interrupt_model(const struct acpi_source *source, struct acpi_interrupt_model *out,
                                  struct acpi_signature *named);
 /* The I/O APICs, in the order of the first valid MADT (section 5.2.12.3). Empty if the model isn't known. Refuses then
@@ -443,12 +468,13 @@ acpi_status acpi_list_overrides(const struct acpi_source *source, struct acpi_ov
 acpi_status acpi_list_nmi_sources(const struct acpi_source *source, struct acpi_nmi_source *out, size_t room,
                                   size_t *count, struct acpi_signature *named);
 /* The Local APIC NMI and Local x2APIC NMI entries (sections 5.2.12.7 and 5.2.12.13), which name LINT pins, in the order
- * of the first valid MADT. Those of one processor are those with `of_all`, and those with its uid. Empty if the model isn't known.
- * Refuses then as acpi_interrupt_model does. */
+ * of the first valid MADT. Those of one processor are those with `of_all`, and those with its uid. Empty if the model
+ * isn't known. Refuses then as acpi_interrupt_model does. */
 acpi_status acpi_list_nmi_lines(const struct acpi_source *source, struct acpi_nmi_line *out, size_t room, size_t *count,
                                 struct acpi_signature *named);
-/* The processors, in the order of the first valid MADT: the first is the boot processor (sections 5.2.12.1, 5.2.12.2
- * and 5.2.12.12). Empty if the model isn't known. Refuses then as acpi_interrupt_model does. */
+/* The processors, in the order of the first valid MADT: the first is the boot processor, also if it is disabled
+ * (sections 5.2.12.1, 5.2.12.2 and 5.2.12.12). Empty if the model isn't known. Refuses then as acpi_interrupt_model
+ * does. */
 acpi_status acpi_list_processors(const struct acpi_source *source, struct acpi_processor *out, size_t room,
                                  size_t *count, struct acpi_signature *named);
 
@@ -519,7 +545,8 @@ struct acpi_gic_cpu_interface { /* GIC CPU Interface (GICC), section 5.2.12.14. 
     uint32_t maintenance_interrupt;    /* VGIC Maintenance interrupt */
     uint32_t parking_protocol_version; /* Parking Protocol Version. 0: none, and processors are woken by PSCI */
     uint16_t spe_overflow_interrupt;   /* SPE overflow Interrupt */
-    uint16_t trace_buffer_interrupt;   /* TRBE Interrupt, since ACPI 6.5 */
+    uint16_t trace_buffer_interrupt;   /* TRBE Interrupt, since ACPI 6.5: 0 below revision 6 of the table, and if the
+                                        * entry hasn't both bytes */
     uint8_t is_enabled;                /* Enabled, bit 0 of Flags */
     uint8_t is_online_capable;         /* Online Capable, bit 3 of Flags, since ACPI 6.5 */
     uint8_t performance_trigger;       /* Performance Interrupt Mode, bit 1 of Flags */
@@ -542,8 +569,8 @@ struct acpi_gic_msi_frame { /* GIC MSI Frame, section 5.2.12.16 */
  * ACPI_NO_GIC if no entry describes a distributor, as on a machine with APICs. */
 acpi_status acpi_gic_distributor(const struct acpi_source *source, struct acpi_gic_distributor *out,
                                  struct acpi_signature *named);
-/* The processors' interfaces, one for each GICC entry of the first valid MADT, in order (section 5.2.12.14). A field
- * past the end of a short entry is 0. Refuses then as acpi_gic_distributor does. */
+/* The processors' interfaces, one for each GICC entry of the first valid MADT, in order (section 5.2.12.14). Refuses
+ * then as acpi_gic_distributor does. */
 acpi_status acpi_list_gic_cpu_interfaces(const struct acpi_source *source, struct acpi_gic_cpu_interface *out,
                                          size_t room, size_t *count, struct acpi_signature *named);
 /* The ranges of memory that hold redistributors, one for each GICR entry of the first valid MADT, in order: Discovery
@@ -572,9 +599,14 @@ struct acpi_arm_timer {
 };
 struct acpi_arm_timers {
     uint64_t control_base; /* CntControlBase Physical Address; all ones: none */
-    uint64_t read_base;    /* CntReadBase Physical Address; all ones: none */
+    uint64_t read_base;    /* CntReadBase Physical Address; all ones: none, as below revision 2 of the table */
+    /* virtual_el2 is present from revision 3 on, if the table has all its eight bytes, and Platform Timer Count is 0 or
+     * Platform Timer Offset at least 104. */
     struct acpi_arm_timer secure_el1, non_secure_el1, virtual_el1, el2, virtual_el2;
-    uint8_t platform_timers_malformed; /* 1: the two lists below have what stands before the first fault */
+    /* 1: the two lists below have what stands before the first fault of Platform Timer Count structures: Platform Timer
+     * Offset is below 96, a Length is above the bytes left or below 20 (GT Block), 28 (watchdog) or 4 (another Type),
+     * or frames of a GT Block don't lie between its byte 20 and its end. 0 below revision 2. */
+    uint8_t platform_timers_malformed;
 };
 struct acpi_gt_frame { /* a frame of a GT Block, section 5.2.24.1.1 */
     uint64_t block_address;      /* GT Block Physical Address: of the block's control frame */
@@ -600,12 +632,14 @@ struct acpi_watchdog { /* Arm Generic Watchdog, section 5.2.24.1.2 */
 /* The timers of every processor, by the first valid GTDT (section 5.2.24). Refuses then: ACPI_TABLE_MISSING "GTDT". */
 acpi_status acpi_arm_timers(const struct acpi_source *source, struct acpi_arm_timers *out,
                             struct acpi_signature *named);
-/* The frames of the blocks of timers of the first valid GTDT, block by block, in order (section 5.2.24.1.1). If
- * Platform Timer Structures end malformed, those before the first fault. Refuses then: ACPI_TABLE_MISSING "GTDT". */
+/* The frames of the blocks of timers of the first valid GTDT, block by block, in order (section 5.2.24.1.1). None below
+ * revision 2 of the table. If Platform Timer Structures end malformed, those before the first fault. Refuses then:
+ * ACPI_TABLE_MISSING "GTDT". */
 acpi_status acpi_list_gt_frames(const struct acpi_source *source, struct acpi_gt_frame *out, size_t room,
                                 size_t *count, struct acpi_signature *named);
-/* The watchdogs of the Server Base System Architecture of the first valid GTDT, in order (section 5.2.24.1.2). If
- * Platform Timer Structures end malformed, those before the first fault. Refuses then: ACPI_TABLE_MISSING "GTDT". */
+/* The watchdogs of the Server Base System Architecture of the first valid GTDT, in order (section 5.2.24.1.2). None
+ * below revision 2 of the table. If Platform Timer Structures end malformed, those before the first fault. Refuses
+ * then: ACPI_TABLE_MISSING "GTDT". */
 acpi_status acpi_list_watchdogs(const struct acpi_source *source, struct acpi_watchdog *out, size_t room,
                                 size_t *count, struct acpi_signature *named);
 
@@ -635,8 +669,9 @@ acpi_status acpi_list_memory_affinities(const struct acpi_source *source, struct
 acpi_status acpi_domain_of_address(const struct acpi_source *source, uint64_t address, uint32_t *out,
                                    struct acpi_signature *named);
 /* The domain of the processor whose local APIC or x2APIC has an id (APIC ID or X2APIC ID): that of the last enabled
- * entry for it in the first valid SRAT (sections 5.2.16.1 and 5.2.16.3). Entries after a malformed one aren't looked
- * at. Refuses then: ACPI_TABLE_MISSING "SRAT", ACPI_NO_DOMAIN if there is no such entry. */
+ * entry for it in the first valid SRAT (sections 5.2.16.1 and 5.2.16.3). That of a local APIC is Proximity Domain [7:0]
+ * alone below revision 2 of the table. Entries after a malformed one aren't looked at. Refuses then:
+ * ACPI_TABLE_MISSING "SRAT", ACPI_NO_DOMAIN if there is no such entry. */
 acpi_status acpi_domain_of_apic(const struct acpi_source *source, uint32_t local_apic_id, uint32_t *out,
                                 struct acpi_signature *named);
 /* The domain of the processor of an ACPI Processor UID on a machine with a GIC: that of the last enabled GICC entry
