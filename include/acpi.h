@@ -17,16 +17,17 @@
  * nothing written, but for `named`: if the refusal carries a signature (8 to 13 of enum acpi_refusal),
  * that is written there. In every other case `named` is as it was.
  *
- * A list (acpi_list_..., acpi_clip_ranges) has `out` and `room`, and writes the first `room` items there, and
- * into `count` how many there are in all, which can be more. Items of `out` from `count` on are as they were.
- * With a room of 0 it only counts.
+ * A list (acpi_list_... but for acpi_list_isa_interrupts, and acpi_clip_ranges) has `out` and `room`, and writes the
+ * first `room` items there, and into `count` how many there are in all, which can be more. Items of `out` from `count`
+ * on are as they were. With a room of 0 it only counts.
  *
  * A physical address is a number of bytes, and so is a length, unless something else stands at the field.
  * A field that says whether something holds is 0 for no and 1 for yes.
  *
  * "Lent" are bytes that lie in one of the caller's regions, all in the same one. A table is valid if 36 bytes
- * are lent at its address, it has its signature, this, its OEMID and its OEM Table ID are valid UTF-8, its Length
- * is at least its least length, that many bytes are lent, and they sum to 0 modulo 256 (section 5.2.6).
+ * are lent at its address, it has its signature, and this is valid UTF-8, so are its OEMID and its OEM Table ID, its
+ * Length is at least its least length, that many bytes are lent, and they sum to 0 modulo 256 (section 5.2.6). It is
+ * refused for the first of these that doesn't hold.
  *
  * The least length is where the fixed fields end: 116 for an FADT, 44 for a MADT, an MCFG or a SLIT, 48 for an SRAT,
  * 56 for an HPET or a BGRT, 80 for an SPCR, 96 for a GTDT, and 36 for any other table. It is 36 for every listed table
@@ -48,7 +49,9 @@
  *                      0, else the RSDT
  *   search             ACPI_MAP_FAILED if the word at 0x40e (the segment of the EBDA), or a BIOS area that is
  *                      asked for with the 16 bytes after it, isn't lent, ACPI_NO_VALID_RSDP (section
- *                      5.2.5.1); then as a start at the root table that the RSDP names
+ *                      5.2.5.1); then as a start at the root table that the RSDP names. The areas are 0xe0000 to
+ *                      0xfffff and, if no RSDP there is valid, the EBDA's first KiB, or 0x80000 to 0x9ffff if it
+ *                      doesn't begin in these. An RSDP begins at a multiple of 16, with 20 bytes in the area
  *   RSDT or XSDT       ACPI_MAP_FAILED if 36 bytes aren't lent, ACPI_SDT_INVALID_SIGNATURE, ..._OEM_ID,
  *                      ..._TABLE_ID, ..._LENGTH if its Length is under 36, ACPI_MAP_FAILED if that many bytes
  *                      aren't lent, ACPI_SDT_INVALID_CHECKSUM (sections 5.2.6 to 5.2.8); those that carry a
