@@ -46,6 +46,8 @@ static const struct row rows[] = {
     REFUSED(open, NO_EBDA, NULL, NO, ACPI_MAP_FAILED, NULL),
     REFUSED(open, NO_RSDP, NULL, NO, ACPI_NO_VALID_RSDP, NULL),
     REFUSED(open, NO_ROOT, NULL, NO, ACPI_MAP_FAILED, NULL),
+    REFUSED(open, EMPTY_INSIDE, NULL, NO, ACPI_REGIONS_NOT_ASCENDING, NULL),
+    GOOD(open, EMPTY_AFTER, NULL, NO, 1, AT(EMPTY), 36, 0, 4),
 
     /* The header of a member, a table whose header is lent, and the DSDT and the FACS of the FADT. */
     GOOD(list_missing_ranges, HOLES, NULL, NO, 4, 0x200000, 36, TAIL, 80, 0x300000, 36, 0x400000, 36),
@@ -66,6 +68,8 @@ static const struct row rows[] = {
     GOOD(list_missing_ranges, WIDE, NULL, NO, 2, 0x500002000, 36, 0x500001000, 36),
     NOTHING(list_missing_ranges, APPLIANCE),
     NOTHING(list_missing_ranges, PERFORMANCE), /* neither is one, but nothing is missing */
+    /* The last pointer has two bytes, and zeros after them. */
+    GOOD(list_missing_ranges, OLD, NULL, NO, 1, 0x1234, 36),
     NOTHING(list_missing_ranges, ARM),
     NOTHING(list_missing_ranges, SUM), /* it is refused, but nothing is missing */
 
@@ -83,6 +87,13 @@ static const struct row rows[] = {
          AT(MADT_PC), 96, LETTERS('A', 'P', 'I', 'C'), 4, AT(HPET_SHORT), 48, LETTERS('H', 'P', 'E', 'T'), 3,
          AT(HPET), 56, LETTERS('H', 'P', 'E', 'T'), 1),
     NOTHING(list_tables, EMPTY),
+    /* A Signature that isn't UTF-8 is no table's, and no fault, whichever is looked for. */
+    GOOD(list_tables, OLD, NULL, NO, 4, AT(FADT_OLD), 276, LETTERS('F', 'A', 'C', 'P'), 1,
+         AT(MADT_OLD), 150, LETTERS('A', 'P', 'I', 'C'), 5, AT(GTDT_OLD), 192, LETTERS('G', 'T', 'D', 'T'), 1,
+         AT(SRAT_OLD), 146, LETTERS('S', 'R', 'A', 'T'), 1),
+    GOOD(list_faults, OLD, "OEM1", NO, 1, 0x1234, ACPI_MAP_FAILED),
+    GOOD(list_faults, OLD, "\377OEM", NO, 1, 0x1234, ACPI_MAP_FAILED),
+    REFUSED(find_table, OLD, "\377OEM", NO, ACPI_TABLE_MISSING, "\377OEM"),
     GOOD(hpet, PC, NULL, NO, 1, 0x1fed00000, 0x8086a201, 0x80, 1, 2),
     GOOD(hpet, DESKTOP, NULL, NO, 1, 0xfed00000, 0x10de8201, 0x90f3, 2, 0),
     GOOD(hpet, MOBILE, NULL, NO, 1, 0xfed10000, 0x10de8202, 0x1234, 3, 1),
@@ -102,6 +113,7 @@ static const struct row rows[] = {
          0, 0, 0, 0),
     /* No base; an IRQ, and no global system interrupt; no baud rate. */
     GOOD(console, WORKSTATION, NULL, NO, 1, ABSENT, 0, 0, 0, 0, 0, 0xffff, 0x15, 5, 1, 0, 0, 0, 0, 0, 0, 0, 0),
+    GOOD(console, HALF, NULL, NO, 1, ABSENT, 0x8400, 0, 48000000, 0, 0, 0, 0, 0, 0, 0, 1, 0, 0, 0, 0, 0, 0),
     GOOD(console, LEAST, NULL, NO, 1, ABSENT, 0, 0, 0, 0, 0, 0, 0, 0, 0, 0, 0, 0, 0, 0, 0, 0, 0),
     REFUSED(console, EMPTY, NULL, NO, ACPI_TABLE_MISSING, "SPCR"),
     REFUSED(find_table, ARM, "HPET", NO, ACPI_TABLE_MISSING, "HPET"),
@@ -113,6 +125,7 @@ static const struct row rows[] = {
     REFUSED(dsdt, SOHO, NULL, NO, ACPI_MAP_FAILED, NULL), /* its header is lent */
     REFUSED(dsdt, PERFORMANCE, NULL, NO, ACPI_SDT_INVALID_SIGNATURE, "DSDT"),
     REFUSED(dsdt, TABLET, NULL, NO, ACPI_INVALID_DSDT_ADDRESS, NULL),
+    REFUSED(dsdt, OLD, NULL, NO, ACPI_INVALID_DSDT_ADDRESS, NULL), /* X_DSDT doesn't count */
     REFUSED(dsdt, EMPTY, NULL, NO, ACPI_TABLE_MISSING, "FACP"),
     /* The second has no AML, and the first is listed twice. */
     GOOD(list_ssdts, APPLIANCE, NULL, NO, 3, AT(SSDT_12) + 36, 12, AT(SSDT_0) + 36, 0, AT(SSDT_12) + 36, 12),
@@ -149,15 +162,30 @@ static const struct row rows[] = {
          0x50000d000, 2, 22, 10, 1, 1, 0x50000b000, 0, 24, 8, 3, 1, 0x50000c000, 0, 23, 9, 4, 1, /* RESET, SLEEP */
          0x500000000, 0, 8, 1, 0x50000a000, 0, 16, 1, 0, 0x100, 0, 0, 0, 0, 0, 0, 0, 0, 0, 0, 0, 0, 0, 0, 0, 0, 0, 0,
          0, 0),
+    GOOD(fixed_hardware, OLD, NULL, NO, 1, 0, 0, REFUSED_REGISTER, REFUSED_REGISTER, /* PM1_EVT: 32 bytes */
+         0x620, 1, 248, 0, 0, 1, ABSENT, REFUSED_REGISTER, ABSENT,                   /* PM1_CNT, PM2_CNT, PM_TMR */
+         0x660, 1, 0, 0, 0, 1, REFUSED_REGISTER, 0xcf9, 1, 8, 0, 1, 1, ABSENT, ABSENT, /* GPE0 has no bytes */
+         0, 0, 0, 0, 0x670, 1, 33, 1, 0, 0x100, 0, 0, 0x203, 0, 0, 0, 0, 0, 0, 0, 0, 0, 0, 0, 0, 0, 0, 0, 0, 6),
+    /* Of ARM_BOOT_ARCH there is one byte, and no X_ field. */
+    GOOD(fixed_hardware, HALF, NULL, NO, 1, 0, 0, 0, 1, 0, 0, 0, 1, ABSENT, 0, 1, 0, 0, 0, 1, ABSENT,
+         ABSENT, ABSENT, ABSENT, ABSENT, 0, 0, 0, 0, 0, 1, ABSENT, ABSENT, 0, 0, 0, 0, 0, 0, 0, 0,
+         0, 0, 0, 0, 3, 0, 0, 0, 0, 0, 0, 0, 0, 0, 0, 0, 0, 0, 0, 0, 0, 0),
+    /* X_GPE1_BLK isn't there as a whole, so that GPE1_BLK counts. */
+    GOOD(fixed_hardware, HALF_X, NULL, NO, 1, 0, 0, 0, 1, 0, 0, 0, 1, ABSENT, 0, 1, 0, 0, 0, 1, ABSENT,
+         ABSENT, ABSENT, 0x500000000, 0, 26, 6, 1, 1, 0x670, 1, 128, 0, 0, 1, 0, 0, 0, 0, 0, 1, ABSENT, ABSENT,
+         0x500000000, 0, 8, 1, 0x670, 1, 16, 1,
+         0, 0, 0, 0, 0, 0, 0, 0, 0, 0, 0, 0, 0, 0, 0, 0, 0, 0, 0, 0, 0, 0),
     REFUSED(fixed_hardware, EMPTY, NULL, NO, ACPI_TABLE_MISSING, "FACP"),
     GOOD(pm_timer, PC, NULL, NO, 1, 0x608, 1, 32, 0, 0, 1, 0),
     GOOD(pm_timer, WIDE, NULL, NO, 1, 0x500008000, 0, 27, 5, 3, 1, 1),
     GOOD(pm_timer, HOLES, NULL, NO, 1, ABSENT, 0),
+    GOOD(pm_timer, OLD, NULL, NO, 1, ABSENT, 0), /* TMR_VAL_EXT is set */
     REFUSED(pm_timer, TIMER_5, NULL, NO, ACPI_INVALID_GENERIC_ADDRESS, NULL),
     REFUSED(pm_timer, EMPTY, NULL, NO, ACPI_TABLE_MISSING, "FACP"),
 
     GOOD(list_pci_regions, ARM, NULL, NO, 4, 0x140000000, 1, 0x10, 0x1f, 0x50000000, 2, 5, 4,
          0xfffffffffff00000, 3, 0, 1, 0xffffffffffe00000, 4, 0, 0),
+    GOOD(list_pci_regions, HALF, NULL, NO, 1, 0x60000000, 7, 0, 3),
     NOTHING(list_pci_regions, LEAST),
     REFUSED(list_pci_regions, EMPTY, NULL, NO, ACPI_TABLE_MISSING, "MCFG"),
 
@@ -237,6 +265,11 @@ static const struct row rows[] = {
          0x100000002, 0x180001000, 0x12c000000, 0x12c010000, 0x12c020000, 0x12f100000, 3, 17, 23, 25, 1, 21, 22,
          1, 1, ACPI_TRIGGER_EDGE, ACPI_TRIGGER_LEVEL, 9,
          3, 0, 0, 0, 0, 0, 4, 18, 0, 0, 0, 0, 0, 0, 0, ACPI_TRIGGER_LEVEL, ACPI_TRIGGER_EDGE, 0),
+    GOOD(list_gic_cpu_interfaces, OLD, NULL, NO, 1, 0, 0, 0, 0, 0, 0, 0, 0, 0, 0, 0, 21, 0,
+         0, 1, ACPI_TRIGGER_LEVEL, ACPI_TRIGGER_LEVEL, 0),
+    GOOD(list_gic_cpu_interfaces, HALF, NULL, NO, 2,
+         0, 0, 0, 0, 0, 0, 0, 0, 0, 0, 0, 0, 0, 0, 0, ACPI_TRIGGER_LEVEL, ACPI_TRIGGER_LEVEL, 0,
+         0, 0, 0, 0, 0, 0, 0, 0, 0, 0, 0, 0x15, 0, 0, 0, ACPI_TRIGGER_LEVEL, ACPI_TRIGGER_LEVEL, 0),
     GOOD(list_gic_redistributors, ARM, NULL, NO, 2, 0x12f200000, 0x40000, 0x12f300000, 0),
     GOOD(list_gic_translation_services, ARM, NULL, NO, 2, 0x12f020000, 6, 0x12f050000, 10),
     GOOD(list_gic_msi_frames, ARM, NULL, NO, 2, 0x12f030000, 8, 64, 32, 1, 0x12f040000, 9, 0, 0, 0),
@@ -257,19 +290,26 @@ static const struct row rows[] = {
          26, 1, 1, 1, 1, 28, 3, 1, 0, 1, 0),
     GOOD(arm_timers, ODD, NULL, NO, 1, ONES, 0x1234000, 0, 1, 3, 0, 1, 0, 1, 3, 0, 1, 0, 1, 3, 0, 1,
          0, 1, 3, 0, 1, 0, 0, 0, 0, 0, 1),
+    GOOD(arm_timers, OLD, NULL, NO, 1, 0, ONES, 0, 1, 3, 0, 1, 0, 1, 3, 0, 1, 0, 1, 3, 0, 1,
+         0, 1, 3, 0, 1, 0, 0, 0, 0, 0, 0),
+    GOOD(arm_timers, HALF, NULL, NO, 1, 0, 0x1234000, 0, 1, 3, 0, 1, 0, 1, 3, 0, 1, 0, 1, 3, 0, 1,
+         0, 1, 3, 0, 1, 0, 0, 0, 0, 0, 0),
     REFUSED(arm_timers, EMPTY, NULL, NO, ACPI_TABLE_MISSING, "GTDT"),
     GOOD(list_gt_frames, ARM, NULL, NO, 2,
          0x12a810000, 0x12a820000, 0x12a830000, 92, 93, 1, 1, 1, 3, 3, 1, 0,
          0x12a810000, 0x12a840000, ONES, 94, 0, 2, 1, 3, 3, 1, 0, 1),
     NOTHING(list_gt_frames, ODD),
+    NOTHING(list_gt_frames, OLD),
     NOTHING(list_gt_frames, LEAST),
     REFUSED(list_gt_frames, EMPTY, NULL, NO, ACPI_TABLE_MISSING, "GTDT"),
     GOOD(list_watchdogs, ARM, NULL, NO, 2, 0x12a450000, 0x12a440000, 59, 3, 3, 1,
          0x12a470000, 0x12a460000, 61, 1, 1, 0),
+    NOTHING(list_watchdogs, OLD),
     GOOD(list_watchdogs, ODD, NULL, NO, 1, 0, 0, 60, 1, 1, 0),
     REFUSED(list_watchdogs, EMPTY, NULL, NO, ACPI_TABLE_MISSING, "GTDT"),
 
     GOOD(list_memory_affinities, ARM, NULL, NO, 2, 0x100000000, 0x10000, 0x107, 1, 0, 0x100008000, 0x20000, 8, 0, 1),
+    GOOD(list_memory_affinities, OLD, NULL, NO, 1, 0x1000, 0x2000, 7, 0, 0),
     NOTHING(list_memory_affinities, LEAST),
     REFUSED(list_memory_affinities, ODD, NULL, NO, ACPI_NUMA_INVALID_ENTRY_LENGTH, NULL),
     REFUSED(list_memory_affinities, HOLES, NULL, NO, ACPI_NUMA_INVALID_MEMORY_RANGE, NULL),
@@ -283,9 +323,12 @@ static const struct row rows[] = {
     GOOD(domain_of_apic, ARM, NULL, A(9), 1, 0x20105),
     GOOD(domain_of_apic, ARM, NULL, A(300), 1, 13), /* the last of two entries that are enabled */
     GOOD(domain_of_apic, ODD, NULL, A(9), 1, 5),    /* in revision 1 the lowest byte alone */
+    GOOD(domain_of_apic, OLD, NULL, A(9), 1, 5),
+    GOOD(domain_of_apic, OLD, NULL, A(300), 1, 0x10c),
     REFUSED(domain_of_apic, ARM, NULL, A(17), ACPI_NO_DOMAIN, NULL),
     REFUSED(domain_of_apic, EMPTY, NULL, A(9), ACPI_TABLE_MISSING, "SRAT"),
     GOOD(domain_of_processor, ARM, NULL, A(17), 1, 15),
+    GOOD(domain_of_processor, OLD, NULL, A(17), 1, 0x10f),
     REFUSED(domain_of_processor, ARM, NULL, A(9), ACPI_NO_DOMAIN, NULL),
     REFUSED(domain_of_processor, EMPTY, NULL, A(17), ACPI_TABLE_MISSING, "SRAT"),
 

@@ -29,7 +29,7 @@ struct put {
     {at, 1, space}, {at + 1, 1, width}, {at + 2, 1, offset}, {at + 3, 1, access}, {at + 4, 8, address}
 
 enum { EMPTY, ARM, PC, ODD, HOLES, SUM, DESKTOP, MOBILE, WORKSTATION, SERVER, SOHO, APPLIANCE, PERFORMANCE, TABLET,
-       RESERVED, WIDE, TIMER_5, LEAST, /* root tables, in the order of `tables` */
+       RESERVED, WIDE, TIMER_5, LEAST, OLD, HALF, HALF_X, /* root tables, in the order of `tables` */
        RSDP_0, RSDP_2, RSDP_MIXED, RSDP_LONG, RSDP_LOST, RSDP_CUT, RSDP_SHORT,
        RSDP_NONE, /* RSDPs, and the last one is none */
        MADT_GIC, GTDT, SRAT, SLIT, MCFG, FADT, MADT_PC, HPET_SHORT, HPET, MADT_CUT, GTDT_CUT, SRAT_CUT, SLIT_ODD,
@@ -38,7 +38,8 @@ enum { EMPTY, ARM, PC, ODD, HOLES, SUM, DESKTOP, MOBILE, WORKSTATION, SERVER, SO
        MADT_SAPIC, SPCR_3, SPCR_2, SPCR_4, BGRT_90, BGRT_270, BGRT_180, HPET_0, HPET_1, HPET_3, HPET_11, HPET_PORT,
        DSDT, DSDT_OTHER, SSDT_12, SSDT_0, FACS, FACS_SHORT, FADT_115, FADT_116, MADT_43, MADT_44, MCFG_43, MCFG_44,
        HPET_55, HPET_56, BGRT_55, BGRT_56, SPCR_79, SPCR_80, GTDT_95, GTDT_96, SRAT_47, SRAT_48, SLIT_43, SLIT_44,
-       OEM2_35, OEM2_36 };
+       OEM2_35, OEM2_36, FADT_OLD, MADT_OLD, GTDT_OLD, SRAT_OLD, OEM_BYTE, FADT_HALF, SPCR_HALF, GTDT_HALF, MADT_HALF,
+       MCFG_HALF, FADT_HALF_X };
 
 /* Entry[n] of an RSDT, from 36 on (section 5.2.7), and of an XSDT (section 5.2.8). */
 PUTS(no_fields, {36, 0, 0});
@@ -67,6 +68,13 @@ PUTS(least, {36, 4, AT(FADT_115)}, {40, 4, AT(FADT_116)}, {44, 4, AT(MADT_43)}, 
      {72, 4, AT(BGRT_56)}, {76, 4, AT(SPCR_79)}, {80, 4, AT(SPCR_80)}, {84, 4, AT(GTDT_95)}, {88, 4, AT(GTDT_96)},
      {92, 4, AT(SRAT_47)}, {96, 4, AT(SRAT_48)}, {100, 4, AT(SLIT_43)}, {104, 4, AT(SLIT_44)}, {108, 4, AT(OEM2_35)},
      {112, 4, AT(OEM2_36)});
+/* Tables of revisions that lack fields, one whose Signature isn't UTF-8, and a last pointer of two bytes. */
+PUTS(old, {36, 4, AT(FADT_OLD)}, {40, 4, AT(MADT_OLD)}, {44, 4, AT(GTDT_OLD)}, {48, 4, AT(SRAT_OLD)},
+     {52, 4, AT(OEM_BYTE)}, {56, 4, 0x56781234});
+/* Tables and entries that end inside a field. */
+PUTS(half, {36, 4, AT(FADT_HALF)}, {40, 4, AT(SPCR_HALF)}, {44, 4, AT(GTDT_HALF)}, {48, 4, AT(MADT_HALF)},
+     {52, 4, AT(MCFG_HALF)});
+PUTS(half_x, {36, 4, AT(FADT_HALF_X)});
 
 PUTS(madt_gic,
     {44, 2, HEADER(0x0c, 24)}, {44 + 4, 4, 7} /* GIC ID */, {44 + 8, 8, 0x2f000000} /* Physical Base Address */,
@@ -96,6 +104,14 @@ PUTS(madt_gic,
     {326 + 8, 8, 0x12f050000} /* Physical Base Address */);
 /* A distributor, and one byte after it in which no entry begins. */
 PUTS(madt_cut, {44, 2, HEADER(0x0c, 24)});
+/* Revision 5, in which a GICC has no TRBE Interrupt. */
+PUTS(madt_old,
+    {44, 2, HEADER(0x0c, 24)}, {68, 2, HEADER(0x0b, 82)}, {68 + 12, 4, 8} /* Flags: Online Capable */,
+    {68 + 78, 2, 21} /* SPE overflow Interrupt */, {68 + 80, 2, 22} /* TRBE Interrupt */);
+/* The first GICC has one byte of TRBE Interrupt, and the second one of SPE overflow Interrupt. */
+PUTS(madt_half,
+    {44, 2, HEADER(0x0c, 24)}, {68, 2, HEADER(0x0b, 81)}, {68 + 80, 1, 22} /* TRBE Interrupt */,
+    {149, 2, HEADER(0x0b, 79)}, {149 + 78, 2, 0x315} /* SPE overflow Interrupt */);
 
 PUTS(gtdt,
     {36, 8, 0x12a430000} /* CntControlBase Physical Address */,
@@ -133,6 +149,15 @@ PUTS(gtdt_cut,
     {96, 1, 1} /* Type: Arm Generic Watchdog */, {96 + 1, 2, 28} /* Length */,
     {96 + 20, 4, 60} /* Watchdog Timer GSIV */,
     {96 + 24, 4, 1} /* Watchdog Timer Flags: edge, active high */);
+/* Revision 1, which has none of these fields. */
+PUTS(gtdt_old,
+    {80, 8, 0x1234000} /* CntReadBase Physical Address */, {88, 4, 3} /* Platform Timer Count */,
+    {92, 4, 104} /* Platform Timer Offset */, {96, 4, 28}, {100, 4, 3} /* Virtual EL2 Timer GSIV, Flags */,
+    {104, 1, 0} /* Type: GT Block */, {104 + 1, 2, 60} /* Length */, {104 + 12, 4, 1} /* GT Block Timer Count */,
+    {104 + 16, 4, 20} /* GT Block Timer Offset */,
+    {164, 1, 1} /* Type: Arm Generic Watchdog */, {164 + 1, 2, 28} /* Length */);
+/* It has four bytes of eight. */
+PUTS(gtdt_half, {80, 8, 0x1234000} /* CntReadBase */, {96, 4, 28}, {100, 4, 3} /* Virtual EL2 Timer GSIV, Flags */);
 
 PUTS(srat,
     {48, 2, HEADER(0, 16)}, {48 + 2, 1, 5} /* Proximity Domain [7:0] */, {48 + 3, 1, 9} /* APIC ID */,
@@ -153,6 +178,16 @@ PUTS(srat,
 PUTS(srat_cut,
     {48, 2, HEADER(0, 16)}, {48 + 2, 1, 5} /* Proximity Domain */, {48 + 3, 1, 9} /* APIC ID */,
     {48 + 4, 4, 1} /* Flags: Enabled */, {48 + 9, 3, 0x201} /* reserved */);
+/* Revision 1, in which only the first two kinds have a domain of one byte. */
+PUTS(srat_old,
+    {48, 2, HEADER(0, 16)}, {48 + 2, 1, 5} /* Proximity Domain */, {48 + 3, 1, 9} /* APIC ID */,
+    {48 + 4, 4, 1} /* Flags: Enabled */, {48 + 9, 3, 0x201} /* reserved */,
+    {64, 2, HEADER(1, 40)}, {64 + 2, 4, 0x107} /* Proximity Domain, and reserved */, {64 + 8, 8, 0x1000} /* Base */,
+    {64 + 16, 8, 0x2000} /* Length */, {64 + 28, 4, 1} /* Flags: Enabled */,
+    {104, 2, HEADER(2, 24)}, {104 + 4, 4, 0x10c} /* Proximity Domain */, {104 + 8, 4, 300} /* X2APIC ID */,
+    {104 + 12, 4, 1} /* Flags: Enabled */,
+    {128, 2, HEADER(3, 18)}, {128 + 2, 4, 0x10f} /* Proximity Domain */, {128 + 6, 4, 17} /* ACPI Processor UID */,
+    {128 + 10, 4, 1} /* Flags: Enabled */);
 PUTS(srat_high,
     {48, 2, HEADER(1, 40)}, {48 + 8, 8, 0xfffffffffffff000} /* Base Address */, {48 + 16, 8, 0x1000} /* Length */,
     {48 + 28, 4, 1} /* Flags: Enabled */);
@@ -176,6 +211,7 @@ static const struct table {
     {AT(APPLIANCE), "RSDT", 1, 52, appliance}, {AT(PERFORMANCE), "RSDT", 1, 40, performance},
     {AT(TABLET), "RSDT", 1, 40, tablet}, {AT(RESERVED), "RSDT", 1, 40, reserved}, {AT(WIDE), "XSDT", 1, 44, wide},
     {AT(TIMER_5), "RSDT", 1, 44, timer_5}, {AT(LEAST), "RSDT", 1, 116, least},
+    {AT(OLD), "RSDT", 1, 58, old}, {AT(HALF), "RSDT", 1, 56, half}, {AT(HALF_X), "RSDT", 1, 40, half_x},
     {AT(MADT_GIC), "APIC", 6, 346, madt_gic}, {AT(GTDT), "GTDT", 3, 260, gtdt}, {AT(SRAT), "SRAT", 3, 274, srat},
     {AT(SLIT), "SLIT", 1, 48, slit}, {AT(MCFG), "MCFG", 1, 108, mcfg}, {AT(FADT), "FACP", 6, 276, fadt},
     {AT(MADT_PC), "APIC", 4, 96, madt_pc}, {AT(HPET_SHORT), "HPET", 3, 48, no_fields}, {AT(HPET), "HPET", 1, 56, hpet},
@@ -211,6 +247,12 @@ static const struct table {
     {AT(SRAT_47), "SRAT", 1, 47, no_fields}, {AT(SRAT_48), "SRAT", 1, 48, no_fields},
     {AT(SLIT_43), "SLIT", 1, 43, no_fields}, {AT(SLIT_44), "SLIT", 1, 44, no_fields},
     {AT(OEM2_35), "OEM2", 1, 35, no_fields}, {AT(OEM2_36), "OEM2", 1, 36, no_fields},
+    {AT(FADT_OLD), "FACP", 1, 276, fadt_old}, {AT(MADT_OLD), "APIC", 5, 150, madt_old},
+    {AT(GTDT_OLD), "GTDT", 1, 192, gtdt_old}, {AT(SRAT_OLD), "SRAT", 1, 146, srat_old},
+    {AT(OEM_BYTE), "\377OEM", 1, 36, no_fields}, {AT(FADT_HALF), "FACP", 6, 130, fadt_half},
+    {AT(SPCR_HALF), "SPCR", 3, 82, spcr_half}, {AT(GTDT_HALF), "GTDT", 3, 100, gtdt_half},
+    {AT(MADT_HALF), "APIC", 6, 228, madt_half}, {AT(MCFG_HALF), "MCFG", 1, 72, mcfg_half},
+    {AT(FADT_HALF_X), "FACP", 6, 238, fadt_half_x},
     {BIOS + 0x10000, "RSDT", 1, 36, no_fields}};
 
 /* RSDPs: Revision at 15, RsdtAddress at 16, Length at 20, XsdtAddress at 24 (section 5.2.5.3). */

@@ -9,6 +9,9 @@ PUTS(mcfg,
     {60, 8, 0x50000000}, {60 + 8, 2, 2}, {60 + 10, 1, 5}, {60 + 11, 1, 4},
     {76, 8, 0xfffffffffff00000}, {76 + 8, 2, 3}, {76 + 10, 1, 0}, {76 + 11, 1, 1},
     {92, 8, 0xffffffffffe00000}, {92 + 8, 2, 4}, {92 + 10, 1, 0}, {92 + 11, 1, 0});
+/* The second has 12 bytes of 16. */
+PUTS(mcfg_half,
+    {44, 8, 0x60000000}, {44 + 8, 2, 7}, {44 + 11, 1, 3}, {60, 8, 0x70000000}, {60 + 8, 2, 8}, {60 + 11, 1, 3});
 
 PUTS(fadt,
     {36, 4, 0x7000} /* FIRMWARE_CTRL */, {40, 4, 0x8000} /* DSDT */, {45, 1, 4} /* Preferred_PM_Profile */,
@@ -51,6 +54,24 @@ PUTS(fadt_wide,
     GENERIC(220, 0, 26, 6, 1, 0x500000000) /* X_GPE0_BLK */, GENERIC(232, 0, 25, 7, 2, 0x50000a000) /* X_GPE1_BLK */,
     GENERIC(244, 0, 24, 8, 3, 0x50000b000) /* SLEEP_CONTROL_REG */,
     GENERIC(256, 0, 23, 9, 4, 0x50000c000) /* SLEEP_STATUS_REG */);
+/* Revision 1, in which the extended fields don't count; blocks of 32, 31, 33 and 0 ports. */
+PUTS(fadt_old,
+    {56, 4, 0x600} /* PM1a_EVT_BLK */, {60, 4, 0x610} /* PM1b_EVT_BLK */, {64, 4, 0x620} /* PM1a_CNT_BLK */,
+    {72, 4, 0x640} /* PM2_CNT_BLK; PM_TMR_BLK is 0 */, {80, 4, 0x660} /* GPE0_BLK */, {84, 4, 0x670} /* GPE1_BLK */,
+    {88, 1, 32} /* PM1_EVT_LEN */, {89, 1, 31} /* PM1_CNT_LEN */, {90, 1, 32} /* PM2_CNT_LEN */,
+    {91, 1, 4} /* PM_TMR_LEN */, {92, 1, 0} /* GPE0_BLK_LEN */, {93, 1, 33} /* GPE1_BLK_LEN */,
+    {112, 4, 0x100} /* Flags: TMR_VAL_EXT */, GENERIC(116, 1, 8, 0, 1, 0xcf9) /* RESET_REG */,
+    {128, 1, 6} /* RESET_VALUE */, {129, 2, 0x203} /* ARM_BOOT_ARCH */,
+    {132, 8, 0x500001000} /* X_FIRMWARE_CTRL */, {140, 8, 0x500002000} /* X_DSDT */,
+    GENERIC(148, 0, 32, 0, 3, 0x500003000) /* X_PM1a_EVT_BLK */,
+    GENERIC(208, 0, 32, 0, 3, 0x500008000) /* X_PM_TMR_BLK */, GENERIC(220, 0, 26, 6, 1, 0x500000000) /* X_GPE0_BLK */,
+    GENERIC(244, 0, 24, 8, 3, 0x50000b000) /* SLEEP_CONTROL_REG */,
+    GENERIC(256, 0, 23, 9, 4, 0x50000c000) /* SLEEP_STATUS_REG */);
+PUTS(fadt_half, {129, 2, 0x203} /* ARM_BOOT_ARCH: one byte of two */);
+PUTS(fadt_half_x,
+    {80, 4, 0x660} /* GPE0_BLK */, {84, 4, 0x670} /* GPE1_BLK */, {92, 1, 8} /* GPE0_BLK_LEN */,
+    {93, 1, 16} /* GPE1_BLK_LEN */, GENERIC(220, 0, 26, 6, 1, 0x500000000) /* X_GPE0_BLK */,
+    GENERIC(232, 0, 25, 7, 2, 0x50000a000) /* X_GPE1_BLK: six bytes of twelve */);
 PUTS(fadt_timer_5, {91, 1, 4} /* PM_TMR_LEN */,
     GENERIC(208, 0, 32, 0, 5, 0x5000) /* X_PM_TMR_BLK: Access Size 5 is reserved */);
 
@@ -156,4 +177,7 @@ PUTS(spcr_4,
     {52, 1, 0x21} /* Interrupt Type: 8259, and a reserved bit */,
     {53, 1, 5} /* IRQ */, {54, 4, 0x22} /* Global System Interrupt */, {58, 1, 5} /* Configured Baud Rate: reserved */,
     {66, 2, 0xffff} /* PCI Vendor ID; PCI Device ID is 0 */);
+PUTS(spcr_half,
+    {58, 1, 7} /* Configured Baud Rate */, {76, 4, 48000000} /* UART Clock Frequency */,
+    {80, 4, 230400} /* Precise Baud Rate, 0x38400: two bytes of four */);
 #endif
