@@ -284,7 +284,7 @@ struct acpi_gpe_block { /* general purpose events (sections 4.8.4.1 and 5.2.9), 
     uint8_t space;       /* as in struct acpi_generic_address; 0 unless it is present */
     uint8_t byte_length; /* GPEn_BLK_LEN: first the status bits, in the second half the enable bits; 0 unless it is
                           * present */
-    uint8_t present;     /* 0: there is none, as if GPEn_BLK_LEN is 0. 1: there is one. 2: its address is refused, for
+    uint8_t present;     /* 0: there is none, also if GPEn_BLK_LEN is 0. 1: there is one. 2: its address is refused, for
                           * Address Space ID alone: Access Size isn't looked at */
 };
 /* FADT, section 5.2.9. An address is that of the X_ field if this isn't 0, and a block is that of the X_ field if its
@@ -602,7 +602,7 @@ struct acpi_arm_timer {
 };
 struct acpi_arm_timers {
     uint64_t control_base; /* CntControlBase Physical Address; all ones: none */
-    uint64_t read_base;    /* CntReadBase Physical Address; all ones: none, as below revision 2 of the table */
+    uint64_t read_base;    /* CntReadBase Physical Address; all ones: none, also below revision 2 of the table */
     /* virtual_el2 is present from revision 3 on, if the table has all its eight bytes, and Platform Timer Count is 0 or
      * Platform Timer Offset at least 104. */
     struct acpi_arm_timer secure_el1, non_secure_el1, virtual_el1, el2, virtual_el2;
