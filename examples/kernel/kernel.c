@@ -143,18 +143,14 @@ static void first_function(const struct acpi_source *source) {
     named_number("call " #name " stack ", depth_); \
     named_number(" cycles ", first_), named_number(" ", best_), line(); \
 } while (0)
-/* The source from the root table on that is found from this one. The search costs more than all else, and each call
- * would make it anew. */
-static struct acpi_source from_root(const struct acpi_source *source) {
+/* The source from the root table on that this one led to. The search costs more than all else, and each call would make
+ * it anew. */
+static struct acpi_source from_root(const struct acpi_source *source, const struct acpi_root *root) {
     struct acpi_source known = *source;
-    struct acpi_signature named = {{0}};
-    struct acpi_root root = {0};
-    if (acpi_open(source, &root, &named)) return known;
-    known.address = root.address, known.start = root.pointer_width == 8 ? ACPI_START_XSDT : ACPI_START_RSDT;
+    known.address = root->address, known.start = root->pointer_width == 8 ? ACPI_START_XSDT : ACPI_START_RSDT;
     return known;
 }
-static void figures(const struct acpi_source *source) {
-    struct acpi_source known = from_root(source);
+static void figures(const struct acpi_source *source, struct acpi_source known) {
     struct acpi_signature named = {{0}};
     struct acpi_root root = {0};
     struct acpi_aml dsdt = {0};
@@ -177,7 +173,9 @@ static void figures(const struct acpi_source *source) {
 void kernel(uint32_t magic, uint32_t information) {
     const volatile uint8_t *info = at(information);
     struct acpi_source source = {regions, 0, 0, ACPI_START_BIOS_SEARCH};
+    struct acpi_source known = source;
     struct acpi_signature named = {{0}};
+    struct acpi_root root = {0};
     acpi_status refused;
     open_serial();
     catch_faults();
@@ -185,15 +183,18 @@ void kernel(uint32_t magic, uint32_t information) {
     if (magic != 0x2badb002 || !(low(info, 4) & 0x40)) stop("no memory map of a multiboot loader");
     source.regions_length = make_regions(info);
     choose_start(&source, info);
-    refused = acpi_lines(&source, NULL, &serial, &serial, &named);
+    refused = acpi_open(&source, &root, &named);
+    if (!refused) {
+        known = from_root(&source, &root);
+        refused = acpi_lines(&known, &root.revision, &serial, &serial, &named);
+    }
     if (refused) {
         say_refused(&serial, "refused", refused, &named);
     } else {
-        struct acpi_source known = from_root(&source); /* only the lines have the RSDP's revision */
         places(&known);
         pins(&known);
         first_function(&known);
-        figures(&source);
+        figures(&source, known);
     }
     say(&serial, "end\n");
     if (word_after(info, "hold")) wait_for_byte(); /* so that memory can be looked at from outside */
