@@ -1,4 +1,4 @@
-# Reads the crate's records, `#[repr(C)] pub struct`s whose comment names `struct acpi_...`, lays them out as C
+# Reads the crate's records, `#[repr(C)] pub struct`s whose comment names `struct zacpi_...`, lays them out as C
 # does, and prints what a compiler is to check: of the header a C file, with one assertion for each size and each
 # offset; or, if `records` names the file of the Rust bindings' records, a Rust program that asserts the same of them.
 # A slice is a pointer and a length. It stops with status 1 at a type that it doesn't know.
@@ -36,17 +36,17 @@ BEGIN {
         print "    let found = (at as usize - room.as_ptr() as usize, size_at(at));"
         print "    assert_eq!(found, ($begin, $size), concat!(stringify!($name), \".\", stringify!($field)));"
         print "}} }\nfn main() {"
-    } else print "#include \"acpi.h\"\n#include <stddef.h>"
+    } else print "#include \"zacpi.h\"\n#include <stddef.h>"
     split("u8 1 u16 2 u32 4 u64 8 usize 8 bool 1", n, " ")
     for (i = 1; i in n; i += 2) size_of[n[i]] = align_of[n[i]] = n[i + 1]
     split("aml AmlTable hpet_block HpetInfo override InterruptSourceOverride pin IoApicPin", n, " ")
-    for (i = 1; i in n; i += 2) other_name["acpi_" n[i]] = n[i + 1]
+    for (i = 1; i in n; i += 2) other_name["zacpi_" n[i]] = n[i + 1]
 }
-match($0, /struct acpi_[a-z_]+/) && /\/\/\// { named = substr($0, RSTART + 7, RLENGTH - 7) }
+match($0, /struct zacpi_[a-z_]+/) && /\/\/\// { named = substr($0, RSTART + 7, RLENGTH - 7) }
 /^#\[repr\(C\)\]/ { is_c = 1 }
 /^pub struct / && is_c {
     name = $3; sub(/[<{].*/, "", name)
-    if (named == "") named = "acpi_" tolower(name)
+    if (named == "") named = "zacpi_" tolower(name)
     c_name = "struct " named; at = 0; most = 1; inside = 1; is_c = 0; fields = ""; lends = 0; next
 }
 inside && /^    pub [a-z_0-9]+: / {

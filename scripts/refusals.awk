@@ -1,7 +1,7 @@
-# Compares the numbers of refusals, and fails if they differ: those of enum acpi_refusal in include/acpi.h with those
-# that the crate's refusal.rt gives out, and with those that error.rs of the Rust bindings knows. These three files
-# are what it reads, in this order. Names are compared in the manner of Rust, those of the MADT's refusals with
-# `Madt` before them, and those of the SRAT's without what says that they are.
+# Compares the numbers of refusals, and fails if they differ: those of enum zacpi_refusal in include/zacpi.h with those
+# that the crate's refusal.rt gives out, with the names that zacpi_status_name shows, and with those that error.rs of
+# the Rust bindings knows. These three files are what it reads, in this order. Names are compared in the manner of Rust,
+# those of the MADT's refusals with `Madt` before them, and those of the SRAT's without what says that they are.
 function complain(what) { print what; differ = 1 }
 function has(number, name) {
     if ((file, number) in name_of) complain(FILENAME ": two names of " number)
@@ -14,12 +14,26 @@ function rust_name(name,    words, i, text) {
     return text
 }
 FNR == 1 { file++ }
-file == 1 && /^enum acpi_refusal/ { inside = 1 }
+file == 1 && /^enum zacpi_refusal/ { inside = 1 }
 file == 1 && /^};/ { inside = 0 }
-file == 1 && inside && match($0, /^    ACPI_[A-Z_]+ = [0-9]+/) {
-    split(substr($0, 10, RLENGTH - 9), parts, " = ")
+file == 1 && inside && match($0, /^    ZACPI_[A-Z_]+ = [0-9]+/) {
+    split(substr($0, 11, RLENGTH - 10), parts, " = ")
     sub(/^NUMA_/, "", parts[1])
     if (parts[2] != 0) has(parts[2], rust_name(parts[1]))
+}
+file == 1 && /zacpi_status_name\(/ { shown = 1 }
+file == 1 && shown && /^}/ { shown = 0 }
+file == 1 && shown && /"Ok"/ { number = 0; listed = 1 }
+# The names that the header shows, in the order of their numbers.
+file == 1 && shown && listed {
+    text = $0
+    while (match(text, /"[A-Za-z ]+"/)) {
+        part = substr(text, RSTART + 1, RLENGTH - 2)
+        sub(/^InvalidMadt /, "Madt", part); sub(/^InvalidSrat /, "", part)
+        shown_name[number++] = part
+        text = substr(text, RSTART + RLENGTH)
+    }
+    if (/};/) listed = 0
 }
 file == 2 && match($0, /(Refusal|AcpiError|MadtError)::[A-Za-z]+(\(_\))? => [0-9]+/) {
     text = substr($0, RSTART, RLENGTH)
@@ -34,15 +48,17 @@ file == 3 && match($0, /^ +[0-9]+ => [A-Za-z]+/) {
     has($1, text)
 }
 END {
-    # The bindings don't know those that no call answers them: 17, 18 and 37, and 20 as their starts are all known.
-    split("17 18 20 37", n, " ")
+    # The bindings don't know those that no call answers them: 17, 18 and 30, and 20 as their starts are all known.
+    split("17 18 20 30", n, " ")
     for (i in n) unknown[n[i]] = 1
     for (i = 1; i <= most; i++) {
         here = name_of[1, i]
+        if (here != shown_name[i]) complain(i ": the header has '" here "', and shows '" shown_name[i] "'")
         if (here != name_of[2, i]) complain(i ": the header has '" here "', and refusal.rt '" name_of[2, i] "'")
         if (i in unknown) here = ""
         if (here != name_of[3, i]) complain(i ": the header has '" here "', and error.rs '" name_of[3, i] "'")
     }
+    if (number != most + 1) complain("the header shows " number " names for numbers up to " most)
     if (file != 3 || !found[1] || !found[2] || !found[3]) complain("numbers of one of the three files aren't found")
     exit differ
 }

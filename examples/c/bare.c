@@ -41,20 +41,20 @@ static void to_output(void *to, const char *bytes, size_t length) { system_call(
 
 /* Where the program begins: _start calls it. */
 void begin(void) {
-    static struct acpi_region regions[1024];
+    static struct zacpi_region regions[1024];
     static long one = 1, two = 2;
     struct printer out, err;
-    struct acpi_signature named = {{0}};
-    struct acpi_source source;
+    struct zacpi_signature named = {{0}};
+    struct zacpi_source source;
     const char *unread;
-    acpi_status refused;
+    zacpi_status refused;
     out.write = err.write = to_output;
     out.to = &one;
     err.to = &two;
     source.regions = regions;
     unread = regions_of(image, (size_t)(image_end - image), regions, 1024, &source.regions_length);
     source.address = 0;
-    source.start = ACPI_START_BIOS_SEARCH;
+    source.start = ZACPI_START_BIOS_SEARCH;
     if (unread) {
         say(&err, "refused: ");
         say(&err, unread);

@@ -11,76 +11,76 @@
 
 enum { MOST = 4096 }; /* how many items of a list are written */
 
-static struct acpi_source source;
-static struct acpi_signature wanted, named;
+static struct zacpi_source source;
+static struct zacpi_signature wanted, named;
 
 /* Each of these makes one call, and writes how many items or bytes it answers. */
-static acpi_status open_root(size_t *count) {
-    struct acpi_root root = {0};
-    acpi_status refused = acpi_open(&source, &root, &named);
+static zacpi_status open_root(size_t *count) {
+    struct zacpi_root root = {0};
+    zacpi_status refused = zacpi_open(&source, &root, &named);
     *count = root.length;
     return refused;
 }
-static acpi_status find_wanted(size_t *count) {
-    struct acpi_table table = {0};
-    acpi_status refused = acpi_find_table(&source, wanted, &table, &named);
+static zacpi_status find_wanted(size_t *count) {
+    struct zacpi_table table = {0};
+    zacpi_status refused = zacpi_find_table(&source, wanted, &table, &named);
     *count = table.length;
     return refused;
 }
-static acpi_status list_tables(size_t *count) {
-    static struct acpi_table out[MOST];
-    return acpi_list_tables(&source, out, MOST, count, &named);
+static zacpi_status list_tables(size_t *count) {
+    static struct zacpi_table out[MOST];
+    return zacpi_list_tables(&source, out, MOST, count, &named);
 }
-static acpi_status list_ssdts(size_t *count) {
-    static struct acpi_aml out[MOST];
-    return acpi_list_ssdts(&source, out, MOST, count, &named);
+static zacpi_status list_ssdts(size_t *count) {
+    static struct zacpi_aml out[MOST];
+    return zacpi_list_ssdts(&source, out, MOST, count, &named);
 }
-static acpi_status dsdt(size_t *count) {
-    struct acpi_aml aml = {0};
-    acpi_status refused = acpi_dsdt(&source, &aml, &named);
+static zacpi_status dsdt(size_t *count) {
+    struct zacpi_aml aml = {0};
+    zacpi_status refused = zacpi_dsdt(&source, &aml, &named);
     *count = aml.length;
     return refused;
 }
-static acpi_status interrupt_model(size_t *count) {
-    struct acpi_interrupt_model model = {0};
-    acpi_status refused = acpi_interrupt_model(&source, &model, &named);
+static zacpi_status interrupt_model(size_t *count) {
+    struct zacpi_interrupt_model model = {0};
+    zacpi_status refused = zacpi_interrupt_model(&source, &model, &named);
     *count = model.io_apics + model.overrides + model.nmi_sources + model.nmi_lines + model.processors;
     return refused;
 }
-static acpi_status list_processors(size_t *count) {
-    static struct acpi_processor out[MOST];
-    return acpi_list_processors(&source, out, MOST, count, &named);
+static zacpi_status list_processors(size_t *count) {
+    static struct zacpi_processor out[MOST];
+    return zacpi_list_processors(&source, out, MOST, count, &named);
 }
-static acpi_status hpet(size_t *count) {
-    struct acpi_hpet_block block = {0};
-    acpi_status refused = acpi_hpet(&source, &block, &named);
+static zacpi_status hpet(size_t *count) {
+    struct zacpi_hpet_block block = {0};
+    zacpi_status refused = zacpi_hpet(&source, &block, &named);
     *count = 1;
     return refused;
 }
-static acpi_status list_pci_regions(size_t *count) {
-    static struct acpi_pci_region out[MOST];
-    return acpi_list_pci_regions(&source, out, MOST, count, &named);
+static zacpi_status list_pci_regions(size_t *count) {
+    static struct zacpi_pci_region out[MOST];
+    return zacpi_list_pci_regions(&source, out, MOST, count, &named);
 }
 
 /* What is timed: a call, the signature that it looks up if it is a lookup, and what it answers. */
 static const struct call {
     const char *name, *letters, *what;
-    acpi_status (*make)(size_t *count);
+    zacpi_status (*make)(size_t *count);
 } calls[] = {
-    {"acpi_open", "", "bytes", open_root},
-    {"acpi_find_table FACP", "FACP", "bytes", find_wanted},
-    {"acpi_find_table APIC", "APIC", "bytes", find_wanted},
-    {"acpi_find_table MCFG", "MCFG", "bytes", find_wanted},
-    {"acpi_find_table HPET", "HPET", "bytes", find_wanted},
-    {"acpi_find_table BGRT", "BGRT", "bytes", find_wanted},
-    {"acpi_find_table SPCR", "SPCR", "bytes", find_wanted},
-    {"acpi_list_tables", "", "items", list_tables},
-    {"acpi_list_ssdts", "", "items", list_ssdts},
-    {"acpi_dsdt", "", "bytes", dsdt},
-    {"acpi_interrupt_model", "", "items", interrupt_model},
-    {"acpi_list_processors", "", "items", list_processors},
-    {"acpi_hpet", "", "items", hpet},
-    {"acpi_list_pci_regions", "", "items", list_pci_regions},
+    {"zacpi_open", "", "bytes", open_root},
+    {"zacpi_find_table FACP", "FACP", "bytes", find_wanted},
+    {"zacpi_find_table APIC", "APIC", "bytes", find_wanted},
+    {"zacpi_find_table MCFG", "MCFG", "bytes", find_wanted},
+    {"zacpi_find_table HPET", "HPET", "bytes", find_wanted},
+    {"zacpi_find_table BGRT", "BGRT", "bytes", find_wanted},
+    {"zacpi_find_table SPCR", "SPCR", "bytes", find_wanted},
+    {"zacpi_list_tables", "", "items", list_tables},
+    {"zacpi_list_ssdts", "", "items", list_ssdts},
+    {"zacpi_dsdt", "", "bytes", dsdt},
+    {"zacpi_interrupt_model", "", "items", interrupt_model},
+    {"zacpi_list_processors", "", "items", list_processors},
+    {"zacpi_hpet", "", "items", hpet},
+    {"zacpi_list_pci_regions", "", "items", list_pci_regions},
 };
 
 static double now(void) {
@@ -108,7 +108,7 @@ static double least(const struct call *call, unsigned long batches) {
 }
 
 int main(int argc, char **argv) {
-    static struct acpi_region regions[65536];
+    static struct zacpi_region regions[65536];
     uint8_t *image, revision = 0;
     int taken = start_of(argc, argv, &source, &revision);
     unsigned long batches = taken + 1 == argc ? strtoul(argv[taken], NULL, 10) : 1000;
@@ -124,7 +124,7 @@ int main(int argc, char **argv) {
     unread = regions_of(image, length, regions, sizeof regions / sizeof *regions, &source.regions_length);
     if (unread) return fprintf(stderr, "refused: %s\n", unread), 1;
     for (i = 0; i < sizeof calls / sizeof *calls; i++) {
-        acpi_status refused;
+        zacpi_status refused;
         memcpy(wanted.letters, calls[i].letters, strlen(calls[i].letters));
         refused = calls[i].make(&count);
         if (refused) {

@@ -2,7 +2,7 @@
  * lowest first, and that many bytes. */
 #ifndef IMAGE_H
 #define IMAGE_H
-#include "acpi.h"
+#include "zacpi.h"
 
 /* The number that eight bytes are, the lowest byte first. */
 static uint64_t eight(const uint8_t *p) {
@@ -15,12 +15,12 @@ static uint64_t eight(const uint8_t *p) {
 /* Reads the records of an image: its regions, in ascending order as the library wants them, and how many there are.
  * Regions that touch stay apart, as acpi_view has them, and those of no byte are left out. Answers null, or what
  * acpi_view says of an image that it refuses: also "OutOfMemory" if there are more than `most` regions. */
-static const char *regions_of(const uint8_t *image, size_t length, struct acpi_region *out, size_t most,
+static const char *regions_of(const uint8_t *image, size_t length, struct zacpi_region *out, size_t most,
                               size_t *count) {
     size_t at = 0;
     *count = 0;
     while (at < length) {
-        struct acpi_region r;
+        struct zacpi_region r;
         uint64_t bytes;
         size_t place, i;
         if (length - at < 16) return "Truncated";

@@ -4,15 +4,15 @@
 
 /* Lists are filled one at a time, so one block of memory does for all of them. */
 static union {
-    struct acpi_table tables[MOST];
-    struct acpi_aml streams[MOST];
-    struct acpi_fault faults[MOST];
-    struct acpi_io_apic io_apics[MOST];
-    struct acpi_override overrides[MOST];
-    struct acpi_nmi_source nmi_sources[MOST];
-    struct acpi_nmi_line nmi_lines[MOST];
-    struct acpi_processor processors[MOST];
-    struct acpi_pci_region pci_regions[MOST];
+    struct zacpi_table tables[MOST];
+    struct zacpi_aml streams[MOST];
+    struct zacpi_fault faults[MOST];
+    struct zacpi_io_apic io_apics[MOST];
+    struct zacpi_override overrides[MOST];
+    struct zacpi_nmi_source nmi_sources[MOST];
+    struct zacpi_nmi_line nmi_lines[MOST];
+    struct zacpi_processor processors[MOST];
+    struct zacpi_pci_region pci_regions[MOST];
 } list;
 
 static void newline(const struct printer *p) { p->write(p->to, "\n", 1); }
@@ -67,32 +67,15 @@ void say_signature(const struct printer *p, const uint8_t letters[4]) {
     else for (i = 0; i < 4; i++) say_hex(p, letters[i], 2);
 }
 
-/* The name of a refusal, as acpi_view has it; "Refused" for those of calls that aren't made here. */
-static const char *name_of(acpi_status status) {
-    static const char *const names[] = {
-        "Ok", "RegionsNotAscending", "RegionTooHigh", "MapFailed", "NoValidRsdp", "RsdpIncorrectSignature",
-        "RsdpInvalidOemId", "RsdpInvalidChecksum", "SdtInvalidSignature", "SdtInvalidOemId", "SdtInvalidTableId",
-        "SdtInvalidLength", "SdtInvalidChecksum", "TableMissing", "InvalidFacsAddress", "InvalidDsdtAddress",
-        "InvalidGenericAddress", "InvalidNamespaceString", "AllocError", "NoSuchFunction", "UnknownStart",
-        "RangeTooHigh", "Refused", "NoApics", "NoSuchInterrupt", "NoSuchIoApic"};
-    static const char *const madt[] = {
-        "InvalidMadt UnexpectedEntry", "InvalidMadt InterruptOverrideEntryHasInvalidBus",
-        "InvalidMadt InvalidLocalNmiLine", "InvalidMadt MpsIntiInvalidPolarity",
-        "InvalidMadt MpsIntiInvalidTriggerMode", "InvalidMadt WakeupApsTimeout", "InvalidMadt InvalidEntryLength"};
-    if (status < sizeof names / sizeof *names) return names[status];
-    if (status >= 32 && status - 32 < sizeof madt / sizeof *madt) return madt[status - 32];
-    return "Refused";
-}
-
-static void say_status(const struct printer *p, acpi_status status, const uint8_t letters[4]) {
-    say(p, name_of(status));
-    if (status >= ACPI_SDT_INVALID_SIGNATURE && status <= ACPI_TABLE_MISSING) {
+static void say_status(const struct printer *p, zacpi_status status, const uint8_t letters[4]) {
+    say(p, zacpi_status_name(status));
+    if (status >= ZACPI_SDT_INVALID_SIGNATURE && status <= ZACPI_TABLE_MISSING) {
         say(p, " ");
         say_signature(p, letters);
     }
 }
 
-void say_refused(const struct printer *p, const char *what, acpi_status status, const struct acpi_signature *named) {
+void say_refused(const struct printer *p, const char *what, zacpi_status status, const struct zacpi_signature *named) {
     say(p, what);
     say(p, ": ");
     say_status(p, status, named->letters);
@@ -108,7 +91,7 @@ static size_t shown(const struct printer *p, size_t count) {
     return MOST;
 }
 
-static void stream(const struct printer *p, const char *what, const struct acpi_aml *aml) {
+static void stream(const struct printer *p, const char *what, const struct zacpi_aml *aml) {
     say(p, what);
     say_address(p, aml->address);
     say(p, " length ");
@@ -116,11 +99,11 @@ static void stream(const struct printer *p, const char *what, const struct acpi_
     newline(p);
 }
 
-static void tables(const struct acpi_source *source, const struct printer *p) {
-    struct acpi_signature named = {{0}};
-    struct acpi_aml dsdt = {0};
+static void tables(const struct zacpi_source *source, const struct printer *p) {
+    struct zacpi_signature named = {{0}};
+    struct zacpi_aml dsdt = {0};
     size_t i, count = 0;
-    acpi_status refused = acpi_list_tables(source, list.tables, MOST, &count, &named);
+    zacpi_status refused = zacpi_list_tables(source, list.tables, MOST, &count, &named);
     count = refused ? 0 : shown(p, count);
     for (i = 0; i < count; i++) {
         say(p, "table ");
@@ -131,22 +114,22 @@ static void tables(const struct acpi_source *source, const struct printer *p) {
         say_number(p, list.tables[i].revision);
         newline(p);
     }
-    refused = acpi_dsdt(source, &dsdt, &named);
+    refused = zacpi_dsdt(source, &dsdt, &named);
     if (refused) say_refused(p, "dsdt", refused, &named);
     else stream(p, "dsdt ", &dsdt);
     count = 0;
-    refused = acpi_list_ssdts(source, list.streams, MOST, &count, &named);
+    refused = zacpi_list_ssdts(source, list.streams, MOST, &count, &named);
     count = refused ? 0 : shown(p, count);
     for (i = 0; i < count; i++) stream(p, "ssdt ", list.streams + i);
 }
 
-static const char *polarity(uint8_t code) { return code == ACPI_POLARITY_HIGH ? " high" : code == ACPI_POLARITY_LOW ? " low" : " bus"; }
-static const char *trigger(uint8_t code) { return code == ACPI_TRIGGER_EDGE ? " edge" : code == ACPI_TRIGGER_LEVEL ? " level" : " bus"; }
+static const char *polarity(uint8_t code) { return code == ZACPI_POLARITY_HIGH ? " high" : code == ZACPI_POLARITY_LOW ? " low" : " bus"; }
+static const char *trigger(uint8_t code) { return code == ZACPI_TRIGGER_EDGE ? " edge" : code == ZACPI_TRIGGER_LEVEL ? " level" : " bus"; }
 
-static void interrupts(const struct acpi_source *source, const struct printer *p) {
-    struct acpi_signature named = {{0}};
+static void interrupts(const struct zacpi_source *source, const struct printer *p) {
+    struct zacpi_signature named = {{0}};
     size_t i, count = 0;
-    count = acpi_list_io_apics(source, list.io_apics, MOST, &count, &named) ? 0 : shown(p, count);
+    count = zacpi_list_io_apics(source, list.io_apics, MOST, &count, &named) ? 0 : shown(p, count);
     for (i = 0; i < count; i++) {
         say(p, "ioapic ");
         say_number(p, list.io_apics[i].id);
@@ -156,7 +139,7 @@ static void interrupts(const struct acpi_source *source, const struct printer *p
         say_number(p, list.io_apics[i].global_system_interrupt_base);
         newline(p);
     }
-    count = acpi_list_overrides(source, list.overrides, MOST, &count, &named) ? 0 : shown(p, count);
+    count = zacpi_list_overrides(source, list.overrides, MOST, &count, &named) ? 0 : shown(p, count);
     for (i = 0; i < count; i++) {
         say(p, "override ");
         say_number(p, list.overrides[i].isa_source);
@@ -166,7 +149,7 @@ static void interrupts(const struct acpi_source *source, const struct printer *p
         say(p, trigger(list.overrides[i].trigger));
         newline(p);
     }
-    count = acpi_list_nmi_sources(source, list.nmi_sources, MOST, &count, &named) ? 0 : shown(p, count);
+    count = zacpi_list_nmi_sources(source, list.nmi_sources, MOST, &count, &named) ? 0 : shown(p, count);
     for (i = 0; i < count; i++) {
         say(p, "nmi ");
         say_number(p, list.nmi_sources[i].global_system_interrupt);
@@ -174,7 +157,7 @@ static void interrupts(const struct acpi_source *source, const struct printer *p
         say(p, trigger(list.nmi_sources[i].trigger));
         newline(p);
     }
-    count = acpi_list_nmi_lines(source, list.nmi_lines, MOST, &count, &named) ? 0 : shown(p, count);
+    count = zacpi_list_nmi_lines(source, list.nmi_lines, MOST, &count, &named) ? 0 : shown(p, count);
     for (i = 0; i < count; i++) {
         say(p, "line ");
         if (list.nmi_lines[i].of_all) say(p, "all");
@@ -184,11 +167,11 @@ static void interrupts(const struct acpi_source *source, const struct printer *p
     }
 }
 
-static void processors(const struct acpi_source *source, const struct printer *p) {
+static void processors(const struct zacpi_source *source, const struct printer *p) {
     static const char *const states[] = {" disabled", " waiting", " running"};
-    struct acpi_signature named = {{0}};
+    struct zacpi_signature named = {{0}};
     size_t i, count = 0;
-    count = acpi_list_processors(source, list.processors, MOST, &count, &named) ? 0 : shown(p, count);
+    count = zacpi_list_processors(source, list.processors, MOST, &count, &named) ? 0 : shown(p, count);
     for (i = 0; i < count; i++) {
         say(p, "processor ");
         say_number(p, list.processors[i].uid);
@@ -199,14 +182,14 @@ static void processors(const struct acpi_source *source, const struct printer *p
     }
 }
 
-static void platform(const struct acpi_source *source, const struct printer *p) {
-    struct acpi_signature named = {{0}};
-    struct acpi_interrupt_model model = {0};
-    struct acpi_pm_timer timer = {0};
-    struct acpi_fixed_hardware fixed = {0};
-    acpi_status refused = acpi_interrupt_model(source, &model, &named);
-    if (!refused) refused = acpi_pm_timer(source, &timer, &named);
-    if (!refused) refused = acpi_fixed_hardware(source, &fixed, &named);
+static void platform(const struct zacpi_source *source, const struct printer *p) {
+    struct zacpi_signature named = {{0}};
+    struct zacpi_interrupt_model model = {0};
+    struct zacpi_pm_timer timer = {0};
+    struct zacpi_fixed_hardware fixed = {0};
+    zacpi_status refused = zacpi_interrupt_model(source, &model, &named);
+    if (!refused) refused = zacpi_pm_timer(source, &timer, &named);
+    if (!refused) refused = zacpi_fixed_hardware(source, &fixed, &named);
     if (refused) {
         say_refused(p, "platform", refused, &named);
         return;
@@ -232,12 +215,12 @@ static void platform(const struct acpi_source *source, const struct printer *p) 
     }
 }
 
-static void devices(const struct acpi_source *source, const struct printer *p) {
-    struct acpi_signature named = {{0}};
-    struct acpi_hpet_block hpet = {0};
-    struct acpi_boot_graphic graphic = {0};
+static void devices(const struct zacpi_source *source, const struct printer *p) {
+    struct zacpi_signature named = {{0}};
+    struct zacpi_hpet_block hpet = {0};
+    struct zacpi_boot_graphic graphic = {0};
     size_t i, count = 0;
-    acpi_status refused = acpi_hpet(source, &hpet, &named);
+    zacpi_status refused = zacpi_hpet(source, &hpet, &named);
     if (refused) {
         say_refused(p, "hpet", refused, &named);
     } else {
@@ -249,7 +232,7 @@ static void devices(const struct acpi_source *source, const struct printer *p) {
         say_number(p, hpet.clock_tick_unit);
         newline(p);
     }
-    refused = acpi_list_pci_regions(source, list.pci_regions, MOST, &count, &named);
+    refused = zacpi_list_pci_regions(source, list.pci_regions, MOST, &count, &named);
     if (refused) say_refused(p, "pci", refused, &named);
     count = refused ? 0 : shown(p, count);
     for (i = 0; i < count; i++) {
@@ -263,7 +246,7 @@ static void devices(const struct acpi_source *source, const struct printer *p) {
         say_address(p, list.pci_regions[i].base_address);
         newline(p);
     }
-    refused = acpi_boot_graphic(source, &graphic, &named);
+    refused = zacpi_boot_graphic(source, &graphic, &named);
     if (refused) {
         say_refused(p, "bgrt", refused, &named);
     } else {
@@ -283,10 +266,10 @@ static void setting(const struct printer *p, const char *name, int is_there, uin
     else say(p, "none");
 }
 
-static void console(const struct acpi_source *source, const struct printer *p) {
-    struct acpi_signature named = {{0}};
-    struct acpi_console c = {0};
-    acpi_status refused = acpi_console(source, &c, &named);
+static void console(const struct zacpi_source *source, const struct printer *p) {
+    struct zacpi_signature named = {{0}};
+    struct zacpi_console c = {0};
+    zacpi_status refused = zacpi_console(source, &c, &named);
     if (refused) {
         say_refused(p, "spcr", refused, &named);
         return;
@@ -298,11 +281,11 @@ static void console(const struct acpi_source *source, const struct printer *p) {
     newline(p);
 }
 
-static void faults(const struct acpi_source *source, const char *letters, const struct printer *p) {
-    struct acpi_signature named = {{0}}, signature = {{0}};
+static void faults(const struct zacpi_source *source, const char *letters, const struct printer *p) {
+    struct zacpi_signature named = {{0}}, signature = {{0}};
     size_t i, count = 0;
     for (i = 0; i < 4; i++) signature.letters[i] = (uint8_t)letters[i];
-    count = acpi_list_faults(source, signature, list.faults, MOST, &count, &named) ? 0 : shown(p, count);
+    count = zacpi_list_faults(source, signature, list.faults, MOST, &count, &named) ? 0 : shown(p, count);
     for (i = 0; i < count; i++) {
         say(p, "skipped ");
         say_signature(p, signature.letters);
@@ -314,12 +297,12 @@ static void faults(const struct acpi_source *source, const char *letters, const 
     }
 }
 
-acpi_status acpi_lines(const struct acpi_source *source, const uint8_t *revision, const struct printer *p,
-                       const struct printer *skipped, struct acpi_signature *named) {
+zacpi_status acpi_lines(const struct zacpi_source *source, const uint8_t *revision, const struct printer *p,
+                       const struct printer *skipped, struct zacpi_signature *named) {
     static const char *const looked_up[] = {"FACP", "APIC", "MCFG", "HPET", "BGRT", "SPCR"};
-    struct acpi_root root = {0};
+    struct zacpi_root root = {0};
     size_t i;
-    acpi_status refused = acpi_open(source, &root, named);
+    zacpi_status refused = zacpi_open(source, &root, named);
     if (refused) return refused;
     say(p, "revision ");
     say_number(p, revision ? *revision : root.revision);
@@ -329,5 +312,5 @@ acpi_status acpi_lines(const struct acpi_source *source, const uint8_t *revision
     devices(source, p);
     console(source, p);
     for (i = 0; skipped && i < sizeof looked_up / sizeof *looked_up; i++) faults(source, looked_up[i], skipped);
-    return ACPI_OK;
+    return ZACPI_OK;
 }

@@ -2,7 +2,7 @@
  * needs nothing of a C library. */
 #ifndef LINES_H
 #define LINES_H
-#include "acpi.h"
+#include "zacpi.h"
 
 struct printer {
     void (*write)(void *to, const char *bytes, size_t length);
@@ -15,11 +15,11 @@ void say_number(const struct printer *p, uint64_t number);
 void say_address(const struct printer *p, uint64_t address);
 void say_signature(const struct printer *p, const uint8_t letters[4]);
 /* `WHAT: REFUSAL` and a newline, in the names that acpi_view has for refusals. */
-void say_refused(const struct printer *p, const char *what, acpi_status status, const struct acpi_signature *named);
+void say_refused(const struct printer *p, const char *what, zacpi_status status, const struct zacpi_signature *named);
 
 /* Prints what acpi_view prints of these tables on its standard output, and on `skipped` what it prints of
- * tables passed over, unless it is null. The revision is the one at `revision`, or that of acpi_open if it is null.
- * Answers ACPI_OK, or the refusal of opening the tables, and has then printed nothing. */
-acpi_status acpi_lines(const struct acpi_source *source, const uint8_t *revision, const struct printer *p,
-                       const struct printer *skipped, struct acpi_signature *named);
+ * tables passed over, unless it is null. The revision is the one at `revision`, or that of zacpi_open if it is null.
+ * Answers ZACPI_OK, or the refusal of opening the tables, and has then printed nothing. */
+zacpi_status acpi_lines(const struct zacpi_source *source, const uint8_t *revision, const struct printer *p,
+                       const struct printer *skipped, struct zacpi_signature *named);
 #endif

@@ -1,5 +1,5 @@
 /* What rows.c expects, worked out by hand from rows_tables.h: which call, of which machine, with which signature and
- * arguments; then how many items, and the values of the fields of each, in the order of the struct in acpi.h; or the
+ * arguments; then how many items, and the values of the fields of each, in the order of the struct in zacpi.h; or the
  * refusal, and the signature that it carries. */
 #ifndef ROWS_EXPECTED_H
 #define ROWS_EXPECTED_H
@@ -8,9 +8,9 @@
 #define ABSENT 0, 0, 0, 0, 0, 0
 #define REFUSED_REGISTER 0, 0, 0, 0, 0, 2
 #define GOOD(call, machine, letters, arguments, count, ...) \
-    {&call_##call, machine, letters, arguments, ACPI_OK, NULL, count, VALUES(__VA_ARGS__), \
+    {&call_##call, machine, letters, arguments, ZACPI_OK, NULL, count, VALUES(__VA_ARGS__), \
      sizeof(VALUES(__VA_ARGS__)) / sizeof(uint64_t)}
-#define NOTHING(call, machine) {&call_##call, machine, NULL, NO, ACPI_OK, NULL, 0, NULL, 0}
+#define NOTHING(call, machine) {&call_##call, machine, NULL, NO, ZACPI_OK, NULL, 0, NULL, 0}
 #define REFUSED(call, machine, letters, arguments, status, named) \
     {&call_##call, machine, letters, arguments, status, named, 0, NULL, 0}
 
@@ -22,31 +22,31 @@
          0, 0, 0, 0, 0, 0, 0, 0, 0, profile, 0, 0, 0, 0, 0, 0, 0, 0, 0, 0, 0, 0)
 /* An ISA interrupt that is active high and by edge: at PC's first I/O APIC, whose base is 0, and at none, since the
  * base of DESKTOP's is 48. */
-#define PINNED(number) number, ACPI_POLARITY_HIGH, ACPI_TRIGGER_EDGE, 0xfec00000, 0, 2, number, 1, 1
-#define UNPINNED(number) number, ACPI_POLARITY_HIGH, ACPI_TRIGGER_EDGE, 0, 0, 0, 0, 1, 0
+#define PINNED(number) number, ZACPI_POLARITY_HIGH, ZACPI_TRIGGER_EDGE, 0xfec00000, 0, 2, number, 1, 1
+#define UNPINNED(number) number, ZACPI_POLARITY_HIGH, ZACPI_TRIGGER_EDGE, 0, 0, 0, 0, 1, 0
 #define NO_ROUTE 0, 0, 0, 0, 0, 0, 0, 0, 0
 /* The first of two tables is a byte too short. */
 #define LEAST_OF(letters, short_one) \
-    GOOD(list_faults, LEAST, letters, NO, 1, AT(short_one), ACPI_SDT_INVALID_LENGTH)
+    GOOD(list_faults, LEAST, letters, NO, 1, AT(short_one), ZACPI_SDT_INVALID_LENGTH)
 
 static const struct row rows[] = {
     GOOD(open, PC, NULL, NO, 1, AT(PC), 68, 2, 8),
     GOOD(open, ARM, NULL, NO, 1, AT(ARM), 56, 0, 4),
-    REFUSED(open, START_RSDP, NULL, NO, ACPI_MAP_FAILED, NULL),
+    REFUSED(open, START_RSDP, NULL, NO, ZACPI_MAP_FAILED, NULL),
     GOOD(open, RSDP_0, NULL, NO, 1, AT(ARM), 56, 0, 4),
     GOOD(open, RSDP_2, NULL, NO, 1, AT(PC), 68, 2, 8),
     GOOD(open, RSDP_MIXED, NULL, NO, 1, AT(ARM), 56, 2, 4), /* XsdtAddress is 0 */
-    REFUSED(open, RSDP_LONG, NULL, NO, ACPI_MAP_FAILED, NULL),
-    REFUSED(open, RSDP_LOST, NULL, NO, ACPI_MAP_FAILED, NULL),
-    REFUSED(open, RSDP_CUT, NULL, NO, ACPI_MAP_FAILED, NULL),
-    REFUSED(open, RSDP_SHORT, NULL, NO, ACPI_RSDP_INVALID_CHECKSUM, NULL),
-    REFUSED(open, RSDP_NONE, NULL, NO, ACPI_RSDP_INCORRECT_SIGNATURE, NULL),
+    REFUSED(open, RSDP_LONG, NULL, NO, ZACPI_MAP_FAILED, NULL),
+    REFUSED(open, RSDP_LOST, NULL, NO, ZACPI_MAP_FAILED, NULL),
+    REFUSED(open, RSDP_CUT, NULL, NO, ZACPI_MAP_FAILED, NULL),
+    REFUSED(open, RSDP_SHORT, NULL, NO, ZACPI_RSDP_INVALID_CHECKSUM, NULL),
+    REFUSED(open, RSDP_NONE, NULL, NO, ZACPI_RSDP_INCORRECT_SIGNATURE, NULL),
     GOOD(open, FOUND, NULL, NO, 1, BIOS + 0x10000, 36, 0, 4),
-    REFUSED(open, NO_BIOS, NULL, NO, ACPI_MAP_FAILED, NULL),
-    REFUSED(open, NO_EBDA, NULL, NO, ACPI_MAP_FAILED, NULL),
-    REFUSED(open, NO_RSDP, NULL, NO, ACPI_NO_VALID_RSDP, NULL),
-    REFUSED(open, NO_ROOT, NULL, NO, ACPI_MAP_FAILED, NULL),
-    REFUSED(open, EMPTY_INSIDE, NULL, NO, ACPI_REGIONS_NOT_ASCENDING, NULL),
+    REFUSED(open, NO_BIOS, NULL, NO, ZACPI_MAP_FAILED, NULL),
+    REFUSED(open, NO_EBDA, NULL, NO, ZACPI_MAP_FAILED, NULL),
+    REFUSED(open, NO_RSDP, NULL, NO, ZACPI_NO_VALID_RSDP, NULL),
+    REFUSED(open, NO_ROOT, NULL, NO, ZACPI_MAP_FAILED, NULL),
+    REFUSED(open, EMPTY_INSIDE, NULL, NO, ZACPI_REGIONS_NOT_ASCENDING, NULL),
     GOOD(open, EMPTY_AFTER, NULL, NO, 1, AT(EMPTY), 36, 0, 4),
 
     /* The header of a member, a table whose header is lent, and the DSDT and the FACS of the FADT. */
@@ -73,12 +73,12 @@ static const struct row rows[] = {
     NOTHING(list_missing_ranges, ARM),
     NOTHING(list_missing_ranges, SUM), /* it is refused, but nothing is missing */
 
-    /* A table too short for acpi_hpet is one for acpi_find_table. */
+    /* A table too short for zacpi_hpet is one for zacpi_find_table. */
     GOOD(find_table, PC, "HPET", NO, 1, AT(HPET_SHORT), 48, LETTERS('H', 'P', 'E', 'T'), 3),
     GOOD(find_nth_table, PC, "HPET", A(0), 1, AT(HPET_SHORT), 48, LETTERS('H', 'P', 'E', 'T'), 3),
     GOOD(find_nth_table, PC, "HPET", A(1), 1, AT(HPET), 56, LETTERS('H', 'P', 'E', 'T'), 1),
-    GOOD(list_faults, PC, "HPET", NO, 1, AT(HPET_SHORT), ACPI_SDT_INVALID_LENGTH),
-    GOOD(list_faults, HOLES, "OEM1", NO, 2, 0x200000, ACPI_MAP_FAILED, TAIL, ACPI_MAP_FAILED),
+    GOOD(list_faults, PC, "HPET", NO, 1, AT(HPET_SHORT), ZACPI_SDT_INVALID_LENGTH),
+    GOOD(list_faults, HOLES, "OEM1", NO, 2, 0x200000, ZACPI_MAP_FAILED, TAIL, ZACPI_MAP_FAILED),
     LEAST_OF("FACP", FADT_115), LEAST_OF("APIC", MADT_43), LEAST_OF("MCFG", MCFG_43), LEAST_OF("HPET", HPET_55),
     LEAST_OF("BGRT", BGRT_55), LEAST_OF("SPCR", SPCR_79), LEAST_OF("GTDT", GTDT_95), LEAST_OF("SRAT", SRAT_47),
     LEAST_OF("SLIT", SLIT_43), LEAST_OF("OEM2", OEM2_35),
@@ -91,21 +91,21 @@ static const struct row rows[] = {
     GOOD(list_tables, OLD, NULL, NO, 4, AT(FADT_OLD), 276, LETTERS('F', 'A', 'C', 'P'), 1,
          AT(MADT_OLD), 150, LETTERS('A', 'P', 'I', 'C'), 5, AT(GTDT_OLD), 192, LETTERS('G', 'T', 'D', 'T'), 1,
          AT(SRAT_OLD), 146, LETTERS('S', 'R', 'A', 'T'), 1),
-    GOOD(list_faults, OLD, "OEM1", NO, 1, 0x1234, ACPI_MAP_FAILED),
-    GOOD(list_faults, OLD, "\377OEM", NO, 1, 0x1234, ACPI_MAP_FAILED),
-    REFUSED(find_table, OLD, "\377OEM", NO, ACPI_TABLE_MISSING, "\377OEM"),
+    GOOD(list_faults, OLD, "OEM1", NO, 1, 0x1234, ZACPI_MAP_FAILED),
+    GOOD(list_faults, OLD, "\377OEM", NO, 1, 0x1234, ZACPI_MAP_FAILED),
+    REFUSED(find_table, OLD, "\377OEM", NO, ZACPI_TABLE_MISSING, "\377OEM"),
     GOOD(hpet, PC, NULL, NO, 1, 0x1fed00000, 0x8086a201, 0x80, 1, 2),
     GOOD(hpet, DESKTOP, NULL, NO, 1, 0xfed00000, 0x10de8201, 0x90f3, 2, 0),
     GOOD(hpet, MOBILE, NULL, NO, 1, 0xfed10000, 0x10de8202, 0x1234, 3, 1),
     GOOD(hpet, WORKSTATION, NULL, NO, 1, 0xfed20000, 0x10de8203, 0x5678, 4, 3),
     GOOD(hpet, SERVER, NULL, NO, 1, 0xfed30000, 0x10de8204, 0x9abc, 5, 3), /* 11 is reserved too */
     GOOD(hpet, LEAST, NULL, NO, 1, 0, 0, 0, 0, 0),
-    REFUSED(hpet, SOHO, NULL, NO, ACPI_INVALID_GENERIC_ADDRESS, NULL),
+    REFUSED(hpet, SOHO, NULL, NO, ZACPI_INVALID_GENERIC_ADDRESS, NULL),
     GOOD(boot_graphic, DESKTOP, NULL, NO, 1, 0x2abcdef00, 800, 600, 90, 1, 0),
     GOOD(boot_graphic, MOBILE, NULL, NO, 1, 0x7f000000, 1, 70000, 270, 0, 1),
     GOOD(boot_graphic, WORKSTATION, NULL, NO, 1, ONES, 0xffffffff, 0, 180, 1, 1),
     GOOD(boot_graphic, LEAST, NULL, NO, 1, 0, 0, 0, 0, 0, 0),
-    REFUSED(boot_graphic, EMPTY, NULL, NO, ACPI_TABLE_MISSING, "BGRT"),
+    REFUSED(boot_graphic, EMPTY, NULL, NO, ZACPI_TABLE_MISSING, "BGRT"),
     GOOD(console, DESKTOP, NULL, NO, 1, 0x3fe002000, 0, 32, 4, 3, 1, 230400, 0x12345, 48000000, 0x0a0b0c0d,
          0x1a2b, 0x3c4d, 0x12, 11, 1, 1, 1, 5, 6, 0x31, 0x21, 0x1e, 4),
     /* In revision 2 no clock; an interrupt of a GIC or the like, and no IRQ. */
@@ -115,18 +115,18 @@ static const struct row rows[] = {
     GOOD(console, WORKSTATION, NULL, NO, 1, ABSENT, 0, 0, 0, 0, 0, 0xffff, 0x15, 5, 1, 0, 0, 0, 0, 0, 0, 0, 0),
     GOOD(console, HALF, NULL, NO, 1, ABSENT, 0x8400, 0, 48000000, 0, 0, 0, 0, 0, 0, 0, 1, 0, 0, 0, 0, 0, 0),
     GOOD(console, LEAST, NULL, NO, 1, ABSENT, 0, 0, 0, 0, 0, 0, 0, 0, 0, 0, 0, 0, 0, 0, 0, 0, 0),
-    REFUSED(console, EMPTY, NULL, NO, ACPI_TABLE_MISSING, "SPCR"),
-    REFUSED(find_table, ARM, "HPET", NO, ACPI_TABLE_MISSING, "HPET"),
-    REFUSED(find_table, HOLES, "OEM1", NO, ACPI_TABLE_MISSING, "OEM1"),
-    REFUSED(find_nth_table, PC, "HPET", A(2), ACPI_TABLE_MISSING, "HPET"),
-    REFUSED(hpet, EMPTY, NULL, NO, ACPI_TABLE_MISSING, "HPET"),
-    REFUSED(dsdt, PC, NULL, NO, ACPI_MAP_FAILED, NULL), /* X_DSDT is 0, and at DSDT nothing is lent */
+    REFUSED(console, EMPTY, NULL, NO, ZACPI_TABLE_MISSING, "SPCR"),
+    REFUSED(find_table, ARM, "HPET", NO, ZACPI_TABLE_MISSING, "HPET"),
+    REFUSED(find_table, HOLES, "OEM1", NO, ZACPI_TABLE_MISSING, "OEM1"),
+    REFUSED(find_nth_table, PC, "HPET", A(2), ZACPI_TABLE_MISSING, "HPET"),
+    REFUSED(hpet, EMPTY, NULL, NO, ZACPI_TABLE_MISSING, "HPET"),
+    REFUSED(dsdt, PC, NULL, NO, ZACPI_MAP_FAILED, NULL), /* X_DSDT is 0, and at DSDT nothing is lent */
     GOOD(dsdt, APPLIANCE, NULL, NO, 1, AT(DSDT) + 36, 24),
-    REFUSED(dsdt, SOHO, NULL, NO, ACPI_MAP_FAILED, NULL), /* its header is lent */
-    REFUSED(dsdt, PERFORMANCE, NULL, NO, ACPI_SDT_INVALID_SIGNATURE, "DSDT"),
-    REFUSED(dsdt, TABLET, NULL, NO, ACPI_INVALID_DSDT_ADDRESS, NULL),
-    REFUSED(dsdt, OLD, NULL, NO, ACPI_INVALID_DSDT_ADDRESS, NULL), /* X_DSDT doesn't count */
-    REFUSED(dsdt, EMPTY, NULL, NO, ACPI_TABLE_MISSING, "FACP"),
+    REFUSED(dsdt, SOHO, NULL, NO, ZACPI_MAP_FAILED, NULL), /* its header is lent */
+    REFUSED(dsdt, PERFORMANCE, NULL, NO, ZACPI_SDT_INVALID_SIGNATURE, "DSDT"),
+    REFUSED(dsdt, TABLET, NULL, NO, ZACPI_INVALID_DSDT_ADDRESS, NULL),
+    REFUSED(dsdt, OLD, NULL, NO, ZACPI_INVALID_DSDT_ADDRESS, NULL), /* X_DSDT doesn't count */
+    REFUSED(dsdt, EMPTY, NULL, NO, ZACPI_TABLE_MISSING, "FACP"),
     /* The second has no AML, and the first is listed twice. */
     GOOD(list_ssdts, APPLIANCE, NULL, NO, 3, AT(SSDT_12) + 36, 12, AT(SSDT_0) + 36, 0, AT(SSDT_12) + 36, 12),
     NOTHING(list_ssdts, PC),
@@ -175,33 +175,32 @@ static const struct row rows[] = {
          ABSENT, ABSENT, 0x500000000, 0, 26, 6, 1, 1, 0x670, 1, 128, 0, 0, 1, 0, 0, 0, 0, 0, 1, ABSENT, ABSENT,
          0x500000000, 0, 8, 1, 0x670, 1, 16, 1,
          0, 0, 0, 0, 0, 0, 0, 0, 0, 0, 0, 0, 0, 0, 0, 0, 0, 0, 0, 0, 0, 0),
-    REFUSED(fixed_hardware, EMPTY, NULL, NO, ACPI_TABLE_MISSING, "FACP"),
+    REFUSED(fixed_hardware, EMPTY, NULL, NO, ZACPI_TABLE_MISSING, "FACP"),
     GOOD(pm_timer, PC, NULL, NO, 1, 0x608, 1, 32, 0, 0, 1, 0),
     GOOD(pm_timer, WIDE, NULL, NO, 1, 0x500008000, 0, 27, 5, 3, 1, 1),
     GOOD(pm_timer, HOLES, NULL, NO, 1, ABSENT, 0),
     GOOD(pm_timer, OLD, NULL, NO, 1, ABSENT, 0), /* TMR_VAL_EXT is set */
-    REFUSED(pm_timer, TIMER_5, NULL, NO, ACPI_INVALID_GENERIC_ADDRESS, NULL),
-    REFUSED(pm_timer, EMPTY, NULL, NO, ACPI_TABLE_MISSING, "FACP"),
+    REFUSED(pm_timer, TIMER_5, NULL, NO, ZACPI_INVALID_GENERIC_ADDRESS, NULL),
+    REFUSED(pm_timer, EMPTY, NULL, NO, ZACPI_TABLE_MISSING, "FACP"),
 
     GOOD(list_pci_regions, ARM, NULL, NO, 4, 0x140000000, 1, 0x10, 0x1f, 0x50000000, 2, 5, 4,
          0xfffffffffff00000, 3, 0, 1, 0xffffffffffe00000, 4, 0, 0),
     GOOD(list_pci_regions, HALF, NULL, NO, 1, 0x60000000, 7, 0, 3),
     NOTHING(list_pci_regions, LEAST),
-    REFUSED(list_pci_regions, EMPTY, NULL, NO, ACPI_TABLE_MISSING, "MCFG"),
+    REFUSED(list_pci_regions, EMPTY, NULL, NO, ZACPI_TABLE_MISSING, "MCFG"),
 
     /* From bus 0x10 on, 16 buses of 1 MiB; no bus; two up to 2^64 and above; one that ends 1 MiB below. */
     GOOD(list_ecam_ranges, ARM, NULL, NO, 4, 0x141000000, 0x1000000, 1, 1, 0, 0, 2, 0, 0, 0, 3, 0,
          0xffffffffffe00000, 0x100000, 4, 1),
-    REFUSED(list_ecam_ranges, EMPTY, NULL, NO, ACPI_TABLE_MISSING, "MCFG"),
-    /* Bus 0x12 is the third of the region: two times 1 MiB after its base, or 0x12 times. */
-    GOOD(pci_physical_address, ARM, NULL, A(1, 0x12, 3, 2), 1, 0x14021a000),
+    REFUSED(list_ecam_ranges, EMPTY, NULL, NO, ZACPI_TABLE_MISSING, "MCFG"),
+    /* Bus 0x12 lies 0x12 times 1 MiB after the base, though it is the third of the region. */
     GOOD(pci_ecam_address, ARM, NULL, A(1, 0x12, 3, 2), 1, 0x14121a000),
-    GOOD(pci_physical_address, ARM, NULL, A(3, 0, 31, 7), 1, 0xfffffffffffff000),
-    REFUSED(pci_physical_address, ARM, NULL, A(3, 1, 0, 0), ACPI_NO_SUCH_FUNCTION, NULL),
-    REFUSED(pci_physical_address, ARM, NULL, A(1, 0x20, 0, 0), ACPI_NO_SUCH_FUNCTION, NULL),
-    REFUSED(pci_physical_address, ARM, NULL, A(1, 0x12, 32, 0), ACPI_NO_SUCH_FUNCTION, NULL),
-    REFUSED(pci_physical_address, ARM, NULL, A(1, 0x12, 0, 8), ACPI_NO_SUCH_FUNCTION, NULL),
-    REFUSED(pci_physical_address, EMPTY, NULL, A(1, 0x12, 3, 2), ACPI_TABLE_MISSING, "MCFG"),
+    GOOD(pci_ecam_address, ARM, NULL, A(3, 0, 31, 7), 1, 0xfffffffffffff000),
+    REFUSED(pci_ecam_address, ARM, NULL, A(3, 1, 0, 0), ZACPI_NO_SUCH_FUNCTION, NULL), /* at 2^64 */
+    REFUSED(pci_ecam_address, ARM, NULL, A(1, 0x20, 0, 0), ZACPI_NO_SUCH_FUNCTION, NULL),
+    REFUSED(pci_ecam_address, ARM, NULL, A(1, 0x12, 32, 0), ZACPI_NO_SUCH_FUNCTION, NULL),
+    REFUSED(pci_ecam_address, ARM, NULL, A(1, 0x12, 0, 8), ZACPI_NO_SUCH_FUNCTION, NULL),
+    REFUSED(pci_ecam_address, EMPTY, NULL, A(1, 0x12, 3, 2), ZACPI_TABLE_MISSING, "MCFG"),
 
     /* The last address of the local APICs; one I/O APIC, two overrides, three sources, four lines, five processors. */
     GOOD(interrupt_model, DESKTOP, NULL, NO, 1, 0x1fee02000, 1, 2, 3, 4, 5, 1, 1),
@@ -209,82 +208,82 @@ static const struct row rows[] = {
     GOOD(interrupt_model, PC, NULL, NO, 1, 0, 2, 2, 0, 0, 1, 1, 0),
     GOOD(interrupt_model, WORKSTATION, NULL, NO, 1, 0, 0, 0, 0, 0, 0, 0, 0),
     GOOD(interrupt_model, HOLES, NULL, NO, 1, 0, 0, 0, 0, 0, 0, 0, 0), /* no MADT */
-    REFUSED(interrupt_model, SERVER, NULL, NO, ACPI_MADT_UNEXPECTED_ENTRY, NULL),
-    REFUSED(interrupt_model, TIMER_5, NULL, NO, ACPI_INVALID_GENERIC_ADDRESS, NULL),
-    REFUSED(interrupt_model, EMPTY, NULL, NO, ACPI_TABLE_MISSING, "FACP"),
+    REFUSED(interrupt_model, SERVER, NULL, NO, ZACPI_MADT_UNEXPECTED_ENTRY, NULL),
+    REFUSED(interrupt_model, TIMER_5, NULL, NO, ZACPI_INVALID_GENERIC_ADDRESS, NULL),
+    REFUSED(interrupt_model, EMPTY, NULL, NO, ZACPI_TABLE_MISSING, "FACP"),
     GOOD(list_io_apics, DESKTOP, NULL, NO, 1, 0xfec02000, 48, 9),
     GOOD(list_io_apics, PC, NULL, NO, 2, 0xfec00000, 0, 2, 0xfec01000, 24, 3),
     NOTHING(list_io_apics, MOBILE),
-    REFUSED(list_io_apics, SERVER, NULL, NO, ACPI_MADT_UNEXPECTED_ENTRY, NULL),
-    REFUSED(list_io_apics, EMPTY, NULL, NO, ACPI_TABLE_MISSING, "FACP"),
-    GOOD(list_nmi_sources, DESKTOP, NULL, NO, 3, 50, ACPI_POLARITY_HIGH, ACPI_TRIGGER_EDGE,
-         51, ACPI_POLARITY_LOW, ACPI_TRIGGER_LEVEL, 52, ACPI_POLARITY_BUS, ACPI_TRIGGER_LEVEL),
+    REFUSED(list_io_apics, SERVER, NULL, NO, ZACPI_MADT_UNEXPECTED_ENTRY, NULL),
+    REFUSED(list_io_apics, EMPTY, NULL, NO, ZACPI_TABLE_MISSING, "FACP"),
+    GOOD(list_nmi_sources, DESKTOP, NULL, NO, 3, 50, ZACPI_POLARITY_HIGH, ZACPI_TRIGGER_EDGE,
+         51, ZACPI_POLARITY_LOW, ZACPI_TRIGGER_LEVEL, 52, ZACPI_POLARITY_BUS, ZACPI_TRIGGER_LEVEL),
     NOTHING(list_nmi_sources, PC),
-    REFUSED(list_nmi_sources, SERVER, NULL, NO, ACPI_MADT_UNEXPECTED_ENTRY, NULL),
-    REFUSED(list_nmi_sources, EMPTY, NULL, NO, ACPI_TABLE_MISSING, "FACP"),
+    REFUSED(list_nmi_sources, SERVER, NULL, NO, ZACPI_MADT_UNEXPECTED_ENTRY, NULL),
+    REFUSED(list_nmi_sources, EMPTY, NULL, NO, ZACPI_TABLE_MISSING, "FACP"),
     GOOD(list_nmi_lines, DESKTOP, NULL, NO, 4, 0, 1, 1, 0x22, 0, 0, 0, 1, 0, 0x567, 0, 1),
     NOTHING(list_nmi_lines, PC),
-    REFUSED(list_nmi_lines, SERVER, NULL, NO, ACPI_MADT_UNEXPECTED_ENTRY, NULL),
-    REFUSED(list_nmi_lines, EMPTY, NULL, NO, ACPI_TABLE_MISSING, "FACP"),
+    REFUSED(list_nmi_lines, SERVER, NULL, NO, ZACPI_MADT_UNEXPECTED_ENTRY, NULL),
+    REFUSED(list_nmi_lines, EMPTY, NULL, NO, ZACPI_TABLE_MISSING, "FACP"),
     /* The boot processor is the first, and here it is disabled. */
-    GOOD(list_processors, DESKTOP, NULL, NO, 5, 0x21, 0x42, ACPI_PROCESSOR_DISABLED, 1,
-         0x22, 0x44, ACPI_PROCESSOR_WAITING, 0, 0x567, 0x12345, ACPI_PROCESSOR_WAITING, 0,
-         0x568, 0x12346, ACPI_PROCESSOR_DISABLED, 0, 0x23, 0x46, ACPI_PROCESSOR_WAITING, 0),
-    GOOD(list_processors, MOBILE, NULL, NO, 2, 8, 7, ACPI_PROCESSOR_RUNNING, 1, 6, 5, ACPI_PROCESSOR_DISABLED, 0),
+    GOOD(list_processors, DESKTOP, NULL, NO, 5, 0x21, 0x42, ZACPI_PROCESSOR_DISABLED, 1,
+         0x22, 0x44, ZACPI_PROCESSOR_WAITING, 0, 0x567, 0x12345, ZACPI_PROCESSOR_WAITING, 0,
+         0x568, 0x12346, ZACPI_PROCESSOR_DISABLED, 0, 0x23, 0x46, ZACPI_PROCESSOR_WAITING, 0),
+    GOOD(list_processors, MOBILE, NULL, NO, 2, 8, 7, ZACPI_PROCESSOR_RUNNING, 1, 6, 5, ZACPI_PROCESSOR_DISABLED, 0),
     NOTHING(list_processors, WORKSTATION),
-    REFUSED(list_processors, SERVER, NULL, NO, ACPI_MADT_UNEXPECTED_ENTRY, NULL),
-    REFUSED(list_processors, EMPTY, NULL, NO, ACPI_TABLE_MISSING, "FACP"),
+    REFUSED(list_processors, SERVER, NULL, NO, ZACPI_MADT_UNEXPECTED_ENTRY, NULL),
+    REFUSED(list_processors, EMPTY, NULL, NO, ZACPI_TABLE_MISSING, "FACP"),
 
-    GOOD(list_overrides, DESKTOP, NULL, NO, 2, 37, 5, ACPI_POLARITY_LOW, ACPI_TRIGGER_LEVEL,
-         38, 12, ACPI_POLARITY_HIGH, ACPI_TRIGGER_BUS),
-    GOOD(list_overrides, PC, NULL, NO, 2, 20, 9, ACPI_POLARITY_HIGH, ACPI_TRIGGER_EDGE,
-         2, 0, ACPI_POLARITY_BUS, ACPI_TRIGGER_BUS),
+    GOOD(list_overrides, DESKTOP, NULL, NO, 2, 37, 5, ZACPI_POLARITY_LOW, ZACPI_TRIGGER_LEVEL,
+         38, 12, ZACPI_POLARITY_HIGH, ZACPI_TRIGGER_BUS),
+    GOOD(list_overrides, PC, NULL, NO, 2, 20, 9, ZACPI_POLARITY_HIGH, ZACPI_TRIGGER_EDGE,
+         2, 0, ZACPI_POLARITY_BUS, ZACPI_TRIGGER_BUS),
     NOTHING(list_overrides, HOLES), /* no MADT */
-    REFUSED(list_overrides, EMPTY, NULL, NO, ACPI_TABLE_MISSING, "FACP"),
-    GOOD(sci_interrupt, PC, NULL, NO, 1, 20, ACPI_POLARITY_HIGH, ACPI_TRIGGER_EDGE),
-    REFUSED(sci_interrupt, HOLES, NULL, NO, ACPI_NO_APICS, NULL),
-    REFUSED(sci_interrupt, EMPTY, NULL, NO, ACPI_TABLE_MISSING, "FACP"),
-    GOOD(isa_interrupt, PC, NULL, A(0), 1, 2, ACPI_POLARITY_HIGH, ACPI_TRIGGER_EDGE),
-    GOOD(isa_interrupt, PC, NULL, A(4), 1, 4, ACPI_POLARITY_HIGH, ACPI_TRIGGER_EDGE),
-    GOOD(isa_interrupt, DESKTOP, NULL, A(12), 1, 38, ACPI_POLARITY_HIGH, ACPI_TRIGGER_EDGE),
-    REFUSED(isa_interrupt, PC, NULL, A(2), ACPI_NO_SUCH_INTERRUPT, NULL), /* 2 is taken by interrupt 0 */
-    REFUSED(isa_interrupt, PC, NULL, A(16), ACPI_NO_SUCH_INTERRUPT, NULL),
+    REFUSED(list_overrides, EMPTY, NULL, NO, ZACPI_TABLE_MISSING, "FACP"),
+    GOOD(sci_interrupt, PC, NULL, NO, 1, 20, ZACPI_POLARITY_HIGH, ZACPI_TRIGGER_EDGE),
+    REFUSED(sci_interrupt, HOLES, NULL, NO, ZACPI_NO_APICS, NULL),
+    REFUSED(sci_interrupt, EMPTY, NULL, NO, ZACPI_TABLE_MISSING, "FACP"),
+    GOOD(isa_interrupt, PC, NULL, A(0), 1, 2, ZACPI_POLARITY_HIGH, ZACPI_TRIGGER_EDGE),
+    GOOD(isa_interrupt, PC, NULL, A(4), 1, 4, ZACPI_POLARITY_HIGH, ZACPI_TRIGGER_EDGE),
+    GOOD(isa_interrupt, DESKTOP, NULL, A(12), 1, 38, ZACPI_POLARITY_HIGH, ZACPI_TRIGGER_EDGE),
+    REFUSED(isa_interrupt, PC, NULL, A(2), ZACPI_NO_SUCH_INTERRUPT, NULL), /* 2 is taken by interrupt 0 */
+    REFUSED(isa_interrupt, PC, NULL, A(16), ZACPI_NO_SUCH_INTERRUPT, NULL),
     GOOD(io_apic_pin, PC, NULL, A(30), 1, 0xfec01000, 24, 3, 6),
     GOOD(list_isa_interrupts, PC, NULL, NO, 16, PINNED(2), PINNED(1), NO_ROUTE, PINNED(3), PINNED(4), PINNED(5),
          PINNED(6), PINNED(7), PINNED(8), PINNED(20), PINNED(10), PINNED(11), PINNED(12), PINNED(13), PINNED(14),
          PINNED(15)),
     GOOD(list_isa_interrupts, DESKTOP, NULL, NO, 16, UNPINNED(0), UNPINNED(1), UNPINNED(2), UNPINNED(3), UNPINNED(4),
-         37, ACPI_POLARITY_LOW, ACPI_TRIGGER_LEVEL, 0, 0, 0, 0, 1, 0, UNPINNED(6), UNPINNED(7), UNPINNED(8),
+         37, ZACPI_POLARITY_LOW, ZACPI_TRIGGER_LEVEL, 0, 0, 0, 0, 1, 0, UNPINNED(6), UNPINNED(7), UNPINNED(8),
          UNPINNED(9), UNPINNED(10), UNPINNED(11), UNPINNED(38), UNPINNED(13), UNPINNED(14), UNPINNED(15)),
-    REFUSED(list_isa_interrupts, HOLES, NULL, NO, ACPI_NO_APICS, NULL),
-    REFUSED(list_isa_interrupts, SERVER, NULL, NO, ACPI_MADT_UNEXPECTED_ENTRY, NULL),
-    REFUSED(list_isa_interrupts, EMPTY, NULL, NO, ACPI_TABLE_MISSING, "FACP"),
+    REFUSED(list_isa_interrupts, HOLES, NULL, NO, ZACPI_NO_APICS, NULL),
+    REFUSED(list_isa_interrupts, SERVER, NULL, NO, ZACPI_MADT_UNEXPECTED_ENTRY, NULL),
+    REFUSED(list_isa_interrupts, EMPTY, NULL, NO, ZACPI_TABLE_MISSING, "FACP"),
 
     GOOD(gic_distributor, ARM, NULL, NO, 1, 0x2f000000, 7, 5, 3),
     GOOD(list_gic_cpu_interfaces, ARM, NULL, NO, 2,
          0x100000002, 0x180001000, 0x12c000000, 0x12c010000, 0x12c020000, 0x12f100000, 3, 17, 23, 25, 1, 21, 22,
-         1, 1, ACPI_TRIGGER_EDGE, ACPI_TRIGGER_LEVEL, 9,
-         3, 0, 0, 0, 0, 0, 4, 18, 0, 0, 0, 0, 0, 0, 0, ACPI_TRIGGER_LEVEL, ACPI_TRIGGER_EDGE, 0),
+         1, 1, ZACPI_TRIGGER_EDGE, ZACPI_TRIGGER_LEVEL, 9,
+         3, 0, 0, 0, 0, 0, 4, 18, 0, 0, 0, 0, 0, 0, 0, ZACPI_TRIGGER_LEVEL, ZACPI_TRIGGER_EDGE, 0),
     GOOD(list_gic_cpu_interfaces, OLD, NULL, NO, 1, 0, 0, 0, 0, 0, 0, 0, 0, 0, 0, 0, 21, 0,
-         0, 1, ACPI_TRIGGER_LEVEL, ACPI_TRIGGER_LEVEL, 0),
+         0, 1, ZACPI_TRIGGER_LEVEL, ZACPI_TRIGGER_LEVEL, 0),
     GOOD(list_gic_cpu_interfaces, HALF, NULL, NO, 2,
-         0, 0, 0, 0, 0, 0, 0, 0, 0, 0, 0, 0, 0, 0, 0, ACPI_TRIGGER_LEVEL, ACPI_TRIGGER_LEVEL, 0,
-         0, 0, 0, 0, 0, 0, 0, 0, 0, 0, 0, 0x15, 0, 0, 0, ACPI_TRIGGER_LEVEL, ACPI_TRIGGER_LEVEL, 0),
+         0, 0, 0, 0, 0, 0, 0, 0, 0, 0, 0, 0, 0, 0, 0, ZACPI_TRIGGER_LEVEL, ZACPI_TRIGGER_LEVEL, 0,
+         0, 0, 0, 0, 0, 0, 0, 0, 0, 0, 0, 0x15, 0, 0, 0, ZACPI_TRIGGER_LEVEL, ZACPI_TRIGGER_LEVEL, 0),
     GOOD(list_gic_redistributors, ARM, NULL, NO, 2, 0x12f200000, 0x40000, 0x12f300000, 0),
     GOOD(list_gic_translation_services, ARM, NULL, NO, 2, 0x12f020000, 6, 0x12f050000, 10),
     GOOD(list_gic_msi_frames, ARM, NULL, NO, 2, 0x12f030000, 8, 64, 32, 1, 0x12f040000, 9, 0, 0, 0),
-    REFUSED(gic_distributor, PC, NULL, NO, ACPI_NO_GIC, NULL),
-    REFUSED(gic_distributor, LEAST, NULL, NO, ACPI_NO_GIC, NULL), /* a MADT without entries */
-    REFUSED(gic_distributor, ODD, NULL, NO, ACPI_MADT_INVALID_ENTRY_LENGTH, NULL),
-    REFUSED(gic_distributor, EMPTY, NULL, NO, ACPI_TABLE_MISSING, "APIC"),
-    REFUSED(list_gic_cpu_interfaces, PC, NULL, NO, ACPI_NO_GIC, NULL),
-    REFUSED(list_gic_cpu_interfaces, EMPTY, NULL, NO, ACPI_TABLE_MISSING, "APIC"),
-    REFUSED(list_gic_redistributors, ODD, NULL, NO, ACPI_MADT_INVALID_ENTRY_LENGTH, NULL),
-    REFUSED(list_gic_redistributors, EMPTY, NULL, NO, ACPI_TABLE_MISSING, "APIC"),
-    REFUSED(list_gic_translation_services, PC, NULL, NO, ACPI_NO_GIC, NULL),
-    REFUSED(list_gic_translation_services, EMPTY, NULL, NO, ACPI_TABLE_MISSING, "APIC"),
-    REFUSED(list_gic_msi_frames, ODD, NULL, NO, ACPI_MADT_INVALID_ENTRY_LENGTH, NULL),
-    REFUSED(list_gic_msi_frames, EMPTY, NULL, NO, ACPI_TABLE_MISSING, "APIC"),
+    REFUSED(gic_distributor, PC, NULL, NO, ZACPI_NO_GIC, NULL),
+    REFUSED(gic_distributor, LEAST, NULL, NO, ZACPI_NO_GIC, NULL), /* a MADT without entries */
+    REFUSED(gic_distributor, ODD, NULL, NO, ZACPI_MADT_INVALID_ENTRY_LENGTH, NULL),
+    REFUSED(gic_distributor, EMPTY, NULL, NO, ZACPI_TABLE_MISSING, "APIC"),
+    REFUSED(list_gic_cpu_interfaces, PC, NULL, NO, ZACPI_NO_GIC, NULL),
+    REFUSED(list_gic_cpu_interfaces, EMPTY, NULL, NO, ZACPI_TABLE_MISSING, "APIC"),
+    REFUSED(list_gic_redistributors, ODD, NULL, NO, ZACPI_MADT_INVALID_ENTRY_LENGTH, NULL),
+    REFUSED(list_gic_redistributors, EMPTY, NULL, NO, ZACPI_TABLE_MISSING, "APIC"),
+    REFUSED(list_gic_translation_services, PC, NULL, NO, ZACPI_NO_GIC, NULL),
+    REFUSED(list_gic_translation_services, EMPTY, NULL, NO, ZACPI_TABLE_MISSING, "APIC"),
+    REFUSED(list_gic_msi_frames, ODD, NULL, NO, ZACPI_MADT_INVALID_ENTRY_LENGTH, NULL),
+    REFUSED(list_gic_msi_frames, EMPTY, NULL, NO, ZACPI_TABLE_MISSING, "APIC"),
 
     GOOD(arm_timers, ARM, NULL, NO, 1, 0x12a430000, ONES, 29, 1, 3, 0, 1, 30, 3, 1, 1, 1, 27, 3, 3, 0, 1,
          26, 1, 1, 1, 1, 28, 3, 1, 0, 1, 0),
@@ -294,80 +293,80 @@ static const struct row rows[] = {
          0, 1, 3, 0, 1, 0, 0, 0, 0, 0, 0),
     GOOD(arm_timers, HALF, NULL, NO, 1, 0, 0x1234000, 0, 1, 3, 0, 1, 0, 1, 3, 0, 1, 0, 1, 3, 0, 1,
          0, 1, 3, 0, 1, 0, 0, 0, 0, 0, 0),
-    REFUSED(arm_timers, EMPTY, NULL, NO, ACPI_TABLE_MISSING, "GTDT"),
+    REFUSED(arm_timers, EMPTY, NULL, NO, ZACPI_TABLE_MISSING, "GTDT"),
     GOOD(list_gt_frames, ARM, NULL, NO, 2,
          0x12a810000, 0x12a820000, 0x12a830000, 92, 93, 1, 1, 1, 3, 3, 1, 0,
          0x12a810000, 0x12a840000, ONES, 94, 0, 2, 1, 3, 3, 1, 0, 1),
     NOTHING(list_gt_frames, ODD),
     NOTHING(list_gt_frames, OLD),
     NOTHING(list_gt_frames, LEAST),
-    REFUSED(list_gt_frames, EMPTY, NULL, NO, ACPI_TABLE_MISSING, "GTDT"),
+    REFUSED(list_gt_frames, EMPTY, NULL, NO, ZACPI_TABLE_MISSING, "GTDT"),
     GOOD(list_watchdogs, ARM, NULL, NO, 2, 0x12a450000, 0x12a440000, 59, 3, 3, 1,
          0x12a470000, 0x12a460000, 61, 1, 1, 0),
     NOTHING(list_watchdogs, OLD),
     GOOD(list_watchdogs, ODD, NULL, NO, 1, 0, 0, 60, 1, 1, 0),
-    REFUSED(list_watchdogs, EMPTY, NULL, NO, ACPI_TABLE_MISSING, "GTDT"),
+    REFUSED(list_watchdogs, EMPTY, NULL, NO, ZACPI_TABLE_MISSING, "GTDT"),
 
     GOOD(list_memory_affinities, ARM, NULL, NO, 2, 0x100000000, 0x10000, 0x107, 1, 0, 0x100008000, 0x20000, 8, 0, 1),
     GOOD(list_memory_affinities, OLD, NULL, NO, 1, 0x1000, 0x2000, 7, 0, 0),
     NOTHING(list_memory_affinities, LEAST),
-    REFUSED(list_memory_affinities, ODD, NULL, NO, ACPI_NUMA_INVALID_ENTRY_LENGTH, NULL),
-    REFUSED(list_memory_affinities, HOLES, NULL, NO, ACPI_NUMA_INVALID_MEMORY_RANGE, NULL),
-    REFUSED(list_memory_affinities, EMPTY, NULL, NO, ACPI_TABLE_MISSING, "SRAT"),
+    REFUSED(list_memory_affinities, ODD, NULL, NO, ZACPI_NUMA_INVALID_ENTRY_LENGTH, NULL),
+    REFUSED(list_memory_affinities, HOLES, NULL, NO, ZACPI_NUMA_INVALID_MEMORY_RANGE, NULL),
+    REFUSED(list_memory_affinities, EMPTY, NULL, NO, ZACPI_TABLE_MISSING, "SRAT"),
     GOOD(domain_of_address, ARM, NULL, A(0x10000ffff), 1, 0x107), /* the first of two ranges that hold it */
     GOOD(domain_of_address, ARM, NULL, A(0x100010000), 1, 8),
-    REFUSED(domain_of_address, ARM, NULL, A(0x100028000), ACPI_NO_DOMAIN, NULL),
-    REFUSED(domain_of_address, ARM, NULL, A(0), ACPI_NO_DOMAIN, NULL), /* in an entry that isn't enabled */
-    REFUSED(domain_of_address, HOLES, NULL, A(0), ACPI_NUMA_INVALID_MEMORY_RANGE, NULL),
-    REFUSED(domain_of_address, EMPTY, NULL, A(0), ACPI_TABLE_MISSING, "SRAT"),
+    REFUSED(domain_of_address, ARM, NULL, A(0x100028000), ZACPI_NO_DOMAIN, NULL),
+    REFUSED(domain_of_address, ARM, NULL, A(0), ZACPI_NO_DOMAIN, NULL), /* in an entry that isn't enabled */
+    REFUSED(domain_of_address, HOLES, NULL, A(0), ZACPI_NUMA_INVALID_MEMORY_RANGE, NULL),
+    REFUSED(domain_of_address, EMPTY, NULL, A(0), ZACPI_TABLE_MISSING, "SRAT"),
     GOOD(domain_of_apic, ARM, NULL, A(9), 1, 0x20105),
     GOOD(domain_of_apic, ARM, NULL, A(300), 1, 13), /* the last of two entries that are enabled */
     GOOD(domain_of_apic, ODD, NULL, A(9), 1, 5),    /* in revision 1 the lowest byte alone */
     GOOD(domain_of_apic, OLD, NULL, A(9), 1, 5),
     GOOD(domain_of_apic, OLD, NULL, A(300), 1, 0x10c),
-    REFUSED(domain_of_apic, ARM, NULL, A(17), ACPI_NO_DOMAIN, NULL),
-    REFUSED(domain_of_apic, EMPTY, NULL, A(9), ACPI_TABLE_MISSING, "SRAT"),
+    REFUSED(domain_of_apic, ARM, NULL, A(17), ZACPI_NO_DOMAIN, NULL),
+    REFUSED(domain_of_apic, EMPTY, NULL, A(9), ZACPI_TABLE_MISSING, "SRAT"),
     GOOD(domain_of_processor, ARM, NULL, A(17), 1, 15),
     GOOD(domain_of_processor, OLD, NULL, A(17), 1, 0x10f),
-    REFUSED(domain_of_processor, ARM, NULL, A(9), ACPI_NO_DOMAIN, NULL),
-    REFUSED(domain_of_processor, EMPTY, NULL, A(17), ACPI_TABLE_MISSING, "SRAT"),
+    REFUSED(domain_of_processor, ARM, NULL, A(9), ZACPI_NO_DOMAIN, NULL),
+    REFUSED(domain_of_processor, EMPTY, NULL, A(17), ZACPI_TABLE_MISSING, "SRAT"),
 
     GOOD(localities, ARM, NULL, NO, 1, 2, 1),
     GOOD(localities, ODD, NULL, NO, 1, 3, 0),
     GOOD(localities, LEAST, NULL, NO, 1, 0, 0),
-    REFUSED(localities, EMPTY, NULL, NO, ACPI_TABLE_MISSING, "SLIT"),
+    REFUSED(localities, EMPTY, NULL, NO, ZACPI_TABLE_MISSING, "SLIT"),
     GOOD(distance, ARM, NULL, A(0, 1), 1, 20),
     GOOD(distance, ARM, NULL, A(1, 0), 1, 30),
     GOOD(distance, ODD, NULL, A(1, 0), 1, 255),
-    REFUSED(distance, ARM, NULL, A(2, 0), ACPI_NO_DISTANCE, NULL),
-    REFUSED(distance, ARM, NULL, A(0, 2), ACPI_NO_DISTANCE, NULL),
-    REFUSED(distance, ODD, NULL, A(1, 1), ACPI_NO_DISTANCE, NULL), /* past the end of the table */
-    REFUSED(distance, EMPTY, NULL, A(0, 0), ACPI_TABLE_MISSING, "SLIT")};
+    REFUSED(distance, ARM, NULL, A(2, 0), ZACPI_NO_DISTANCE, NULL),
+    REFUSED(distance, ARM, NULL, A(0, 2), ZACPI_NO_DISTANCE, NULL),
+    REFUSED(distance, ODD, NULL, A(1, 1), ZACPI_NO_DISTANCE, NULL), /* past the end of the table */
+    REFUSED(distance, EMPTY, NULL, A(0, 0), ZACPI_TABLE_MISSING, "SLIT")};
 
 static const struct clip {
-    struct acpi_range ranges[4];
+    struct zacpi_range ranges[4];
     size_t ranges_length;
-    struct acpi_range without[2];
+    struct zacpi_range without[2];
     size_t without_length;
-    struct acpi_range window;
-    acpi_status status;
+    struct zacpi_range window;
+    zacpi_status status;
     size_t count;
     uint64_t values[6]; /* address and length of each */
 } clips[] = {
     /* One that touches, two that overlap, and one of no bytes. */
-    {{{0x3000, 0x1000}, {0x1000, 0x1800}, {0x2000, 0x1000}, {0x8000, 0}}, 4, {{0, 0}}, 0, {0, ONES}, ACPI_OK,
+    {{{0x3000, 0x1000}, {0x1000, 0x1800}, {0x2000, 0x1000}, {0x8000, 0}}, 4, {{0, 0}}, 0, {0, ONES}, ZACPI_OK,
      1, {0x1000, 0x3000}},
     /* The window cuts both ends off, and two that overlap are left out of the middle. */
-    {{{0x20000, 0x1000}, {0x1000, 0x9000}}, 2, {{0x3800, 0x1000}, {0x3000, 0x1000}}, 2, {0x2000, 0x7000}, ACPI_OK,
+    {{{0x20000, 0x1000}, {0x1000, 0x9000}}, 2, {{0x3800, 0x1000}, {0x3000, 0x1000}}, 2, {0x2000, 0x7000}, ZACPI_OK,
      2, {0x2000, 0x1000, 0x4800, 0x4800}},
     /* A gap of one byte is kept. */
-    {{{0x5001, 1}, {0x4000, 0x1000}, {0x9000, 1}}, 3, {{0, 0}}, 0, {0, 0x9001}, ACPI_OK,
+    {{{0x5001, 1}, {0x4000, 0x1000}, {0x9000, 1}}, 3, {{0, 0}}, 0, {0, 0x9001}, ZACPI_OK,
      3, {0x4000, 0x1000, 0x5001, 1, 0x9000, 1}},
-    {{{0x1000, 0x1000}}, 1, {{0x800, 0x2000}}, 1, {0, ONES}, ACPI_OK, 0, {0}},
-    {{{0, 0}}, 0, {{0, 0}}, 0, {0, ONES}, ACPI_OK, 0, {0}},
+    {{{0x1000, 0x1000}}, 1, {{0x800, 0x2000}}, 1, {0, ONES}, ZACPI_OK, 0, {0}},
+    {{{0, 0}}, 0, {{0, 0}}, 0, {0, ONES}, ZACPI_OK, 0, {0}},
     /* As high as a range can end; one that ends at 2^64 is refused, also if it is left out or the window. */
-    {{{ONES - 0xfff, 0xfff}}, 1, {{0, 0}}, 0, {0, ONES}, ACPI_OK, 1, {ONES - 0xfff, 0xfff}},
-    {{{0x1000, 0x1000}, {ONES - 0xfff, 0x1000}}, 2, {{0, 0}}, 0, {0, ONES}, ACPI_RANGE_TOO_HIGH, 0, {0}},
-    {{{0x1000, 0x1000}}, 1, {{ONES - 0xfff, 0x1000}}, 1, {0, ONES}, ACPI_RANGE_TOO_HIGH, 0, {0}},
-    {{{0x1000, 0x1000}}, 1, {{0, 0}}, 0, {1, ONES}, ACPI_RANGE_TOO_HIGH, 0, {0}}};
+    {{{ONES - 0xfff, 0xfff}}, 1, {{0, 0}}, 0, {0, ONES}, ZACPI_OK, 1, {ONES - 0xfff, 0xfff}},
+    {{{0x1000, 0x1000}, {ONES - 0xfff, 0x1000}}, 2, {{0, 0}}, 0, {0, ONES}, ZACPI_RANGE_TOO_HIGH, 0, {0}},
+    {{{0x1000, 0x1000}}, 1, {{ONES - 0xfff, 0x1000}}, 1, {0, ONES}, ZACPI_RANGE_TOO_HIGH, 0, {0}},
+    {{{0x1000, 0x1000}}, 1, {{0, 0}}, 0, {1, ONES}, ZACPI_RANGE_TOO_HIGH, 0, {0}}};
 #endif

@@ -3,7 +3,7 @@
  * the IA-PC HPET Specification. In a MADT, GTDT or SRAT it is the offset of the entry and that in the entry. */
 #ifndef ROWS_TABLES_H
 #define ROWS_TABLES_H
-#include "acpi.h"
+#include "zacpi.h"
 
 #define BASE 0x100000u
 #define SIZE 0x10000u

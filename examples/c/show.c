@@ -6,15 +6,15 @@
 static void to_file(void *to, const char *bytes, size_t length) { fwrite(bytes, 1, length, (FILE *)to); }
 
 int main(int argc, char **argv) {
-    static struct acpi_region regions[65536];
+    static struct zacpi_region regions[65536];
     struct printer out = {to_file, NULL}, err = {to_file, NULL};
-    struct acpi_signature named = {{0}};
-    struct acpi_source source = {regions, 0, 0, ACPI_START_BIOS_SEARCH};
+    struct zacpi_signature named = {{0}};
+    struct zacpi_source source = {regions, 0, 0, ZACPI_START_BIOS_SEARCH};
     uint8_t *image, revision = 0;
     const uint8_t *given; /* a root table has no revision of an RSDP, so the one that is given is printed */
     const char *unread;
     size_t length = 0;
-    acpi_status refused;
+    zacpi_status refused;
     out.to = stdout;
     err.to = stderr;
     if (start_of(argc, argv, &source, &revision) != argc) {

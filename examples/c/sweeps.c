@@ -3,7 +3,7 @@
  * that of its own type refuse, nothing is written but the signature, and the list of faults has why it is passed over.
  * Prints those that fail, and how many memories were tried. The status is 0 if all hold.
  * For x86-64: cc -std=c99 -Iinclude examples/c/sweeps.c ARCHIVE -no-pie */
-#include "acpi.h"
+#include "zacpi.h"
 #include <stdio.h>
 #include <string.h>
 
@@ -29,29 +29,29 @@ static uint8_t dsdt[40] = {'D', 'S', 'D', 'T', 40, [9] = 0x9f, [36] = 0x01, 0x02
 static uint8_t bgrt[56] = {'B', 'G', 'R', 'T', 56, [9] = 0x93, [36] = 0x01, 0x00, 0x05};
 static uint8_t spcr[80] = {'S', 'P', 'C', 'R', 80, [8] = 0x02, 0x6a, [52] = 0x01, 0x04, [58] = 0x07};
 static uint8_t ssdt[40] = {'S', 'S', 'D', 'T', 40, [9] = 0x90, [36] = 0x01, 0x02, 0x03, 0x04};
-static const struct acpi_region each_type[] = {AT(0x1000, rsdt), AT(0x2000, facp), AT(0x3000, apic), AT(0x4000, hpet),
+static const struct zacpi_region each_type[] = {AT(0x1000, rsdt), AT(0x2000, facp), AT(0x3000, apic), AT(0x4000, hpet),
     AT(0x6000, mcfg), AT(0x7000, dsdt), AT(0x8000, bgrt), AT(0x9000, spcr), AT(0xa000, ssdt)};
 
 /* A boot graphic alone, and its RSDT. */
 static uint8_t short_rsdt[40] = {'R', 'S', 'D', 'T', 40, [9] = 0x7b, [37] = 0x20};
-static const struct acpi_region graphic[] = {AT(0x1000, short_rsdt), AT(0x2000, bgrt)};
+static const struct zacpi_region graphic[] = {AT(0x1000, short_rsdt), AT(0x2000, bgrt)};
 
 /* ---- Lookups ------------------------------------------------------------------------------------------ */
 
 /* The outputs of a call. They are painted before it. */
 static union {
     uint8_t bytes[512];
-    struct acpi_table table;
-    struct acpi_fault faults[2];
-    struct acpi_fixed_hardware fixed_hardware;
-    struct acpi_gic_distributor distributor;
-    struct acpi_hpet_block hpet;
-    struct acpi_pci_region pci_region;
-    struct acpi_boot_graphic graphic;
-    struct acpi_console console;
+    struct zacpi_table table;
+    struct zacpi_fault faults[2];
+    struct zacpi_fixed_hardware fixed_hardware;
+    struct zacpi_gic_distributor distributor;
+    struct zacpi_hpet_block hpet;
+    struct zacpi_pci_region pci_region;
+    struct zacpi_boot_graphic graphic;
+    struct zacpi_console console;
 } out;
 static size_t count;
-static struct acpi_signature named;
+static struct zacpi_signature named;
 
 static void paint(void) {
     memset(&out, PAINT, sizeof out);
@@ -60,9 +60,9 @@ static void paint(void) {
 }
 
 /* The lookup of a type: a call that asks for a table of this type before all else. */
-typedef acpi_status lookup(const struct acpi_source *source);
+typedef zacpi_status lookup(const struct zacpi_source *source);
 #define LOOKUP(name, call, ...) \
-    static acpi_status find_##name(const struct acpi_source *s) { return acpi_##call(s, __VA_ARGS__, &named); }
+    static zacpi_status find_##name(const struct zacpi_source *s) { return zacpi_##call(s, __VA_ARGS__, &named); }
 LOOKUP(facp, fixed_hardware, &out.fixed_hardware)
 LOOKUP(apic, gic_distributor, &out.distributor)
 LOOKUP(hpet, hpet, &out.hpet)
@@ -73,15 +73,15 @@ LOOKUP(spcr, console, &out.console)
 /* A table that is swept over: region `index` of a memory. */
 static const struct swept {
     const char *name;
-    const struct acpi_region *regions;
+    const struct zacpi_region *regions;
     size_t regions_length, index;
     lookup *find;
-    acpi_status found; /* what it answers over the memory as it is: this MADT describes no GIC */
+    zacpi_status found; /* what it answers over the memory as it is: this MADT describes no GIC */
 } tables[] = {
-    {"FACP", each_type, 9, 1, find_facp, ACPI_OK},   {"APIC", each_type, 9, 2, find_apic, ACPI_NO_GIC},
-    {"HPET", each_type, 9, 3, find_hpet, ACPI_OK},   {"MCFG", each_type, 9, 4, find_mcfg, ACPI_OK},
-    {"BGRT", each_type, 9, 6, find_bgrt, ACPI_OK},   {"SPCR", each_type, 9, 7, find_spcr, ACPI_OK},
-    {"BGRT", graphic, 2, 1, find_bgrt, ACPI_OK},
+    {"FACP", each_type, 9, 1, find_facp, ZACPI_OK},   {"APIC", each_type, 9, 2, find_apic, ZACPI_NO_GIC},
+    {"HPET", each_type, 9, 3, find_hpet, ZACPI_OK},   {"MCFG", each_type, 9, 4, find_mcfg, ZACPI_OK},
+    {"BGRT", each_type, 9, 6, find_bgrt, ZACPI_OK},   {"SPCR", each_type, 9, 7, find_spcr, ZACPI_OK},
+    {"BGRT", graphic, 2, 1, find_bgrt, ZACPI_OK},
 };
 
 /* ---- Sweeps ------------------------------------------------------------------------------------------- */
@@ -96,8 +96,8 @@ static void result(int holds, const struct swept *table, const char *what, size_
            (unsigned long)place, value);
 }
 
-static struct acpi_signature signature_of(const struct swept *table) {
-    struct acpi_signature made;
+static struct zacpi_signature signature_of(const struct swept *table) {
+    struct zacpi_signature made;
     memcpy(made.letters, table->name, 4);
     return made;
 }
@@ -110,19 +110,19 @@ static int are_painted(const void *bytes, size_t length) {
 }
 
 /* Whether a refusal says that the table is missing, and writes nothing but its signature. */
-static int says_missing(const struct swept *table, acpi_status status) {
-    return status == ACPI_TABLE_MISSING && !memcmp(named.letters, table->name, 4) && are_painted(&out, sizeof out)
+static int says_missing(const struct swept *table, zacpi_status status) {
+    return status == ZACPI_TABLE_MISSING && !memcmp(named.letters, table->name, 4) && are_painted(&out, sizeof out)
         && are_painted(&count, sizeof count);
 }
 
 /* Whether no lookup takes the table, and it is listed with this fault alone, or not at all if this is 0. */
-static int is_passed_over(const struct swept *table, const struct acpi_source *source, acpi_status fault) {
+static int is_passed_over(const struct swept *table, const struct zacpi_source *source, zacpi_status fault) {
     paint();
-    if (!says_missing(table, acpi_find_table(source, signature_of(table), &out.table, &named))) return 0;
+    if (!says_missing(table, zacpi_find_table(source, signature_of(table), &out.table, &named))) return 0;
     paint();
     if (!says_missing(table, table->find(source))) return 0;
     paint();
-    if (acpi_list_faults(source, signature_of(table), out.faults, 2, &count, &named)) return 0;
+    if (zacpi_list_faults(source, signature_of(table), out.faults, 2, &count, &named)) return 0;
     if (!fault) return count == 0 && are_painted(&out, sizeof out);
     return count == 1 && out.faults[0].address == table->regions[table->index].address && out.faults[0].status == fault
         && are_painted(&out.faults[1], sizeof out.faults[1]);
@@ -130,19 +130,19 @@ static int is_passed_over(const struct swept *table, const struct acpi_source *s
 
 /* Whether each lookup takes the table as it is, and passes over nothing: else a refusal would show nothing. */
 static int is_found(const struct swept *table) {
-    const struct acpi_source source = {table->regions, table->regions_length, 0x1000, ACPI_START_RSDT};
-    const struct acpi_region *region = &table->regions[table->index];
-    if (acpi_find_table(&source, signature_of(table), &out.table, &named)) return 0;
+    const struct zacpi_source source = {table->regions, table->regions_length, 0x1000, ZACPI_START_RSDT};
+    const struct zacpi_region *region = &table->regions[table->index];
+    if (zacpi_find_table(&source, signature_of(table), &out.table, &named)) return 0;
     if (out.table.address != region->address || out.table.length != region->length) return 0;
     if (table->find(&source) != table->found) return 0;
-    return !acpi_list_faults(&source, signature_of(table), out.faults, 2, &count, &named) && count == 0;
+    return !zacpi_list_faults(&source, signature_of(table), out.faults, 2, &count, &named) && count == 0;
 }
 
 /* The table in two regions, cut at each place. */
 static void sweep_cuts(const struct swept *table) {
-    struct acpi_region regions[10];
-    const struct acpi_source source = {regions, table->regions_length + 1, 0x1000, ACPI_START_RSDT};
-    struct acpi_region *front = &regions[table->index], *rest = front + 1;
+    struct zacpi_region regions[10];
+    const struct zacpi_source source = {regions, table->regions_length + 1, 0x1000, ZACPI_START_RSDT};
+    struct zacpi_region *front = &regions[table->index], *rest = front + 1;
     size_t after = table->regions_length - table->index, whole = table->regions[table->index].length, cut;
     memcpy(regions, table->regions, table->index * sizeof *regions);
     memcpy(rest, table->regions + table->index, after * sizeof *regions);
@@ -152,24 +152,24 @@ static void sweep_cuts(const struct swept *table) {
         rest->address = front->address + cut;
         rest->bytes = front->bytes + cut;
         rest->length = whole - cut;
-        result(is_passed_over(table, &source, ACPI_MAP_FAILED), table, "cut at", cut, 0);
+        result(is_passed_over(table, &source, ZACPI_MAP_FAILED), table, "cut at", cut, 0);
     }
 }
 
 /* Why a table is passed over that has this value in one byte, where both its texts were zeros: it bears another
  * signature, which is no fault, a text isn't UTF-8, or it doesn't sum to 0. */
-static acpi_status fault_of(size_t offset, uint8_t value) {
-    if (offset < LENGTH) return ACPI_OK;
-    if (value >= 0x80 && OEMID <= offset && offset < OEM_TABLE_ID) return ACPI_SDT_INVALID_OEM_ID;
-    if (value >= 0x80 && OEM_TABLE_ID <= offset && offset < OEM_REVISION) return ACPI_SDT_INVALID_TABLE_ID;
-    return ACPI_SDT_INVALID_CHECKSUM;
+static zacpi_status fault_of(size_t offset, uint8_t value) {
+    if (offset < LENGTH) return ZACPI_OK;
+    if (value >= 0x80 && OEMID <= offset && offset < OEM_TABLE_ID) return ZACPI_SDT_INVALID_OEM_ID;
+    if (value >= 0x80 && OEM_TABLE_ID <= offset && offset < OEM_REVISION) return ZACPI_SDT_INVALID_TABLE_ID;
+    return ZACPI_SDT_INVALID_CHECKSUM;
 }
 
 /* The table with another value in one byte, each byte but those of Length and each other value. */
 static void sweep_bytes(const struct swept *table) {
-    struct acpi_region regions[9];
-    const struct acpi_source source = {regions, table->regions_length, 0x1000, ACPI_START_RSDT};
-    const struct acpi_region *region = &table->regions[table->index];
+    struct zacpi_region regions[9];
+    const struct zacpi_source source = {regions, table->regions_length, 0x1000, ZACPI_START_RSDT};
+    const struct zacpi_region *region = &table->regions[table->index];
     uint8_t bytes[116];
     size_t offset;
     unsigned bits;

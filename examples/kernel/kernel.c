@@ -4,8 +4,8 @@
 
 extern uint8_t load_start[], bss_end[];
 static const struct printer serial = {to_serial, 0};
-static struct acpi_range map[128], kept[128];
-static struct acpi_region regions[128];
+static struct zacpi_range map[128], kept[128];
+static struct zacpi_region regions[128];
 static void line(void) { say(&serial, "\n"); }
 static void named_number(const char *name, uint64_t number) { say(&serial, name), say_number(&serial, number); }
 static void named_range(const char *name, uint64_t address, uint64_t length) {
@@ -32,7 +32,7 @@ static uint64_t ebda(void) {
  * 16 bytes after each area, so that the last candidate is there as a whole. Of multiboot's information mmap_length is
  * at 44 and mmap_addr at 48; of an entry size is at 0, base_addr at 4, length at 12 and type at 20. */
 static size_t memory_map(const volatile uint8_t *info) {
-    const struct acpi_range areas[] = {{0x400, 0x100}, {ebda(), 0xa0010 - ebda()}, {0xe0000, 0x20010}};
+    const struct zacpi_range areas[] = {{0x400, 0x100}, {ebda(), 0xa0010 - ebda()}, {0xe0000, 0x20010}};
     const volatile uint8_t *entry = at(low(info + 48, 4)), *end = entry + low(info + 44, 4);
     size_t n = 0;
     for (; entry < end; entry += 4 + low(entry, 4), n++) { /* an entry's size doesn't count itself */
@@ -48,14 +48,14 @@ static size_t memory_map(const volatile uint8_t *info) {
 /* The regions: all of the map below 4 GiB, which is what boot.s maps, from 0x400 on, so that none is at null,
  * and without this kernel itself, whose stack and lists are written while calls run. */
 static size_t make_regions(const volatile uint8_t *info) {
-    const struct acpi_range window = {0x400, 0x100000000 - 0x400};
-    const struct acpi_range own = {(uint64_t)load_start, (uint64_t)(bss_end - load_start)};
+    const struct zacpi_range window = {0x400, 0x100000000 - 0x400};
+    const struct zacpi_range own = {(uint64_t)load_start, (uint64_t)(bss_end - load_start)};
     const size_t room = sizeof kept / sizeof *kept;
     size_t count = 0, n = memory_map(info);
-    if (acpi_clip_ranges(map, n, &own, 1, &window, kept, room, &count)) stop("a range ends too high");
+    if (zacpi_clip_ranges(map, n, &own, 1, &window, kept, room, &count)) stop("a range ends too high");
     if (count > room) stop("too many regions");
     for (size_t i = 0; i < count; i++) {
-        regions[i] = (struct acpi_region){kept[i].address, (const uint8_t *)at(kept[i].address), kept[i].length};
+        regions[i] = (struct zacpi_region){kept[i].address, (const uint8_t *)at(kept[i].address), kept[i].length};
         named_range("region ", kept[i].address, kept[i].length), line();
     }
     return count;
@@ -74,43 +74,43 @@ static const volatile uint8_t *word_after(const volatile uint8_t *info, const ch
 }
 /* The RSDP by the search of the BIOS areas. If that finds none (booted by UEFI), it lies where the loader says it
  * does by `rsdp=0x...` on the command line. */
-static void choose_start(struct acpi_source *source, const volatile uint8_t *info) {
+static void choose_start(struct zacpi_source *source, const volatile uint8_t *info) {
     const volatile uint8_t *p = word_after(info, "rsdp=0x");
-    struct acpi_signature named = {{0}};
-    struct acpi_root root = {0};
-    if (p && acpi_open(source, &root, &named) == ACPI_NO_VALID_RSDP) {
-        source->start = ACPI_START_RSDP;
+    struct zacpi_signature named = {{0}};
+    struct zacpi_root root = {0};
+    if (p && zacpi_open(source, &root, &named) == ZACPI_NO_VALID_RSDP) {
+        source->start = ZACPI_START_RSDP;
         for (; (*p >= '0' && *p <= '9') || (*p >= 'a' && *p <= 'f'); p++)
             source->address = source->address << 4 | (uint64_t)(*p <= '9' ? *p - '0' : *p - 'a' + 10);
         say(&serial, "rsdp "), say_address(&serial, source->address), line();
     }
 }
-static struct acpi_table tables[256];
-static struct acpi_range ranges[512];
-static struct acpi_processor processors[512];
-static struct acpi_io_apic io_apics[64];
+static struct zacpi_table tables[256];
+static struct zacpi_range ranges[512];
+static struct zacpi_processor processors[512];
+static struct zacpi_io_apic io_apics[64];
 
 /* Where the listed tables lie, and the memory that isn't to be given away. */
-static void places(const struct acpi_source *source) {
-    struct acpi_signature named = {{0}};
+static void places(const struct zacpi_source *source) {
+    struct zacpi_signature named = {{0}};
     size_t count = 0;
-    if (!acpi_list_tables(source, tables, 256, &count, &named))
+    if (!zacpi_list_tables(source, tables, 256, &count, &named))
         for (size_t i = 0; i < count && i < 256; i++) {
             say(&serial, "listed "), say_signature(&serial, tables[i].signature), say(&serial, " ");
             say_address(&serial, tables[i].address), line();
         }
-    if (!acpi_list_ranges(source, ranges, 512, &count, &named))
+    if (!zacpi_list_ranges(source, ranges, 512, &count, &named))
         for (size_t i = 0; i < count && i < 512; i++)
             named_range("reserved ", ranges[i].address, ranges[i].length), line();
 }
 
 /* How the 16 ISA interrupts come to the I/O APICs. */
-static void pins(const struct acpi_source *source) {
-    struct acpi_signature named = {{0}};
-    struct acpi_isa_interrupts isa;
-    if (acpi_list_isa_interrupts(source, &isa, &named)) return;
+static void pins(const struct zacpi_source *source) {
+    struct zacpi_signature named = {{0}};
+    struct zacpi_isa_interrupts isa;
+    if (zacpi_list_isa_interrupts(source, &isa, &named)) return;
     for (size_t irq = 0; irq < 16; irq++) {
-        const struct acpi_isa_route *route = isa.routes + irq;
+        const struct zacpi_isa_route *route = isa.routes + irq;
         if (!route->present) continue;
         named_number("isa ", irq), named_number(" gsi ", route->interrupt.global_system_interrupt);
         if (route->has_pin)
@@ -119,10 +119,10 @@ static void pins(const struct acpi_source *source) {
     }
 }
 /* Vendor ID of the first PCI function, which is at 0 in its configuration space. */
-static void first_function(const struct acpi_source *source) {
-    struct acpi_signature named = {{0}};
+static void first_function(const struct zacpi_source *source) {
+    struct zacpi_signature named = {{0}};
     uint64_t address = 0;
-    acpi_status refused = acpi_pci_ecam_address(source, 0, 0, 0, 0, &address, &named);
+    zacpi_status refused = zacpi_pci_ecam_address(source, 0, 0, 0, 0, &address, &named);
     if (refused) { say_refused(&serial, "ecam", refused, &named); return; }
     say(&serial, "ecam "), say_address(&serial, address);
     if (address >> 32) say(&serial, " not mapped");
@@ -145,45 +145,45 @@ static void first_function(const struct acpi_source *source) {
 } while (0)
 /* The source from the root table on that this one led to. The search costs more than all else, and each call would make
  * it anew. */
-static struct acpi_source from_root(const struct acpi_source *source, const struct acpi_root *root) {
-    struct acpi_source known = *source;
-    known.address = root->address, known.start = root->pointer_width == 8 ? ACPI_START_XSDT : ACPI_START_RSDT;
+static struct zacpi_source from_root(const struct zacpi_source *source, const struct zacpi_root *root) {
+    struct zacpi_source known = *source;
+    known.address = root->address, known.start = root->pointer_width == 8 ? ZACPI_START_XSDT : ZACPI_START_RSDT;
     return known;
 }
-static void figures(const struct acpi_source *source, struct acpi_source known) {
-    struct acpi_signature named = {{0}};
-    struct acpi_root root = {0};
-    struct acpi_aml dsdt = {0};
-    struct acpi_hpet_block hpet = {0};
-    struct acpi_interrupt_model model = {0};
+static void figures(const struct zacpi_source *source, struct zacpi_source known) {
+    struct zacpi_signature named = {{0}};
+    struct zacpi_root root = {0};
+    struct zacpi_aml dsdt = {0};
+    struct zacpi_hpet_block hpet = {0};
+    struct zacpi_interrupt_model model = {0};
     uint64_t address = 0;
     size_t count = 0;
-    FIGURE(acpi_open, source, &root, &named);
-    FIGURE(acpi_open, &known, &root, &named);
-    FIGURE(acpi_list_tables, &known, tables, 256, &count, &named);
-    FIGURE(acpi_dsdt, &known, &dsdt, &named);
-    FIGURE(acpi_hpet, &known, &hpet, &named);
-    FIGURE(acpi_interrupt_model, &known, &model, &named);
-    FIGURE(acpi_list_io_apics, &known, io_apics, 64, &count, &named);
-    FIGURE(acpi_list_processors, &known, processors, 512, &count, &named);
-    FIGURE(acpi_pci_ecam_address, &known, 0, 0, 0, 0, &address, &named);
-    FIGURE(acpi_list_ranges, &known, ranges, 512, &count, &named);
+    FIGURE(zacpi_open, source, &root, &named);
+    FIGURE(zacpi_open, &known, &root, &named);
+    FIGURE(zacpi_list_tables, &known, tables, 256, &count, &named);
+    FIGURE(zacpi_dsdt, &known, &dsdt, &named);
+    FIGURE(zacpi_hpet, &known, &hpet, &named);
+    FIGURE(zacpi_interrupt_model, &known, &model, &named);
+    FIGURE(zacpi_list_io_apics, &known, io_apics, 64, &count, &named);
+    FIGURE(zacpi_list_processors, &known, processors, 512, &count, &named);
+    FIGURE(zacpi_pci_ecam_address, &known, 0, 0, 0, 0, &address, &named);
+    FIGURE(zacpi_list_ranges, &known, ranges, 512, &count, &named);
 }
 
 void kernel(uint32_t magic, uint32_t information) {
     const volatile uint8_t *info = at(information);
-    struct acpi_source source = {regions, 0, 0, ACPI_START_BIOS_SEARCH};
-    struct acpi_source known = source;
-    struct acpi_signature named = {{0}};
-    struct acpi_root root = {0};
-    acpi_status refused;
+    struct zacpi_source source = {regions, 0, 0, ZACPI_START_BIOS_SEARCH};
+    struct zacpi_source known = source;
+    struct zacpi_signature named = {{0}};
+    struct zacpi_root root = {0};
+    zacpi_status refused;
     open_serial();
     catch_faults();
     /* bit 6 of the flags of multiboot's information: it has a memory map */
     if (magic != 0x2badb002 || !(low(info, 4) & 0x40)) stop("no memory map of a multiboot loader");
     source.regions_length = make_regions(info);
     choose_start(&source, info);
-    refused = acpi_open(&source, &root, &named);
+    refused = zacpi_open(&source, &root, &named);
     if (!refused) {
         known = from_root(&source, &root);
         refused = acpi_lines(&known, &root.revision, &serial, &serial, &named);

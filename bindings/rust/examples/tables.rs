@@ -1,5 +1,5 @@
 //! tables IMAGE rsdt REVISION ADDRESS | rsdp ADDRESS | bios: what acpi_view prints, through the library.
-use acpi_proved::{
+use zacpi::{
     AcpiResult, AcpiTables, AmlTable, Fault, FixedHardware, InterruptModel, InterruptSourceOverride, IoApic, List,
     NmiLine, NmiSource, PciRegion, PmTimer, Processor, Region, Signature, Table,
 };

@@ -7,7 +7,7 @@ use core::fmt;
 pub type AcpiResult<T> = Result<T, AcpiError>;
 
 /// Why a call refuses. The names are those of the crate `acpi`, and of the library's own checks; the numbers are those
-/// of `enum acpi_refusal` in `include/acpi.h`. Sections are those of ACPI 6.4. A signature that is carried is that of
+/// of `enum zacpi_refusal` in `include/zacpi.h`. Sections are those of ACPI 6.4. A signature that is carried is that of
 /// the table that was looked for.
 #[derive(Clone, Copy, Debug, PartialEq, Eq)]
 pub enum AcpiError {
@@ -110,20 +110,20 @@ impl AcpiError {
             16 => InvalidGenericAddress,
             19 => NoSuchFunction,
             21 => RangeTooHigh,
-            23 => NoApics,
-            24 => NoSuchInterrupt,
-            25 => NoSuchIoApic,
-            32 => InvalidMadt(MadtError::UnexpectedEntry),
-            33 => InvalidMadt(MadtError::InterruptOverrideEntryHasInvalidBus),
-            34 => InvalidMadt(MadtError::InvalidLocalNmiLine),
-            35 => InvalidMadt(MadtError::MpsIntiInvalidPolarity),
-            36 => InvalidMadt(MadtError::MpsIntiInvalidTriggerMode),
-            38 => InvalidMadt(MadtError::InvalidEntryLength),
-            40 => InvalidEntryLength,
-            41 => InvalidMemoryRange,
-            42 => NoGic,
-            43 => NoDomain,
-            44 => NoDistance,
+            22 => NoApics,
+            23 => NoSuchInterrupt,
+            24 => NoSuchIoApic,
+            25 => InvalidMadt(MadtError::UnexpectedEntry),
+            26 => InvalidMadt(MadtError::InterruptOverrideEntryHasInvalidBus),
+            27 => InvalidMadt(MadtError::InvalidLocalNmiLine),
+            28 => InvalidMadt(MadtError::MpsIntiInvalidPolarity),
+            29 => InvalidMadt(MadtError::MpsIntiInvalidTriggerMode),
+            31 => InvalidMadt(MadtError::InvalidEntryLength),
+            32 => InvalidEntryLength,
+            33 => InvalidMemoryRange,
+            34 => NoGic,
+            35 => NoDomain,
+            36 => NoDistance,
             other => Other(other),
         }
     }

@@ -1,11 +1,11 @@
-//! What a machine's ACPI tables say, for Rust without `std`, by the library that `include/acpi.h` describes:
+//! What a machine's ACPI tables say, for Rust without `std`, by the library that `include/zacpi.h` describes:
 //! it is proved never to read outside the regions, and to answer as its contracts say. This crate only passes
 //! slices on, so all its functions are safe. Section numbers are those of the ACPI Specification, version 6.4.
 //!
 //! It takes no memory: a list is filled into a slice that the caller passes.
 //!
 //! ```no_run
-//! use acpi_proved::{AcpiTables, Processor, Region};
+//! use zacpi::{AcpiTables, Processor, Region};
 //! # let (address, bytes): (u64, &[u8]) = (0, &[]);
 //! let regions = [Region::new(address, bytes)];
 //! let tables = AcpiTables::from_rsdp(&regions, 0x7ffd0000)?;
@@ -13,7 +13,7 @@
 //! for processor in tables.processors(&mut room)? {
 //!     let _ = processor.local_apic_id;
 //! }
-//! # Ok::<(), acpi_proved::AcpiError>(())
+//! # Ok::<(), zacpi::AcpiError>(())
 //! ```
 #![no_std]
 
@@ -81,7 +81,7 @@ pub fn clip_ranges<'b>(
     let mut count = 0;
     // SAFETY: all are live slices, and `room` shares no byte with the others.
     let status = unsafe {
-        raw::acpi_clip_ranges(
+        raw::zacpi_clip_ranges(
             ranges.as_ptr(),
             ranges.len(),
             without.as_ptr(),
@@ -131,7 +131,7 @@ pub fn missing_ranges<'b>(
     let (mut count, mut named) = (0, Signature::default());
     // SAFETY: the source holds live slices; the outputs are live, disjoint and initialised.
     let status = unsafe {
-        raw::acpi_list_missing_ranges(&source, room.as_mut_ptr(), room.len(), &mut count, &mut named)
+        raw::zacpi_list_missing_ranges(&source, room.as_mut_ptr(), room.len(), &mut count, &mut named)
     };
     if status != 0 {
         return Err(AcpiError::of(status, named));
@@ -141,7 +141,7 @@ pub fn missing_ranges<'b>(
 }
 
 /// The tables of a machine. Each call opens them anew in the regions, so nothing is kept between calls. Each refuses
-/// first as opening does, and then as it says; `include/acpi.h` has the order of refusals.
+/// first as opening does, and then as it says; `include/zacpi.h` has the order of refusals.
 #[derive(Clone, Copy, Debug)]
 pub struct AcpiTables<'k> {
     source: Source<'k>,
@@ -226,116 +226,113 @@ impl<'k> AcpiTables<'k> {
 
     ones! {
         /// The root table, read anew (sections 5.2.7 and 5.2.8).
-        open = acpi_open() -> Root;
+        open = zacpi_open() -> Root;
         /// The first valid table of a signature (section 5.2.6). Refuses with `TableMissing`.
-        find_table = acpi_find_table(signature: Signature) -> Table;
+        find_table = zacpi_find_table(signature: Signature) -> Table;
         /// The valid table of a signature that so many others of it are listed before (section 5.2.6): index 0 is the
         /// first one. Refuses with `TableMissing`.
-        find_nth_table = acpi_find_nth_table(signature: Signature, index: usize) -> Table;
+        find_nth_table = zacpi_find_nth_table(signature: Signature, index: usize) -> Table;
         /// The AML of the DSDT that the first valid FADT names (section 5.2.11.1). Refuses with `TableMissing` for the
         /// FADT, with `InvalidDsdtAddress`, and as the table at that address is refused.
-        dsdt = acpi_dsdt() -> AmlTable;
+        dsdt = zacpi_dsdt() -> AmlTable;
         /// The block of event timers of the first valid HPET. Refuses with `TableMissing`, and with
         /// `InvalidGenericAddress` if its registers don't lie in memory.
-        hpet = acpi_hpet() -> HpetInfo;
+        hpet = zacpi_hpet() -> HpetInfo;
         /// The image that the firmware showed (BGRT, section 5.2.22). Refuses with `TableMissing`.
-        boot_graphic = acpi_boot_graphic() -> BootGraphic;
+        boot_graphic = zacpi_boot_graphic() -> BootGraphic;
         /// The fixed hardware: all registers and flags of the first valid FADT (section 5.2.9). Refuses with
         /// `TableMissing`.
-        fixed_hardware = acpi_fixed_hardware() -> FixedHardware;
+        fixed_hardware = zacpi_fixed_hardware() -> FixedHardware;
         /// The serial console that the firmware used (SPCR). Refuses with `TableMissing`.
-        console = acpi_console() -> Console;
+        console = zacpi_console() -> Console;
         /// Which controllers interrupts come to, and how many of each sort there are (MADT, section 5.2.12). Refuses
         /// with `TableMissing` for the FADT, with `InvalidMadt`, and with `InvalidGenericAddress` as `pm_timer` does.
-        interrupt_model = acpi_interrupt_model() -> InterruptModel;
+        interrupt_model = zacpi_interrupt_model() -> InterruptModel;
         /// The power management timer of the first valid FADT (section 4.8.3.3); if there is none, `present` is 0.
         /// Refuses with `TableMissing` and `InvalidGenericAddress`.
-        pm_timer = acpi_pm_timer() -> PmTimer;
+        pm_timer = zacpi_pm_timer() -> PmTimer;
         /// How one of the 16 ISA interrupts comes to the I/O APICs (section 5.2.12.5). Refuses as `interrupt_model`
         /// does, and with `NoApics` and `NoSuchInterrupt`.
-        isa_interrupt = acpi_isa_interrupt(irq: u8) -> Interrupt;
+        isa_interrupt = zacpi_isa_interrupt(irq: u8) -> Interrupt;
         /// How the System Control Interrupt (SCI_INT, section 5.2.9) comes to the I/O APICs. Refuses as
         /// `interrupt_model` does, and with `NoApics`.
-        sci_interrupt = acpi_sci_interrupt() -> Interrupt;
+        sci_interrupt = zacpi_sci_interrupt() -> Interrupt;
         /// The I/O APIC that a global system interrupt comes to, and the pin there (section 5.2.13). Refuses as
         /// `interrupt_model` does, and with `NoApics` and `NoSuchIoApic`.
-        io_apic_for = acpi_io_apic_pin(global_system_interrupt: u32) -> IoApicPin;
+        io_apic_for = zacpi_io_apic_pin(global_system_interrupt: u32) -> IoApicPin;
         /// All 16 ISA interrupts, each with its pin: item N is what `isa_interrupt` and `io_apic_for` answer for N.
         /// Refuses as `interrupt_model` does, and with `NoApics`.
-        isa_interrupts = acpi_list_isa_interrupts() -> IsaInterrupts;
+        isa_interrupts = zacpi_list_isa_interrupts() -> IsaInterrupts;
         /// The distributor of the machine's GIC (section 5.2.12.15). Refuses with `TableMissing`, `InvalidMadt` and
         /// `NoGic`.
-        gic_distributor = acpi_gic_distributor() -> GicDistributor;
+        gic_distributor = zacpi_gic_distributor() -> GicDistributor;
         /// The generic timers of every processor (GTDT, section 5.2.24). Refuses with `TableMissing`.
-        arm_timers = acpi_arm_timers() -> ArmTimers;
+        arm_timers = zacpi_arm_timers() -> ArmTimers;
         /// The domain of the memory at a physical address (section 5.2.16.2). Refuses as `memory_affinities` does, and
         /// with `NoDomain`.
-        domain_of_address = acpi_domain_of_address(address: u64) -> u32;
+        domain_of_address = zacpi_domain_of_address(address: u64) -> u32;
         /// The domain of the processor whose local APIC or x2APIC has an id (sections 5.2.16.1 and 5.2.16.3). Refuses
         /// with `TableMissing` and `NoDomain`.
-        domain_of_apic = acpi_domain_of_apic(local_apic_id: u32) -> u32;
+        domain_of_apic = zacpi_domain_of_apic(local_apic_id: u32) -> u32;
         /// The domain of the processor of an ACPI Processor UID on a machine with a GIC (section 5.2.16.4). Refuses
         /// with `TableMissing` and `NoDomain`.
-        domain_of_processor = acpi_domain_of_processor(uid: u32) -> u32;
+        domain_of_processor = zacpi_domain_of_processor(uid: u32) -> u32;
         /// How many localities have distances, and whether these can be believed (SLIT, section 5.2.17). Refuses with
         /// `TableMissing`.
-        localities = acpi_localities() -> Localities;
+        localities = zacpi_localities() -> Localities;
         /// How far one locality is from another, in units of which 10 are the distance from itself; 255 stands for
         /// unreachable (SLIT, section 5.2.17). Refuses with `TableMissing` and `NoDistance`.
-        distance = acpi_distance(from: u64, to: u64) -> u8;
+        distance = zacpi_distance(from: u64, to: u64) -> u8;
         /// The physical address of a function's configuration space, with a region's base taken as that of
         /// bus 0, as a kernel wants it (PCI Firmware Specification, section 4.1.2). Refuses with `TableMissing` and
         /// `NoSuchFunction`.
-        ecam_address = acpi_pci_ecam_address(segment_group: u16, bus: u8, device: u8, function: u8) -> u64;
-        /// The physical address of a function's configuration space, with a region's base taken as that of its first
-        /// bus, as the crate `acpi` has it: not what a kernel wants. Refuses with `TableMissing` and `NoSuchFunction`.
-        physical_address = acpi_pci_physical_address(segment_group: u16, bus: u8, device: u8, function: u8) -> u64;
+        ecam_address = zacpi_pci_ecam_address(segment_group: u16, bus: u8, device: u8, function: u8) -> u64;
     }
 
     lists! {
         /// All valid tables, in the order of the root table (section 5.2.6).
-        headers = acpi_list_tables() -> Table;
+        headers = zacpi_list_tables() -> Table;
         /// The members that a lookup of a signature passes over for another reason than another signature, up to the
         /// first valid one.
-        faults = acpi_list_faults(signature: Signature) -> Fault;
+        faults = zacpi_list_faults(signature: Signature) -> Fault;
         /// The AML of each valid SSDT, in the order of the root table (section 5.2.11.2).
-        ssdts = acpi_list_ssdts() -> AmlTable;
+        ssdts = zacpi_list_ssdts() -> AmlTable;
         /// The memory that the tables take, and that isn't to be given away.
-        ranges = acpi_list_ranges() -> Range;
+        ranges = zacpi_list_ranges() -> Range;
         /// The regions of PCI configuration space, in the order of the MCFG. Refuses with `TableMissing`.
-        pci_regions = acpi_list_pci_regions() -> PciRegion;
+        pci_regions = zacpi_list_pci_regions() -> PciRegion;
         /// The memory that each region of PCI configuration space takes, with its base taken as that of bus 0, in the
         /// order of the MCFG. Refuses with `TableMissing`.
-        ecam_ranges = acpi_list_ecam_ranges() -> EcamRange;
+        ecam_ranges = zacpi_list_ecam_ranges() -> EcamRange;
         /// The I/O APICs (section 5.2.12.3). Refuses as `interrupt_model` does.
-        io_apics = acpi_list_io_apics() -> IoApic;
+        io_apics = zacpi_list_io_apics() -> IoApic;
         /// The Interrupt Source Override entries (section 5.2.12.5). Refuses as `interrupt_model` does.
-        interrupt_source_overrides = acpi_list_overrides() -> InterruptSourceOverride;
+        interrupt_source_overrides = zacpi_list_overrides() -> InterruptSourceOverride;
         /// The NMI Source entries (section 5.2.12.6). Refuses as `interrupt_model` does.
-        nmi_sources = acpi_list_nmi_sources() -> NmiSource;
+        nmi_sources = zacpi_list_nmi_sources() -> NmiSource;
         /// The Local APIC NMI and Local x2APIC NMI entries (sections 5.2.12.7 and 5.2.12.13). Refuses as
         /// `interrupt_model` does.
-        local_apic_nmi_lines = acpi_list_nmi_lines() -> NmiLine;
+        local_apic_nmi_lines = zacpi_list_nmi_lines() -> NmiLine;
         /// The processors, the boot processor first (sections 5.2.12.2 and 5.2.12.12). Refuses as `interrupt_model`
         /// does.
-        processors = acpi_list_processors() -> Processor;
+        processors = zacpi_list_processors() -> Processor;
         /// The processors' interfaces to the GIC (section 5.2.12.14). Refuses as `gic_distributor` does.
-        gic_cpu_interfaces = acpi_list_gic_cpu_interfaces() -> GicCpuInterface;
+        gic_cpu_interfaces = zacpi_list_gic_cpu_interfaces() -> GicCpuInterface;
         /// The ranges of memory that hold redistributors of the GIC (section 5.2.12.17). Refuses as `gic_distributor`
         /// does.
-        gic_redistributors = acpi_list_gic_redistributors() -> Range;
+        gic_redistributors = zacpi_list_gic_redistributors() -> Range;
         /// The services that translate interrupts for the GIC (section 5.2.12.18). Refuses as `gic_distributor` does.
-        gic_translation_services = acpi_list_gic_translation_services() -> GicTranslationService;
+        gic_translation_services = zacpi_list_gic_translation_services() -> GicTranslationService;
         /// The frames that turn messages into interrupts of the GIC (section 5.2.12.16). Refuses as `gic_distributor`
         /// does.
-        gic_msi_frames = acpi_list_gic_msi_frames() -> GicMsiFrame;
+        gic_msi_frames = zacpi_list_gic_msi_frames() -> GicMsiFrame;
         /// The frames of the blocks of timers, block by block (section 5.2.24.1.1). Refuses with `TableMissing`.
-        gt_frames = acpi_list_gt_frames() -> GtFrame;
+        gt_frames = zacpi_list_gt_frames() -> GtFrame;
         /// The watchdogs of the Server Base System Architecture (section 5.2.24.1.2). Refuses with `TableMissing`.
-        watchdogs = acpi_list_watchdogs() -> Watchdog;
+        watchdogs = zacpi_list_watchdogs() -> Watchdog;
         /// The ranges of memory that the SRAT puts into domains (section 5.2.16.2). Refuses with `TableMissing`,
         /// `InvalidEntryLength` and `InvalidMemoryRange`.
-        memory_affinities = acpi_list_memory_affinities() -> MemoryAffinity;
+        memory_affinities = zacpi_list_memory_affinities() -> MemoryAffinity;
     }
 }
 

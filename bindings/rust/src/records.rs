@@ -1,4 +1,4 @@
-//! What calls answer. Each is laid out as the struct of `include/acpi.h` that has the same fields, with the same units
+//! What calls answer. Each is laid out as the struct of `include/zacpi.h` that has the same fields, with the same units
 //! and codes: the header says which field of the specification (ACPI 6.4) each one is.
 
 use core::fmt;

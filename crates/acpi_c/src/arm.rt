@@ -14,7 +14,7 @@ use acpi_c_lib::records::{Name, Range, Source};
 
 /// The distributor of the GIC (section 5.2.12.15).
 #[unsafe(no_mangle)]
-pub extern "C" fn acpi_gic_distributor(
+pub extern "C" fn zacpi_gic_distributor(
     source: &Source<'_>,
     out: &mut DistributorRecord,
     named: &mut Name,
@@ -27,7 +27,7 @@ pub extern "C" fn acpi_gic_distributor(
 
 /// The processors' interfaces to the GIC (section 5.2.12.14).
 #[unsafe(no_mangle)]
-pub extern "C" fn acpi_list_gic_cpu_interfaces(
+pub extern "C" fn zacpi_list_gic_cpu_interfaces(
     source: &Source<'_>,
     out: &mut [CpuInterfaceRecord],
     count: &mut usize,
@@ -41,7 +41,7 @@ pub extern "C" fn acpi_list_gic_cpu_interfaces(
 
 /// The ranges of memory that hold redistributors (section 5.2.12.17).
 #[unsafe(no_mangle)]
-pub extern "C" fn acpi_list_gic_redistributors(
+pub extern "C" fn zacpi_list_gic_redistributors(
     source: &Source<'_>,
     out: &mut [Range],
     count: &mut usize,
@@ -55,7 +55,7 @@ pub extern "C" fn acpi_list_gic_redistributors(
 
 /// The services that translate interrupts (section 5.2.12.18).
 #[unsafe(no_mangle)]
-pub extern "C" fn acpi_list_gic_translation_services(
+pub extern "C" fn zacpi_list_gic_translation_services(
     source: &Source<'_>,
     out: &mut [TranslationServiceRecord],
     count: &mut usize,
@@ -69,7 +69,7 @@ pub extern "C" fn acpi_list_gic_translation_services(
 
 /// The frames that turn messages into interrupts (section 5.2.12.16).
 #[unsafe(no_mangle)]
-pub extern "C" fn acpi_list_gic_msi_frames(
+pub extern "C" fn zacpi_list_gic_msi_frames(
     source: &Source<'_>,
     out: &mut [MsiFrameRecord],
     count: &mut usize,
@@ -83,7 +83,7 @@ pub extern "C" fn acpi_list_gic_msi_frames(
 
 /// The timers of every processor (section 5.2.24).
 #[unsafe(no_mangle)]
-pub extern "C" fn acpi_arm_timers(
+pub extern "C" fn zacpi_arm_timers(
     source: &Source<'_>,
     out: &mut ArmTimersRecord,
     named: &mut Name,
@@ -95,7 +95,7 @@ pub extern "C" fn acpi_arm_timers(
 
 /// The frames of the blocks of timers, block by block (section 5.2.24.1.1).
 #[unsafe(no_mangle)]
-pub extern "C" fn acpi_list_gt_frames(
+pub extern "C" fn zacpi_list_gt_frames(
     source: &Source<'_>,
     out: &mut [GtFrameRecord],
     count: &mut usize,
@@ -109,7 +109,7 @@ pub extern "C" fn acpi_list_gt_frames(
 
 /// The watchdogs of the Server Base System Architecture (section 5.2.24.1.2).
 #[unsafe(no_mangle)]
-pub extern "C" fn acpi_list_watchdogs(
+pub extern "C" fn zacpi_list_watchdogs(
     source: &Source<'_>,
     out: &mut [WatchdogRecord],
     count: &mut usize,

@@ -14,7 +14,7 @@ use acpi_c_lib::records::{BootGraphic, Hpet, Name, Source, Timer};
 
 /// The fixed hardware (section 5.2.9).
 #[unsafe(no_mangle)]
-pub extern "C" fn acpi_fixed_hardware(
+pub extern "C" fn zacpi_fixed_hardware(
     source: &Source<'_>,
     out: &mut FixedHardware,
     named: &mut Name,
@@ -26,7 +26,7 @@ pub extern "C" fn acpi_fixed_hardware(
 
 /// The serial console that the firmware used (SPCR).
 #[unsafe(no_mangle)]
-pub extern "C" fn acpi_console(source: &Source<'_>, out: &mut Console, named: &mut Name) -> u32
+pub extern "C" fn zacpi_console(source: &Source<'_>, out: &mut Console, named: &mut Name) -> u32
     ensures { Answers result out.old out.new named.old named.new (console_below source.now) }
 {
     answer(console(source), out, named)
@@ -34,7 +34,7 @@ pub extern "C" fn acpi_console(source: &Source<'_>, out: &mut Console, named: &m
 
 /// The block of event timers (HPET).
 #[unsafe(no_mangle)]
-pub extern "C" fn acpi_hpet(source: &Source<'_>, out: &mut Hpet, named: &mut Name) -> u32
+pub extern "C" fn zacpi_hpet(source: &Source<'_>, out: &mut Hpet, named: &mut Name) -> u32
     ensures { Answers result out.old out.new named.old named.new (hpet_below source.now) }
 {
     answer(hpet(source), out, named)
@@ -42,7 +42,7 @@ pub extern "C" fn acpi_hpet(source: &Source<'_>, out: &mut Hpet, named: &mut Nam
 
 /// The power management timer (sections 4.8.3.3 and 5.2.9).
 #[unsafe(no_mangle)]
-pub extern "C" fn acpi_pm_timer(source: &Source<'_>, out: &mut Timer, named: &mut Name) -> u32
+pub extern "C" fn zacpi_pm_timer(source: &Source<'_>, out: &mut Timer, named: &mut Name) -> u32
     ensures { Answers result out.old out.new named.old named.new (timer_below source.now) }
 {
     answer(timer(source), out, named)
@@ -50,7 +50,7 @@ pub extern "C" fn acpi_pm_timer(source: &Source<'_>, out: &mut Timer, named: &mu
 
 /// The image that the firmware showed (section 5.2.22).
 #[unsafe(no_mangle)]
-pub extern "C" fn acpi_boot_graphic(
+pub extern "C" fn zacpi_boot_graphic(
     source: &Source<'_>,
     out: &mut BootGraphic,
     named: &mut Name,

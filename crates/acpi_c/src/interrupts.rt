@@ -17,7 +17,7 @@ use acpi_c_lib::routes::{isa, pin, sci};
 
 /// Which controllers interrupts come to, and how many of each sort there are (section 5.2.12).
 #[unsafe(no_mangle)]
-pub extern "C" fn acpi_interrupt_model(
+pub extern "C" fn zacpi_interrupt_model(
     source: &Source<'_>,
     out: &mut Model,
     named: &mut Name,
@@ -29,7 +29,7 @@ pub extern "C" fn acpi_interrupt_model(
 
 /// The processors, the boot processor first (sections 5.2.12.2 and 5.2.12.12).
 #[unsafe(no_mangle)]
-pub extern "C" fn acpi_list_processors(
+pub extern "C" fn zacpi_list_processors(
     source: &Source<'_>,
     out: &mut [ProcessorRecord],
     count: &mut usize,
@@ -43,7 +43,7 @@ pub extern "C" fn acpi_list_processors(
 
 /// The I/O APICs (section 5.2.12.3).
 #[unsafe(no_mangle)]
-pub extern "C" fn acpi_list_io_apics(
+pub extern "C" fn zacpi_list_io_apics(
     source: &Source<'_>,
     out: &mut [IoApicRecord],
     count: &mut usize,
@@ -57,7 +57,7 @@ pub extern "C" fn acpi_list_io_apics(
 
 /// The Interrupt Source Override entries (section 5.2.12.5).
 #[unsafe(no_mangle)]
-pub extern "C" fn acpi_list_overrides(
+pub extern "C" fn zacpi_list_overrides(
     source: &Source<'_>,
     out: &mut [OverrideRecord],
     count: &mut usize,
@@ -71,7 +71,7 @@ pub extern "C" fn acpi_list_overrides(
 
 /// The NMI Source entries (section 5.2.12.6).
 #[unsafe(no_mangle)]
-pub extern "C" fn acpi_list_nmi_sources(
+pub extern "C" fn zacpi_list_nmi_sources(
     source: &Source<'_>,
     out: &mut [NmiSourceRecord],
     count: &mut usize,
@@ -85,7 +85,7 @@ pub extern "C" fn acpi_list_nmi_sources(
 
 /// The Local APIC NMI and Local x2APIC NMI entries (sections 5.2.12.7 and 5.2.12.13).
 #[unsafe(no_mangle)]
-pub extern "C" fn acpi_list_nmi_lines(
+pub extern "C" fn zacpi_list_nmi_lines(
     source: &Source<'_>,
     out: &mut [NmiLineRecord],
     count: &mut usize,
@@ -99,7 +99,7 @@ pub extern "C" fn acpi_list_nmi_lines(
 
 /// The global system interrupt of one of the 16 ISA interrupts (section 5.2.12.5).
 #[unsafe(no_mangle)]
-pub extern "C" fn acpi_isa_interrupt(
+pub extern "C" fn zacpi_isa_interrupt(
     source: &Source<'_>,
     irq: u8,
     out: &mut InterruptRecord,
@@ -112,7 +112,7 @@ pub extern "C" fn acpi_isa_interrupt(
 
 /// The global system interrupt of the System Control Interrupt (sections 5.2.9 and 5.2.12.5).
 #[unsafe(no_mangle)]
-pub extern "C" fn acpi_sci_interrupt(
+pub extern "C" fn zacpi_sci_interrupt(
     source: &Source<'_>,
     out: &mut InterruptRecord,
     named: &mut Name,
@@ -124,7 +124,7 @@ pub extern "C" fn acpi_sci_interrupt(
 
 /// The I/O APIC that a global system interrupt comes to, and the pin there (section 5.2.12.3).
 #[unsafe(no_mangle)]
-pub extern "C" fn acpi_io_apic_pin(
+pub extern "C" fn zacpi_io_apic_pin(
     source: &Source<'_>,
     interrupt: u32,
     out: &mut PinRecord,
@@ -135,9 +135,9 @@ pub extern "C" fn acpi_io_apic_pin(
     answer(pin(source, interrupt), out, named)
 }
 
-/// The 16 ISA interrupts, each as `acpi_isa_interrupt` answers it, with what `acpi_io_apic_pin` answers for it.
+/// The 16 ISA interrupts, each as `zacpi_isa_interrupt` answers it, with what `zacpi_io_apic_pin` answers for it.
 #[unsafe(no_mangle)]
-pub extern "C" fn acpi_list_isa_interrupts(
+pub extern "C" fn zacpi_list_isa_interrupts(
     source: &Source<'_>,
     out: &mut IsaInterrupts,
     named: &mut Name,

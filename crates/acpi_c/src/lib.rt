@@ -1,4 +1,4 @@
-//! The library for C, and for Rust without std. `include/acpi.h` says of each call what it answers, in which order it
+//! The library for C, and for Rust without std. `include/zacpi.h` says of each call what it answers, in which order it
 //! refuses, and what a caller keeps; `docs/CALLING.md` says what a caller has to know besides. Sections are those of
 //! ACPI 6.4 unless another document is named.
 //!

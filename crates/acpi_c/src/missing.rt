@@ -8,9 +8,9 @@ use acpi_c_lib::records::{Name, Range, Source};
 
 /// The ranges of memory that were asked for, and that lie in no one region: as many as there is room for,
 /// and how many there are. A kernel maps those that it can, joins them with the ranges of its regions
-/// (`acpi_clip_ranges`, since a table has to lie in one region), and asks again, until no new range comes.
+/// (`zacpi_clip_ranges`, since a table has to lie in one region), and asks again, until no new range comes.
 ///
-/// If opening the tables refuses with `ACPI_MAP_FAILED`, it is the one range that was refused. If the tables are
+/// If opening the tables refuses with `ZACPI_MAP_FAILED`, it is the one range that was refused. If the tables are
 /// opened, it is a range for each member of the root table, in order, that is refused with it: its
 /// 36 bytes of header (section 5.2.6), or as many bytes as its header says. One for the DSDT and one for the
 /// FACS that the first valid FADT leads to come after these, if they aren't lent (sections 5.2.11.1 and
@@ -18,9 +18,9 @@ use acpi_c_lib::records::{Name, Range, Source};
 ///
 /// A range has at least two bytes. There is none if opening the tables refuses with anything else.
 ///
-/// Refuses with `ACPI_REGIONS_NOT_ASCENDING`, `ACPI_REGION_TOO_HIGH` and `ACPI_UNKNOWN_START`, and with nothing else.
+/// Refuses with `ZACPI_REGIONS_NOT_ASCENDING`, `ZACPI_REGION_TOO_HIGH` and `ZACPI_UNKNOWN_START`, and with nothing else.
 #[unsafe(no_mangle)]
-pub extern "C" fn acpi_list_missing_ranges(
+pub extern "C" fn zacpi_list_missing_ranges(
     source: &Source<'_>,
     out: &mut [Range],
     count: &mut usize,

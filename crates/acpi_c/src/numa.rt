@@ -12,7 +12,7 @@ use acpi_c_lib::records::{Name, Source};
 
 /// The ranges of memory that the SRAT puts into domains (section 5.2.16.2).
 #[unsafe(no_mangle)]
-pub extern "C" fn acpi_list_memory_affinities(
+pub extern "C" fn zacpi_list_memory_affinities(
     source: &Source<'_>,
     out: &mut [MemoryAffinityRecord],
     count: &mut usize,
@@ -26,7 +26,7 @@ pub extern "C" fn acpi_list_memory_affinities(
 
 /// The domain of the memory at a physical address (section 5.2.16.2).
 #[unsafe(no_mangle)]
-pub extern "C" fn acpi_domain_of_address(
+pub extern "C" fn zacpi_domain_of_address(
     source: &Source<'_>,
     address: u64,
     out: &mut u32,
@@ -40,7 +40,7 @@ pub extern "C" fn acpi_domain_of_address(
 
 /// The domain of the processor of a local APIC or x2APIC (sections 5.2.16.1 and 5.2.16.3).
 #[unsafe(no_mangle)]
-pub extern "C" fn acpi_domain_of_apic(
+pub extern "C" fn zacpi_domain_of_apic(
     source: &Source<'_>,
     local_apic_id: u32,
     out: &mut u32,
@@ -54,7 +54,7 @@ pub extern "C" fn acpi_domain_of_apic(
 
 /// The domain of a processor with an interface to the GIC (section 5.2.16.4).
 #[unsafe(no_mangle)]
-pub extern "C" fn acpi_domain_of_processor(
+pub extern "C" fn zacpi_domain_of_processor(
     source: &Source<'_>,
     uid: u32,
     out: &mut u32,
@@ -68,7 +68,7 @@ pub extern "C" fn acpi_domain_of_processor(
 
 /// How far one locality is from another (section 5.2.17).
 #[unsafe(no_mangle)]
-pub extern "C" fn acpi_distance(
+pub extern "C" fn zacpi_distance(
     source: &Source<'_>,
     from: u64,
     to: u64,
@@ -82,7 +82,7 @@ pub extern "C" fn acpi_distance(
 
 /// How many localities the SLIT has distances of, and whether it can be believed (section 5.2.17).
 #[unsafe(no_mangle)]
-pub extern "C" fn acpi_localities(
+pub extern "C" fn zacpi_localities(
     source: &Source<'_>,
     out: &mut LocalitiesRecord,
     named: &mut Name,

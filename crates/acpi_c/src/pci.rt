@@ -1,15 +1,15 @@
 //! PCI configuration space.
 ghost use Rattle.acpi_c_lib.specs.Answers.{Answers, AnswersList};
-ghost use Rattle.acpi_c_lib.specs.Shown.{ecam_below, ecam_ranges_below, pci_below, pci_regions_below};
+ghost use Rattle.acpi_c_lib.specs.Shown.{ecam_below, ecam_ranges_below, pci_regions_below};
 
 use acpi_c_lib::answer::answer;
 use acpi_c_lib::fixed_records::EcamRange;
-use acpi_c_lib::pci::{ecam_address, ecam_ranges, pci_regions, physical_address};
+use acpi_c_lib::pci::{ecam_address, ecam_ranges, pci_regions};
 use acpi_c_lib::records::{Name, PciRegion, Source};
 
 /// The regions of configuration space (PCI Firmware Specification, section 4.1.2).
 #[unsafe(no_mangle)]
-pub extern "C" fn acpi_list_pci_regions(
+pub extern "C" fn zacpi_list_pci_regions(
     source: &Source<'_>,
     out: &mut [PciRegion],
     count: &mut usize,
@@ -21,30 +21,9 @@ pub extern "C" fn acpi_list_pci_regions(
     answer(pci_regions(source, out), count, named)
 }
 
-/// Where a function lies if a region's base is that of its first bus, as the Rust crate `acpi` has it.
-#[unsafe(no_mangle)]
-pub extern "C" fn acpi_pci_physical_address(
-    source: &Source<'_>,
-    segment: u16,
-    bus: u8,
-    device: u8,
-    function: u8,
-    out: &mut u64,
-    named: &mut Name,
-) -> u32
-    ensures { Answers result out.old out.new named.old named.new
-        (pci_below source.now segment bus device function) }
-{
-    answer(
-        physical_address(source, segment, bus, device, function),
-        out,
-        named,
-    )
-}
-
 /// Where a function lies: a region's base is that of bus 0 (PCI Firmware Specification, section 4.1.2).
 #[unsafe(no_mangle)]
-pub extern "C" fn acpi_pci_ecam_address(
+pub extern "C" fn zacpi_pci_ecam_address(
     source: &Source<'_>,
     segment: u16,
     bus: u8,
@@ -65,7 +44,7 @@ pub extern "C" fn acpi_pci_ecam_address(
 
 /// The memory that each region of configuration space takes, by the base of bus 0.
 #[unsafe(no_mangle)]
-pub extern "C" fn acpi_list_ecam_ranges(
+pub extern "C" fn zacpi_list_ecam_ranges(
     source: &Source<'_>,
     out: &mut [EcamRange],
     count: &mut usize,

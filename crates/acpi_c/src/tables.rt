@@ -13,7 +13,7 @@ use acpi_c_lib::walks::{nth, ranges, ssdts};
 
 /// The root table (sections 5.2.7 and 5.2.8).
 #[unsafe(no_mangle)]
-pub extern "C" fn acpi_open(source: &Source<'_>, out: &mut Root, named: &mut Name) -> u32
+pub extern "C" fn zacpi_open(source: &Source<'_>, out: &mut Root, named: &mut Name) -> u32
     ensures { Answers result out.old out.new named.old named.new (root_below source.now) }
 {
     answer(root(source), out, named)
@@ -21,7 +21,7 @@ pub extern "C" fn acpi_open(source: &Source<'_>, out: &mut Root, named: &mut Nam
 
 /// All tables that are valid under the signatures that they bear, in the order of the root table.
 #[unsafe(no_mangle)]
-pub extern "C" fn acpi_list_tables(
+pub extern "C" fn zacpi_list_tables(
     source: &Source<'_>,
     out: &mut [Table],
     count: &mut usize,
@@ -35,7 +35,7 @@ pub extern "C" fn acpi_list_tables(
 
 /// The first valid table of a signature (section 5.2.6).
 #[unsafe(no_mangle)]
-pub extern "C" fn acpi_find_table(
+pub extern "C" fn zacpi_find_table(
     source: &Source<'_>,
     name: Name,
     out: &mut Table,
@@ -48,7 +48,7 @@ pub extern "C" fn acpi_find_table(
 
 /// The AML of the DSDT (sections 5.2.9 and 5.2.11.1).
 #[unsafe(no_mangle)]
-pub extern "C" fn acpi_dsdt(source: &Source<'_>, out: &mut Aml, named: &mut Name) -> u32
+pub extern "C" fn zacpi_dsdt(source: &Source<'_>, out: &mut Aml, named: &mut Name) -> u32
     ensures { Answers result out.old out.new named.old named.new (dsdt_below source.now) }
 {
     answer(dsdt(source), out, named)
@@ -56,7 +56,7 @@ pub extern "C" fn acpi_dsdt(source: &Source<'_>, out: &mut Aml, named: &mut Name
 
 /// The valid table of a signature that so many others of it are listed before (section 5.2.6).
 #[unsafe(no_mangle)]
-pub extern "C" fn acpi_find_nth_table(
+pub extern "C" fn zacpi_find_nth_table(
     source: &Source<'_>,
     name: Name,
     index: usize,
@@ -70,7 +70,7 @@ pub extern "C" fn acpi_find_nth_table(
 
 /// The AML of all valid SSDTs (section 5.2.11.2).
 #[unsafe(no_mangle)]
-pub extern "C" fn acpi_list_ssdts(
+pub extern "C" fn zacpi_list_ssdts(
     source: &Source<'_>,
     out: &mut [Aml],
     count: &mut usize,
@@ -84,7 +84,7 @@ pub extern "C" fn acpi_list_ssdts(
 
 /// The memory that the tables take (sections 5.2.6, 5.2.9 and 5.2.10).
 #[unsafe(no_mangle)]
-pub extern "C" fn acpi_list_ranges(
+pub extern "C" fn zacpi_list_ranges(
     source: &Source<'_>,
     out: &mut [Range],
     count: &mut usize,
@@ -98,7 +98,7 @@ pub extern "C" fn acpi_list_ranges(
 
 /// The tables that a lookup of a signature passes over, and why (section 5.2.6).
 #[unsafe(no_mangle)]
-pub extern "C" fn acpi_list_faults(
+pub extern "C" fn zacpi_list_faults(
     source: &Source<'_>,
     name: Name,
     out: &mut [Fault],

@@ -1,4 +1,4 @@
--- The numbers that C gets for refusals, those of `enum acpi_refusal` in include/acpi.h, and the signatures.
+-- The numbers that C gets for refusals, those of `enum zacpi_refusal` in include/zacpi.h, and the signatures.
 use Rattle.std.specs.Prelude.{ℕ, Option, Some, None}
 use Rattle.acpi_base.specs.declared.error.AcpiError.{AcpiError}
 use Rattle.acpi_base.specs.declared.error.AcpiError.TheVariants as acpi
@@ -10,13 +10,13 @@ use Rattle.acpi_c_lib.specs.declared.refusal.Refusal.TheVariants as refusal
 
 -- why the entries of a MADT are refused (section 5.2.12)
 abbrev pub madt_code : MadtError → ℕ
-madt_code madt.UnexpectedEntry = 32
-madt_code madt.InterruptOverrideEntryHasInvalidBus = 33
-madt_code madt.InvalidLocalNmiLine = 34
-madt_code madt.MpsIntiInvalidPolarity = 35
-madt_code madt.MpsIntiInvalidTriggerMode = 36
-madt_code madt.WakeupApsTimeout = 37
-madt_code madt.InvalidEntryLength = 38
+madt_code madt.UnexpectedEntry = 25
+madt_code madt.InterruptOverrideEntryHasInvalidBus = 26
+madt_code madt.InvalidLocalNmiLine = 27
+madt_code madt.MpsIntiInvalidPolarity = 28
+madt_code madt.MpsIntiInvalidTriggerMode = 29
+madt_code madt.WakeupApsTimeout = 30
+madt_code madt.InvalidEntryLength = 31
 
 abbrev pub acpi_code : AcpiError → ℕ
 acpi_code acpi.MapFailed = 3
@@ -44,14 +44,14 @@ code_of refusal.RegionTooHigh = 2
 code_of refusal.NoSuchFunction = 19
 code_of refusal.UnknownStart = 20
 code_of refusal.RangeTooHigh = 21
-code_of refusal.NoApics = 23
-code_of refusal.NoSuchInterrupt = 24
-code_of refusal.NoSuchIoApic = 25
-code_of refusal.InvalidSratEntryLength = 40
-code_of refusal.InvalidMemoryRange = 41
-code_of refusal.NoGic = 42
-code_of refusal.NoDomain = 43
-code_of refusal.NoDistance = 44
+code_of refusal.NoApics = 22
+code_of refusal.NoSuchInterrupt = 23
+code_of refusal.NoSuchIoApic = 24
+code_of refusal.InvalidSratEntryLength = 32
+code_of refusal.InvalidMemoryRange = 33
+code_of refusal.NoGic = 34
+code_of refusal.NoDomain = 35
+code_of refusal.NoDistance = 36
 code_of (refusal.Acpi e) = acpi_code e
 
 -- ---- the signatures that refusals carry

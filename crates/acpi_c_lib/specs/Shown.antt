@@ -17,7 +17,7 @@ use Rattle.acpi.specs.Hpet.{hpet_of}
 use Rattle.acpi.specs.Lists.{dsdt_stream}
 use Rattle.acpi.specs.Lookup.{lookup}
 use Rattle.acpi.specs.Opened.{Opened}
-use Rattle.acpi.specs.Pci.{found_regions, pci_address}
+use Rattle.acpi.specs.Pci.{found_regions}
 use Rattle.acpi.specs.Root.{width_of}
 use Rattle.acpi.specs.declared.hpet.HpetInfo.{HpetInfo}
 use Rattle.acpi.specs.declared.hpet.PageProtection.{PageProtection}
@@ -110,11 +110,6 @@ ecam_record e = span_record e.pci_segment_group (ecam_range e)
 -- the memory of each region of the first valid MCFG, in order
 abbrev pub ecam_ranges_below : Source → Result (List EcamRange) Refusal
 ecam_ranges_below s = below_source s (λ m ps. result_map (map ecam_record) (found_regions m ps))
-
-abbrev pub pci_below : Source → ℕ → ℕ → ℕ → ℕ → Result ℕ Refusal
-pci_below s segment bus device function = do
-  regions ← below_source s found_regions
-  ok_or (pci_address regions segment bus device function) NoSuchFunction
 
 abbrev pub ecam_below : Source → ℕ → ℕ → ℕ → ℕ → Result ℕ Refusal
 ecam_below s segment bus device function = do

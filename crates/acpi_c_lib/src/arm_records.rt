@@ -1,7 +1,7 @@
 //! What C sees of an Arm machine. A polarity is 1 for active high and 3 for active low; a trigger is 1 for an edge
 //! and 3 for the level.
 
-/// The distributor of interrupts (GICD, section 5.2.12.15). C sees `struct acpi_gic_distributor`.
+/// The distributor of interrupts (GICD, section 5.2.12.15). C sees `struct zacpi_gic_distributor`.
 #[repr(C)]
 #[derive(Clone, Copy)]
 pub struct DistributorRecord {
@@ -12,7 +12,7 @@ pub struct DistributorRecord {
 }
 
 /// A processor, and its interface to the GIC (GICC, section 5.2.12.14). A field past the end of a short
-/// entry is 0. C sees `struct acpi_gic_cpu_interface`.
+/// entry is 0. C sees `struct zacpi_gic_cpu_interface`.
 #[repr(C)]
 #[derive(Clone, Copy)]
 pub struct CpuInterfaceRecord {
@@ -37,7 +37,7 @@ pub struct CpuInterfaceRecord {
 }
 
 /// A service that translates interrupts (GIC ITS, section 5.2.12.18). C sees
-/// `struct acpi_gic_translation_service`.
+/// `struct zacpi_gic_translation_service`.
 #[repr(C)]
 #[derive(Clone, Copy)]
 pub struct TranslationServiceRecord {
@@ -46,7 +46,7 @@ pub struct TranslationServiceRecord {
 }
 
 /// A frame that turns messages into interrupts (GIC MSI Frame, section 5.2.12.16). C sees
-/// `struct acpi_gic_msi_frame`.
+/// `struct zacpi_gic_msi_frame`.
 #[repr(C)]
 #[derive(Clone, Copy)]
 pub struct MsiFrameRecord {
@@ -57,7 +57,7 @@ pub struct MsiFrameRecord {
     pub has_spis: u8,
 }
 
-/// A timer of every processor (section 5.2.24). C sees `struct acpi_arm_timer`.
+/// A timer of every processor (section 5.2.24). C sees `struct zacpi_arm_timer`.
 #[repr(C)]
 #[derive(Clone, Copy)]
 pub struct ArmTimerRecord {
@@ -68,7 +68,7 @@ pub struct ArmTimerRecord {
     pub present: u8,
 }
 
-/// The timers of every processor (GTDT, section 5.2.24). C sees `struct acpi_arm_timers`.
+/// The timers of every processor (GTDT, section 5.2.24). C sees `struct zacpi_arm_timers`.
 #[repr(C)]
 #[derive(Clone, Copy)]
 pub struct ArmTimersRecord {
@@ -83,7 +83,7 @@ pub struct ArmTimersRecord {
 }
 
 /// A frame of a block of timers, with a physical timer and a virtual one (GT Block Timer, section 5.2.24.1.1).
-/// C sees `struct acpi_gt_frame`.
+/// C sees `struct zacpi_gt_frame`.
 #[repr(C)]
 #[derive(Clone, Copy)]
 pub struct GtFrameRecord {
@@ -102,7 +102,7 @@ pub struct GtFrameRecord {
 }
 
 /// A watchdog of the Server Base System Architecture (Arm Generic Watchdog, section 5.2.24.1.2). C sees
-/// `struct acpi_watchdog`.
+/// `struct zacpi_watchdog`.
 #[repr(C)]
 #[derive(Clone, Copy)]
 pub struct WatchdogRecord {

@@ -3,7 +3,7 @@
 use crate::records::Register;
 
 /// A block of registers of general purpose events (section 4.8.4.1), by its length in bytes. C sees
-/// `struct acpi_gpe_block`.
+/// `struct zacpi_gpe_block`.
 #[repr(C)]
 #[derive(Clone, Copy)]
 pub struct Gpe {
@@ -13,7 +13,7 @@ pub struct Gpe {
     pub present: u8,
 }
 
-/// The fixed hardware of a FADT (section 5.2.9). C sees `struct acpi_fixed_hardware`.
+/// The fixed hardware of a FADT (section 5.2.9). C sees `struct zacpi_fixed_hardware`.
 #[repr(C)]
 #[derive(Clone, Copy)]
 pub struct FixedHardware {
@@ -56,7 +56,7 @@ pub struct FixedHardware {
     pub reset_value: u8,
 }
 
-/// The serial console that the firmware used (SPCR). C sees `struct acpi_console`.
+/// The serial console that the firmware used (SPCR). C sees `struct zacpi_console`.
 #[repr(C)]
 #[derive(Clone, Copy)]
 pub struct Console {
@@ -81,7 +81,7 @@ pub struct Console {
 }
 
 /// The memory that a region of configuration space takes (PCI Firmware Specification, section 4.1.2).
-/// C sees `struct acpi_ecam_range`.
+/// C sees `struct zacpi_ecam_range`.
 #[repr(C)]
 #[derive(Clone, Copy)]
 pub struct EcamRange {

@@ -1,6 +1,6 @@
 //! What C sees of interrupts and processors of a machine with APICs (MADT, section 5.2.12).
 
-/// Which controllers interrupts come to. C sees `struct acpi_interrupt_model`.
+/// Which controllers interrupts come to. C sees `struct zacpi_interrupt_model`.
 #[repr(C)]
 #[derive(Clone, Copy)]
 pub struct Model {
@@ -14,7 +14,7 @@ pub struct Model {
     pub also_has_8259: u8,
 }
 
-/// An I/O APIC (section 5.2.12.3). C sees `struct acpi_io_apic`.
+/// An I/O APIC (section 5.2.12.3). C sees `struct zacpi_io_apic`.
 #[repr(C)]
 #[derive(Clone, Copy)]
 pub struct IoApicRecord {
@@ -24,7 +24,7 @@ pub struct IoApicRecord {
 }
 
 /// An Interrupt Source Override (section 5.2.12.5): an ISA interrupt and its global system interrupt.
-/// C sees `struct acpi_override`.
+/// C sees `struct zacpi_override`.
 #[repr(C)]
 #[derive(Clone, Copy)]
 pub struct OverrideRecord {
@@ -34,7 +34,7 @@ pub struct OverrideRecord {
     pub trigger: u8,
 }
 
-/// A non-maskable interrupt (NMI Source, section 5.2.12.6). C sees `struct acpi_nmi_source`.
+/// A non-maskable interrupt (NMI Source, section 5.2.12.6). C sees `struct zacpi_nmi_source`.
 #[repr(C)]
 #[derive(Clone, Copy)]
 pub struct NmiSourceRecord {
@@ -44,7 +44,7 @@ pub struct NmiSourceRecord {
 }
 
 /// A Local APIC NMI or Local x2APIC NMI (sections 5.2.12.7 and 5.2.12.13): a LINT pin that gets NMIs.
-/// C sees `struct acpi_nmi_line`.
+/// C sees `struct zacpi_nmi_line`.
 #[repr(C)]
 #[derive(Clone, Copy)]
 pub struct NmiLineRecord {
@@ -54,7 +54,7 @@ pub struct NmiLineRecord {
 }
 
 /// A processor (Processor Local APIC and Processor Local x2APIC, sections 5.2.12.2 and 5.2.12.12).
-/// C sees `struct acpi_processor`.
+/// C sees `struct zacpi_processor`.
 #[repr(C)]
 #[derive(Clone, Copy)]
 pub struct ProcessorRecord {
@@ -64,7 +64,7 @@ pub struct ProcessorRecord {
     pub is_boot: u8,
 }
 
-/// How an interrupt comes to the I/O APICs (section 5.2.12.5). C sees `struct acpi_interrupt`.
+/// How an interrupt comes to the I/O APICs (section 5.2.12.5). C sees `struct zacpi_interrupt`.
 #[repr(C)]
 #[derive(Clone, Copy)]
 pub struct InterruptRecord {
@@ -73,7 +73,7 @@ pub struct InterruptRecord {
     pub trigger: u8,
 }
 
-/// A pin of an I/O APIC (sections 5.2.12.3 and 5.2.13). C sees `struct acpi_pin`.
+/// A pin of an I/O APIC (sections 5.2.12.3 and 5.2.13). C sees `struct zacpi_pin`.
 #[repr(C)]
 #[derive(Clone, Copy)]
 pub struct PinRecord {
@@ -82,7 +82,7 @@ pub struct PinRecord {
 }
 
 /// How one of the ISA interrupts comes to the I/O APICs (sections 5.2.12.3 and 5.2.12.5). C sees
-/// `struct acpi_isa_route`.
+/// `struct zacpi_isa_route`.
 #[repr(C)]
 #[derive(Clone, Copy)]
 pub struct IsaRoute {
@@ -96,7 +96,7 @@ pub struct IsaRoute {
     pub has_pin: u8,
 }
 
-/// The 16 ISA interrupts. C sees `struct acpi_isa_interrupts`.
+/// The 16 ISA interrupts. C sees `struct zacpi_isa_interrupts`.
 #[repr(C)]
 #[derive(Clone, Copy)]
 pub struct IsaInterrupts {

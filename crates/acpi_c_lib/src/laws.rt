@@ -3,21 +3,21 @@ ghost use Rattle.acpi_c_lib.specs.IsaList.{ItemsAreAnswers};
 ghost use Rattle.acpi_c_lib.specs.Missing.{MembersHaveHoles, OpeningHasHole};
 
 /// Each member of the root table that is refused with `MapFailed` has a range among those that
-/// `acpi_list_missing_ranges` lists, and that range lies in no one region.
+/// `zacpi_list_missing_ranges` lists, and that range lies in no one region.
 #[tactic(auto, using(crate::proofs::Unlent::length_not, crate::proofs::Unlent::table_not), unfolding(acpi_base::specs::Table::own_table_at, acpi_base::specs::Table::table_at, acpi_base::specs::Table::table_of, acpi_base::specs::Table::whole_of))]
 pub fn members_refused_have_ranges()
     ensures { MembersHaveHoles }
 {}
 
-/// If opening the tables is refused with `MapFailed`, `acpi_list_missing_ranges` lists a range, and that range
+/// If opening the tables is refused with `MapFailed`, `zacpi_list_missing_ranges` lists a range, and that range
 /// lies in no one region.
 #[tactic(auto, using(crate::proofs::Unlent::opening_unlent))]
 pub fn a_refused_opening_has_a_range()
     ensures { OpeningHasHole }
 {}
 
-/// Each item of `acpi_list_isa_interrupts` is what `acpi_isa_interrupt` answers for its number, and
-/// `acpi_io_apic_pin` for the global system interrupt of that.
+/// Each item of `zacpi_list_isa_interrupts` is what `zacpi_isa_interrupt` answers for its number, and
+/// `zacpi_io_apic_pin` for the global system interrupt of that.
 pub fn items_are_answers()
     ensures { ItemsAreAnswers }
 {}

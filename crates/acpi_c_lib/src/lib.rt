@@ -1,4 +1,4 @@
-//! The calls of the library for C. The crate `acpi_c` exports each of them, and `include/acpi.h` says in which order it
+//! The calls of the library for C. The crate `acpi_c` exports each of them, and `include/zacpi.h` says in which order it
 //! refuses. Sections are those of ACPI 6.4 unless another document is named.
 //!
 //! Each call can be called with any numbers. One that is passed a source checks the regions, opens the tables anew, and

@@ -1,7 +1,7 @@
 //! What C sees of domains and of the distances between localities.
 
 /// A range of memory, and the domain that it is in (Memory Affinity Structure, section 5.2.16.2). C sees
-/// `struct acpi_memory_affinity`.
+/// `struct zacpi_memory_affinity`.
 #[repr(C)]
 #[derive(Clone, Copy)]
 pub struct MemoryAffinityRecord {
@@ -12,7 +12,7 @@ pub struct MemoryAffinityRecord {
     pub is_non_volatile: u8,
 }
 
-/// The matrix of distances (SLIT, section 5.2.17). C sees `struct acpi_localities`.
+/// The matrix of distances (SLIT, section 5.2.17). C sees `struct zacpi_localities`.
 #[repr(C)]
 #[derive(Clone, Copy)]
 pub struct LocalitiesRecord {

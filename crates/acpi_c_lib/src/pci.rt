@@ -2,9 +2,9 @@
 ghost use Rattle.std.specs.Prelude.{◌≡◌, ◌≤◌, IfSome};
 ghost use Rattle.acpi_base.specs.Mcfg.{mcfg_entries_left};
 ghost use Rattle.acpi.specs.Ecam.{ecam_address};
-ghost use Rattle.acpi.specs.Pci.{pci_address, region_of};
+ghost use Rattle.acpi.specs.Pci.{region_of};
 ghost use Rattle.acpi_c_lib.specs.Answers.{Fills};
-ghost use Rattle.acpi_c_lib.specs.Shown.{ecam_below, ecam_ranges_below, pci_below, pci_regions_below, span_record};
+ghost use Rattle.acpi_c_lib.specs.Shown.{ecam_below, ecam_ranges_below, pci_regions_below, span_record};
 
 use crate::fixed_records::EcamRange;
 use crate::lists::{Shown, Walk, fill};
@@ -65,27 +65,6 @@ fn region_for(entries: McfgEntryIter<'_>, segment: u16, bus: u8) -> Option<McfgE
     None
 }
 
-/// A function's place in one of the regions, by the region's first bus.
-#[tactic(auto, unfolding(acpi::specs::Pci::pci_address))]
-fn function_in(
-    entries: McfgEntryIter<'_>,
-    segment: u16,
-    bus: u8,
-    device: u8,
-    function: u8,
-) -> Option<u64>
-    ensures { result ≡ pci_address (mcfg_entries_left entries.entry) segment bus device function }
-{
-    if device > 31 || function > 7 {
-        return None;
-    }
-    let region = region_for(entries, segment, bus)?;
-    let offset = (u64::from(bus - region.bus_number_start) << 20)
-        + (u64::from(device) << 15)
-        + (u64::from(function) << 12);
-    region.base_address.checked_add(offset)
-}
-
 /// A function's place in one of the regions, by bus 0.
 fn ecam_in(
     entries: McfgEntryIter<'_>,
@@ -98,22 +77,6 @@ fn ecam_in(
 {
     let region = region_for(entries, segment, bus)?;
     region.ecam_address(bus, device, function)
-}
-
-/// The physical address of a PCI function's configuration space, with a region's base as that of its first bus.
-pub fn physical_address(
-    source: &Source<'_>,
-    segment: u16,
-    bus: u8,
-    device: u8,
-    function: u8,
-) -> Result<u64, Refusal>
-    ensures { result ≡ pci_below source.now segment bus device function }
-{
-    let memory = Mapped::new(source.regions)?;
-    let tables = open(&memory, source)?;
-    let mcfg = tables.find_table::<Mcfg>()?;
-    function_in(mcfg.entries(), segment, bus, device, function).ok_or(Refusal::NoSuchFunction)
 }
 
 /// The physical address of a PCI function's configuration space, with a region's base as that of bus 0.

@@ -1,8 +1,8 @@
-//! What C sees of memory, tables, registers and devices. What each field holds is said once, in `include/acpi.h`.
+//! What C sees of memory, tables, registers and devices. What each field holds is said once, in `include/zacpi.h`.
 
 use crate::regions::Region;
 
-/// Where tables are looked for. C sees `struct acpi_source`.
+/// Where tables are looked for. C sees `struct zacpi_source`.
 #[repr(C)]
 #[derive(Clone, Copy)]
 pub struct Source<'k> {
@@ -11,14 +11,14 @@ pub struct Source<'k> {
     pub start: u32,
 }
 
-/// Four bytes that name a table. C sees `struct acpi_signature`.
+/// Four bytes that name a table. C sees `struct zacpi_signature`.
 #[repr(C)]
 #[derive(Clone, Copy)]
 pub struct Name {
     pub letters: [u8; 4],
 }
 
-/// The root table: the RSDT or the XSDT (sections 5.2.7 and 5.2.8). C sees `struct acpi_root`.
+/// The root table: the RSDT or the XSDT (sections 5.2.7 and 5.2.8). C sees `struct zacpi_root`.
 #[repr(C)]
 #[derive(Clone, Copy)]
 pub struct Root {
@@ -28,7 +28,7 @@ pub struct Root {
     pub pointer_width: u8,
 }
 
-/// A table that is listed and valid (section 5.2.6). C sees `struct acpi_table`.
+/// A table that is listed and valid (section 5.2.6). C sees `struct zacpi_table`.
 #[repr(C)]
 #[derive(Clone, Copy)]
 pub struct Table {
@@ -39,7 +39,7 @@ pub struct Table {
 }
 
 /// A member of the root table that a lookup passes over for another reason than its signature. C
-/// sees `struct acpi_fault`.
+/// sees `struct zacpi_fault`.
 #[repr(C)]
 #[derive(Clone, Copy)]
 pub struct Fault {
@@ -47,7 +47,7 @@ pub struct Fault {
     pub status: u32,
 }
 
-/// A stream of AML (section 5.2.11). C sees `struct acpi_aml`.
+/// A stream of AML (section 5.2.11). C sees `struct zacpi_aml`.
 #[repr(C)]
 #[derive(Clone, Copy)]
 pub struct Aml {
@@ -55,7 +55,7 @@ pub struct Aml {
     pub length: u32,
 }
 
-/// A range of physical addresses. C sees `struct acpi_range`.
+/// A range of physical addresses. C sees `struct zacpi_range`.
 #[repr(C)]
 #[derive(Clone, Copy)]
 pub struct Range {
@@ -63,7 +63,7 @@ pub struct Range {
     pub length: u64,
 }
 
-/// A block of event timers (HPET; IA-PC HPET Specification). C sees `struct acpi_hpet_block`.
+/// A block of event timers (HPET; IA-PC HPET Specification). C sees `struct zacpi_hpet_block`.
 #[repr(C)]
 #[derive(Clone, Copy)]
 pub struct Hpet {
@@ -75,7 +75,7 @@ pub struct Hpet {
 }
 
 /// A region of PCI configuration space (MCFG; PCI Firmware Specification, section 4.1.2).
-/// C sees `struct acpi_pci_region`.
+/// C sees `struct zacpi_pci_region`.
 #[repr(C)]
 #[derive(Clone, Copy)]
 pub struct PciRegion {
@@ -85,7 +85,7 @@ pub struct PciRegion {
     pub last_bus: u8,
 }
 
-/// A register: a Generic Address Structure (section 5.2.3.2). C sees `struct acpi_generic_address`.
+/// A register: a Generic Address Structure (section 5.2.3.2). C sees `struct zacpi_generic_address`.
 #[repr(C)]
 #[derive(Clone, Copy)]
 pub struct Generic {
@@ -96,7 +96,7 @@ pub struct Generic {
     pub access_size: u8,
 }
 
-/// A register that may not be there. C sees `struct acpi_register`.
+/// A register that may not be there. C sees `struct zacpi_register`.
 #[repr(C)]
 #[derive(Clone, Copy)]
 pub struct Register {
@@ -104,7 +104,7 @@ pub struct Register {
     pub present: u8,
 }
 
-/// The power management timer (section 4.8.3.3). C sees `struct acpi_pm_timer`.
+/// The power management timer (section 4.8.3.3). C sees `struct zacpi_pm_timer`.
 #[repr(C)]
 #[derive(Clone, Copy)]
 pub struct Timer {
@@ -113,7 +113,7 @@ pub struct Timer {
     pub is_32_bit: u8,
 }
 
-/// The image that the firmware showed (BGRT, section 5.2.22). C sees `struct acpi_boot_graphic`.
+/// The image that the firmware showed (BGRT, section 5.2.22). C sees `struct zacpi_boot_graphic`.
 #[repr(C)]
 #[derive(Clone, Copy)]
 pub struct BootGraphic {

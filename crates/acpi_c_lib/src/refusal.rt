@@ -49,7 +49,7 @@ impl From<AcpiError> for Refusal {
 }
 
 impl Refusal {
-    /// The number of the refusal, as `enum acpi_refusal` of `include/acpi.h` has it.
+    /// The number of the refusal, as `enum zacpi_refusal` of `include/zacpi.h` has it.
     pub(crate) fn code(self) -> u32
         ensures { result ≡ codes.code_of self }
     {
@@ -59,14 +59,14 @@ impl Refusal {
             Refusal::NoSuchFunction => 19,
             Refusal::UnknownStart => 20,
             Refusal::RangeTooHigh => 21,
-            Refusal::NoApics => 23,
-            Refusal::NoSuchInterrupt => 24,
-            Refusal::NoSuchIoApic => 25,
-            Refusal::InvalidSratEntryLength => 40,
-            Refusal::InvalidMemoryRange => 41,
-            Refusal::NoGic => 42,
-            Refusal::NoDomain => 43,
-            Refusal::NoDistance => 44,
+            Refusal::NoApics => 22,
+            Refusal::NoSuchInterrupt => 23,
+            Refusal::NoSuchIoApic => 24,
+            Refusal::InvalidSratEntryLength => 32,
+            Refusal::InvalidMemoryRange => 33,
+            Refusal::NoGic => 34,
+            Refusal::NoDomain => 35,
+            Refusal::NoDistance => 36,
             Refusal::Acpi(error) => acpi_code(error),
         }
     }
@@ -112,13 +112,13 @@ fn madt_code(error: MadtError) -> u32
     ensures { result ≡ codes.madt_code error }
 {
     match error {
-        MadtError::UnexpectedEntry => 32,
-        MadtError::InterruptOverrideEntryHasInvalidBus => 33,
-        MadtError::InvalidLocalNmiLine => 34,
-        MadtError::MpsIntiInvalidPolarity => 35,
-        MadtError::MpsIntiInvalidTriggerMode => 36,
-        MadtError::WakeupApsTimeout => 37,
-        MadtError::InvalidEntryLength => 38,
+        MadtError::UnexpectedEntry => 25,
+        MadtError::InterruptOverrideEntryHasInvalidBus => 26,
+        MadtError::InvalidLocalNmiLine => 27,
+        MadtError::MpsIntiInvalidPolarity => 28,
+        MadtError::MpsIntiInvalidTriggerMode => 29,
+        MadtError::WakeupApsTimeout => 30,
+        MadtError::InvalidEntryLength => 31,
     }
 }
 

@@ -4,7 +4,7 @@ use Rattle.acpi_c_lib.specs.Answers.{Answers}
 use Rattle.acpi_c_lib.specs.IsaList.{WritesOne, isa_list_below}
 use Rattle.acpi_c_lib.specs.declared.records.Name.{Name}
 use Rattle.acpi_c_lib.specs.declared.refusal.Refusal.{Refusal}
-use Rattle.acpi_c.proofs.interrupts.acpi_list_isa_interrupts.Goals as goal
+use Rattle.acpi_c.proofs.interrupts.zacpi_list_isa_interrupts.Goals as goal
 
 -- a value that was written is answered
 written : {A : Type 0} (said : Result (Unit {0}) Refusal) (defined : Result A Refusal) (old new : A) (status : ℕ) (old_unit new_unit : Unit {0}) (old_name new_name : Name)

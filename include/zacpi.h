@@ -1,9 +1,9 @@
-/* acpi.h: what a machine's ACPI tables say, for C and C++. Section and table numbers are those of the ACPI
+/* zacpi.h: what a machine's ACPI tables say, for C and C++. Section and table numbers are those of the ACPI
  * Specification, version 6.4, unless another document is named. Names of fields, as Length or SCI_INT, are those of the
  * document that lays the table out.
  *
  * No call keeps a state, takes memory or calls back, so any number may run at once, each with outputs of its own. Each
- * one but acpi_clip_ranges gets the memory that the caller has mapped (struct acpi_source), checks it, opens the tables
+ * one but zacpi_clip_ranges gets the memory that the caller has mapped (struct zacpi_source), checks it, opens the tables
  * in it anew, and answers. It can be called with any numbers in these structs and over any bytes.
  *
  * What the caller keeps: no pointer is null, each is aligned for its type and points to as many items as
@@ -13,11 +13,11 @@
  * used, so a kernel enables it first (CR0.EM clear, CR4.OSFXSR set), and the stack is aligned as the ABI
  * says. A call may change every vector register, as the ABI allows.
  *
- * What each call answers: ACPI_OK and all its outputs written, or the number of the first refusal and
- * nothing written, but for `named`: if the refusal carries a signature (8 to 13 of enum acpi_refusal),
+ * What each call answers: ZACPI_OK and all its outputs written, or the number of the first refusal and
+ * nothing written, but for `named`: if the refusal carries a signature (8 to 13 of enum zacpi_refusal),
  * that is written there. In every other case `named` is as it was.
  *
- * A list (acpi_list_... but for acpi_list_isa_interrupts, and acpi_clip_ranges) has `out` and `room`, and writes the
+ * A list (zacpi_list_... but for zacpi_list_isa_interrupts, and zacpi_clip_ranges) has `out` and `room`, and writes the
  * first `room` items there, and into `count` how many there are in all, which can be more. Items of `out` from `count`
  * on are as they were. With a room of 0 it only counts.
  *
@@ -31,238 +31,257 @@
  *
  * The least length is where the fixed fields end: 116 for an FADT, 44 for a MADT, an MCFG or a SLIT, 48 for an SRAT,
  * 56 for an HPET or a BGRT, 80 for an SPCR, 96 for a GTDT, and 36 for any other table. It is 36 for every listed table
- * that acpi_find_table, acpi_find_nth_table, acpi_list_tables or acpi_list_ranges answers, or that
- * acpi_list_missing_ranges has a range of.
+ * that zacpi_find_table, zacpi_find_nth_table, zacpi_list_tables or zacpi_list_ranges answers, or that
+ * zacpi_list_missing_ranges has a range of.
  *
  * Bytes of a field past the end of its table or entry are read as 0, and a field is read in every Revision of its
  * table, unless the field below says otherwise. A field X_... of an FADT is read as 0 below revision 2, and if the
  * table hasn't all its bytes.
  *
- * Each call below that has a source refuses first, in this order: ACPI_REGIONS_NOT_ASCENDING and
- * ACPI_REGION_TOO_HIGH for the regions one after the other, ACPI_UNKNOWN_START, and then, but for
- * acpi_list_missing_ranges, what opening the tables refuses:
- *   start at an RSDP   ACPI_MAP_FAILED if 36 bytes aren't lent there, ACPI_RSDP_INCORRECT_SIGNATURE,
- *                      ACPI_RSDP_INVALID_OEM_ID, ACPI_RSDP_INVALID_CHECKSUM for its first 20 bytes, or, above
- *                      revision 0, if its Length is under 36, then ACPI_MAP_FAILED if that many bytes aren't
- *                      lent, ACPI_RSDP_INVALID_CHECKSUM for them (section 5.2.5.3); then as a start at the
+ * Each call below that has a source refuses first, in this order: ZACPI_REGIONS_NOT_ASCENDING and
+ * ZACPI_REGION_TOO_HIGH for the regions one after the other, ZACPI_UNKNOWN_START, and then, but for
+ * zacpi_list_missing_ranges, what opening the tables refuses:
+ *   start at an RSDP   ZACPI_MAP_FAILED if 36 bytes aren't lent there, ZACPI_RSDP_INCORRECT_SIGNATURE,
+ *                      ZACPI_RSDP_INVALID_OEM_ID, ZACPI_RSDP_INVALID_CHECKSUM for its first 20 bytes, or, above
+ *                      revision 0, if its Length is under 36, then ZACPI_MAP_FAILED if that many bytes aren't
+ *                      lent, ZACPI_RSDP_INVALID_CHECKSUM for them (section 5.2.5.3); then as a start at the
  *                      root table that it names: the XSDT if the revision is above 0 and XsdtAddress isn't
  *                      0, else the RSDT
- *   search             ACPI_MAP_FAILED if the word at 0x40e (the segment of the EBDA), or a BIOS area that is
- *                      asked for with the 16 bytes after it, isn't lent, ACPI_NO_VALID_RSDP (section
+ *   search             ZACPI_MAP_FAILED if the word at 0x40e (the segment of the EBDA), or a BIOS area that is
+ *                      asked for with the 16 bytes after it, isn't lent, ZACPI_NO_VALID_RSDP (section
  *                      5.2.5.1); then as a start at the root table that the RSDP names. The areas are 0xe0000 to
  *                      0xfffff and, if no RSDP there is valid, the EBDA's first KiB, or 0x80000 to 0x9ffff if it
  *                      doesn't begin in these. An RSDP begins at a multiple of 16, with 20 bytes in the area
- *   RSDT or XSDT       ACPI_MAP_FAILED if 36 bytes aren't lent, ACPI_SDT_INVALID_SIGNATURE, ..._OEM_ID,
- *                      ..._TABLE_ID, ..._LENGTH if its Length is under 36, ACPI_MAP_FAILED if that many bytes
- *                      aren't lent, ACPI_SDT_INVALID_CHECKSUM (sections 5.2.6 to 5.2.8); those that carry a
+ *   RSDT or XSDT       ZACPI_MAP_FAILED if 36 bytes aren't lent, ZACPI_SDT_INVALID_SIGNATURE, ..._OEM_ID,
+ *                      ..._TABLE_ID, ..._LENGTH if its Length is under 36, ZACPI_MAP_FAILED if that many bytes
+ *                      aren't lent, ZACPI_SDT_INVALID_CHECKSUM (sections 5.2.6 to 5.2.8); those that carry a
  *                      signature carry "RSDT" or "XSDT"
  * Only what it refuses after that stands at the call, after "Refuses then", in order.
  *
  * The members of the root table are what its pointers lead to, from byte 36 on, of 4 bytes in an RSDT and 8 in an XSDT.
  * Fewer bytes at the end are a pointer too, as if zeros followed. */
-#ifndef ACPI_H
-#define ACPI_H
+#ifndef ZACPI_H
+#define ZACPI_H
 #include <stddef.h>
 #include <stdint.h>
+
+#define ZACPI_VERSION "5.2.0"
+#define ZACPI_VERSION_NUMBER 0x050200 /* to compare: one byte for each part of the version */
+
 #ifdef __cplusplus
 extern "C" {
 #endif
 
 /* ---- Refusals ------------------------------------------------------------------------------------- */
 
-typedef uint32_t acpi_status; /* ACPI_OK, or one of enum acpi_refusal. The numbers never change. */
+typedef uint32_t zacpi_status; /* ZACPI_OK, or one of enum zacpi_refusal. From 5.2.0 on no number changes. */
 
-enum acpi_refusal {
-    ACPI_OK = 0,
-    ACPI_REGIONS_NOT_ASCENDING = 1,    /* a region begins below the end of the one before it */
-    ACPI_REGION_TOO_HIGH = 2,          /* the address after a region's last byte is above 2^64 - 1 */
-    ACPI_MAP_FAILED = 3,               /* bytes are asked for that lie in no one region */
-    ACPI_NO_VALID_RSDP = 4,            /* the BIOS areas hold no valid RSDP (section 5.2.5.1) */
-    ACPI_RSDP_INCORRECT_SIGNATURE = 5, /* Signature of the RSDP isn't "RSD PTR " (section 5.2.5.3) */
-    ACPI_RSDP_INVALID_OEM_ID = 6,      /* OEMID of the RSDP isn't UTF-8 */
-    ACPI_RSDP_INVALID_CHECKSUM = 7,    /* the RSDP's bytes don't sum to 0, or its Length is under 36 */
+enum zacpi_refusal {
+    ZACPI_OK = 0,
+    ZACPI_REGIONS_NOT_ASCENDING = 1,    /* a region begins below the end of the one before it */
+    ZACPI_REGION_TOO_HIGH = 2,          /* the address after a region's last byte is above 2^64 - 1 */
+    ZACPI_MAP_FAILED = 3,               /* bytes are asked for that lie in no one region */
+    ZACPI_NO_VALID_RSDP = 4,            /* the BIOS areas hold no valid RSDP (section 5.2.5.1) */
+    ZACPI_RSDP_INCORRECT_SIGNATURE = 5, /* Signature of the RSDP isn't "RSD PTR " (section 5.2.5.3) */
+    ZACPI_RSDP_INVALID_OEM_ID = 6,      /* OEMID of the RSDP isn't UTF-8 */
+    ZACPI_RSDP_INVALID_CHECKSUM = 7,    /* the RSDP's bytes don't sum to 0, or its Length is under 36 */
     /* 8 to 13 carry a signature: that of the table looked for (section 5.2.6). */
-    ACPI_SDT_INVALID_SIGNATURE = 8,    /* another Signature stands there, or one that isn't UTF-8 */
-    ACPI_SDT_INVALID_OEM_ID = 9,       /* OEMID isn't UTF-8 */
-    ACPI_SDT_INVALID_TABLE_ID = 10,    /* OEM Table ID isn't UTF-8 */
-    ACPI_SDT_INVALID_LENGTH = 11,      /* Length is less than the table's least length */
-    ACPI_SDT_INVALID_CHECKSUM = 12,    /* the table's bytes don't sum to 0 */
-    ACPI_TABLE_MISSING = 13,           /* no valid table of this signature is listed */
-    ACPI_INVALID_FACS_ADDRESS = 14,    /* no call of this header answers it: a FACS at 0 is none */
-    ACPI_INVALID_DSDT_ADDRESS = 15,    /* X_DSDT and DSDT of the FADT are 0 (section 5.2.9) */
-    ACPI_INVALID_GENERIC_ADDRESS = 16, /* a reserved code in a register's address (section 5.2.3.2), or an HPET
+    ZACPI_SDT_INVALID_SIGNATURE = 8,    /* another Signature stands there, or one that isn't UTF-8 */
+    ZACPI_SDT_INVALID_OEM_ID = 9,       /* OEMID isn't UTF-8 */
+    ZACPI_SDT_INVALID_TABLE_ID = 10,    /* OEM Table ID isn't UTF-8 */
+    ZACPI_SDT_INVALID_LENGTH = 11,      /* Length is less than the table's least length */
+    ZACPI_SDT_INVALID_CHECKSUM = 12,    /* the table's bytes don't sum to 0 */
+    ZACPI_TABLE_MISSING = 13,           /* no valid table of this signature is listed */
+    ZACPI_INVALID_FACS_ADDRESS = 14,    /* no call of this header answers it: a FACS at 0 is none */
+    ZACPI_INVALID_DSDT_ADDRESS = 15,    /* X_DSDT and DSDT of the FADT are 0 (section 5.2.9) */
+    ZACPI_INVALID_GENERIC_ADDRESS = 16, /* a reserved code in a register's address (section 5.2.3.2), or an HPET
                                         * whose registers don't lie in memory */
-    ACPI_INVALID_NAMESPACE_STRING = 17, /* no call of this header answers it: none reads NamespaceString */
-    ACPI_ALLOC_ERROR = 18,             /* no call of this header answers it: none takes memory */
-    ACPI_NO_SUCH_FUNCTION = 19,        /* no region of configuration space holds this PCI function */
-    ACPI_UNKNOWN_START = 20,           /* acpi_source.start isn't one of enum acpi_start */
-    ACPI_RANGE_TOO_HIGH = 21,          /* the address after a range's last byte is above 2^64 - 1 */
-    ACPI_NO_APICS = 23,                /* no valid MADT has an entry of a machine with APICs: the model is unknown */
-    ACPI_NO_SUCH_INTERRUPT = 24,       /* no ISA interrupt of this number comes to an I/O APIC */
-    ACPI_NO_SUCH_IO_APIC = 25,         /* no I/O APIC has this global system interrupt */
-    /* 32 to 38: the entries of a valid MADT (section 5.2.12), one after the other from byte 44 on. One begins where its
+    ZACPI_INVALID_NAMESPACE_STRING = 17, /* no call of this header answers it: none reads NamespaceString */
+    ZACPI_ALLOC_ERROR = 18,             /* no call of this header answers it: none takes memory */
+    ZACPI_NO_SUCH_FUNCTION = 19,        /* no region of configuration space holds this PCI function */
+    ZACPI_UNKNOWN_START = 20,           /* zacpi_source.start isn't one of enum zacpi_start */
+    ZACPI_RANGE_TOO_HIGH = 21,          /* the address after a range's last byte is above 2^64 - 1 */
+    ZACPI_NO_APICS = 22,                /* no valid MADT has an entry of a machine with APICs: the model is unknown */
+    ZACPI_NO_SUCH_INTERRUPT = 23,       /* no ISA interrupt of this number comes to an I/O APIC */
+    ZACPI_NO_SUCH_IO_APIC = 24,         /* no I/O APIC has this global system interrupt */
+    /* 25 to 31: the entries of a valid MADT (section 5.2.12), one after the other from byte 44 on. One begins where its
      * Length is at most the bytes left and at least 8, 12, 10, 8, 6, 12, 16, 16, 16, 16, 12, 76, 24, 24, 16, 20 and 16
      * for Types 0 to 0x10, and 2 for any other Type, whose entries are passed over. */
-    ACPI_MADT_UNEXPECTED_ENTRY = 32,   /* its Type is of a SAPIC, a platform interrupt source (6 to 8) or a GIC (0xb to
+    ZACPI_MADT_UNEXPECTED_ENTRY = 25,   /* its Type is of a SAPIC, a platform interrupt source (6 to 8) or a GIC (0xb to
                                         * 0xf) */
-    ACPI_MADT_INTERRUPT_OVERRIDE_ENTRY_HAS_INVALID_BUS = 33, /* Bus isn't 0, ISA (section 5.2.12.5) */
-    ACPI_MADT_INVALID_LOCAL_NMI_LINE = 34,        /* LINT# isn't 0 or 1 (sections 5.2.12.7 and 5.2.12.13) */
-    ACPI_MADT_MPS_INTI_INVALID_POLARITY = 35,     /* Polarity of the flags is 2, reserved (section 5.2.12.5) */
-    ACPI_MADT_MPS_INTI_INVALID_TRIGGER_MODE = 36, /* Trigger Mode of the flags is 2, reserved (section 5.2.12.5) */
-    ACPI_MADT_WAKEUP_APS_TIMEOUT = 37,   /* no call of this header answers it: none wakes processors */
-    ACPI_MADT_INVALID_ENTRY_LENGTH = 38, /* bytes of the table are left in which no entry begins */
-    ACPI_NUMA_INVALID_ENTRY_LENGTH = 40, /* bytes of the SRAT are left in which no entry begins (section 5.2.16): as in
+    ZACPI_MADT_INTERRUPT_OVERRIDE_ENTRY_HAS_INVALID_BUS = 26, /* Bus isn't 0, ISA (section 5.2.12.5) */
+    ZACPI_MADT_INVALID_LOCAL_NMI_LINE = 27,        /* LINT# isn't 0 or 1 (sections 5.2.12.7 and 5.2.12.13) */
+    ZACPI_MADT_MPS_INTI_INVALID_POLARITY = 28,     /* Polarity of the flags is 2, reserved (section 5.2.12.5) */
+    ZACPI_MADT_MPS_INTI_INVALID_TRIGGER_MODE = 29, /* Trigger Mode of the flags is 2, reserved (section 5.2.12.5) */
+    ZACPI_MADT_WAKEUP_APS_TIMEOUT = 30,   /* no call of this header answers it: none wakes processors */
+    ZACPI_MADT_INVALID_ENTRY_LENGTH = 31, /* bytes of the table are left in which no entry begins */
+    ZACPI_NUMA_INVALID_ENTRY_LENGTH = 32, /* bytes of the SRAT are left in which no entry begins (section 5.2.16): as in
                                           * a MADT, but from byte 48 on, and with a Length of at least 16, 40, 24, 18,
                                           * 12, 32 and 32 for Types 0 to 6 */
-    ACPI_NUMA_INVALID_MEMORY_RANGE = 41, /* the address after a range of memory in the SRAT is above 2^64 - 1 */
-    ACPI_NO_GIC = 42,                    /* the MADT has no GICD entry (section 5.2.12.15) */
-    ACPI_NO_DOMAIN = 43,                 /* the SRAT puts the address or processor into no domain */
-    ACPI_NO_DISTANCE = 44                /* the SLIT has no distance of these two localities (section 5.2.17) */
+    ZACPI_NUMA_INVALID_MEMORY_RANGE = 33, /* the address after a range of memory in the SRAT is above 2^64 - 1 */
+    ZACPI_NO_GIC = 34,                    /* the MADT has no GICD entry (section 5.2.12.15) */
+    ZACPI_NO_DOMAIN = 35,                 /* the SRAT puts the address or processor into no domain */
+    ZACPI_NO_DISTANCE = 36                /* the SLIT has no distance of these two localities (section 5.2.17) */
 };
+
+/* The name of a status, as acpi_view prints it: "MapFailed". "Unknown" for any other number. */
+static inline const char *zacpi_status_name(zacpi_status status) {
+    static const char *const names[] = {
+        "Ok", "RegionsNotAscending", "RegionTooHigh", "MapFailed", "NoValidRsdp", "RsdpIncorrectSignature",
+        "RsdpInvalidOemId", "RsdpInvalidChecksum", "SdtInvalidSignature", "SdtInvalidOemId", "SdtInvalidTableId",
+        "SdtInvalidLength", "SdtInvalidChecksum", "TableMissing", "InvalidFacsAddress", "InvalidDsdtAddress",
+        "InvalidGenericAddress", "InvalidNamespaceString", "AllocError", "NoSuchFunction", "UnknownStart",
+        "RangeTooHigh", "NoApics", "NoSuchInterrupt", "NoSuchIoApic", "InvalidMadt UnexpectedEntry",
+        "InvalidMadt InterruptOverrideEntryHasInvalidBus", "InvalidMadt InvalidLocalNmiLine",
+        "InvalidMadt MpsIntiInvalidPolarity", "InvalidMadt MpsIntiInvalidTriggerMode", "InvalidMadt WakeupApsTimeout",
+        "InvalidMadt InvalidEntryLength", "InvalidSrat InvalidEntryLength", "InvalidSrat InvalidMemoryRange", "NoGic",
+        "NoDomain", "NoDistance"};
+    return status < sizeof names / sizeof *names ? names[status] : "Unknown";
+}
 
 /* ---- Memory --------------------------------------------------------------------------------------- */
 
 /* Physical memory from `address` on, and the pointer to it in the caller's address space. The pointer is never
  * null: a kernel with an identity map begins its first region above address 0. */
-struct acpi_region {
+struct zacpi_region {
     uint64_t address;
     const uint8_t *bytes;
     size_t length;
 };
 
 /* A range of physical addresses: its first address, and how many bytes it has. */
-struct acpi_range {
+struct zacpi_range {
     uint64_t address, length;
 };
 
-enum acpi_start {
-    ACPI_START_RSDP = 0,       /* `address` is that of the RSDP, as a loader or UEFI passes it (section 5.2.5.2) */
-    ACPI_START_RSDT = 1,       /* `address` is that of the RSDT: pointers of four bytes (section 5.2.7) */
-    ACPI_START_XSDT = 2,       /* `address` is that of the XSDT: pointers of eight bytes (section 5.2.8) */
-    ACPI_START_BIOS_SEARCH = 3 /* the RSDP is searched for in the BIOS areas; `address` isn't looked at */
+enum zacpi_start {
+    ZACPI_START_RSDP = 0,       /* `address` is that of the RSDP, as a loader or UEFI passes it (section 5.2.5.2) */
+    ZACPI_START_RSDT = 1,       /* `address` is that of the RSDT: pointers of four bytes (section 5.2.7) */
+    ZACPI_START_XSDT = 2,       /* `address` is that of the XSDT: pointers of eight bytes (section 5.2.8) */
+    ZACPI_START_BIOS_SEARCH = 3 /* the RSDP is searched for in the BIOS areas; `address` isn't looked at */
 };
 
 /* Where tables are looked for. The regions stand in ascending order and share no byte: each, also one of no bytes,
  * begins at the end of the one before it or above. A table has to lie in one region: regions that touch aren't joined
- * (acpi_clip_ranges joins ranges). */
-struct acpi_source {
-    const struct acpi_region *regions;
+ * (zacpi_clip_ranges joins ranges). */
+struct zacpi_source {
+    const struct zacpi_region *regions;
     size_t regions_length; /* how many regions there are */
     uint64_t address;      /* physical; of what `start` says */
-    uint32_t start;        /* one of enum acpi_start */
+    uint32_t start;        /* one of enum zacpi_start */
 };
 
 /* Of ranges in any order, as a firmware's memory map has them, those to make regions from: sorted, those
  * that overlap or touch joined, clipped to `window`, and without what lies in `without` (the kernel's own
  * image, and whatever is written while calls run). The result ascends, and no two touch; a range of no bytes
  * is left out. It has no source, looks at no memory, and is not about ACPI's tables. Refuses only:
- * ACPI_RANGE_TOO_HIGH if the address after the last byte of one of `ranges`, of one of `without` or of the
+ * ZACPI_RANGE_TOO_HIGH if the address after the last byte of one of `ranges`, of one of `without` or of the
  * window is above 2^64 - 1. */
-acpi_status acpi_clip_ranges(const struct acpi_range *ranges, size_t ranges_length, const struct acpi_range *without,
-                             size_t without_length, const struct acpi_range *window, struct acpi_range *out,
+zacpi_status zacpi_clip_ranges(const struct zacpi_range *ranges, size_t ranges_length, const struct zacpi_range *without,
+                             size_t without_length, const struct zacpi_range *window, struct zacpi_range *out,
                              size_t room, size_t *count);
 
 /* ---- Tables --------------------------------------------------------------------------------------- */
 
-struct acpi_signature {
+struct zacpi_signature {
     uint8_t letters[4]; /* Signature of a table, as "APIC", without a zero after it */
 };
-struct acpi_root {
+struct zacpi_root {
     uint64_t address;      /* of the RSDT or XSDT */
     uint32_t length;       /* Length: with its header */
     uint8_t revision;      /* Revision of the RSDP; 0 if opened at an RSDT, 2 if at an XSDT */
     uint8_t pointer_width; /* in bytes: 4 for an RSDT, 8 for an XSDT */
 };
-struct acpi_table {
+struct zacpi_table {
     uint64_t address;
     uint32_t length;      /* Length: with its header */
     uint8_t signature[4]; /* Signature */
     uint8_t revision;     /* Revision: of the table's layout */
 };
-struct acpi_fault {
+struct zacpi_fault {
     uint64_t address;   /* as the root table lists it */
-    acpi_status status; /* why it is passed over: ACPI_MAP_FAILED, or 9 to 12 of enum acpi_refusal */
+    zacpi_status status; /* why it is passed over: ZACPI_MAP_FAILED, or 9 to 12 of enum zacpi_refusal */
 };
-struct acpi_aml {
+struct zacpi_aml {
     uint64_t address; /* of the first byte after the table's 36 bytes of header */
     uint32_t length;  /* Length less 36 */
 };
 
 /* The root table (sections 5.2.7 and 5.2.8). Refuses nothing more than what stands at the top. */
-acpi_status acpi_open(const struct acpi_source *source, struct acpi_root *out, struct acpi_signature *named);
+zacpi_status zacpi_open(const struct zacpi_source *source, struct zacpi_root *out, struct zacpi_signature *named);
 
 /* The ranges of memory that were asked for, and that lie in no one region. A kernel maps those that it can, joins them
- * with its regions' ranges (acpi_clip_ranges: a table has to lie in one region), and asks again, until no new range
- * comes. If opening the tables is refused with ACPI_MAP_FAILED, it is the one range that was refused. If the tables
- * are opened, it is one for each member of the root table, in order, that is passed over with ACPI_MAP_FAILED: its 36
+ * with its regions' ranges (zacpi_clip_ranges: a table has to lie in one region), and asks again, until no new range
+ * comes. If opening the tables is refused with ZACPI_MAP_FAILED, it is the one range that was refused. If the tables
+ * are opened, it is one for each member of the root table, in order, that is passed over with ZACPI_MAP_FAILED: its 36
  * bytes of header (section 5.2.6), or as many bytes as its header says. One for the DSDT and one for the FACS of the
  * first valid FADT come after these, for the same reason (sections 5.2.11.1 and 5.2.10; the FACS needs its Signature
  * and a Length of at least 64 before so many bytes are asked for). There is none if opening refuses otherwise. Each has
- * at least two bytes. Refuses: ACPI_REGIONS_NOT_ASCENDING, ACPI_REGION_TOO_HIGH, ACPI_UNKNOWN_START, and nothing
+ * at least two bytes. Refuses: ZACPI_REGIONS_NOT_ASCENDING, ZACPI_REGION_TOO_HIGH, ZACPI_UNKNOWN_START, and nothing
  * else. */
-acpi_status acpi_list_missing_ranges(const struct acpi_source *source, struct acpi_range *out, size_t room,
-                                     size_t *count, struct acpi_signature *named);
+zacpi_status zacpi_list_missing_ranges(const struct zacpi_source *source, struct zacpi_range *out, size_t room,
+                                     size_t *count, struct zacpi_signature *named);
 
 /* All tables that are listed and valid under the signatures that they bear, in the order of the root
  * table, repeats kept (sections 5.2.6 to 5.2.8). A member that isn't valid is passed over. Refuses nothing more than
  * what stands at the top. */
-acpi_status acpi_list_tables(const struct acpi_source *source, struct acpi_table *out, size_t room, size_t *count,
-                             struct acpi_signature *named);
+zacpi_status zacpi_list_tables(const struct zacpi_source *source, struct zacpi_table *out, size_t room, size_t *count,
+                             struct zacpi_signature *named);
 
 /* The first valid table of a signature (section 5.2.6). Its 36 bytes of header and its sum are checked;
- * the layout of its fields is the caller's to know. Refuses then: ACPI_TABLE_MISSING with the signature. */
-acpi_status acpi_find_table(const struct acpi_source *source, struct acpi_signature signature, struct acpi_table *out,
-                            struct acpi_signature *named);
+ * the layout of its fields is the caller's to know. Refuses then: ZACPI_TABLE_MISSING with the signature. */
+zacpi_status zacpi_find_table(const struct zacpi_source *source, struct zacpi_signature signature, struct zacpi_table *out,
+                            struct zacpi_signature *named);
 
 /* The valid table of a signature that `index` others of it are listed before (section 5.2.6): 0 is the first one, as
- * acpi_find_table answers it. Refuses then: ACPI_TABLE_MISSING with the signature if there are no more than `index`. */
-acpi_status acpi_find_nth_table(const struct acpi_source *source, struct acpi_signature signature, size_t index,
-                                struct acpi_table *out, struct acpi_signature *named);
+ * zacpi_find_table answers it. Refuses then: ZACPI_TABLE_MISSING with the signature if there are no more than `index`. */
+zacpi_status zacpi_find_nth_table(const struct zacpi_source *source, struct zacpi_signature signature, size_t index,
+                                struct zacpi_table *out, struct zacpi_signature *named);
 
 /* The members of the root table that a lookup of a signature passes over for another reason than another Signature, or
  * one that isn't UTF-8, in order, up to the first that it takes (section 5.2.6). The lookup is that of the calls for
  * this table: it asks for the table's least length. Refuses nothing more than what stands at the top. */
-acpi_status acpi_list_faults(const struct acpi_source *source, struct acpi_signature signature, struct acpi_fault *out,
-                             size_t room, size_t *count, struct acpi_signature *named);
+zacpi_status zacpi_list_faults(const struct zacpi_source *source, struct zacpi_signature signature, struct zacpi_fault *out,
+                             size_t room, size_t *count, struct zacpi_signature *named);
 
 /* The AML of the DSDT that the first valid FADT names (sections 5.2.9 and 5.2.11.1). Refuses then:
- * ACPI_TABLE_MISSING "FACP", ACPI_INVALID_DSDT_ADDRESS, and what the table there is refused with: ACPI_MAP_FAILED if 36
- * bytes aren't lent, 8 to 11 of enum acpi_refusal, ACPI_MAP_FAILED if as many bytes as its header says aren't lent,
- * ACPI_SDT_INVALID_CHECKSUM. Those from 8 on carry "DSDT". */
-acpi_status acpi_dsdt(const struct acpi_source *source, struct acpi_aml *out, struct acpi_signature *named);
+ * ZACPI_TABLE_MISSING "FACP", ZACPI_INVALID_DSDT_ADDRESS, and what the table there is refused with: ZACPI_MAP_FAILED if 36
+ * bytes aren't lent, 8 to 11 of enum zacpi_refusal, ZACPI_MAP_FAILED if as many bytes as its header says aren't lent,
+ * ZACPI_SDT_INVALID_CHECKSUM. Those from 8 on carry "DSDT". */
+zacpi_status zacpi_dsdt(const struct zacpi_source *source, struct zacpi_aml *out, struct zacpi_signature *named);
 
 /* The AML of each valid SSDT, in the order of the root table (section 5.2.11.2). Refuses nothing more than what stands
  * at the top. */
-acpi_status acpi_list_ssdts(const struct acpi_source *source, struct acpi_aml *out, size_t room, size_t *count,
-                            struct acpi_signature *named);
+zacpi_status zacpi_list_ssdts(const struct zacpi_source *source, struct zacpi_aml *out, size_t room, size_t *count,
+                            struct zacpi_signature *named);
 
 /* The memory that the tables take, and that isn't to be given away: the root table, each listed table that is valid
  * under its own signature, in order, then the DSDT of the first valid FADT if it is valid, and that FADT's FACS if it
  * is lent, bears "FACS" and has a Length of at least 64 (sections 5.2.6 to 5.2.11). The ranges may overlap. The RSDP
  * isn't among them, nor are the image of the boot graphic and the mailbox by which processors are woken. Refuses
  * nothing more than what stands at the top. */
-acpi_status acpi_list_ranges(const struct acpi_source *source, struct acpi_range *out, size_t room, size_t *count,
-                             struct acpi_signature *named);
+zacpi_status zacpi_list_ranges(const struct zacpi_source *source, struct zacpi_range *out, size_t room, size_t *count,
+                             struct zacpi_signature *named);
 
 /* ---- Fixed hardware and devices ------------------------------------------------------------------- */
 
-struct acpi_generic_address { /* Generic Address Structure, section 5.2.3.2 */
+struct zacpi_generic_address { /* Generic Address Structure, section 5.2.3.2 */
     uint64_t address;    /* Address: in its space */
     uint8_t space;       /* Address Space ID: 0 system memory, 1 I/O ports, 2 PCI configuration space, ... */
     uint8_t bit_width;   /* Register Bit Width */
     uint8_t bit_offset;  /* Register Bit Offset: bits before the register at `address` */
     uint8_t access_size; /* Access Size: 0 not said, 1 one byte, 2 two, 3 four, 4 eight */
 };
-struct acpi_register {
-    struct acpi_generic_address at; /* zeros unless it is present */
+struct zacpi_register {
+    struct zacpi_generic_address at; /* zeros unless it is present */
     uint8_t present;                /* 0: there is none. 1: it is `at`. 2: its address is refused */
 };
-struct acpi_pm_timer {
-    struct acpi_generic_address base; /* X_PM_TMR_BLK or PM_TMR_BLK: its register. Zeros unless it is present */
+struct zacpi_pm_timer {
+    struct zacpi_generic_address base; /* X_PM_TMR_BLK or PM_TMR_BLK: its register. Zeros unless it is present */
     uint8_t present;                  /* 0: there is none. 1: it is at `base` */
     uint8_t is_32_bit;                /* TMR_VAL_EXT: 1 if it counts in 32 bits, 0 if in 24. 0 unless it is present */
 };
-struct acpi_hpet_block {
+struct zacpi_hpet_block {
     uint64_t base_address;         /* BASE_ADDRESS: of the registers, in memory */
     uint32_t event_timer_block_id; /* Event Timer Block ID */
     uint16_t clock_tick_unit; /* Main Counter Minimum Clock_tick in Periodic Mode: the least ticks of a periodic
@@ -271,7 +290,7 @@ struct acpi_hpet_block {
     uint8_t page_protection;  /* Page Protection, bits 0 to 3: 0 nothing is promised, 1 the 4 KiB may be accessed, 2 the
                                * 64 KiB, 3 a reserved code, 3 to 15 */
 };
-struct acpi_boot_graphic {
+struct zacpi_boot_graphic {
     uint64_t address;     /* Image Address: of the image */
     uint32_t x, y;        /* Image Offset X and Y: of its upper left corner on the screen, in pixels */
     uint16_t orientation; /* Orientation Offset, bits 1 and 2 of Status: in degrees, clockwise, 0, 90, 180 or 270 */
@@ -279,9 +298,9 @@ struct acpi_boot_graphic {
     uint8_t image_type;   /* Image Type, 0: a bitmap. 1: another code, which is reserved */
 };
 
-struct acpi_gpe_block { /* general purpose events (sections 4.8.4.1 and 5.2.9), by the length in bytes */
+struct zacpi_gpe_block { /* general purpose events (sections 4.8.4.1 and 5.2.9), by the length in bytes */
     uint64_t address;    /* X_GPEn_BLK or GPEn_BLK: of the first register, in its space; 0 unless it is present */
-    uint8_t space;       /* as in struct acpi_generic_address; 0 unless it is present */
+    uint8_t space;       /* as in struct zacpi_generic_address; 0 unless it is present */
     uint8_t byte_length; /* GPEn_BLK_LEN: first the status bits, in the second half the enable bits; 0 unless it is
                           * present */
     uint8_t present;     /* 0: there is none, also if GPEn_BLK_LEN is 0. 1: there is one. 2: its address is refused, for
@@ -290,19 +309,19 @@ struct acpi_gpe_block { /* general purpose events (sections 4.8.4.1 and 5.2.9), 
 /* FADT, section 5.2.9. An address is that of the X_ field if this isn't 0, and a block is that of the X_ field if its
  * Address isn't 0. Else a block is I/O ports at the other field, of eight bits for each byte of its length (PM1_EVT_LEN
  * to GPE1_BLK_LEN), which may be 0; from 32 bytes on it is refused, but for gpe0_block and gpe1_block. */
-struct acpi_fixed_hardware {
+struct zacpi_fixed_hardware {
     uint64_t facs_address;               /* X_FIRMWARE_CTRL or FIRMWARE_CTRL. 0: none */
     uint64_t dsdt_address;               /* X_DSDT or DSDT. 0: none */
-    struct acpi_register pm1a_event, pm1b_event;     /* X_PM1n_EVT_BLK or PM1n_EVT_BLK: status and enable bits */
-    struct acpi_register pm1a_control, pm1b_control; /* X_PM1n_CNT_BLK or PM1n_CNT_BLK: control registers */
-    struct acpi_register pm2_control;    /* X_PM2_CNT_BLK or PM2_CNT_BLK */
-    struct acpi_register pm_timer;       /* X_PM_TMR_BLK or PM_TMR_BLK, section 4.8.3.3. None if PM_TMR_LEN isn't 4 */
-    struct acpi_register gpe0, gpe1;     /* X_GPEn_BLK or GPEn_BLK, also if GPEn_BLK_LEN is 0. For ports of 32 bytes and
+    struct zacpi_register pm1a_event, pm1b_event;     /* X_PM1n_EVT_BLK or PM1n_EVT_BLK: status and enable bits */
+    struct zacpi_register pm1a_control, pm1b_control; /* X_PM1n_CNT_BLK or PM1n_CNT_BLK: control registers */
+    struct zacpi_register pm2_control;    /* X_PM2_CNT_BLK or PM2_CNT_BLK */
+    struct zacpi_register pm_timer;       /* X_PM_TMR_BLK or PM_TMR_BLK, section 4.8.3.3. None if PM_TMR_LEN isn't 4 */
+    struct zacpi_register gpe0, gpe1;     /* X_GPEn_BLK or GPEn_BLK, also if GPEn_BLK_LEN is 0. For ports of 32 bytes and
                                           * more see gpe0_block */
-    struct acpi_register reset;          /* RESET_REG: counts only if bit 10 of `flags` (RESET_REG_SUP) is set */
-    struct acpi_register sleep_control;  /* SLEEP_CONTROL_REG, of a machine of reduced hardware */
-    struct acpi_register sleep_status;   /* SLEEP_STATUS_REG, of a machine of reduced hardware */
-    struct acpi_gpe_block gpe0_block, gpe1_block; /* GPE0 and GPE1, of any length */
+    struct zacpi_register reset;          /* RESET_REG: counts only if bit 10 of `flags` (RESET_REG_SUP) is set */
+    struct zacpi_register sleep_control;  /* SLEEP_CONTROL_REG, of a machine of reduced hardware */
+    struct zacpi_register sleep_status;   /* SLEEP_STATUS_REG, of a machine of reduced hardware */
+    struct zacpi_gpe_block gpe0_block, gpe1_block; /* GPE0 and GPE1, of any length */
     uint32_t smi_command;                /* SMI_CMD, a port. 0: there is no system management mode */
     uint32_t flags;                      /* Flags: bit 20 (HW_REDUCED_ACPI) says that the hardware is reduced */
     uint16_t sci_interrupt;              /* SCI_INT: a number of the 8259, or else a global system interrupt */
@@ -321,8 +340,8 @@ struct acpi_fixed_hardware {
     uint8_t day_alarm, month_alarm, century; /* DAY_ALRM, MON_ALRM, CENTURY: registers of the clock. 0: none */
     uint8_t reset_value;                 /* RESET_VALUE: what to write to `reset` */
 };
-struct acpi_console { /* SPCR, whose layout is Microsoft's, and so are these names of its fields */
-    struct acpi_register base;           /* Base Address: of the registers. None if all its twelve bytes are 0 */
+struct zacpi_console { /* SPCR, whose layout is Microsoft's, and so are these names of its fields */
+    struct zacpi_register base;           /* Base Address: of the registers. None if all its twelve bytes are 0 */
     uint32_t baud_rate;                  /* Precise Baud Rate, or if that is 0 what Configured Baud Rate stands for: 3
                                           * 9600, 4 19200, 6 57600, 7 115200; 0 unless it is there. In bits in a
                                           * second */
@@ -341,42 +360,42 @@ struct acpi_console { /* SPCR, whose layout is Microsoft's, and so are these nam
     uint8_t pci_device, pci_function;    /* PCI Device Number, PCI Function Number */
 };
 
-/* The fixed hardware of the first valid FADT (section 5.2.9). Refuses then: ACPI_TABLE_MISSING "FACP". A register whose
+/* The fixed hardware of the first valid FADT (section 5.2.9). Refuses then: ZACPI_TABLE_MISSING "FACP". A register whose
  * address is refused is no refusal: its `present` is 2. Those of pm1a and reset are present at address 0 too, and those
  * of sleep if the table is of revision 2 or above and has all twelve bytes: 0 stands for none. On a machine of reduced
  * hardware (HW_REDUCED_ACPI, bit 20 of `flags`) those of pm1, pm2, gpe and the timer mean nothing. */
-acpi_status acpi_fixed_hardware(const struct acpi_source *source, struct acpi_fixed_hardware *out,
-                                struct acpi_signature *named);
+zacpi_status zacpi_fixed_hardware(const struct zacpi_source *source, struct zacpi_fixed_hardware *out,
+                                struct zacpi_signature *named);
 
 /* The serial console that the firmware used: the first valid SPCR, whose signature section 5.2.6 reserves and whose
- * layout is Microsoft's. Refuses then: ACPI_TABLE_MISSING "SPCR". A base whose address is refused is no refusal: its
+ * layout is Microsoft's. Refuses then: ZACPI_TABLE_MISSING "SPCR". A base whose address is refused is no refusal: its
  * `present` is 2. */
-acpi_status acpi_console(const struct acpi_source *source, struct acpi_console *out, struct acpi_signature *named);
+zacpi_status zacpi_console(const struct zacpi_source *source, struct zacpi_console *out, struct zacpi_signature *named);
 
 /* The power management timer of the first valid FADT, which counts at 3.579545 MHz (sections 4.8.3.3 and 5.2.9).
- * Refuses then: ACPI_TABLE_MISSING "FACP", ACPI_INVALID_GENERIC_ADDRESS if PM_TMR_LEN is 4 and X_PM_TMR_BLK has an
+ * Refuses then: ZACPI_TABLE_MISSING "FACP", ZACPI_INVALID_GENERIC_ADDRESS if PM_TMR_LEN is 4 and X_PM_TMR_BLK has an
  * Address that isn't 0 and a reserved code. No timer is no refusal: `present` is 0 if PM_TMR_LEN isn't 4, or no field
  * gives an address. */
-acpi_status acpi_pm_timer(const struct acpi_source *source, struct acpi_pm_timer *out, struct acpi_signature *named);
+zacpi_status zacpi_pm_timer(const struct zacpi_source *source, struct zacpi_pm_timer *out, struct zacpi_signature *named);
 
 /* The block of event timers of the first valid HPET, whose signature section 5.2.6 reserves and whose layout is the
- * IA-PC HPET Specification's. Refuses then: ACPI_TABLE_MISSING "HPET", ACPI_INVALID_GENERIC_ADDRESS if Address Space
+ * IA-PC HPET Specification's. Refuses then: ZACPI_TABLE_MISSING "HPET", ZACPI_INVALID_GENERIC_ADDRESS if Address Space
  * ID of BASE_ADDRESS isn't 0, system memory. */
-acpi_status acpi_hpet(const struct acpi_source *source, struct acpi_hpet_block *out, struct acpi_signature *named);
+zacpi_status zacpi_hpet(const struct zacpi_source *source, struct zacpi_hpet_block *out, struct zacpi_signature *named);
 
-/* The image that the firmware showed: that of the first valid BGRT (section 5.2.22). Refuses then: ACPI_TABLE_MISSING
+/* The image that the firmware showed: that of the first valid BGRT (section 5.2.22). Refuses then: ZACPI_TABLE_MISSING
  * "BGRT". */
-acpi_status acpi_boot_graphic(const struct acpi_source *source, struct acpi_boot_graphic *out,
-                              struct acpi_signature *named);
+zacpi_status zacpi_boot_graphic(const struct zacpi_source *source, struct zacpi_boot_graphic *out,
+                              struct zacpi_signature *named);
 
 /* ---- PCI ------------------------------------------------------------------------------------------ */
 
-struct acpi_pci_region { /* an allocation of the MCFG (PCI Firmware Specification, section 4.1.2) */
+struct zacpi_pci_region { /* an allocation of the MCFG (PCI Firmware Specification, section 4.1.2) */
     uint64_t base_address;       /* Base Address: where bus 0 of the segment group would lie */
     uint16_t segment_group;      /* PCI Segment Group Number */
     uint8_t first_bus, last_bus; /* Start Bus Number, End Bus Number */
 };
-struct acpi_ecam_range {
+struct zacpi_ecam_range {
     uint64_t address, length; /* zeros if it isn't present */
     uint16_t segment_group;   /* PCI Segment Group Number */
     uint8_t present;          /* 0 if the last bus is below the first, or the range ends at 2^64 or above */
@@ -384,158 +403,151 @@ struct acpi_ecam_range {
 
 /* The regions of PCI configuration space, as the first valid MCFG has them, in its order: 16 bytes for each from byte
  * 44 on, and fewer at the end are none. Section 5.2.6 reserves the signature, and the layout is that of the PCI
- * Firmware Specification, section 4.1.2. Refuses then: ACPI_TABLE_MISSING "MCFG". */
-acpi_status acpi_list_pci_regions(const struct acpi_source *source, struct acpi_pci_region *out, size_t room,
-                                  size_t *count, struct acpi_signature *named);
+ * Firmware Specification, section 4.1.2. Refuses then: ZACPI_TABLE_MISSING "MCFG". */
+zacpi_status zacpi_list_pci_regions(const struct zacpi_source *source, struct zacpi_pci_region *out, size_t room,
+                                  size_t *count, struct zacpi_signature *named);
 
 /* The memory that each region of configuration space takes, with its base taken as that of bus 0 (PCI Firmware
- * Specification, section 4.1.2), in the order of the first valid MCFG: item N is of item N of acpi_list_pci_regions.
- * Refuses then: ACPI_TABLE_MISSING "MCFG". */
-acpi_status acpi_list_ecam_ranges(const struct acpi_source *source, struct acpi_ecam_range *out, size_t room,
-                                  size_t *count, struct acpi_signature *named);
+ * Specification, section 4.1.2), in the order of the first valid MCFG: item N is of item N of zacpi_list_pci_regions.
+ * Refuses then: ZACPI_TABLE_MISSING "MCFG". */
+zacpi_status zacpi_list_ecam_ranges(const struct zacpi_source *source, struct zacpi_ecam_range *out, size_t room,
+                                  size_t *count, struct zacpi_signature *named);
 
 /* The physical address of a function's 4096 bytes of configuration space, with a region's base taken as that of bus 0,
  * as the PCI Firmware Specification, section 4.1.2, says: this is what a kernel wants. Of several regions of the first
- * valid MCFG that hold the bus the first counts. Refuses then: ACPI_TABLE_MISSING "MCFG", ACPI_NO_SUCH_FUNCTION if no
+ * valid MCFG that hold the bus the first counts. Refuses then: ZACPI_TABLE_MISSING "MCFG", ZACPI_NO_SUCH_FUNCTION if no
  * region holds the bus, for a device above 31, a function above 7, and a sum of 2^64 or more. */
-acpi_status acpi_pci_ecam_address(const struct acpi_source *source, uint16_t segment_group, uint8_t bus, uint8_t device,
-                                  uint8_t function, uint64_t *out, struct acpi_signature *named);
-
-/* The physical address of a function's configuration space with a region's base taken as that of the region's first
- * bus, as the Rust crate `acpi` has it: not what a kernel wants. It differs from what acpi_pci_ecam_address answers
- * unless Start Bus Number of the region is 0. Refuses then: ACPI_TABLE_MISSING "MCFG", ACPI_NO_SUCH_FUNCTION if no
- * region holds the bus, for a device above 31, a function above 7, and a sum of 2^64 or more. */
-acpi_status acpi_pci_physical_address(const struct acpi_source *source, uint16_t segment_group, uint8_t bus,
-                                      uint8_t device, uint8_t function, uint64_t *out, struct acpi_signature *named);
+zacpi_status zacpi_pci_ecam_address(const struct zacpi_source *source, uint16_t segment_group, uint8_t bus, uint8_t device,
+                                  uint8_t function, uint64_t *out, struct zacpi_signature *named);
 
 /* ---- Interrupts and processors of a PC (MADT, section 5.2.12) -------------------------------------- */
 
 /* Polarity and trigger are the codes of MPS INTI Flags (section 5.2.12.5, table 5.26). Polarity, bits 0 and 1: 0 as
  * the bus has it, 1 active high, 3 active low. Trigger Mode, bits 2 and 3: 0 as the bus has it, 1 edge, 3 level. */
-enum acpi_polarity { ACPI_POLARITY_BUS = 0, ACPI_POLARITY_HIGH = 1, ACPI_POLARITY_LOW = 3 };
-enum acpi_trigger { ACPI_TRIGGER_BUS = 0, ACPI_TRIGGER_EDGE = 1, ACPI_TRIGGER_LEVEL = 3 };
+enum zacpi_polarity { ZACPI_POLARITY_BUS = 0, ZACPI_POLARITY_HIGH = 1, ZACPI_POLARITY_LOW = 3 };
+enum zacpi_trigger { ZACPI_TRIGGER_BUS = 0, ZACPI_TRIGGER_EDGE = 1, ZACPI_TRIGGER_LEVEL = 3 };
 /* Disabled: Enabled, bit 0 of Flags, is 0. Waiting: an application processor, to be started. Running: the boot one. */
-enum acpi_processor_state { ACPI_PROCESSOR_DISABLED = 0, ACPI_PROCESSOR_WAITING = 1, ACPI_PROCESSOR_RUNNING = 2 };
+enum zacpi_processor_state { ZACPI_PROCESSOR_DISABLED = 0, ZACPI_PROCESSOR_WAITING = 1, ZACPI_PROCESSOR_RUNNING = 2 };
 
-struct acpi_interrupt_model {
+struct zacpi_interrupt_model {
     uint64_t local_apic_address; /* Local APIC Address of the last override of it (section 5.2.12.8), or else Local
                                   * Interrupt Controller Address of the MADT; 0 if APICs aren't described */
     size_t io_apics, overrides, nmi_sources, nmi_lines, processors; /* how many each list below has */
     uint8_t known;         /* whether APICs are described; if not, all else is 0 */
     uint8_t also_has_8259; /* PCAT_COMPAT, bit 0 of Flags: whether there is a pair of 8259s too, to be masked */
 };
-struct acpi_io_apic { /* I/O APIC, section 5.2.12.3 */
+struct zacpi_io_apic { /* I/O APIC, section 5.2.12.3 */
     uint32_t address;                      /* I/O APIC Address: of its registers */
     uint32_t global_system_interrupt_base; /* Global System Interrupt Base: the interrupt of its first pin */
     uint8_t id;                            /* I/O APIC ID */
 };
-struct acpi_override { /* Interrupt Source Override, section 5.2.12.5 */
+struct zacpi_override { /* Interrupt Source Override, section 5.2.12.5 */
     uint32_t global_system_interrupt; /* Global System Interrupt */
     uint8_t isa_source;               /* Source: the interrupt on the ISA bus */
     uint8_t polarity, trigger;        /* Polarity and Trigger Mode of Flags */
 };
-struct acpi_nmi_source { /* NMI Source, section 5.2.12.6 */
+struct zacpi_nmi_source { /* NMI Source, section 5.2.12.6 */
     uint32_t global_system_interrupt; /* Global System Interrupt */
     uint8_t polarity, trigger;        /* Polarity and Trigger Mode of Flags */
 };
-struct acpi_nmi_line { /* Local APIC NMI and Local x2APIC NMI, sections 5.2.12.7 and 5.2.12.13. Flags aren't read */
+struct zacpi_nmi_line { /* Local APIC NMI and Local x2APIC NMI, sections 5.2.12.7 and 5.2.12.13. Flags aren't read */
     uint32_t processor_uid; /* ACPI Processor UID; 0 if it is of all processors */
     uint8_t of_all;         /* whether ACPI Processor UID is 0xff, or 0xffffffff for an x2APIC: all processors */
     uint8_t lint;           /* Local APIC LINT#: 0 LINT0, 1 LINT1 */
 };
-struct acpi_processor { /* Processor Local APIC and Processor Local x2APIC, sections 5.2.12.2 and 5.2.12.12 */
+struct zacpi_processor { /* Processor Local APIC and Processor Local x2APIC, sections 5.2.12.2 and 5.2.12.12 */
     uint32_t uid;           /* ACPI Processor UID */
     uint32_t local_apic_id; /* APIC ID or X2APIC ID */
-    uint8_t state;          /* one of enum acpi_processor_state */
+    uint8_t state;          /* one of enum zacpi_processor_state */
     uint8_t is_boot;        /* whether it is the boot processor */
 };
 
 /* Which controllers interrupts come to, and how many items the five lists below have, by the first valid MADT
  * (section 5.2.12). A machine without a valid MADT, or whose MADT has no entry of a machine with APICs (Types 0 to 5, 9
  * and 0xa: a Multiprocessor Wakeup, 0x10, is none), is no refusal: the model isn't known, and the lists are empty.
- * Refuses then: ACPI_TABLE_MISSING "FACP", 32 to 38 of enum acpi_refusal for the first entry of the MADT at fault, in
- * the order of its entries, and of one entry's faults the least, and ACPI_INVALID_GENERIC_ADDRESS if acpi_pm_timer
+ * Refuses then: ZACPI_TABLE_MISSING "FACP", 25 to 31 of enum zacpi_refusal for the first entry of the MADT at fault, in
+ * the order of its entries, and of one entry's faults the least, and ZACPI_INVALID_GENERIC_ADDRESS if zacpi_pm_timer
  * refuses with that. */
-acpi_status acpi_interrupt_model(const struct acpi_source *source, struct acpi_interrupt_model *out,
-                                 struct acpi_signature *named);
+zacpi_status zacpi_interrupt_model(const struct zacpi_source *source, struct zacpi_interrupt_model *out,
+                                 struct zacpi_signature *named);
 /* The I/O APICs, in the order of the first valid MADT (section 5.2.12.3). Empty if the model isn't known. Refuses then
- * as acpi_interrupt_model does. */
-acpi_status acpi_list_io_apics(const struct acpi_source *source, struct acpi_io_apic *out, size_t room, size_t *count,
-                               struct acpi_signature *named);
+ * as zacpi_interrupt_model does. */
+zacpi_status zacpi_list_io_apics(const struct zacpi_source *source, struct zacpi_io_apic *out, size_t room, size_t *count,
+                               struct zacpi_signature *named);
 /* The Interrupt Source Override entries (section 5.2.12.5), in the order of the first valid MADT. Empty if the model
- * isn't known. Refuses then as acpi_interrupt_model does. */
-acpi_status acpi_list_overrides(const struct acpi_source *source, struct acpi_override *out, size_t room, size_t *count,
-                                struct acpi_signature *named);
+ * isn't known. Refuses then as zacpi_interrupt_model does. */
+zacpi_status zacpi_list_overrides(const struct zacpi_source *source, struct zacpi_override *out, size_t room, size_t *count,
+                                struct zacpi_signature *named);
 /* The NMI Source entries (section 5.2.12.6), which name the I/O APIC pins that are non-maskable, in the order of the
- * first valid MADT. Empty if the model isn't known. Refuses then as acpi_interrupt_model does. */
-acpi_status acpi_list_nmi_sources(const struct acpi_source *source, struct acpi_nmi_source *out, size_t room,
-                                  size_t *count, struct acpi_signature *named);
+ * first valid MADT. Empty if the model isn't known. Refuses then as zacpi_interrupt_model does. */
+zacpi_status zacpi_list_nmi_sources(const struct zacpi_source *source, struct zacpi_nmi_source *out, size_t room,
+                                  size_t *count, struct zacpi_signature *named);
 /* The Local APIC NMI and Local x2APIC NMI entries (sections 5.2.12.7 and 5.2.12.13), which name LINT pins, in the order
  * of the first valid MADT. Those of one processor are those with `of_all`, and those with its uid. Empty if the model
- * isn't known. Refuses then as acpi_interrupt_model does. */
-acpi_status acpi_list_nmi_lines(const struct acpi_source *source, struct acpi_nmi_line *out, size_t room, size_t *count,
-                                struct acpi_signature *named);
+ * isn't known. Refuses then as zacpi_interrupt_model does. */
+zacpi_status zacpi_list_nmi_lines(const struct zacpi_source *source, struct zacpi_nmi_line *out, size_t room, size_t *count,
+                                struct zacpi_signature *named);
 /* The processors, in the order of the first valid MADT: the first is the boot processor, also if it is disabled
- * (sections 5.2.12.1, 5.2.12.2 and 5.2.12.12). Empty if the model isn't known. Refuses then as acpi_interrupt_model
+ * (sections 5.2.12.1, 5.2.12.2 and 5.2.12.12). Empty if the model isn't known. Refuses then as zacpi_interrupt_model
  * does. */
-acpi_status acpi_list_processors(const struct acpi_source *source, struct acpi_processor *out, size_t room,
-                                 size_t *count, struct acpi_signature *named);
+zacpi_status zacpi_list_processors(const struct zacpi_source *source, struct zacpi_processor *out, size_t room,
+                                 size_t *count, struct zacpi_signature *named);
 
-struct acpi_interrupt {
+struct zacpi_interrupt {
     uint32_t global_system_interrupt;
-    uint8_t polarity, trigger; /* of enum acpi_polarity and enum acpi_trigger, but never as the bus has it */
+    uint8_t polarity, trigger; /* of enum zacpi_polarity and enum zacpi_trigger, but never as the bus has it */
 };
-struct acpi_pin {
-    struct acpi_io_apic io_apic;
+struct zacpi_pin {
+    struct zacpi_io_apic io_apic;
     uint32_t pin; /* from 0 on: the global system interrupt less Global System Interrupt Base */
 };
 
 /* How one of the 16 ISA interrupts comes to the I/O APICs: as its last override says, or as the interrupt
- * of the same number, active high and by edge (section 5.2.12.5). Refuses then as acpi_interrupt_model does, with
- * ACPI_NO_APICS if the model isn't known, and with ACPI_NO_SUCH_INTERRUPT for an irq above 15 and for one without an
+ * of the same number, active high and by edge (section 5.2.12.5). Refuses then as zacpi_interrupt_model does, with
+ * ZACPI_NO_APICS if the model isn't known, and with ZACPI_NO_SUCH_INTERRUPT for an irq above 15 and for one without an
  * override whose number another one's override has taken. */
-acpi_status acpi_isa_interrupt(const struct acpi_source *source, uint8_t irq, struct acpi_interrupt *out,
-                               struct acpi_signature *named);
+zacpi_status zacpi_isa_interrupt(const struct zacpi_source *source, uint8_t irq, struct zacpi_interrupt *out,
+                               struct zacpi_signature *named);
 
 /* How the System Control Interrupt (SCI), SCI_INT of the first valid FADT, comes to the I/O APICs: active low and by
  * level, unless it is below 16 and its last override says otherwise (sections 5.2.9 and 5.2.12.5). Refuses then as
- * acpi_interrupt_model does, and with ACPI_NO_APICS if the model isn't known. */
-acpi_status acpi_sci_interrupt(const struct acpi_source *source, struct acpi_interrupt *out,
-                               struct acpi_signature *named);
+ * zacpi_interrupt_model does, and with ZACPI_NO_APICS if the model isn't known. */
+zacpi_status zacpi_sci_interrupt(const struct zacpi_source *source, struct zacpi_interrupt *out,
+                               struct zacpi_signature *named);
 
 /* The I/O APIC that a global system interrupt comes to, and the pin there: the first one with the greatest Global
  * System Interrupt Base that is at most the interrupt (sections 5.2.12.3 and 5.2.13). Only the I/O APIC itself can tell
- * how many pins it has. Refuses then as acpi_interrupt_model does, with ACPI_NO_APICS if the model isn't known, and
- * with ACPI_NO_SUCH_IO_APIC if each base is above the interrupt. */
-acpi_status acpi_io_apic_pin(const struct acpi_source *source, uint32_t global_system_interrupt, struct acpi_pin *out,
-                             struct acpi_signature *named);
+ * how many pins it has. Refuses then as zacpi_interrupt_model does, with ZACPI_NO_APICS if the model isn't known, and
+ * with ZACPI_NO_SUCH_IO_APIC if each base is above the interrupt. */
+zacpi_status zacpi_io_apic_pin(const struct zacpi_source *source, uint32_t global_system_interrupt, struct zacpi_pin *out,
+                             struct zacpi_signature *named);
 
-struct acpi_isa_route {
-    struct acpi_interrupt interrupt; /* what acpi_isa_interrupt answers, or zeros */
-    struct acpi_pin pin;             /* what acpi_io_apic_pin answers for it, or zeros */
-    uint8_t present;                 /* 0: acpi_isa_interrupt refuses it with ACPI_NO_SUCH_INTERRUPT */
-    uint8_t has_pin;                 /* 0: it isn't present, or acpi_io_apic_pin refuses it with ACPI_NO_SUCH_IO_APIC */
+struct zacpi_isa_route {
+    struct zacpi_interrupt interrupt; /* what zacpi_isa_interrupt answers, or zeros */
+    struct zacpi_pin pin;             /* what zacpi_io_apic_pin answers for it, or zeros */
+    uint8_t present;                 /* 0: zacpi_isa_interrupt refuses it with ZACPI_NO_SUCH_INTERRUPT */
+    uint8_t has_pin;                 /* 0: it isn't present, or zacpi_io_apic_pin refuses it with ZACPI_NO_SUCH_IO_APIC */
 };
-struct acpi_isa_interrupts {
-    struct acpi_isa_route routes[16]; /* item n is irq n */
+struct zacpi_isa_interrupts {
+    struct zacpi_isa_route routes[16]; /* item n is irq n */
 };
 
 /* All 16 ISA interrupts at once, each with its pin (sections 5.2.12.3 and 5.2.12.5). Refuses then as
- * acpi_interrupt_model does, and with ACPI_NO_APICS if the model isn't known. */
-acpi_status acpi_list_isa_interrupts(const struct acpi_source *source, struct acpi_isa_interrupts *out,
-                                     struct acpi_signature *named);
+ * zacpi_interrupt_model does, and with ZACPI_NO_APICS if the model isn't known. */
+zacpi_status zacpi_list_isa_interrupts(const struct zacpi_source *source, struct zacpi_isa_interrupts *out,
+                                     struct zacpi_signature *named);
 
 /* ---- Arm: the generic interrupt controller (MADT, section 5.2.12) ---------------------------------- */
 
-/* A polarity is 1 active high or 3 active low, and a trigger 1 edge or 3 level, as in enum acpi_polarity and
- * enum acpi_trigger. */
-struct acpi_gic_distributor { /* GIC Distributor (GICD), section 5.2.12.15 */
+/* A polarity is 1 active high or 3 active low, and a trigger 1 edge or 3 level, as in enum zacpi_polarity and
+ * enum zacpi_trigger. */
+struct zacpi_gic_distributor { /* GIC Distributor (GICD), section 5.2.12.15 */
     uint64_t address;            /* Physical Base Address: of its registers */
     uint32_t id;                 /* GIC ID */
     uint32_t system_vector_base; /* System Vector Base: reserved, and kept as it is */
     uint8_t version;             /* GIC version: 1 to 4; 0: the hardware tells */
 };
-struct acpi_gic_cpu_interface { /* GIC CPU Interface (GICC), section 5.2.12.14. An address or interrupt of 0 is none. */
+struct zacpi_gic_cpu_interface { /* GIC CPU Interface (GICC), section 5.2.12.14. An address or interrupt of 0 is none. */
     uint64_t mpidr;                    /* MPIDR */
     uint64_t parked_address;           /* Parked Address: of the parking protocol's mailbox */
     uint64_t address;                  /* Physical Base Address: of the interface's registers */
@@ -556,11 +568,11 @@ struct acpi_gic_cpu_interface { /* GIC CPU Interface (GICC), section 5.2.12.14. 
     uint8_t maintenance_trigger;       /* VGIC Maintenance Interrupt Mode Flags, bit 2 of Flags */
     uint8_t efficiency_class;          /* Processor Power Efficiency Class: less is less power */
 };
-struct acpi_gic_translation_service { /* GIC Interrupt Translation Service (ITS), section 5.2.12.18 */
+struct zacpi_gic_translation_service { /* GIC Interrupt Translation Service (ITS), section 5.2.12.18 */
     uint64_t address; /* Physical Base Address: of its registers */
     uint32_t id;      /* GIC ITS ID */
 };
-struct acpi_gic_msi_frame { /* GIC MSI Frame, section 5.2.12.16 */
+struct zacpi_gic_msi_frame { /* GIC MSI Frame, section 5.2.12.16 */
     uint64_t address;             /* Physical Base Address: of its registers */
     uint32_t id;                  /* GIC MSI Frame ID */
     uint16_t spi_base, spi_count; /* SPI Base, SPI Count: zeros if has_spis is 0 */
@@ -568,50 +580,50 @@ struct acpi_gic_msi_frame { /* GIC MSI Frame, section 5.2.12.16 */
 };
 
 /* The distributor of the first valid MADT: that of its first GICD entry (section 5.2.12.15). Refuses then:
- * ACPI_TABLE_MISSING "APIC", ACPI_MADT_INVALID_ENTRY_LENGTH if bytes are left in which no entry begins, and
- * ACPI_NO_GIC if no entry describes a distributor, as on a machine with APICs. */
-acpi_status acpi_gic_distributor(const struct acpi_source *source, struct acpi_gic_distributor *out,
-                                 struct acpi_signature *named);
+ * ZACPI_TABLE_MISSING "APIC", ZACPI_MADT_INVALID_ENTRY_LENGTH if bytes are left in which no entry begins, and
+ * ZACPI_NO_GIC if no entry describes a distributor, as on a machine with APICs. */
+zacpi_status zacpi_gic_distributor(const struct zacpi_source *source, struct zacpi_gic_distributor *out,
+                                 struct zacpi_signature *named);
 /* The processors' interfaces, one for each GICC entry of the first valid MADT, in order (section 5.2.12.14). Refuses
- * then as acpi_gic_distributor does. */
-acpi_status acpi_list_gic_cpu_interfaces(const struct acpi_source *source, struct acpi_gic_cpu_interface *out,
-                                         size_t room, size_t *count, struct acpi_signature *named);
+ * then as zacpi_gic_distributor does. */
+zacpi_status zacpi_list_gic_cpu_interfaces(const struct zacpi_source *source, struct zacpi_gic_cpu_interface *out,
+                                         size_t room, size_t *count, struct zacpi_signature *named);
 /* The ranges of memory that hold redistributors, one for each GICR entry of the first valid MADT, in order: Discovery
  * Range Base Address and Discovery Range Length, which can be 0 (section 5.2.12.17). Refuses then as
- * acpi_gic_distributor does. */
-acpi_status acpi_list_gic_redistributors(const struct acpi_source *source, struct acpi_range *out, size_t room,
-                                         size_t *count, struct acpi_signature *named);
+ * zacpi_gic_distributor does. */
+zacpi_status zacpi_list_gic_redistributors(const struct zacpi_source *source, struct zacpi_range *out, size_t room,
+                                         size_t *count, struct zacpi_signature *named);
 /* The services that translate interrupts, one for each GIC ITS entry of the first valid MADT, in order (section
- * 5.2.12.18). Refuses then as acpi_gic_distributor does. */
-acpi_status acpi_list_gic_translation_services(const struct acpi_source *source,
-                                               struct acpi_gic_translation_service *out, size_t room, size_t *count,
-                                               struct acpi_signature *named);
+ * 5.2.12.18). Refuses then as zacpi_gic_distributor does. */
+zacpi_status zacpi_list_gic_translation_services(const struct zacpi_source *source,
+                                               struct zacpi_gic_translation_service *out, size_t room, size_t *count,
+                                               struct zacpi_signature *named);
 /* The frames that turn messages into interrupts, one for each GIC MSI Frame entry of the first valid MADT, in order
- * (section 5.2.12.16). Refuses then as acpi_gic_distributor does. */
-acpi_status acpi_list_gic_msi_frames(const struct acpi_source *source, struct acpi_gic_msi_frame *out, size_t room,
-                                     size_t *count, struct acpi_signature *named);
+ * (section 5.2.12.16). Refuses then as zacpi_gic_distributor does. */
+zacpi_status zacpi_list_gic_msi_frames(const struct zacpi_source *source, struct zacpi_gic_msi_frame *out, size_t room,
+                                     size_t *count, struct zacpi_signature *named);
 
 /* ---- Arm: the generic timers (GTDT, section 5.2.24) ------------------------------------------------- */
 
-struct acpi_arm_timer {
+struct zacpi_arm_timer {
     uint32_t interrupt; /* GSIV: as the number of the GIC; 0: none */
     uint8_t polarity;   /* Timer Interrupt polarity, bit 1 of the timer's flags: 1 active high, 3 active low */
     uint8_t trigger;    /* Timer Interrupt Mode, bit 0 of the timer's flags: 1 edge, 3 level */
     uint8_t always_on;  /* Always-on Capability, bit 2 of the timer's flags */
     uint8_t present;    /* 0: the table hasn't this timer's fields, and all else is 0 */
 };
-struct acpi_arm_timers {
+struct zacpi_arm_timers {
     uint64_t control_base; /* CntControlBase Physical Address; all ones: none */
     uint64_t read_base;    /* CntReadBase Physical Address; all ones: none, also below revision 2 of the table */
     /* virtual_el2 is present from revision 3 on, if the table has all its eight bytes, and Platform Timer Count is 0 or
      * Platform Timer Offset at least 104. */
-    struct acpi_arm_timer secure_el1, non_secure_el1, virtual_el1, el2, virtual_el2;
+    struct zacpi_arm_timer secure_el1, non_secure_el1, virtual_el1, el2, virtual_el2;
     /* 1: the two lists below have what stands before the first fault of Platform Timer Count structures: Platform Timer
      * Offset is below 96, a Length is above the bytes left or below 20 (GT Block), 28 (watchdog) or 4 (another Type),
      * or frames of a GT Block don't lie between its byte 20 and its end. 0 below revision 2. */
     uint8_t platform_timers_malformed;
 };
-struct acpi_gt_frame { /* a frame of a GT Block, section 5.2.24.1.1 */
+struct zacpi_gt_frame { /* a frame of a GT Block, section 5.2.24.1.1 */
     uint64_t block_address;      /* GT Block Physical Address: of the block's control frame */
     uint64_t address;            /* GTx Physical Address: of the frame's registers */
     uint64_t el0_address;        /* CntEL0BaseX: of the registers as EL0 sees them; all ones: EL0 sees none */
@@ -623,7 +635,7 @@ struct acpi_gt_frame { /* a frame of a GT Block, section 5.2.24.1.1 */
     uint8_t is_secure;           /* Secure Timer, bit 0 of GTx Common Flags */
     uint8_t is_always_on;        /* Always-on Capability, bit 1 of GTx Common Flags */
 };
-struct acpi_watchdog { /* Arm Generic Watchdog, section 5.2.24.1.2 */
+struct zacpi_watchdog { /* Arm Generic Watchdog, section 5.2.24.1.2 */
     uint64_t refresh_frame; /* RefreshFrame Physical Address */
     uint64_t control_frame; /* WatchdogControlFrame Physical Address */
     uint32_t interrupt;     /* Watchdog Timer GSIV */
@@ -632,30 +644,30 @@ struct acpi_watchdog { /* Arm Generic Watchdog, section 5.2.24.1.2 */
     uint8_t is_secure;      /* Secure Timer, bit 2 of Watchdog Timer Flags */
 };
 
-/* The timers of every processor, by the first valid GTDT (section 5.2.24). Refuses then: ACPI_TABLE_MISSING "GTDT". */
-acpi_status acpi_arm_timers(const struct acpi_source *source, struct acpi_arm_timers *out,
-                            struct acpi_signature *named);
+/* The timers of every processor, by the first valid GTDT (section 5.2.24). Refuses then: ZACPI_TABLE_MISSING "GTDT". */
+zacpi_status zacpi_arm_timers(const struct zacpi_source *source, struct zacpi_arm_timers *out,
+                            struct zacpi_signature *named);
 /* The frames of the blocks of timers of the first valid GTDT, block by block, in order (section 5.2.24.1.1). None below
  * revision 2 of the table. If Platform Timer Structures end malformed, those before the first fault. Refuses then:
- * ACPI_TABLE_MISSING "GTDT". */
-acpi_status acpi_list_gt_frames(const struct acpi_source *source, struct acpi_gt_frame *out, size_t room,
-                                size_t *count, struct acpi_signature *named);
+ * ZACPI_TABLE_MISSING "GTDT". */
+zacpi_status zacpi_list_gt_frames(const struct zacpi_source *source, struct zacpi_gt_frame *out, size_t room,
+                                size_t *count, struct zacpi_signature *named);
 /* The watchdogs of the Server Base System Architecture of the first valid GTDT, in order (section 5.2.24.1.2). None
  * below revision 2 of the table. If Platform Timer Structures end malformed, those before the first fault. Refuses
- * then: ACPI_TABLE_MISSING "GTDT". */
-acpi_status acpi_list_watchdogs(const struct acpi_source *source, struct acpi_watchdog *out, size_t room,
-                                size_t *count, struct acpi_signature *named);
+ * then: ZACPI_TABLE_MISSING "GTDT". */
+zacpi_status zacpi_list_watchdogs(const struct zacpi_source *source, struct zacpi_watchdog *out, size_t room,
+                                size_t *count, struct zacpi_signature *named);
 
 /* ---- NUMA: domains (SRAT, section 5.2.16) and distances (SLIT, section 5.2.17) ----------------------- */
 
-struct acpi_memory_affinity { /* Memory Affinity, section 5.2.16.2 */
+struct zacpi_memory_affinity { /* Memory Affinity, section 5.2.16.2 */
     uint64_t address;         /* Base Address */
     uint64_t length;          /* Length: at least one */
     uint32_t domain;          /* Proximity Domain; below revision 2 of the table its lowest byte */
     uint8_t is_hot_pluggable; /* Hot Pluggable, bit 1 of Flags */
     uint8_t is_non_volatile;  /* NonVolatile, bit 2 of Flags */
 };
-struct acpi_localities {
+struct zacpi_localities {
     uint64_t localities; /* Number of System Localities: the matrix has so many rows and columns, from 0 on */
     uint8_t is_sane;     /* 1: there are localities, the table has all distances, 10 of each locality from itself, and
                           * more than 10 of others */
@@ -663,34 +675,34 @@ struct acpi_localities {
 
 /* The ranges of memory that the first valid SRAT puts into domains, in order: those of its entries of memory that are
  * enabled (Enabled, bit 0 of Flags) and have at least one byte (section 5.2.16.2). They may overlap. Refuses then:
- * ACPI_TABLE_MISSING "SRAT", ACPI_NUMA_INVALID_ENTRY_LENGTH if bytes are left in which no entry begins,
- * ACPI_NUMA_INVALID_MEMORY_RANGE if the address after one of these ranges is above 2^64 - 1. */
-acpi_status acpi_list_memory_affinities(const struct acpi_source *source, struct acpi_memory_affinity *out, size_t room,
-                                        size_t *count, struct acpi_signature *named);
-/* The domain of the memory at a physical address: that of the first range of acpi_list_memory_affinities that holds it
- * (section 5.2.16.2). Refuses then as acpi_list_memory_affinities does, and with ACPI_NO_DOMAIN if none holds it. */
-acpi_status acpi_domain_of_address(const struct acpi_source *source, uint64_t address, uint32_t *out,
-                                   struct acpi_signature *named);
+ * ZACPI_TABLE_MISSING "SRAT", ZACPI_NUMA_INVALID_ENTRY_LENGTH if bytes are left in which no entry begins,
+ * ZACPI_NUMA_INVALID_MEMORY_RANGE if the address after one of these ranges is above 2^64 - 1. */
+zacpi_status zacpi_list_memory_affinities(const struct zacpi_source *source, struct zacpi_memory_affinity *out, size_t room,
+                                        size_t *count, struct zacpi_signature *named);
+/* The domain of the memory at a physical address: that of the first range of zacpi_list_memory_affinities that holds it
+ * (section 5.2.16.2). Refuses then as zacpi_list_memory_affinities does, and with ZACPI_NO_DOMAIN if none holds it. */
+zacpi_status zacpi_domain_of_address(const struct zacpi_source *source, uint64_t address, uint32_t *out,
+                                   struct zacpi_signature *named);
 /* The domain of the processor whose local APIC or x2APIC has an id (APIC ID or X2APIC ID): that of the last enabled
  * entry for it in the first valid SRAT (sections 5.2.16.1 and 5.2.16.3). That of a local APIC is Proximity Domain [7:0]
  * alone below revision 2 of the table. Entries after a malformed one aren't looked at. Refuses then:
- * ACPI_TABLE_MISSING "SRAT", ACPI_NO_DOMAIN if there is no such entry. */
-acpi_status acpi_domain_of_apic(const struct acpi_source *source, uint32_t local_apic_id, uint32_t *out,
-                                struct acpi_signature *named);
+ * ZACPI_TABLE_MISSING "SRAT", ZACPI_NO_DOMAIN if there is no such entry. */
+zacpi_status zacpi_domain_of_apic(const struct zacpi_source *source, uint32_t local_apic_id, uint32_t *out,
+                                struct zacpi_signature *named);
 /* The domain of the processor of an ACPI Processor UID on a machine with a GIC: that of the last enabled GICC entry
  * for it in the first valid SRAT (section 5.2.16.4). Entries after a malformed one aren't looked at. Refuses then:
- * ACPI_TABLE_MISSING "SRAT", ACPI_NO_DOMAIN if there is no such entry. */
-acpi_status acpi_domain_of_processor(const struct acpi_source *source, uint32_t uid, uint32_t *out,
-                                     struct acpi_signature *named);
+ * ZACPI_TABLE_MISSING "SRAT", ZACPI_NO_DOMAIN if there is no such entry. */
+zacpi_status zacpi_domain_of_processor(const struct zacpi_source *source, uint32_t uid, uint32_t *out,
+                                     struct zacpi_signature *named);
 /* How many localities the first valid SLIT has distances of, and whether it can be believed (section 5.2.17). Refuses
- * then: ACPI_TABLE_MISSING "SLIT". */
-acpi_status acpi_localities(const struct acpi_source *source, struct acpi_localities *out,
-                            struct acpi_signature *named);
+ * then: ZACPI_TABLE_MISSING "SLIT". */
+zacpi_status zacpi_localities(const struct zacpi_source *source, struct zacpi_localities *out,
+                            struct zacpi_signature *named);
 /* How far one locality is from another, by the first valid SLIT (section 5.2.17): in units of which 10 are the distance
- * of a locality from itself, and 255 stands for unreachable. Refuses then: ACPI_TABLE_MISSING "SLIT", ACPI_NO_DISTANCE
+ * of a locality from itself, and 255 stands for unreachable. Refuses then: ZACPI_TABLE_MISSING "SLIT", ZACPI_NO_DISTANCE
  * if one of them isn't below Number of System Localities, or if the table ends before the byte of the pair. */
-acpi_status acpi_distance(const struct acpi_source *source, uint64_t from, uint64_t to, uint8_t *out,
-                          struct acpi_signature *named);
+zacpi_status zacpi_distance(const struct zacpi_source *source, uint64_t from, uint64_t to, uint8_t *out,
+                          struct zacpi_signature *named);
 
 #ifdef __cplusplus
 }
