@@ -44,67 +44,21 @@ sum-next : (bytes : List ℕ) (at end : ℕ) → at + 16 ≡ end → sum (take e
 sum-next bytes at end there =
     ap (λ n. sum (take n bytes)) (sym there) ∙ ap sum (take-add at 16 bytes) ∙ sum_by-append (λ x. x) (take at bytes) (chunk at 16 bytes)
 
-pub adds_up-next : (lanes bytes : List ℕ) (at : ℕ) → at + 16 ≤ length bytes → AddsUp lanes (take at bytes) → AddsUp (wrapped lanes (chunk at 16 bytes)) (take (at + 16) bytes)
+pub adds_up-next : (lanes bytes : List ℕ) (at end : ℕ) → at + 16 ≡ end → end ≤ length bytes → AddsUp lanes (take at bytes) → AddsUp (wrapped lanes (chunk at 16 bytes)) (take end bytes)
 unfolding sum_of
-adds_up-next lanes bytes at room so_far =
-    let same : length lanes ≡ length (chunk at 16 bytes) = omega (arith, so_far.0, length-chunk at 16 bytes room) in
-    (length-zip2 _ lanes (chunk at 16 bytes) same ∙ so_far.0, omega (arith, so_far.1, sum-wrapped lanes (chunk at 16 bytes) same, sum-next bytes at (at + 16) refl))
+adds_up-next lanes bytes at end there room so_far =
+    let same : length lanes ≡ length (chunk at 16 bytes) = omega (arith, so_far.0, length-chunk at 16 bytes (omega (arith, there, room))) in
+    (length-zip2 _ lanes (chunk at 16 bytes) same ∙ so_far.0, omega (arith, so_far.1, sum-wrapped lanes (chunk at 16 bytes) same, sum-next bytes at end there))
 
--- sixteen lanes each
-abbrev pub AreLanes : List ℕ → List ℕ → List ℕ → List ℕ → Type 0
-AreLanes first second third fourth =
-    (length first ≡ 16) × (length second ≡ 16) × (length third ≡ 16) × (length fourth ≡ 16)
-
-abbrev pub sum-four : List ℕ → List ℕ → List ℕ → List ℕ → ℕ
-sum-four first second third fourth = sum first + sum second + sum third + sum fourth
-
--- four vectors more, each to lanes of its own
-pub sum-block : (first second third fourth bytes : List ℕ) (at : ℕ)
-    → AreLanes first second third fourth
-    → at + 64 ≤ length bytes
-    → sum-four first second third fourth % 256 ≡ sum (take at bytes) % 256
-    → sum-four (wrapped first (chunk at 16 bytes)) (wrapped second (chunk (at + 16) 16 bytes))
-    (wrapped third (chunk (at + 32) 16 bytes)) (wrapped fourth (chunk (at + 48) 16 bytes)) % 256
-    ≡ sum (take (at + 64) bytes) % 256
-sum-block first second third fourth bytes at long room so_far =
-    let one = sum-wrapped first (chunk at 16 bytes) (long.0 ∙ sym (length-chunk at 16 bytes (omega (arith, room)))) in
-    let two = sum-wrapped second (chunk (at + 16) 16 bytes) (long.1 ∙ sym (length-chunk (at + 16) 16 bytes (omega (arith, room)))) in
-    let three = sum-wrapped third (chunk (at + 32) 16 bytes) (long.2 ∙ sym (length-chunk (at + 32) 16 bytes (omega (arith, room)))) in
-    let four = sum-wrapped fourth (chunk (at + 48) 16 bytes) (long.3 ∙ sym (length-chunk (at + 48) 16 bytes (omega (arith, room)))) in
-    omega (
-      arith,
-      so_far,
-      one,
-      two,
-      three,
-      four,
-      sum-next bytes at (at + 16) refl,
-      sum-next bytes (at + 16) (at + 32) (omega arith),
-      sum-next bytes (at + 32) (at + 48) (omega arith),
-      sum-next bytes (at + 48) (at + 64) (omega arith),
-    )
-
--- two vectors of lanes in one
-pub length-wrapped : (xs ys : List ℕ) → length xs ≡ 16 → length ys ≡ 16 → length (wrapped xs ys) ≡ 16
-length-wrapped xs ys x y = length-zip2 _ xs ys (x ∙ sym y) ∙ x
-
-pub adds_up-joined : (first second third fourth bytes : List ℕ)
-    → AreLanes first second third fourth
-    → sum-four first second third fourth % 256 ≡ sum bytes % 256
-    → AddsUp (wrapped (wrapped first second) (wrapped third fourth)) bytes
-unfolding sum_of
-adds_up-joined first second third fourth bytes long summed =
-    let left = length-wrapped first second long.0 long.1 in
-    let right = length-wrapped third fourth long.2 long.3 in (
-      length-wrapped (wrapped first second) (wrapped third fourth) left right,
-      omega (
-        arith,
-        summed,
-        sum-wrapped (wrapped first second) (wrapped third fourth) (left ∙ sym right),
-        sum-wrapped first second (long.0 ∙ sym long.1),
-        sum-wrapped third fourth (long.2 ∙ sym long.3),
-      ),
-    )
+-- four vectors more
+pub adds_up-block : (lanes bytes : List ℕ) (at : ℕ) → at + 64 ≤ length bytes → AddsUp lanes (take at bytes)
+    → AddsUp (wrapped (wrapped (wrapped (wrapped lanes (chunk at 16 bytes)) (chunk (at + 16) 16 bytes))
+    (chunk (at + 32) 16 bytes)) (chunk (at + 48) 16 bytes)) (take (at + 64) bytes)
+adds_up-block lanes bytes at room so_far =
+    let one = adds_up-next lanes bytes at (at + 16) refl (omega (arith, room)) so_far in
+    let two = adds_up-next _ bytes (at + 16) (at + 32) (omega arith) (omega (arith, room)) one in
+    let three = adds_up-next _ bytes (at + 32) (at + 48) (omega arith) (omega (arith, room)) two in
+    adds_up-next _ bytes (at + 48) (at + 64) (omega arith) room three
 
 -- if all lanes are kept, their sum is; and if the first are cleared, that of the others
 sum-kept_all : (xs : List ℕ) (n : ℕ) → length xs ≡ n → sum (zip2 bit_and xs (replicate n 255)) % 256 ≡ sum xs % 256

@@ -8,7 +8,8 @@ use std::simd::prelude::*;
 
 const LANES: usize = 16;
 
-/// Four vectors, each added to lanes of its own, so that no addition waits for the one before.
+/// As many bytes as one turn of the loop adds. All of it goes to the same lanes: these fit into the general registers of
+/// a kernel's code, which has no vectors, and lanes of four vectors would not.
 const BLOCK: usize = 4 * LANES;
 
 /// From place `n` on, these are the lanes that keep the last `n` of sixteen.
@@ -61,19 +62,16 @@ fn summed_blocks(bytes: &[u8]) -> (u8x16, usize)
     ensures whole { length bytes.now - result.1 < BLOCK }
     ensures sums { AddsUp result.0 (take result.1 bytes.now) }
 {
-    let mut first = u8x16::splat(0);
-    let mut second = u8x16::splat(0);
-    let mut third = u8x16::splat(0);
-    let mut fourth = u8x16::splat(0);
+    let mut lanes = u8x16::splat(0);
     let mut at = 0;
     while bytes.len() - at >= BLOCK {
-        first += vector_at(bytes, at);
-        second += vector_at(bytes, at + LANES);
-        third += vector_at(bytes, at + 2 * LANES);
-        fourth += vector_at(bytes, at + 3 * LANES);
+        lanes += vector_at(bytes, at);
+        lanes += vector_at(bytes, at + LANES);
+        lanes += vector_at(bytes, at + 2 * LANES);
+        lanes += vector_at(bytes, at + 3 * LANES);
         at += BLOCK;
     }
-    ((first + second) + (third + fourth), at)
+    (lanes, at)
 }
 
 /// The sum of all bytes, if lanes hold that of the bytes before a place and less than a block
