@@ -39,7 +39,7 @@ placed m = (start_of m, bytes_of m)
 abbrev pub IsCandidate : Area → ℕ → Type 0
 IsCandidate s a = (k : ℕ) × (a ≡ s.start + 16 * k) × (a + 20 ≤ s.end)
 
--- what is there is no valid RSDP
+-- no RSDP is valid there
 abbrev pub IsRefused : Memory → ℕ → Type 0
 IsRefused m a = (e : AcpiError) × (rsdp_at m a ≡ Err e)
 
