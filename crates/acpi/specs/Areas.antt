@@ -17,7 +17,7 @@ use Rattle.acpi.specs.OpenedRanges.{opened_ranges, or_else_ranges, walk_ranges}
 use Rattle.acpi.specs.Rsdp.{length_of, root_of_rsdp, rsdp_at}
 use Rattle.acpi.specs.Search.{IsRefused, walk}
 
--- so many bytes from an address on
+-- that many bytes from an address on
 abbrev pub range : ℕ → ℕ → AddressRange
 range address length = record { address = address; length = length }
 
@@ -47,7 +47,7 @@ pub record IsFirstIn (m : Memory) (areas : List AddressRange) (found : ℕ × Li
   pub valid : rsdp_at m found.0 ≡ Ok found.1
   pub least : (a : ℕ) → a < found.0 → IsCandidateIn area a → IsRefused m a
 
--- what a search answered, seen by view, is the first valid candidate, or there is none
+-- what a search returned, seen by view, is the first valid candidate, or NoValidRsdp if there is none
 abbrev pub IsSearchedIn : {X : Type 0} → Memory → List AddressRange → (X → ℕ × List ℕ)
     → Result X AcpiError → Type 0
 IsSearchedIn m areas view (Ok x) = IsFirstIn m areas (view x)
@@ -72,7 +72,8 @@ abbrev pub found_among : Memory → List AddressRange → Option (ℕ × List �
 found_among m [] = None
 found_among m (s ∷ areas) = option_or (walk_in m s) (found_among m areas)
 
--- the RSDP that the areas have, or the refusal
+-- the RSDP that the areas have, or the error. What to believe is `IsSearchedIn`: `Rsdp::search_in` has a clause for
+-- each of the two
 unfoldable pub found_in_areas : Memory → List AddressRange → Result (ℕ × List ℕ) AcpiError
 found_in_areas m areas = ok_or (found_among m areas) NoValidRsdp
 

@@ -21,7 +21,8 @@ use Rattle.acpi.specs.declared.tables.AcpiTables.{AcpiTables}
 abbrev pub root_ranges : Memory → RootKind → ℕ → Ranges
 root_ranges m kind address = table_ranges m (root_kind kind) address
 
--- those of `lookup` and of `faults_of`: each member's, up to and with the first valid one
+-- those of `lookup` and of `faults_of`: each member's, up to and with the first valid one. They are also those of what
+-- the HPET, the PCI regions and the mailbox say, by the lookup of their table
 abbrev pub lookup_ranges : Memory → Kind → List ℕ → Ranges
 lookup_ranges m k [] = []
 lookup_ranges m k (p ∷ ps) =
@@ -60,8 +61,8 @@ below m kind address defined =
 abbrev pub AllowsBelow : {H h : _} → AcpiTables H h → (Memory → List ℕ → Ranges) → Type 0
 AllowsBelow t ranges = Allows (may_of t) (ranges (memory_of t) (pointers_of t))
 
--- what a call says of tables by a definition over their pointers, it says by that definition over
--- every memory that agrees with theirs at the root table's ranges and at these
+-- what a call says of tables by a definition over their pointers, it says by that definition over every memory that
+-- agrees with theirs at the root table's ranges and at these, below the root table of the same kind at the same address
 abbrev pub FootprintBelow : {H A : Type 0} {h : _} → AcpiTables H h
     → (Memory → List ℕ → Ranges) → (Memory → List ℕ → Result A AcpiError)
     → (Result A AcpiError → Type 0) → Type 0

@@ -1,4 +1,4 @@
--- Each definition is the same over every memory that agrees on its ranges.
+-- Each definition is the same over every memory that agrees on its ranges: the contracts of `acpi_laws::footprints`.
 use Rattle.std.specs.Prelude.{◌≡◌}
 use Rattle.acpi_base.specs.Memory.{Memory}
 use Rattle.acpi_base.specs.Ranges.{AgreesOn, DependsOn}

@@ -36,7 +36,7 @@ protection_of code =
     else if code == 2 then protections.Protected64K
     else protections.Other
 
--- what a table says, if its registers lie in memory
+-- what a table says, if its registers lie in memory: Address Space ID is 0
 abbrev pub info_of : HpetTable → Result HpetInfo AcpiError
 info_of t = do
   _ ← holds (t.address_space == 0) InvalidGenericAddress

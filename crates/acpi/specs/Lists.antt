@@ -21,7 +21,7 @@ own_header_at m p = do
   table ← own_table_at m p
   Ok (header_at table)
 
--- the tables of all members that are valid under their own signatures, in order
+-- the tables of all members that are valid under their own signatures, in order; one that is listed twice comes twice
 abbrev pub valid_tables : Memory → List ℕ → List (List ℕ)
 valid_tables m ps = filter_map (λ p. result_ok (own_table_at m p)) ps
 

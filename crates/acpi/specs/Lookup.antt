@@ -7,7 +7,8 @@ use Rattle.acpi_base.specs.Memory.{Memory}
 use Rattle.acpi_base.specs.Table.{Kind, table_at}
 use Rattle.acpi.specs.Later.{or_later}
 
--- the first pointer to a valid table, with that table's bytes
+-- the first pointer to a valid table, with that table's bytes, or TableMissing. What to believe is the law
+-- `LookupIsFirst`
 abbrev pub lookup : Memory → Kind → List ℕ → Result (ℕ × List ℕ) AcpiError
 lookup m k [] = Err (TableMissing k.signature)
 lookup m k (p ∷ ps) = or_later (λ table. Ok (p, table)) (table_at m k p) (lookup m k ps)

@@ -27,7 +27,7 @@ opened_of t = record {
   root = root_of t;
 }
 
--- by what leads to the root table
+-- by what leads to the root table. Each of these finds that first, and its error is that of the first step that fails
 abbrev pub opened_from : Memory → RootPointer → Result Opened AcpiError
 opened_from m place = do
   root ← root_at m place.kind place.address

@@ -52,7 +52,8 @@ function_address bus device function e =
     if nat_lt (place_in e bus device function) (2 ^ 64) then Some (place_in e bus device function)
     else None
 
--- the address of a function, of which a bus has 32 devices of 8
+-- the address of a function, of which a bus has 32 devices of 8. If the sum in the first region that holds the bus is
+-- no address, no other region is tried
 unfoldable pub pci_address : List McfgEntry → ℕ → ℕ → ℕ → ℕ → Option ℕ
 pci_address regions segment bus device function =
     if nat_lt device 32 && nat_lt function 8

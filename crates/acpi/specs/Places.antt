@@ -20,7 +20,7 @@ use Rattle.acpi.specs.Lists.{fadt_kind}
 use Rattle.acpi.specs.Lookup.{lookup}
 use Rattle.acpi_base.specs.declared.range.AddressRange.{AddressRange}
 
--- so many bytes from an address
+-- that many bytes from an address
 abbrev pub range : ℕ → ℕ → AddressRange
 range address n = record { address = address; length = n }
 

@@ -1,4 +1,5 @@
--- What calls say that answer the platform of some tables.
+-- What the four calls say that return the platform of some tables: `platform_info`, `platform_info_in`,
+-- `PlatformInfo::new` and `new_in`.
 use Rattle.std.specs.Prelude.{Result}
 use Rattle.acpi_base.specs.Steps.{GivesOrFull}
 use Rattle.acpi_base.specs.declared.error.AcpiError.{AcpiError}
@@ -9,7 +10,7 @@ use Rattle.acpi.specs.Tables.{of_tables}
 use Rattle.acpi.specs.declared.platform.PlatformInfo.{PlatformInfo}
 use Rattle.acpi.specs.declared.tables.AcpiTables.{AcpiTables}
 
--- the answer is the platform that is defined, or AllocError if memory may be asked for
+-- the answer is the platform that is defined, or AllocError, and that only if memory is asked for
 abbrev pub GivesPlatform : {A : Type 0} {H h : _} → AcpiTables H h → Result (PlatformInfo A) AcpiError
     → Type 0
 GivesPlatform t answer = GivesOrFull (of_tables t PlatformAsks) answer (of_tables t platform_of)

@@ -30,7 +30,8 @@ abbrev pub IsAscending : Memory → Type 0
 IsAscending [] = Unit {0}
 IsAscending (r ∷ m) = AllByRecursion (λ s. end_of r ≤ s.start) m × IsAscending m
 
--- the regions after one that has this start and this end
+-- the regions after one that has this start and this end. A region without bytes that starts inside that one is an
+-- Overlap too, though the two share no byte
 abbrev pub check_after : ℕ → ℕ → Memory → Result (Unit {0}) RegionError
 check_after start end [] = Ok tt
 check_after start end (r ∷ m) = do

@@ -1,4 +1,5 @@
--- What answers say if only the valid tables are known, wherever they lie.
+-- What answers say if only the valid tables are known, wherever they lie. The laws here are contracts of
+-- `acpi_laws::footprints`.
 use Rattle.std.specs.Prelude.{◌≡◌, ℕ, ◌≤◌, List, Result, Ok, Err}
 use Rattle.acpi_base.specs.declared.error.AcpiError.{AcpiError}
 use Rattle.acpi_base.specs.declared.table.signature.Signature.{Signature}

@@ -1,4 +1,5 @@
--- The root table and its pointers (ACPI 6.4, sections 5.2.7 and 5.2.8).
+-- The root table and its pointers (ACPI 6.4, sections 5.2.7 and 5.2.8). What it lists depends on its kind, whatever the
+-- revision of the RSDP is.
 use Rattle.std.specs.Prelude.{◌≡◌, ℕ, ◌<◌, ◌^◌, ◌==◌, zero, suc, if◌then◌else◌, Result}
 use Rattle.std.specs.Prelude.{List, [], ◌∷◌, ◌++◌, take, drop, length, flat_map, replicate}
 use Rattle.std.specs.List.{AllByRecursion}
@@ -32,6 +33,7 @@ root_at m kind address = table_at m (root_kind kind) address
 
 -- ---- what leads to a root table
 
+-- the revision that `revision()` returns, the kind of the root table, and its address
 abbrev pub root_pointer : ℕ → RootKind → ℕ → RootPointer
 root_pointer revision kind address = record { revision = revision; kind = kind; address = address }
 
@@ -51,12 +53,12 @@ pieces zero width bytes = []
 pieces (suc n) width [] = []
 pieces (suc n) width (b ∷ bs) = number (take width (b ∷ bs)) ∷ pieces n width (drop width (b ∷ bs))
 
--- the pointers that the bytes after a root table's header, from 36 on, encode: Entry
+-- the pointers that the bytes after a root table's header, from 36 on, encode: Entry. A short remainder is one more
 unfoldable pub pointers : ℕ → List ℕ → List ℕ
 pointers width bytes = pieces (length bytes) width bytes
 
 -- the pointers in the reader's words: they fit the width, and encoded one after the other they are the bytes, followed
--- by fewer zeros than a pointer has bytes
+-- by fewer zeros than a pointer has bytes. There is exactly one such list: the law `OnePointers`
 pub record IsPointers (width : ℕ) (bytes ps : List ℕ) : Type 0 where
   pub fit : AllByRecursion (λ p. p < 256 ^ width) ps
   pub spelled : (zeros : ℕ) × (zeros < width)

@@ -56,7 +56,8 @@ xsdt_address_of r = unless_first r r.xsdt_address
 abbrev pub ext_checksum_of : Rsdp → Option ℕ
 ext_checksum_of r = unless_first r r.ext_checksum
 
--- the root table that an RSDP leads to: the RSDT if its Revision or its XsdtAddress is 0, else the XSDT
+-- the root table that an RSDP leads to: the RSDT if its Revision or its XsdtAddress is 0, else the XSDT. So an RSDP of
+-- any revision may lead to an RSDT, whose pointers have four bytes
 abbrev pub root_of : Rsdp → RootPointer
 root_of r =
     if r.revision == 0 || r.xsdt_address == 0 then root_pointer r.revision Rsdt r.rsdt_address
@@ -103,7 +104,7 @@ check_whole b (Some n) = do
   _ ← holds (nat_le n (length b)) RsdpInvalidChecksum
   check_sum (take n b)
 
--- all checks, over the bytes at hand
+-- all checks, over the bytes at hand: what `Rsdp::validate` returns. Too few bytes are RsdpInvalidChecksum
 unfoldable pub check_rsdp : List ℕ → Result (Unit {0}) AcpiError
 check_rsdp b = do
   n ← length_of b
@@ -118,7 +119,8 @@ check_whole_at m a (Some n) = do
   whole ← lent m a n
   check_sum whole
 
--- the RSDP's 36 bytes at an address, or the refusal of the first check that fails
+-- the RSDP's 36 bytes at an address, or the error of the first check that fails. In order: 36 bytes are lent, what
+-- `length_of` checks, as many bytes as Length says are lent, and they sum to 0
 unfoldable pub rsdp_at : Memory → ℕ → Result (List ℕ) AcpiError
 rsdp_at m a = do
   b ← lent m a 36

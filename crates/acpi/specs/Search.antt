@@ -39,7 +39,7 @@ placed m = (start_of m, bytes_of m)
 abbrev pub IsCandidate : Area → ℕ → Type 0
 IsCandidate s a = (k : ℕ) × (a ≡ s.start + 16 * k) × (a + 20 ≤ s.end)
 
--- a check refuses the RSDP there
+-- no RSDP is valid there
 abbrev pub IsRefused : Memory → ℕ → Type 0
 IsRefused m a = (e : AcpiError) × (rsdp_at m a ≡ Err e)
 
@@ -84,7 +84,7 @@ IsUnlent m =
     ⊎ ((at m first_area.start (room_of first_area) ≡ None)
     ⊎ ((s : Area) × IsSecond m s × HasNone m first_area × (at m s.start (room_of s) ≡ None)))
 
--- what a search answered, seen by view, is the least valid candidate, or the refusal has its cause
+-- what a search returned, seen by view, is the least valid candidate, or the error has its cause
 abbrev pub IsSearched : {X : Type 0} → Memory → (X → ℕ × List ℕ) → Result X AcpiError → Type 0
 IsSearched m view (Ok x) = IsFound m (view x)
 IsSearched m view (Err e) = ((e ≡ MapFailed) × IsUnlent m) ⊎ ((e ≡ NoValidRsdp) × IsMissing m)
@@ -123,7 +123,8 @@ last_in m s = do
   found ← found_in m s
   or_else found (Err NoValidRsdp)
 
--- the RSDP that the areas have, or the refusal
+-- the RSDP that the areas have, or the error. What to believe is `IsSearched`: `Rsdp::search_for_on_bios` has a clause
+-- for each of the two
 unfoldable pub found_rsdp : Memory → Result (ℕ × List ℕ) AcpiError
 found_rsdp m = do
   word ← word_in m

@@ -40,8 +40,8 @@ pointers_of t = pointers (width_of (kind_of t)) (drop 36 (root_of t))
 abbrev pub of_tables {ℓ} : {A : Type ℓ} {H h : _} → AcpiTables H h → (Memory → List ℕ → A) → A
 of_tables t defined = defined (memory_of t) (pointers_of t)
 
--- in the reader's words: the bytes after the root table's header encode these pointers and no
--- others
+-- in the reader's words: the bytes after the root table's header encode these pointers and no others. Each constructor
+-- of `AcpiTables` says so
 abbrev pub SpellsPointers : {H h : _} → AcpiTables H h → Type 0
 SpellsPointers t = (ps : List ℕ)
     → IsPointers (width_of (kind_of t)) (drop 36 (root_of t)) ps ↔ (ps ≡ pointers_of t)

@@ -56,7 +56,7 @@ Makes called before [] after = after ≡ before
 Makes {Mailbox = Mailbox} called before (call ∷ calls) after =
     (next : Mailbox) × called before call next × Makes called next calls after
 
--- so many reads of the command
+-- that many reads of the command
 abbrev pub reads : ℕ → List MailboxCall
 reads n = replicate n Read
 

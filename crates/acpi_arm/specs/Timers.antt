@@ -19,7 +19,8 @@ use Rattle.acpi_arm.specs.declared.timers.SbsaWatchdog.{SbsaWatchdog}
 
 -- ---- one structure
 
--- it begins with Type, one byte at 0, and Length, two bytes at 1
+-- it begins with Type, one byte at 0, and Length, two bytes at 1. The least lengths are those of a GT Block, type 0,
+-- and of an Arm Generic Watchdog, type 1
 abbrev pub timers_layout : EntryLayout 2
 timers_layout = record {
   kind_place = record { at = 0; width = One };  -- Type
@@ -28,7 +29,7 @@ timers_layout = record {
   least_of_others = 4;
 }
 
--- so many of them
+-- at most that many of them
 abbrev pub timers_grammar : ℕ → Grammar 2
 timers_grammar count = record { layout = timers_layout; most = Some count }
 
@@ -52,7 +53,7 @@ frame_at b = record {
   is_always_on = has_bit (field_of b 36 4) 1;  -- GTx Common Flags, bit 1: Always-on Capability
 }
 
--- so many frames of 40 bytes, one after the other
+-- that many frames of 40 bytes, one after the other
 abbrev pub frames_in : ℕ → List ℕ → List GtFrame
 frames_in zero bytes = []
 frames_in (suc n) bytes = frame_at bytes ∷ frames_in n (drop 40 bytes)
@@ -120,7 +121,7 @@ abbrev pub sound_front : List (List ℕ) → List (List ℕ)
 sound_front [] = []
 sound_front (e ∷ es) = if is_sound e then e ∷ sound_front es else []
 
--- so many structures in these bytes, up to the first malformed one
+-- that many structures in these bytes, up to the first malformed one
 abbrev pub structures_in : ℕ → List ℕ → List (List ℕ)
 structures_in count bytes = sound_front (cut (timers_grammar count) bytes).0
 
@@ -160,7 +161,7 @@ missing_left s = missing_in s.left s.rest.now
 abbrev pub has_ended : PlatformTimerIter → Bool
 has_ended s = s.ended
 
--- whether it has, and structures are missing
+-- whether it has, and structures are missing: what `ended_malformed` returns
 abbrev pub is_malformed : PlatformTimerIter → Bool
 is_malformed s = s.ended && nat_lt 0 s.left
 

@@ -55,7 +55,8 @@ access_sizes = Undefined ∷ ByteAccess ∷ WordAccess ∷ DWordAccess ∷ QWord
 abbrev pub access_size_of : ℕ → Result AccessSize AcpiError
 access_size_of code = ok_or (find (λ s. size_code s == code) access_sizes) InvalidGenericAddress
 
--- the address that the bytes encode
+-- the address that the bytes encode. A code that is reserved is an error: the laws `SpacesDecode` and `SizesDecode`
+-- (`acpi_laws`) say that decoding gives the one value that has a code
 unfoldable pub generic_address_of : List ℕ → Result GenericAddress AcpiError
 generic_address_of raw = do
   space ← space_of (field_of raw 0 1)  -- Address Space ID

@@ -10,7 +10,7 @@ abbrev pub number : List ℕ → ℕ
 number [] = 0
 number (b ∷ bs) = b + 256 * number bs
 
--- a number in so many bytes, the lowest byte first
+-- a number in that many bytes, the lowest byte first
 unfoldable pub spelling : ℕ → ℕ → List ℕ
 spelling zero n = []
 spelling (suc width) n = n % 256 ∷ spelling width (n / 256)
@@ -23,7 +23,7 @@ part bytes offset n = take n (drop offset bytes)
 abbrev pub filled_part : List ℕ → ℕ → ℕ → List ℕ
 filled_part bytes offset n = part bytes offset n ++ replicate (n - length (part bytes offset n)) 0
 
--- the number of the n bytes at an offset: a byte past the end adds nothing, as a zero would
+-- the number of the n bytes at an offset: a byte past the end adds nothing, as a zero would (law `FieldPastEnd`)
 unfoldable pub field_of : List ℕ → ℕ → ℕ → ℕ
 field_of bytes offset n = number (part bytes offset n)
 

@@ -41,12 +41,12 @@ pub record IsEntry {n : ℕ} (l : EntryLayout n) (e : List ℕ) : Type 0 where
 
 -- ---- all entries
 
--- so many are no more than there may be
+-- that many are no more than there may be
 abbrev pub IsFew : Option ℕ → ℕ → Type 0
 IsFew most n = (bound : ℕ) → most ≡ Some bound → n ≤ bound
 
--- the bytes are the entries one after the other, and a rest that begins with no entry, unless there
--- are as many as there may be
+-- the bytes are the entries one after the other, and a rest that begins with no entry, unless there are as many as
+-- there may be. What to believe of `cut` is that it is such a cut, and the only one (`EntryLaws`)
 pub record IsCut {n : ℕ} (g : Grammar n) (bytes : List ℕ) (es : List (List ℕ)) (rest : List ℕ) : Type 0 where
   pub whole : bytes ≡ concat es ++ rest
   pub entries : AllByRecursion (IsEntry g.layout) es
@@ -79,7 +79,7 @@ next_front g bytes = if is_full g.most then None else front g.layout bytes
 abbrev pub with_entry : List ℕ → List (List ℕ) × List ℕ → List (List ℕ) × List ℕ
 with_entry e others = (e ∷ others.0, others.1)
 
--- at most so many entries, and the bytes after them
+-- at most that many entries, and the bytes after them
 abbrev pub cut_within : {n : ℕ} → EntryLayout n → ℕ → List ℕ → List (List ℕ) × List ℕ
 cut_within l zero bytes = ([], bytes)
 cut_within l (suc most) bytes = elim (front l bytes) [

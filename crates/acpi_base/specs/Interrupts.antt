@@ -104,9 +104,9 @@ io_apic_of e = record {
   global_system_interrupt_base = e.global_system_interrupt_base;
 }
 
--- what an entry says, or why it is refused: the types of SAPICs and of the GIC always are. Enabled is bit 0 of the
--- Local APIC Flags (section 5.2.12.2), which a Processor Local x2APIC has too. The ACPI Processor UID that stands for
--- all processors is 0xff in a Local APIC NMI, and 0xffffffff in a Local x2APIC NMI
+-- what an entry says, or why it is refused: the types of SAPICs (Platform Interrupt Sources among them) and of the GIC
+-- always are. Enabled is bit 0 of the Local APIC Flags (section 5.2.12.2), which a Processor Local x2APIC has too. The
+-- ACPI Processor UID that stands for all processors is 0xff in a Local APIC NMI, and 0xffffffff in a Local x2APIC NMI
 unfoldable pub item_of : MadtEntry → Result MadtItem MadtError
 item_of (variants.LocalApic e) = Ok (item.Processor e.processor_id e.apic_id (has_bit e.flags 0))
 item_of (variants.LocalX2Apic e) = Ok (item.Processor e.processor_uid e.x2apic_id (has_bit e.flags 0))

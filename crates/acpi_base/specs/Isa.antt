@@ -54,7 +54,8 @@ straight polarity trigger_mode number = record {
   trigger_mode = trigger_mode;
 }
 
--- one of the 16 ISA interrupts: by its override, else one to one, unless that input is taken
+-- one of the 16 ISA interrupts: by its override, else one to one, unless that input is taken. Flags that conform to the
+-- bus mean ActiveHigh and Edge
 abbrev pub isa_interrupt : List InterruptSourceOverride → ℕ → Option IsaInterrupt
 isa_interrupt overrides irq =
     if nat_lt 15 irq then None
@@ -65,7 +66,8 @@ isa_interrupt overrides irq =
           else Some (straight polarity.ActiveHigh trigger.Edge irq)
     ]
 
--- the one of the machine's events: below 16 by its override, else one to one
+-- the one of the machine's events: below 16 by its override, else one to one, also if that input is taken. Flags that
+-- conform to the bus mean ActiveLow and Level
 abbrev pub sci_interrupt : List InterruptSourceOverride → ℕ → IsaInterrupt
 sci_interrupt overrides sci =
     elim (if nat_lt sci 16 then override_for overrides sci else None) [

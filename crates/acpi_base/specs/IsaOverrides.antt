@@ -8,7 +8,8 @@ pub record Gathered : Type 0 where
   pub own : List (Option InterruptSourceOverride)
   pub leads : List ℕ
 
--- this is gathered out of these overrides
+-- this is gathered out of these overrides: enough for each ISA interrupt, so that a call needs one walk along them and
+-- no list of them
 pub record IsGathered (overrides : List InterruptSourceOverride) (g : Gathered) : Type 0 where
   pub own : (irq : ℕ) → irq < 16 → slice_index_or g.own irq None ≡ override_for overrides irq
   pub leads : (source irq : ℕ) → irq < 16

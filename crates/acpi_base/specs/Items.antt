@@ -26,7 +26,7 @@ item_said e = option_and_then result_ok (said_of e)
 abbrev pub said_in : List ℕ → List (Result MadtItem MadtError)
 said_in bytes = filter_map said_of (cut madt_grammar bytes).0
 
--- how many there are of each, if so many are counted and these are after them
+-- how many there are of each, if these counts have been made and these items come after them
 abbrev pub counted_behind : Counts → List MadtItem → Counts
 counted_behind c items = record {
   processors = c.processors + length (filter_map (processor_in true) items);

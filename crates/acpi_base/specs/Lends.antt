@@ -1,4 +1,5 @@
--- What an owned slice ends as, once what was lent of it to be written is returned.
+-- What an owned slice ends as, once a mutable borrow of its items ends: they are those that were last written through
+-- it, and as many as before.
 use Rattle.std.specs.Prelude.{List, length, take, drop, ◌++◌}
 use Rattle.std.specs.Borrow.{Lends, Fml, RattleType, MutBor, Array}
 use Rattle.std.specs.declared.alloc.Allocator.{Ghosts}

@@ -1,4 +1,5 @@
--- The fields of the MADT's entries, each at its place in the entry (ACPI 6.4, section 5.2.12).
+-- The fields of the MADT's entries, each at its place in the entry (ACPI 6.4, section 5.2.12). A field past the end of
+-- an entry is read as zeros.
 use Rattle.std.specs.Prelude.{ℕ, List}
 use Rattle.acpi_base.specs.Bytes.{field_of}
 use Rattle.acpi_base.specs.Extended.{extended_at}

@@ -1,4 +1,5 @@
--- What a walk along the MADT's entries shows.
+-- What a walk along the MADT's entries shows. It begins with the table's `entries_of` and the rest of its `cut_of`, and
+-- each step gives the first entry that is left.
 use Rattle.std.specs.Prelude.{◌≡◌, ◌&&◌, Bool, true, false, ℕ, List, [], ◌∷◌, ◌≤◌, Option, Some, None, slice_index}
 use Rattle.std.specs.List.{filter_map}
 use Rattle.acpi_base.specs.Entries.{cut}
@@ -32,7 +33,7 @@ abbrev pub is_left : List ℕ → Bool
 is_left [] = false
 is_left (b ∷ rest) = true
 
--- whether it ended before the table did
+-- whether it ended before the table did: what `ended_malformed` returns, which is no until the walk has given None
 abbrev pub is_malformed : MadtEntryIter → Bool
 is_malformed s = s.ended && is_left s.rest.now
 

@@ -20,7 +20,7 @@ mcfg_entry_at b = record {
   bus_number_end = field_of b 11 1;  -- End Bus Number
 }
 
--- so many entries of 16 bytes, one after the other
+-- that many entries of 16 bytes, one after the other
 abbrev pub mcfg_entries_in : ℕ → List ℕ → List McfgEntry
 mcfg_entries_in zero bytes = []
 mcfg_entries_in (suc n) bytes = mcfg_entry_at bytes ∷ mcfg_entries_in n (drop 16 bytes)

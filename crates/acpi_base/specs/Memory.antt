@@ -38,7 +38,8 @@ unfoldable pub rest_from : Memory → ℕ → List ℕ
 rest_from [] a = []
 rest_from (r ∷ m) a = if lies_in r a then drop (a - r.start) r.bytes else rest_from m a
 
--- the n bytes from an address, if the whole range lies in one region
+-- the n bytes from an address, if the whole range lies in one region: two regions that adjoin are still two, and a
+-- range across their border is not lent. What to believe is the law `LentIsInside` (`Laws`)
 unfoldable pub at : Memory → ℕ → ℕ → Option (List ℕ)
 at m a n = if nat_le n (length (rest_from m a)) then Some (take n (rest_from m a)) else None
 

@@ -97,7 +97,8 @@ abbrev pub last_address : ℕ → List ℕ → ℕ
 last_address address [] = address
 last_address address (x ∷ more) = last_address x more
 
--- what the table and its entries say of APICs
+-- what the table and its entries say of APICs: each list has the items of one sort, in order, and the address of the
+-- local APICs is the last override's, or else the table's
 abbrev pub apic_of : {A : Type 0} → Madt → List MadtItem → Apic A
 apic_of madt items = record {
   local_apic_address = last_address madt.local_apic_address (filter_map local_apic_address_in items);
@@ -136,7 +137,7 @@ model_with madt table = elim (fault_of table) [
   | None ↦ Ok (model_from madt (items_of table))
 ]
 
--- the model of a table, or the first refusal
+-- the model of a table, or InvalidMadt with the first fault
 abbrev pub model_of : {A : Type 0} → List ℕ → Result (Model A) AcpiError
 model_of table = model_with (madt_at table) table
 

@@ -1,4 +1,5 @@
--- The ranges of a memory that an answer depends on.
+-- The ranges of a memory that an answer depends on. Each definition over a memory has its ranges, which follow its
+-- steps: they go on after a step that succeeds, and end at one that fails.
 use Rattle.std.specs.Prelude.{◌≡◌, ℕ, ◌==◌, ◌&&◌, Bool, true, List, [], ◌∷◌, All, Result, Ok, Err}
 use Rattle.std.specs.List.{AllByRecursion, list_any}
 use Rattle.acpi_base.specs.declared.table.signature.Signature.{Signature}
@@ -15,7 +16,7 @@ Ranges = List (ℕ × ℕ)
 abbrev pub Allows : (ℕ → ℕ → Bool) → Ranges → Type 0
 Allows may ranges = All (λ r. may r.0 r.1 ≡ true) ranges
 
--- whether so many bytes at an address are one of these ranges
+-- whether this is one of these ranges: the same address, with exactly that number of bytes
 abbrev pub is_listed : Ranges → ℕ → ℕ → Bool
 is_listed ranges a n = list_any (λ r. r.0 == a && r.1 == n) ranges
 
@@ -23,13 +24,14 @@ is_listed ranges a n = list_any (λ r. r.0 == a && r.1 == n) ranges
 abbrev pub AgreesOn : Memory → Memory → Ranges → Type 0
 AgreesOn m n ranges = AllByRecursion (λ r. at m r.0 r.1 ≡ at n r.0 r.1) ranges
 
--- a definition is the same over every memory that agrees on its ranges
+-- a definition is the same over every memory that agrees on its ranges: a law of definitions, which calls say of
+-- themselves by `Footprint`
 abbrev pub DependsOn : {X A : Type 0} → (Memory → X → Ranges) → (Memory → X → A) → Type 0
 DependsOn ranges defined = (m n : Memory) (x : _) → AgreesOn m n (ranges m x)
     → defined n x ≡ defined m x
 
--- what a call says by a definition, it says by that definition over every memory that agrees with
--- this one at these ranges
+-- what a call says by a definition, it says by that definition over every memory that agrees with this one at these
+-- ranges. The other memory is any list of regions: they need not be disjoint, and no call is passed it
 abbrev pub Footprint : {A : Type 0} → Memory → Ranges → (Memory → A) → (A → Type 0) → Type 0
 Footprint m ranges defined Says = (n : Memory) → AgreesOn m n ranges → Says (defined n)
 

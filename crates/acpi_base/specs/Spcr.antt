@@ -14,7 +14,7 @@ use Rattle.acpi_base.specs.declared.tables.spcr.Spcr.{Spcr}
 use Rattle.acpi_base.specs.declared.tables.spcr.interface.SpcrInterfaceType.{SpcrInterfaceType}
 use Rattle.acpi_base.specs.declared.tables.spcr.interface.SpcrInterfaceType.TheVariants as interface
 
--- what a table's bytes mean
+-- what a table's bytes mean; a field that reaches past the end is read as if zeros followed
 unfoldable pub spcr_at : List ℕ → Spcr
 spcr_at b = record {
   header = header_at b;

@@ -1,4 +1,5 @@
--- Checks in a row, of which the first refusal counts, and calls that answer what is defined.
+-- Checks in a row, written with `do`: each line is a check or a value, and the first that fails gives the error. And
+-- calls that return what is defined.
 use Rattle.std.specs.Prelude.{◌≡◌, ◌⊎◌, ℕ, Bool, List, Result, Ok, Err, if◌then◌else◌}
 use Rattle.std.specs.Option.{ok_or}
 use Rattle.acpi_base.specs.declared.error.AcpiError.{AcpiError}
@@ -14,15 +15,16 @@ abbrev pub ◌>>=◌ : {A B E : Type 0} → Result A E → (A → Result B E) �
 abbrev pub holds : {E : Type 0} → Bool → E → Result (Unit {0}) E
 holds b e = if b then Ok tt else Err e
 
--- the n bytes at an address, or the refusal
+-- the n bytes at an address, or MapFailed
 abbrev pub lent : Memory → ℕ → ℕ → Result (List ℕ) AcpiError
 lent m a n = ok_or (at m a n) MapFailed
 
--- what a call answered, seen by view, is what is said by the definition: its value, or its refusal
+-- what a call returned, seen by view, is what the definition says: its value, or its error. So one clause states both
+-- outcomes, each error, and their order
 abbrev pub Gives : {X Y E : Type 0} → (X → Y) → Result X E → Result Y E → Type 0
 Gives view (Ok x) said = said ≡ Ok (view x)
 Gives view (Err e) said = said ≡ Err e
 
--- what a call answered is what is said by the definition, or AllocError if memory may be asked for
+-- what a call returned is what the definition says, or AllocError, and that only if `Asks` holds
 abbrev pub GivesOrFull : {X : Type 0} → Type 0 → Result X AcpiError → Result X AcpiError → Type 0
 GivesOrFull Asks answer said = (answer ≡ said) ⊎ (Asks × (answer ≡ Err AllocError))

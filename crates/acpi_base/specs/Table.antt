@@ -8,7 +8,8 @@ use Rattle.acpi_base.specs.Header.{header_at, check_names, check_table}
 use Rattle.acpi_base.specs.Memory.{Memory}
 use Rattle.acpi_base.specs.Steps.{◌>>=◌, holds, lent}
 
--- what a type of tables asks for: its signature, its least length, and its check of a table's bytes
+-- what a type of tables asks for: its signature, its least length, and its check of a table's bytes. A table type `T`
+-- has its own, `T.kind`: its two constants, and the meaning of its `validate`
 pub record Kind : Type 0 where
   pub signature : Signature
   pub least : ℕ
@@ -45,13 +46,14 @@ table_of m k p head = do
   _ ← k.check table
   Ok table
 
--- the bytes of the table at an address, or the refusal of the first check that fails
+-- the bytes of the table at an address, or the error of the first check that fails. In order: 36 bytes are lent, the
+-- names are right, the length is at least the least, that many bytes are lent, the kind's own check accepts them
 unfoldable pub table_at : Memory → Kind → ℕ → Result (List ℕ) AcpiError
 table_at m k p = do
   head ← lent m p 36
   table_of m k p head
 
--- the table at an address under the signature that it has itself, or the first refusal
+-- the table at an address under the signature that its own header has, or the first error
 unfoldable pub own_table_at : Memory → ℕ → Result (List ℕ) AcpiError
 own_table_at m p = do
   head ← lent m p 36

@@ -4,7 +4,7 @@ use Rattle.std.specs.Char.{is_digit}
 use Rattle.std.specs.List.{list_all, starts_with}
 use Rattle.std.specs.Str.Parse.{digits_value}
 
--- the number that one to so many digits of a base encode, the highest first
+-- the number that digits of a base encode, the highest first: at least one, and at most that many
 abbrev pub numeral : ℕ → ℕ → List ℕ → Option ℕ
 numeral base most digits =
     if nat_le 1 (length digits)

@@ -45,7 +45,7 @@ abbrev pub root_of : List (List ℕ) → Option Root
 root_of (form ∷ rest) = form_root form rest
 root_of [] = None
 
--- the root table that it leads to, or the refusal
+-- the root table that it leads to, or the error
 abbrev pub opened_for : Memory → Root → Result Opened AcpiError
 opened_for m (Rsdt revision address) = opened_at m (revision, address)
 opened_for m (Rsdp address) = opened_by_rsdp m address

@@ -20,7 +20,7 @@ bgrt_at b = record {
 
 -- what the fields of a table hold that calls show
 
--- Status: bit 0 is Displayed, bits 1 and 2 are Orientation Offset
+-- Status: bit 0 is Displayed, bits 1 and 2 are Orientation Offset, the number of times 90 degrees
 abbrev pub status_of : Bgrt → ℕ
 status_of g = g.status
 

@@ -11,7 +11,8 @@ use Rattle.acpi_fixed.specs.declared.fadt.PowerProfile.TheVariants as profiles
 use Rattle.acpi_fixed.specs.declared.fadt.registers.Registers.{Registers}
 use Rattle.acpi_fixed.specs.Registers.{address_or, extended_number, registers_at, timer_block_of}
 
--- what a table's bytes mean, in the order in which they lie
+-- what a table's bytes mean, in the order in which they lie. A plain field that reaches past the end is read as if
+-- zeros followed; an extended one is there only if the table has it whole (`Registers`)
 unfoldable pub fadt_at : List ℕ → Fadt
 fadt_at b = record {
   header = header_at b;
@@ -64,12 +65,14 @@ profile_for code =
 abbrev pub profile_of : Fadt → PowerProfile
 profile_of f = profile_for f.preferred_pm_profile
 
+-- the FACS: X_FIRMWARE_CTRL if that is not 0, else FIRMWARE_CTRL; and the DSDT: X_DSDT, else DSDT
 abbrev pub facs_address_of : Fadt → Result ℕ AcpiError
 facs_address_of f = address_or refusal.InvalidFacsAddress f.x_firmware_ctrl f.firmware_ctrl
 
 abbrev pub dsdt_address_of : Fadt → Result ℕ AcpiError
 dsdt_address_of f = address_or refusal.InvalidDsdtAddress f.x_dsdt_address f.dsdt_address
 
+-- of a table's bytes they are its `registers_at`: the law `registers_are_the_tables` (`acpi_laws::fixed`)
 abbrev pub registers_of : Fadt → Registers
 registers_of f = f.registers
 

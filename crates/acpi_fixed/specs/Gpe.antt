@@ -11,7 +11,7 @@ use Rattle.acpi_fixed.specs.declared.fadt.registers.gpe.GpeBlock.{GpeBlock}
 use Rattle.acpi_fixed.specs.Fadt.{registers_of}
 use Rattle.acpi_fixed.specs.Registers.{port_of, usable_extended}
 
--- so many bytes at an extended address: of its fields the space and the address count
+-- that many bytes at an extended address: of its fields the space and the address count
 abbrev pub block_from : List ℕ → ℕ → Result GpeBlock AcpiError
 block_from raw byte_length = do
   space ← space_of (field_of raw 0 1)  -- Address Space ID (section 5.2.3.2)

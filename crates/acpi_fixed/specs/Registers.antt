@@ -18,7 +18,8 @@ use Rattle.acpi_fixed.specs.declared.fadt.registers.Registers.{Registers}
 abbrev pub has_extended : List ℕ → ℕ → ℕ → Bool
 has_extended b offset n = nat_le 2 (field_of b 8 1) && nat_le (offset + n) (length b)
 
--- a number of eight bytes, 0 if the table doesn't have it
+-- a number of eight bytes, 0 if the table doesn't have it: for a number, as for a block's address, no field and a field
+-- of 0 mean the same (section 5.2.9)
 abbrev pub extended_number : List ℕ → ℕ → ℕ
 extended_number b offset = if has_extended b offset 8 then field_of b offset 8 else 0
 
@@ -66,7 +67,7 @@ usable_extended raw = if field_of raw 4 8 == 0 then None else Some raw
 abbrev pub port_of : RegisterBlock → ℕ
 port_of r = field_of r.port 0 4
 
--- ports from an address on, eight bits for each byte
+-- ports from an address on, eight bits for each byte: fewer than 32 bytes, since the width in bits is one byte
 abbrev pub ports_at : ℕ → ℕ → Result GenericAddress AcpiError
 ports_at address size = do
   _ ← holds (nat_lt size 32) InvalidGenericAddress
@@ -78,7 +79,8 @@ ports_at address size = do
     address = address;
   })
 
--- the extended block if its address is not 0, else the ports
+-- the extended block if its address is not 0, else the ports. Each of the eight getters of blocks returns this, or one
+-- of the two definitions after it, for one block of `registers_of`
 abbrev pub block_of : RegisterBlock → Result GenericAddress AcpiError
 block_of r =
     option_map_or generic_address_of (usable_extended r.extended) (ports_at (port_of r) r.size)

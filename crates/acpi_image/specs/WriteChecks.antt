@@ -56,7 +56,7 @@ written p = do
   _ ← check_plan p
   Ok (flat_map record_spelling (records_of p))
 
--- what a call answered, seen by view, is what is defined, or OutOfMemory if nothing is refused
+-- what a call returned, seen by view, is what is defined, or OutOfMemory, and that only if no check fails
 abbrev pub WritesOrRunsOut : {X : Type 0}
     → (X → List ℕ) → Result X WriteError → Result (List ℕ) WriteError → Type 0
 WritesOrRunsOut view (Ok file) said = said ≡ Ok (view file)

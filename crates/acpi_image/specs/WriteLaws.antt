@@ -50,11 +50,12 @@ pub record IsWritten (p : Plan) (file : List ℕ) : Type 0 where
   pub tables : valid_tables (records_of p) (pointers_of p) ≡ tables_of p
   pub sums : AllByRecursion (λ table. sum_of table ≡ 0) (tables_of p)
 
+-- so it is of every file that is defined, and `write_image` says it of the file that it returns
 abbrev pub WrittenIsRead : Type 0
 WrittenIsRead = (p : Plan) (file : List ℕ) → IsBytes file → written p ≡ Ok file → IsWritten p file
 
--- what a definition says of every root table, in any memory, that leads to the tables of a plan, it
--- says of the image that is written
+-- what a definition says of every root table, in any memory, that leads to the tables of a plan, it says of the image
+-- that is written: a law of the headers, the platform, the HPET and the PCI regions (`acpi_image::laws::written`)
 abbrev pub SaysOfTables : {A : Type 0} → (Memory → List ℕ → Result A AcpiError) → Type 0
 SaysOfTables defined = (p : Plan) (file : List ℕ) → IsBytes file → written p ≡ Ok file
     → (n : Memory) (kind : RootKind) (address : ℕ)

@@ -66,7 +66,7 @@ rsdp_to revision root =
 
 -- ---- the root table
 
--- how many bytes it has with so many pointers
+-- how many bytes it has with that many pointers
 abbrev pub root_length : RootKind → ℕ → ℕ
 root_length kind count = 36 + width_of kind * count
 

@@ -63,7 +63,8 @@ records_with granted file = records_from granted (length file) [] file
 abbrev pub ample : ℕ → Bool
 ample kept = true
 
--- the regions of a file, if there is memory for all of them, or the first refusal
+-- the regions of a file, if there is memory for all of them, or the first error in the order of the records. What to
+-- believe is `IsImage`: `MemoryImage::from_bytes` says that these are the one memory that the file encodes
 abbrev pub records_in : List ℕ → Result Memory ImageError
 records_in file = records_with ample file
 
@@ -78,7 +79,7 @@ Refuses file refusal.Truncated said = said ≡ Err refusal.Truncated
 Refuses file refusal.EndTooLarge said = said ≡ Err refusal.EndTooLarge
 Refuses file refusal.Overlap said = said ≡ Err refusal.Overlap
 
--- what a call answered to a file, seen by view, is what the definition says, or OutOfMemory if memory can run out
+-- what a call returned for a file, seen by view, is what the definition says, or OutOfMemory if memory can run out
 abbrev pub GivesOrRunsOut : {X Y : Type 0}
     → List ℕ → (X → Y) → Result X ImageError → Result Y ImageError → Type 0
 GivesOrRunsOut file view (Ok x) said = said ≡ Ok (view x)

@@ -1,4 +1,5 @@
--- What holds of the members of a root table, and of the ranges in which the tables lie.
+-- What holds of the members of a root table, and of the ranges in which the tables lie: the contracts of
+-- `acpi_laws::places`.
 use Rattle.std.specs.Prelude.{◌≡◌, ◌⊎◌, ℕ, ◌+◌, ◌≤◌, List, [], ◌∷◌, IsErr, Ok, filter_map, length, map, slice_get}
 use Rattle.std.specs.List.{AllByRecursion}
 use Rattle.std.specs.Result.{result_ok}
@@ -39,7 +40,7 @@ FoundBySignature = (m : Memory) (k : Kind) (ps : List ℕ)
 
 -- ---- the ranges in which the tables lie
 
--- so many bytes at an address lie in a range
+-- that many bytes at an address lie in a range
 abbrev pub LiesIn : ℕ × ℕ → AddressRange → Type 0
 LiesIn asked r = (r.address ≤ asked.0) × (asked.0 + asked.1 ≤ r.address + r.length)
 

@@ -1,4 +1,5 @@
--- Two memories written out. They differ, and agree on the ranges of the tables in them.
+-- Two memories written out. They differ, and agree on the ranges of the tables in them: an example shows that a law
+-- isn't empty. Each is a contract of `acpi_laws::examples`.
 use Rattle.std.specs.Prelude.{◌≡◌, ℕ, List, [], ◌∷◌, ◌++◌, codes, replicate, Some, Result, Ok, Err}
 use Rattle.std.specs.List.{AllByRecursion}
 use Rattle.acpi_base.specs.declared.error.AcpiError.{AcpiError}

@@ -49,7 +49,7 @@ abbrev pub is_used_up : List ℕ → Bool
 is_used_up [] = true
 is_used_up (b ∷ rest) = false
 
--- the ranges, if the entries take all bytes of the table and each range ends below 2^64
+-- the ranges, if the entries take all bytes of the table and then each range ends below 2^64
 abbrev pub affinities_of : List ℕ → Result (List MemoryRange) NumaError
 affinities_of table = do
   _ ← holds (is_used_up (cut_of table).1) InvalidEntryLength
@@ -70,7 +70,7 @@ SomeRange _ = ⊥
 abbrev pub srat_kind : Kind
 srat_kind = sdt_kind SRAT 48
 
--- what the first valid SRAT says
+-- what the first valid SRAT says, inside the lookup's own answer
 abbrev pub found_affinities : Memory → List ℕ → Result (Result (List MemoryRange) NumaError) AcpiError
 found_affinities m ps = do
   found ← lookup m srat_kind ps

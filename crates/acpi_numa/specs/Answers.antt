@@ -5,11 +5,11 @@ use Rattle.acpi_base.specs.declared.error.AcpiError.TheVariants.{AllocError}
 use Rattle.acpi_numa.specs.declared.error.NumaError.{NumaError}
 use Rattle.acpi_numa.specs.declared.error.NumaError.TheVariants.{Acpi}
 
--- what is said of a table, or why there is no table
+-- what is said of a table, or why there is no table: an error of the lookup becomes `Acpi` of it
 abbrev pub joined : {A : Type 0} → Result (Result A NumaError) AcpiError → Result A NumaError
 joined (Ok said) = said
 joined (Err e) = Err (Acpi e)
 
--- what a call answered is what is said by the definition, or AllocError if memory may be asked for
+-- what a call returned is what the definition says, or AllocError, and that only if `Asks` holds
 abbrev pub AnswersOrFull : {X : Type 0} → Type 0 → Result X NumaError → Result X NumaError → Type 0
 AnswersOrFull Asks answer said = (answer ≡ said) ⊎ (Asks × (answer ≡ Err (Acpi AllocError)))

@@ -14,7 +14,7 @@ abbrev pub localities_of : List ℕ → ℕ
 localities_of table = field_of table 36 8
 
 -- Entry[from][to], the distance from one of n localities to another: where it stands, row by row after the 44 fixed
--- bytes, a byte for each pair
+-- bytes, a byte for each pair. Numbers here don't wrap: no table has a place of 2^64 or above
 abbrev pub place_of : ℕ → ℕ → ℕ → ℕ
 place_of n from to = 44 + from * n + to
 

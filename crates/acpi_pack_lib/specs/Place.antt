@@ -10,15 +10,15 @@ use Rattle.acpi_pack_lib.specs.declared.error.Refusal.TheVariants.{NoRoom}
 abbrev pub aligned : ℕ → ℕ
 aligned address = (address + 15) / 16 * 16
 
--- the first such address from which so many bytes lie before or after a region, as far as the
--- least multiple itself or the one after the region is tried
+-- the first such address from which that many bytes lie before or after a region: the least multiple itself, or else
+-- the least at or above the region's end
 unfoldable pub start_at : Region → ℕ → ℕ → ℕ
 start_at fixed from count =
     if nat_le (aligned from + count) fixed.start || nat_le (end_of fixed) (aligned from)
     then aligned from
     else aligned (end_of fixed)
 
--- the address of so many bytes, if they end below 2^64
+-- the address of that many bytes, if they end below 2^64
 unfoldable pub place_at : Region → ℕ → ℕ → Option ℕ
 place_at fixed from count =
     if nat_lt (start_at fixed from count + count) (2 ^ 64) then Some (start_at fixed from count)

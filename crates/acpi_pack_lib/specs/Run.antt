@@ -61,7 +61,8 @@ IsReport (Some r) files (outcome.Refused e) text =
     RefusesOrRunsOut (packed_by r.addresses files) e × (text ≡ refused_line r e)
 IsReport request files said text = ⊥
 
--- what a run prints and comes to: it adds the text to what was printed, and that text alone
+-- what a run prints and comes to: it adds the text to what was printed, and that text alone. Nothing is said if `run`
+-- itself returns an error: a write to standard error, or memory for the lines, was refused
 abbrev pub Ends : Option Request → List (Option (List ℕ)) → Outcome → Option (List ℕ) → Option (List ℕ)
     → Type 0
 Ends request files said old new = (text : List ℕ) × IsReport request files said text × Appends old new text

@@ -1,4 +1,4 @@
--- The lines that are printed: their words, and the values between.
+-- The lines that are printed: their words, and the values between. A text is a list of bytes.
 use Rattle.std.specs.Prelude.{◌≡◌, ◌⊎◌, ℕ, ◌*◌, Bool, false, List, [], ◌∷◌, ◌++◌, flat_map, codes, decimal, Option, Some, None, Result, Ok, Err, if◌then◌else◌}
 use Rattle.std.specs.Fmt.{digits}
 use Rattle.acpi_base.specs.Bits.{bits_of, has_bit}

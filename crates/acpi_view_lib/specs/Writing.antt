@@ -1,4 +1,6 @@
--- What a writer has grown by, and what is still to be written.
+-- What a writer has grown by, and what is still to be written. The bytes that a writer has taken are std's `contents`,
+-- if they are known: of a vector, but not of a terminal. `Appends` says that known bytes grew by exactly a text, and
+-- nothing of others.
 use Rattle.std.specs.Prelude.{ℕ, List, Option}
 use Rattle.std.specs.Io.KnownBytes.{Appends}
 
