@@ -202,7 +202,7 @@ struct zacpi_fault {
     uint64_t address;   /* as the root table lists it */
     zacpi_status status; /* why it is passed over: ZACPI_MAP_FAILED, or 9 to 12 of enum zacpi_refusal */
 };
-struct zacpi_aml {
+struct zacpi_aml_table {
     uint64_t address; /* of the first byte after the table's 36 bytes of header */
     uint32_t length;  /* Length less 36 */
 };
@@ -248,12 +248,12 @@ zacpi_status zacpi_list_faults(const struct zacpi_source *source, struct zacpi_s
  * ZACPI_TABLE_MISSING "FACP", ZACPI_INVALID_DSDT_ADDRESS, and what the table there is refused with: ZACPI_MAP_FAILED if 36
  * bytes aren't lent, 8 to 11 of enum zacpi_refusal, ZACPI_MAP_FAILED if as many bytes as its header says aren't lent,
  * ZACPI_SDT_INVALID_CHECKSUM. Those from 8 on carry "DSDT". */
-zacpi_status zacpi_dsdt(const struct zacpi_source *source, struct zacpi_aml *out, struct zacpi_signature *named);
+zacpi_status zacpi_dsdt(const struct zacpi_source *source, struct zacpi_aml_table *out, struct zacpi_signature *named);
 
 /* The AML of each valid SSDT, in the order of the root table (section 5.2.11.2). Refuses nothing more than what stands
  * at the top. */
-zacpi_status zacpi_list_ssdts(const struct zacpi_source *source, struct zacpi_aml *out, size_t room, size_t *count,
-                            struct zacpi_signature *named);
+zacpi_status zacpi_list_ssdts(const struct zacpi_source *source, struct zacpi_aml_table *out, size_t room,
+                            size_t *count, struct zacpi_signature *named);
 
 /* The memory that the tables take, and that isn't to be given away: the root table, each listed table that is valid
  * under its own signature, in order, then the DSDT of the first valid FADT if it is valid, and that FADT's FACS if it
@@ -281,7 +281,7 @@ struct zacpi_pm_timer {
     uint8_t present;                  /* 0: there is none. 1: it is at `base` */
     uint8_t is_32_bit;                /* TMR_VAL_EXT: 1 if it counts in 32 bits, 0 if in 24. 0 unless it is present */
 };
-struct zacpi_hpet_block {
+struct zacpi_hpet_info {
     uint64_t base_address;         /* BASE_ADDRESS: of the registers, in memory */
     uint32_t event_timer_block_id; /* Event Timer Block ID */
     uint16_t clock_tick_unit; /* Main Counter Minimum Clock_tick in Periodic Mode: the least ticks of a periodic
@@ -381,7 +381,7 @@ zacpi_status zacpi_pm_timer(const struct zacpi_source *source, struct zacpi_pm_t
 /* The block of event timers of the first valid HPET, whose signature section 5.2.6 reserves and whose layout is the
  * IA-PC HPET Specification's. Refuses then: ZACPI_TABLE_MISSING "HPET", ZACPI_INVALID_GENERIC_ADDRESS if Address Space
  * ID of BASE_ADDRESS isn't 0, system memory. */
-zacpi_status zacpi_hpet(const struct zacpi_source *source, struct zacpi_hpet_block *out, struct zacpi_signature *named);
+zacpi_status zacpi_hpet(const struct zacpi_source *source, struct zacpi_hpet_info *out, struct zacpi_signature *named);
 
 /* The image that the firmware showed: that of the first valid BGRT (section 5.2.22). Refuses then: ZACPI_TABLE_MISSING
  * "BGRT". */
@@ -441,7 +441,7 @@ struct zacpi_io_apic { /* I/O APIC, section 5.2.12.3 */
     uint32_t global_system_interrupt_base; /* Global System Interrupt Base: the interrupt of its first pin */
     uint8_t id;                            /* I/O APIC ID */
 };
-struct zacpi_override { /* Interrupt Source Override, section 5.2.12.5 */
+struct zacpi_interrupt_source_override { /* Interrupt Source Override, section 5.2.12.5 */
     uint32_t global_system_interrupt; /* Global System Interrupt */
     uint8_t isa_source;               /* Source: the interrupt on the ISA bus */
     uint8_t polarity, trigger;        /* Polarity and Trigger Mode of Flags */
@@ -476,8 +476,8 @@ zacpi_status zacpi_list_io_apics(const struct zacpi_source *source, struct zacpi
                                struct zacpi_signature *named);
 /* The Interrupt Source Override entries (section 5.2.12.5), in the order of the first valid MADT. Empty if the model
  * isn't known. Refuses then as zacpi_interrupt_model does. */
-zacpi_status zacpi_list_overrides(const struct zacpi_source *source, struct zacpi_override *out, size_t room, size_t *count,
-                                struct zacpi_signature *named);
+zacpi_status zacpi_list_overrides(const struct zacpi_source *source, struct zacpi_interrupt_source_override *out,
+                                size_t room, size_t *count, struct zacpi_signature *named);
 /* The NMI Source entries (section 5.2.12.6), which name the I/O APIC pins that are non-maskable, in the order of the
  * first valid MADT. Empty if the model isn't known. Refuses then as zacpi_interrupt_model does. */
 zacpi_status zacpi_list_nmi_sources(const struct zacpi_source *source, struct zacpi_nmi_source *out, size_t room,
@@ -497,7 +497,7 @@ struct zacpi_interrupt {
     uint32_t global_system_interrupt;
     uint8_t polarity, trigger; /* of enum zacpi_polarity and enum zacpi_trigger, but never as the bus has it */
 };
-struct zacpi_pin {
+struct zacpi_io_apic_pin {
     struct zacpi_io_apic io_apic;
     uint32_t pin; /* from 0 on: the global system interrupt less Global System Interrupt Base */
 };
@@ -519,14 +519,14 @@ zacpi_status zacpi_sci_interrupt(const struct zacpi_source *source, struct zacpi
  * System Interrupt Base that is at most the interrupt (sections 5.2.12.3 and 5.2.13). Only the I/O APIC itself can tell
  * how many pins it has. Refuses then as zacpi_interrupt_model does, with ZACPI_NO_APICS if the model isn't known, and
  * with ZACPI_NO_SUCH_IO_APIC if each base is above the interrupt. */
-zacpi_status zacpi_io_apic_pin(const struct zacpi_source *source, uint32_t global_system_interrupt, struct zacpi_pin *out,
-                             struct zacpi_signature *named);
+zacpi_status zacpi_io_apic_pin(const struct zacpi_source *source, uint32_t global_system_interrupt,
+                             struct zacpi_io_apic_pin *out, struct zacpi_signature *named);
 
 struct zacpi_isa_route {
     struct zacpi_interrupt interrupt; /* what zacpi_isa_interrupt answers, or zeros */
-    struct zacpi_pin pin;             /* what zacpi_io_apic_pin answers for it, or zeros */
-    uint8_t present;                 /* 0: zacpi_isa_interrupt refuses it with ZACPI_NO_SUCH_INTERRUPT */
-    uint8_t has_pin;                 /* 0: it isn't present, or zacpi_io_apic_pin refuses it with ZACPI_NO_SUCH_IO_APIC */
+    struct zacpi_io_apic_pin pin;     /* what zacpi_io_apic_pin answers for it, or zeros */
+    uint8_t present;                  /* 0: zacpi_isa_interrupt refuses it with ZACPI_NO_SUCH_INTERRUPT */
+    uint8_t has_pin;                  /* 0: it isn't present, or zacpi_io_apic_pin refuses it with ZACPI_NO_SUCH_IO_APIC */
 };
 struct zacpi_isa_interrupts {
     struct zacpi_isa_route routes[16]; /* item n is irq n */

@@ -13,6 +13,7 @@ pub mod IsaList
 pub mod Missing
 pub mod Model
 pub mod Numa
+pub mod Records
 pub mod Regions
 pub mod Routes
 pub mod Shown

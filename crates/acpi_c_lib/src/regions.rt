@@ -8,7 +8,7 @@ ghost use Rattle.acpi_c_lib.specs.Regions.{check_regions, memory_of, region_of};
 use crate::refusal::Refusal;
 use acpi_base::{AcpiError, AcpiHandler, AcpiResult};
 
-/// A range of physical memory, and the bytes that it is mapped at. C sees `struct zacpi_region`.
+/// A range of physical memory, and the bytes that it is mapped at.
 #[repr(C)]
 #[derive(Clone, Copy)]
 pub struct Region<'k> {
