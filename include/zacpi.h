@@ -3,8 +3,8 @@
  * document that lays the table out.
  *
  * No call keeps a state, takes memory or calls back, so any number may run at once, each with outputs of its own. Each
- * one but zacpi_clip_ranges gets the memory that the caller has mapped (struct zacpi_source), checks it, opens the tables
- * in it anew, and answers. It can be called with any numbers in these structs and over any bytes.
+ * one but zacpi_clip_ranges gets the memory that the caller has mapped, and checks it; one that gets a struct
+ * zacpi_source then opens the tables in it anew. It can be called with any numbers in these structs and over any bytes.
  *
  * What the caller keeps: no pointer is null, each is aligned for its type and points to as many items as
  * the length beside it says, all initialised; an output shares no byte with an input or another output;
@@ -32,7 +32,7 @@
  * The least length is where the fixed fields end: 116 for an FADT, 44 for a MADT, an MCFG or a SLIT, 48 for an SRAT,
  * 56 for an HPET or a BGRT, 80 for an SPCR, 96 for a GTDT, and 36 for any other table. It is 36 for every listed table
  * that zacpi_find_table, zacpi_find_nth_table, zacpi_list_tables or zacpi_list_ranges answers, or that
- * zacpi_list_missing_ranges has a range of.
+ * zacpi_list_missing_ranges has a range of, and for the table that zacpi_list_entries is passed.
  *
  * Bytes of a field past the end of its table or entry are read as 0, and a field is read in every Revision of its
  * table, unless the field below says otherwise. A field X_... of an FADT is read as 0 below revision 2, and if the
@@ -121,7 +121,8 @@ enum zacpi_refusal {
     ZACPI_NUMA_INVALID_MEMORY_RANGE = 33, /* the address after a range of memory in the SRAT is above 2^64 - 1 */
     ZACPI_NO_GIC = 34,                    /* the MADT has no GICD entry (section 5.2.12.15) */
     ZACPI_NO_DOMAIN = 35,                 /* the SRAT puts the address or processor into no domain */
-    ZACPI_NO_DISTANCE = 36                /* the SLIT has no distance of these two localities (section 5.2.17) */
+    ZACPI_NO_DISTANCE = 36,               /* the SLIT has no distance of these two localities (section 5.2.17) */
+    ZACPI_UNKNOWN_WIDTH = 37              /* Type and Length of an entry have one byte or two each, and no other number */
 };
 
 /* The name of a status, as acpi_view prints it: "MapFailed". "Unknown" for any other number. */
@@ -135,7 +136,7 @@ static inline const char *zacpi_status_name(zacpi_status status) {
         "InvalidMadt InterruptOverrideEntryHasInvalidBus", "InvalidMadt InvalidLocalNmiLine",
         "InvalidMadt MpsIntiInvalidPolarity", "InvalidMadt MpsIntiInvalidTriggerMode", "InvalidMadt WakeupApsTimeout",
         "InvalidMadt InvalidEntryLength", "InvalidSrat InvalidEntryLength", "InvalidSrat InvalidMemoryRange", "NoGic",
-        "NoDomain", "NoDistance"};
+        "NoDomain", "NoDistance", "UnknownWidth"};
     return status < sizeof names / sizeof *names ? names[status] : "Unknown";
 }
 
@@ -181,6 +182,19 @@ zacpi_status zacpi_clip_ranges(const struct zacpi_range *ranges, size_t ranges_l
                              size_t without_length, const struct zacpi_range *window, struct zacpi_range *out,
                              size_t room, size_t *count);
 
+struct zacpi_place {
+    size_t region; /* the index of the region */
+    size_t offset; /* in bytes, from the region's first one on */
+};
+
+/* Where bytes of physical memory are in the caller's regions, so that a table of a type that has no call here can be
+ * read: the byte at `address` is regions[region].bytes[offset], and `length` bytes from there on lie in that region. For
+ * a length of 0 too the address has to lie in a region. It has no source, and looks at no byte. Refuses only:
+ * ZACPI_REGIONS_NOT_ASCENDING and ZACPI_REGION_TOO_HIGH for the regions one after the other, and ZACPI_MAP_FAILED if no
+ * region holds all these bytes. */
+zacpi_status zacpi_locate(const struct zacpi_region *regions, size_t regions_length, uint64_t address, uint64_t length,
+                        struct zacpi_place *out);
+
 /* ---- Tables --------------------------------------------------------------------------------------- */
 
 struct zacpi_signature {
@@ -201,6 +215,11 @@ struct zacpi_table {
 struct zacpi_fault {
     uint64_t address;   /* as the root table lists it */
     zacpi_status status; /* why it is passed over: ZACPI_MAP_FAILED, or 9 to 12 of enum zacpi_refusal */
+};
+struct zacpi_entry { /* an entry of a table, which begins with Type and Length */
+    uint64_t address;    /* of its first byte */
+    uint16_t entry_type; /* Type */
+    uint16_t length;     /* Length: with these two fields */
 };
 struct zacpi_aml_table {
     uint64_t address; /* of the first byte after the table's 36 bytes of header */
@@ -237,6 +256,20 @@ zacpi_status zacpi_find_table(const struct zacpi_source *source, struct zacpi_si
  * zacpi_find_table answers it. Refuses then: ZACPI_TABLE_MISSING with the signature if there are no more than `index`. */
 zacpi_status zacpi_find_nth_table(const struct zacpi_source *source, struct zacpi_signature signature, size_t index,
                                 struct zacpi_table *out, struct zacpi_signature *named);
+
+/* The entries of any table, one after the other from byte `first` of it on, where its fixed fields end: each begins with
+ * Type and Length, of `bytes_each` bytes each. This is 1 for a MADT, from byte 44 on, and an SRAT, from 48 on (sections
+ * 5.2.12 and 5.2.16), and 2 for an NFIT, from 40 on (section 5.2.25), and a DMAR, from 48 on, whose layout is Intel's. An
+ * entry begins where its Length is at least that of these two fields, and at most the bytes left; what its Type needs
+ * besides is the caller's to know. If bytes are left in which no entry begins, `malformed` is 1, and the list has those
+ * before them; else it is 0. It has no source: the table is the one at the address `table`, under the signature that it
+ * bears, listed or not. Refuses: ZACPI_REGIONS_NOT_ASCENDING and ZACPI_REGION_TOO_HIGH for the regions one after the
+ * other, ZACPI_UNKNOWN_WIDTH if `bytes_each` isn't 1 or 2, ZACPI_MAP_FAILED if 36 bytes aren't lent at `table`, 8 to 11
+ * of enum zacpi_refusal, ZACPI_MAP_FAILED if as many bytes as its header says aren't lent, ZACPI_SDT_INVALID_CHECKSUM,
+ * and ZACPI_SDT_INVALID_LENGTH if Length of the table is less than `first`. Those from 8 on carry its Signature. */
+zacpi_status zacpi_list_entries(const struct zacpi_region *regions, size_t regions_length, uint64_t table, uint32_t first,
+                              uint32_t bytes_each, struct zacpi_entry *out, size_t room, size_t *count,
+                              uint8_t *malformed, struct zacpi_signature *named);
 
 /* The members of the root table that a lookup of a signature passes over for another reason than another Signature, or
  * one that isn't UTF-8, in order, up to the first that it takes (section 5.2.6). The lookup is that of the calls for

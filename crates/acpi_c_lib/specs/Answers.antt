@@ -26,6 +26,11 @@ Answers status old new old_name new_name (Ok x) = (status ≡ 0) × (new ≡ x) 
 Answers status old new old_name new_name (Err e) =
     (status ≡ code_of e) × (new ≡ old) × (new_name ≡ name_or old_name e)
 
+-- the same of a call whose refusals carry no signature
+abbrev pub AnswersPlain : {A : Type 0} → ℕ → A → A → Result A Refusal → Type 0
+AnswersPlain status old new (Ok x) = (status ≡ 0) × (new ≡ x)
+AnswersPlain status old new (Err e) = (status ≡ code_of e) × (new ≡ old)
+
 -- ---- lists
 
 -- items written over others, from an index on, as far as these reach

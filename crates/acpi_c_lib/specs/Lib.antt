@@ -6,10 +6,12 @@ pub mod Clip
 pub mod Codes
 pub mod Console
 pub mod Devices
+pub mod Entries
 pub mod Faults
 pub mod Fixed
 pub mod Held
 pub mod IsaList
+pub mod Located
 pub mod Missing
 pub mod Model
 pub mod Numa

@@ -1,6 +1,6 @@
 //! How an answer is written for C.
 ghost use Rattle.std.specs.Prelude.{◌≡◌};
-ghost use Rattle.acpi_c_lib.specs.Answers.{Answers, name_or};
+ghost use Rattle.acpi_c_lib.specs.Answers.{Answers, AnswersPlain, name_or};
 
 use crate::records::Signature;
 use crate::refusal::Refusal;
@@ -19,6 +19,19 @@ pub fn answer<T: Copy>(said: Result<T, Refusal>, out: &mut T, named: &mut Signat
             name(refusal, named);
             refusal.code()
         }
+    }
+}
+
+/// The same of a call whose refusals carry no signature.
+pub fn answer_plain<T: Copy>(said: Result<T, Refusal>, out: &mut T) -> u32
+    ensures { AnswersPlain result out.old out.new said }
+{
+    match said {
+        Ok(value) => {
+            *out = value;
+            0
+        }
+        Err(refusal) => refusal.code(),
     }
 }
 

@@ -11,6 +11,14 @@ pub struct Source<'k> {
     pub start: u32,
 }
 
+/// Where bytes lie in a caller's regions.
+#[repr(C)]
+#[derive(Clone, Copy)]
+pub struct Place {
+    pub region: usize,
+    pub offset: usize,
+}
+
 /// Four bytes that name a table.
 #[repr(C)]
 #[derive(Clone, Copy)]
@@ -44,6 +52,15 @@ pub struct Table {
 pub struct Fault {
     pub address: u64,
     pub status: u32,
+}
+
+/// An entry of a table, which begins with Type and Length.
+#[repr(C)]
+#[derive(Clone, Copy)]
+pub struct Entry {
+    pub address: u64,
+    pub entry_type: u16,
+    pub length: u16,
 }
 
 /// A stream of AML (section 5.2.11).
