@@ -40,5 +40,9 @@ pub extern "C" fn zacpi_list_entries(
     ensures malformed { malformed.new ≡ result_unwrap_or
         (result_map left_said (entries_below regions.now table first bytes_each)) malformed.old }
 {
-    answer(table_entries(regions, table, first, bytes_each, out, malformed), count, named)
+    answer(
+        table_entries(regions, table, first, bytes_each, out, malformed),
+        count,
+        named,
+    )
 }
