@@ -3,8 +3,8 @@
  * document that lays the table out.
  *
  * No call keeps a state, takes memory or calls back, so any number may run at once, each with outputs of its own. Each
- * one but zacpi_clip_ranges gets the memory that the caller has mapped (struct zacpi_source), checks it, opens the tables
- * in it anew, and answers. It can be called with any numbers in these structs and over any bytes.
+ * one but zacpi_clip_ranges gets the memory that the caller has mapped, and checks it; one that gets a struct
+ * zacpi_source then opens the tables in it anew. It can be called with any numbers in these structs and over any bytes.
  *
  * What the caller keeps: no pointer is null, each is aligned for its type and points to as many items as
  * the length beside it says, all initialised; an output shares no byte with an input or another output;
@@ -32,7 +32,7 @@
  * The least length is where the fixed fields end: 116 for an FADT, 44 for a MADT, an MCFG or a SLIT, 48 for an SRAT,
  * 56 for an HPET or a BGRT, 80 for an SPCR, 96 for a GTDT, and 36 for any other table. It is 36 for every listed table
  * that zacpi_find_table, zacpi_find_nth_table, zacpi_list_tables or zacpi_list_ranges answers, or that
- * zacpi_list_missing_ranges has a range of.
+ * zacpi_list_missing_ranges has a range of, and for the table that zacpi_list_entries is passed.
  *
  * Bytes of a field past the end of its table or entry are read as 0, and a field is read in every Revision of its
  * table, unless the field below says otherwise. A field X_... of an FADT is read as 0 below revision 2, and if the
@@ -121,7 +121,8 @@ enum zacpi_refusal {
     ZACPI_NUMA_INVALID_MEMORY_RANGE = 33, /* the address after a range of memory in the SRAT is above 2^64 - 1 */
     ZACPI_NO_GIC = 34,                    /* the MADT has no GICD entry (section 5.2.12.15) */
     ZACPI_NO_DOMAIN = 35,                 /* the SRAT puts the address or processor into no domain */
-    ZACPI_NO_DISTANCE = 36                /* the SLIT has no distance of these two localities (section 5.2.17) */
+    ZACPI_NO_DISTANCE = 36,               /* the SLIT has no distance of these two localities (section 5.2.17) */
+    ZACPI_UNKNOWN_WIDTH = 37              /* Type and Length of an entry have one byte or two each, and no other number */
 };
 
 /* The name of a status, as acpi_view prints it: "MapFailed". "Unknown" for any other number. */
@@ -135,7 +136,7 @@ static inline const char *zacpi_status_name(zacpi_status status) {
         "InvalidMadt InterruptOverrideEntryHasInvalidBus", "InvalidMadt InvalidLocalNmiLine",
         "InvalidMadt MpsIntiInvalidPolarity", "InvalidMadt MpsIntiInvalidTriggerMode", "InvalidMadt WakeupApsTimeout",
         "InvalidMadt InvalidEntryLength", "InvalidSrat InvalidEntryLength", "InvalidSrat InvalidMemoryRange", "NoGic",
-        "NoDomain", "NoDistance"};
+        "NoDomain", "NoDistance", "UnknownWidth"};
     return status < sizeof names / sizeof *names ? names[status] : "Unknown";
 }
 
@@ -181,6 +182,19 @@ zacpi_status zacpi_clip_ranges(const struct zacpi_range *ranges, size_t ranges_l
                              size_t without_length, const struct zacpi_range *window, struct zacpi_range *out,
                              size_t room, size_t *count);
 
+struct zacpi_place {
+    size_t region; /* the index of the region */
+    size_t offset; /* in bytes, from the region's first one on */
+};
+
+/* Where bytes of physical memory are in the caller's regions, so that a table of a type that has no call here can be
+ * read: the byte at `address` is regions[region].bytes[offset], and `length` bytes from there on lie in that region. For
+ * a length of 0 too the address has to lie in a region. It has no source, and looks at no byte. Refuses only:
+ * ZACPI_REGIONS_NOT_ASCENDING and ZACPI_REGION_TOO_HIGH for the regions one after the other, and ZACPI_MAP_FAILED if no
+ * region holds all these bytes. */
+zacpi_status zacpi_locate(const struct zacpi_region *regions, size_t regions_length, uint64_t address, uint64_t length,
+                        struct zacpi_place *out);
+
 /* ---- Tables --------------------------------------------------------------------------------------- */
 
 struct zacpi_signature {
@@ -202,7 +216,12 @@ struct zacpi_fault {
     uint64_t address;   /* as the root table lists it */
     zacpi_status status; /* why it is passed over: ZACPI_MAP_FAILED, or 9 to 12 of enum zacpi_refusal */
 };
-struct zacpi_aml {
+struct zacpi_entry { /* an entry of a table, which begins with Type and Length */
+    uint64_t address;    /* of its first byte */
+    uint16_t entry_type; /* Type */
+    uint16_t length;     /* Length: with these two fields */
+};
+struct zacpi_aml_table {
     uint64_t address; /* of the first byte after the table's 36 bytes of header */
     uint32_t length;  /* Length less 36 */
 };
@@ -238,6 +257,20 @@ zacpi_status zacpi_find_table(const struct zacpi_source *source, struct zacpi_si
 zacpi_status zacpi_find_nth_table(const struct zacpi_source *source, struct zacpi_signature signature, size_t index,
                                 struct zacpi_table *out, struct zacpi_signature *named);
 
+/* The entries of any table, one after the other from byte `first` of it on, where its fixed fields end: each begins with
+ * Type and Length, of `bytes_each` bytes each. This is 1 for a MADT, from byte 44 on, and an SRAT, from 48 on (sections
+ * 5.2.12 and 5.2.16), and 2 for an NFIT, from 40 on (section 5.2.25), and a DMAR, from 48 on, whose layout is Intel's. An
+ * entry begins where its Length is at least that of these two fields, and at most the bytes left; what its Type needs
+ * besides is the caller's to know. If bytes are left in which no entry begins, `malformed` is 1, and the list has those
+ * before them; else it is 0. It has no source: the table is the one at the address `table`, under the signature that it
+ * bears, listed or not. Refuses: ZACPI_REGIONS_NOT_ASCENDING and ZACPI_REGION_TOO_HIGH for the regions one after the
+ * other, ZACPI_UNKNOWN_WIDTH if `bytes_each` isn't 1 or 2, ZACPI_MAP_FAILED if 36 bytes aren't lent at `table`, 8 to 11
+ * of enum zacpi_refusal, ZACPI_MAP_FAILED if as many bytes as its header says aren't lent, ZACPI_SDT_INVALID_CHECKSUM,
+ * and ZACPI_SDT_INVALID_LENGTH if Length of the table is less than `first`. Those from 8 on carry its Signature. */
+zacpi_status zacpi_list_entries(const struct zacpi_region *regions, size_t regions_length, uint64_t table, uint32_t first,
+                              uint32_t bytes_each, struct zacpi_entry *out, size_t room, size_t *count,
+                              uint8_t *malformed, struct zacpi_signature *named);
+
 /* The members of the root table that a lookup of a signature passes over for another reason than another Signature, or
  * one that isn't UTF-8, in order, up to the first that it takes (section 5.2.6). The lookup is that of the calls for
  * this table: it asks for the table's least length. Refuses nothing more than what stands at the top. */
@@ -248,12 +281,12 @@ zacpi_status zacpi_list_faults(const struct zacpi_source *source, struct zacpi_s
  * ZACPI_TABLE_MISSING "FACP", ZACPI_INVALID_DSDT_ADDRESS, and what the table there is refused with: ZACPI_MAP_FAILED if 36
  * bytes aren't lent, 8 to 11 of enum zacpi_refusal, ZACPI_MAP_FAILED if as many bytes as its header says aren't lent,
  * ZACPI_SDT_INVALID_CHECKSUM. Those from 8 on carry "DSDT". */
-zacpi_status zacpi_dsdt(const struct zacpi_source *source, struct zacpi_aml *out, struct zacpi_signature *named);
+zacpi_status zacpi_dsdt(const struct zacpi_source *source, struct zacpi_aml_table *out, struct zacpi_signature *named);
 
 /* The AML of each valid SSDT, in the order of the root table (section 5.2.11.2). Refuses nothing more than what stands
  * at the top. */
-zacpi_status zacpi_list_ssdts(const struct zacpi_source *source, struct zacpi_aml *out, size_t room, size_t *count,
-                            struct zacpi_signature *named);
+zacpi_status zacpi_list_ssdts(const struct zacpi_source *source, struct zacpi_aml_table *out, size_t room,
+                            size_t *count, struct zacpi_signature *named);
 
 /* The memory that the tables take, and that isn't to be given away: the root table, each listed table that is valid
  * under its own signature, in order, then the DSDT of the first valid FADT if it is valid, and that FADT's FACS if it
@@ -281,7 +314,7 @@ struct zacpi_pm_timer {
     uint8_t present;                  /* 0: there is none. 1: it is at `base` */
     uint8_t is_32_bit;                /* TMR_VAL_EXT: 1 if it counts in 32 bits, 0 if in 24. 0 unless it is present */
 };
-struct zacpi_hpet_block {
+struct zacpi_hpet_info {
     uint64_t base_address;         /* BASE_ADDRESS: of the registers, in memory */
     uint32_t event_timer_block_id; /* Event Timer Block ID */
     uint16_t clock_tick_unit; /* Main Counter Minimum Clock_tick in Periodic Mode: the least ticks of a periodic
@@ -381,7 +414,7 @@ zacpi_status zacpi_pm_timer(const struct zacpi_source *source, struct zacpi_pm_t
 /* The block of event timers of the first valid HPET, whose signature section 5.2.6 reserves and whose layout is the
  * IA-PC HPET Specification's. Refuses then: ZACPI_TABLE_MISSING "HPET", ZACPI_INVALID_GENERIC_ADDRESS if Address Space
  * ID of BASE_ADDRESS isn't 0, system memory. */
-zacpi_status zacpi_hpet(const struct zacpi_source *source, struct zacpi_hpet_block *out, struct zacpi_signature *named);
+zacpi_status zacpi_hpet(const struct zacpi_source *source, struct zacpi_hpet_info *out, struct zacpi_signature *named);
 
 /* The image that the firmware showed: that of the first valid BGRT (section 5.2.22). Refuses then: ZACPI_TABLE_MISSING
  * "BGRT". */
@@ -441,7 +474,7 @@ struct zacpi_io_apic { /* I/O APIC, section 5.2.12.3 */
     uint32_t global_system_interrupt_base; /* Global System Interrupt Base: the interrupt of its first pin */
     uint8_t id;                            /* I/O APIC ID */
 };
-struct zacpi_override { /* Interrupt Source Override, section 5.2.12.5 */
+struct zacpi_interrupt_source_override { /* Interrupt Source Override, section 5.2.12.5 */
     uint32_t global_system_interrupt; /* Global System Interrupt */
     uint8_t isa_source;               /* Source: the interrupt on the ISA bus */
     uint8_t polarity, trigger;        /* Polarity and Trigger Mode of Flags */
@@ -476,8 +509,8 @@ zacpi_status zacpi_list_io_apics(const struct zacpi_source *source, struct zacpi
                                struct zacpi_signature *named);
 /* The Interrupt Source Override entries (section 5.2.12.5), in the order of the first valid MADT. Empty if the model
  * isn't known. Refuses then as zacpi_interrupt_model does. */
-zacpi_status zacpi_list_overrides(const struct zacpi_source *source, struct zacpi_override *out, size_t room, size_t *count,
-                                struct zacpi_signature *named);
+zacpi_status zacpi_list_overrides(const struct zacpi_source *source, struct zacpi_interrupt_source_override *out,
+                                size_t room, size_t *count, struct zacpi_signature *named);
 /* The NMI Source entries (section 5.2.12.6), which name the I/O APIC pins that are non-maskable, in the order of the
  * first valid MADT. Empty if the model isn't known. Refuses then as zacpi_interrupt_model does. */
 zacpi_status zacpi_list_nmi_sources(const struct zacpi_source *source, struct zacpi_nmi_source *out, size_t room,
@@ -497,7 +530,7 @@ struct zacpi_interrupt {
     uint32_t global_system_interrupt;
     uint8_t polarity, trigger; /* of enum zacpi_polarity and enum zacpi_trigger, but never as the bus has it */
 };
-struct zacpi_pin {
+struct zacpi_io_apic_pin {
     struct zacpi_io_apic io_apic;
     uint32_t pin; /* from 0 on: the global system interrupt less Global System Interrupt Base */
 };
@@ -519,14 +552,14 @@ zacpi_status zacpi_sci_interrupt(const struct zacpi_source *source, struct zacpi
  * System Interrupt Base that is at most the interrupt (sections 5.2.12.3 and 5.2.13). Only the I/O APIC itself can tell
  * how many pins it has. Refuses then as zacpi_interrupt_model does, with ZACPI_NO_APICS if the model isn't known, and
  * with ZACPI_NO_SUCH_IO_APIC if each base is above the interrupt. */
-zacpi_status zacpi_io_apic_pin(const struct zacpi_source *source, uint32_t global_system_interrupt, struct zacpi_pin *out,
-                             struct zacpi_signature *named);
+zacpi_status zacpi_io_apic_pin(const struct zacpi_source *source, uint32_t global_system_interrupt,
+                             struct zacpi_io_apic_pin *out, struct zacpi_signature *named);
 
 struct zacpi_isa_route {
     struct zacpi_interrupt interrupt; /* what zacpi_isa_interrupt answers, or zeros */
-    struct zacpi_pin pin;             /* what zacpi_io_apic_pin answers for it, or zeros */
-    uint8_t present;                 /* 0: zacpi_isa_interrupt refuses it with ZACPI_NO_SUCH_INTERRUPT */
-    uint8_t has_pin;                 /* 0: it isn't present, or zacpi_io_apic_pin refuses it with ZACPI_NO_SUCH_IO_APIC */
+    struct zacpi_io_apic_pin pin;     /* what zacpi_io_apic_pin answers for it, or zeros */
+    uint8_t present;                  /* 0: zacpi_isa_interrupt refuses it with ZACPI_NO_SUCH_INTERRUPT */
+    uint8_t has_pin;                  /* 0: it isn't present, or zacpi_io_apic_pin refuses it with ZACPI_NO_SUCH_IO_APIC */
 };
 struct zacpi_isa_interrupts {
     struct zacpi_isa_route routes[16]; /* item n is irq n */

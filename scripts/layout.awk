@@ -1,19 +1,19 @@
-# Reads the crate's records, `#[repr(C)] pub struct`s whose comment names `struct zacpi_...`, lays them out as C
-# does, and prints what a compiler is to check: of the header a C file, with one assertion for each size and each
-# offset; or, if `records` names the file of the Rust bindings' records, a Rust program that asserts the same of them.
-# A slice is a pointer and a length. It stops with status 1 at a type that it doesn't know.
+# Reads the crate's records, `#[repr(C)] pub struct`s, lays them out as C does, and prints what a compiler is to check:
+# of the header a C file, with one assertion for each size and each offset; or, if `records` names the file of the Rust
+# bindings' records, a Rust program that asserts the same of them. A record `IoApic` is `struct zacpi_io_apic` of the
+# header, and `IoApic` of the bindings. A slice is a pointer and a length. It stops with status 1 at a type that it
+# doesn't know.
 function fail(why) { print FILENAME ":" FNR ": " why > "/dev/stderr"; failed = 1; exit 1 }
 function check(text) { printf "typedef char check_%d[(%s) ? 1 : -1];\n", ++checks, text }
 function place(size, align) { at += (align - at % align) % align; begin = at; at += size; if (align > most) most = align }
-# A struct's name in the Rust bindings: that of the header in the manner of Rust, or one that the crate `acpi` has.
-function rust_name(named,    words, i, text) {
-    if (named in other_name) return other_name[named]
-    for (i = 2; i <= split(named, words, "_"); i++) text = text toupper(substr(words[i], 1, 1)) substr(words[i], 2)
-    return text
+# A record's name in the header.
+function name_in_c(name) {
+    gsub(/[A-Z]/, "_&", name)
+    return "struct zacpi" tolower(name)
 }
 function has_field(field, begin, size) {
     fields = fields field ": _, "
-    if (records) printf "    field!(%s, %s, %d, %d);\n", rust_name(named), field, begin, size
+    if (records) printf "    field!(%s, %s, %d, %d);\n", name, field, begin, size
     else {
         check("offsetof(" c_name ", " field ") == " begin)
         check("sizeof(((" c_name " *)0)->" field ") == " size)
@@ -21,9 +21,9 @@ function has_field(field, begin, size) {
 }
 function has_size(size) {
     if (!records) { check("sizeof(" c_name ") == " size); return }
-    printf "    assert_eq!(size_of::<records::%s>(), %d, \"size of %s\");\n", rust_name(named), size, rust_name(named)
+    printf "    assert_eq!(size_of::<records::%s>(), %d, \"size of %s\");\n", name, size, name
     # Says that it has no other fields; what holds a slice also has a mark of its lifetime.
-    printf "    let _ = |it: records::%s| { let records::%s { %s%s } = it; };\n", rust_name(named), rust_name(named), fields, lends ? ".." : ""
+    printf "    let _ = |it: records::%s| { let records::%s { %s%s } = it; };\n", name, name, fields, lends ? ".." : ""
 }
 BEGIN {
     if (records) {
@@ -39,15 +39,11 @@ BEGIN {
     } else print "#include \"zacpi.h\"\n#include <stddef.h>"
     split("u8 1 u16 2 u32 4 u64 8 usize 8 bool 1", n, " ")
     for (i = 1; i in n; i += 2) size_of[n[i]] = align_of[n[i]] = n[i + 1]
-    split("aml AmlTable hpet_block HpetInfo override InterruptSourceOverride pin IoApicPin", n, " ")
-    for (i = 1; i in n; i += 2) other_name["zacpi_" n[i]] = n[i + 1]
 }
-match($0, /struct zacpi_[a-z_]+/) && /\/\/\// { named = substr($0, RSTART + 7, RLENGTH - 7) }
 /^#\[repr\(C\)\]/ { is_c = 1 }
 /^pub struct / && is_c {
     name = $3; sub(/[<{].*/, "", name)
-    if (named == "") named = "zacpi_" tolower(name)
-    c_name = "struct " named; at = 0; most = 1; inside = 1; is_c = 0; fields = ""; lends = 0; next
+    c_name = name_in_c(name); at = 0; most = 1; inside = 1; is_c = 0; fields = ""; lends = 0; next
 }
 inside && /^    pub [a-z_0-9]+: / {
     field = $2; sub(/:$/, "", field)
@@ -69,7 +65,7 @@ inside && /^}/ {
     at += (most - at % most) % most
     size_of[name] = at; align_of[name] = most
     has_size(at)
-    inside = 0; named = ""; structs++
+    inside = 0; structs++
 }
 END {
     if (failed) exit 1

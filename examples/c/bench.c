@@ -32,11 +32,11 @@ static zacpi_status list_tables(size_t *count) {
     return zacpi_list_tables(&source, out, MOST, count, &named);
 }
 static zacpi_status list_ssdts(size_t *count) {
-    static struct zacpi_aml out[MOST];
+    static struct zacpi_aml_table out[MOST];
     return zacpi_list_ssdts(&source, out, MOST, count, &named);
 }
 static zacpi_status dsdt(size_t *count) {
-    struct zacpi_aml aml = {0};
+    struct zacpi_aml_table aml = {0};
     zacpi_status refused = zacpi_dsdt(&source, &aml, &named);
     *count = aml.length;
     return refused;
@@ -52,7 +52,7 @@ static zacpi_status list_processors(size_t *count) {
     return zacpi_list_processors(&source, out, MOST, count, &named);
 }
 static zacpi_status hpet(size_t *count) {
-    struct zacpi_hpet_block block = {0};
+    struct zacpi_hpet_info block = {0};
     zacpi_status refused = zacpi_hpet(&source, &block, &named);
     *count = 1;
     return refused;

@@ -5,10 +5,10 @@
 /* Lists are filled one at a time, so one block of memory does for all of them. */
 static union {
     struct zacpi_table tables[MOST];
-    struct zacpi_aml streams[MOST];
+    struct zacpi_aml_table streams[MOST];
     struct zacpi_fault faults[MOST];
     struct zacpi_io_apic io_apics[MOST];
-    struct zacpi_override overrides[MOST];
+    struct zacpi_interrupt_source_override overrides[MOST];
     struct zacpi_nmi_source nmi_sources[MOST];
     struct zacpi_nmi_line nmi_lines[MOST];
     struct zacpi_processor processors[MOST];
@@ -91,7 +91,7 @@ static size_t shown(const struct printer *p, size_t count) {
     return MOST;
 }
 
-static void stream(const struct printer *p, const char *what, const struct zacpi_aml *aml) {
+static void stream(const struct printer *p, const char *what, const struct zacpi_aml_table *aml) {
     say(p, what);
     say_address(p, aml->address);
     say(p, " length ");
@@ -101,7 +101,7 @@ static void stream(const struct printer *p, const char *what, const struct zacpi
 
 static void tables(const struct zacpi_source *source, const struct printer *p) {
     struct zacpi_signature named = {{0}};
-    struct zacpi_aml dsdt = {0};
+    struct zacpi_aml_table dsdt = {0};
     size_t i, count = 0;
     zacpi_status refused = zacpi_list_tables(source, list.tables, MOST, &count, &named);
     count = refused ? 0 : shown(p, count);
@@ -217,7 +217,7 @@ static void platform(const struct zacpi_source *source, const struct printer *p)
 
 static void devices(const struct zacpi_source *source, const struct printer *p) {
     struct zacpi_signature named = {{0}};
-    struct zacpi_hpet_block hpet = {0};
+    struct zacpi_hpet_info hpet = {0};
     struct zacpi_boot_graphic graphic = {0};
     size_t i, count = 0;
     zacpi_status refused = zacpi_hpet(source, &hpet, &named);

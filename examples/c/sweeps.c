@@ -45,7 +45,7 @@ static union {
     struct zacpi_fault faults[2];
     struct zacpi_fixed_hardware fixed_hardware;
     struct zacpi_gic_distributor distributor;
-    struct zacpi_hpet_block hpet;
+    struct zacpi_hpet_info hpet;
     struct zacpi_pci_region pci_region;
     struct zacpi_boot_graphic graphic;
     struct zacpi_console console;

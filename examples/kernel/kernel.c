@@ -153,8 +153,8 @@ static struct zacpi_source from_root(const struct zacpi_source *source, const st
 static void figures(const struct zacpi_source *source, struct zacpi_source known) {
     struct zacpi_signature named = {{0}};
     struct zacpi_root root = {0};
-    struct zacpi_aml dsdt = {0};
-    struct zacpi_hpet_block hpet = {0};
+    struct zacpi_aml_table dsdt = {0};
+    struct zacpi_hpet_info hpet = {0};
     struct zacpi_interrupt_model model = {0};
     uint64_t address = 0;
     size_t count = 0;

@@ -65,6 +65,8 @@ pub enum AcpiError {
     NoDomain,
     /// The SLIT has no distance of these two localities (section 5.2.17).
     NoDistance,
+    /// Type and Length of an entry have one byte or two each, and no other number.
+    UnknownWidth,
     /// A number that this version doesn't know.
     Other(u32),
 }
@@ -124,6 +126,7 @@ impl AcpiError {
             34 => NoGic,
             35 => NoDomain,
             36 => NoDistance,
+            37 => UnknownWidth,
             other => Other(other),
         }
     }

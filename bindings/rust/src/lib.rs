@@ -23,10 +23,10 @@ mod records;
 
 pub use error::{AcpiError, AcpiResult, MadtError};
 pub use records::{
-    AmlTable, ArmTimer, ArmTimers, BootGraphic, Console, EcamRange, Fault, FixedHardware, GenericAddress,
+    AmlTable, ArmTimer, ArmTimers, BootGraphic, Console, EcamRange, Entry, Fault, FixedHardware, GenericAddress,
     GicCpuInterface, GicDistributor, GicMsiFrame, GicTranslationService, GpeBlock, GtFrame, HpetInfo, Interrupt,
     InterruptModel, InterruptSourceOverride, IoApic, IoApicPin, IsaInterrupts, IsaRoute, Localities, MemoryAffinity,
-    NmiLine, NmiSource, PciRegion, PmTimer, Processor, Range, Region, Register, Root, Signature, Table, Watchdog,
+    NmiLine, NmiSource, PciRegion, Place, PmTimer, Processor, Range, Region, Register, Root, Signature, Table, Watchdog,
 };
 use core::marker::PhantomData;
 use records::Source;
@@ -97,6 +97,50 @@ pub fn clip_ranges<'b>(
     }
     let shown = count.min(room.len());
     Ok(List { items: &room[..shown], count })
+}
+
+/// Where bytes of physical memory are in the regions: so many of them from an address on. If there are none, the
+/// address has to lie in a region. Refuses with `RegionsNotAscending` and `RegionTooHigh`, and with `MapFailed` if no
+/// region holds all these bytes.
+pub fn locate(regions: &[Region<'_>], address: u64, length: u64) -> AcpiResult<Place> {
+    let mut place = Place::default();
+    // SAFETY: the regions are a live slice, and the output is live, disjoint and initialised.
+    let status = unsafe { raw::zacpi_locate(regions.as_ptr(), regions.len(), address, length, &mut place) };
+    if status == 0 { Ok(place) } else { Err(AcpiError::of(status, Signature::default())) }
+}
+
+/// The entries of the table at an address, from byte `first` of it on, that begin with Type and Length of `bytes_each`
+/// bytes each, 1 or 2, and whether bytes are left in which no entry begins. Refuses with `RegionsNotAscending` and
+/// `RegionTooHigh`, with `UnknownWidth`, as the table at that address is refused, and with `SdtInvalidLength` if it is
+/// shorter than `first`.
+pub fn entries<'b>(
+    regions: &[Region<'_>],
+    table: u64,
+    first: u32,
+    bytes_each: u32,
+    room: &'b mut [Entry],
+) -> AcpiResult<(List<'b, Entry>, bool)> {
+    let (mut count, mut malformed, mut named) = (0, 0, Signature::default());
+    // SAFETY: the regions are a live slice; the outputs are live, disjoint and initialised.
+    let status = unsafe {
+        raw::zacpi_list_entries(
+            regions.as_ptr(),
+            regions.len(),
+            table,
+            first,
+            bytes_each,
+            room.as_mut_ptr(),
+            room.len(),
+            &mut count,
+            &mut malformed,
+            &mut named,
+        )
+    };
+    if status != 0 {
+        return Err(AcpiError::of(status, named));
+    }
+    let shown = count.min(room.len());
+    Ok((List { items: &room[..shown], count }, malformed != 0))
 }
 
 /// Where a root table is looked for.

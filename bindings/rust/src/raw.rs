@@ -66,4 +66,23 @@ extern "C" {
         room: usize,
         count: &mut usize,
     ) -> u32;
+    pub(crate) fn zacpi_locate(
+        regions: *const Region<'_>,
+        regions_length: usize,
+        address: u64,
+        length: u64,
+        out: &mut Place,
+    ) -> u32;
+    pub(crate) fn zacpi_list_entries(
+        regions: *const Region<'_>,
+        regions_length: usize,
+        table: u64,
+        first: u32,
+        bytes_each: u32,
+        out: *mut Entry,
+        room: usize,
+        count: &mut usize,
+        malformed: &mut u8,
+        named: &mut Signature,
+    ) -> u32;
 }

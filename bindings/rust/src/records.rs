@@ -108,6 +108,10 @@ records! {
     Table { address: u64, length: u32, signature: [u8; 4], revision: u8, }
     /// A member of the root table that a lookup passes over: its address, and the number of the refusal.
     Fault { address: u64, status: u32, }
+    /// Where bytes lie: the index of the region, and the offset in it.
+    Place { region: usize, offset: usize, }
+    /// An entry of a table, which begins with Type and Length.
+    Entry { address: u64, entry_type: u16, length: u16, }
     /// A stream of AML (section 5.2.11).
     AmlTable { address: u64, length: u32, }
     /// A range of physical addresses.

@@ -5,19 +5,19 @@ ghost use Rattle.acpi_c_lib.specs.ArmTimers.{frames_shown, gtdt_below, timers_sh
 
 use acpi_c_lib::answer::answer;
 use acpi_c_lib::arm_records::{
-    ArmTimersRecord, CpuInterfaceRecord, DistributorRecord, GtFrameRecord, MsiFrameRecord,
-    TranslationServiceRecord, WatchdogRecord,
+    ArmTimers, GicCpuInterface, GicDistributor, GicMsiFrame, GicTranslationService, GtFrame,
+    Watchdog,
 };
 use acpi_c_lib::arm_timers::{arm_timers, frames, watchdogs};
 use acpi_c_lib::gic::{distributor, parts};
-use acpi_c_lib::records::{Name, Range, Source};
+use acpi_c_lib::records::{Range, Signature, Source};
 
 /// The distributor of the GIC (section 5.2.12.15).
 #[unsafe(no_mangle)]
 pub extern "C" fn zacpi_gic_distributor(
     source: &Source<'_>,
-    out: &mut DistributorRecord,
-    named: &mut Name,
+    out: &mut GicDistributor,
+    named: &mut Signature,
 ) -> u32
     ensures { Answers result out.old out.new named.old named.new
         (below_gic source.now distributor_shown) }
@@ -29,9 +29,9 @@ pub extern "C" fn zacpi_gic_distributor(
 #[unsafe(no_mangle)]
 pub extern "C" fn zacpi_list_gic_cpu_interfaces(
     source: &Source<'_>,
-    out: &mut [CpuInterfaceRecord],
+    out: &mut [GicCpuInterface],
     count: &mut usize,
-    named: &mut Name,
+    named: &mut Signature,
 ) -> u32
     ensures { AnswersList result out.old out.new count.old count.new named.old named.new
         (below_gic source.now cpu_interfaces_shown) }
@@ -45,7 +45,7 @@ pub extern "C" fn zacpi_list_gic_redistributors(
     source: &Source<'_>,
     out: &mut [Range],
     count: &mut usize,
-    named: &mut Name,
+    named: &mut Signature,
 ) -> u32
     ensures { AnswersList result out.old out.new count.old count.new named.old named.new
         (below_gic source.now redistributors_shown) }
@@ -57,9 +57,9 @@ pub extern "C" fn zacpi_list_gic_redistributors(
 #[unsafe(no_mangle)]
 pub extern "C" fn zacpi_list_gic_translation_services(
     source: &Source<'_>,
-    out: &mut [TranslationServiceRecord],
+    out: &mut [GicTranslationService],
     count: &mut usize,
-    named: &mut Name,
+    named: &mut Signature,
 ) -> u32
     ensures { AnswersList result out.old out.new count.old count.new named.old named.new
         (below_gic source.now translation_services_shown) }
@@ -71,9 +71,9 @@ pub extern "C" fn zacpi_list_gic_translation_services(
 #[unsafe(no_mangle)]
 pub extern "C" fn zacpi_list_gic_msi_frames(
     source: &Source<'_>,
-    out: &mut [MsiFrameRecord],
+    out: &mut [GicMsiFrame],
     count: &mut usize,
-    named: &mut Name,
+    named: &mut Signature,
 ) -> u32
     ensures { AnswersList result out.old out.new count.old count.new named.old named.new
         (below_gic source.now msi_frames_shown) }
@@ -85,8 +85,8 @@ pub extern "C" fn zacpi_list_gic_msi_frames(
 #[unsafe(no_mangle)]
 pub extern "C" fn zacpi_arm_timers(
     source: &Source<'_>,
-    out: &mut ArmTimersRecord,
-    named: &mut Name,
+    out: &mut ArmTimers,
+    named: &mut Signature,
 ) -> u32
     ensures { Answers result out.old out.new named.old named.new (gtdt_below source.now timers_shown) }
 {
@@ -97,9 +97,9 @@ pub extern "C" fn zacpi_arm_timers(
 #[unsafe(no_mangle)]
 pub extern "C" fn zacpi_list_gt_frames(
     source: &Source<'_>,
-    out: &mut [GtFrameRecord],
+    out: &mut [GtFrame],
     count: &mut usize,
-    named: &mut Name,
+    named: &mut Signature,
 ) -> u32
     ensures { AnswersList result out.old out.new count.old count.new named.old named.new
         (gtdt_below source.now frames_shown) }
@@ -111,9 +111,9 @@ pub extern "C" fn zacpi_list_gt_frames(
 #[unsafe(no_mangle)]
 pub extern "C" fn zacpi_list_watchdogs(
     source: &Source<'_>,
-    out: &mut [WatchdogRecord],
+    out: &mut [Watchdog],
     count: &mut usize,
-    named: &mut Name,
+    named: &mut Signature,
 ) -> u32
     ensures { AnswersList result out.old out.new count.old count.new named.old named.new
         (gtdt_below source.now watchdogs_shown) }

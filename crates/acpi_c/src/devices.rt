@@ -10,14 +10,14 @@ use acpi_c_lib::console::console;
 use acpi_c_lib::devices::{graphic, hpet, timer};
 use acpi_c_lib::fixed::fixed;
 use acpi_c_lib::fixed_records::{Console, FixedHardware};
-use acpi_c_lib::records::{BootGraphic, Hpet, Name, Source, Timer};
+use acpi_c_lib::records::{BootGraphic, HpetInfo, PmTimer, Signature, Source};
 
 /// The fixed hardware (section 5.2.9).
 #[unsafe(no_mangle)]
 pub extern "C" fn zacpi_fixed_hardware(
     source: &Source<'_>,
     out: &mut FixedHardware,
-    named: &mut Name,
+    named: &mut Signature,
 ) -> u32
     ensures { Answers result out.old out.new named.old named.new (fixed_below source.now) }
 {
@@ -26,7 +26,11 @@ pub extern "C" fn zacpi_fixed_hardware(
 
 /// The serial console that the firmware used (SPCR).
 #[unsafe(no_mangle)]
-pub extern "C" fn zacpi_console(source: &Source<'_>, out: &mut Console, named: &mut Name) -> u32
+pub extern "C" fn zacpi_console(
+    source: &Source<'_>,
+    out: &mut Console,
+    named: &mut Signature,
+) -> u32
     ensures { Answers result out.old out.new named.old named.new (console_below source.now) }
 {
     answer(console(source), out, named)
@@ -34,7 +38,7 @@ pub extern "C" fn zacpi_console(source: &Source<'_>, out: &mut Console, named: &
 
 /// The block of event timers (HPET).
 #[unsafe(no_mangle)]
-pub extern "C" fn zacpi_hpet(source: &Source<'_>, out: &mut Hpet, named: &mut Name) -> u32
+pub extern "C" fn zacpi_hpet(source: &Source<'_>, out: &mut HpetInfo, named: &mut Signature) -> u32
     ensures { Answers result out.old out.new named.old named.new (hpet_below source.now) }
 {
     answer(hpet(source), out, named)
@@ -42,7 +46,11 @@ pub extern "C" fn zacpi_hpet(source: &Source<'_>, out: &mut Hpet, named: &mut Na
 
 /// The power management timer (sections 4.8.3.3 and 5.2.9).
 #[unsafe(no_mangle)]
-pub extern "C" fn zacpi_pm_timer(source: &Source<'_>, out: &mut Timer, named: &mut Name) -> u32
+pub extern "C" fn zacpi_pm_timer(
+    source: &Source<'_>,
+    out: &mut PmTimer,
+    named: &mut Signature,
+) -> u32
     ensures { Answers result out.old out.new named.old named.new (timer_below source.now) }
 {
     answer(timer(source), out, named)
@@ -53,7 +61,7 @@ pub extern "C" fn zacpi_pm_timer(source: &Source<'_>, out: &mut Timer, named: &m
 pub extern "C" fn zacpi_boot_graphic(
     source: &Source<'_>,
     out: &mut BootGraphic,
-    named: &mut Name,
+    named: &mut Signature,
 ) -> u32
     ensures { Answers result out.old out.new named.old named.new (graphic_below source.now) }
 {

@@ -6,21 +6,21 @@ ghost use Rattle.acpi_c_lib.specs.Routes.{isa_below, pin_below, sci_below};
 
 use acpi_c_lib::answer::answer;
 use acpi_c_lib::interrupt_records::{
-    InterruptRecord, IoApicRecord, IsaInterrupts, Model, NmiLineRecord, NmiSourceRecord,
-    OverrideRecord, PinRecord, ProcessorRecord,
+    Interrupt, InterruptModel, InterruptSourceOverride, IoApic, IoApicPin, IsaInterrupts, NmiLine,
+    NmiSource, Processor,
 };
 use acpi_c_lib::interrupts::entries;
 use acpi_c_lib::isa_list::isa_list;
 use acpi_c_lib::processors::{model, processors};
-use acpi_c_lib::records::{Name, Source};
+use acpi_c_lib::records::{Signature, Source};
 use acpi_c_lib::routes::{isa, pin, sci};
 
 /// Which controllers interrupts come to, and how many of each sort there are (section 5.2.12).
 #[unsafe(no_mangle)]
 pub extern "C" fn zacpi_interrupt_model(
     source: &Source<'_>,
-    out: &mut Model,
-    named: &mut Name,
+    out: &mut InterruptModel,
+    named: &mut Signature,
 ) -> u32
     ensures { Answers result out.old out.new named.old named.new (below_platform source.now counts_of) }
 {
@@ -31,9 +31,9 @@ pub extern "C" fn zacpi_interrupt_model(
 #[unsafe(no_mangle)]
 pub extern "C" fn zacpi_list_processors(
     source: &Source<'_>,
-    out: &mut [ProcessorRecord],
+    out: &mut [Processor],
     count: &mut usize,
-    named: &mut Name,
+    named: &mut Signature,
 ) -> u32
     ensures { AnswersList result out.old out.new count.old count.new named.old named.new
         (below_platform source.now processors_of) }
@@ -45,9 +45,9 @@ pub extern "C" fn zacpi_list_processors(
 #[unsafe(no_mangle)]
 pub extern "C" fn zacpi_list_io_apics(
     source: &Source<'_>,
-    out: &mut [IoApicRecord],
+    out: &mut [IoApic],
     count: &mut usize,
-    named: &mut Name,
+    named: &mut Signature,
 ) -> u32
     ensures { AnswersList result out.old out.new count.old count.new named.old named.new
         (below_platform source.now io_apics_of) }
@@ -59,9 +59,9 @@ pub extern "C" fn zacpi_list_io_apics(
 #[unsafe(no_mangle)]
 pub extern "C" fn zacpi_list_overrides(
     source: &Source<'_>,
-    out: &mut [OverrideRecord],
+    out: &mut [InterruptSourceOverride],
     count: &mut usize,
-    named: &mut Name,
+    named: &mut Signature,
 ) -> u32
     ensures { AnswersList result out.old out.new count.old count.new named.old named.new
         (below_platform source.now overrides_of) }
@@ -73,9 +73,9 @@ pub extern "C" fn zacpi_list_overrides(
 #[unsafe(no_mangle)]
 pub extern "C" fn zacpi_list_nmi_sources(
     source: &Source<'_>,
-    out: &mut [NmiSourceRecord],
+    out: &mut [NmiSource],
     count: &mut usize,
-    named: &mut Name,
+    named: &mut Signature,
 ) -> u32
     ensures { AnswersList result out.old out.new count.old count.new named.old named.new
         (below_platform source.now nmi_sources_of) }
@@ -87,9 +87,9 @@ pub extern "C" fn zacpi_list_nmi_sources(
 #[unsafe(no_mangle)]
 pub extern "C" fn zacpi_list_nmi_lines(
     source: &Source<'_>,
-    out: &mut [NmiLineRecord],
+    out: &mut [NmiLine],
     count: &mut usize,
-    named: &mut Name,
+    named: &mut Signature,
 ) -> u32
     ensures { AnswersList result out.old out.new count.old count.new named.old named.new
         (below_platform source.now nmi_lines_of) }
@@ -102,8 +102,8 @@ pub extern "C" fn zacpi_list_nmi_lines(
 pub extern "C" fn zacpi_isa_interrupt(
     source: &Source<'_>,
     irq: u8,
-    out: &mut InterruptRecord,
-    named: &mut Name,
+    out: &mut Interrupt,
+    named: &mut Signature,
 ) -> u32
     ensures { Answers result out.old out.new named.old named.new (isa_below source.now irq) }
 {
@@ -114,8 +114,8 @@ pub extern "C" fn zacpi_isa_interrupt(
 #[unsafe(no_mangle)]
 pub extern "C" fn zacpi_sci_interrupt(
     source: &Source<'_>,
-    out: &mut InterruptRecord,
-    named: &mut Name,
+    out: &mut Interrupt,
+    named: &mut Signature,
 ) -> u32
     ensures { Answers result out.old out.new named.old named.new (sci_below source.now) }
 {
@@ -127,8 +127,8 @@ pub extern "C" fn zacpi_sci_interrupt(
 pub extern "C" fn zacpi_io_apic_pin(
     source: &Source<'_>,
     interrupt: u32,
-    out: &mut PinRecord,
-    named: &mut Name,
+    out: &mut IoApicPin,
+    named: &mut Signature,
 ) -> u32
     ensures { Answers result out.old out.new named.old named.new (pin_below source.now interrupt) }
 {
@@ -140,7 +140,7 @@ pub extern "C" fn zacpi_io_apic_pin(
 pub extern "C" fn zacpi_list_isa_interrupts(
     source: &Source<'_>,
     out: &mut IsaInterrupts,
-    named: &mut Name,
+    named: &mut Signature,
 ) -> u32
     ensures { Answers result out.old out.new named.old named.new (isa_list_below source.now) }
 {

@@ -10,6 +10,7 @@
 mod arm;
 mod clip;
 mod devices;
+mod entries;
 mod interrupts;
 mod missing;
 mod numa;

@@ -4,7 +4,7 @@ ghost use Rattle.acpi_c_lib.specs.Missing.{missing_below};
 
 use acpi_c_lib::answer::answer;
 use acpi_c_lib::missing::missing;
-use acpi_c_lib::records::{Name, Range, Source};
+use acpi_c_lib::records::{Range, Signature, Source};
 
 /// The ranges of memory that were asked for, and that lie in no one region: as many as there is room for,
 /// and how many there are. A kernel maps those that it can, joins them with the ranges of its regions
@@ -24,7 +24,7 @@ pub extern "C" fn zacpi_list_missing_ranges(
     source: &Source<'_>,
     out: &mut [Range],
     count: &mut usize,
-    named: &mut Name,
+    named: &mut Signature,
 ) -> u32
     ensures { AnswersList result out.old out.new count.old count.new named.old named.new
         (missing_below source.now) }

@@ -7,16 +7,16 @@ use acpi_c_lib::answer::answer;
 use acpi_c_lib::numa::{
     affinities, distance, domain_of_address, domain_of_apic, domain_of_processor, localities,
 };
-use acpi_c_lib::numa_records::{LocalitiesRecord, MemoryAffinityRecord};
-use acpi_c_lib::records::{Name, Source};
+use acpi_c_lib::numa_records::{Localities, MemoryAffinity};
+use acpi_c_lib::records::{Signature, Source};
 
 /// The ranges of memory that the SRAT puts into domains (section 5.2.16.2).
 #[unsafe(no_mangle)]
 pub extern "C" fn zacpi_list_memory_affinities(
     source: &Source<'_>,
-    out: &mut [MemoryAffinityRecord],
+    out: &mut [MemoryAffinity],
     count: &mut usize,
-    named: &mut Name,
+    named: &mut Signature,
 ) -> u32
     ensures { AnswersList result out.old out.new count.old count.new named.old named.new
         (affinities_below source.now) }
@@ -30,7 +30,7 @@ pub extern "C" fn zacpi_domain_of_address(
     source: &Source<'_>,
     address: u64,
     out: &mut u32,
-    named: &mut Name,
+    named: &mut Signature,
 ) -> u32
     ensures { Answers result out.old out.new named.old named.new
         (domain_of_address_below source.now address) }
@@ -44,7 +44,7 @@ pub extern "C" fn zacpi_domain_of_apic(
     source: &Source<'_>,
     local_apic_id: u32,
     out: &mut u32,
-    named: &mut Name,
+    named: &mut Signature,
 ) -> u32
     ensures { Answers result out.old out.new named.old named.new
         (domain_of_apic_below source.now local_apic_id) }
@@ -58,7 +58,7 @@ pub extern "C" fn zacpi_domain_of_processor(
     source: &Source<'_>,
     uid: u32,
     out: &mut u32,
-    named: &mut Name,
+    named: &mut Signature,
 ) -> u32
     ensures { Answers result out.old out.new named.old named.new
         (domain_of_processor_below source.now uid) }
@@ -73,7 +73,7 @@ pub extern "C" fn zacpi_distance(
     from: u64,
     to: u64,
     out: &mut u8,
-    named: &mut Name,
+    named: &mut Signature,
 ) -> u32
     ensures { Answers result out.old out.new named.old named.new (distance_below source.now from to) }
 {
@@ -84,8 +84,8 @@ pub extern "C" fn zacpi_distance(
 #[unsafe(no_mangle)]
 pub extern "C" fn zacpi_localities(
     source: &Source<'_>,
-    out: &mut LocalitiesRecord,
-    named: &mut Name,
+    out: &mut Localities,
+    named: &mut Signature,
 ) -> u32
     ensures { AnswersSome IsLocalities result out.old out.new named.old named.new (slit_in source.now) }
 {

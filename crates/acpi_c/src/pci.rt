@@ -5,7 +5,7 @@ ghost use Rattle.acpi_c_lib.specs.Shown.{ecam_below, ecam_ranges_below, pci_regi
 use acpi_c_lib::answer::answer;
 use acpi_c_lib::fixed_records::EcamRange;
 use acpi_c_lib::pci::{ecam_address, ecam_ranges, pci_regions};
-use acpi_c_lib::records::{Name, PciRegion, Source};
+use acpi_c_lib::records::{PciRegion, Signature, Source};
 
 /// The regions of configuration space (PCI Firmware Specification, section 4.1.2).
 #[unsafe(no_mangle)]
@@ -13,7 +13,7 @@ pub extern "C" fn zacpi_list_pci_regions(
     source: &Source<'_>,
     out: &mut [PciRegion],
     count: &mut usize,
-    named: &mut Name,
+    named: &mut Signature,
 ) -> u32
     ensures { AnswersList result out.old out.new count.old count.new named.old named.new
         (pci_regions_below source.now) }
@@ -30,7 +30,7 @@ pub extern "C" fn zacpi_pci_ecam_address(
     device: u8,
     function: u8,
     out: &mut u64,
-    named: &mut Name,
+    named: &mut Signature,
 ) -> u32
     ensures { Answers result out.old out.new named.old named.new
         (ecam_below source.now segment bus device function) }
@@ -48,7 +48,7 @@ pub extern "C" fn zacpi_list_ecam_ranges(
     source: &Source<'_>,
     out: &mut [EcamRange],
     count: &mut usize,
-    named: &mut Name,
+    named: &mut Signature,
 ) -> u32
     ensures { AnswersList result out.old out.new count.old count.new named.old named.new
         (ecam_ranges_below source.now) }

@@ -7,13 +7,13 @@ ghost use Rattle.acpi_c_lib.specs.Walked.{nth_below, ranges_below, ssdts_below};
 use acpi_c_lib::answer::answer;
 use acpi_c_lib::faults::faults;
 use acpi_c_lib::opening::root;
-use acpi_c_lib::records::{Aml, Fault, Name, Range, Root, Source, Table};
+use acpi_c_lib::records::{AmlTable, Fault, Range, Root, Signature, Source, Table};
 use acpi_c_lib::tables::{dsdt, find, tables};
 use acpi_c_lib::walks::{nth, ranges, ssdts};
 
 /// The root table (sections 5.2.7 and 5.2.8).
 #[unsafe(no_mangle)]
-pub extern "C" fn zacpi_open(source: &Source<'_>, out: &mut Root, named: &mut Name) -> u32
+pub extern "C" fn zacpi_open(source: &Source<'_>, out: &mut Root, named: &mut Signature) -> u32
     ensures { Answers result out.old out.new named.old named.new (root_below source.now) }
 {
     answer(root(source), out, named)
@@ -25,7 +25,7 @@ pub extern "C" fn zacpi_list_tables(
     source: &Source<'_>,
     out: &mut [Table],
     count: &mut usize,
-    named: &mut Name,
+    named: &mut Signature,
 ) -> u32
     ensures { AnswersList result out.old out.new count.old count.new named.old named.new
         (tables_below source.now) }
@@ -37,9 +37,9 @@ pub extern "C" fn zacpi_list_tables(
 #[unsafe(no_mangle)]
 pub extern "C" fn zacpi_find_table(
     source: &Source<'_>,
-    name: Name,
+    name: Signature,
     out: &mut Table,
-    named: &mut Name,
+    named: &mut Signature,
 ) -> u32
     ensures { Answers result out.old out.new named.old named.new (table_below source.now name) }
 {
@@ -48,7 +48,7 @@ pub extern "C" fn zacpi_find_table(
 
 /// The AML of the DSDT (sections 5.2.9 and 5.2.11.1).
 #[unsafe(no_mangle)]
-pub extern "C" fn zacpi_dsdt(source: &Source<'_>, out: &mut Aml, named: &mut Name) -> u32
+pub extern "C" fn zacpi_dsdt(source: &Source<'_>, out: &mut AmlTable, named: &mut Signature) -> u32
     ensures { Answers result out.old out.new named.old named.new (dsdt_below source.now) }
 {
     answer(dsdt(source), out, named)
@@ -58,10 +58,10 @@ pub extern "C" fn zacpi_dsdt(source: &Source<'_>, out: &mut Aml, named: &mut Nam
 #[unsafe(no_mangle)]
 pub extern "C" fn zacpi_find_nth_table(
     source: &Source<'_>,
-    name: Name,
+    name: Signature,
     index: usize,
     out: &mut Table,
-    named: &mut Name,
+    named: &mut Signature,
 ) -> u32
     ensures { Answers result out.old out.new named.old named.new (nth_below source.now name index) }
 {
@@ -72,9 +72,9 @@ pub extern "C" fn zacpi_find_nth_table(
 #[unsafe(no_mangle)]
 pub extern "C" fn zacpi_list_ssdts(
     source: &Source<'_>,
-    out: &mut [Aml],
+    out: &mut [AmlTable],
     count: &mut usize,
-    named: &mut Name,
+    named: &mut Signature,
 ) -> u32
     ensures { AnswersList result out.old out.new count.old count.new named.old named.new
         (ssdts_below source.now) }
@@ -88,7 +88,7 @@ pub extern "C" fn zacpi_list_ranges(
     source: &Source<'_>,
     out: &mut [Range],
     count: &mut usize,
-    named: &mut Name,
+    named: &mut Signature,
 ) -> u32
     ensures { AnswersList result out.old out.new count.old count.new named.old named.new
         (ranges_below source.now) }
@@ -100,10 +100,10 @@ pub extern "C" fn zacpi_list_ranges(
 #[unsafe(no_mangle)]
 pub extern "C" fn zacpi_list_faults(
     source: &Source<'_>,
-    name: Name,
+    name: Signature,
     out: &mut [Fault],
     count: &mut usize,
-    named: &mut Name,
+    named: &mut Signature,
 ) -> u32
     ensures { AnswersList result out.old out.new count.old count.new named.old named.new
         (faults_below source.now name) }

@@ -21,9 +21,9 @@ use Rattle.acpi_c_lib.specs.Below.{below, opened_in}
 use Rattle.acpi_c_lib.specs.IsaList.{ItemsAreAnswers, isa_list, isa_numbers, isa_route, nearer_of, no_route, number_of, route_by, route_of}
 use Rattle.acpi_c_lib.specs.Regions.{memory_in}
 use Rattle.acpi_c_lib.specs.Routes.{apics_in, interrupt_or, pin_below, pin_or}
-use Rattle.acpi_c_lib.specs.declared.interrupt_records.InterruptRecord.{InterruptRecord}
+use Rattle.acpi_c_lib.specs.declared.interrupt_records.Interrupt.{Interrupt}
 use Rattle.acpi_c_lib.specs.declared.interrupt_records.IsaInterrupts.{IsaInterrupts}
-use Rattle.acpi_c_lib.specs.declared.interrupt_records.PinRecord.{PinRecord}
+use Rattle.acpi_c_lib.specs.declared.interrupt_records.IoApicPin.{IoApicPin}
 use Rattle.acpi_c_lib.specs.declared.records.Source.{Source}
 use Rattle.acpi_c_lib.specs.declared.refusal.Refusal.{Refusal}
 use Rattle.acpi_c_lib.specs.declared.interrupt_records.IsaRoute.{IsaRoute}
@@ -126,14 +126,14 @@ shown_over f s (Err e) = refl
 shown : {A : Type 0} (f : Apic (Unit {0}) → Result A Refusal) (s : Source) → below s (λ m ps. apics_in m ps >>= f) ≡ (below s apics_in >>= f)
 shown f s = shown_over f s (memory_in s.regions.now)
 
-same_pins : (one two : ℕ → Result PinRecord Refusal) (r : Result InterruptRecord Refusal) → ((n : ℕ) → one n ≡ two n) → route_by one r ≡ route_by two r
+same_pins : (one two : ℕ → Result IoApicPin Refusal) (r : Result Interrupt Refusal) → ((n : ℕ) → one n ≡ two n) → route_by one r ≡ route_by two r
 same_pins one two (Ok i) same = rw (same i.global_system_interrupt)
 same_pins one two (Err e) same = refl
 
-abbrev isa_by : ℕ → Apic (Unit {0}) → Result InterruptRecord Refusal
+abbrev isa_by : ℕ → Apic (Unit {0}) → Result Interrupt Refusal
 isa_by irq apic = interrupt_or (isa_interrupt apic.interrupt_source_overrides irq)
 
-abbrev pin_by : ℕ → Apic (Unit {0}) → Result PinRecord Refusal
+abbrev pin_by : ℕ → Apic (Unit {0}) → Result IoApicPin Refusal
 pin_by n apic = pin_or (io_apic_for apic.io_apics n)
 
 abbrev list_by : Apic (Unit {0}) → Result IsaInterrupts Refusal

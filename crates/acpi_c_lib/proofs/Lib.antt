@@ -2,10 +2,13 @@ pub mod Ascending
 pub mod BootProcessor
 pub mod Clipping
 pub mod CountedList
+pub mod EntryLengths
 pub mod Filling
+pub mod Halved
 pub mod IsaList
 pub mod Listing
 pub mod Lying
 pub mod Names
+pub mod TableEnds
 pub mod TimerCounts
 pub mod Unlent

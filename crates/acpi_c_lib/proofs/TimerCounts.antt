@@ -13,7 +13,7 @@ use Rattle.acpi_arm.specs.declared.frames.GtFrame.{GtFrame}
 use Rattle.acpi_c_lib.proofs.CountedList.{put_parts}
 use Rattle.acpi_c_lib.specs.Answers.{put_from}
 use Rattle.acpi_c_lib.specs.ArmTimers.{frame_record, frames_in, frames_of, frames_shown, watchdog_in, watchdogs_shown}
-use Rattle.acpi_c_lib.specs.declared.arm_records.GtFrameRecord.{GtFrameRecord}
+use Rattle.acpi_c_lib.specs.Records as records
 
 -- ---- frames
 
@@ -24,7 +24,7 @@ length_frames (suc n) bytes = ap suc (length_frames n (drop 40 bytes))
 few : (n offset most : ℕ) → ((n == 0) || (nat_le 20 offset && nat_le (offset + 40 * n) most)) ≡ true → n ≤ most
 few n offset most h = grind (arith, nat_tests)
 
-abbrev said : Option Timer → List GtFrameRecord
+abbrev said : Option Timer → List records.GtFrame
 said (Some t) = frames_in t
 said None = []
 
@@ -40,7 +40,7 @@ with_said : (o : Option Timer) (timers : List Timer) (n m : ℕ) → length (sai
 with_said (Some t) timers n m h k = omega (arith, h, k, length-append (frames_in t) (frames_of timers))
 with_said None timers n m h k = omega (arith, k)
 
-abbrev frames_among : List (List ℕ) → List GtFrameRecord
+abbrev frames_among : List (List ℕ) → List records.GtFrame
 frames_among es = frames_of (filter_map timer_of es)
 
 by_sound : (b : Bool) (e : List ℕ) (es : List (List ℕ)) → is_sound e ≡ b → length (frames_among (sound_front es)) ≤ length (concat es)
@@ -107,7 +107,7 @@ block_first all count block frames left more e h =
     let many = rw (e, length-append (map (frame_record block) frames) (frames_of more)) at h in
     omega (arith, many)
 
-pub block_written : (old out : List GtFrameRecord) (all : List GtFrameRecord) (count : ℕ) (block : ℕ) (frames : List GtFrame) (left more : List Timer) → left ≡ inl (block, frames) ∷ more
+pub block_written : (old out : List records.GtFrame) (all : List records.GtFrame) (count : ℕ) (block : ℕ) (frames : List GtFrame) (left more : List Timer) → left ≡ inl (block, frames) ∷ more
     → put_from out count (frames_of left) ≡ put_from old 0 all
     → put_from (put_from out count (map (frame_record block) frames)) (count + length (map (frame_record block) frames)) (frames_of more) ≡ put_from old 0 all
 block_written old out all count block frames left more e h =

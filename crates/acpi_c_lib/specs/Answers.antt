@@ -3,7 +3,7 @@ use Rattle.std.specs.Prelude.{◌≡◌, ℕ, ◌+◌, List, [], ◌∷◌, leng
 use Rattle.acpi_base.specs.Text.{letters_of}
 use Rattle.acpi_base.specs.declared.table.signature.Signature.{Signature}
 use Rattle.acpi_c_lib.specs.Codes.{code_of, signature_of}
-use Rattle.acpi_c_lib.specs.declared.records.Name.{Name}
+use Rattle.acpi_c_lib.specs.Records as records
 use Rattle.acpi_c_lib.specs.declared.refusal.Refusal.{Refusal}
 
 -- what is made of the value, or the refusal
@@ -12,19 +12,24 @@ result_map f (Ok x) = Ok (f x)
 result_map f (Err e) = Err e
 
 -- a signature as C has it, or else what was there
-abbrev pub signature_or : Name → Option Signature → Name
+abbrev pub signature_or : records.Signature → Option Signature → records.Signature
 signature_or old (Some s) = record { letters = letters_of s }
 signature_or old None = old
 
 -- the signature that a refusal carries, or else what was there
-abbrev pub name_or : Name → Refusal → Name
+abbrev pub name_or : records.Signature → Refusal → records.Signature
 name_or old e = signature_or old (signature_of e)
 
 -- 0, and the value written; or the refusal's number, and nothing written but its signature
-abbrev pub Answers : {A : Type 0} → ℕ → A → A → Name → Name → Result A Refusal → Type 0
+abbrev pub Answers : {A : Type 0} → ℕ → A → A → records.Signature → records.Signature → Result A Refusal → Type 0
 Answers status old new old_name new_name (Ok x) = (status ≡ 0) × (new ≡ x) × (new_name ≡ old_name)
 Answers status old new old_name new_name (Err e) =
     (status ≡ code_of e) × (new ≡ old) × (new_name ≡ name_or old_name e)
+
+-- the same of a call whose refusals carry no signature
+abbrev pub AnswersPlain : {A : Type 0} → ℕ → A → A → Result A Refusal → Type 0
+AnswersPlain status old new (Ok x) = (status ≡ 0) × (new ≡ x)
+AnswersPlain status old new (Err e) = (status ≡ code_of e) × (new ≡ old)
 
 -- ---- lists
 
@@ -47,7 +52,7 @@ abbrev pub Fills : {X : Type 0} → Result ℕ Refusal → List X → List X →
 Fills count old new said = (count ≡ result_map length said) × (new ≡ put_from old 0 (items_said said))
 
 -- how many items there are is answered as any value is, and the items were written as far as there is room
-abbrev pub AnswersList : {X : Type 0} → ℕ → List X → List X → ℕ → ℕ → Name → Name
+abbrev pub AnswersList : {X : Type 0} → ℕ → List X → List X → ℕ → ℕ → records.Signature → records.Signature
     → Result (List X) Refusal → Type 0
 AnswersList status old new old_count new_count old_name new_name said =
     Answers status old_count new_count old_name new_name (result_map length said)
@@ -57,7 +62,7 @@ AnswersList status old new old_count new_count old_name new_name said =
 
 -- 0, and a value written of which this holds; or the refusal's number, and nothing written but its
 -- signature
-abbrev pub AnswersSome : {A B : Type 0} → (B → A → Type 0) → ℕ → A → A → Name → Name → Result B Refusal
+abbrev pub AnswersSome : {A B : Type 0} → (B → A → Type 0) → ℕ → A → A → records.Signature → records.Signature → Result B Refusal
     → Type 0
 AnswersSome Is status old new old_name new_name (Ok x) = (status ≡ 0) × Is x new × (new_name ≡ old_name)
 AnswersSome Is status old new old_name new_name (Err e) =

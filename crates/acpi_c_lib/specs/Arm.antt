@@ -15,10 +15,7 @@ use Rattle.acpi_arm.specs.declared.gic.part.SpiRange.{SpiRange}
 use Rattle.acpi_c_lib.specs.Answers.{result_map}
 use Rattle.acpi_c_lib.specs.Below.{below, refused_as}
 use Rattle.acpi_c_lib.specs.Devices.{flag}
-use Rattle.acpi_c_lib.specs.declared.arm_records.CpuInterfaceRecord.{CpuInterfaceRecord}
-use Rattle.acpi_c_lib.specs.declared.arm_records.DistributorRecord.{DistributorRecord}
-use Rattle.acpi_c_lib.specs.declared.arm_records.MsiFrameRecord.{MsiFrameRecord}
-use Rattle.acpi_c_lib.specs.declared.arm_records.TranslationServiceRecord.{TranslationServiceRecord}
+use Rattle.acpi_c_lib.specs.Records as records
 use Rattle.acpi_c_lib.specs.declared.records.Range.{Range}
 use Rattle.acpi_c_lib.specs.declared.records.Source.{Source}
 use Rattle.acpi_c_lib.specs.declared.refusal.Refusal.{Refusal}
@@ -40,7 +37,7 @@ below_gic s show = result_map show (below s gic_in)
 
 -- ---- the distributor (section 5.2.12.15)
 
-abbrev pub distributor_record : GicDistributor → DistributorRecord
+abbrev pub distributor_record : GicDistributor → records.GicDistributor
 distributor_record d = record {
   address = d.address;
   id = d.id;
@@ -48,12 +45,12 @@ distributor_record d = record {
   version = d.version;
 }
 
-abbrev pub distributor_shown : Gic → DistributorRecord
+abbrev pub distributor_shown : Gic → records.GicDistributor
 distributor_shown gic = distributor_record gic.distributor
 
 -- ---- processors' interfaces (section 5.2.12.14)
 
-unfoldable pub cpu_interface_record : GicCpuInterface → CpuInterfaceRecord
+unfoldable pub cpu_interface_record : GicCpuInterface → records.GicCpuInterface
 cpu_interface_record x = record {
   mpidr = x.mpidr;
   parked_address = x.parked_address;
@@ -75,7 +72,7 @@ cpu_interface_record x = record {
   efficiency_class = x.efficiency_class;
 }
 
-abbrev pub cpu_interfaces_shown : Gic → List CpuInterfaceRecord
+abbrev pub cpu_interfaces_shown : Gic → List records.GicCpuInterface
 cpu_interfaces_shown gic = map cpu_interface_record gic.cpu_interfaces
 
 -- ---- redistributors (section 5.2.12.17)
@@ -88,10 +85,10 @@ redistributors_shown gic = map redistributors_record gic.redistributors
 
 -- ---- services that translate interrupts (section 5.2.12.18)
 
-abbrev pub translation_service_record : GicTranslationService → TranslationServiceRecord
+abbrev pub translation_service_record : GicTranslationService → records.GicTranslationService
 translation_service_record t = record { address = t.address; id = t.id }
 
-abbrev pub translation_services_shown : Gic → List TranslationServiceRecord
+abbrev pub translation_services_shown : Gic → List records.GicTranslationService
 translation_services_shown gic = map translation_service_record gic.translation_services
 
 -- ---- frames of messages (section 5.2.12.16)
@@ -110,7 +107,7 @@ abbrev pub has_spis_of : Option SpiRange → ℕ
 has_spis_of (Some spis) = 1
 has_spis_of None = 0
 
-abbrev pub msi_frame_record : GicMsiFrame → MsiFrameRecord
+abbrev pub msi_frame_record : GicMsiFrame → records.GicMsiFrame
 msi_frame_record f = record {
   address = f.address;
   id = f.id;
@@ -119,5 +116,5 @@ msi_frame_record f = record {
   has_spis = has_spis_of f.spis;
 }
 
-abbrev pub msi_frames_shown : Gic → List MsiFrameRecord
+abbrev pub msi_frames_shown : Gic → List records.GicMsiFrame
 msi_frames_shown gic = map msi_frame_record gic.msi_frames

@@ -12,10 +12,9 @@ use Rattle.acpi_arm.specs.declared.gtdt.Gtdt.{Gtdt}
 use Rattle.acpi_arm.specs.declared.timers.SbsaWatchdog.{SbsaWatchdog}
 use Rattle.acpi_c_lib.specs.Below.{below_first}
 use Rattle.acpi_c_lib.specs.Devices.{flag}
-use Rattle.acpi_c_lib.specs.declared.arm_records.ArmTimerRecord.{ArmTimerRecord}
-use Rattle.acpi_c_lib.specs.declared.arm_records.ArmTimersRecord.{ArmTimersRecord}
-use Rattle.acpi_c_lib.specs.declared.arm_records.GtFrameRecord.{GtFrameRecord}
-use Rattle.acpi_c_lib.specs.declared.arm_records.WatchdogRecord.{WatchdogRecord}
+use Rattle.acpi_c_lib.specs.Records as records
+use Rattle.acpi_c_lib.specs.declared.arm_records.ArmTimers.{ArmTimers}
+use Rattle.acpi_c_lib.specs.declared.arm_records.Watchdog.{Watchdog}
 use Rattle.acpi_c_lib.specs.declared.records.Source.{Source}
 use Rattle.acpi_c_lib.specs.declared.refusal.Refusal.{Refusal}
 
@@ -29,7 +28,7 @@ or_ones address = unwrap_or address (2 ^ 64 - 1)
 
 -- ---- the timers of every processor
 
-abbrev pub arm_timer_record : ArmTimer → ArmTimerRecord
+abbrev pub arm_timer_record : ArmTimer → records.ArmTimer
 arm_timer_record t = record {
   interrupt = t.interrupt;
   polarity = polarity_code t.polarity;
@@ -38,12 +37,12 @@ arm_timer_record t = record {
   present = 1;
 }
 
-abbrev pub arm_timer_or : Option ArmTimer → ArmTimerRecord
+abbrev pub arm_timer_or : Option ArmTimer → records.ArmTimer
 arm_timer_or (Some t) = arm_timer_record t
 arm_timer_or None = record { interrupt = 0; polarity = 0; trigger = 0; always_on = 0; present = 0 }
 
 -- a table's fixed fields, and whether its platform timers end malformed
-abbrev pub timers_record : Gtdt → Bool → ArmTimersRecord
+abbrev pub timers_record : Gtdt → Bool → ArmTimers
 timers_record t is_malformed = record {
   control_base = or_ones (control_base_of t);
   read_base = or_ones (read_base_of t);
@@ -55,13 +54,13 @@ timers_record t is_malformed = record {
   platform_timers_malformed = flag is_malformed;
 }
 
-abbrev pub timers_shown : List ℕ → ArmTimersRecord
+abbrev pub timers_shown : List ℕ → ArmTimers
 timers_shown table = timers_record (gtdt_at table) (nat_lt 0 (missing_of table))
 
 -- ---- the frames of blocks of timers (section 5.2.24.1.1)
 
 -- a frame of the block at an address
-abbrev pub frame_record : ℕ → GtFrame → GtFrameRecord
+abbrev pub frame_record : ℕ → GtFrame → records.GtFrame
 frame_record block f = record {
   block_address = block;
   address = f.base;
@@ -78,21 +77,21 @@ frame_record block f = record {
 }
 
 -- the frames of a timer, if it is a block
-abbrev pub frames_in : Timer → List GtFrameRecord
+abbrev pub frames_in : Timer → List records.GtFrame
 frames_in (inl (block, frames)) = map (frame_record block) frames
 frames_in (inr watchdog) = []
 
 -- those of all timers, in order
-abbrev pub frames_of : List Timer → List GtFrameRecord
+abbrev pub frames_of : List Timer → List records.GtFrame
 frames_of [] = []
 frames_of (t ∷ timers) = frames_in t ++ frames_of timers
 
-abbrev pub frames_shown : List ℕ → List GtFrameRecord
+abbrev pub frames_shown : List ℕ → List records.GtFrame
 frames_shown table = frames_of (timers_of table)
 
 -- ---- watchdogs (section 5.2.24.1.2)
 
-abbrev pub watchdog_record : SbsaWatchdog → WatchdogRecord
+abbrev pub watchdog_record : SbsaWatchdog → Watchdog
 watchdog_record w = record {
   refresh_frame = w.refresh_frame;
   control_frame = w.control_frame;
@@ -103,13 +102,13 @@ watchdog_record w = record {
 }
 
 -- a timer, if it is a watchdog
-abbrev pub watchdog_in : Timer → Option WatchdogRecord
+abbrev pub watchdog_in : Timer → Option Watchdog
 watchdog_in (inl block) = None
 watchdog_in (inr watchdog) = Some (watchdog_record watchdog)
 
 -- those of all timers, in order
-abbrev pub watchdogs_of : List Timer → List WatchdogRecord
+abbrev pub watchdogs_of : List Timer → List Watchdog
 watchdogs_of timers = filter_map watchdog_in timers
 
-abbrev pub watchdogs_shown : List ℕ → List WatchdogRecord
+abbrev pub watchdogs_shown : List ℕ → List Watchdog
 watchdogs_shown table = watchdogs_of (timers_of table)

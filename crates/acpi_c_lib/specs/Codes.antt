@@ -52,6 +52,7 @@ code_of refusal.InvalidMemoryRange = 33
 code_of refusal.NoGic = 34
 code_of refusal.NoDomain = 35
 code_of refusal.NoDistance = 36
+code_of refusal.UnknownWidth = 37
 code_of (refusal.Acpi e) = acpi_code e
 
 -- ---- the signatures that refusals carry

@@ -17,18 +17,17 @@ use Rattle.acpi.specs.Timer.{timer_of}
 use Rattle.acpi.specs.declared.platform.timer.PmTimer.{PmTimer}
 use Rattle.acpi_c_lib.specs.Answers.{result_map}
 use Rattle.acpi_c_lib.specs.Below.{below_first, below_source}
+use Rattle.acpi_c_lib.specs.Records as records
 use Rattle.acpi_c_lib.specs.declared.records.BootGraphic.{BootGraphic}
-use Rattle.acpi_c_lib.specs.declared.records.Generic.{Generic}
 use Rattle.acpi_c_lib.specs.declared.records.Register.{Register}
 use Rattle.acpi_c_lib.specs.declared.records.Source.{Source}
-use Rattle.acpi_c_lib.specs.declared.records.Timer.{Timer}
 use Rattle.acpi_c_lib.specs.declared.refusal.Refusal.{Refusal}
 
 abbrev pub flag : Bool → ℕ
 flag true = 1
 flag false = 0
 
-abbrev pub generic_record : GenericAddress → Generic
+abbrev pub generic_record : GenericAddress → records.GenericAddress
 generic_record a = record {
   address = a.address;
   space = space_code a.address_space;
@@ -37,7 +36,7 @@ generic_record a = record {
   access_size = size_code a.access_size;
 }
 
-abbrev pub no_register : Generic
+abbrev pub no_register : records.GenericAddress
 no_register = record { address = 0; space = 0; bit_width = 0; bit_offset = 0; access_size = 0 }
 
 -- a register; or zeros, and 0 if there is none or 2 if its address is refused
@@ -57,7 +56,7 @@ register_if None = optional_register (Ok None)
 
 -- ---- the power management timer (section 4.8.3.3)
 
-abbrev pub timer_record : Option PmTimer → Timer
+abbrev pub timer_record : Option PmTimer → records.PmTimer
 timer_record (Some t) =
     record { base = generic_record t.base; present = 1; is_32_bit = flag t.supports_32bit }
 timer_record None = record { base = no_register; present = 0; is_32_bit = 0 }
@@ -68,7 +67,7 @@ timer_in m ps = do
   found ← lookup m fadt_kind ps
   timer_of (fadt_at found.1)
 
-abbrev pub timer_below : Source → Result Timer Refusal
+abbrev pub timer_below : Source → Result records.PmTimer Refusal
 timer_below s = below_source s (λ m ps. result_map timer_record (timer_in m ps))
 
 -- ---- the boot graphic (section 5.2.22)

@@ -8,9 +8,9 @@ use Rattle.acpi.specs.Lists.{faults_of}
 use Rattle.acpi.specs.declared.records.TableFault.{TableFault}
 use Rattle.acpi_c_lib.specs.Below.{below_source}
 use Rattle.acpi_c_lib.specs.Codes.{acpi_code}
+use Rattle.acpi_c_lib.specs.Records as records
 use Rattle.acpi_c_lib.specs.Shown.{signature_named}
 use Rattle.acpi_c_lib.specs.declared.records.Fault.{Fault}
-use Rattle.acpi_c_lib.specs.declared.records.Name.{Name}
 use Rattle.acpi_c_lib.specs.declared.records.Source.{Source}
 use Rattle.acpi_c_lib.specs.declared.refusal.Refusal.{Refusal}
 
@@ -36,6 +36,6 @@ abbrev pub kind_named : Signature → Kind
 kind_named s = sdt_kind s (least_named s)
 
 -- the faults of the members up to the first that a lookup of a name takes
-abbrev pub faults_below : Source → Name → Result (List Fault) Refusal
+abbrev pub faults_below : Source → records.Signature → Result (List Fault) Refusal
 faults_below s name =
     below_source s (λ m ps. Ok (map fault_record (faults_of m (kind_named (signature_named name)) ps)))

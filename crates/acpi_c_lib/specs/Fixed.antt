@@ -14,8 +14,8 @@ use Rattle.acpi_fixed.specs.declared.fadt.registers.gpe.GpeBlock.{GpeBlock}
 use Rattle.acpi.specs.Lists.{fadt_kind}
 use Rattle.acpi_c_lib.specs.Below.{below_first}
 use Rattle.acpi_c_lib.specs.Devices.{optional_register, required_register}
+use Rattle.acpi_c_lib.specs.Records as records
 use Rattle.acpi_c_lib.specs.declared.fixed_records.FixedHardware.{FixedHardware}
-use Rattle.acpi_c_lib.specs.declared.fixed_records.Gpe.{Gpe}
 use Rattle.acpi_c_lib.specs.declared.records.Source.{Source}
 use Rattle.acpi_c_lib.specs.declared.refusal.Refusal.{Refusal}
 
@@ -32,10 +32,10 @@ profile_code profiles.Tablet = 8
 profile_code (profiles.Reserved code) = code
 
 -- no block of general purpose events: zeros, and 0 if there is none or 2 if its address is refused
-abbrev pub no_gpe : ℕ → Gpe
+abbrev pub no_gpe : ℕ → records.GpeBlock
 no_gpe present = record { address = 0; space = 0; byte_length = 0; present = present }
 
-abbrev pub gpe_record : Result (Option GpeBlock) AcpiError → Gpe
+abbrev pub gpe_record : Result (Option GpeBlock) AcpiError → records.GpeBlock
 gpe_record (Ok (Some b)) =
     record { address = b.address; space = space_code b.space; byte_length = b.byte_length; present = 1 }
 gpe_record (Ok None) = no_gpe 0

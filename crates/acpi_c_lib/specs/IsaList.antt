@@ -11,17 +11,17 @@ use Rattle.acpi_base.specs.declared.model.interrupt.IoApic.{IoApic}
 use Rattle.acpi_base.specs.declared.model.isa.IsaInterrupt.{IsaInterrupt}
 use Rattle.acpi_c_lib.specs.Below.{below}
 use Rattle.acpi_c_lib.specs.Routes.{apics_in, interrupt_or, interrupt_record, is_nearer, isa_below, pin_below, pin_or}
-use Rattle.acpi_c_lib.specs.declared.interrupt_records.InterruptRecord.{InterruptRecord}
+use Rattle.acpi_c_lib.specs.declared.interrupt_records.Interrupt.{Interrupt}
 use Rattle.acpi_c_lib.specs.declared.interrupt_records.IsaInterrupts.{IsaInterrupts}
 use Rattle.acpi_c_lib.specs.declared.interrupt_records.IsaRoute.{IsaRoute}
-use Rattle.acpi_c_lib.specs.declared.interrupt_records.PinRecord.{PinRecord}
+use Rattle.acpi_c_lib.specs.declared.interrupt_records.IoApicPin.{IoApicPin}
 use Rattle.acpi_c_lib.specs.declared.records.Source.{Source}
 use Rattle.acpi_c_lib.specs.declared.refusal.Refusal.{Refusal}
 
-abbrev pub no_interrupt : InterruptRecord
+abbrev pub no_interrupt : Interrupt
 no_interrupt = record { global_system_interrupt = 0; polarity = 0; trigger = 0 }
 
-abbrev pub no_pin : PinRecord
+abbrev pub no_pin : IoApicPin
 no_pin = record {
   io_apic = record { address = 0; global_system_interrupt_base = 0; id = 0 };
   pin = 0;
@@ -31,12 +31,12 @@ abbrev pub no_route : IsaRoute
 no_route = record { interrupt = no_interrupt; pin = no_pin; present = 0; has_pin = 0 }
 
 -- an interrupt, and what is answered for its pin
-abbrev pub routed : InterruptRecord → Result PinRecord Refusal → IsaRoute
+abbrev pub routed : Interrupt → Result IoApicPin Refusal → IsaRoute
 routed i (Ok pin) = record { interrupt = i; pin = pin; present = 1; has_pin = 1 }
 routed i (Err e) = record { interrupt = i; pin = no_pin; present = 1; has_pin = 0 }
 
 -- what is answered for an interrupt, and then for its pin
-abbrev pub route_by : (ℕ → Result PinRecord Refusal) → Result InterruptRecord Refusal → IsaRoute
+abbrev pub route_by : (ℕ → Result IoApicPin Refusal) → Result Interrupt Refusal → IsaRoute
 route_by pin (Ok i) = routed i (pin i.global_system_interrupt)
 route_by pin (Err e) = no_route
 

@@ -6,13 +6,16 @@ pub mod Clip
 pub mod Codes
 pub mod Console
 pub mod Devices
+pub mod Entries
 pub mod Faults
 pub mod Fixed
 pub mod Held
 pub mod IsaList
+pub mod Located
 pub mod Missing
 pub mod Model
 pub mod Numa
+pub mod Records
 pub mod Regions
 pub mod Routes
 pub mod Shown

@@ -22,12 +22,8 @@ use Rattle.acpi.specs.declared.platform.PlatformInfo.{PlatformInfo}
 use Rattle.acpi_c_lib.specs.Answers.{result_map}
 use Rattle.acpi_c_lib.specs.Below.{below_source}
 use Rattle.acpi_c_lib.specs.Devices.{flag}
-use Rattle.acpi_c_lib.specs.declared.interrupt_records.IoApicRecord.{IoApicRecord}
-use Rattle.acpi_c_lib.specs.declared.interrupt_records.Model as record_of
-use Rattle.acpi_c_lib.specs.declared.interrupt_records.NmiLineRecord.{NmiLineRecord}
-use Rattle.acpi_c_lib.specs.declared.interrupt_records.NmiSourceRecord.{NmiSourceRecord}
-use Rattle.acpi_c_lib.specs.declared.interrupt_records.OverrideRecord.{OverrideRecord}
-use Rattle.acpi_c_lib.specs.declared.interrupt_records.ProcessorRecord.{ProcessorRecord}
+use Rattle.acpi_c_lib.specs.Records as records
+use Rattle.acpi_c_lib.specs.declared.interrupt_records.InterruptModel.{InterruptModel}
 use Rattle.acpi_c_lib.specs.declared.records.Source.{Source}
 use Rattle.acpi_c_lib.specs.declared.refusal.Refusal.{Refusal}
 
@@ -53,20 +49,20 @@ below_platform s show = result_map show (below_source s platform_model)
 
 -- ---- I/O APICs (section 5.2.12.3)
 
-abbrev pub io_apic_record : IoApic → IoApicRecord
+abbrev pub io_apic_record : IoApic → records.IoApic
 io_apic_record x = record {
   address = x.address;
   global_system_interrupt_base = x.global_system_interrupt_base;
   id = x.id;
 }
 
-abbrev pub io_apics_of : Platform → List IoApicRecord
+abbrev pub io_apics_of : Platform → List records.IoApic
 io_apics_of (model.Apic apic, processors) = map io_apic_record apic.io_apics
 io_apics_of (model.Unknown, processors) = []
 
 -- ---- overrides (section 5.2.12.5)
 
-abbrev pub override_record : InterruptSourceOverride → OverrideRecord
+abbrev pub override_record : InterruptSourceOverride → records.InterruptSourceOverride
 override_record x = record {
   global_system_interrupt = x.global_system_interrupt;
   isa_source = x.isa_source;
@@ -74,20 +70,20 @@ override_record x = record {
   trigger = trigger_code x.trigger_mode;
 }
 
-abbrev pub overrides_of : Platform → List OverrideRecord
+abbrev pub overrides_of : Platform → List records.InterruptSourceOverride
 overrides_of (model.Apic apic, processors) = map override_record apic.interrupt_source_overrides
 overrides_of (model.Unknown, processors) = []
 
 -- ---- non-maskable interrupts (sections 5.2.12.6, 5.2.12.7 and 5.2.12.13)
 
-abbrev pub nmi_source_record : NmiSource → NmiSourceRecord
+abbrev pub nmi_source_record : NmiSource → records.NmiSource
 nmi_source_record x = record {
   global_system_interrupt = x.global_system_interrupt;
   polarity = polarity_code x.polarity;
   trigger = trigger_code x.trigger_mode;
 }
 
-abbrev pub nmi_sources_of : Platform → List NmiSourceRecord
+abbrev pub nmi_sources_of : Platform → List records.NmiSource
 nmi_sources_of (model.Apic apic, processors) = map nmi_source_record apic.nmi_sources
 nmi_sources_of (model.Unknown, processors) = []
 
@@ -100,14 +96,14 @@ abbrev pub of_all : NmiProcessor → ℕ
 of_all All = 1
 of_all (ProcessorUid uid) = 0
 
-abbrev pub nmi_line_record : NmiLine → NmiLineRecord
+abbrev pub nmi_line_record : NmiLine → records.NmiLine
 nmi_line_record x = record {
   processor_uid = uid_of x.processor;
   of_all = of_all x.processor;
   lint = line_code x.line;
 }
 
-abbrev pub nmi_lines_of : Platform → List NmiLineRecord
+abbrev pub nmi_lines_of : Platform → List records.NmiLine
 nmi_lines_of (model.Apic apic, processors) = map nmi_line_record apic.local_apic_nmi_lines
 nmi_lines_of (model.Unknown, processors) = []
 
@@ -122,7 +118,7 @@ abbrev pub not_flag : Bool → ℕ
 not_flag true = 0
 not_flag false = 1
 
-abbrev pub processor_record : Processor → ProcessorRecord
+abbrev pub processor_record : Processor → records.Processor
 processor_record x = record {
   uid = x.processor_uid;
   local_apic_id = x.local_apic_id;
@@ -136,15 +132,15 @@ listed (Some info) = info.boot_processor ∷ info.application_processors
 listed None = []
 
 -- those that entries say
-abbrev pub processors_in : List MadtItem → List ProcessorRecord
+abbrev pub processors_in : List MadtItem → List records.Processor
 processors_in items = map processor_record (listed (base.processors_of items))
 
-abbrev pub processors_of : Platform → List ProcessorRecord
+abbrev pub processors_of : Platform → List records.Processor
 processors_of platform = map processor_record (listed platform.1)
 
 -- ---- counts
 
-abbrev pub counts_of : Platform → record_of.Model
+abbrev pub counts_of : Platform → InterruptModel
 counts_of (model.Apic apic, processors) = record {
   local_apic_address = apic.local_apic_address;
   io_apics = length apic.io_apics;

@@ -14,8 +14,8 @@ use Rattle.acpi_numa.specs.declared.srat.affinities.MemoryRange.{MemoryRange}
 use Rattle.acpi_c_lib.specs.Answers.{result_map}
 use Rattle.acpi_c_lib.specs.Below.{below, below_first, refused_as}
 use Rattle.acpi_c_lib.specs.Devices.{flag}
-use Rattle.acpi_c_lib.specs.declared.numa_records.LocalitiesRecord.{LocalitiesRecord}
-use Rattle.acpi_c_lib.specs.declared.numa_records.MemoryAffinityRecord.{MemoryAffinityRecord}
+use Rattle.acpi_c_lib.specs.declared.numa_records.Localities.{Localities}
+use Rattle.acpi_c_lib.specs.declared.numa_records.MemoryAffinity.{MemoryAffinity}
 use Rattle.acpi_c_lib.specs.declared.records.Source.{Source}
 use Rattle.acpi_c_lib.specs.declared.refusal.Refusal.{Refusal}
 use Rattle.acpi_c_lib.specs.declared.refusal.Refusal.TheVariants.{Acpi, InvalidMemoryRange, InvalidSratEntryLength, NoDistance, NoDomain}
@@ -38,7 +38,7 @@ affinities_in m ps = do
   said ← refused_as (found_affinities m ps)
   numa_refused said
 
-abbrev pub affinity_record : MemoryRange → MemoryAffinityRecord
+abbrev pub affinity_record : MemoryRange → MemoryAffinity
 affinity_record r = record {
   address = r.base;
   length = r.length;
@@ -47,7 +47,7 @@ affinity_record r = record {
   is_non_volatile = flag r.is_non_volatile;
 }
 
-abbrev pub affinities_below : Source → Result (List MemoryAffinityRecord) Refusal
+abbrev pub affinities_below : Source → Result (List MemoryAffinity) Refusal
 affinities_below s = result_map (map affinity_record) (below s affinities_in)
 
 -- ---- domains
@@ -79,7 +79,7 @@ distance_below s from to = do
   ok_or found NoDistance
 
 -- the size of the matrix of a table's bytes, and 1 exactly if the table can be believed, or else 0
-abbrev pub IsLocalities : List ℕ → LocalitiesRecord → Type 0
+abbrev pub IsLocalities : List ℕ → Localities → Type 0
 IsLocalities table r =
     (r.localities ≡ localities_of table) × (r.is_sane ≤ 1) × (r.is_sane ≡ 1 ↔ IsSane table)
 

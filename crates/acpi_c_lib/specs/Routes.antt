@@ -15,13 +15,13 @@ use Rattle.acpi.specs.Lists.{fadt_kind}
 use Rattle.acpi.specs.Lookup.{lookup}
 use Rattle.acpi_c_lib.specs.Below.{below, refused_as}
 use Rattle.acpi_c_lib.specs.Model.{Platform, io_apic_record, platform_model}
-use Rattle.acpi_c_lib.specs.declared.interrupt_records.InterruptRecord.{InterruptRecord}
-use Rattle.acpi_c_lib.specs.declared.interrupt_records.PinRecord.{PinRecord}
+use Rattle.acpi_c_lib.specs.declared.interrupt_records.Interrupt.{Interrupt}
+use Rattle.acpi_c_lib.specs.declared.interrupt_records.IoApicPin.{IoApicPin}
 use Rattle.acpi_c_lib.specs.declared.records.Source.{Source}
 use Rattle.acpi_c_lib.specs.declared.refusal.Refusal.{Refusal}
 use Rattle.acpi_c_lib.specs.declared.refusal.Refusal.TheVariants.{NoApics, NoSuchInterrupt, NoSuchIoApic}
 
-abbrev pub interrupt_record : IsaInterrupt → InterruptRecord
+abbrev pub interrupt_record : IsaInterrupt → Interrupt
 interrupt_record i = record {
   global_system_interrupt = i.global_system_interrupt;
   polarity = polarity_code i.polarity;
@@ -40,29 +40,29 @@ apics_in m ps = do
   apics_of platform
 
 -- an interrupt, or that there is none such
-abbrev pub interrupt_or : Option IsaInterrupt → Result InterruptRecord Refusal
+abbrev pub interrupt_or : Option IsaInterrupt → Result Interrupt Refusal
 interrupt_or o = do
   found ← ok_or o NoSuchInterrupt
   Ok (interrupt_record found)
 
 -- an ISA interrupt
-abbrev pub isa_in : ℕ → Memory → List ℕ → Result InterruptRecord Refusal
+abbrev pub isa_in : ℕ → Memory → List ℕ → Result Interrupt Refusal
 isa_in irq m ps = do
   apic ← apics_in m ps
   interrupt_or (isa_interrupt apic.interrupt_source_overrides irq)
 
-abbrev pub isa_below : Source → ℕ → Result InterruptRecord Refusal
+abbrev pub isa_below : Source → ℕ → Result Interrupt Refusal
 isa_below s irq = below s (isa_in irq)
 
 -- the interrupt of the machine's events, SCI_INT of the first valid FADT (section 5.2.9)
-abbrev pub sci_in : Memory → List ℕ → Result InterruptRecord Refusal
+abbrev pub sci_in : Memory → List ℕ → Result Interrupt Refusal
 sci_in m ps = do
   platform ← refused_as (platform_model m ps)
   fadt ← refused_as (lookup m fadt_kind ps)
   apic ← apics_of platform
   Ok (interrupt_record (sci_interrupt apic.interrupt_source_overrides (fadt_at fadt.1).sci_interrupt))
 
-abbrev pub sci_below : Source → Result InterruptRecord Refusal
+abbrev pub sci_below : Source → Result Interrupt Refusal
 sci_below s = below s sci_in
 
 -- whether an I/O APIC is nearer than the one so far
@@ -71,16 +71,16 @@ is_nearer None x = true
 is_nearer (Some y) x = nat_lt (base_of y) (base_of x)
 
 -- an I/O APIC and a pin, or that there is none such
-abbrev pub pin_or : Option (IoApic × ℕ) → Result PinRecord Refusal
+abbrev pub pin_or : Option (IoApic × ℕ) → Result IoApicPin Refusal
 pin_or o = do
   found ← ok_or o NoSuchIoApic
   Ok (record { io_apic = io_apic_record found.0; pin = found.1 })
 
 -- the I/O APIC that an interrupt comes to, and the pin there
-abbrev pub pin_in : ℕ → Memory → List ℕ → Result PinRecord Refusal
+abbrev pub pin_in : ℕ → Memory → List ℕ → Result IoApicPin Refusal
 pin_in interrupt m ps = do
   apic ← apics_in m ps
   pin_or (io_apic_for apic.io_apics interrupt)
 
-abbrev pub pin_below : Source → ℕ → Result PinRecord Refusal
+abbrev pub pin_below : Source → ℕ → Result IoApicPin Refusal
 pin_below s interrupt = below s (pin_in interrupt)

@@ -25,10 +25,8 @@ use Rattle.acpi.specs.declared.hpet.PageProtection.TheVariants as protection
 use Rattle.acpi.specs.declared.records.AmlTable.{AmlTable}
 use Rattle.acpi_c_lib.specs.Answers.{result_map}
 use Rattle.acpi_c_lib.specs.Below.{below_source, opened_below}
+use Rattle.acpi_c_lib.specs.Records as records
 use Rattle.acpi_c_lib.specs.declared.fixed_records.EcamRange.{EcamRange}
-use Rattle.acpi_c_lib.specs.declared.records.Aml.{Aml}
-use Rattle.acpi_c_lib.specs.declared.records.Hpet.{Hpet}
-use Rattle.acpi_c_lib.specs.declared.records.Name.{Name}
 use Rattle.acpi_c_lib.specs.declared.records.PciRegion.{PciRegion}
 use Rattle.acpi_c_lib.specs.declared.records.Root.{Root}
 use Rattle.acpi_c_lib.specs.declared.records.Source.{Source}
@@ -68,20 +66,20 @@ abbrev pub tables_below : Source → Result (List Table) Refusal
 tables_below s = below_source s (λ m ps. Ok (tables_in m ps))
 
 -- the signature of four letters
-abbrev pub signature_named : Name → Signature
+abbrev pub signature_named : records.Signature → Signature
 signature_named name = record { 0 = name.letters }
 
 -- the first valid table of a name
-abbrev pub first_named : Name → Memory → List ℕ → Result Table AcpiError
+abbrev pub first_named : records.Signature → Memory → List ℕ → Result Table AcpiError
 first_named name m ps = result_map table_record (lookup m (plain_kind (signature_named name)) ps)
 
-abbrev pub table_below : Source → Name → Result Table Refusal
+abbrev pub table_below : Source → records.Signature → Result Table Refusal
 table_below s name = below_source s (first_named name)
 
-abbrev pub aml_record : AmlTable → Aml
+abbrev pub aml_record : AmlTable → records.AmlTable
 aml_record s = record { address = s.address; length = s.length }
 
-abbrev pub dsdt_below : Source → Result Aml Refusal
+abbrev pub dsdt_below : Source → Result records.AmlTable Refusal
 dsdt_below s = below_source s (λ m ps. result_map aml_record (dsdt_stream m ps))
 
 -- ---- PCI configuration space (MCFG; PCI Firmware Specification, section 4.1.2)
@@ -124,7 +122,7 @@ protection_code protection.Protected4K = 1
 protection_code protection.Protected64K = 2
 protection_code protection.Other = 3
 
-abbrev pub hpet_record : HpetInfo → Hpet
+abbrev pub hpet_record : HpetInfo → records.HpetInfo
 hpet_record i = record {
   base_address = i.base_address;
   event_timer_block_id = i.event_timer_block_id;
@@ -133,5 +131,5 @@ hpet_record i = record {
   page_protection = protection_code i.page_protection;
 }
 
-abbrev pub hpet_below : Source → Result Hpet Refusal
+abbrev pub hpet_below : Source → Result records.HpetInfo Refusal
 hpet_below s = below_source s (λ m ps. result_map hpet_record (hpet_of m ps))

@@ -14,9 +14,8 @@ use Rattle.acpi.specs.Opened.{Opened}
 use Rattle.acpi.specs.Places.{places_of}
 use Rattle.acpi.specs.Root.{pointers, width_of}
 use Rattle.acpi_c_lib.specs.Below.{below_source, opened_below}
+use Rattle.acpi_c_lib.specs.Records as records
 use Rattle.acpi_c_lib.specs.Shown.{aml_record, signature_named, table_record}
-use Rattle.acpi_c_lib.specs.declared.records.Aml.{Aml}
-use Rattle.acpi_c_lib.specs.declared.records.Name.{Name}
 use Rattle.acpi_c_lib.specs.declared.records.Range.{Range}
 use Rattle.acpi_c_lib.specs.declared.records.Source.{Source}
 use Rattle.acpi_c_lib.specs.declared.records.Table.{Table}
@@ -28,10 +27,10 @@ nth_in m s index ps = do
   found ← ok_or (slice_get (tables_found m (plain_kind s) ps) index) (TableMissing s)
   Ok (table_record found)
 
-abbrev pub nth_below : Source → Name → ℕ → Result Table Refusal
+abbrev pub nth_below : Source → records.Signature → ℕ → Result Table Refusal
 nth_below s name index = below_source s (λ m ps. nth_in m (signature_named name) index ps)
 
-abbrev pub ssdts_below : Source → Result (List Aml) Refusal
+abbrev pub ssdts_below : Source → Result (List records.AmlTable) Refusal
 ssdts_below s = below_source s (λ m ps. Ok (map aml_record (ssdt_streams m ps)))
 
 abbrev pub range_record : AddressRange → Range

@@ -1,13 +1,13 @@
 //! How an answer is written for C.
 ghost use Rattle.std.specs.Prelude.{◌≡◌};
-ghost use Rattle.acpi_c_lib.specs.Answers.{Answers, name_or};
+ghost use Rattle.acpi_c_lib.specs.Answers.{Answers, AnswersPlain, name_or};
 
-use crate::records::Name;
+use crate::records::Signature;
 use crate::refusal::Refusal;
 
 /// The number that C gets: 0, with the value written, or that of the refusal, with nothing written but the
 /// signature that it carries.
-pub fn answer<T: Copy>(said: Result<T, Refusal>, out: &mut T, named: &mut Name) -> u32
+pub fn answer<T: Copy>(said: Result<T, Refusal>, out: &mut T, named: &mut Signature) -> u32
     ensures { Answers result out.old out.new named.old named.new said }
 {
     match said {
@@ -22,12 +22,25 @@ pub fn answer<T: Copy>(said: Result<T, Refusal>, out: &mut T, named: &mut Name) 
     }
 }
 
+/// The same of a call whose refusals carry no signature.
+pub fn answer_plain<T: Copy>(said: Result<T, Refusal>, out: &mut T) -> u32
+    ensures { AnswersPlain result out.old out.new said }
+{
+    match said {
+        Ok(value) => {
+            *out = value;
+            0
+        }
+        Err(refusal) => refusal.code(),
+    }
+}
+
 /// Writes the signature that a refusal carries, if it carries one.
-fn name(refusal: Refusal, named: &mut Name)
+fn name(refusal: Refusal, named: &mut Signature)
     ensures { named.new ≡ name_or named.old refusal }
 {
     if let Some(signature) = refusal.signature() {
-        *named = Name {
+        *named = Signature {
             letters: signature.to_bytes(),
         };
     }

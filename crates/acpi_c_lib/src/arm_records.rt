@@ -1,10 +1,10 @@
 //! What C sees of an Arm machine. A polarity is 1 for active high and 3 for active low; a trigger is 1 for an edge
 //! and 3 for the level.
 
-/// The distributor of interrupts (GICD, section 5.2.12.15). C sees `struct zacpi_gic_distributor`.
+/// The distributor of interrupts (GICD, section 5.2.12.15).
 #[repr(C)]
 #[derive(Clone, Copy)]
-pub struct DistributorRecord {
+pub struct GicDistributor {
     pub address: u64,
     pub id: u32,
     pub system_vector_base: u32,
@@ -12,10 +12,10 @@ pub struct DistributorRecord {
 }
 
 /// A processor, and its interface to the GIC (GICC, section 5.2.12.14). A field past the end of a short
-/// entry is 0. C sees `struct zacpi_gic_cpu_interface`.
+/// entry is 0.
 #[repr(C)]
 #[derive(Clone, Copy)]
-pub struct CpuInterfaceRecord {
+pub struct GicCpuInterface {
     pub mpidr: u64,
     pub parked_address: u64,
     pub address: u64,
@@ -36,20 +36,18 @@ pub struct CpuInterfaceRecord {
     pub efficiency_class: u8,
 }
 
-/// A service that translates interrupts (GIC ITS, section 5.2.12.18). C sees
-/// `struct zacpi_gic_translation_service`.
+/// A service that translates interrupts (GIC ITS, section 5.2.12.18).
 #[repr(C)]
 #[derive(Clone, Copy)]
-pub struct TranslationServiceRecord {
+pub struct GicTranslationService {
     pub address: u64,
     pub id: u32,
 }
 
-/// A frame that turns messages into interrupts (GIC MSI Frame, section 5.2.12.16). C sees
-/// `struct zacpi_gic_msi_frame`.
+/// A frame that turns messages into interrupts (GIC MSI Frame, section 5.2.12.16).
 #[repr(C)]
 #[derive(Clone, Copy)]
-pub struct MsiFrameRecord {
+pub struct GicMsiFrame {
     pub address: u64,
     pub id: u32,
     pub spi_base: u16,
@@ -57,10 +55,10 @@ pub struct MsiFrameRecord {
     pub has_spis: u8,
 }
 
-/// A timer of every processor (section 5.2.24). C sees `struct zacpi_arm_timer`.
+/// A timer of every processor (section 5.2.24).
 #[repr(C)]
 #[derive(Clone, Copy)]
-pub struct ArmTimerRecord {
+pub struct ArmTimer {
     pub interrupt: u32,
     pub polarity: u8,
     pub trigger: u8,
@@ -68,25 +66,24 @@ pub struct ArmTimerRecord {
     pub present: u8,
 }
 
-/// The timers of every processor (GTDT, section 5.2.24). C sees `struct zacpi_arm_timers`.
+/// The timers of every processor (GTDT, section 5.2.24).
 #[repr(C)]
 #[derive(Clone, Copy)]
-pub struct ArmTimersRecord {
+pub struct ArmTimers {
     pub control_base: u64,
     pub read_base: u64,
-    pub secure_el1: ArmTimerRecord,
-    pub non_secure_el1: ArmTimerRecord,
-    pub virtual_el1: ArmTimerRecord,
-    pub el2: ArmTimerRecord,
-    pub virtual_el2: ArmTimerRecord,
+    pub secure_el1: ArmTimer,
+    pub non_secure_el1: ArmTimer,
+    pub virtual_el1: ArmTimer,
+    pub el2: ArmTimer,
+    pub virtual_el2: ArmTimer,
     pub platform_timers_malformed: u8,
 }
 
 /// A frame of a block of timers, with a physical timer and a virtual one (GT Block Timer, section 5.2.24.1.1).
-/// C sees `struct zacpi_gt_frame`.
 #[repr(C)]
 #[derive(Clone, Copy)]
-pub struct GtFrameRecord {
+pub struct GtFrame {
     pub block_address: u64,
     pub address: u64,
     pub el0_address: u64,
@@ -101,11 +98,10 @@ pub struct GtFrameRecord {
     pub is_always_on: u8,
 }
 
-/// A watchdog of the Server Base System Architecture (Arm Generic Watchdog, section 5.2.24.1.2). C sees
-/// `struct zacpi_watchdog`.
+/// A watchdog of the Server Base System Architecture (Arm Generic Watchdog, section 5.2.24.1.2).
 #[repr(C)]
 #[derive(Clone, Copy)]
-pub struct WatchdogRecord {
+pub struct Watchdog {
     pub refresh_frame: u64,
     pub control_frame: u64,
     pub interrupt: u32,

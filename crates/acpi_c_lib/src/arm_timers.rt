@@ -5,7 +5,8 @@ ghost use Rattle.acpi_c_lib.specs.Answers.{Fills, Writes, put_from};
 ghost use Rattle.acpi_c_lib.specs.ArmTimers as timers;
 ghost use Rattle.acpi_c_lib.specs.ArmTimers.{frames_shown, gtdt_below, timers_shown, watchdogs_shown};
 
-use crate::arm_records::{ArmTimerRecord, ArmTimersRecord, GtFrameRecord, WatchdogRecord};
+use crate::arm_records as records;
+use crate::arm_records::{ArmTimers, Watchdog};
 use crate::interrupts::{polarity_code, trigger_code};
 use crate::lists::put;
 use crate::opening::open;
@@ -17,7 +18,7 @@ use acpi_arm::gtdt::{
 };
 
 /// The timers of every processor, as the first valid GTDT has them.
-pub fn arm_timers(source: &Source<'_>) -> Result<ArmTimersRecord, Refusal>
+pub fn arm_timers(source: &Source<'_>) -> Result<ArmTimers, Refusal>
     ensures { result ≡ gtdt_below source.now timers_shown }
 {
     let memory = Mapped::new(source.regions)?;
@@ -36,10 +37,10 @@ fn end_malformed(timers: PlatformTimerIter<'_>) -> bool
     timers.ended_malformed()
 }
 
-fn timers_record(gtdt: &Gtdt, is_malformed: bool) -> ArmTimersRecord
+fn timers_record(gtdt: &Gtdt, is_malformed: bool) -> ArmTimers
     ensures { result ≡ timers.timers_record gtdt.now is_malformed }
 {
-    ArmTimersRecord {
+    ArmTimers {
         control_base: or_ones(gtdt.counter_control_base()),
         read_base: or_ones(gtdt.counter_read_base()),
         secure_el1: timer_record(&gtdt.secure_el1_timer),
@@ -58,10 +59,10 @@ fn or_ones(address: Option<u64>) -> u64
     address.unwrap_or(u64::MAX)
 }
 
-fn timer_record(timer: &ArmTimer) -> ArmTimerRecord
+fn timer_record(timer: &ArmTimer) -> records::ArmTimer
     ensures { result ≡ timers.arm_timer_record timer.now }
 {
-    ArmTimerRecord {
+    records::ArmTimer {
         interrupt: timer.interrupt,
         polarity: polarity_code(timer.polarity),
         trigger: trigger_code(timer.trigger_mode),
@@ -71,12 +72,12 @@ fn timer_record(timer: &ArmTimer) -> ArmTimerRecord
 }
 
 /// A timer, or zeros for none.
-fn timer_or(timer: Option<ArmTimer>) -> ArmTimerRecord
+fn timer_or(timer: Option<ArmTimer>) -> records::ArmTimer
     ensures { result ≡ timers.arm_timer_or timer }
 {
     match timer {
         Some(timer) => timer_record(&timer),
-        None => ArmTimerRecord {
+        None => records::ArmTimer {
             interrupt: 0,
             polarity: 0,
             trigger: 0,
@@ -87,7 +88,7 @@ fn timer_or(timer: Option<ArmTimer>) -> ArmTimerRecord
 }
 
 /// Lists the frames of the blocks of timers that the first valid GTDT has.
-pub fn frames(source: &Source<'_>, out: &mut [GtFrameRecord]) -> Result<usize, Refusal>
+pub fn frames(source: &Source<'_>, out: &mut [records::GtFrame]) -> Result<usize, Refusal>
     ensures { Fills result out.old out.new (gtdt_below source.now frames_shown) }
 {
     let memory = Mapped::new(source.regions)?;
@@ -98,7 +99,7 @@ pub fn frames(source: &Source<'_>, out: &mut [GtFrameRecord]) -> Result<usize, R
 
 /// The frames of all blocks of a GTDT.
 #[tactic(auto, using(crate::proofs::TimerCounts::frames_few, crate::proofs::CountedList::put_parts))]
-fn fill_frames(table: &[u8], out: &mut [GtFrameRecord]) -> usize
+fn fill_frames(table: &[u8], out: &mut [records::GtFrame]) -> usize
     ensures { Writes result out.old out.new (frames_shown table.now) }
 {
     let mut count = 0;
@@ -111,7 +112,7 @@ fn fill_frames(table: &[u8], out: &mut [GtFrameRecord]) -> usize
 }
 
 /// The frames of a block, from an index on, and the index after them.
-fn fill_block(block: GtBlock<'_>, out: &mut [GtFrameRecord], first: usize) -> usize
+fn fill_block(block: GtBlock<'_>, out: &mut [records::GtFrame], first: usize) -> usize
     requires { first + length (frames_left block.frames) < 2 ^ 64 }
     ensures count { result ≡ first
         + length (map (timers.frame_record block.entry.address) (frames_left block.entry.frames)) }
@@ -128,10 +129,10 @@ fn fill_block(block: GtBlock<'_>, out: &mut [GtFrameRecord], first: usize) -> us
 }
 
 /// A frame of the block at an address.
-fn frame_record(block: u64, frame: &GtFrame) -> GtFrameRecord
+fn frame_record(block: u64, frame: &GtFrame) -> records::GtFrame
     ensures { result ≡ timers.frame_record block frame.now }
 {
-    GtFrameRecord {
+    records::GtFrame {
         block_address: block,
         address: frame.base,
         el0_address: or_ones(frame.el0_base),
@@ -148,7 +149,7 @@ fn frame_record(block: u64, frame: &GtFrame) -> GtFrameRecord
 }
 
 /// Lists the watchdogs that the first valid GTDT has.
-pub fn watchdogs(source: &Source<'_>, out: &mut [WatchdogRecord]) -> Result<usize, Refusal>
+pub fn watchdogs(source: &Source<'_>, out: &mut [Watchdog]) -> Result<usize, Refusal>
     ensures { Fills result out.old out.new (gtdt_below source.now watchdogs_shown) }
 {
     let memory = Mapped::new(source.regions)?;
@@ -159,7 +160,7 @@ pub fn watchdogs(source: &Source<'_>, out: &mut [WatchdogRecord]) -> Result<usiz
 
 /// The watchdogs of a GTDT.
 #[tactic(auto, using(crate::proofs::TimerCounts::watchdogs_few))]
-fn fill_watchdogs(table: &[u8], out: &mut [WatchdogRecord]) -> usize
+fn fill_watchdogs(table: &[u8], out: &mut [Watchdog]) -> usize
     ensures { Writes result out.old out.new (watchdogs_shown table.now) }
 {
     let mut count = 0;
@@ -172,10 +173,10 @@ fn fill_watchdogs(table: &[u8], out: &mut [WatchdogRecord]) -> usize
     count
 }
 
-fn watchdog_record(watchdog: &SbsaWatchdog) -> WatchdogRecord
+fn watchdog_record(watchdog: &SbsaWatchdog) -> Watchdog
     ensures { result ≡ timers.watchdog_record watchdog.now }
 {
-    WatchdogRecord {
+    Watchdog {
         refresh_frame: watchdog.refresh_frame,
         control_frame: watchdog.control_frame,
         interrupt: watchdog.interrupt,

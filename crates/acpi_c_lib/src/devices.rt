@@ -6,7 +6,7 @@ ghost use Rattle.acpi_c_lib.specs.Devices as devices;
 ghost use Rattle.acpi_c_lib.specs.Shown.{hpet_below, protection_code};
 
 use crate::opening::open;
-use crate::records::{BootGraphic, Generic, Hpet, Register, Source, Timer};
+use crate::records::{self, BootGraphic, Register, Source};
 use crate::refusal::Refusal;
 use crate::regions::Mapped;
 use acpi::address::{AccessSize, AddressSpace, GenericAddress};
@@ -16,13 +16,13 @@ use acpi::platform::PmTimer;
 use acpi::{AcpiResult, HpetInfo};
 
 /// The block of event timers that the first valid HPET describes.
-pub fn hpet(source: &Source<'_>) -> Result<Hpet, Refusal>
+pub fn hpet(source: &Source<'_>) -> Result<records::HpetInfo, Refusal>
     ensures { result ≡ hpet_below source.now }
 {
     let memory = Mapped::new(source.regions)?;
     let tables = open(&memory, source)?;
     let info = HpetInfo::new(&tables)?;
-    Ok(Hpet {
+    Ok(records::HpetInfo {
         base_address: info.base_address,
         event_timer_block_id: info.event_timer_block_id,
         clock_tick_unit: info.clock_tick_unit,
@@ -44,7 +44,7 @@ fn protection_code(protection: PageProtection) -> u8
 }
 
 /// The power management timer of the first valid FADT.
-pub fn timer(source: &Source<'_>) -> Result<Timer, Refusal>
+pub fn timer(source: &Source<'_>) -> Result<records::PmTimer, Refusal>
     ensures { result ≡ timer_below source.now }
 {
     let memory = Mapped::new(source.regions)?;
@@ -54,16 +54,16 @@ pub fn timer(source: &Source<'_>) -> Result<Timer, Refusal>
     Ok(timer_record(timer))
 }
 
-fn timer_record(timer: Option<PmTimer>) -> Timer
+fn timer_record(timer: Option<PmTimer>) -> records::PmTimer
     ensures { result ≡ devices.timer_record timer }
 {
     match timer {
-        Some(timer) => Timer {
+        Some(timer) => records::PmTimer {
             base: generic_record(&timer.base),
             present: 1,
             is_32_bit: timer.supports_32bit as u8,
         },
-        None => Timer {
+        None => records::PmTimer {
             base: no_register(),
             present: 0,
             is_32_bit: 0,
@@ -72,10 +72,10 @@ fn timer_record(timer: Option<PmTimer>) -> Timer
 }
 
 /// A register under C's names.
-pub(crate) fn generic_record(address: &GenericAddress) -> Generic
+pub(crate) fn generic_record(address: &GenericAddress) -> records::GenericAddress
     ensures { result ≡ devices.generic_record address.now }
 {
-    Generic {
+    records::GenericAddress {
         address: address.address,
         space: space_code(address.address_space),
         bit_width: address.bit_width,
@@ -85,10 +85,10 @@ pub(crate) fn generic_record(address: &GenericAddress) -> Generic
 }
 
 /// What stands for no register: zeros.
-pub(crate) fn no_register() -> Generic
+pub(crate) fn no_register() -> records::GenericAddress
     ensures { result ≡ devices.no_register }
 {
-    Generic {
+    records::GenericAddress {
         address: 0,
         space: 0,
         bit_width: 0,

@@ -8,7 +8,7 @@ ghost use Rattle.acpi_c_lib.specs.Faults.{fault_record, faults_below, kind_named
 
 use crate::lists::put;
 use crate::opening::open;
-use crate::records::{Fault, Name, Source};
+use crate::records::{self, Fault, Source};
 use crate::refusal::{Refusal, acpi_code};
 use crate::regions::Mapped;
 use crate::tables::signature_named;
@@ -24,7 +24,11 @@ use acpi_arm::gtdt::Gtdt;
 use acpi_numa::{Slit, Srat};
 
 /// Lists the tables that a lookup of a signature passes over, and why.
-pub fn faults(source: &Source<'_>, name: Name, out: &mut [Fault]) -> Result<usize, Refusal>
+pub fn faults(
+    source: &Source<'_>,
+    name: records::Signature,
+    out: &mut [Fault],
+) -> Result<usize, Refusal>
     ensures { Fills result out.old out.new (faults_below source.now name) }
 {
     let memory = Mapped::new(source.regions)?;

@@ -6,7 +6,8 @@ ghost use Rattle.acpi_c_lib.specs.Fixed as fixed;
 ghost use Rattle.acpi_c_lib.specs.Fixed.{fixed_below, fixed_record};
 
 use crate::devices::{optional_register, required_register, space_code};
-use crate::fixed_records::{FixedHardware, Gpe};
+use crate::fixed_records as records;
+use crate::fixed_records::FixedHardware;
 use crate::opening::open;
 use crate::records::Source;
 use crate::refusal::Refusal;
@@ -115,11 +116,11 @@ fn profile_code(profile: PowerProfile) -> u8
 }
 
 /// A block of registers of general purpose events, or that there is none, or that its address is refused.
-fn gpe_record(said: AcpiResult<Option<GpeBlock>>) -> Gpe
+fn gpe_record(said: AcpiResult<Option<GpeBlock>>) -> records::GpeBlock
     ensures { result ≡ fixed.gpe_record said }
 {
     match said {
-        Ok(Some(block)) => Gpe {
+        Ok(Some(block)) => records::GpeBlock {
             address: block.address,
             space: space_code(block.space),
             byte_length: block.byte_length,
@@ -131,10 +132,10 @@ fn gpe_record(said: AcpiResult<Option<GpeBlock>>) -> Gpe
 }
 
 /// What stands for a block that is not there, or is refused: zeros.
-fn no_gpe(present: u8) -> Gpe
+fn no_gpe(present: u8) -> records::GpeBlock
     ensures { result ≡ fixed.no_gpe present }
 {
-    Gpe {
+    records::GpeBlock {
         address: 0,
         space: 0,
         byte_length: 0,

@@ -2,18 +2,17 @@
 
 use crate::records::Register;
 
-/// A block of registers of general purpose events (section 4.8.4.1), by its length in bytes. C sees
-/// `struct zacpi_gpe_block`.
+/// A block of registers of general purpose events (section 4.8.4.1), by its length in bytes.
 #[repr(C)]
 #[derive(Clone, Copy)]
-pub struct Gpe {
+pub struct GpeBlock {
     pub address: u64,
     pub space: u8,
     pub byte_length: u8,
     pub present: u8,
 }
 
-/// The fixed hardware of a FADT (section 5.2.9). C sees `struct zacpi_fixed_hardware`.
+/// The fixed hardware of a FADT (section 5.2.9).
 #[repr(C)]
 #[derive(Clone, Copy)]
 pub struct FixedHardware {
@@ -30,8 +29,8 @@ pub struct FixedHardware {
     pub reset: Register,
     pub sleep_control: Register,
     pub sleep_status: Register,
-    pub gpe0_block: Gpe,
-    pub gpe1_block: Gpe,
+    pub gpe0_block: GpeBlock,
+    pub gpe1_block: GpeBlock,
     pub smi_command: u32,
     pub flags: u32,
     pub sci_interrupt: u16,
@@ -56,7 +55,7 @@ pub struct FixedHardware {
     pub reset_value: u8,
 }
 
-/// The serial console that the firmware used (SPCR). C sees `struct zacpi_console`.
+/// The serial console that the firmware used (SPCR).
 #[repr(C)]
 #[derive(Clone, Copy)]
 pub struct Console {
@@ -81,7 +80,6 @@ pub struct Console {
 }
 
 /// The memory that a region of configuration space takes (PCI Firmware Specification, section 4.1.2).
-/// C sees `struct zacpi_ecam_range`.
 #[repr(C)]
 #[derive(Clone, Copy)]
 pub struct EcamRange {

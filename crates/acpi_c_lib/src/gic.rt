@@ -8,9 +8,7 @@ ghost use Rattle.acpi_arm.specs.Gic.{items_of, model_beside};
 ghost use Rattle.acpi_c_lib.specs.Answers.{Fills, Writes};
 ghost use Rattle.acpi_c_lib.specs.Arm.{below_gic, distributor_shown, gic_in};
 
-use crate::arm_records::{
-    CpuInterfaceRecord, DistributorRecord, MsiFrameRecord, TranslationServiceRecord,
-};
+use crate::arm_records as records;
 use crate::interrupts::trigger_code;
 use crate::lists::put;
 use crate::opening::open;
@@ -47,13 +45,13 @@ fn gic_madt<'h, H: AcpiHandler>(tables: &AcpiTables<'h, H>) -> Result<GicMadt<'h
 }
 
 /// The distributor of the GIC that the first valid MADT describes.
-pub fn distributor(source: &Source<'_>) -> Result<DistributorRecord, Refusal>
+pub fn distributor(source: &Source<'_>) -> Result<records::GicDistributor, Refusal>
     ensures { result ≡ below_gic source.now distributor_shown }
 {
     let memory = Mapped::new(source.regions)?;
     let tables = open(&memory, source)?;
     let distributor = gic_madt(&tables)?.distributor;
-    Ok(DistributorRecord {
+    Ok(records::GicDistributor {
         address: distributor.address,
         id: distributor.id,
         system_vector_base: distributor.system_vector_base,
@@ -111,7 +109,7 @@ fn fill_parts<R: GicRecord>(table: &[u8], out: &mut [R]) -> usize
     count
 }
 
-impl GicRecord for CpuInterfaceRecord {
+impl GicRecord for records::GicCpuInterface {
     ghost use Rattle.std.specs.Prelude.{refl};
     ghost use Rattle.acpi_c_lib.specs.Arm.{cpu_interface_record, cpu_interfaces_shown};
 
@@ -124,8 +122,8 @@ impl GicRecord for CpuInterfaceRecord {
     ghost of_entries = { λ table distributor. refl };
 
     #[tactic(auto, unfolding(crate::specs::Arm::cpu_interface_record))]
-    fn of(part: &GicCpuInterface) -> CpuInterfaceRecord {
-        CpuInterfaceRecord {
+    fn of(part: &GicCpuInterface) -> records::GicCpuInterface {
+        records::GicCpuInterface {
             mpidr: part.mpidr,
             parked_address: part.parked_address,
             address: part.address,
@@ -168,7 +166,7 @@ impl GicRecord for Range {
     }
 }
 
-impl GicRecord for TranslationServiceRecord {
+impl GicRecord for records::GicTranslationService {
     ghost use Rattle.std.specs.Prelude.{refl};
     ghost use Rattle.acpi_c_lib.specs.Arm.{translation_service_record, translation_services_shown};
 
@@ -180,15 +178,15 @@ impl GicRecord for TranslationServiceRecord {
 
     ghost of_entries = { λ table distributor. refl };
 
-    fn of(part: &GicTranslationService) -> TranslationServiceRecord {
-        TranslationServiceRecord {
+    fn of(part: &GicTranslationService) -> records::GicTranslationService {
+        records::GicTranslationService {
             address: part.address,
             id: part.id,
         }
     }
 }
 
-impl GicRecord for MsiFrameRecord {
+impl GicRecord for records::GicMsiFrame {
     ghost use Rattle.std.specs.Prelude.{refl};
     ghost use Rattle.acpi_c_lib.specs.Arm.{msi_frame_record, msi_frames_shown};
 
@@ -200,12 +198,12 @@ impl GicRecord for MsiFrameRecord {
 
     ghost of_entries = { λ table distributor. refl };
 
-    fn of(part: &GicMsiFrame) -> MsiFrameRecord {
+    fn of(part: &GicMsiFrame) -> records::GicMsiFrame {
         let (spi_base, spi_count, has_spis) = match part.spis {
             Some(spis) => (spis.base, spis.count, 1),
             None => (0, 0, 0),
         };
-        MsiFrameRecord {
+        records::GicMsiFrame {
             address: part.address,
             id: part.id,
             spi_base,

@@ -13,7 +13,7 @@ ghost use Rattle.acpi.specs.Tables.{of_tables};
 ghost use Rattle.acpi_c_lib.specs.Answers.{Fills, Writes};
 ghost use Rattle.acpi_c_lib.specs.Model.{below_platform, io_apic_record, model_by, platform_model};
 
-use crate::interrupt_records::{IoApicRecord, NmiLineRecord, NmiSourceRecord, OverrideRecord};
+use crate::interrupt_records as records;
 use crate::lists::put;
 use crate::opening::open;
 use crate::records::Source;
@@ -145,7 +145,7 @@ fn fill_entries<R: MadtRecord>(items: MadtItems<'_>, out: &mut [R]) -> usize
     count
 }
 
-impl MadtRecord for IoApicRecord {
+impl MadtRecord for records::IoApic {
     ghost use Rattle.std.specs.Prelude.{refl};
     ghost use Rattle.acpi_base.specs.Model.{io_apic_in};
     ghost use Rattle.acpi_c_lib.specs.Model.{io_apic_record, io_apics_of};
@@ -162,7 +162,7 @@ impl MadtRecord for IoApicRecord {
 
     ghost of_none = { refl };
 
-    fn said(item: MadtItem) -> Option<IoApicRecord> {
+    fn said(item: MadtItem) -> Option<records::IoApic> {
         match item {
             MadtItem::IoApic(found) => Some(io_apic_record(&found)),
             _ => None,
@@ -170,7 +170,7 @@ impl MadtRecord for IoApicRecord {
     }
 }
 
-impl MadtRecord for OverrideRecord {
+impl MadtRecord for records::InterruptSourceOverride {
     ghost use Rattle.std.specs.Prelude.{refl};
     ghost use Rattle.acpi_base.specs.Model.{override_in};
     ghost use Rattle.acpi_c_lib.specs.Model.{override_record, overrides_of};
@@ -187,9 +187,9 @@ impl MadtRecord for OverrideRecord {
 
     ghost of_none = { refl };
 
-    fn said(item: MadtItem) -> Option<OverrideRecord> {
+    fn said(item: MadtItem) -> Option<records::InterruptSourceOverride> {
         match item {
-            MadtItem::Override(found) => Some(OverrideRecord {
+            MadtItem::Override(found) => Some(records::InterruptSourceOverride {
                 global_system_interrupt: found.global_system_interrupt,
                 isa_source: found.isa_source,
                 polarity: polarity_code(found.polarity),
@@ -200,7 +200,7 @@ impl MadtRecord for OverrideRecord {
     }
 }
 
-impl MadtRecord for NmiSourceRecord {
+impl MadtRecord for records::NmiSource {
     ghost use Rattle.std.specs.Prelude.{refl};
     ghost use Rattle.acpi_base.specs.Model.{nmi_source_in};
     ghost use Rattle.acpi_c_lib.specs.Model.{nmi_source_record, nmi_sources_of};
@@ -217,9 +217,9 @@ impl MadtRecord for NmiSourceRecord {
 
     ghost of_none = { refl };
 
-    fn said(item: MadtItem) -> Option<NmiSourceRecord> {
+    fn said(item: MadtItem) -> Option<records::NmiSource> {
         match item {
-            MadtItem::NmiSource(found) => Some(NmiSourceRecord {
+            MadtItem::NmiSource(found) => Some(records::NmiSource {
                 global_system_interrupt: found.global_system_interrupt,
                 polarity: polarity_code(found.polarity),
                 trigger: trigger_code(found.trigger_mode),
@@ -229,7 +229,7 @@ impl MadtRecord for NmiSourceRecord {
     }
 }
 
-impl MadtRecord for NmiLineRecord {
+impl MadtRecord for records::NmiLine {
     ghost use Rattle.std.specs.Prelude.{refl};
     ghost use Rattle.acpi_base.specs.Model.{nmi_line_in};
     ghost use Rattle.acpi_c_lib.specs.Model.{nmi_line_record, nmi_lines_of};
@@ -246,7 +246,7 @@ impl MadtRecord for NmiLineRecord {
 
     ghost of_none = { refl };
 
-    fn said(item: MadtItem) -> Option<NmiLineRecord> {
+    fn said(item: MadtItem) -> Option<records::NmiLine> {
         let MadtItem::NmiLine(found) = item else {
             return None;
         };
@@ -258,7 +258,7 @@ impl MadtRecord for NmiLineRecord {
             LocalInterruptLine::Lint0 => 0,
             LocalInterruptLine::Lint1 => 1,
         };
-        Some(NmiLineRecord {
+        Some(records::NmiLine {
             processor_uid,
             of_all,
             lint,
@@ -266,10 +266,10 @@ impl MadtRecord for NmiLineRecord {
     }
 }
 
-pub(crate) fn io_apic_record(found: &IoApic) -> IoApicRecord
+pub(crate) fn io_apic_record(found: &IoApic) -> records::IoApic
     ensures { result ≡ io_apic_record found.now }
 {
-    IoApicRecord {
+    records::IoApic {
         address: found.address,
         global_system_interrupt_base: found.global_system_interrupt_base,
         id: found.id,

@@ -8,7 +8,8 @@ ghost use Rattle.acpi_base.specs.Model.{io_apic_in, items_of, override_in};
 ghost use Rattle.acpi_c_lib.specs.IsaList as list;
 ghost use Rattle.acpi_c_lib.specs.IsaList.{WritesOne, isa_list_below, nearer_of, number_of, route_of};
 
-use crate::interrupt_records::{InterruptRecord, IoApicRecord, IsaInterrupts, IsaRoute, PinRecord};
+use crate::interrupt_records as records;
+use crate::interrupt_records::{Interrupt, IoApicPin, IsaInterrupts, IsaRoute};
 use crate::interrupts::{apic_madt, io_apic_record};
 use crate::opening::open;
 use crate::records::Source;
@@ -91,7 +92,7 @@ fn meet(route: IsaRoute, io_apic: &IoApic) -> IsaRoute
     if route.present == 0 || base > interrupt || !is_nearer {
         return route;
     }
-    let pin = PinRecord {
+    let pin = IoApicPin {
         io_apic: io_apic_record(io_apic),
         pin: interrupt - base,
     };
@@ -123,7 +124,7 @@ fn no_route() -> IsaRoute
     ensures { result ≡ list.no_route }
 {
     IsaRoute {
-        interrupt: InterruptRecord {
+        interrupt: Interrupt {
             global_system_interrupt: 0,
             polarity: 0,
             trigger: 0,
@@ -134,11 +135,11 @@ fn no_route() -> IsaRoute
     }
 }
 
-fn no_pin() -> PinRecord
+fn no_pin() -> IoApicPin
     ensures { result ≡ list.no_pin }
 {
-    PinRecord {
-        io_apic: IoApicRecord {
+    IoApicPin {
+        io_apic: records::IoApic {
             address: 0,
             global_system_interrupt_base: 0,
             id: 0,

@@ -12,6 +12,7 @@ pub mod arm_timers;
 pub mod clip;
 pub mod console;
 pub mod devices;
+pub mod entries;
 pub mod faults;
 pub mod fixed;
 pub mod fixed_records;

@@ -6,7 +6,7 @@ ghost use Rattle.acpi_c_lib.specs.Numa.{IsLocalities, affinities_below, affinity
 ghost use Rattle.acpi_c_lib.specs.Numa.{domain_of_address_below, domain_of_apic_below, domain_of_processor_below};
 
 use crate::lists::put;
-use crate::numa_records::{LocalitiesRecord, MemoryAffinityRecord};
+use crate::numa_records::{Localities, MemoryAffinity};
 use crate::opening::open;
 use crate::records::Source;
 use crate::refusal::Refusal;
@@ -29,7 +29,7 @@ impl From<NumaError> for Refusal {
 }
 
 /// Lists the ranges of memory that the first valid SRAT puts into domains.
-pub fn affinities(source: &Source<'_>, out: &mut [MemoryAffinityRecord]) -> Result<usize, Refusal>
+pub fn affinities(source: &Source<'_>, out: &mut [MemoryAffinity]) -> Result<usize, Refusal>
     ensures { Fills result out.old out.new (affinities_below source.now) }
 {
     let memory = Mapped::new(source.regions)?;
@@ -42,7 +42,7 @@ pub fn affinities(source: &Source<'_>, out: &mut [MemoryAffinityRecord]) -> Resu
 
 /// The ranges in a SRAT's bytes.
 #[tactic(auto, using(acpi_numa::proofs::SratCounts::ranges_few))]
-fn fill_affinities(table: &[u8], out: &mut [MemoryAffinityRecord])
+fn fill_affinities(table: &[u8], out: &mut [MemoryAffinity])
     ensures { out.new ≡ put_from out.old 0 (map affinity_record (ranges_of table.now)) }
 {
     let mut index = 0;
@@ -55,10 +55,10 @@ fn fill_affinities(table: &[u8], out: &mut [MemoryAffinityRecord])
     }
 }
 
-fn affinity_record(range: &MemoryRange) -> MemoryAffinityRecord
+fn affinity_record(range: &MemoryRange) -> MemoryAffinity
     ensures { result ≡ affinity_record range.now }
 {
-    MemoryAffinityRecord {
+    MemoryAffinity {
         address: range.base,
         length: range.length,
         domain: range.domain,
@@ -124,14 +124,14 @@ pub fn distance(source: &Source<'_>, from: u64, to: u64) -> Result<u8, Refusal>
 }
 
 /// How many localities the first valid SLIT has distances of, and whether it can be believed.
-pub fn localities(source: &Source<'_>) -> Result<LocalitiesRecord, Refusal>
+pub fn localities(source: &Source<'_>) -> Result<Localities, Refusal>
     ensures { GivesSome IsLocalities result (slit_in source.now) }
 {
     let memory = Mapped::new(source.regions)?;
     let tables = open(&memory, source)?;
     let slit = tables.find_table::<Slit>()?;
     let distances = slit.distances();
-    Ok(LocalitiesRecord {
+    Ok(Localities {
         localities: distances.localities(),
         is_sane: distances.is_sane() as u8,
     })

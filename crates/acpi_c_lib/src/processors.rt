@@ -7,7 +7,7 @@ ghost use Rattle.acpi_base.specs.Model.{last_address, local_apic_address_in, pro
 ghost use Rattle.acpi_c_lib.specs.Answers.{Fills, Writes};
 ghost use Rattle.acpi_c_lib.specs.Model.{below_platform, counts_of, processor_record, processors_in, processors_of, state_code};
 
-use crate::interrupt_records::{Model, ProcessorRecord};
+use crate::interrupt_records::{InterruptModel, Processor};
 use crate::interrupts::{apic_madt, items_of};
 use crate::lists::put;
 use crate::opening::open;
@@ -18,7 +18,7 @@ use acpi_base::model::{MadtItem, MadtItems};
 
 /// Which controllers interrupts come to, and how many of each sort the first valid MADT has.
 #[tactic(auto, using(crate::proofs::BootProcessor::as_many))]
-pub fn model(source: &Source<'_>) -> Result<Model, Refusal>
+pub fn model(source: &Source<'_>) -> Result<InterruptModel, Refusal>
     ensures { result ≡ below_platform source.now counts_of }
 {
     let memory = Mapped::new(source.regions)?;
@@ -27,7 +27,7 @@ pub fn model(source: &Source<'_>) -> Result<Model, Refusal>
         Some(found) => {
             let items = items_of(&found.madt);
             let address = found.madt.local_apic_address as u64;
-            Ok(Model {
+            Ok(InterruptModel {
                 local_apic_address: local_apic_address(items, address),
                 io_apics: found.counts.io_apics,
                 overrides: found.counts.overrides,
@@ -38,7 +38,7 @@ pub fn model(source: &Source<'_>) -> Result<Model, Refusal>
                 also_has_8259: found.madt.supports_8259() as u8,
             })
         }
-        None => Ok(Model {
+        None => Ok(InterruptModel {
             local_apic_address: 0,
             io_apics: 0,
             overrides: 0,
@@ -65,7 +65,7 @@ fn local_apic_address(items: MadtItems<'_>, address: u64) -> u64
 }
 
 /// Lists the processors of the first valid MADT, the boot processor first.
-pub fn processors(source: &Source<'_>, out: &mut [ProcessorRecord]) -> Result<usize, Refusal>
+pub fn processors(source: &Source<'_>, out: &mut [Processor]) -> Result<usize, Refusal>
     ensures { Fills result out.old out.new (below_platform source.now processors_of) }
 {
     let memory = Mapped::new(source.regions)?;
@@ -78,7 +78,7 @@ pub fn processors(source: &Source<'_>, out: &mut [ProcessorRecord]) -> Result<us
 
 /// The first processor is the boot processor.
 #[tactic(auto, using(crate::proofs::BootProcessor::next_some, crate::proofs::BootProcessor::next_none))]
-fn fill_processors(items: MadtItems<'_>, out: &mut [ProcessorRecord]) -> usize
+fn fill_processors(items: MadtItems<'_>, out: &mut [Processor]) -> usize
     requires { length (items_left items) < 2 ^ 63 }
     ensures { Writes result out.old out.new (processors_in (items_left items.entry)) }
 {
@@ -93,7 +93,7 @@ fn fill_processors(items: MadtItems<'_>, out: &mut [ProcessorRecord]) -> usize
 }
 
 /// The processor that an item says, as an application processor or as the boot processor.
-fn processor_of(item: MadtItem, is_ap: bool) -> Option<ProcessorRecord>
+fn processor_of(item: MadtItem, is_ap: bool) -> Option<Processor>
     ensures { result ≡ option_map processor_record (processor_in is_ap item) }
 {
     match item {
@@ -101,7 +101,7 @@ fn processor_of(item: MadtItem, is_ap: bool) -> Option<ProcessorRecord>
             processor_uid,
             local_apic_id,
             is_enabled,
-        } => Some(ProcessorRecord {
+        } => Some(Processor {
             uid: processor_uid,
             local_apic_id,
             state: state(is_ap, is_enabled),

@@ -2,7 +2,7 @@
 
 use crate::regions::Region;
 
-/// Where tables are looked for. C sees `struct zacpi_source`.
+/// Where tables are looked for.
 #[repr(C)]
 #[derive(Clone, Copy)]
 pub struct Source<'k> {
@@ -11,14 +11,22 @@ pub struct Source<'k> {
     pub start: u32,
 }
 
-/// Four bytes that name a table. C sees `struct zacpi_signature`.
+/// Where bytes lie in a caller's regions.
 #[repr(C)]
 #[derive(Clone, Copy)]
-pub struct Name {
+pub struct Place {
+    pub region: usize,
+    pub offset: usize,
+}
+
+/// Four bytes that name a table.
+#[repr(C)]
+#[derive(Clone, Copy)]
+pub struct Signature {
     pub letters: [u8; 4],
 }
 
-/// The root table: the RSDT or the XSDT (sections 5.2.7 and 5.2.8). C sees `struct zacpi_root`.
+/// The root table: the RSDT or the XSDT (sections 5.2.7 and 5.2.8).
 #[repr(C)]
 #[derive(Clone, Copy)]
 pub struct Root {
@@ -28,7 +36,7 @@ pub struct Root {
     pub pointer_width: u8,
 }
 
-/// A table that is listed and valid (section 5.2.6). C sees `struct zacpi_table`.
+/// A table that is listed and valid (section 5.2.6).
 #[repr(C)]
 #[derive(Clone, Copy)]
 pub struct Table {
@@ -38,8 +46,7 @@ pub struct Table {
     pub revision: u8,
 }
 
-/// A member of the root table that a lookup passes over for another reason than its signature. C
-/// sees `struct zacpi_fault`.
+/// A member of the root table that a lookup passes over for another reason than its signature.
 #[repr(C)]
 #[derive(Clone, Copy)]
 pub struct Fault {
@@ -47,15 +54,24 @@ pub struct Fault {
     pub status: u32,
 }
 
-/// A stream of AML (section 5.2.11). C sees `struct zacpi_aml`.
+/// An entry of a table, which begins with Type and Length.
 #[repr(C)]
 #[derive(Clone, Copy)]
-pub struct Aml {
+pub struct Entry {
+    pub address: u64,
+    pub entry_type: u16,
+    pub length: u16,
+}
+
+/// A stream of AML (section 5.2.11).
+#[repr(C)]
+#[derive(Clone, Copy)]
+pub struct AmlTable {
     pub address: u64,
     pub length: u32,
 }
 
-/// A range of physical addresses. C sees `struct zacpi_range`.
+/// A range of physical addresses.
 #[repr(C)]
 #[derive(Clone, Copy)]
 pub struct Range {
@@ -63,10 +79,10 @@ pub struct Range {
     pub length: u64,
 }
 
-/// A block of event timers (HPET; IA-PC HPET Specification). C sees `struct zacpi_hpet_block`.
+/// A block of event timers (HPET; IA-PC HPET Specification).
 #[repr(C)]
 #[derive(Clone, Copy)]
-pub struct Hpet {
+pub struct HpetInfo {
     pub base_address: u64,
     pub event_timer_block_id: u32,
     pub clock_tick_unit: u16,
@@ -75,7 +91,6 @@ pub struct Hpet {
 }
 
 /// A region of PCI configuration space (MCFG; PCI Firmware Specification, section 4.1.2).
-/// C sees `struct zacpi_pci_region`.
 #[repr(C)]
 #[derive(Clone, Copy)]
 pub struct PciRegion {
@@ -85,10 +100,10 @@ pub struct PciRegion {
     pub last_bus: u8,
 }
 
-/// A register: a Generic Address Structure (section 5.2.3.2). C sees `struct zacpi_generic_address`.
+/// A register: a Generic Address Structure (section 5.2.3.2).
 #[repr(C)]
 #[derive(Clone, Copy)]
-pub struct Generic {
+pub struct GenericAddress {
     pub address: u64,
     pub space: u8,
     pub bit_width: u8,
@@ -96,24 +111,24 @@ pub struct Generic {
     pub access_size: u8,
 }
 
-/// A register that may not be there. C sees `struct zacpi_register`.
+/// A register that may not be there.
 #[repr(C)]
 #[derive(Clone, Copy)]
 pub struct Register {
-    pub at: Generic,
+    pub at: GenericAddress,
     pub present: u8,
 }
 
-/// The power management timer (section 4.8.3.3). C sees `struct zacpi_pm_timer`.
+/// The power management timer (section 4.8.3.3).
 #[repr(C)]
 #[derive(Clone, Copy)]
-pub struct Timer {
-    pub base: Generic,
+pub struct PmTimer {
+    pub base: GenericAddress,
     pub present: u8,
     pub is_32_bit: u8,
 }
 
-/// The image that the firmware showed (BGRT, section 5.2.22). C sees `struct zacpi_boot_graphic`.
+/// The image that the firmware showed (BGRT, section 5.2.22).
 #[repr(C)]
 #[derive(Clone, Copy)]
 pub struct BootGraphic {

@@ -34,6 +34,8 @@ pub enum Refusal {
     NoDomain,
     /// The SLIT has no distance of these two localities (section 5.2.17).
     NoDistance,
+    /// The numbers at an entry's front don't have one or two bytes each.
+    UnknownWidth,
     /// The refusal is one of the crate `acpi`: of memory, an RSDP, a table, a register or the MADT's entries.
     Acpi(AcpiError),
 }
@@ -67,6 +69,7 @@ impl Refusal {
             Refusal::NoGic => 34,
             Refusal::NoDomain => 35,
             Refusal::NoDistance => 36,
+            Refusal::UnknownWidth => 37,
             Refusal::Acpi(error) => acpi_code(error),
         }
     }

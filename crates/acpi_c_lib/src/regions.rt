@@ -3,12 +3,15 @@ ghost use Rattle.std.specs.Prelude.{◌≡◌, length, IfOk};
 ghost use Rattle.acpi_base.specs.Bytes.{IsBytes};
 ghost use Rattle.acpi_base.specs.Memory.{IsMemory, IsMemory-prop, rest_from};
 ghost use Rattle.acpi_base.specs.Steps.{Gives};
+ghost use Rattle.acpi.specs.Regions.{IsAscending, IsAscending-prop};
+ghost use Rattle.acpi_c_lib.specs.Located.{LiesOnlyAt, located, place_from};
 ghost use Rattle.acpi_c_lib.specs.Regions.{check_regions, memory_of, region_of};
 
+use crate::records::Place;
 use crate::refusal::Refusal;
 use acpi_base::{AcpiError, AcpiHandler, AcpiResult};
 
-/// A range of physical memory, and the bytes that it is mapped at. C sees `struct zacpi_region`.
+/// A range of physical memory, and the bytes that it is mapped at.
 #[repr(C)]
 #[derive(Clone, Copy)]
 pub struct Region<'k> {
@@ -69,17 +72,58 @@ fn length_of(bytes: &[u8]) -> u64
     bytes.len() as u64
 }
 
+/// The index of the one region that an address can lie in: the last one that begins at it or below it. The list is
+/// halved, so it takes as many steps as the logarithm of its length.
+fn index_for(regions: &[Region<'_>], address: u64) -> usize
+    requires { IsAscending (memory_of regions.now) }
+    ensures { LiesOnlyAt regions.now address result }
+{
+    let after = regions.partition_point(|region| region.address <= address);
+    after.saturating_sub(1)
+}
+
 /// The bytes from an address to the end of the region that it lies in, or none.
-#[tactic(auto, unfolding(acpi_base::specs::Memory::rest_from))]
+#[tactic(auto, using(crate::proofs::Halved::nothing_past, crate::proofs::Halved::rest_of_one), unfolding(acpi_base::specs::Memory::rest_from))]
 fn rest_at<'k>(regions: &[Region<'k>], address: u64) -> &'k [u8]
+    requires { IsAscending (memory_of regions.now) }
     ensures { result.now ≡ rest_from (memory_of regions.now) address }
 {
-    for region in regions {
-        if let Some(rest) = region.rest(address) {
-            return rest;
-        }
+    let Some(region) = regions.get(index_for(regions, address)) else {
+        return &[];
+    };
+    match region.rest(address) {
+        Some(rest) => rest,
+        None => &[],
     }
-    &[]
+}
+
+/// Where so many bytes from an address lie, if they lie in one region.
+#[tactic(auto, using(crate::proofs::Halved::no_place_past, crate::proofs::Halved::place_there))]
+fn place_for(regions: &[Region<'_>], address: u64, length: u64) -> Option<Place>
+    requires { IsAscending (memory_of regions.now) }
+    ensures { result ≡ place_from 0 (memory_of regions.now) address length }
+{
+    let index = index_for(regions, address);
+    let region = regions.get(index)?;
+    let rest = region.rest(address)?;
+    if length > rest.len() as u64 {
+        return None;
+    }
+    Some(Place {
+        region: index,
+        offset: (address - region.address) as usize,
+    })
+}
+
+/// Where so many bytes from an address lie.
+///
+/// Refuses as `check` does, and then with `MapFailed` if the address lies in no region, or the bytes reach past the end
+/// of the one that it lies in.
+pub fn locate(regions: &[Region<'_>], address: u64, length: u64) -> Result<Place, Refusal>
+    ensures { result ≡ located regions.now address length }
+{
+    check(regions)?;
+    place_for(regions, address, length).ok_or(Refusal::Acpi(AcpiError::MapFailed))
 }
 
 /// Checks that regions stand in ascending order, and share no address.
@@ -88,6 +132,7 @@ fn rest_at<'k>(regions: &[Region<'k>], address: u64) -> &'k [u8]
 /// it, and with `RegionTooHigh` if the address after its last byte is 2^64 or above.
 fn check(regions: &[Region<'_>]) -> Result<(), Refusal>
     ensures exact { result ≡ check_regions (memory_of regions.now) }
+    ensures ascending { IfOk result (λ _. IsAscending (memory_of regions.now)) }
     ensures memory { IfOk result (λ _. IsMemory (memory_of regions.now)) }
 {
     let mut low = 0;
@@ -104,6 +149,7 @@ fn check(regions: &[Region<'_>]) -> Result<(), Refusal>
 #[derive(Drop)]
 pub(crate) struct Mapped<'k> {
     regions: &'k [Region<'k>],
+    ghost ascending: { IsAscending (memory_of regions.now) } by { IsAscending-prop _ },
     ghost disjoint: { IsMemory (memory_of regions.now) } by { IsMemory-prop _ },
 }
 

@@ -8,7 +8,7 @@ ghost use Rattle.acpi_base.specs.Pin.{base_of, nearest};
 ghost use Rattle.acpi_c_lib.specs.Routes as routes;
 ghost use Rattle.acpi_c_lib.specs.Routes.{is_nearer, isa_below, pin_below, sci_below};
 
-use crate::interrupt_records::{InterruptRecord, PinRecord};
+use crate::interrupt_records::{Interrupt, IoApicPin};
 use crate::interrupts::{apic_madt, io_apic_record, polarity_code, trigger_code};
 use crate::isa_list::overrides_in;
 use crate::opening::open;
@@ -23,7 +23,7 @@ use acpi::{Lender, PhysicalMapping};
 use acpi_base::model::{MadtItem, straight, wired};
 
 /// The global system interrupt of one of the 16 ISA interrupts.
-pub fn isa(source: &Source<'_>, irq: u8) -> Result<InterruptRecord, Refusal>
+pub fn isa(source: &Source<'_>, irq: u8) -> Result<Interrupt, Refusal>
     ensures { result ≡ isa_below source.now irq }
 {
     let memory = Mapped::new(source.regions)?;
@@ -34,7 +34,7 @@ pub fn isa(source: &Source<'_>, irq: u8) -> Result<InterruptRecord, Refusal>
 }
 
 /// The global system interrupt of the System Control Interrupt.
-pub fn sci(source: &Source<'_>) -> Result<InterruptRecord, Refusal>
+pub fn sci(source: &Source<'_>) -> Result<Interrupt, Refusal>
     ensures { result ≡ sci_below source.now }
 {
     let memory = Mapped::new(source.regions)?;
@@ -46,23 +46,23 @@ pub fn sci(source: &Source<'_>) -> Result<InterruptRecord, Refusal>
 }
 
 /// The I/O APIC that a global system interrupt comes to, and the pin there.
-pub fn pin(source: &Source<'_>, interrupt: u32) -> Result<PinRecord, Refusal>
+pub fn pin(source: &Source<'_>, interrupt: u32) -> Result<IoApicPin, Refusal>
     ensures { result ≡ pin_below source.now interrupt }
 {
     let memory = Mapped::new(source.regions)?;
     let tables = open(&memory, source)?;
     let found = apic_madt(&tables)?.ok_or(Refusal::NoApics)?;
     let io_apic = nearest(&found.madt, interrupt).ok_or(Refusal::NoSuchIoApic)?;
-    Ok(PinRecord {
+    Ok(IoApicPin {
         io_apic: io_apic_record(&io_apic),
         pin: interrupt - io_apic.global_system_interrupt_base,
     })
 }
 
-pub(crate) fn interrupt_record(interrupt: IsaInterrupt) -> InterruptRecord
+pub(crate) fn interrupt_record(interrupt: IsaInterrupt) -> Interrupt
     ensures { result ≡ routes.interrupt_record interrupt }
 {
-    InterruptRecord {
+    Interrupt {
         global_system_interrupt: interrupt.global_system_interrupt,
         polarity: polarity_code(interrupt.polarity),
         trigger: trigger_code(interrupt.trigger_mode),

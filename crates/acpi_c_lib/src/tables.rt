@@ -7,7 +7,7 @@ ghost use Rattle.acpi_c_lib.specs.Shown.{dsdt_below, signature_named, table_belo
 
 use crate::lists::put;
 use crate::opening::open;
-use crate::records::{Aml, Name, Source, Table};
+use crate::records::{self, AmlTable, Source, Table};
 use crate::refusal::Refusal;
 use crate::regions::Mapped;
 use acpi::sdt::{SdtHeader, Signature, map_own_sdt};
@@ -52,7 +52,7 @@ pub fn tables(source: &Source<'_>, out: &mut [Table]) -> Result<usize, Refusal>
 }
 
 /// The first valid table of a signature.
-pub fn find(source: &Source<'_>, name: Name) -> Result<Table, Refusal>
+pub fn find(source: &Source<'_>, name: records::Signature) -> Result<Table, Refusal>
     ensures { result ≡ table_below source.now name }
 {
     let memory = Mapped::new(source.regions)?;
@@ -63,20 +63,20 @@ pub fn find(source: &Source<'_>, name: Name) -> Result<Table, Refusal>
 
 /// The signature of four letters.
 #[tactic(auto, using(crate::proofs::Names::signature_is))]
-pub(crate) fn signature_named(name: Name) -> Signature
+pub(crate) fn signature_named(name: records::Signature) -> Signature
     ensures { result ≡ signature_named name }
 {
     Signature::from_bytes(name.letters)
 }
 
 /// The AML of the DSDT that the first valid FADT names.
-pub fn dsdt(source: &Source<'_>) -> Result<Aml, Refusal>
+pub fn dsdt(source: &Source<'_>) -> Result<AmlTable, Refusal>
     ensures { result ≡ dsdt_below source.now }
 {
     let memory = Mapped::new(source.regions)?;
     let tables = open(&memory, source)?;
     let stream = tables.dsdt()?;
-    Ok(Aml {
+    Ok(AmlTable {
         address: stream.address,
         length: stream.length,
     })

@@ -7,7 +7,7 @@ ghost use Rattle.acpi_c_lib.specs.Walked.{nth_below, nth_in, ranges_below, ssdts
 
 use crate::lists::{Shown, Walk, fill};
 use crate::opening::open;
-use crate::records::{Aml, Name, Range, Source, Table};
+use crate::records::{self, Range, Source, Table};
 use crate::refusal::Refusal;
 use crate::regions::Mapped;
 use crate::tables::{entry, signature_named};
@@ -18,7 +18,7 @@ use acpi::{
 };
 
 /// The valid table of a signature that so many other valid ones of it are listed before.
-pub fn nth(source: &Source<'_>, name: Name, index: usize) -> Result<Table, Refusal>
+pub fn nth(source: &Source<'_>, name: records::Signature, index: usize) -> Result<Table, Refusal>
     ensures { result ≡ nth_below source.now name index }
 {
     let memory = Mapped::new(source.regions)?;
@@ -50,7 +50,7 @@ fn nth_of<H: AcpiHandler>(
 }
 
 /// Lists the AML of all valid SSDTs.
-pub fn ssdts(source: &Source<'_>, out: &mut [Aml]) -> Result<usize, Refusal>
+pub fn ssdts(source: &Source<'_>, out: &mut [records::AmlTable]) -> Result<usize, Refusal>
     ensures { Fills result out.old out.new (ssdts_below source.now) }
 {
     let memory = Mapped::new(source.regions)?;
@@ -66,13 +66,13 @@ impl<H: Lender> Walk for SsdtIterator<'_, '_, H> {
     ghost gives_first = { λ s item t given. given };
 }
 
-impl Shown<Aml> for AmlTable {
+impl Shown<records::AmlTable> for AmlTable {
     ghost use Rattle.acpi_c_lib.specs.Shown.{aml_record};
 
     ghost record_of = { aml_record };
 
-    fn record(self) -> Aml {
-        Aml {
+    fn record(self) -> records::AmlTable {
+        records::AmlTable {
             address: self.address,
             length: self.length,
         }

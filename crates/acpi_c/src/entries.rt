@@ -1,0 +1,48 @@
+//! Where bytes lie, and the entries of any table, for calls that are passed the regions alone.
+ghost use Rattle.std.specs.Prelude.{◌≡◌};
+ghost use Rattle.std.specs.Result.{result_unwrap_or};
+ghost use Rattle.acpi_c_lib.specs.Answers.{AnswersList, AnswersPlain, result_map};
+ghost use Rattle.acpi_c_lib.specs.Entries.{entries_below, entries_said, left_said};
+ghost use Rattle.acpi_c_lib.specs.Located.{located};
+
+use acpi_c_lib::answer::{answer, answer_plain};
+use acpi_c_lib::entries::table_entries;
+use acpi_c_lib::records::{Entry, Place, Signature};
+use acpi_c_lib::regions::{Region, locate};
+
+/// Where bytes of physical memory are in the caller's regions.
+#[unsafe(no_mangle)]
+pub extern "C" fn zacpi_locate(
+    regions: &[Region<'_>],
+    address: u64,
+    length: u64,
+    out: &mut Place,
+) -> u32
+    ensures { AnswersPlain result out.old out.new (located regions.now address length) }
+{
+    answer_plain(locate(regions, address, length), out)
+}
+
+/// The entries of the table at an address, from an offset on, which begin with Type and Length.
+#[unsafe(no_mangle)]
+pub extern "C" fn zacpi_list_entries(
+    regions: &[Region<'_>],
+    table: u64,
+    first: u32,
+    bytes_each: u32,
+    out: &mut [Entry],
+    count: &mut usize,
+    malformed: &mut u8,
+    named: &mut Signature,
+) -> u32
+    ensures list { AnswersList result out.old out.new count.old count.new named.old named.new
+        (result_map entries_said (entries_below regions.now table first bytes_each)) }
+    ensures malformed { malformed.new ≡ result_unwrap_or
+        (result_map left_said (entries_below regions.now table first bytes_each)) malformed.old }
+{
+    answer(
+        table_entries(regions, table, first, bytes_each, out, malformed),
+        count,
+        named,
+    )
+}

@@ -1,0 +1,33 @@
+-- A table that is lent ends below 2^64.
+use Rattle.std.proofs.Common.{◌≡◌, ℕ, ◌+◌, ◌^◌, ◌<◌, ◌≤◌, List, length, Ok, arith, subst}
+use Rattle.std.proofs.lemmas.List.{length-take}
+use Rattle.std.proofs.lemmas.Option.{cond_some}
+use Rattle.acpi_base.proofs.LentBytes.{lent_ends}
+use Rattle.acpi_base.proofs.Steps.{bind_ok, same_ok, some_lent}
+use Rattle.acpi_base.specs.Header.{header_at}
+use Rattle.acpi_base.specs.Memory.{Memory, IsMemory, at, rest_from}
+use Rattle.acpi_base.specs.Steps.{lent}
+use Rattle.acpi_base.specs.Table.{Kind, length_in, own_table_at, plain_kind, table_at, table_of, whole_of}
+
+lent_short : (m : Memory) (a n : ℕ) (bytes : List ℕ) → lent m a n ≡ Ok bytes → length bytes ≤ n
+unfolding at
+lent_short m a n bytes e =
+    let both = cond_some _ _ _ (some_lent _ _ e) in
+    subst (λ (b : List ℕ). length b ≤ n) both.1 (omega (arith, length-take n (rest_from m a)))
+
+table_ends : (m : Memory) (k : Kind) (p : ℕ) (table : List ℕ) → IsMemory m → 0 < length table → table_at m k p ≡ Ok table → p + length table < 2 ^ 64
+unfolding table_at table_of whole_of
+table_ends m k p table h some e =
+    let head = bind_ok (lent m p 36) _ table e in
+    let whole = bind_ok (whole_of m k.signature k.least p head.0) _ table head.2 in
+    let length_said = bind_ok (length_in k.signature k.least (header_at head.0)) _ whole.0 whole.1 in
+    let checked = bind_ok (k.check whole.0) _ table whole.2 in
+    let same : whole.0 ≡ table = same_ok whole.0 table checked.2 in
+    let is_lent : lent m p length_said.0 ≡ Ok table = subst (λ (b : List ℕ). lent m p length_said.0 ≡ Ok b) same length_said.2 in
+    lent_ends m p length_said.0 table h (omega (arith, some, lent_short m p length_said.0 table is_lent)) is_lent
+
+pub own_table_ends : (m : Memory) (p : ℕ) (table : List ℕ) → IsMemory m → 0 < length table → own_table_at m p ≡ Ok table → p + length table < 2 ^ 64
+unfolding own_table_at
+own_table_ends m p table h some e =
+    let head = bind_ok (lent m p 36) _ table e in
+    table_ends m (plain_kind (header_at head.0).signature) p table h some head.2

@@ -1,0 +1,160 @@
+/* Rows of the two calls that are passed the regions alone, with what each has to answer, worked out by hand from the
+ * bytes below. For rows.c. */
+#ifndef ROWS_BYTES_H
+#define ROWS_BYTES_H
+
+/* ---- zacpi_locate --------------------------------------------------------------------------------------- */
+
+/* Two regions that touch, an empty one at their end, one of 8 bytes, and one that ends as high as one can. */
+static const uint8_t sixteen[16];
+static const struct zacpi_region placed[] = {{0x1000, sixteen, 16}, {0x1010, sixteen, 16}, {0x1020, sixteen, 0},
+                                            {0x2000, sixteen, 8}, {ONES - 16, sixteen, 16}};
+static const struct zacpi_region placed_over[] = {{0x1000, sixteen, 16}, {0x100f, sixteen, 1}};
+static const struct zacpi_region placed_too_high[] = {{0x1000, sixteen, 16}, {ONES - 15, sixteen, 16}};
+#define REGIONS(regions) regions, sizeof(regions) / sizeof *(regions)
+
+static const struct place_row {
+    const struct zacpi_region *regions;
+    size_t regions_length;
+    uint64_t address, length;
+    zacpi_status status;
+    uint64_t values[2]; /* the index of the region, and the offset in it */
+} places[] = {
+    {REGIONS(placed), 0x1000, 16, ZACPI_OK, {0, 0}},
+    {REGIONS(placed), 0x1004, 12, ZACPI_OK, {0, 4}},
+    {REGIONS(placed), 0x1004, 13, ZACPI_MAP_FAILED, {0, 0}}, /* regions that touch aren't joined */
+    {REGIONS(placed), 0x100f, 1, ZACPI_OK, {0, 15}},
+    {REGIONS(placed), 0x1010, 1, ZACPI_OK, {1, 0}},
+    {REGIONS(placed), 0x1010, 16, ZACPI_OK, {1, 0}},
+    {REGIONS(placed), 0x101f, 1, ZACPI_OK, {1, 15}},
+    {REGIONS(placed), 0x101f, 2, ZACPI_MAP_FAILED, {0, 0}},
+    {REGIONS(placed), 0x1020, 0, ZACPI_MAP_FAILED, {0, 0}}, /* no byte of an empty region, nor after the last one */
+    {REGIONS(placed), 0x1020, 1, ZACPI_MAP_FAILED, {0, 0}},
+    {REGIONS(placed), 0x1000, 0, ZACPI_OK, {0, 0}},
+    {REGIONS(placed), 0x2007, 0, ZACPI_OK, {3, 7}},
+    {REGIONS(placed), 0x2000, 8, ZACPI_OK, {3, 0}},
+    {REGIONS(placed), 0x2008, 0, ZACPI_MAP_FAILED, {0, 0}},
+    {REGIONS(placed), 0x1fff, 1, ZACPI_MAP_FAILED, {0, 0}},
+    {REGIONS(placed), 0xfff, 1, ZACPI_MAP_FAILED, {0, 0}},
+    {REGIONS(placed), 0, 0, ZACPI_MAP_FAILED, {0, 0}},
+    {REGIONS(placed), ONES - 16, 16, ZACPI_OK, {4, 0}},
+    {REGIONS(placed), ONES - 1, 1, ZACPI_OK, {4, 15}},
+    {REGIONS(placed), ONES, 0, ZACPI_MAP_FAILED, {0, 0}},
+    {REGIONS(placed), ONES - 1, ONES, ZACPI_MAP_FAILED, {0, 0}}, /* the range ends above 2^64 */
+    {REGIONS(placed), 0x1000, ONES, ZACPI_MAP_FAILED, {0, 0}},
+    {placed, 0, 0x1000, 1, ZACPI_MAP_FAILED, {0, 0}},
+    {placed, 1, 0x100f, 1, ZACPI_OK, {0, 15}},
+    {placed, 2, 0x1010, 1, ZACPI_OK, {1, 0}},
+    {REGIONS(placed_over), 0x1000, 1, ZACPI_REGIONS_NOT_ASCENDING, {0, 0}},
+    {REGIONS(placed_too_high), 0x1000, 1, ZACPI_REGION_TOO_HIGH, {0, 0}}};
+
+FIELDS(of_place, F(struct zacpi_place, region), F(struct zacpi_place, offset));
+static const struct call call_locate = {"locate", NULL, of_place, sizeof(struct zacpi_place), 0};
+
+static void check_place(const struct place_row *row) {
+    zacpi_status got;
+    memset(out.bytes, PAINT, sizeof out.bytes);
+    got = zacpi_locate(row->regions, row->regions_length, row->address, row->length,
+                       (struct zacpi_place *)(void *)out.bytes);
+    result(got == row->status && is_written(&call_locate, row->values, row->status ? 0 : 1), "locate",
+           (int)(row - places), 1, got);
+}
+
+/* ---- zacpi_list_entries ----------------------------------------------------------------------------------- */
+
+/* Tables that no root table lists. Byte 4 is Length, and byte 9 Checksum. The first has three entries: a Local APIC, an
+ * I/O APIC, and one of a Type that nothing defines, of Type and Length alone. */
+static const uint8_t madt_whole[66] = {'A', 'P', 'I', 'C', 66, [9] = 0x06, [44] = 0, 8, 1, 2, 1, [52] = 1, 12,
+                                       [64] = 0x80, 2};
+/* A Memory Affinity, and a Local APIC Affinity. */
+static const uint8_t srat_whole[104] = {'S', 'R', 'A', 'T', 104, [9] = 0x25, [48] = 1, 40, [88] = 0, 16};
+/* Type and Length have two bytes each: a DRHD of 16 bytes, an RMRR of 24, and one of Type 0x102 of four. */
+static const uint8_t dmar_whole[92] = {'D', 'M', 'A', 'R', 92, [9] = 0x50, [48] = 0, 0, 16, 0, [64] = 1, 0, 24, 0,
+                                       [88] = 2, 1, 4, 0};
+/* The second entry is longer than the ten bytes that are left. */
+static const uint8_t madt_long[62] = {'A', 'P', 'I', 'C', 62, [9] = 0x90, [44] = 0, 8, [52] = 1, 12};
+/* The second entry is shorter than its Type and Length. */
+static const uint8_t madt_short[54] = {'A', 'P', 'I', 'C', 54, [9] = 0xa1, [44] = 0, 8, [52] = 3, 1};
+/* Three bytes are left after the first entry. */
+static const uint8_t nfit_half[47] = {'N', 'F', 'I', 'T', 47, [9] = 0x88, [40] = 7, 0, 4, 0, 9, 0, 4};
+/* The second entry has a Length of 3, less than two numbers of two bytes. */
+static const uint8_t oem_three[44] = {'O', 'E', 'M', '2', 44, [9] = 0xb6, [36] = 0xff, 0, 4, 0, 5, 0, 3, 0};
+/* Four zeros after the header: a Length of 0. */
+static const uint8_t oem_zeros[40] = {'O', 'E', 'M', '1', 40, [9] = 0xc6};
+/* Length is less than the header's 36 bytes; Signature isn't UTF-8; the bytes don't sum to 0; not as many bytes are
+ * lent as Length says. */
+static const uint8_t oem_35[36] = {'O', 'E', 'M', '3', 35, [9] = 0xc9};
+static const uint8_t oem_other[36] = {0xff, 'O', 'E', 'M', 36, [9] = 0xfc};
+static const uint8_t oem_sum[40] = {'O', 'E', 'M', '1', 40, [9] = 0xc7};
+static const uint8_t oem_lost[65] = {'O', 'E', 'M', '4', 66, [9] = 0xa9};
+#define TABLE(n) (0x10000u * ((n) + 1u)) /* where table N lies */
+#define LAID(n, table) {TABLE(n), table, sizeof table}
+enum { IN_APIC, IN_SRAT, IN_DMAR, IN_LONG, IN_SHORT, IN_HALF, IN_THREE, IN_ZEROS, IN_35, IN_OTHER, IN_SUM, IN_LOST,
+       NOWHERE };
+static const struct zacpi_region laid[] = {LAID(IN_APIC, madt_whole), LAID(IN_SRAT, srat_whole),
+    LAID(IN_DMAR, dmar_whole), LAID(IN_LONG, madt_long), LAID(IN_SHORT, madt_short), LAID(IN_HALF, nfit_half),
+    LAID(IN_THREE, oem_three), LAID(IN_ZEROS, oem_zeros), LAID(IN_35, oem_35), LAID(IN_OTHER, oem_other),
+    LAID(IN_SUM, oem_sum), LAID(IN_LOST, oem_lost)};
+
+static const struct entries_row {
+    const struct zacpi_region *regions;
+    size_t regions_length;
+    uint32_t table, first, bytes_each;
+    zacpi_status status;
+    const char *named;
+    size_t count;
+    uint8_t malformed;
+    uint64_t values[9]; /* of each entry its address, its Type and its Length */
+} entry_rows[] = {
+    {REGIONS(laid), IN_APIC, 44, 1, ZACPI_OK, NULL, 3, 0,
+     {TABLE(IN_APIC) + 44, 0, 8, TABLE(IN_APIC) + 52, 1, 12, TABLE(IN_APIC) + 64, 0x80, 2}},
+    {REGIONS(laid), IN_APIC, 52, 1, ZACPI_OK, NULL, 2, 0, {TABLE(IN_APIC) + 52, 1, 12, TABLE(IN_APIC) + 64, 0x80, 2}},
+    {REGIONS(laid), IN_APIC, 66, 1, ZACPI_OK, NULL, 0, 0, {0}}, /* the table's end */
+    {REGIONS(laid), IN_APIC, 65, 1, ZACPI_OK, NULL, 0, 1, {0}}, /* one byte is left */
+    {REGIONS(laid), IN_APIC, 67, 1, ZACPI_SDT_INVALID_LENGTH, "APIC", 0, 0, {0}},
+    {REGIONS(laid), IN_APIC, UINT32_MAX, 2, ZACPI_SDT_INVALID_LENGTH, "APIC", 0, 0, {0}},
+    {REGIONS(laid), IN_APIC, 44, 2, ZACPI_OK, NULL, 0, 1, {0}}, /* a Type of 0x800, and a Length of 0x201 */
+    {REGIONS(laid), IN_APIC, 0, 2, ZACPI_OK, NULL, 0, 1, {0}}, /* the header as an entry: a Length of "IC", 0x4349 */
+    {REGIONS(laid), IN_APIC, 44, 0, ZACPI_UNKNOWN_WIDTH, NULL, 0, 0, {0}},
+    {REGIONS(laid), IN_APIC, 44, 3, ZACPI_UNKNOWN_WIDTH, NULL, 0, 0, {0}},
+    {REGIONS(laid), IN_SRAT, 48, 1, ZACPI_OK, NULL, 2, 0, {TABLE(IN_SRAT) + 48, 1, 40, TABLE(IN_SRAT) + 88, 0, 16}},
+    {REGIONS(laid), IN_DMAR, 48, 2, ZACPI_OK, NULL, 3, 0,
+     {TABLE(IN_DMAR) + 48, 0, 16, TABLE(IN_DMAR) + 64, 1, 24, TABLE(IN_DMAR) + 88, 0x102, 4}},
+    {REGIONS(laid), IN_LONG, 44, 1, ZACPI_OK, NULL, 1, 1, {TABLE(IN_LONG) + 44, 0, 8}},
+    {REGIONS(laid), IN_SHORT, 44, 1, ZACPI_OK, NULL, 1, 1, {TABLE(IN_SHORT) + 44, 0, 8}},
+    {REGIONS(laid), IN_HALF, 40, 2, ZACPI_OK, NULL, 1, 1, {TABLE(IN_HALF) + 40, 7, 4}},
+    {REGIONS(laid), IN_THREE, 36, 2, ZACPI_OK, NULL, 1, 1, {TABLE(IN_THREE) + 36, 0xff, 4}},
+    {REGIONS(laid), IN_ZEROS, 36, 1, ZACPI_OK, NULL, 0, 1, {0}},
+    {REGIONS(laid), IN_35, 36, 1, ZACPI_SDT_INVALID_LENGTH, "OEM3", 0, 0, {0}},
+    {REGIONS(laid), IN_OTHER, 36, 1, ZACPI_SDT_INVALID_SIGNATURE, "\377OEM", 0, 0, {0}},
+    {REGIONS(laid), IN_SUM, 41, 1, ZACPI_SDT_INVALID_CHECKSUM, "OEM1", 0, 0, {0}},
+    {REGIONS(laid), IN_LOST, 36, 1, ZACPI_MAP_FAILED, NULL, 0, 0, {0}},
+    {REGIONS(laid), NOWHERE, 36, 1, ZACPI_MAP_FAILED, NULL, 0, 0, {0}},
+    {REGIONS(laid), NOWHERE, 36, 4, ZACPI_UNKNOWN_WIDTH, NULL, 0, 0, {0}},
+    {REGIONS(placed_over), IN_APIC, 44, 4, ZACPI_REGIONS_NOT_ASCENDING, NULL, 0, 0, {0}},
+    {REGIONS(placed_too_high), IN_APIC, 44, 4, ZACPI_REGION_TOO_HIGH, NULL, 0, 0, {0}}};
+
+FIELDS(of_entry, F(struct zacpi_entry, address), F(struct zacpi_entry, entry_type), F(struct zacpi_entry, length));
+static const struct call call_entries = {"list_entries", NULL, of_entry, sizeof(struct zacpi_entry), 1};
+
+static void check_entries(const struct entries_row *row, size_t room) {
+    struct zacpi_signature named = {{'?', '?', '?', '?'}};
+    size_t count = UNCOUNTED, items = row->status ? 0 : room < row->count ? room : row->count;
+    uint8_t malformed = PAINT;
+    zacpi_status got;
+    memset(out.bytes, PAINT, sizeof out.bytes);
+    got = zacpi_list_entries(row->regions, row->regions_length, TABLE(row->table), row->first, row->bytes_each,
+                             (struct zacpi_entry *)(void *)out.bytes, room, &count, &malformed, &named);
+    result(got == row->status && !memcmp(named.letters, row->named ? row->named : "????", 4)
+           && count == (row->status ? UNCOUNTED : row->count) && malformed == (row->status ? PAINT : row->malformed)
+           && is_written(&call_entries, row->values, items), "list_entries", (int)(row - entry_rows), room, got);
+}
+
+static void check_bytes(void) {
+    size_t i, room;
+    for (i = 0; i < sizeof places / sizeof *places; i++) check_place(places + i);
+    for (i = 0; i < sizeof entry_rows / sizeof *entry_rows; i++)
+        for (room = 0; room < entry_rows[i].count + 2; room++) check_entries(entry_rows + i, room);
+}
+
+#endif
