@@ -145,15 +145,8 @@ module _ (rs : List Region) (a i : ℕ) (r : Region) (h : LiesOnlyAt rs a i) (in
   unfolding rest_from
   rest_inside s lies e = rw (rest_of_one rs a i r h there, lies) e
 
-  pub rest_outside : lies_in (region_of r) a ≡ false → rest_from (memory_of rs) a ≡ []
-  unfolding rest_from
-  rest_outside out = rw (rest_of_one rs a i r h there, out) refl
-
   pub place_inside : (n : ℕ) → lies_in (region_of r) a ≡ true → a + n ≤ end_of (region_of r) → place_from 0 (memory_of rs) a n ≡ Some (record { region = i; offset = a - r.address })
   place_inside n lies fits = rw (place_there rs a i n r h there, lies, le-leb _ _ fits) refl
 
   pub place_short : (n : ℕ) → lies_in (region_of r) a ≡ true → end_of (region_of r) < a + n → place_from 0 (memory_of rs) a n ≡ None
   place_short n lies short = rw (place_there rs a i n r h there, lies, lt-leb _ _ short) refl
-
-  pub place_outside : (n : ℕ) → lies_in (region_of r) a ≡ false → place_from 0 (memory_of rs) a n ≡ None
-  place_outside n out = rw (place_there rs a i n r h there, out) refl
