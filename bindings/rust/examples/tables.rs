@@ -1,9 +1,11 @@
 //! tables IMAGE rsdt REVISION ADDRESS | rsdp ADDRESS | bios: what acpi_view prints, through the library.
-use zacpi::{
-    AcpiResult, AcpiTables, AmlTable, Fault, FixedHardware, InterruptModel, InterruptSourceOverride, IoApic, List,
-    NmiLine, NmiSource, PciRegion, PmTimer, Processor, Region, Signature, Table,
-};
 use std::process::ExitCode;
+use zacpi::bgrt::Bgrt;
+use zacpi::list::{Item, List};
+use zacpi::platform::interrupt::{Apic, InterruptModel, LocalInterruptLine, NmiProcessor, Polarity, TriggerMode};
+use zacpi::platform::{Processor, ProcessorState};
+use zacpi::spcr::Spcr;
+use zacpi::{AcpiResult, AcpiTables, HpetInfo, Listing, PciConfigRegions, PlatformRoom, Region, Signature, Slot};
 
 /// How many items of a list are printed; more are counted, and said to be left out.
 const MOST: usize = 256;
@@ -42,104 +44,132 @@ fn regions(mut image: &[u8]) -> Result<Vec<Region<'_>>, &'static str> {
     Ok(found)
 }
 
-/// Prints each item of a list, as far as there was room for it. Of a list that is refused nothing is printed.
-fn each<T>(list: AcpiResult<List<'_, T>>, print: impl Fn(&T)) {
-    if let Ok(list) = list {
-        if !list.is_whole() {
-            println!("left out {}", list.count() - list.items().len());
-        }
-        list.iter().for_each(&print);
+/// Prints each item of a list, as far as there was room for it.
+fn each<T: Item>(list: &List<'_, T>, print: impl Fn(T)) {
+    if !list.is_whole() {
+        println!("left out {}", list.count() - list.len());
     }
+    list.iter().for_each(print);
+}
+
+/// Asks for a list, and prints it. Of a list that is refused nothing is printed.
+fn ask<T: Item>(listing: Listing<'_, T>, print: impl Fn(T)) -> AcpiResult<()> {
+    listing.fill(&mut [Slot::default(); MOST]).map(|list| each(&list, print))
 }
 
 fn print_tables(tables: &AcpiTables<'_>) {
-    each(tables.headers(&mut [Table::default(); MOST]), |t| {
-        println!("table {} length {} revision {}", t.signature(), t.length, t.revision)
-    });
+    let _ = ask(tables.headers(), |t| println!("table {} length {} revision {}", t.signature, t.length, t.revision));
     match tables.dsdt() {
         Ok(aml) => println!("dsdt {:#x} length {}", aml.address, aml.length),
         Err(refused) => println!("dsdt: {refused}"),
     }
-    each(tables.ssdts(&mut [AmlTable::default(); MOST]), |aml| {
-        println!("ssdt {:#x} length {}", aml.address, aml.length)
+    let _ = ask(tables.ssdts(), |aml| println!("ssdt {:#x} length {}", aml.address, aml.length));
+}
+
+fn flags(polarity: Polarity, trigger: TriggerMode) -> String {
+    let polarity = match polarity {
+        Polarity::ActiveHigh => "high",
+        Polarity::ActiveLow => "low",
+        _ => "bus",
+    };
+    let trigger = match trigger {
+        TriggerMode::Edge => "edge",
+        TriggerMode::Level => "level",
+        _ => "bus",
+    };
+    format!("{polarity} {trigger}")
+}
+
+fn print_apic(apic: &Apic<'_>) {
+    let pics = if apic.also_has_legacy_pics { "yes" } else { "no" };
+    println!("model apic {:#x} pics {pics}", apic.local_apic_address);
+    each(&apic.io_apics, |a| println!("ioapic {} {:#x} {}", a.id, a.address, a.global_system_interrupt_base));
+    each(&apic.interrupt_source_overrides, |o| {
+        println!("override {} {} {}", o.isa_source, o.global_system_interrupt, flags(o.polarity, o.trigger_mode))
+    });
+    each(&apic.nmi_sources, |n| println!("nmi {} {}", n.global_system_interrupt, flags(n.polarity, n.trigger_mode)));
+    each(&apic.local_apic_nmi_lines, |n| {
+        let of = match n.processor {
+            NmiProcessor::All => "all".to_string(),
+            NmiProcessor::ProcessorUid(uid) => uid.to_string(),
+        };
+        let line = match n.line {
+            LocalInterruptLine::Lint0 => 0,
+            LocalInterruptLine::Lint1 => 1,
+            LocalInterruptLine::Other(line) => line,
+        };
+        println!("line {of} lint{line}")
     });
 }
 
-/// The codes of an interrupt's polarity and trigger: 1 and 3, or 0 as the bus has it.
-fn flags(polarity: u8, trigger: u8) -> String {
-    let name = |code, one, three| if code == 1 { one } else if code == 3 { three } else { "bus" };
-    format!("{} {}", name(polarity, "high", "low"), name(trigger, "edge", "level"))
-}
-
-fn print_interrupts(tables: &AcpiTables<'_>) {
-    each(tables.io_apics(&mut [IoApic::default(); MOST]), |a| {
-        println!("ioapic {} {:#x} {}", a.id, a.address, a.global_system_interrupt_base)
-    });
-    each(tables.interrupt_source_overrides(&mut [InterruptSourceOverride::default(); MOST]), |o| {
-        println!("override {} {} {}", o.isa_source, o.global_system_interrupt, flags(o.polarity, o.trigger))
-    });
-    each(tables.nmi_sources(&mut [NmiSource::default(); MOST]), |n| {
-        println!("nmi {} {}", n.global_system_interrupt, flags(n.polarity, n.trigger))
-    });
-    each(tables.local_apic_nmi_lines(&mut [NmiLine::default(); MOST]), |n| {
-        let of = if n.of_all != 0 { "all".to_string() } else { n.processor_uid.to_string() };
-        println!("line {of} lint{}", n.lint)
-    });
-}
-
-fn platform(tables: &AcpiTables<'_>) -> AcpiResult<(InterruptModel, PmTimer, FixedHardware)> {
-    Ok((tables.interrupt_model()?, tables.pm_timer()?, tables.fixed_hardware()?))
+fn print_processor(p: Processor) {
+    let state = match p.state {
+        ProcessorState::Disabled => "disabled",
+        ProcessorState::WaitingForSipi => "waiting",
+        ProcessorState::Running => "running",
+        ProcessorState::Other(_) => "unknown",
+    };
+    println!("processor {} {} {state}", p.processor_uid, p.local_apic_id)
 }
 
 fn print_platform(tables: &AcpiTables<'_>) {
-    let (model, timer, fixed) = match platform(tables) {
+    let room = PlatformRoom {
+        processors: &mut [Slot::default(); MOST],
+        io_apics: &mut [Slot::default(); MOST],
+        interrupt_source_overrides: &mut [Slot::default(); MOST],
+        nmi_sources: &mut [Slot::default(); MOST],
+        local_apic_nmi_lines: &mut [Slot::default(); MOST],
+    };
+    let platform = match tables.platform_info(room) {
         Ok(found) => found,
         Err(refused) => return println!("platform: {refused}"),
     };
-    println!("platform profile {}", fixed.power_profile);
-    if model.known != 0 {
-        let pics = if model.also_has_8259 != 0 { "yes" } else { "no" };
-        println!("model apic {:#x} pics {pics}", model.local_apic_address);
-        print_interrupts(tables);
-    } else {
-        println!("model unknown");
+    println!("platform profile {}", u8::from(platform.power_profile));
+    match &platform.interrupt_model {
+        InterruptModel::Apic(apic) => print_apic(apic),
+        _ => println!("model unknown"),
     }
-    each(tables.processors(&mut [Processor::default(); MOST]), |p| {
-        let state = ["disabled", "waiting", "running"][p.state as usize];
-        println!("processor {} {} {state}", p.uid, p.local_apic_id)
-    });
-    if timer.present != 0 {
-        println!("timer {:#x} bits {}", timer.base.address, if timer.is_32_bit != 0 { 32 } else { 24 });
-    } else {
-        println!("timer none");
+    if let Some(info) = &platform.processor_info {
+        each(&info.processors, print_processor);
+    }
+    match platform.pm_timer {
+        Some(timer) => {
+            println!("timer {:#x} bits {}", timer.base.address, if timer.supports_32bit { 32 } else { 24 })
+        }
+        None => println!("timer none"),
     }
 }
 
+fn print_pci(tables: &AcpiTables<'_>) -> AcpiResult<()> {
+    let regions = PciConfigRegions::new(tables)?;
+    ask(regions.entries(), |r| {
+        println!("pci {} {} {} {:#x}", r.segment_group, r.bus_range.start(), r.bus_range.end(), r.physical_address)
+    })
+}
+
 fn print_devices(tables: &AcpiTables<'_>) {
-    match tables.hpet() {
-        Ok(h) => println!("hpet {:#x} number {} tick {}", h.base_address, h.number, h.clock_tick_unit),
+    match HpetInfo::new(tables) {
+        Ok(h) => println!("hpet {:#x} number {} tick {}", h.base_address, h.hpet_number, h.clock_tick_unit),
         Err(refused) => println!("hpet: {refused}"),
     }
-    let mut room = [PciRegion::default(); MOST];
-    let list = tables.pci_regions(&mut room);
-    if let Err(refused) = list {
+    if let Err(refused) = print_pci(tables) {
         println!("pci: {refused}");
     }
-    each(list, |r| println!("pci {} {} {} {:#x}", r.segment_group, r.first_bus, r.last_bus, r.base_address));
-    match tables.boot_graphic() {
+    match tables.find_table::<Bgrt>() {
         Ok(g) => {
-            let displayed = if g.displayed != 0 { "yes" } else { "no" };
-            println!("bgrt displayed {displayed} angle {} offset {} {}", g.orientation, g.x, g.y);
+            let displayed = if g.was_displayed() { "yes" } else { "no" };
+            let (x, y) = g.image_offset();
+            println!("bgrt displayed {displayed} angle {} offset {x} {y}", g.orientation_offset());
         }
         Err(refused) => println!("bgrt: {refused}"),
     }
-    let setting = |is_there, number: u32| if is_there != 0 { number.to_string() } else { "none".to_string() };
-    match tables.console() {
+    let setting = |number: Option<u32>| number.map_or("none".to_string(), |number| number.to_string());
+    match tables.find_table::<Spcr>() {
         Ok(c) => println!(
             "spcr baud {} irq {} gsi {}",
-            setting(c.has_baud_rate, c.baud_rate),
-            setting(c.has_irq, c.irq.into()),
-            setting(c.has_global_system_interrupt, c.global_system_interrupt)
+            setting(c.baud_rate()),
+            setting(c.irq().map(u32::from)),
+            setting(c.global_system_interrupt())
         ),
         Err(refused) => println!("spcr: {refused}"),
     }
@@ -149,8 +179,8 @@ fn print_devices(tables: &AcpiTables<'_>) {
 fn print_faults(tables: &AcpiTables<'_>) {
     for name in ["FACP", "APIC", "MCFG", "HPET", "BGRT", "SPCR"] {
         let signature = Signature::new(name);
-        each(tables.faults(signature, &mut [Fault::default(); MOST]), |fault| {
-            eprintln!("skipped {signature} {:#x}: {}", fault.address, fault.refusal(signature))
+        let _ = ask(tables.faults(signature), |fault| {
+            eprintln!("skipped {signature} {:#x}: {}", fault.address, fault.refusal)
         });
     }
 }

@@ -1,15 +1,15 @@
 //! Why a call refuses.
 
-use crate::records::{Fault, Signature};
+use crate::raw::records::Signature;
 use core::fmt;
 
 /// What a call that can refuse answers.
 pub type AcpiResult<T> = Result<T, AcpiError>;
 
-/// Why a call refuses. The names are those of the crate `acpi`, and of the library's own checks; the numbers are those
-/// of `enum zacpi_refusal` in `include/zacpi.h`. Sections are those of ACPI 6.4. A signature that is carried is that of
-/// the table that was looked for.
+/// Why a call refuses. The names are those of the crate `acpi`, and of the library's own checks. A signature that is
+/// carried is that of the table that was looked for.
 #[derive(Clone, Copy, Debug, PartialEq, Eq)]
+#[non_exhaustive]
 pub enum AcpiError {
     /// A region begins below the end of the one before it.
     RegionsNotAscending,
@@ -37,7 +37,7 @@ pub enum AcpiError {
     SdtInvalidChecksum(Signature),
     /// No valid table of this signature is listed in the root table (sections 5.2.7 and 5.2.8).
     TableMissing(Signature),
-    /// X_FIRMWARE_CTRL and FIRMWARE_CTRL of the FADT are 0 (section 5.2.9). No call of this crate answers it.
+    /// X_FIRMWARE_CTRL and FIRMWARE_CTRL of the FADT are 0 (section 5.2.9).
     InvalidFacsAddress,
     /// X_DSDT and DSDT of the FADT are 0 (section 5.2.9).
     InvalidDsdtAddress,
@@ -67,12 +67,15 @@ pub enum AcpiError {
     NoDistance,
     /// Type and Length of an entry have one byte or two each, and no other number.
     UnknownWidth,
-    /// A number that this version doesn't know.
+    /// There is no memory for a list, or no room for a region.
+    AllocError,
+    /// The library refuses with a number that this version doesn't know.
     Other(u32),
 }
 
 /// Why the entries of a valid MADT are refused (section 5.2.12).
 #[derive(Clone, Copy, Debug, PartialEq, Eq)]
+#[non_exhaustive]
 pub enum MadtError {
     /// An entry's Type is of a SAPIC, a platform interrupt source or a GIC: the interrupt model has no place for it.
     UnexpectedEntry,
@@ -132,13 +135,6 @@ impl AcpiError {
     }
 }
 
-impl Fault {
-    /// Why the member is passed over, of the faults of a lookup of this signature.
-    pub fn refusal(&self, looked_up: Signature) -> AcpiError {
-        AcpiError::of(self.status, looked_up)
-    }
-}
-
 /// The refusal as `acpi_view` prints it: its name, and after a space what it carries.
 impl fmt::Display for AcpiError {
     fn fmt(&self, f: &mut fmt::Formatter<'_>) -> fmt::Result {
@@ -150,9 +146,19 @@ impl fmt::Display for AcpiError {
             SdtInvalidLength(s) => write!(f, "SdtInvalidLength {s}"),
             SdtInvalidChecksum(s) => write!(f, "SdtInvalidChecksum {s}"),
             TableMissing(s) => write!(f, "TableMissing {s}"),
-            InvalidMadt(e) => write!(f, "InvalidMadt {e:?}"),
+            InvalidMadt(e) => write!(f, "InvalidMadt {e}"),
             Other(number) => write!(f, "Refused {number}"),
             plain => write!(f, "{plain:?}"),
         }
     }
 }
+
+impl core::error::Error for AcpiError {}
+
+impl fmt::Display for MadtError {
+    fn fmt(&self, f: &mut fmt::Formatter<'_>) -> fmt::Result {
+        write!(f, "{self:?}")
+    }
+}
+
+impl core::error::Error for MadtError {}

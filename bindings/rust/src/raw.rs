@@ -1,79 +1,162 @@
-//! The calls of `include/zacpi.h`, under their own names.
+//! The calls of `include/zacpi.h`, made safe: each is passed slices and references, whose pointers and lengths are what
+//! the header asks for. All `unsafe` code of this package stands in this module.
+//!
+//! A list is a function of the source and a slice to fill, which answers how many items there are in all. Those that
+//! look a signature up are passed it; the others don't look at it, so that all lists have one type.
+#![allow(unsafe_code)]
 
-use crate::records::*;
+#[path = "records.rs"]
+pub(crate) mod records;
 
-macro_rules! calls {
-    ($(one $name:ident($($arg:ident: $arg_ty:ty),*) -> $out:ty;)* $(list $list:ident($($larg:ident: $larg_ty:ty),*) -> $item:ty;)*) => {
-        extern "C" {
-            $(pub(crate) fn $name(source: &Source<'_>, $($arg: $arg_ty,)* out: &mut $out, named: &mut Signature) -> u32;)*
-            $(pub(crate) fn $list(source: &Source<'_>, $($larg: $larg_ty,)* out: *mut $item, room: usize, count: &mut usize, named: &mut Signature) -> u32;)*
+use crate::error::{AcpiError, AcpiResult};
+use crate::list::{Item, Slot};
+use core::marker::PhantomData;
+use records::*;
+
+impl<'k> Region<'k> {
+    /// The memory from a physical address on, which is mapped at these bytes.
+    pub const fn new(address: u64, bytes: &'k [u8]) -> Self {
+        Region { address, bytes: bytes.as_ptr(), length: bytes.len(), lent: PhantomData }
+    }
+
+    /// The physical address of its first byte.
+    pub const fn address(&self) -> u64 {
+        self.address
+    }
+
+    /// Its bytes.
+    pub const fn bytes(&self) -> &'k [u8] {
+        // SAFETY: they are the pointer and the length of the slice that `new` was passed, which lives for `'k`.
+        unsafe { core::slice::from_raw_parts(self.bytes, self.length) }
+    }
+}
+
+/// A region of no bytes at address 0: what an array of regions is filled with before it has any.
+impl Default for Region<'_> {
+    fn default() -> Self {
+        Region::new(0, &[])
+    }
+}
+
+// SAFETY: a region is a shared slice of bytes and a number.
+unsafe impl Send for Region<'_> {}
+// SAFETY: as above; nothing writes through a region.
+unsafe impl Sync for Region<'_> {}
+
+impl<'k> Source<'k> {
+    /// The regions, and where to start in them: one of `enum zacpi_start`, and its address.
+    pub(crate) const fn new(regions: &'k [Region<'k>], start: u32, address: u64) -> Self {
+        Source { regions: regions.as_ptr(), regions_length: regions.len(), address, start, lent: PhantomData }
+    }
+}
+
+fn answered(status: u32, named: Signature) -> AcpiResult<()> {
+    match status {
+        0 => Ok(()),
+        status => Err(AcpiError::of(status, named)),
+    }
+}
+
+/// Calls that answer one record.
+macro_rules! ones {
+    ($($name:ident($($argument:ident: $type:ty),*) -> $out:ty;)*) => {
+        mod one {
+            use super::records::*;
+            unsafe extern "C" {
+                $(pub(super) fn $name(
+                    source: *const Source<'_>, $($argument: $type,)* out: *mut $out, named: *mut Signature,
+                ) -> u32;)*
+            }
         }
+        $(pub(crate) fn $name(source: &Source<'_>, $($argument: $type),*) -> AcpiResult<$out> {
+            let (mut out, mut named) = (<$out>::default(), Signature::default());
+            // SAFETY: the source holds live slices of initialised items; the outputs are two live variables.
+            let status = unsafe { one::$name(source, $($argument,)* &mut out, &mut named) };
+            answered(status, named).map(|()| out)
+        })*
     };
 }
 
-calls! {
-    one zacpi_open() -> Root;
-    one zacpi_find_table(signature: Signature) -> Table;
-    one zacpi_find_nth_table(signature: Signature, index: usize) -> Table;
-    one zacpi_dsdt() -> AmlTable;
-    one zacpi_pm_timer() -> PmTimer;
-    one zacpi_hpet() -> HpetInfo;
-    one zacpi_boot_graphic() -> BootGraphic;
-    one zacpi_fixed_hardware() -> FixedHardware;
-    one zacpi_console() -> Console;
-    one zacpi_interrupt_model() -> InterruptModel;
-    one zacpi_pci_ecam_address(segment_group: u16, bus: u8, device: u8, function: u8) -> u64;
-    one zacpi_isa_interrupt(irq: u8) -> Interrupt;
-    one zacpi_sci_interrupt() -> Interrupt;
-    one zacpi_io_apic_pin(global_system_interrupt: u32) -> IoApicPin;
-    one zacpi_list_isa_interrupts() -> IsaInterrupts;
-    one zacpi_gic_distributor() -> GicDistributor;
-    one zacpi_arm_timers() -> ArmTimers;
-    one zacpi_domain_of_address(address: u64) -> u32;
-    one zacpi_domain_of_apic(local_apic_id: u32) -> u32;
-    one zacpi_domain_of_processor(uid: u32) -> u32;
-    one zacpi_localities() -> Localities;
-    one zacpi_distance(from: u64, to: u64) -> u8;
-    list zacpi_list_tables() -> Table;
-    list zacpi_list_faults(signature: Signature) -> Fault;
-    list zacpi_list_ssdts() -> AmlTable;
-    list zacpi_list_ranges() -> Range;
-    list zacpi_list_missing_ranges() -> Range;
-    list zacpi_list_pci_regions() -> PciRegion;
-    list zacpi_list_ecam_ranges() -> EcamRange;
-    list zacpi_list_io_apics() -> IoApic;
-    list zacpi_list_overrides() -> InterruptSourceOverride;
-    list zacpi_list_nmi_sources() -> NmiSource;
-    list zacpi_list_nmi_lines() -> NmiLine;
-    list zacpi_list_processors() -> Processor;
-    list zacpi_list_gic_cpu_interfaces() -> GicCpuInterface;
-    list zacpi_list_gic_redistributors() -> Range;
-    list zacpi_list_gic_translation_services() -> GicTranslationService;
-    list zacpi_list_gic_msi_frames() -> GicMsiFrame;
-    list zacpi_list_gt_frames() -> GtFrame;
-    list zacpi_list_watchdogs() -> Watchdog;
-    list zacpi_list_memory_affinities() -> MemoryAffinity;
+/// Calls that fill a slice.
+macro_rules! lists {
+    ($($name:ident($($argument:ident: $type:ty)?) -> $item:ty;)*) => {
+        mod list {
+            use super::records::*;
+            unsafe extern "C" {
+                $(pub(super) fn $name(
+                    source: *const Source<'_>, $($argument: $type,)? out: *mut $item, room: usize, count: *mut usize,
+                    named: *mut Signature,
+                ) -> u32;)*
+            }
+        }
+        $(pub(crate) fn $name(source: &Source<'_>, _looked_up: Signature, out: &mut [$item]) -> AcpiResult<usize> {
+            let (mut count, mut named) = (0, Signature::default());
+            $(let $argument = _looked_up;)?
+            // SAFETY: the source holds live slices of initialised items; the outputs are a live slice with its length,
+            // and two live variables.
+            let status =
+                unsafe { list::$name(source, $($argument,)? out.as_mut_ptr(), out.len(), &mut count, &mut named) };
+            answered(status, named).map(|()| count)
+        })*
+    };
 }
 
-extern "C" {
-    pub(crate) fn zacpi_clip_ranges(
-        ranges: *const Range,
-        ranges_length: usize,
-        without: *const Range,
-        without_length: usize,
-        window: &Range,
-        out: *mut Range,
-        room: usize,
-        count: &mut usize,
-    ) -> u32;
-    pub(crate) fn zacpi_locate(
+ones! {
+    zacpi_open() -> Root;
+    zacpi_find_table(signature: Signature) -> Table;
+    zacpi_find_nth_table(signature: Signature, index: usize) -> Table;
+    zacpi_dsdt() -> AmlTable;
+    zacpi_pm_timer() -> PmTimer;
+    zacpi_hpet() -> HpetInfo;
+    zacpi_boot_graphic() -> BootGraphic;
+    zacpi_fixed_hardware() -> FixedHardware;
+    zacpi_console() -> Console;
+    zacpi_interrupt_model() -> InterruptModel;
+    zacpi_pci_ecam_address(segment_group: u16, bus: u8, device: u8, function: u8) -> u64;
+    zacpi_isa_interrupt(irq: u8) -> Interrupt;
+    zacpi_sci_interrupt() -> Interrupt;
+    zacpi_io_apic_pin(global_system_interrupt: u32) -> IoApicPin;
+    zacpi_list_isa_interrupts() -> IsaInterrupts;
+    zacpi_gic_distributor() -> GicDistributor;
+    zacpi_arm_timers() -> ArmTimers;
+    zacpi_domain_of_address(address: u64) -> u32;
+    zacpi_domain_of_apic(local_apic_id: u32) -> u32;
+    zacpi_domain_of_processor(uid: u32) -> u32;
+    zacpi_localities() -> Localities;
+    zacpi_distance(from: u64, to: u64) -> u8;
+}
+
+lists! {
+    zacpi_list_tables() -> Table;
+    zacpi_list_faults(signature: Signature) -> Fault;
+    zacpi_list_ssdts() -> AmlTable;
+    zacpi_list_ranges() -> Range;
+    zacpi_list_missing_ranges() -> Range;
+    zacpi_list_pci_regions() -> PciRegion;
+    zacpi_list_ecam_ranges() -> EcamRange;
+    zacpi_list_io_apics() -> IoApic;
+    zacpi_list_overrides() -> InterruptSourceOverride;
+    zacpi_list_nmi_sources() -> NmiSource;
+    zacpi_list_nmi_lines() -> NmiLine;
+    zacpi_list_processors() -> Processor;
+    zacpi_list_gic_cpu_interfaces() -> GicCpuInterface;
+    zacpi_list_gic_redistributors() -> Range;
+    zacpi_list_gic_translation_services() -> GicTranslationService;
+    zacpi_list_gic_msi_frames() -> GicMsiFrame;
+    zacpi_list_gt_frames() -> GtFrame;
+    zacpi_list_watchdogs() -> Watchdog;
+    zacpi_list_memory_affinities() -> MemoryAffinity;
+}
+
+unsafe extern "C" {
+    fn zacpi_locate(
         regions: *const Region<'_>,
         regions_length: usize,
         address: u64,
         length: u64,
-        out: &mut Place,
+        out: *mut Place,
     ) -> u32;
-    pub(crate) fn zacpi_list_entries(
+    fn zacpi_list_entries(
         regions: *const Region<'_>,
         regions_length: usize,
         table: u64,
@@ -81,8 +164,125 @@ extern "C" {
         bytes_each: u32,
         out: *mut Entry,
         room: usize,
-        count: &mut usize,
-        malformed: &mut u8,
-        named: &mut Signature,
+        count: *mut usize,
+        malformed: *mut u8,
+        named: *mut Signature,
     ) -> u32;
+    fn zacpi_platform(
+        source: *const Source<'_>,
+        out: *mut InterruptModel,
+        processors: *mut Processor,
+        processors_room: usize,
+        io_apics: *mut IoApic,
+        io_apics_room: usize,
+        overrides: *mut InterruptSourceOverride,
+        overrides_room: usize,
+        nmi_sources: *mut NmiSource,
+        nmi_sources_room: usize,
+        nmi_lines: *mut NmiLine,
+        nmi_lines_room: usize,
+        named: *mut Signature,
+    ) -> u32;
+    fn zacpi_clip_ranges(
+        ranges: *const Range,
+        ranges_length: usize,
+        without: *const Range,
+        without_length: usize,
+        window: *const Range,
+        out: *mut Range,
+        room: usize,
+        count: *mut usize,
+    ) -> u32;
+}
+
+/// The region that bytes lie in, and where they begin in it.
+pub(crate) fn locate(regions: &[Region<'_>], address: u64, length: u64) -> AcpiResult<Place> {
+    let mut place = Place::default();
+    // SAFETY: the regions are a live slice, and the output is a live variable.
+    let status = unsafe { zacpi_locate(regions.as_ptr(), regions.len(), address, length, &mut place) };
+    answered(status, Signature::default()).map(|()| place)
+}
+
+/// The entries of the table at an address, from an offset on: how many there are, and whether bytes are left.
+pub(crate) fn list_entries(
+    regions: &[Region<'_>],
+    table: u64,
+    first: u32,
+    bytes_each: u32,
+    out: &mut [Entry],
+) -> AcpiResult<(usize, bool)> {
+    let (mut count, mut malformed, mut named) = (0, 0, Signature::default());
+    // SAFETY: the regions are a live slice; the outputs are a live slice with its length, and three live variables.
+    let status = unsafe {
+        zacpi_list_entries(
+            regions.as_ptr(),
+            regions.len(),
+            table,
+            first,
+            bytes_each,
+            out.as_mut_ptr(),
+            out.len(),
+            &mut count,
+            &mut malformed,
+            &mut named,
+        )
+    };
+    answered(status, named).map(|()| (count, malformed != 0))
+}
+
+/// The interrupt model, with its five lists.
+pub(crate) fn platform(
+    source: &Source<'_>,
+    processors: &mut [Processor],
+    io_apics: &mut [IoApic],
+    overrides: &mut [InterruptSourceOverride],
+    nmi_sources: &mut [NmiSource],
+    nmi_lines: &mut [NmiLine],
+) -> AcpiResult<InterruptModel> {
+    let (mut model, mut named) = (InterruptModel::default(), Signature::default());
+    // SAFETY: the source holds live slices of initialised items; the outputs are live slices, each with its length, and
+    // two live variables.
+    let status = unsafe {
+        zacpi_platform(
+            source,
+            &mut model,
+            processors.as_mut_ptr(),
+            processors.len(),
+            io_apics.as_mut_ptr(),
+            io_apics.len(),
+            overrides.as_mut_ptr(),
+            overrides.len(),
+            nmi_sources.as_mut_ptr(),
+            nmi_sources.len(),
+            nmi_lines.as_mut_ptr(),
+            nmi_lines.len(),
+            &mut named,
+        )
+    };
+    answered(status, named).map(|()| model)
+}
+
+/// The memory to make regions from, and how many ranges it has.
+pub(crate) fn clip(ranges: &[Range], without: &[Range], window: Range, out: &mut [Range]) -> AcpiResult<usize> {
+    let mut count = 0;
+    // SAFETY: all are live slices, each with its length, and live variables; `out` is borrowed alone.
+    let status = unsafe {
+        zacpi_clip_ranges(
+            ranges.as_ptr(),
+            ranges.len(),
+            without.as_ptr(),
+            without.len(),
+            &window,
+            out.as_mut_ptr(),
+            out.len(),
+            &mut count,
+        )
+    };
+    answered(status, Signature::default()).map(|()| count)
+}
+
+/// The records that slots are.
+pub(crate) fn records_of<T: Item>(slots: &mut [Slot<T>]) -> &mut [T::Raw] {
+    // SAFETY: a slot is a record and nothing else (`repr(transparent)`), and the result borrows the slots alone.
+    unsafe { core::slice::from_raw_parts_mut(slots.as_mut_ptr().cast(), slots.len()) }
 }

@@ -1,0 +1,130 @@
+//! Where a register is: the Generic Address Structure (section 5.2.3.2).
+
+use crate::error::{AcpiError, AcpiResult};
+use crate::raw::records;
+
+/// Address Space ID (table 5.1).
+#[derive(Clone, Copy, Debug, PartialEq, Eq)]
+pub enum AddressSpace {
+    /// 0: memory.
+    SystemMemory,
+    /// 1: I/O ports.
+    SystemIo,
+    /// 2: the configuration space of a device on bus 0 of PCI segment 0. The address has the device in bits 32 to 47,
+    /// the function in bits 16 to 31, and the offset in bits 0 to 15.
+    PciConfigSpace,
+    /// 3: the embedded controller.
+    EmbeddedController,
+    /// 4: the SMBus.
+    SMBus,
+    /// 5: the CMOS of the system.
+    SystemCmos,
+    /// 6: the memory of a base address register of a PCI device.
+    PciBarTarget,
+    /// 7: IPMI.
+    Ipmi,
+    /// 8: general purpose I/O.
+    GeneralIo,
+    /// 9: the generic serial bus.
+    GenericSerialBus,
+    /// 0xa: the platform communications channel.
+    PlatformCommunicationsChannel,
+    /// 0x7f: fixed hardware of the processor's maker.
+    FunctionalFixedHardware,
+    /// 0xc0 to 0xff: the machine's maker says what it is.
+    OemDefined(u8),
+    /// Any other code, which is reserved.
+    Other(u8),
+}
+
+impl From<u8> for AddressSpace {
+    fn from(code: u8) -> Self {
+        match code {
+            0 => AddressSpace::SystemMemory,
+            1 => AddressSpace::SystemIo,
+            2 => AddressSpace::PciConfigSpace,
+            3 => AddressSpace::EmbeddedController,
+            4 => AddressSpace::SMBus,
+            5 => AddressSpace::SystemCmos,
+            6 => AddressSpace::PciBarTarget,
+            7 => AddressSpace::Ipmi,
+            8 => AddressSpace::GeneralIo,
+            9 => AddressSpace::GenericSerialBus,
+            0xa => AddressSpace::PlatformCommunicationsChannel,
+            0x7f => AddressSpace::FunctionalFixedHardware,
+            0xc0..=0xff => AddressSpace::OemDefined(code),
+            _ => AddressSpace::Other(code),
+        }
+    }
+}
+
+/// Access Size: how many bytes are to be read or written at once.
+#[derive(Clone, Copy, Debug, PartialEq, Eq)]
+pub enum AccessSize {
+    /// 0: not said.
+    Undefined,
+    /// 1: one byte.
+    ByteAccess,
+    /// 2: two bytes.
+    WordAccess,
+    /// 3: four bytes.
+    DWordAccess,
+    /// 4: eight bytes.
+    QWordAccess,
+    /// Any other code, which is reserved.
+    Other(u8),
+}
+
+impl From<u8> for AccessSize {
+    fn from(code: u8) -> Self {
+        match code {
+            0 => AccessSize::Undefined,
+            1 => AccessSize::ByteAccess,
+            2 => AccessSize::WordAccess,
+            3 => AccessSize::DWordAccess,
+            4 => AccessSize::QWordAccess,
+            _ => AccessSize::Other(code),
+        }
+    }
+}
+
+/// Where a register or a block of registers is.
+#[derive(Clone, Copy, Debug, PartialEq, Eq)]
+pub struct GenericAddress {
+    /// Address Space ID.
+    pub address_space: AddressSpace,
+    /// Register Bit Width.
+    pub bit_width: u8,
+    /// Register Bit Offset: bits before the register at `address`.
+    pub bit_offset: u8,
+    /// Access Size.
+    pub access_size: AccessSize,
+    /// Address: in its space.
+    pub address: u64,
+}
+
+impl From<records::GenericAddress> for GenericAddress {
+    fn from(raw: records::GenericAddress) -> Self {
+        GenericAddress {
+            address_space: raw.space.into(),
+            bit_width: raw.bit_width,
+            bit_offset: raw.bit_offset,
+            access_size: raw.access_size.into(),
+            address: raw.address,
+        }
+    }
+}
+
+/// A register that may not be there: none, or refused with `InvalidGenericAddress` for a reserved code.
+pub(crate) fn register(raw: records::Register) -> AcpiResult<Option<GenericAddress>> {
+    present(raw.present, raw.at.into())
+}
+
+/// What is there, by a record's `present`: 0 none, 1 it is there, 2 its address is refused.
+pub(crate) fn present<T>(present: u8, value: T) -> AcpiResult<Option<T>> {
+    match present {
+        0 => Ok(None),
+        1 => Ok(Some(value)),
+        _ => Err(AcpiError::InvalidGenericAddress),
+    }
+}

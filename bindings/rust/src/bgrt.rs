@@ -1,0 +1,69 @@
+//! The BGRT: the image that the firmware showed (section 5.2.22).
+
+use crate::error::AcpiResult;
+use crate::raw::{self, records};
+use crate::sdt::Signature;
+use crate::tables::{read::Read, AcpiTable, AcpiTables};
+
+/// Image Type.
+#[derive(Clone, Copy, Debug, PartialEq, Eq)]
+pub enum ImageType {
+    /// 0: a bitmap.
+    Bitmap,
+    /// Another code, which is reserved.
+    Reserved,
+}
+
+/// The image that the firmware showed.
+#[derive(Clone, Copy, Debug, PartialEq, Eq)]
+pub struct Bgrt {
+    /// Image Address: the physical address of the image.
+    pub image_address: u64,
+    image_type: ImageType,
+    orientation: u16,
+    was_displayed: bool,
+    offset: (u32, u32),
+}
+
+impl Bgrt {
+    /// Image Type.
+    pub fn image_type(&self) -> ImageType {
+        self.image_type
+    }
+
+    /// Orientation Offset, bits 1 and 2 of Status: in degrees, clockwise: 0, 90, 180 or 270.
+    pub fn orientation_offset(&self) -> u16 {
+        self.orientation
+    }
+
+    /// Displayed, bit 0 of Status: whether the image is on the screen still.
+    pub fn was_displayed(&self) -> bool {
+        self.was_displayed
+    }
+
+    /// Image Offset X and Image Offset Y: of its upper left corner on the screen, in pixels.
+    pub fn image_offset(&self) -> (u32, u32) {
+        self.offset
+    }
+}
+
+impl From<records::BootGraphic> for Bgrt {
+    fn from(raw: records::BootGraphic) -> Self {
+        Bgrt {
+            image_address: raw.address,
+            image_type: if raw.image_type == 0 { ImageType::Bitmap } else { ImageType::Reserved },
+            orientation: raw.orientation,
+            was_displayed: raw.displayed != 0,
+            offset: (raw.x, raw.y),
+        }
+    }
+}
+
+impl Read<'_> for Bgrt {
+    fn read(tables: &AcpiTables<'_>) -> AcpiResult<Self> {
+        raw::zacpi_boot_graphic(&tables.source()).map(Bgrt::from)
+    }
+}
+impl AcpiTable<'_> for Bgrt {
+    const SIGNATURE: Signature = Signature::BGRT;
+}

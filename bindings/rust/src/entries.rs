@@ -1,0 +1,93 @@
+//! The entries of any table, which begin with Type and Length.
+
+use crate::error::AcpiResult;
+use crate::raw::{self, records};
+use crate::tables::{AcpiTables, Table};
+
+/// How many bytes Type has, and Length has, at the front of each entry.
+#[derive(Clone, Copy, Debug, PartialEq, Eq)]
+pub enum EntryWidth {
+    /// One byte each, as in a MADT or an SRAT.
+    One,
+    /// Two bytes each, as in a DMAR or an NFIT.
+    Two,
+}
+
+/// An entry of a table.
+#[derive(Clone, Copy, Debug, PartialEq, Eq)]
+pub struct Entry<'k> {
+    /// Its physical address.
+    pub address: u64,
+    /// Type.
+    pub entry_type: u16,
+    /// Its bytes, with Type and Length.
+    pub bytes: &'k [u8],
+}
+
+/// How many entries are asked for at once.
+const AT_ONCE: usize = 16;
+
+/// The entries of a table, one after the other, sixteen of which are asked for at once.
+#[derive(Clone, Debug)]
+pub struct Entries<'k> {
+    tables: AcpiTables<'k>,
+    table: Table,
+    width: EntryWidth,
+    asked: [records::Entry; AT_ONCE],
+    at: usize,
+    left: usize,
+    is_malformed: bool,
+}
+
+impl<'k> Entries<'k> {
+    pub(crate) fn new(tables: AcpiTables<'k>, table: Table, first: u32, width: EntryWidth) -> AcpiResult<Self> {
+        let asked = [records::Entry::default(); AT_ONCE];
+        let mut entries = Entries { tables, table, width, asked, at: 0, left: 0, is_malformed: false };
+        entries.ask(first)?;
+        Ok(entries)
+    }
+
+    /// Asks for the entries from an offset on.
+    fn ask(&mut self, first: u32) -> AcpiResult<()> {
+        let bytes_each = match self.width {
+            EntryWidth::One => 1,
+            EntryWidth::Two => 2,
+        };
+        let regions = self.tables.regions();
+        (self.left, self.is_malformed) =
+            raw::list_entries(regions, self.table.address, first, bytes_each, &mut self.asked)?;
+        self.at = 0;
+        Ok(())
+    }
+
+    /// Whether bytes are left after the last entry in which no entry begins: too few for Type and Length, or for the
+    /// Length that stands there.
+    pub fn is_malformed(&self) -> bool {
+        self.is_malformed
+    }
+
+    /// How many entries there are still to come.
+    pub fn count_left(&self) -> usize {
+        self.left
+    }
+}
+
+impl<'k> Iterator for Entries<'k> {
+    type Item = Entry<'k>;
+
+    fn next(&mut self) -> Option<Entry<'k>> {
+        if self.left == 0 {
+            return None;
+        }
+        if self.at == AT_ONCE {
+            let last = self.asked[AT_ONCE - 1];
+            let next = last.address.checked_add(last.length.into())?.checked_sub(self.table.address)?;
+            self.ask(u32::try_from(next).ok()?).ok()?;
+        }
+        let entry = *self.asked.get(self.at)?;
+        self.at += 1;
+        self.left -= 1;
+        let bytes = self.tables.bytes_at(entry.address, entry.length.into())?;
+        Some(Entry { address: entry.address, entry_type: entry.entry_type, bytes })
+    }
+}

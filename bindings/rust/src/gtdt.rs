@@ -1,0 +1,163 @@
+//! The GTDT: the generic timers of an Arm machine (section 5.2.24).
+
+use crate::error::AcpiResult;
+use crate::list::{items, Listing};
+use crate::platform::interrupt::{Polarity, TriggerMode};
+use crate::raw::{self, records};
+use crate::sdt::Signature;
+use crate::tables::{read::Read, AcpiTable, AcpiTables};
+
+/// How a timer interrupts.
+#[derive(Clone, Copy, Debug, PartialEq, Eq)]
+pub struct TimerInterrupt {
+    /// GSIV: as the number of the GIC.
+    pub interrupt: u32,
+    /// At which level it is active.
+    pub polarity: Polarity,
+    /// What signals it.
+    pub trigger_mode: TriggerMode,
+}
+
+impl TimerInterrupt {
+    fn new(interrupt: u32, polarity: u8, trigger: u8) -> Self {
+        TimerInterrupt { interrupt, polarity: polarity.into(), trigger_mode: trigger.into() }
+    }
+}
+
+/// A timer of every processor.
+#[derive(Clone, Copy, Debug, PartialEq, Eq)]
+pub struct ArmTimer {
+    /// How it interrupts, unless its GSIV is 0.
+    pub interrupt: Option<TimerInterrupt>,
+    /// Always-on Capability, bit 2 of the timer's flags.
+    pub always_on: bool,
+}
+
+fn timer(raw: records::ArmTimer) -> Option<ArmTimer> {
+    let interrupt = (raw.interrupt != 0).then(|| TimerInterrupt::new(raw.interrupt, raw.polarity, raw.trigger));
+    (raw.present != 0).then_some(ArmTimer { interrupt, always_on: raw.always_on != 0 })
+}
+
+/// A frame of a GT Block (section 5.2.24.1.1).
+#[derive(Clone, Copy, Debug, PartialEq, Eq)]
+pub struct GtFrame {
+    /// GT Block Physical Address: of the block's control frame.
+    pub block_address: u64,
+    /// GTx Physical Address: of the frame's registers.
+    pub address: u64,
+    /// CntEL0BaseX: of the registers as EL0 sees them, if it sees any.
+    pub el0_address: Option<u64>,
+    /// GT Frame Number: in the block, from 0 to 7.
+    pub number: u8,
+    /// How the physical timer interrupts, if it is there.
+    pub physical_interrupt: Option<TimerInterrupt>,
+    /// How the virtual timer interrupts, if it is there.
+    pub virtual_interrupt: Option<TimerInterrupt>,
+    /// Secure Timer, bit 0 of GTx Common Flags.
+    pub is_secure: bool,
+    /// Always-on Capability, bit 1 of GTx Common Flags.
+    pub is_always_on: bool,
+}
+
+/// A watchdog of the Server Base System Architecture (section 5.2.24.1.2).
+#[derive(Clone, Copy, Debug, PartialEq, Eq)]
+pub struct Watchdog {
+    /// RefreshFrame Physical Address.
+    pub refresh_frame: u64,
+    /// WatchdogControlFrame Physical Address.
+    pub control_frame: u64,
+    /// How it interrupts: Watchdog Timer GSIV and Watchdog Timer Flags.
+    pub interrupt: TimerInterrupt,
+    /// Secure Timer, bit 2 of Watchdog Timer Flags.
+    pub is_secure: bool,
+}
+
+/// An address, unless all its bits are ones.
+fn unless_ones(address: u64) -> Option<u64> {
+    (address != u64::MAX).then_some(address)
+}
+
+impl From<records::GtFrame> for GtFrame {
+    fn from(raw: records::GtFrame) -> Self {
+        let physical = TimerInterrupt::new(raw.physical_interrupt, raw.physical_polarity, raw.physical_trigger);
+        let virtual_ = TimerInterrupt::new(raw.virtual_interrupt, raw.virtual_polarity, raw.virtual_trigger);
+        GtFrame {
+            block_address: raw.block_address,
+            address: raw.address,
+            el0_address: unless_ones(raw.el0_address),
+            number: raw.number,
+            physical_interrupt: (raw.physical_interrupt != 0).then_some(physical),
+            virtual_interrupt: (raw.virtual_interrupt != 0).then_some(virtual_),
+            is_secure: raw.is_secure != 0,
+            is_always_on: raw.is_always_on != 0,
+        }
+    }
+}
+
+impl From<records::Watchdog> for Watchdog {
+    fn from(raw: records::Watchdog) -> Self {
+        Watchdog {
+            refresh_frame: raw.refresh_frame,
+            control_frame: raw.control_frame,
+            interrupt: TimerInterrupt::new(raw.interrupt, raw.polarity, raw.trigger),
+            is_secure: raw.is_secure != 0,
+        }
+    }
+}
+
+items! { GtFrame = GtFrame, Watchdog = Watchdog }
+
+/// The generic timers of the first valid GTDT.
+#[derive(Clone, Copy, Debug)]
+pub struct Gtdt<'k> {
+    /// CntControlBase Physical Address, if there is one.
+    pub control_base: Option<u64>,
+    /// CntReadBase Physical Address, if there is one; none below revision 2 of the table.
+    pub read_base: Option<u64>,
+    /// The secure timer of EL1.
+    pub secure_el1: Option<ArmTimer>,
+    /// The non-secure timer of EL1.
+    pub non_secure_el1: Option<ArmTimer>,
+    /// The virtual timer of EL1.
+    pub virtual_el1: Option<ArmTimer>,
+    /// The timer of EL2.
+    pub el2: Option<ArmTimer>,
+    /// The virtual timer of EL2, since revision 3 of the table.
+    pub virtual_el2: Option<ArmTimer>,
+    /// Whether the two lists below end at a structure that doesn't fit.
+    pub platform_timers_malformed: bool,
+    tables: AcpiTables<'k>,
+}
+
+impl<'k> Gtdt<'k> {
+    /// The frames of the blocks of timers, block by block, in order (section 5.2.24.1.1). None below revision 2 of the
+    /// table. Refuses with `TableMissing`.
+    pub fn frames(&self) -> Listing<'k, GtFrame> {
+        self.tables.list(raw::zacpi_list_gt_frames)
+    }
+
+    /// The watchdogs, in order (section 5.2.24.1.2). None below revision 2 of the table. Refuses with `TableMissing`.
+    pub fn watchdogs(&self) -> Listing<'k, Watchdog> {
+        self.tables.list(raw::zacpi_list_watchdogs)
+    }
+}
+
+impl<'k> Read<'k> for Gtdt<'k> {
+    fn read(tables: &AcpiTables<'k>) -> AcpiResult<Self> {
+        let raw = raw::zacpi_arm_timers(&tables.source())?;
+        Ok(Gtdt {
+            control_base: unless_ones(raw.control_base),
+            read_base: unless_ones(raw.read_base),
+            secure_el1: timer(raw.secure_el1),
+            non_secure_el1: timer(raw.non_secure_el1),
+            virtual_el1: timer(raw.virtual_el1),
+            el2: timer(raw.el2),
+            virtual_el2: timer(raw.virtual_el2),
+            platform_timers_malformed: raw.platform_timers_malformed != 0,
+            tables: *tables,
+        })
+    }
+}
+impl<'k> AcpiTable<'k> for Gtdt<'k> {
+    const SIGNATURE: Signature = Signature::GTDT;
+}

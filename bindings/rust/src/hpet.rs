@@ -1,0 +1,94 @@
+//! The HPET: the first valid table's block of event timers. Its layout is that of the IA-PC HPET Specification.
+
+use crate::error::AcpiResult;
+use crate::raw::{self, records};
+use crate::sdt::Signature;
+use crate::tables::{read::Read, AcpiTable, AcpiTables};
+
+/// Page Protection: what may be accessed beside the block's registers.
+#[derive(Clone, Copy, Debug, PartialEq, Eq)]
+pub enum PageProtection {
+    /// 0: nothing is promised.
+    None,
+    /// 1: the 4 KiB from the base address on may be accessed.
+    Protected4K,
+    /// 2: the 64 KiB from the base address on may be accessed.
+    Protected64K,
+    /// 3 to 15: a reserved code.
+    Other,
+}
+
+/// A block of event timers.
+#[derive(Clone, Copy, Debug, PartialEq, Eq)]
+pub struct HpetInfo {
+    /// Event Timer Block ID, of which the getters below have the parts.
+    pub event_timer_block_id: u32,
+    /// BASE_ADDRESS: the physical address of the registers.
+    pub base_address: u64,
+    /// HPET Number: of the block, from 0 on.
+    pub hpet_number: u8,
+    /// Main Counter Minimum Clock_tick in Periodic Mode: the least ticks of a periodic timer.
+    pub clock_tick_unit: u16,
+    /// Page Protection, bits 0 to 3.
+    pub page_protection: PageProtection,
+}
+
+impl HpetInfo {
+    /// The block of the first valid HPET.
+    ///
+    /// Refuses with `TableMissing`, and with `InvalidGenericAddress` if its registers don't lie in memory.
+    pub fn new(tables: &AcpiTables<'_>) -> AcpiResult<HpetInfo> {
+        raw::zacpi_hpet(&tables.source()).map(HpetInfo::from)
+    }
+
+    /// Hardware Rev ID, bits 0 to 7 of Event Timer Block ID.
+    pub fn hardware_rev(&self) -> u8 {
+        self.event_timer_block_id as u8
+    }
+
+    /// How many comparators there are: one more than bits 8 to 12 of Event Timer Block ID.
+    pub fn num_comparators(&self) -> u8 {
+        (self.event_timer_block_id >> 8 & 0x1f) as u8 + 1
+    }
+
+    /// COUNT_SIZE_CAP, bit 13 of Event Timer Block ID: whether the main counter has 64 bits.
+    pub fn main_counter_is_64bits(&self) -> bool {
+        self.event_timer_block_id >> 13 & 1 != 0
+    }
+
+    /// LegacyReplacement IRQ Routing Capable, bit 15 of Event Timer Block ID.
+    pub fn legacy_irq_capable(&self) -> bool {
+        self.event_timer_block_id >> 15 & 1 != 0
+    }
+
+    /// PCI Vendor ID, bits 16 to 31 of Event Timer Block ID.
+    pub fn pci_vendor_id(&self) -> u16 {
+        (self.event_timer_block_id >> 16) as u16
+    }
+}
+
+impl From<records::HpetInfo> for HpetInfo {
+    fn from(raw: records::HpetInfo) -> Self {
+        HpetInfo {
+            event_timer_block_id: raw.event_timer_block_id,
+            base_address: raw.base_address,
+            hpet_number: raw.number,
+            clock_tick_unit: raw.clock_tick_unit,
+            page_protection: match raw.page_protection {
+                0 => PageProtection::None,
+                1 => PageProtection::Protected4K,
+                2 => PageProtection::Protected64K,
+                _ => PageProtection::Other,
+            },
+        }
+    }
+}
+
+impl Read<'_> for HpetInfo {
+    fn read(tables: &AcpiTables<'_>) -> AcpiResult<Self> {
+        HpetInfo::new(tables)
+    }
+}
+impl AcpiTable<'_> for HpetInfo {
+    const SIGNATURE: Signature = Signature::HPET;
+}

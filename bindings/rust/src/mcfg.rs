@@ -1,0 +1,88 @@
+//! The MCFG: PCI configuration space in memory (PCI Firmware Specification, section 4.1.2).
+
+use crate::error::AcpiResult;
+use crate::list::{items, Listing};
+use crate::raw::{self, records};
+use crate::sdt::Signature;
+use crate::tables::{read::Read, AcpiTable, AcpiTables};
+use core::ops::RangeInclusive;
+
+/// A region of configuration space: an allocation of the MCFG.
+#[derive(Clone, Debug, PartialEq, Eq)]
+pub struct PciConfigEntry {
+    /// PCI Segment Group Number.
+    pub segment_group: u16,
+    /// Start Bus Number to End Bus Number.
+    pub bus_range: RangeInclusive<u8>,
+    /// Base Address: where bus 0 of the segment group would lie.
+    pub physical_address: u64,
+}
+
+impl From<records::PciRegion> for PciConfigEntry {
+    fn from(raw: records::PciRegion) -> Self {
+        PciConfigEntry {
+            segment_group: raw.segment_group,
+            bus_range: raw.first_bus..=raw.last_bus,
+            physical_address: raw.base_address,
+        }
+    }
+}
+
+/// The memory that a region of configuration space takes.
+#[derive(Clone, Copy, Debug, PartialEq, Eq)]
+pub struct EcamRange {
+    /// PCI Segment Group Number.
+    pub segment_group: u16,
+    /// Its first byte's physical address and its length, unless the last bus is below the first, or the range ends at
+    /// 2^64 or above.
+    pub memory: Option<records::Range>,
+}
+
+impl From<records::EcamRange> for EcamRange {
+    fn from(raw: records::EcamRange) -> Self {
+        let memory = records::Range { address: raw.address, length: raw.length };
+        EcamRange { segment_group: raw.segment_group, memory: (raw.present != 0).then_some(memory) }
+    }
+}
+
+items! { PciConfigEntry = PciRegion, EcamRange = EcamRange }
+
+/// PCI configuration space, by the first valid MCFG.
+#[derive(Clone, Copy, Debug)]
+pub struct PciConfigRegions<'k> {
+    tables: AcpiTables<'k>,
+}
+
+impl<'k> PciConfigRegions<'k> {
+    /// The configuration space of the first valid MCFG. Refuses with `TableMissing`.
+    pub fn new(tables: &AcpiTables<'k>) -> AcpiResult<Self> {
+        let regions = PciConfigRegions { tables: *tables };
+        regions.entries().count().map(|_| regions)
+    }
+
+    /// The physical address of a function's 4096 bytes of configuration space, counted from bus 0 of the region's base,
+    /// as the specification says. Of several regions that hold the bus the first counts. `None` if none holds it, for a
+    /// device above 31 and a function above 7, and if the address is 2^64 or above.
+    pub fn ecam_address(&self, segment_group: u16, bus: u8, device: u8, function: u8) -> Option<u64> {
+        raw::zacpi_pci_ecam_address(&self.tables.source(), segment_group, bus, device, function).ok()
+    }
+
+    /// The regions, in the order of the table; fewer than 16 bytes at its end are none. Refuses with `TableMissing`.
+    pub fn entries(&self) -> Listing<'k, PciConfigEntry> {
+        self.tables.list(raw::zacpi_list_pci_regions)
+    }
+
+    /// The memory that each region takes, in the same order. Refuses with `TableMissing`.
+    pub fn ecam_ranges(&self) -> Listing<'k, EcamRange> {
+        self.tables.list(raw::zacpi_list_ecam_ranges)
+    }
+}
+
+impl<'k> Read<'k> for PciConfigRegions<'k> {
+    fn read(tables: &AcpiTables<'k>) -> AcpiResult<Self> {
+        PciConfigRegions::new(tables)
+    }
+}
+impl<'k> AcpiTable<'k> for PciConfigRegions<'k> {
+    const SIGNATURE: Signature = Signature::MCFG;
+}

@@ -1,0 +1,146 @@
+//! The memory that is mapped, and the memory that is still to be.
+
+use crate::error::{AcpiError, AcpiResult};
+use crate::list::{List, Listing, Slot};
+pub use crate::raw::records::Region;
+use crate::raw::records::{Range, Signature, Source};
+use crate::raw::{self, records_of};
+
+/// Where a root table is looked for.
+#[derive(Clone, Copy, Debug, PartialEq, Eq)]
+pub enum Start {
+    /// By the RSDP at an address, as a loader or UEFI passes it (section 5.2.5.2).
+    Rsdp(u64),
+    /// As an RSDT at an address: pointers of four bytes (section 5.2.7).
+    Rsdt(u64),
+    /// As an XSDT at an address: pointers of eight bytes (section 5.2.8).
+    Xsdt(u64),
+    /// By the RSDP that the BIOS areas hold, each of which has to lie in one region with the 16 bytes after it
+    /// (section 5.2.5.1): what `search_for_rsdp_bios` of the crate `acpi` asks for.
+    BiosSearch,
+    /// By the RSDP that the BIOS areas hold, as far as they lie in regions (section 5.2.5.1).
+    Search,
+}
+
+impl Start {
+    pub(crate) fn source<'k>(self, regions: &'k [Region<'k>]) -> Source<'k> {
+        match self {
+            Start::Rsdp(address) => Source::new(regions, 0, address),
+            Start::Rsdt(address) => Source::new(regions, 1, address),
+            Start::Xsdt(address) => Source::new(regions, 2, address),
+            Start::BiosSearch => Source::new(regions, 3, 0),
+            Start::Search => Source::new(regions, 4, 0),
+        }
+    }
+}
+
+/// The memory to make regions from: of the bytes in a window those that one of `ranges` holds and none of `without`,
+/// in order, with what touches or overlaps joined. `ranges` come in any order, as a firmware's memory map has them;
+/// `without` has the kernel's own image, and whatever else is written while calls run.
+///
+/// Refuses with [`AcpiError::RangeTooHigh`] if the address after the last byte of one of these ranges, or of the
+/// window, is above 2^64 - 1.
+pub fn clip_ranges<'b>(
+    ranges: &[Range],
+    without: &[Range],
+    window: Range,
+    room: &'b mut [Slot<Range>],
+) -> AcpiResult<List<'b, Range>> {
+    let count = raw::clip(ranges, without, window, records_of(room))?;
+    Ok(List::written(room, count, Signature::default()))
+}
+
+/// The ranges that were asked for, and that lie in no one region: that which opening the tables was refused, or those
+/// of the listed tables, the DSDT and the FACS; after a search also those of an RSDP whose Length reaches too far.
+/// [`map_missing`] asks until there are no more.
+///
+/// The list refuses with [`AcpiError::RegionsNotAscending`] and [`AcpiError::RegionTooHigh`], and with nothing else.
+pub fn missing_ranges<'k>(regions: &'k [Region<'k>], start: Start) -> Listing<'k, Range> {
+    Listing::new(start.source(regions), Signature::default(), raw::zacpi_list_missing_ranges)
+}
+
+/// What [`map_missing`] leaves.
+#[derive(Clone, Copy, Debug)]
+pub struct Mapped<'r> {
+    /// The regions, in ascending order: those that there were, and those that were mapped.
+    pub regions: &'r [Region<'r>],
+    /// How many ranges are still missing. A firmware may list an address that no memory is at.
+    pub missing: usize,
+    /// How many rounds something was mapped in.
+    pub rounds: usize,
+}
+
+/// Maps what the tables from a start need, round by round: the RSDP, the root table, the headers of the listed tables,
+/// the whole tables, the DSDT and the FACS. It ends when a round maps nothing, or after so many rounds. Eight are
+/// enough, since each of these has a header and a length, unless a round has more missing ranges than `ranges` has room
+/// for.
+///
+/// `regions` has first the regions that are mapped already, `mapped` of them, in ascending order, and room for more
+/// after them. `map` is passed a range and answers the bytes that it is mapped at, from its first address on, or `None`
+/// if it can't be mapped. A table has to lie in one region, so if a missing range touches or overlaps regions then
+/// `map` is passed the range of all of these together, which takes their place.
+///
+/// Refuses with [`AcpiError::RegionsNotAscending`] and [`AcpiError::RegionTooHigh`] for the regions, and with
+/// [`AcpiError::AllocError`] if `regions` has no room for one more.
+pub fn map_missing<'k, 'r>(
+    regions: &'r mut [Region<'k>],
+    mapped: usize,
+    start: Start,
+    rounds: usize,
+    ranges: &mut [Slot<Range>],
+    mut map: impl FnMut(Range) -> Option<&'k [u8]>,
+) -> AcpiResult<Mapped<'r>>
+where
+    'k: 'r,
+{
+    let mut count = mapped.min(regions.len());
+    let mut round = 0;
+    let missing = loop {
+        let list = missing_ranges(&regions[..count], start).fill(ranges)?;
+        let mut is_new = false;
+        if round < rounds {
+            for range in &list {
+                is_new |= map_one(regions, &mut count, range, &mut map)?;
+            }
+        }
+        if !is_new {
+            break list.count();
+        }
+        round += 1;
+    };
+    Ok(Mapped { regions: &regions[..count], missing, rounds: round })
+}
+
+/// Maps one range, with the regions that it touches or overlaps. Says whether it was mapped.
+fn map_one<'k>(
+    regions: &mut [Region<'k>],
+    count: &mut usize,
+    range: Range,
+    map: &mut impl FnMut(Range) -> Option<&'k [u8]>,
+) -> AcpiResult<bool> {
+    let end_of = |region: &Region<'_>| region.address().saturating_add(region.bytes().len() as u64);
+    let Some(end) = range.address.checked_add(range.length) else { return Ok(false) };
+    let held = &regions[..*count];
+    let from = held.iter().take_while(|region| end_of(region) < range.address).count();
+    let to = from + held[from..].iter().take_while(|region| region.address() <= end).count();
+    let joined = &held[from..to];
+    if joined.iter().any(|region| region.address() <= range.address && end <= end_of(region)) {
+        return Ok(false);
+    }
+    let low = joined.first().map_or(range.address, |region| region.address().min(range.address));
+    let high = joined.last().map_or(end, |region| end_of(region).max(end));
+    let Ok(length) = usize::try_from(high - low) else { return Ok(false) };
+    let Some(bytes) = map(Range { address: low, length: high - low }).and_then(|bytes| bytes.get(..length)) else {
+        return Ok(false);
+    };
+    if from == to {
+        let after = regions.get_mut(from..=*count).ok_or(AcpiError::AllocError)?;
+        after.rotate_right(1);
+        *count += 1;
+    } else {
+        regions[from + 1..*count].rotate_left(to - from - 1);
+        *count -= to - from - 1;
+    }
+    regions[from] = Region::new(low, bytes);
+    Ok(true)
+}

@@ -1,0 +1,266 @@
+//! The interrupt model of a machine with APICs (MADT, section 5.2.12), and how interrupts come to the I/O APICs.
+
+use crate::error::{AcpiError, AcpiResult};
+use crate::list::{items, List, Listing};
+pub use crate::raw::records::{IoApic, IoApicPin};
+use crate::raw::{self, records};
+use crate::tables::AcpiTables;
+
+/// At which level an interrupt is active: Polarity, bits 0 and 1 of MPS INTI Flags (table 5.26).
+#[derive(Clone, Copy, Debug, PartialEq, Eq)]
+pub enum Polarity {
+    /// 0: as the bus has it.
+    SameAsBus,
+    /// 1: active high.
+    ActiveHigh,
+    /// 3: active low.
+    ActiveLow,
+    /// Any other code, which is reserved.
+    Other(u8),
+}
+
+impl From<u8> for Polarity {
+    fn from(code: u8) -> Self {
+        match code {
+            0 => Polarity::SameAsBus,
+            1 => Polarity::ActiveHigh,
+            3 => Polarity::ActiveLow,
+            _ => Polarity::Other(code),
+        }
+    }
+}
+
+/// What signals an interrupt: Trigger Mode, bits 2 and 3 of MPS INTI Flags (table 5.26).
+#[derive(Clone, Copy, Debug, PartialEq, Eq)]
+pub enum TriggerMode {
+    /// 0: as the bus has it.
+    SameAsBus,
+    /// 1: an edge.
+    Edge,
+    /// 3: a level.
+    Level,
+    /// Any other code, which is reserved.
+    Other(u8),
+}
+
+impl From<u8> for TriggerMode {
+    fn from(code: u8) -> Self {
+        match code {
+            0 => TriggerMode::SameAsBus,
+            1 => TriggerMode::Edge,
+            3 => TriggerMode::Level,
+            _ => TriggerMode::Other(code),
+        }
+    }
+}
+
+/// An interrupt of the ISA bus that comes to another global system interrupt, or in another way (section 5.2.12.5).
+#[derive(Clone, Copy, Debug, PartialEq, Eq)]
+pub struct InterruptSourceOverride {
+    /// Source: the interrupt on the ISA bus.
+    pub isa_source: u8,
+    /// Global System Interrupt.
+    pub global_system_interrupt: u32,
+    /// Polarity of Flags.
+    pub polarity: Polarity,
+    /// Trigger Mode of Flags.
+    pub trigger_mode: TriggerMode,
+}
+
+impl From<records::InterruptSourceOverride> for InterruptSourceOverride {
+    fn from(raw: records::InterruptSourceOverride) -> Self {
+        InterruptSourceOverride {
+            isa_source: raw.isa_source,
+            global_system_interrupt: raw.global_system_interrupt,
+            polarity: raw.polarity.into(),
+            trigger_mode: raw.trigger.into(),
+        }
+    }
+}
+
+/// An I/O APIC pin that is non-maskable (section 5.2.12.6).
+#[derive(Clone, Copy, Debug, PartialEq, Eq)]
+pub struct NmiSource {
+    /// Global System Interrupt.
+    pub global_system_interrupt: u32,
+    /// Polarity of Flags.
+    pub polarity: Polarity,
+    /// Trigger Mode of Flags.
+    pub trigger_mode: TriggerMode,
+}
+
+impl From<records::NmiSource> for NmiSource {
+    fn from(raw: records::NmiSource) -> Self {
+        NmiSource {
+            global_system_interrupt: raw.global_system_interrupt,
+            polarity: raw.polarity.into(),
+            trigger_mode: raw.trigger.into(),
+        }
+    }
+}
+
+/// Whose local APIC an NMI comes to.
+#[derive(Clone, Copy, Debug, PartialEq, Eq)]
+pub enum NmiProcessor {
+    /// ACPI Processor UID is 0xff, or 0xffffffff for an x2APIC: all processors.
+    All,
+    /// That of the processor of this ACPI Processor UID.
+    ProcessorUid(u32),
+}
+
+/// Local APIC LINT#: an interrupt input of a local APIC.
+#[derive(Clone, Copy, Debug, PartialEq, Eq)]
+pub enum LocalInterruptLine {
+    /// 0.
+    Lint0,
+    /// 1.
+    Lint1,
+    /// Any other number, of which there is no input.
+    Other(u8),
+}
+
+impl From<u8> for LocalInterruptLine {
+    fn from(code: u8) -> Self {
+        match code {
+            0 => LocalInterruptLine::Lint0,
+            1 => LocalInterruptLine::Lint1,
+            _ => LocalInterruptLine::Other(code),
+        }
+    }
+}
+
+/// The input of local APICs that NMIs come to (sections 5.2.12.7 and 5.2.12.13).
+#[derive(Clone, Copy, Debug, PartialEq, Eq)]
+pub struct NmiLine {
+    /// Whose local APIC.
+    pub processor: NmiProcessor,
+    /// Which input.
+    pub line: LocalInterruptLine,
+}
+
+impl From<records::NmiLine> for NmiLine {
+    fn from(raw: records::NmiLine) -> Self {
+        let processor = if raw.of_all != 0 { NmiProcessor::All } else { NmiProcessor::ProcessorUid(raw.processor_uid) };
+        NmiLine { processor, line: raw.lint.into() }
+    }
+}
+
+items! { InterruptSourceOverride = InterruptSourceOverride, NmiSource = NmiSource, NmiLine = NmiLine }
+
+/// APICs: where they are, and how interrupts come to them. Each list is in the order of the first valid MADT.
+#[derive(Debug)]
+pub struct Apic<'b> {
+    /// The physical address of each processor's local APIC: Local APIC Address of the last override of it (section
+    /// 5.2.12.8), or else Local Interrupt Controller Address of the MADT.
+    pub local_apic_address: u64,
+    /// The I/O APICs.
+    pub io_apics: List<'b, IoApic>,
+    /// The inputs of local APICs that NMIs come to.
+    pub local_apic_nmi_lines: List<'b, NmiLine>,
+    /// The interrupts of the ISA bus that come in another way.
+    pub interrupt_source_overrides: List<'b, InterruptSourceOverride>,
+    /// The I/O APIC pins that are non-maskable.
+    pub nmi_sources: List<'b, NmiSource>,
+    /// PCAT_COMPAT, bit 0 of Flags: whether there is a pair of 8259s too, to be masked.
+    pub also_has_legacy_pics: bool,
+}
+
+/// Which controllers interrupts come to. A machine with a GIC has a [`GicModel`](crate::gic::GicModel).
+#[derive(Debug)]
+#[non_exhaustive]
+pub enum InterruptModel<'b> {
+    /// There is no valid MADT, or it has no entry of a machine with APICs.
+    Unknown,
+    /// APICs.
+    Apic(Apic<'b>),
+}
+
+/// How an interrupt comes to the I/O APICs: its polarity and trigger are never as the bus has it.
+#[derive(Clone, Copy, Debug, PartialEq, Eq)]
+pub struct Interrupt {
+    /// The global system interrupt.
+    pub global_system_interrupt: u32,
+    /// At which level it is active.
+    pub polarity: Polarity,
+    /// What signals it.
+    pub trigger_mode: TriggerMode,
+}
+
+impl From<records::Interrupt> for Interrupt {
+    fn from(raw: records::Interrupt) -> Self {
+        Interrupt {
+            global_system_interrupt: raw.global_system_interrupt,
+            polarity: raw.polarity.into(),
+            trigger_mode: raw.trigger.into(),
+        }
+    }
+}
+
+/// An ISA interrupt that comes to the I/O APICs, and its pin, unless no I/O APIC has it.
+#[derive(Clone, Copy, Debug, PartialEq, Eq)]
+pub struct IsaRoute {
+    /// How it comes.
+    pub interrupt: Interrupt,
+    /// Where it comes to.
+    pub pin: Option<IoApicPin>,
+}
+
+fn route(raw: records::IsaRoute) -> Option<IsaRoute> {
+    let pin = (raw.has_pin != 0).then_some(raw.pin);
+    (raw.present != 0).then(|| IsaRoute { interrupt: raw.interrupt.into(), pin })
+}
+
+/// Each of these refuses as [`AcpiTables::platform_info`] does, and with [`AcpiError::NoApics`] if the model isn't
+/// known.
+impl<'k> AcpiTables<'k> {
+    /// The I/O APICs, in the order of the first valid MADT (section 5.2.12.3).
+    pub fn io_apics(&self) -> Listing<'k, IoApic> {
+        self.list(raw::zacpi_list_io_apics)
+    }
+
+    /// The Interrupt Source Override entries, in the order of the first valid MADT (section 5.2.12.5).
+    pub fn interrupt_source_overrides(&self) -> Listing<'k, InterruptSourceOverride> {
+        self.list(raw::zacpi_list_overrides)
+    }
+
+    /// The NMI Source entries, in the order of the first valid MADT (section 5.2.12.6).
+    pub fn nmi_sources(&self) -> Listing<'k, NmiSource> {
+        self.list(raw::zacpi_list_nmi_sources)
+    }
+
+    /// The Local APIC NMI and Local x2APIC NMI entries, in the order of the first valid MADT (sections 5.2.12.7 and
+    /// 5.2.12.13).
+    pub fn local_apic_nmi_lines(&self) -> Listing<'k, NmiLine> {
+        self.list(raw::zacpi_list_nmi_lines)
+    }
+
+    /// How one of the 16 ISA interrupts comes to the I/O APICs: as its last override says, or as the interrupt of the
+    /// same number, active high and by edge (section 5.2.12.5). `None` for an interrupt above 15, and for one without
+    /// an override whose number another one's override has taken.
+    pub fn isa_interrupt(&self, irq: u8) -> AcpiResult<Option<Interrupt>> {
+        match raw::zacpi_isa_interrupt(&self.source(), irq) {
+            Err(AcpiError::NoSuchInterrupt) => Ok(None),
+            other => other.map(|raw| Some(raw.into())),
+        }
+    }
+
+    /// All 16 ISA interrupts at once, each with its pin: item `n` is interrupt `n`.
+    pub fn isa_interrupts(&self) -> AcpiResult<[Option<IsaRoute>; 16]> {
+        raw::zacpi_list_isa_interrupts(&self.source()).map(|all| all.routes.map(route))
+    }
+
+    /// How the System Control Interrupt, SCI_INT of the first valid FADT, comes to the I/O APICs: active low and by
+    /// level, unless its override says otherwise (sections 5.2.9 and 5.2.12.5).
+    pub fn sci_interrupt(&self) -> AcpiResult<Interrupt> {
+        raw::zacpi_sci_interrupt(&self.source()).map(Interrupt::from)
+    }
+
+    /// The I/O APIC that a global system interrupt comes to, and the pin there (sections 5.2.12.3 and 5.2.13). Only the
+    /// I/O APIC itself can tell how many pins it has. `None` if each base is above the interrupt.
+    pub fn io_apic_for(&self, global_system_interrupt: u32) -> AcpiResult<Option<IoApicPin>> {
+        match raw::zacpi_io_apic_pin(&self.source(), global_system_interrupt) {
+            Err(AcpiError::NoSuchIoApic) => Ok(None),
+            other => other.map(Some),
+        }
+    }
+}

@@ -1,0 +1,82 @@
+//! Tables' names.
+
+pub use crate::raw::records::Signature;
+use core::fmt;
+
+macro_rules! signatures {
+    ($($name:ident: $what:literal,)*) => { $(
+        #[doc = $what]
+        pub const $name: Signature = Signature::new(stringify!($name));
+    )* };
+}
+
+impl Signature {
+    signatures! {
+        APIC: "The MADT's, as [`Signature::MADT`].",
+        BERT: "Boot Error Record Table.",
+        BGRT: "Boot Graphics Resource Table.",
+        CEDT: "CXL Early Discovery Table.",
+        CPEP: "Corrected Platform Error Polling Table.",
+        DBG2: "Debug Port Table 2.",
+        DMAR: "DMA Remapping Table.",
+        DSDT: "Differentiated System Description Table.",
+        ECDT: "Embedded Controller Boot Resource Table.",
+        EINJ: "Error Injection Table.",
+        ERST: "Error Record Serialization Table.",
+        FACS: "Firmware ACPI Control Structure.",
+        FPDT: "Firmware Performance Data Table.",
+        GTDT: "Generic Timer Description Table.",
+        HEST: "Hardware Error Source Table.",
+        HPET: "High Precision Event Timer table.",
+        IORT: "I/O Remapping Table.",
+        IVRS: "I/O Virtualization Reporting Structure.",
+        MCFG: "Memory-mapped configuration space of PCI.",
+        MSCT: "Maximum System Characteristics Table.",
+        NFIT: "NVDIMM Firmware Interface Table.",
+        PCCT: "Platform Communications Channel Table.",
+        PPTT: "Processor Properties Topology Table.",
+        RSDT: "Root System Description Table.",
+        SLIT: "System Locality Distance Information Table.",
+        SPCR: "Serial Port Console Redirection table.",
+        SRAT: "System Resource Affinity Table.",
+        SSDT: "Secondary System Description Table.",
+        TPM2: "Trusted Platform Module 2 Table.",
+        UEFI: "UEFI ACPI Data Table.",
+        WAET: "Windows ACPI Emulated Devices Table.",
+        WDAT: "Watchdog Action Table.",
+        WSMT: "Windows SMM Security Mitigations Table.",
+        XSDT: "Extended System Description Table.",
+    }
+    /// Fixed ACPI Description Table: `FACP`.
+    pub const FADT: Signature = Signature::new("FACP");
+    /// Multiple APIC Description Table: `APIC`.
+    pub const MADT: Signature = Signature::APIC;
+
+    /// The signature of a text of four bytes. A text of another length is a panic, at compile time in a `const`.
+    pub const fn new(text: &str) -> Signature {
+        let b = text.as_bytes();
+        assert!(b.len() == 4, "a signature has four bytes");
+        Signature { letters: [b[0], b[1], b[2], b[3]] }
+    }
+
+    /// Its text, unless it isn't UTF-8.
+    pub fn as_str(&self) -> Option<&str> {
+        core::str::from_utf8(&self.letters).ok()
+    }
+}
+
+/// Its text, or eight hexadecimal digits.
+impl fmt::Display for Signature {
+    fn fmt(&self, f: &mut fmt::Formatter<'_>) -> fmt::Result {
+        match self.as_str() {
+            Some(text) => f.write_str(text),
+            None => self.letters.iter().try_for_each(|b| write!(f, "{b:02x}")),
+        }
+    }
+}
+
+impl fmt::Debug for Signature {
+    fn fmt(&self, f: &mut fmt::Formatter<'_>) -> fmt::Result {
+        write!(f, "\"{self}\"")
+    }
+}

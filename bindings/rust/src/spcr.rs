@@ -1,0 +1,166 @@
+//! The SPCR: the serial console that the firmware used. Its layout is Microsoft's.
+
+use crate::address::{register, GenericAddress};
+use crate::error::AcpiResult;
+use crate::raw::{self, records};
+use crate::sdt::Signature;
+use crate::tables::{read::Read, AcpiTable, AcpiTables};
+
+macro_rules! interfaces {
+    ($($(#[$doc:meta])* $code:literal = $name:ident,)*) => {
+        /// Interface Type: how the console's port is programmed.
+        #[derive(Clone, Copy, Debug, PartialEq, Eq)]
+        pub enum SpcrInterfaceType {
+            $($(#[$doc])* $name,)*
+            /// Any other code.
+            Unknown(u8),
+        }
+
+        impl From<u8> for SpcrInterfaceType {
+            fn from(code: u8) -> Self {
+                match code {
+                    $($code => SpcrInterfaceType::$name,)*
+                    _ => SpcrInterfaceType::Unknown(code),
+                }
+            }
+        }
+    };
+}
+
+interfaces! {
+    /// A full 16550.
+    0x00 = Full16550,
+    /// A 16450 whose FIFO is compatible with the 16550's.
+    0x01 = Full16450,
+    /// A MAX311xE on SPI.
+    0x02 = MAX311xE,
+    /// Arm PL011.
+    0x03 = ArmPL011,
+    /// MSM8x60.
+    0x04 = MSM8x60,
+    /// Nvidia's 16550.
+    0x05 = Nvidia16550,
+    /// TI OMAP.
+    0x06 = TiOmap,
+    /// APM88xxxx.
+    0x08 = APM88xxxx,
+    /// MSM8974.
+    0x09 = Msm8974,
+    /// SAM5250.
+    0x0a = Sam5250,
+    /// Intel USIF.
+    0x0b = IntelUSIF,
+    /// i.MX 6.
+    0x0c = Imx6,
+    /// Arm SBSA of 32-bit accesses.
+    0x0d = ArmSBSAGeneric32bit,
+    /// Arm SBSA.
+    0x0e = ArmSBSAGeneric,
+    /// Arm DCC.
+    0x0f = ArmDCC,
+    /// BCM2835.
+    0x10 = Bcm2835,
+    /// SDM845 at 1.8432 MHz.
+    0x11 = Sdm845_18432,
+    /// A 16550 by the parameters of its Generic Address Structure.
+    0x12 = Generic16550,
+    /// SDM845 at 7.372 MHz.
+    0x13 = Sdm845_7372,
+    /// Intel LPSS.
+    0x14 = IntelLPSS,
+    /// The console of a RISC-V SBI.
+    0x15 = RiscVSbi,
+}
+
+/// The serial console that the firmware used. All of its fields are read when it is looked up.
+#[derive(Clone, Copy, Debug, PartialEq, Eq)]
+pub struct Spcr {
+    /// Parity. 0: none.
+    pub parity: u8,
+    /// Stop Bits. 1: one stop bit.
+    pub stop_bits: u8,
+    /// PCI Flags. Bit 0: neither switch the device off nor look for its like.
+    pub pci_flags: u32,
+    /// PCI Segment.
+    pub pci_segment: u8,
+    raw: records::Console,
+}
+
+impl Spcr {
+    /// Interface Type.
+    pub fn interface_type(&self) -> SpcrInterfaceType {
+        self.raw.interface.into()
+    }
+
+    /// Base Address: of the registers. `None` if all its bytes are 0; refused with `InvalidGenericAddress` for a
+    /// reserved code.
+    pub fn base_address(&self) -> Option<AcpiResult<GenericAddress>> {
+        register(self.raw.base).transpose()
+    }
+
+    /// Precise Baud Rate, or what Configured Baud Rate stands for, in bits in a second.
+    pub fn baud_rate(&self) -> Option<u32> {
+        (self.raw.has_baud_rate != 0).then_some(self.raw.baud_rate)
+    }
+
+    /// IRQ: the interrupt on the 8259s, if bit 0 of Interrupt Type is set.
+    pub fn irq(&self) -> Option<u8> {
+        (self.raw.has_irq != 0).then_some(self.raw.irq)
+    }
+
+    /// Global System Interrupt, if one of bits 1 to 4 of Interrupt Type is set.
+    pub fn global_system_interrupt(&self) -> Option<u32> {
+        (self.raw.has_global_system_interrupt != 0).then_some(self.raw.global_system_interrupt)
+    }
+
+    /// PCI Device ID, unless it is 0xffff: then the port is no PCI device.
+    pub fn pci_device_id(&self) -> Option<u16> {
+        (self.raw.pci_device_id != 0xffff).then_some(self.raw.pci_device_id)
+    }
+
+    /// PCI Vendor ID, unless it is 0xffff: then the port is no PCI device.
+    pub fn pci_vendor_id(&self) -> Option<u16> {
+        (self.raw.pci_vendor_id != 0xffff).then_some(self.raw.pci_vendor_id)
+    }
+
+    /// PCI Bus Number: of a port that is a PCI device. Bus 0 is one like any other.
+    pub fn pci_bus_number(&self) -> u8 {
+        self.raw.pci_bus
+    }
+
+    /// PCI Device Number: of a port that is a PCI device.
+    pub fn pci_device_number(&self) -> u8 {
+        self.raw.pci_device
+    }
+
+    /// PCI Function Number: of a port that is a PCI device.
+    pub fn pci_function_number(&self) -> u8 {
+        self.raw.pci_function
+    }
+
+    /// UART Clock Frequency, in Hz, if the table says one: it is of revision 3 or above, and the field isn't 0.
+    pub fn uart_clock_frequency(&self) -> Option<u32> {
+        (self.raw.clock_frequency != 0).then_some(self.raw.clock_frequency)
+    }
+}
+
+impl From<records::Console> for Spcr {
+    fn from(raw: records::Console) -> Self {
+        Spcr {
+            parity: raw.parity,
+            stop_bits: raw.stop_bits,
+            pci_flags: raw.pci_flags,
+            pci_segment: raw.pci_segment,
+            raw,
+        }
+    }
+}
+
+impl Read<'_> for Spcr {
+    fn read(tables: &AcpiTables<'_>) -> AcpiResult<Self> {
+        raw::zacpi_console(&tables.source()).map(Spcr::from)
+    }
+}
+impl AcpiTable<'_> for Spcr {
+    const SIGNATURE: Signature = Signature::SPCR;
+}

@@ -1,0 +1,95 @@
+//! The SRAT: which memory and which processors are near each other (section 5.2.16).
+
+use crate::error::{AcpiError, AcpiResult};
+use crate::list::{items, Listing};
+use crate::raw::{self, records};
+use crate::sdt::Signature;
+use crate::tables::{read::Read, AcpiTable, AcpiTables, Table};
+
+/// The least length of an SRAT: its entries begin there.
+const LEAST: u32 = 48;
+
+/// A range of memory that is in a domain (section 5.2.16.2).
+#[derive(Clone, Copy, Debug, PartialEq, Eq)]
+pub struct MemoryAffinity {
+    /// Base Address.
+    pub address: u64,
+    /// Length: at least one byte.
+    pub length: u64,
+    /// Proximity Domain; below revision 2 of the table its lowest byte.
+    pub domain: u32,
+    /// Hot Pluggable, bit 1 of Flags.
+    pub is_hot_pluggable: bool,
+    /// NonVolatile, bit 2 of Flags.
+    pub is_non_volatile: bool,
+}
+
+impl From<records::MemoryAffinity> for MemoryAffinity {
+    fn from(raw: records::MemoryAffinity) -> Self {
+        MemoryAffinity {
+            address: raw.address,
+            length: raw.length,
+            domain: raw.domain,
+            is_hot_pluggable: raw.is_hot_pluggable != 0,
+            is_non_volatile: raw.is_non_volatile != 0,
+        }
+    }
+}
+
+items! { MemoryAffinity = MemoryAffinity }
+
+/// The domains of the first valid SRAT.
+#[derive(Clone, Copy, Debug)]
+pub struct Srat<'k> {
+    /// The table.
+    pub table: Table,
+    tables: AcpiTables<'k>,
+}
+
+/// A refusal because there is no such domain is none here.
+fn domain(asked: AcpiResult<u32>) -> AcpiResult<Option<u32>> {
+    match asked {
+        Err(AcpiError::NoDomain) => Ok(None),
+        other => other.map(Some),
+    }
+}
+
+impl<'k> Srat<'k> {
+    /// The ranges of memory that are in a domain, in order: of the enabled entries of memory that have at least one
+    /// byte. They may overlap.
+    ///
+    /// Refuses with `InvalidEntryLength` if bytes are left in which no entry begins, and with `InvalidMemoryRange` if a
+    /// range ends above 2^64 - 1.
+    pub fn memory_affinities(&self) -> Listing<'k, MemoryAffinity> {
+        self.tables.list(raw::zacpi_list_memory_affinities)
+    }
+
+    /// The domain of the memory at a physical address: that of the first range that holds it. Refuses as
+    /// [`Srat::memory_affinities`] does.
+    pub fn domain_of_address(&self, address: u64) -> AcpiResult<Option<u32>> {
+        domain(raw::zacpi_domain_of_address(&self.tables.source(), address))
+    }
+
+    /// The domain of the processor whose local APIC or x2APIC has an id: that of the last enabled entry for it
+    /// (sections 5.2.16.1 and 5.2.16.3). Entries after a malformed one aren't looked at. Refuses nothing.
+    pub fn domain_of_apic(&self, local_apic_id: u32) -> AcpiResult<Option<u32>> {
+        domain(raw::zacpi_domain_of_apic(&self.tables.source(), local_apic_id))
+    }
+
+    /// The domain of the processor of an ACPI Processor UID on a machine with a GIC (section 5.2.16.4). Entries after a
+    /// malformed one aren't looked at. Refuses nothing.
+    pub fn domain_of_processor(&self, uid: u32) -> AcpiResult<Option<u32>> {
+        domain(raw::zacpi_domain_of_processor(&self.tables.source(), uid))
+    }
+}
+
+impl<'k> Read<'k> for Srat<'k> {
+    fn read(tables: &AcpiTables<'k>) -> AcpiResult<Self> {
+        let missing = AcpiError::TableMissing(Signature::SRAT);
+        let table = tables.find_all(Signature::SRAT).find(|table| table.length >= LEAST).ok_or(missing)?;
+        Ok(Srat { table, tables: *tables })
+    }
+}
+impl<'k> AcpiTable<'k> for Srat<'k> {
+    const SIGNATURE: Signature = Signature::SRAT;
+}

@@ -1,0 +1,246 @@
+//! The tables that an RSDP leads to.
+
+use crate::entries::{Entries, EntryWidth};
+use crate::error::{AcpiError, AcpiResult};
+use crate::list::{items, sealed::Sealed, Item, Listing};
+use crate::memory::{Region, Start};
+use crate::raw;
+use crate::raw::records::{self, AmlTable, Range, Signature, Source};
+
+/// The root table (sections 5.2.7 and 5.2.8).
+#[derive(Clone, Copy, Debug, PartialEq, Eq)]
+pub struct Root {
+    /// The physical address of the RSDT or XSDT.
+    pub address: u64,
+    /// Length: with its header.
+    pub length: u32,
+    /// Revision of the RSDP; 0 if the tables were opened at an RSDT, 2 if at an XSDT.
+    pub revision: u8,
+    /// Whether it is an XSDT, whose pointers have eight bytes.
+    pub is_xsdt: bool,
+}
+
+impl From<records::Root> for Root {
+    fn from(raw: records::Root) -> Self {
+        Root { address: raw.address, length: raw.length, revision: raw.revision, is_xsdt: raw.pointer_width == 8 }
+    }
+}
+
+/// A table that is listed and valid (section 5.2.6). [`AcpiTables::bytes`] has its bytes.
+#[derive(Clone, Copy, Debug, PartialEq, Eq)]
+pub struct Table {
+    /// Its physical address.
+    pub address: u64,
+    /// Length: with its header.
+    pub length: u32,
+    /// Signature.
+    pub signature: Signature,
+    /// Revision: of the table's layout.
+    pub revision: u8,
+}
+
+impl From<records::Table> for Table {
+    fn from(raw: records::Table) -> Self {
+        let signature = Signature { letters: raw.signature };
+        Table { address: raw.address, length: raw.length, signature, revision: raw.revision }
+    }
+}
+
+items! { Table = Table }
+
+/// A member of the root table that a lookup passes over for another reason than another signature.
+#[derive(Clone, Copy, Debug, PartialEq, Eq)]
+pub struct Fault {
+    /// Its physical address, as the root table lists it.
+    pub address: u64,
+    /// Why it is passed over.
+    pub refusal: AcpiError,
+}
+
+impl Item for Fault {}
+impl Sealed for Fault {
+    type Raw = records::Fault;
+    fn of(raw: &Self::Raw, looked_up: Signature) -> Self {
+        Fault { address: raw.address, refusal: AcpiError::of(raw.status, looked_up) }
+    }
+}
+
+/// A typed view of a table, which [`AcpiTables::find_table`] makes. Only this package implements it.
+pub trait AcpiTable<'k>: Sized + read::Read<'k> {
+    /// The signature that it is looked up by.
+    const SIGNATURE: Signature;
+}
+
+pub(crate) mod read {
+    use super::{AcpiResult, AcpiTables};
+
+    /// How a view is made.
+    pub trait Read<'k>: Sized {
+        /// The view of the first valid table.
+        fn read(tables: &AcpiTables<'k>) -> AcpiResult<Self>;
+    }
+}
+
+/// The tables of a machine. Each call opens them anew in the regions, so nothing is kept between calls but the address
+/// of the root table. The calls read the regions and nothing else; what they answer can't outlive the regions.
+#[derive(Clone, Copy, Debug)]
+pub struct AcpiTables<'k> {
+    regions: &'k [Region<'k>],
+    root: Root,
+}
+
+impl<'k> AcpiTables<'k> {
+    /// The tables below the root table that the RSDP at an address leads to (section 5.2.5.3).
+    ///
+    /// Refuses with `RegionsNotAscending` and `RegionTooHigh`, with `MapFailed`, `RsdpIncorrectSignature`,
+    /// `RsdpInvalidOemId` and `RsdpInvalidChecksum` for the RSDP, and then as [`AcpiTables::from_rsdt`] does for the
+    /// root table.
+    pub fn from_rsdp(regions: &'k [Region<'k>], address: u64) -> AcpiResult<Self> {
+        Self::open(regions, Start::Rsdp(address))
+    }
+
+    /// The tables below the RSDT at an address, for revision 0, or else below the XSDT there (sections 5.2.7 and
+    /// 5.2.8).
+    ///
+    /// Refuses with `RegionsNotAscending`, `RegionTooHigh` and `MapFailed`, and, carrying RSDT or XSDT, with
+    /// `SdtInvalidSignature`, `SdtInvalidOemId`, `SdtInvalidTableId`, `SdtInvalidLength` and `SdtInvalidChecksum`.
+    pub fn from_rsdt(regions: &'k [Region<'k>], revision: u8, address: u64) -> AcpiResult<Self> {
+        Self::open(regions, if revision == 0 { Start::Rsdt(address) } else { Start::Xsdt(address) })
+    }
+
+    /// The tables below the root table of the RSDP that the BIOS areas hold, each of which has to lie in one region
+    /// (section 5.2.5.1).
+    ///
+    /// Refuses with `RegionsNotAscending` and `RegionTooHigh`, with `MapFailed` if an area isn't mapped, with
+    /// `NoValidRsdp`, and then as [`AcpiTables::from_rsdt`] does for the root table.
+    pub fn search_for_rsdp_bios(regions: &'k [Region<'k>]) -> AcpiResult<Self> {
+        Self::open(regions, Start::BiosSearch)
+    }
+
+    /// The tables below the root table that is looked for from a start. A search is done once, here.
+    ///
+    /// Refuses as the three calls above do; [`Start::Search`] as [`Start::BiosSearch`], but never because an area isn't
+    /// mapped.
+    pub fn open(regions: &'k [Region<'k>], start: Start) -> AcpiResult<Self> {
+        let root = Root::from(raw::zacpi_open(&start.source(regions))?);
+        Ok(AcpiTables { regions, root })
+    }
+
+    /// The regions that the tables were opened in.
+    pub fn regions(&self) -> &'k [Region<'k>] {
+        self.regions
+    }
+
+    /// The root table (sections 5.2.7 and 5.2.8).
+    pub fn root(&self) -> Root {
+        self.root
+    }
+
+    /// Revision of the RSDP; 0 if opened at an RSDT, 2 if at an XSDT.
+    pub fn revision(&self) -> u8 {
+        self.root.revision
+    }
+
+    /// The regions, and the root table as the start.
+    pub(crate) fn source(&self) -> Source<'k> {
+        let start = if self.root.is_xsdt { Start::Xsdt } else { Start::Rsdt };
+        start(self.root.address).source(self.regions)
+    }
+
+    pub(crate) fn list<T: Item>(&self, call: crate::list::Call<T>) -> Listing<'k, T> {
+        Listing::new(self.source(), Signature::default(), call)
+    }
+
+    /// The typed view of the first valid table of its signature: [`Fadt`](crate::fadt::Fadt),
+    /// [`Madt`](crate::madt::Madt), [`HpetInfo`](crate::hpet::HpetInfo), [`Bgrt`](crate::bgrt::Bgrt),
+    /// [`Spcr`](crate::spcr::Spcr), [`PciConfigRegions`](crate::mcfg::PciConfigRegions),
+    /// [`Gtdt`](crate::gtdt::Gtdt), [`Srat`](crate::srat::Srat) or [`Slit`](crate::slit::Slit).
+    ///
+    /// Refuses with `TableMissing`, and with what that type says.
+    pub fn find_table<T: AcpiTable<'k>>(&self) -> AcpiResult<T> {
+        T::read(self)
+    }
+
+    /// The first valid table of a signature (section 5.2.6), whatever its type. Refuses with `TableMissing`.
+    pub fn find(&self, signature: Signature) -> AcpiResult<Table> {
+        raw::zacpi_find_table(&self.source(), signature).map(Table::from)
+    }
+
+    /// The valid tables of a signature, one after the other: each step asks for one more (section 5.2.6).
+    pub fn find_all(&self, signature: Signature) -> Tables<'k> {
+        Tables { tables: *self, signature, index: 0 }
+    }
+
+    /// All valid tables, in the order of the root table, repeats kept (section 5.2.6).
+    pub fn headers(&self) -> Listing<'k, Table> {
+        self.list(raw::zacpi_list_tables)
+    }
+
+    /// The members of the root table that a lookup of a signature passes over for another reason than another
+    /// signature, in order, up to the first valid one (section 5.2.6).
+    pub fn faults(&self, signature: Signature) -> Listing<'k, Fault> {
+        Listing::new(self.source(), signature, raw::zacpi_list_faults)
+    }
+
+    /// The AML of the DSDT that the first valid FADT names (section 5.2.11.1). Refuses with `TableMissing` for the
+    /// FADT, with `InvalidDsdtAddress`, and as the table at that address is refused.
+    pub fn dsdt(&self) -> AcpiResult<AmlTable> {
+        raw::zacpi_dsdt(&self.source())
+    }
+
+    /// The AML of each valid SSDT, in the order of the root table (section 5.2.11.2).
+    pub fn ssdts(&self) -> Listing<'k, AmlTable> {
+        self.list(raw::zacpi_list_ssdts)
+    }
+
+    /// The memory that the tables take, and that isn't to be given away: the root table, the listed tables, the DSDT
+    /// and the FACS. The ranges may overlap (sections 5.2.6 to 5.2.11).
+    pub fn ranges(&self) -> Listing<'k, Range> {
+        self.list(raw::zacpi_list_ranges)
+    }
+
+    /// The bytes of a table, with its header, if they lie in one region: those of a table from these tables do.
+    pub fn bytes(&self, table: &Table) -> Option<&'k [u8]> {
+        self.bytes_at(table.address, table.length.into())
+    }
+
+    /// The AML itself, if it lies in one region.
+    pub fn aml(&self, table: &AmlTable) -> Option<&'k [u8]> {
+        // With its header, since an AML of no bytes may stand at the end of a region.
+        self.bytes_at(table.address.checked_sub(36)?, u64::from(table.length) + 36)?.get(36..)
+    }
+
+    /// So many bytes from a physical address on, if the address lies in a region and this has so many.
+    pub fn bytes_at(&self, address: u64, length: u64) -> Option<&'k [u8]> {
+        let place = raw::locate(self.regions, address, length).ok()?;
+        let rest = self.regions.get(place.region)?.bytes().get(place.offset..)?;
+        rest.get(..usize::try_from(length).ok()?)
+    }
+
+    /// The entries of a table of any type, from an offset in it on, whose Type and Length have one or two bytes each.
+    ///
+    /// Refuses, if the table isn't one of these tables, as its address is refused (`MapFailed`, `SdtInvalidOemId`,
+    /// `SdtInvalidTableId`, `SdtInvalidLength`, `SdtInvalidChecksum`), and with `SdtInvalidLength` if it ends before
+    /// the offset.
+    pub fn entries(&self, table: &Table, first: u32, width: EntryWidth) -> AcpiResult<Entries<'k>> {
+        Entries::new(*self, *table, first, width)
+    }
+}
+
+/// The valid tables of a signature, one after the other.
+#[derive(Clone, Debug)]
+pub struct Tables<'k> {
+    tables: AcpiTables<'k>,
+    signature: Signature,
+    index: usize,
+}
+
+impl Iterator for Tables<'_> {
+    type Item = Table;
+
+    fn next(&mut self) -> Option<Table> {
+        let table = raw::zacpi_find_nth_table(&self.tables.source(), self.signature, self.index).ok()?;
+        self.index += 1;
+        Some(table.into())
+    }
+}

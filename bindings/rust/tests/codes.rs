@@ -1,0 +1,73 @@
+//! Codes and names: each byte of firmware has a value, and each refusal a text.
+use zacpi::address::{AccessSize, AddressSpace};
+use zacpi::list::Slot;
+use zacpi::platform::interrupt::{LocalInterruptLine, Polarity, TriggerMode};
+use zacpi::platform::ProcessorState;
+use zacpi::spcr::SpcrInterfaceType;
+use zacpi::{AcpiError, MadtError, PowerProfile, Range, Signature};
+
+#[test]
+fn every_code_has_a_value() {
+    for code in 0..=u8::MAX {
+        assert_eq!(u8::from(PowerProfile::from(code)), code);
+        assert_eq!(matches!(PowerProfile::from(code), PowerProfile::Reserved(n) if n == code), code > 8);
+        let reserved = matches!(code, 0x0b..=0x7e | 0x80..=0xbf);
+        assert_eq!(AddressSpace::from(code) == AddressSpace::Other(code), reserved);
+        assert_eq!(AddressSpace::from(code) == AddressSpace::OemDefined(code), code >= 0xc0);
+        assert_eq!(AccessSize::from(code) == AccessSize::Other(code), code > 4);
+        assert_eq!(Polarity::from(code) == Polarity::Other(code), !matches!(code, 0 | 1 | 3));
+        assert_eq!(TriggerMode::from(code) == TriggerMode::Other(code), !matches!(code, 0 | 1 | 3));
+        assert_eq!(LocalInterruptLine::from(code) == LocalInterruptLine::Other(code), code > 1);
+        assert_eq!(ProcessorState::from(code) == ProcessorState::Other(code), code > 2);
+        let unknown = code == 7 || code > 0x15;
+        assert_eq!(SpcrInterfaceType::from(code) == SpcrInterfaceType::Unknown(code), unknown);
+    }
+    let spaces = [
+        AddressSpace::SystemMemory,
+        AddressSpace::SystemIo,
+        AddressSpace::PciConfigSpace,
+        AddressSpace::EmbeddedController,
+        AddressSpace::SMBus,
+        AddressSpace::SystemCmos,
+        AddressSpace::PciBarTarget,
+        AddressSpace::Ipmi,
+        AddressSpace::GeneralIo,
+        AddressSpace::GenericSerialBus,
+        AddressSpace::PlatformCommunicationsChannel,
+    ];
+    for (code, space) in spaces.into_iter().enumerate() {
+        assert_eq!(AddressSpace::from(code as u8), space);
+    }
+    assert_eq!(AddressSpace::from(0x7f), AddressSpace::FunctionalFixedHardware);
+    let profiles = [
+        PowerProfile::Unspecified,
+        PowerProfile::Desktop,
+        PowerProfile::Mobile,
+        PowerProfile::Workstation,
+        PowerProfile::EnterpriseServer,
+        PowerProfile::SohoServer,
+        PowerProfile::AppliancePc,
+        PowerProfile::PerformanceServer,
+        PowerProfile::Tablet,
+    ];
+    for (code, profile) in profiles.into_iter().enumerate() {
+        assert_eq!(PowerProfile::from(code as u8), profile);
+    }
+}
+
+#[test]
+fn names_are_shown() {
+    assert_eq!(Signature::new("FACP"), Signature::FADT);
+    assert_eq!((Signature::MADT.letters, Signature::MADT.as_str()), (*b"APIC", Some("APIC")));
+    let odd = Signature { letters: [0xff, 0, 1, 0x41] };
+    assert_eq!((odd.as_str(), odd.to_string(), format!("{odd:?}")), (None, "ff000141".into(), "\"ff000141\"".into()));
+    assert_eq!(AcpiError::TableMissing(Signature::HPET).to_string(), "TableMissing HPET");
+    assert_eq!(AcpiError::SdtInvalidChecksum(odd).to_string(), "SdtInvalidChecksum ff000141");
+    assert_eq!(AcpiError::InvalidMadt(MadtError::UnexpectedEntry).to_string(), "InvalidMadt UnexpectedEntry");
+    assert_eq!(AcpiError::NoValidRsdp.to_string(), "NoValidRsdp");
+    assert_eq!(AcpiError::Other(99).to_string(), "Refused 99");
+    assert_eq!(MadtError::InvalidLocalNmiLine.to_string(), "InvalidLocalNmiLine");
+    let refusal: &dyn core::error::Error = &AcpiError::MapFailed;
+    assert!(refusal.source().is_none());
+    assert_eq!(format!("{:?}", Slot::<Range>::default()), "Slot");
+}

@@ -1,0 +1,129 @@
+//! Regions, ranges, and the loop that maps what is missing.
+mod common;
+use common::{Memory, ROOT};
+use std::cell::RefCell;
+use zacpi::{clip_ranges, map_missing, missing_ranges, AcpiError, AcpiTables, Range, Region, Signature, Slot, Start};
+
+fn range(address: u64, length: u64) -> Range {
+    Range { address, length }
+}
+
+#[test]
+fn holds_bytes() {
+    static BYTES: [u8; 3] = [1, 2, 3];
+    let region = Region::new(0x1000, &BYTES);
+    assert_eq!((region.address(), region.bytes()), (0x1000, &BYTES[..]));
+    assert_eq!((Region::default().address(), Region::default().bytes()), (0, &[][..]));
+    fn shared<T: Send + Sync>(_: &T) {}
+    shared(&region);
+}
+
+#[test]
+fn clips_ranges() {
+    let ranges = [range(0x3000, 0x1000), range(0x1000, 0x1000), range(0x2000, 0x800), range(0x9000, 0x1000)];
+    let mut room = [Slot::default(); 4];
+    let list = clip_ranges(&ranges, &[range(0x1400, 0x100)], range(0x1000, 0x8800), &mut room).unwrap();
+    let expected = [range(0x1000, 0x400), range(0x1500, 0x1300), range(0x3000, 0x1000), range(0x9000, 0x800)];
+    assert_eq!(list.iter().collect::<Vec<_>>(), expected);
+    let mut room = [Slot::default(); 1];
+    let list = clip_ranges(&ranges, &[], range(0, u64::MAX), &mut room).unwrap();
+    assert_eq!((list.get(0), list.count()), (Some(range(0x1000, 0x1800)), 3));
+    let refusal = clip_ranges(&[range(u64::MAX, 1)], &[], range(0, 0), &mut room).unwrap_err();
+    assert_eq!(refusal, AcpiError::RangeTooHigh);
+}
+
+const FADT: u64 = ROOT + 0x1000;
+const DSDT: u64 = ROOT + 0x2000;
+const RSDP: u64 = ROOT + 0x8000;
+/// Where the root table lists a table and no memory is.
+const NOWHERE: u64 = 0x4000_0000;
+
+/// An RSDP of revision 0, the RSDT, a FADT of 116 bytes and a DSDT of 40.
+fn machine() -> Memory {
+    let mut memory = Memory::rsdt(&[FADT, NOWHERE]);
+    memory.table(FADT, "FACP", 1, 116, &[(40, 4, DSDT)]);
+    memory.table(DSDT, "DSDT", 2, 40, &[]);
+    memory.put(RSDP, &[(0, 8, u64::from_le_bytes(*b"RSD PTR ")), (16, 4, ROOT)]);
+    memory.sum(RSDP, 20, 8);
+    memory
+}
+
+/// The bytes of a range, if the memory has them.
+fn map(memory: &Memory, range: Range) -> Option<&[u8]> {
+    let from = range.address.checked_sub(ROOT)? as usize;
+    memory.bytes.get(from..from + range.length as usize)
+}
+
+#[test]
+fn maps_what_is_missing() {
+    let memory = machine();
+    let asked = RefCell::new(Vec::new());
+    let mut regions = [Region::default(); 8];
+    let mut room = [Slot::default(); 8];
+    let mapped = map_missing(&mut regions, 0, Start::Rsdp(RSDP), 8, &mut room, |range| {
+        asked.borrow_mut().push(range);
+        map(&memory, range)
+    })
+    .unwrap();
+    // Headers have 36 bytes; a header is mapped first, then what its Length says, in its place.
+    let expected = [
+        range(RSDP, 36),
+        range(ROOT, 36),
+        range(ROOT, 44),
+        range(FADT, 36),
+        range(NOWHERE, 36),
+        range(FADT, 116),
+        range(NOWHERE, 36),
+        range(NOWHERE, 36),
+        range(DSDT, 36),
+        range(NOWHERE, 36),
+        range(DSDT, 40),
+        range(NOWHERE, 36),
+    ];
+    assert_eq!(*asked.borrow(), expected);
+    let held: Vec<_> = mapped.regions.iter().map(|r| (r.address(), r.bytes().len())).collect();
+    assert_eq!(held, [(ROOT, 44), (FADT, 116), (DSDT, 40), (RSDP, 36)]);
+    assert_eq!((mapped.missing, mapped.rounds), (1, 7));
+    let tables = AcpiTables::from_rsdp(mapped.regions, RSDP).unwrap();
+    assert_eq!(tables.find(Signature::FADT).map(|table| table.address), Ok(FADT));
+    assert_eq!(tables.dsdt().map(|aml| aml.address), Ok(DSDT + 36));
+}
+
+#[test]
+fn ends_after_so_many_rounds() {
+    let memory = machine();
+    let mut regions = [Region::default(); 8];
+    let mut room = [Slot::default(); 8];
+    let mapped = map_missing(&mut regions, 0, Start::Rsdt(ROOT), 2, &mut room, |range| map(&memory, range)).unwrap();
+    assert_eq!((mapped.regions.len(), mapped.missing, mapped.rounds), (1, 2, 2));
+    let mut room = [Slot::default(); 4];
+    let missing = missing_ranges(mapped.regions, Start::Rsdt(ROOT)).fill(&mut room).unwrap();
+    assert_eq!(missing.iter().collect::<Vec<_>>(), [range(FADT, 36), range(NOWHERE, 36)]);
+    let mut regions = [Region::default(); 1];
+    let full = map_missing(&mut regions, 0, Start::Rsdp(RSDP), 8, &mut room, |range| map(&memory, range));
+    assert_eq!(full.unwrap_err(), AcpiError::AllocError);
+    let none = map_missing(&mut [], 0, Start::Rsdp(RSDP), 8, &mut room, |_| None).unwrap();
+    assert_eq!((none.regions.len(), none.missing, none.rounds), (0, 1, 0));
+}
+
+/// Regions that a missing range touches are mapped again together with it, from the first of them to the last.
+#[test]
+fn joins_regions() {
+    let memory = machine();
+    let at = |address, length| Region::new(address, map(&memory, range(address, length)).unwrap());
+    let mut regions = [Region::default(); 4];
+    regions[..3].copy_from_slice(&[at(ROOT, 40), at(ROOT + 44, 6), at(RSDP, 36)]);
+    let asked = RefCell::new(Vec::new());
+    let mut room = [Slot::default(); 4];
+    let mapped = map_missing(&mut regions, 3, Start::Rsdt(ROOT), 1, &mut room, |range| {
+        asked.borrow_mut().push(range);
+        map(&memory, range)
+    })
+    .unwrap();
+    assert_eq!(*asked.borrow(), [range(ROOT, 50)]);
+    let held: Vec<_> = mapped.regions.iter().map(|r| (r.address(), r.bytes().len())).collect();
+    assert_eq!(held, [(ROOT, 50), (RSDP, 36)]);
+    let overlapping = [at(ROOT, 40), at(ROOT + 39, 6)];
+    let refusal = missing_ranges(&overlapping, Start::Rsdt(ROOT)).count().unwrap_err();
+    assert_eq!(refusal, AcpiError::RegionsNotAscending);
+}

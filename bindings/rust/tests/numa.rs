@@ -1,0 +1,86 @@
+//! Domains and distances.
+mod common;
+use common::{Memory, ROOT};
+use zacpi::slit::Slit;
+use zacpi::srat::{MemoryAffinity, Srat};
+use zacpi::{AcpiError, Signature, Slot};
+
+const TABLE: u64 = ROOT + 0x1000;
+
+#[test]
+fn reads_domains() {
+    #[rustfmt::skip]
+    let fields = [
+        // Local APIC (section 5.2.16.1): Proximity Domain [7:0] at 2, APIC ID at 3, Flags at 4, [31:8] at 9.
+        (48, 2, 0x1000), (50, 1, 5), (51, 1, 3), (52, 4, 1), (57, 3, 1),
+        // Memory (section 5.2.16.2): Proximity Domain at 2, Base Address at 8, Length at 16, Flags at 28.
+        (64, 2, 0x2801), (66, 4, 1), (72, 8, 0x1000), (80, 8, 0x1000), (92, 4, 1),
+        (104, 2, 0x2801), (106, 4, 2), (112, 8, 0x2000), (120, 8, 0x2000), (132, 4, 7),
+        (144, 2, 0x2801), (146, 4, 3), (152, 8, 0x4000), (160, 8, 0x1000), (172, 4, 0),
+        // x2APIC (section 5.2.16.3): Proximity Domain at 4, X2APIC ID at 8, Flags at 12.
+        (184, 2, 0x1802), (188, 4, 6), (192, 4, 0x100), (196, 4, 1),
+        // GICC (section 5.2.16.4): Proximity Domain at 2, ACPI Processor UID at 6, Flags at 10.
+        (208, 2, 0x1203), (210, 4, 7), (214, 4, 9), (218, 4, 1),
+    ];
+    let mut memory = Memory::rsdt(&[TABLE]);
+    memory.table(TABLE, "SRAT", 3, 226, &fields);
+    memory.ask(|tables| {
+        let srat = tables.find_table::<Srat>().unwrap();
+        assert_eq!((srat.table.address, srat.table.length), (TABLE, 226));
+        let memory = |address, length, domain, is_hot_pluggable, is_non_volatile| MemoryAffinity {
+            address,
+            length,
+            domain,
+            is_hot_pluggable,
+            is_non_volatile,
+        };
+        let expected = [memory(0x1000, 0x1000, 1, false, false), memory(0x2000, 0x2000, 2, true, true)];
+        let mut room = [Slot::default(); 4];
+        let list = srat.memory_affinities().fill(&mut room).unwrap();
+        assert_eq!(list.iter().collect::<Vec<_>>(), expected);
+        assert_eq!((srat.domain_of_address(0x1fff), srat.domain_of_address(0x2000)), (Ok(Some(1)), Ok(Some(2))));
+        assert_eq!((srat.domain_of_address(0x4000), srat.domain_of_address(0)), (Ok(None), Ok(None)));
+        assert_eq!((srat.domain_of_apic(3), srat.domain_of_apic(0x100)), (Ok(Some(0x105)), Ok(Some(6))));
+        assert_eq!(srat.domain_of_apic(4), Ok(None));
+        assert_eq!((srat.domain_of_processor(9), srat.domain_of_processor(3)), (Ok(Some(7)), Ok(None)));
+    });
+    // A byte after the fixed fields; a range that ends above 2^64 - 1; a table that is too short.
+    let mut memory = Memory::rsdt(&[TABLE]);
+    memory.table(TABLE, "SRAT", 3, 49, &[]);
+    memory.ask(|tables| {
+        let srat = tables.find_table::<Srat>().unwrap();
+        assert_eq!(srat.memory_affinities().count(), Err(AcpiError::InvalidEntryLength));
+        assert_eq!(srat.domain_of_apic(0), Ok(None));
+    });
+    let mut memory = Memory::rsdt(&[TABLE]);
+    memory.table(TABLE, "SRAT", 3, 88, &[(48, 2, 0x2801), (56, 8, u64::MAX), (64, 8, 1), (76, 4, 1)]);
+    memory.ask(|tables| {
+        let srat = tables.find_table::<Srat>().unwrap();
+        assert_eq!(srat.domain_of_address(0), Err(AcpiError::InvalidMemoryRange));
+    });
+    let mut memory = Memory::rsdt(&[TABLE]);
+    memory.table(TABLE, "SRAT", 3, 47, &[]);
+    let missing = AcpiError::TableMissing(Signature::SRAT);
+    memory.ask(|tables| assert_eq!(tables.find_table::<Srat>().unwrap_err(), missing));
+}
+
+#[test]
+fn reads_distances() {
+    // Number of System Localities at 36, then two rows of two bytes.
+    let mut memory = Memory::rsdt(&[TABLE]);
+    memory.table(TABLE, "SLIT", 1, 48, &[(36, 8, 2), (44, 1, 10), (45, 1, 20), (46, 1, 255), (47, 1, 10)]);
+    memory.ask(|tables| {
+        let slit = tables.find_table::<Slit>().unwrap();
+        assert_eq!((slit.localities, slit.is_sane), (2, true));
+        assert_eq!((slit.distance(0, 1), slit.distance(1, 0), slit.distance(1, 1)), (Some(20), Some(255), Some(10)));
+        assert_eq!((slit.distance(0, 2), slit.distance(2, 0)), (None, None));
+    });
+    let mut memory = Memory::rsdt(&[TABLE]);
+    memory.table(TABLE, "SLIT", 1, 45, &[(36, 8, 2), (44, 1, 10)]);
+    memory.ask(|tables| {
+        let slit = tables.find_table::<Slit>().unwrap();
+        assert_eq!((slit.is_sane, slit.distance(0, 0), slit.distance(0, 1)), (false, Some(10), None));
+    });
+    let missing = AcpiError::TableMissing(Signature::SLIT);
+    Memory::rsdt(&[]).ask(|tables| assert_eq!(tables.find_table::<Slit>().unwrap_err(), missing));
+}

@@ -1,0 +1,212 @@
+//! Opening, lookups, lists, bytes and entries.
+mod common;
+use common::{Memory, ROOT};
+use zacpi::entries::EntryWidth;
+use zacpi::{AcpiError, AcpiTables, AmlTable, Fault, Range, Region, Root, Signature, Slot, Start, Table};
+
+const FADT: u64 = ROOT + 0x1000;
+const DSDT: u64 = ROOT + 0x2000;
+const SSDT: u64 = ROOT + 0x3000;
+const OTHER_SSDT: u64 = ROOT + 0x4000;
+const BAD_SSDT: u64 = ROOT + 0x5000;
+const DMAR: u64 = ROOT + 0x6000;
+
+/// An RSDT with a FADT of 116 bytes that names a DSDT of 40 (DSDT at 40), an SSDT that sums to 1, SSDTs of 37 and 36
+/// bytes, and a table of a type that has no view.
+fn machine() -> Memory {
+    let mut memory = Memory::rsdt(&[FADT, BAD_SSDT, SSDT, OTHER_SSDT, DMAR]);
+    memory.table(FADT, "FACP", 1, 116, &[(40, 4, DSDT)]);
+    memory.table(DSDT, "DSDT", 2, 40, &[(36, 4, 0x04030201)]);
+    memory.table(SSDT, "SSDT", 2, 37, &[(36, 1, 0xa3)]);
+    memory.table(OTHER_SSDT, "SSDT", 1, 36, &[]);
+    memory.table(BAD_SSDT, "SSDT", 1, 36, &[]);
+    memory.put(BAD_SSDT, &[(35, 1, 1)]);
+    // Entries from 48 on, Type at 0 and Length at 2: 4 bytes of type 1, 6 of type 0x102, then 3 bytes that are none.
+    memory.table(
+        DMAR,
+        "DMAR",
+        1,
+        61,
+        &[(48, 2, 1), (50, 2, 4), (52, 2, 0x102), (54, 2, 6), (56, 2, 0xbbaa), (58, 3, 0x00_0004)],
+    );
+    memory
+}
+
+fn table(address: u64, signature: &str, length: u32, revision: u8) -> Table {
+    Table { address, length, signature: Signature::new(signature), revision }
+}
+
+#[test]
+fn opens_a_root_table() {
+    let mut memory = machine();
+    let length = 36 + 5 * 4;
+    memory.ask(|tables| {
+        assert_eq!(tables.root(), Root { address: ROOT, length, revision: 0, is_xsdt: false });
+        assert_eq!(tables.revision(), 0);
+        assert_eq!(tables.regions()[0].address(), ROOT);
+    });
+    // An RSDP of revision 0 (section 5.2.5.3): RsdtAddress is at 16. One of revision 2: Revision at 15, Length at 20,
+    // XsdtAddress at 24.
+    let (rsdp, rsdp_2, xsdt) = (ROOT + 0x8000, ROOT + 0x8100, ROOT + 0x8200);
+    memory.put(rsdp, &[(0, 8, u64::from_le_bytes(*b"RSD PTR ")), (16, 4, ROOT)]);
+    memory.sum(rsdp, 20, 8);
+    memory.put(rsdp_2, &[(0, 8, u64::from_le_bytes(*b"RSD PTR ")), (15, 1, 2), (20, 4, 36), (24, 8, xsdt)]);
+    memory.sum(rsdp_2, 20, 8);
+    memory.sum(rsdp_2, 36, 32);
+    memory.table(xsdt, "XSDT", 1, 52, &[(36, 8, SSDT), (44, 8, DSDT)]);
+    let regions = memory.regions();
+    let old = AcpiTables::from_rsdp(&regions, rsdp).unwrap();
+    assert_eq!(old.root(), Root { address: ROOT, length, revision: 0, is_xsdt: false });
+    let new = AcpiTables::from_rsdp(&regions, rsdp_2).unwrap();
+    assert_eq!(new.root(), Root { address: xsdt, length: 52, revision: 2, is_xsdt: true });
+    assert_eq!(new.headers().count(), Ok(2));
+    let by_xsdt = AcpiTables::from_rsdt(&regions, 2, xsdt).unwrap();
+    assert_eq!(by_xsdt.root(), new.root());
+    assert_eq!(AcpiTables::open(&regions, Start::Xsdt(xsdt)).unwrap().root(), new.root());
+    let refused = |start| AcpiTables::open(&regions, start).unwrap_err();
+    assert_eq!(refused(Start::Rsdt(xsdt)), AcpiError::SdtInvalidSignature(Signature::RSDT));
+    assert_eq!(refused(Start::Rsdp(ROOT)), AcpiError::RsdpIncorrectSignature);
+    assert_eq!(refused(Start::Xsdt(0)), AcpiError::MapFailed);
+    assert_eq!(refused(Start::BiosSearch), AcpiError::MapFailed);
+    assert_eq!(refused(Start::Search), AcpiError::NoValidRsdp);
+}
+
+/// The word at 0x40e, which says that there is no EBDA; an RSDT at [`ROOT`] that lists one table; and the area from
+/// 0xe0000 on with the 16 bytes after it, in which an RSDP is at 0xfffe0, the last place that one can have (section
+/// 5.2.5.1).
+#[test]
+fn searches() {
+    let mut memory = Memory::rsdt(&[SSDT]);
+    memory.table(SSDT, "SSDT", 2, 36, &[]);
+    memory.put(ROOT + 0x100, &[(0, 8, u64::from_le_bytes(*b"RSD PTR ")), (16, 4, ROOT + 0x10)]);
+    memory.sum(ROOT + 0x100, 20, 8);
+    let mut area = vec![0; 0x20010];
+    area[0x1ffe0..0x1fff4].copy_from_slice(&memory.bytes[0x100..0x114]);
+    // The area ends at 0x100010, so the root table is lent from there on.
+    memory.bytes.copy_within(..40, 0x10);
+    let rest = &memory.bytes[0x10..];
+    let regions = [Region::new(0x40e, &[0, 0]), Region::new(0xe0000, &area), Region::new(ROOT + 0x10, rest)];
+    let root = Root { address: ROOT + 0x10, length: 40, revision: 0, is_xsdt: false };
+    assert_eq!(AcpiTables::search_for_rsdp_bios(&regions).unwrap().root(), root);
+    // The part of the area from 0xf0000 on is enough for the search of what is lent.
+    let part = [Region::new(0xf0000, &area[0x10000..]), regions[2]];
+    assert_eq!(AcpiTables::search_for_rsdp_bios(&part).unwrap_err(), AcpiError::MapFailed);
+    let tables = AcpiTables::open(&part, Start::Search).unwrap();
+    assert_eq!(tables.root(), root);
+    assert_eq!(tables.find(Signature::SSDT), Ok(table(SSDT, "SSDT", 36, 2)));
+}
+
+#[test]
+fn finds_and_lists_tables() {
+    machine().ask(|tables| {
+        assert_eq!(tables.find(Signature::FADT), Ok(table(FADT, "FACP", 116, 1)));
+        assert_eq!(tables.find(Signature::SSDT), Ok(table(SSDT, "SSDT", 37, 2)));
+        assert_eq!(tables.find(Signature::HPET), Err(AcpiError::TableMissing(Signature::HPET)));
+        let found: Vec<Table> = tables.find_all(Signature::SSDT).collect();
+        assert_eq!(found, [table(SSDT, "SSDT", 37, 2), table(OTHER_SSDT, "SSDT", 36, 1)]);
+        let all = [
+            table(FADT, "FACP", 116, 1),
+            table(SSDT, "SSDT", 37, 2),
+            table(OTHER_SSDT, "SSDT", 36, 1),
+            table(DMAR, "DMAR", 61, 1),
+        ];
+        let mut room = [Slot::default(); 8];
+        let list = tables.headers().fill(&mut room).unwrap();
+        assert_eq!(list.iter().collect::<Vec<_>>(), all);
+        assert_eq!((list.len(), list.count(), list.is_whole(), list.is_empty()), (4, 4, true, false));
+        assert_eq!((list.get(3), list.get(4)), (Some(all[3]), None));
+        assert_eq!(list.iter().len(), 4);
+        let mut little = [Slot::default(); 3];
+        let list = tables.headers().fill(&mut little).unwrap();
+        assert_eq!((list.len(), list.count(), list.is_whole(), list.get(3)), (3, 4, false, None));
+        assert_eq!((&list).into_iter().collect::<Vec<_>>(), all[..3]);
+        let list = tables.headers().fill(&mut []).unwrap();
+        assert_eq!((list.len(), list.count(), list.is_empty()), (0, 4, true));
+        assert_eq!(tables.headers().count(), Ok(4));
+        #[cfg(feature = "alloc")]
+        assert_eq!(tables.headers().to_vec().unwrap(), all);
+        let mut faults = [Slot::default(); 2];
+        let faults = tables.faults(Signature::SSDT).fill(&mut faults).unwrap();
+        let refusal = AcpiError::SdtInvalidChecksum(Signature::SSDT);
+        assert_eq!(faults.iter().collect::<Vec<_>>(), [Fault { address: BAD_SSDT, refusal }]);
+    });
+}
+
+#[test]
+fn answers_where_bytes_are() {
+    machine().ask(|tables| {
+        let dsdt = tables.dsdt().unwrap();
+        assert_eq!(dsdt, AmlTable { address: DSDT + 36, length: 4 });
+        assert_eq!(tables.aml(&dsdt), Some(&[1, 2, 3, 4][..]));
+        let mut room = [Slot::default(); 4];
+        let ssdts = tables.ssdts().fill(&mut room).unwrap();
+        let expected = [AmlTable { address: SSDT + 36, length: 1 }, AmlTable { address: OTHER_SSDT + 36, length: 0 }];
+        assert_eq!(ssdts.iter().collect::<Vec<_>>(), expected);
+        assert_eq!(tables.aml(&expected[0]), Some(&[0xa3][..]));
+        let dmar = tables.find(Signature::DMAR).unwrap();
+        let bytes = tables.bytes(&dmar).unwrap();
+        assert_eq!((bytes.len(), &bytes[..4], &bytes[48..52]), (61, &b"DMAR"[..], &[1, 0, 4, 0][..]));
+        assert_eq!(tables.bytes_at(ROOT, 4), Some(&b"RSDT"[..]));
+        assert_eq!(tables.bytes_at(ROOT + 0xffff, 1), Some(&[0][..]));
+        assert_eq!(tables.bytes_at(ROOT + 0xffff, 2), None);
+        assert_eq!(tables.bytes_at(ROOT - 1, 2), None);
+        assert_eq!(tables.bytes(&Table { length: u32::MAX, ..dmar }), None);
+        let mut room = [Slot::default(); 8];
+        let ranges = tables.ranges().fill(&mut room).unwrap();
+        let range = |address, length| Range { address, length };
+        // The root table, the listed tables in order, the DSDT.
+        let expected = [
+            range(ROOT, 56),
+            range(FADT, 116),
+            range(SSDT, 37),
+            range(OTHER_SSDT, 36),
+            range(DMAR, 61),
+            range(DSDT, 40),
+        ];
+        assert_eq!(ranges.iter().collect::<Vec<_>>(), expected);
+    });
+}
+
+#[test]
+fn walks_entries() {
+    machine().ask(|tables| {
+        let dmar = tables.find(Signature::DMAR).unwrap();
+        let mut entries = tables.entries(&dmar, 48, EntryWidth::Two).unwrap();
+        assert_eq!((entries.count_left(), entries.is_malformed()), (2, true));
+        let first = entries.next().unwrap();
+        assert_eq!((first.address, first.entry_type, first.bytes), (DMAR + 48, 1, &[1, 0, 4, 0][..]));
+        let second = entries.next().unwrap();
+        let bytes = [2, 1, 6, 0, 0xaa, 0xbb];
+        assert_eq!((second.address, second.entry_type, second.bytes), (DMAR + 52, 0x102, &bytes[..]));
+        assert_eq!(entries.next(), None);
+        // From 49 on with one byte each: Type 0 and Length 4, then at 53 Type 1 and Length 6, then Length 0.
+        let narrow: Vec<_> = tables.entries(&dmar, 49, EntryWidth::One).unwrap().map(|e| e.bytes.len()).collect();
+        assert_eq!(narrow, [4, 6]);
+        assert_eq!(tables.entries(&dmar, 61, EntryWidth::One).unwrap().count(), 0);
+        let refused = tables.entries(&dmar, 62, EntryWidth::One).unwrap_err();
+        assert_eq!(refused, AcpiError::SdtInvalidLength(Signature::DMAR));
+        let nowhere = Table { address: 0, ..dmar };
+        assert_eq!(tables.entries(&nowhere, 48, EntryWidth::Two).unwrap_err(), AcpiError::MapFailed);
+    });
+}
+
+/// 40 entries of 3 bytes, of the types 0 to 39: more than are asked for at once.
+#[test]
+fn walks_many_entries() {
+    let mut memory = Memory::rsdt(&[SSDT]);
+    let entry = |n: usize| [(36 + 3 * n, 1, n as u64), (37 + 3 * n, 1, 3), (38 + 3 * n, 1, 0x80 + n as u64)];
+    let fields: Vec<common::Field> = (0..40).flat_map(entry).collect();
+    memory.table(SSDT, "ZZZZ", 0, 36 + 120, &fields);
+    memory.ask(|tables| {
+        let table = tables.find(Signature::new("ZZZZ")).unwrap();
+        let entries = tables.entries(&table, 36, EntryWidth::One).unwrap();
+        assert!(!entries.is_malformed());
+        let mut seen = 0;
+        for (n, entry) in entries.enumerate() {
+            assert_eq!(entry.address, SSDT + 36 + 3 * n as u64);
+            assert_eq!(entry.bytes, [n as u8, 3, 0x80 + n as u8]);
+            seen += 1;
+        }
+        assert_eq!(seen, 40);
+    });
+}
