@@ -185,14 +185,6 @@ fn print_faults(tables: &AcpiTables<'_>) {
     }
 }
 
-/// The revision that is given with the address of a root table, which has none of an RSDP.
-fn given(start: &[&str]) -> Option<u8> {
-    match start {
-        ["rsdt", revision, _] => revision.parse().ok(),
-        _ => None,
-    }
-}
-
 fn opened<'k>(regions: &'k [Region<'k>], start: &[&str]) -> Option<AcpiResult<AcpiTables<'k>>> {
     let address = |text: &str| u64::from_str_radix(text.trim_start_matches("0x"), 16).ok();
     Some(match start {
@@ -225,7 +217,7 @@ fn main() -> ExitCode {
     };
     match opened(&regions, start) {
         Some(Ok(tables)) => {
-            println!("revision {}", given(start).unwrap_or(tables.revision()));
+            println!("revision {}", tables.revision());
             print_tables(&tables);
             print_platform(&tables);
             print_devices(&tables);

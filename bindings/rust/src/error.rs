@@ -7,7 +7,8 @@ use core::fmt;
 pub type AcpiResult<T> = Result<T, AcpiError>;
 
 /// Why a call refuses. The names are those of the crate `acpi`, and of the library's own checks. A signature that is
-/// carried is that of the table that was looked for.
+/// carried is that of the table that was looked for. A call whose answer is an `Option` answers `None` for what isn't
+/// there, so that `NoSuchFunction`, `NoSuchInterrupt`, `NoSuchIoApic`, `NoDomain` and `NoDistance` come from none.
 #[derive(Clone, Copy, Debug, PartialEq, Eq)]
 #[non_exhaustive]
 pub enum AcpiError {

@@ -14,7 +14,8 @@ pub struct Root {
     pub address: u64,
     /// Length: with its header.
     pub length: u32,
-    /// Revision of the RSDP; 0 if the tables were opened at an RSDT, 2 if at an XSDT.
+    /// Revision of the RSDP, or what [`AcpiTables::from_rsdt`] was passed; 0 after [`Start::Rsdt`], 2 after
+    /// [`Start::Xsdt`].
     pub revision: u8,
     /// Whether it is an XSDT, whose pointers have eight bytes.
     pub is_xsdt: bool,
@@ -105,7 +106,9 @@ impl<'k> AcpiTables<'k> {
     /// Refuses with `RegionsNotAscending`, `RegionTooHigh` and `MapFailed`, and, carrying RSDT or XSDT, with
     /// `SdtInvalidSignature`, `SdtInvalidOemId`, `SdtInvalidTableId`, `SdtInvalidLength` and `SdtInvalidChecksum`.
     pub fn from_rsdt(regions: &'k [Region<'k>], revision: u8, address: u64) -> AcpiResult<Self> {
-        Self::open(regions, if revision == 0 { Start::Rsdt(address) } else { Start::Xsdt(address) })
+        let mut tables = Self::open(regions, if revision == 0 { Start::Rsdt(address) } else { Start::Xsdt(address) })?;
+        tables.root.revision = revision;
+        Ok(tables)
     }
 
     /// The tables below the root table of the RSDP that the BIOS areas hold, each of which has to lie in one region
@@ -136,7 +139,7 @@ impl<'k> AcpiTables<'k> {
         self.root
     }
 
-    /// Revision of the RSDP; 0 if opened at an RSDT, 2 if at an XSDT.
+    /// [`Root::revision`].
     pub fn revision(&self) -> u8 {
         self.root.revision
     }

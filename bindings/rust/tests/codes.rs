@@ -55,6 +55,38 @@ fn every_code_has_a_value() {
     }
 }
 
+/// The codes of Microsoft's table of Interface Type, of which 7 is reserved.
+#[test]
+fn interface_types_are_their_codes() {
+    use SpcrInterfaceType::*;
+    let types = [
+        (0, Full16550),
+        (1, Full16450),
+        (2, MAX311xE),
+        (3, ArmPL011),
+        (4, MSM8x60),
+        (5, Nvidia16550),
+        (6, TiOmap),
+        (8, APM88xxxx),
+        (9, Msm8974),
+        (10, Sam5250),
+        (11, IntelUSIF),
+        (12, Imx6),
+        (13, ArmSBSAGeneric32bit),
+        (14, ArmSBSAGeneric),
+        (15, ArmDCC),
+        (16, Bcm2835),
+        (17, Sdm845_18432),
+        (18, Generic16550),
+        (19, Sdm845_7372),
+        (20, IntelLPSS),
+        (21, RiscVSbi),
+    ];
+    for (code, interface) in types {
+        assert_eq!(SpcrInterfaceType::from(code), interface);
+    }
+}
+
 #[test]
 fn names_are_shown() {
     assert_eq!(Signature::new("FACP"), Signature::FADT);

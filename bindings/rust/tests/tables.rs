@@ -62,6 +62,7 @@ fn opens_a_root_table() {
     assert_eq!(new.headers().count(), Ok(2));
     let by_xsdt = AcpiTables::from_rsdt(&regions, 2, xsdt).unwrap();
     assert_eq!(by_xsdt.root(), new.root());
+    assert_eq!(AcpiTables::from_rsdt(&regions, 5, xsdt).unwrap().revision(), 5);
     assert_eq!(AcpiTables::open(&regions, Start::Xsdt(xsdt)).unwrap().root(), new.root());
     let refused = |start| AcpiTables::open(&regions, start).unwrap_err();
     assert_eq!(refused(Start::Rsdt(xsdt)), AcpiError::SdtInvalidSignature(Signature::RSDT));
@@ -142,7 +143,7 @@ fn answers_where_bytes_are() {
         let ssdts = tables.ssdts().fill(&mut room).unwrap();
         let expected = [AmlTable { address: SSDT + 36, length: 1 }, AmlTable { address: OTHER_SSDT + 36, length: 0 }];
         assert_eq!(ssdts.iter().collect::<Vec<_>>(), expected);
-        assert_eq!(tables.aml(&expected[0]), Some(&[0xa3][..]));
+        assert_eq!((tables.aml(&expected[0]), tables.aml(&expected[1])), (Some(&[0xa3][..]), Some(&[][..])));
         let dmar = tables.find(Signature::DMAR).unwrap();
         let bytes = tables.bytes(&dmar).unwrap();
         assert_eq!((bytes.len(), &bytes[..4], &bytes[48..52]), (61, &b"DMAR"[..], &[1, 0, 4, 0][..]));
