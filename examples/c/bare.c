@@ -61,7 +61,7 @@ void begin(void) {
         say(&err, "\n");
         system_call(60, 1, 0, 0);
     }
-    refused = acpi_lines(&source, NULL, &out, &err, &named);
+    refused = print_lines(&source, NULL, &out, &err, &named);
     if (refused) say_refused(&err, "refused", refused, &named);
     system_call(60, refused ? 1 : 0, 0, 0);
 }

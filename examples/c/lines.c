@@ -297,8 +297,8 @@ static void faults(const struct zacpi_source *source, const char *letters, const
     }
 }
 
-zacpi_status acpi_lines(const struct zacpi_source *source, const uint8_t *revision, const struct printer *p,
-                       const struct printer *skipped, struct zacpi_signature *named) {
+zacpi_status print_lines(const struct zacpi_source *source, const uint8_t *revision, const struct printer *p,
+                        const struct printer *skipped, struct zacpi_signature *named) {
     static const char *const looked_up[] = {"FACP", "APIC", "MCFG", "HPET", "BGRT", "SPCR"};
     struct zacpi_root root = {0};
     size_t i;

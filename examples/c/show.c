@@ -26,7 +26,7 @@ int main(int argc, char **argv) {
     if (!image) return fputs("refused: Unreadable\n", stderr), 1;
     unread = regions_of(image, length, regions, sizeof regions / sizeof *regions, &source.regions_length);
     if (unread) return fprintf(stderr, "refused: %s\n", unread), 1;
-    refused = acpi_lines(&source, given, &out, &err, &named);
+    refused = print_lines(&source, given, &out, &err, &named);
     if (refused) say_refused(&err, "refused", refused, &named);
     free(image);
     return refused ? 1 : 0;

@@ -1,54 +1,64 @@
-# Multiboot 1 entry: 32-bit, protected, no paging. Goes to long mode and calls kernel(magic, info).
+# Multiboot 1 entry: 32-bit, protected, no paging. Goes to long mode in the upper half, and calls kernel(magic, info).
+# The first GiB is mapped at base, where the kernel is linked, and the first 4 GiB at 0xffff800000000000; nothing is at 0.
+        .set base, 0xffffffff80000000   # as in link.ld
         .set flags, 0x00010002          # memory map wanted; the addresses below are used, not the ELF headers
         .section .multiboot, "a"
         .balign 4
 header: .long 0x1BADB002, flags, -(0x1BADB002 + flags)
-        .long header, load_start, load_end, bss_end, entry
+        .long header - base, load_start, load_end, bss_end, start
 
         .section .text
         .code32
         .globl entry
 entry:  cld
-        mov $stack_top, %esp
+        mov $(stack_top - base), %esp
         mov %eax, %edi                  # first argument: the loader's magic number
         mov %ebx, %esi                  # second: multiboot's information
-        mov $directories + 3, %eax      # four page directories below one table below one root
-        mov $pointers, %ebx
+        mov $(directories - base + 3), %eax      # four page directories below one table below one root
+        mov $(pointers - base), %ebx
         xor %ecx, %ecx
 1:      mov %eax, (%ebx,%ecx,8)
         add $4096, %eax
         inc %ecx
         cmp $4, %ecx
         jb 1b
-        movl $pointers + 3, root
+        movl $(pointers - base + 3), root - base               # at 0 too, until the jump to `high`
+        movl $(pointers - base + 3), root - base + 256 * 8     # at 0xffff800000000000
+        movl $(upper - base + 3), root - base + 511 * 8
+        movl $(directories - base + 3), upper - base + 510 * 8 # at base
         mov $0x83, %eax                 # 2048 pages of 2 MiB: present, writable, large
         xor %ecx, %ecx
-2:      mov %eax, directories(,%ecx,8)
+2:      mov %eax, directories - base(,%ecx,8)
         add $0x200000, %eax
         inc %ecx
         cmp $2048, %ecx
         jb 2b
         mov %cr4, %eax
-        or $0x620, %eax                 # PAE, OSFXSR, OSXMMEXCPT
+        or $0x20, %eax                  # PAE, and no OSFXSR: SSE is #UD
         mov %eax, %cr4
-        mov $root, %eax
+        mov $(root - base), %eax
         mov %eax, %cr3
         mov $0xC0000080, %ecx           # EFER.LME
         rdmsr
         or $0x100, %eax
         wrmsr
         mov %cr0, %eax
-        and $~4, %eax                   # no EM: else SSE is #UD
-        or $0x80000002, %eax            # PG, MP
+        or $0x8000000e, %eax            # PG, MP, EM, TS: x87 and MMX fault too
         mov %eax, %cr0
-        lgdt gdt_at
-        ljmp $8, $long
+        lgdt gdt_at - base
+        ljmp $8, $(long - base)
         .code64
 long:   mov $16, %eax
         mov %eax, %ds
         mov %eax, %es
         mov %eax, %ss
-        mov $stack_top, %esp            # the upper half too, aligned to 16 before the call
+        movabs $high, %rax
+        jmp *%rax
+high:   lgdt gdt_high
+        movq $0, root                   # nothing at 0 any more
+        mov %cr3, %rax
+        mov %rax, %cr3
+        mov $stack_top, %rsp            # aligned to 16 before the call
         xor %ebp, %ebp
         call kernel
 3:      hlt
@@ -76,12 +86,15 @@ fault:  mov (%rsp), %rdi                # number, error code, instruction
         .balign 8
 gdt:    .quad 0, 0x00AF9A000000FFFF, 0x00CF92000000FFFF
 gdt_at: .word . - gdt - 1
-        .long gdt
+        .long gdt - base
+gdt_high: .word 23
+        .quad gdt
 
         .section .bss
         .balign 4096
 root:   .skip 4096
 pointers: .skip 4096
+upper:  .skip 4096
 directories: .skip 4 * 4096
         .globl stack, stack_top
 stack:  .skip 16384

@@ -2,7 +2,7 @@
 #include "lines.h"
 #include "machine.h"
 
-extern uint8_t load_start[], bss_end[];
+extern uint8_t load_start[], bss_end[]; /* physical addresses, by link.ld */
 static const struct printer serial = {to_serial, 0};
 static struct zacpi_range map[128], kept[128];
 static struct zacpi_region regions[128];
@@ -45,11 +45,11 @@ static size_t memory_map(const volatile uint8_t *info) {
     return n;
 }
 
-/* The regions: all of the map below 4 GiB, which is what boot.s maps, from 0x400 on, so that none is at null,
+/* The regions: all of the map below 4 GiB, which is what boot.s maps, from the end of the real-mode vectors on,
  * and without this kernel itself, whose stack and lists are written while calls run. */
 static size_t make_regions(const volatile uint8_t *info) {
     const struct zacpi_range window = {0x400, 0x100000000 - 0x400};
-    const struct zacpi_range own = {(uint64_t)load_start, (uint64_t)(bss_end - load_start)};
+    const struct zacpi_range own = {(uint64_t)load_start, (uint64_t)bss_end - (uint64_t)load_start};
     const size_t room = sizeof kept / sizeof *kept;
     size_t count = 0, n = memory_map(info);
     if (zacpi_clip_ranges(map, n, &own, 1, &window, kept, room, &count)) stop("a range ends too high");
@@ -186,7 +186,7 @@ void kernel(uint32_t magic, uint32_t information) {
     refused = zacpi_open(&source, &root, &named);
     if (!refused) {
         known = from_root(&source, &root);
-        refused = acpi_lines(&known, &root.revision, &serial, &serial, &named);
+        refused = print_lines(&known, &root.revision, &serial, &serial, &named);
     }
     if (refused) {
         say_refused(&serial, "refused", refused, &named);

@@ -9,7 +9,7 @@ static uint8_t in8(uint16_t port) {
     return x;
 }
 
-/* What the archive of LLVM's back end asks for; that of Rattle's asks for nothing. */
+/* What the library asks for. */
 void *memcpy(void *to, const void *from, size_t n) {
     void *answer = to;
     __asm__ volatile("rep movsb" : "+D"(to), "+S"(from), "+c"(n)::"memory");
@@ -59,7 +59,7 @@ uint64_t cycles(void) {
 }
 const volatile uint8_t *at(uint64_t address) {
     __asm__("" : "+r"(address));
-    return (const volatile uint8_t *)address;
+    return (const volatile uint8_t *)(address + 0xffff800000000000); /* where boot.s maps the first 4 GiB */
 }
 uint64_t low(const volatile uint8_t *p, int bytes) {
     uint64_t x = 0;

@@ -1,10 +1,11 @@
 #!/usr/bin/env python3
 """machines.py KERNEL ACPI_VIEW ACPI_PACK [PART]: boots the kernel on every machine below, or on those whose
 names have PART, takes memory from the same machine while the kernel holds, and compares what the kernel
-printed with what acpi_view prints of an image of that memory, line by line, and with checks.py."""
+printed with what acpi_view prints of an image of that memory, line by line, and with checks.py.
+
+machines.py KERNEL --faults: boots a kernel on one machine, on which it has to end with an invalid opcode."""
 import os
 import re
-import select
 import shutil
 import socket
 import struct
@@ -13,10 +14,11 @@ import sys
 import tempfile
 import time
 
-from checks import Memory, check
+sys.path.append(os.path.join(os.path.dirname(os.path.abspath(__file__)), '..'))
+from checks import check, rsdp_in
+from qemu import Memory, connect, lines_until, save
 
-KERNEL, VIEW, PACK = sys.argv[1:4]
-PART = sys.argv[4] if len(sys.argv) > 4 else ''
+KERNEL, VIEW, PACK, PART = (sys.argv[1:] + [''] * 3)[:4]
 FILES = tempfile.TemporaryDirectory()
 NUMA = ['-object', 'memory-backend-ram,id=m0,size=64M', '-object', 'memory-backend-ram,id=m1,size=64M',
         '-numa', 'node,nodeid=0,memdev=m0,cpus=0-1', '-numa', 'node,nodeid=1,memdev=m1,cpus=2-3']
@@ -54,24 +56,6 @@ def machines():
     return all_of
 
 
-def until(stream, end):
-    said = b''
-    while not said.endswith(end):
-        more = stream.recv(65536)
-        if not more:
-            break
-        said += more
-    return said
-
-
-def connect(s, path):
-    """QEMU makes a socket's file before it listens there, so the first tries may fail."""
-    s.settimeout(60)
-    last = time.time() + 20
-    while s.connect_ex(path) and time.time() < last:
-        time.sleep(0.05)
-
-
 def change(path, where, writes):
     """Lets the machine run to an address, and writes into its physical memory: the firmware has made its
     tables by then. QEMU's monitor has no command that writes memory, so its gdb stub does it."""
@@ -97,23 +81,14 @@ def change(path, where, writes):
         ask('D')
 
 
-def dump(path, lines, folder):
+def spans(lines):
     """The memory where tables may lie: the BIOS areas, and what the map calls not free, below 4 GiB."""
-    spans = [(0x400, 0x100010 - 0x400)]
+    answer = [(0x400, 0x100010 - 0x400)]
     for line in lines:
         m = re.match(r'map (\S+) (\S+) type (\d+)', line)
         if m and m[3] != '1' and 0x100000 <= int(m[1], 16) < 1 << 32 and int(m[2], 16) <= 1 << 24:
-            spans.append((int(m[1], 16), int(m[2], 16)))
-    files = []
-    with socket.socket(socket.AF_UNIX) as s:
-        connect(s, path)
-        until(s, b'(qemu) ')
-        for address, length in spans:
-            name = os.path.join(folder, '%x.bin' % address)
-            s.sendall(b'pmemsave 0x%x 0x%x "%s"\n' % (address, length, name.encode()))
-            until(s, b'(qemu) ')
-            files += [hex(address), name]
-    return files
+            answer.append((int(m[1], 16), int(m[2], 16)))
+    return answer
 
 
 def boot(args, folder, writes=None, words='hold', kernel=KERNEL):
@@ -129,17 +104,10 @@ def boot(args, folder, writes=None, words='hold', kernel=KERNEL):
     try:
         if writes is not None:
             change(gdb, ENTRY, writes)
-        said, last = b'', time.time() + 180
-        while not said.endswith(b'end\n') and time.time() < last:
-            if select.select([p.stdout], [], [], 1)[0]:
-                more = os.read(p.stdout.fileno(), 65536)
-                if not more:
-                    break
-                said += more
-        lines = said.decode('latin1').replace('\r', '').splitlines()
+        lines = lines_until(p, b'end', 180)
         files = []
         if p.poll() is None and lines and lines[-1] == 'end':
-            files = dump(monitor, lines, folder)
+            files = save(monitor, spans(lines), folder)
             p.stdin.write(b'\n')
             p.stdin.flush()
         return lines, files, p.wait(60)
@@ -153,7 +121,7 @@ def boot(args, folder, writes=None, words='hold', kernel=KERNEL):
 def cases(lines, memory):
     """Wrong machines: what is written where, over the tables that a first boot showed."""
     at = {l.split()[1]: int(l.split()[2], 16) for l in lines if l.startswith('listed ')}
-    rsdp = memory.rsdp()
+    rsdp = rsdp_in(memory)
     at['DSDT'] = int(next(l for l in lines if l.startswith('dsdt ')).split()[1], 16) - 36
     root = bytearray(memory.bytes_at(rsdp)[:20])
     at['RSDT'] = struct.unpack_from('<I', root, 16)[0]  # RsdtAddress
@@ -216,7 +184,7 @@ ECAM = {
 def told(lines, memory):
     """Machines whose kernel is told of an RSDP, or whose path looks as if it were. The copy lies in reserved memory
     that no search looks at, after the tables."""
-    rsdp = memory.rsdp()
+    rsdp = rsdp_in(memory)
     root = memory.bytes_at(rsdp)[:36]
     spans = [[int(x, 16) for x in l.split()[1:3]] for l in lines if l.startswith('map ') and l.endswith(' type 2')]
     table = int(next(l for l in lines if l.startswith('listed ')).split()[2], 16)
@@ -262,10 +230,22 @@ def symbol(name):
     sys.exit('no %s in %s' % (name, KERNEL))
 
 
-ENTRY, IMAGE = symbol('entry'), (symbol('load_start'), symbol('bss_end'))
+ENTRY, IMAGE = symbol('start'), (symbol('load_start'), symbol('bss_end'))
+
+
+def faults():
+    """Whether a kernel whose library uses SSE ends as boot.s has it: by fault 6, with the status 37."""
+    with tempfile.TemporaryDirectory() as folder:
+        lines, _, status = boot(machines()['q35 4 128M'], folder)
+    good = status == 37 and lines[-1].startswith('fault 6 ')
+    print('%s: the control, a library that uses SSE: %s' % ('ok' if good else 'FAILED', lines[-1:]))
+    print('%d passed, %d failed' % (1 + good, not good))  # the build was the first
+    return 0 if good else 1
 
 
 def main():
+    if VIEW == '--faults':
+        return faults()
     passed = failed = 0
     changed = {}
     for name, args in machines().items():

@@ -1,0 +1,82 @@
+"""What the runners of `kernel` and `uefi` share: a machine of QEMU, what its serial port says, and its memory."""
+import os
+import re
+import select
+import socket
+import struct
+import time
+
+
+class Memory:
+    """Files of memory, as pairs of an address and a name."""
+    def __init__(self, files):
+        self.spans = []
+        for start, name in zip(files[::2], files[1::2]):
+            with open(name, 'rb') as f:
+                self.spans.append((int(start, 16), f.read()))
+
+    def bytes_at(self, address):
+        for start, data in self.spans:
+            if start <= address < start + len(data):
+                return data[address - start:]
+        return b''
+
+    def table_at(self, address):
+        """As many bytes as the table's Length says, at 4; none if its header isn't there."""
+        data = self.bytes_at(address)
+        return bytearray(data[:struct.unpack_from('<I', data, 4)[0]]) if len(data) >= 36 else bytearray()
+
+    def stands(self, address, signature):
+        t = self.table_at(address)
+        return t[:4] == signature.encode('latin1') and sum(t) & 255 == 0
+
+
+def numbers(lines, word):
+    """The hexadecimal numbers of the lines that begin with a word."""
+    return [[int(x, 16) for x in l.split() if x.startswith('0x')] for l in lines if l.startswith(word + ' ')]
+
+
+def connect(s, path):
+    """QEMU makes a socket's file before it listens there, so the first tries may fail."""
+    s.settimeout(60)
+    last = time.time() + 20
+    while s.connect_ex(path) and time.time() < last:
+        time.sleep(0.05)
+
+
+def until(stream, end):
+    said = b''
+    while not said.endswith(end):
+        more = stream.recv(65536)
+        if not more:
+            break
+        said += more
+    return said
+
+
+def save(monitor, spans, folder):
+    """Saves ranges of the machine's memory by QEMU's monitor: pairs of an address and a file's name, one after the
+    other, as acpi_pack takes them."""
+    files = []
+    with socket.socket(socket.AF_UNIX) as s:
+        connect(s, monitor)
+        until(s, b'(qemu) ')
+        for address, length in spans:
+            name = os.path.join(folder, '%x.bin' % address)
+            s.sendall(b'pmemsave 0x%x 0x%x "%s"\n' % (address, length, name.encode()))
+            until(s, b'(qemu) ')
+            files += [hex(address), name]
+    return files
+
+
+def lines_until(p, end, seconds):
+    """The lines that a machine prints until one of them is an end, it stops, or so many seconds have passed."""
+    said, last = b'', time.time() + seconds
+    while not re.search(rb'^(%s)\r?\n' % end, said, re.M):
+        more = b''
+        if select.select([p.stdout], [], [], max(0, last - time.time()))[0]:
+            more = os.read(p.stdout.fileno(), 65536)
+        if not more:
+            break
+        said += more
+    return said.decode('latin1').replace('\r', '').splitlines()

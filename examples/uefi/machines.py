@@ -1,0 +1,125 @@
+#!/usr/bin/env python3
+"""machines.py PROCESSOR APP ACPI_VIEW ACPI_PACK: boots the application by UEFI's firmware on the machines below, takes
+memory from the same machine after its last line, and compares what it printed with what acpi_view prints of an
+image of that memory, line by line, and with the memory map and the bytes of the MADT.
+
+machines.py aarch64 APP --faults: boots an application on one machine, on which it has to end with the fault of an
+instruction of vector registers."""
+import os
+import re
+import shutil
+import struct
+import subprocess
+import sys
+import tempfile
+import time
+
+sys.path.append(os.path.join(os.path.dirname(os.path.abspath(__file__)), '..'))
+from qemu import Memory, lines_until, numbers, save
+
+PROCESSOR, APP, VIEW, PACK = (sys.argv[1:] + [''])[:4]
+OWN = re.compile(r'(map|region|rsdp|gicc|gicr|begin|end)\b')
+CODE, VARIABLES, NAME = {
+    'x86_64': ('/usr/share/OVMF/OVMF_CODE_4M.fd', '/usr/share/OVMF/OVMF_VARS_4M.fd', 'BOOTX64.EFI'),
+    'aarch64': ('/usr/share/AAVMF/AAVMF_CODE.fd', '/usr/share/AAVMF/AAVMF_VARS.fd', 'BOOTAA64.EFI'),
+}[PROCESSOR]
+MACHINES = {
+    'x86_64': {'q35 4': ['-machine', 'q35', '-m', '256M', '-smp', '4']},
+    'aarch64': {
+        'virt GICv3 4': ['-machine', 'virt,gic-version=3', '-cpu', 'cortex-a57', '-m', '512M', '-smp', '4'],
+        'virt GICv2 2': ['-machine', 'virt,gic-version=2', '-cpu', 'cortex-a57', '-m', '512M', '-smp', '2'],
+    },
+}[PROCESSOR]
+
+
+def boot(args, folder):
+    """What the application prints, and the files of the memory of its regions."""
+    monitor, disk = os.path.join(folder, 'monitor'), os.path.join(folder, 'disk')
+    os.makedirs(os.path.join(disk, 'EFI', 'BOOT'))
+    shutil.copyfile(APP, os.path.join(disk, 'EFI', 'BOOT', NAME))
+    shutil.copyfile(VARIABLES, os.path.join(folder, 'variables'))
+    flash = 'if=pflash,format=raw,file='
+    command = ['qemu-system-' + PROCESSOR, '-display', 'none', '-no-reboot', '-net', 'none', '-accel', 'tcg',
+               '-serial', 'stdio', '-monitor', 'unix:%s,server=on,wait=off' % monitor,
+               '-drive', flash + CODE + ',readonly=on', '-drive', flash + os.path.join(folder, 'variables'),
+               '-drive', 'if=none,id=disk,format=raw,file=fat:rw:' + disk, '-device', 'virtio-blk-pci,drive=disk']
+    p = subprocess.Popen(command + args, stdin=subprocess.DEVNULL, stdout=subprocess.PIPE, stderr=subprocess.STDOUT)
+    try:
+        lines, files = lines_until(p, b'end|fault .*', 120), []
+        if lines and lines[-1] == 'end':
+            lines = lines[lines.index('begin'):]
+            files = save(monitor, [tuple(span) for span in numbers(lines, 'region')], folder)
+        return lines, files
+    finally:
+        p.kill()
+        p.wait()
+
+
+def regions(lines):
+    """The regions that the map's types 9 and 10 make: joined, and from 0x1000 on."""
+    answer = []
+    for start, length in sorted(numbers([l for l in lines if re.search(r' type (9|10)$', l)], 'map')):
+        if length and answer and sum(answer[-1]) == start:
+            answer[-1][1] += length
+        elif length:
+            answer.append([start, length])
+    return ['region %#x %#x' % (a, n) for a, n in answer]
+
+
+def gic(memory, rsdp):
+    """The lines of the MADT's entries. Of the RSDP, XsdtAddress is at 24. Of GICC, type 11, ACPI Processor UID is at 8,
+    Flags at 12 and MPIDR at 68; of GICR, type 14, the range is at 4 and its length at 12 (sections 5.2.12.14 and 17)."""
+    xsdt = memory.table_at(struct.unpack_from('<Q', memory.bytes_at(rsdp), 24)[0])
+    tables = [memory.table_at(a) for a, in struct.iter_unpack('<Q', xsdt[36:])]
+    madt = next(t for t in tables if t[:4] == b'APIC')
+    processors, redistributors, at = [], [], 44
+    while at < len(madt):
+        if madt[at] == 11:
+            uid, flags, mpidr = (struct.unpack_from(f, madt, at + k)[0] for f, k in (('<I', 8), ('<I', 12), ('<Q', 68)))
+            processors.append('gicc uid %d mpidr %#x %s' % (uid, mpidr, 'enabled' if flags & 1 else 'disabled'))
+        if madt[at] == 14:
+            redistributors.append('gicr %#x %#x' % struct.unpack_from('<QI', madt, at + 4))
+        at += madt[at + 1]
+    return processors + redistributors
+
+
+def check(lines, files, folder):
+    """What is wrong with the lines, and how many of them were compared with acpi_view's."""
+    if not files:
+        return ['no dump: it said last %r' % lines[-4:]], 0
+    memory, packed, wrong = Memory(files), os.path.join(folder, 'image'), []
+    rsdp = numbers(lines, 'rsdp')[0][0]
+    subprocess.run([PACK, packed, 'memory'] + files, check=True, capture_output=True)
+    view = subprocess.run([VIEW, packed, 'rsdp', hex(rsdp)], capture_output=True, text=True)
+    mine, theirs = [l for l in lines if not OWN.match(l)], view.stdout.splitlines() + view.stderr.splitlines()
+    if mine != theirs or view.returncode or not any(l.startswith('table APIC ') for l in mine):
+        wrong.append('application %r acpi_view %r' % (mine, theirs))
+    for right, words in ((regions(lines), 'region'), (gic(memory, rsdp), 'gic[cr]')):
+        got = [l for l in lines if re.match(words + r'\b', l)]
+        if got != right:
+            wrong.append('%s: %r, not %r' % (words, got, right))
+    return wrong, len(mine)
+
+
+def main():
+    failed = 0
+    machines = MACHINES if VIEW != '--faults' else dict(list(MACHINES.items())[:1])
+    for name, args in machines.items():
+        began = time.time()
+        with tempfile.TemporaryDirectory() as folder:
+            lines, files = boot(args, folder)
+            if VIEW == '--faults':
+                wrong = [] if lines[-1:] == ['fault vectors'] else ['it said last %r' % lines[-4:]]
+                what = 'the control, a library that uses vector registers: %r' % lines[-1:]
+            else:
+                wrong, compared = check(lines, files, folder)
+                what = '%d lines as acpi_view, %d of the GIC' % (compared, len([l for l in lines if l.startswith('gic')]))
+        print('%s: %s, UEFI: %s (%.1f s)' % ('FAILED' if wrong else 'ok', name, what, time.time() - began))
+        for w in wrong:
+            print('   ', w)
+        failed += bool(wrong)
+    print('%d passed, %d failed' % (len(machines) - failed + 1, failed))  # the build was the first
+    return 1 if failed else 0
+
+
+sys.exit(main())
