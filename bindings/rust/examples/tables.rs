@@ -22,7 +22,7 @@ fn eight(bytes: &[u8]) -> u64 {
 }
 
 /// The regions of an image, in ascending order and without those of no byte, or what acpi_view says of an image that
-/// it refuses. docs/SAMPLES.md has the layout of images.
+/// it refuses. crates/acpi_dump/data/README.md has the layout of images.
 fn regions(mut image: &[u8]) -> Result<Vec<Region<'_>>, &'static str> {
     let mut found: Vec<Region<'_>> = Vec::new();
     let end = |r: &Region<'_>| r.address() + r.bytes().len() as u64;

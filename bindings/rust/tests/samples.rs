@@ -1,4 +1,4 @@
-//! Sample images of the repository, of which docs/SAMPLES.md says what they hold.
+//! Sample images of the repository, of which crates/acpi_dump/data/README.md says what they hold.
 use std::fs;
 use std::path::Path;
 use zacpi::fadt::Fadt;

@@ -1,5 +1,5 @@
 //! The library for C, and for Rust without std. `include/zacpi.h` says of each call what it answers, in which order it
-//! refuses, and what a caller keeps; `docs/CALLING.md` says what a caller has to know besides. Sections are those of
+//! refuses, and what a caller keeps; `docs/C.md` says what a caller has to know besides. Sections are those of
 //! ACPI 6.4 unless another document is named.
 //!
 //! Each export can be called with any numbers: it checks the regions, opens the tables anew, and answers 0, or the

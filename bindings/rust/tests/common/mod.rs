@@ -70,7 +70,7 @@ impl Memory {
     }
 }
 
-/// The bytes of a sample image's only record: docs/SAMPLES.md says what it holds.
+/// The bytes of a sample image's only record: crates/acpi_dump/data/README.md says what it holds.
 pub fn record_of(image: &[u8]) -> (u64, &[u8]) {
     (u64::from_le_bytes(image[..8].try_into().unwrap()), &image[16..])
 }
