@@ -62,7 +62,10 @@ fn opens_a_root_table() {
     assert_eq!(new.headers().count(), Ok(2));
     let by_xsdt = AcpiTables::from_rsdt(&regions, 2, xsdt).unwrap();
     assert_eq!(by_xsdt.root(), new.root());
-    assert_eq!(AcpiTables::from_rsdt(&regions, 5, xsdt).unwrap().revision(), 5);
+    for revision in [1, 5] {
+        let tables = AcpiTables::from_rsdt(&regions, revision, xsdt).unwrap();
+        assert_eq!((tables.revision(), tables.root().address), (revision, xsdt));
+    }
     assert_eq!(AcpiTables::open(&regions, Start::Xsdt(xsdt)).unwrap().root(), new.root());
     let refused = |start| AcpiTables::open(&regions, start).unwrap_err();
     assert_eq!(refused(Start::Rsdt(xsdt)), AcpiError::SdtInvalidSignature(Signature::RSDT));
