@@ -47,11 +47,17 @@
  *                      lent, ZACPI_RSDP_INVALID_CHECKSUM for them (section 5.2.5.3); then as a start at the
  *                      root table that it names: the XSDT if the revision is above 0 and XsdtAddress isn't
  *                      0, else the RSDT
- *   search             ZACPI_MAP_FAILED if the word at 0x40e (the segment of the EBDA), or a BIOS area that is
- *                      asked for with the 16 bytes after it, isn't lent, ZACPI_NO_VALID_RSDP (section
- *                      5.2.5.1); then as a start at the root table that the RSDP names. The areas are 0xe0000 to
- *                      0xfffff and, if no RSDP there is valid, the EBDA's first KiB, or 0x80000 to 0x9ffff if it
- *                      doesn't begin in these. An RSDP begins at a multiple of 16, with 20 bytes in the area
+ *   search             ZACPI_NO_VALID_RSDP (section 5.2.5.1); then as a start at the root table that the RSDP names.
+ *                      The areas are the EBDA's first KiB as far as it lies below 0xa0000, if the word at 0x40e (the
+ *                      segment of the EBDA) is lent and the EBDA begins at 0x400 or above, and then 0xe0000 to
+ *                      0xfffff. An RSDP begins at a multiple of 16, with 20 bytes in the area. The first one is taken
+ *                      that a start at an RSDP wouldn't refuse: one that isn't lent is passed over like any other that
+ *                      isn't valid, so that no area has to be lent
+ *   BIOS search        ZACPI_MAP_FAILED if the word at 0x40e, or an area that is asked for with the 16 bytes after it,
+ *                      isn't lent, ZACPI_NO_VALID_RSDP (section 5.2.5.1); then as a start at the root table that
+ *                      the RSDP names. The areas are 0xe0000 to 0xfffff and, if no RSDP there is valid, the EBDA's
+ *                      first KiB, or 0x80000 to 0x9ffff if it doesn't begin in these. RSDPs begin and are passed over
+ *                      as above
  *   RSDT or XSDT       ZACPI_MAP_FAILED if 36 bytes aren't lent, ZACPI_SDT_INVALID_SIGNATURE, ..._OEM_ID,
  *                      ..._TABLE_ID, ..._LENGTH if its Length is under 36, ZACPI_MAP_FAILED if that many bytes
  *                      aren't lent, ZACPI_SDT_INVALID_CHECKSUM (sections 5.2.6 to 5.2.8); those that carry a
@@ -158,7 +164,10 @@ enum zacpi_start {
     ZACPI_START_RSDP = 0,       /* `address` is that of the RSDP, as a loader or UEFI passes it (section 5.2.5.2) */
     ZACPI_START_RSDT = 1,       /* `address` is that of the RSDT: pointers of four bytes (section 5.2.7) */
     ZACPI_START_XSDT = 2,       /* `address` is that of the XSDT: pointers of eight bytes (section 5.2.8) */
-    ZACPI_START_BIOS_SEARCH = 3 /* the RSDP is searched for in the BIOS areas; `address` isn't looked at */
+    ZACPI_START_BIOS_SEARCH = 3, /* the RSDP is searched for in the BIOS areas, each of which has to be lent in one
+                                  * piece; `address` isn't looked at */
+    ZACPI_START_SEARCH = 4       /* the RSDP is searched for in the BIOS areas as far as they are lent; `address` isn't
+                                  * looked at */
 };
 
 /* Where tables are looked for. The regions stand in ascending order and share no byte: each, also one of no bytes,
@@ -216,9 +225,13 @@ zacpi_status zacpi_open(const struct zacpi_source *source, struct zacpi_root *ou
  * are opened, it is one for each member of the root table, in order, that is passed over with ZACPI_MAP_FAILED: its 36
  * bytes of header (section 5.2.6), or as many bytes as its header says. One for the DSDT and one for the FACS of the
  * first valid FADT come after these, for the same reason (sections 5.2.11.1 and 5.2.10; the FACS needs its Signature
- * and a Length of at least 64 before so many bytes are asked for). There is none if opening refuses otherwise. Each has
- * at least two bytes. Refuses: ZACPI_REGIONS_NOT_ASCENDING, ZACPI_REGION_TOO_HIGH, ZACPI_UNKNOWN_START, and nothing
- * else. */
+ * and a Length of at least 64 before so many bytes are asked for).
+ * Before all of these, also if opening refuses otherwise, a search has one for each RSDP that it passes over because of
+ * its Length, in the order of the search, up to the one that it takes: an RSDP whose 36 bytes are lent, and that is
+ * refused with ZACPI_MAP_FAILED since as many bytes as its Length says aren't; these are the range. A BIOS search comes
+ * to none if the word or the first area isn't lent. ZACPI_START_SEARCH asks for nothing of the areas that isn't lent, so
+ * neither the word at 0x40e nor an RSDP's 36 bytes are ever among the ranges. Each range has at least two bytes.
+ * Refuses: ZACPI_REGIONS_NOT_ASCENDING, ZACPI_REGION_TOO_HIGH, ZACPI_UNKNOWN_START, and nothing else. */
 zacpi_status zacpi_list_missing_ranges(const struct zacpi_source *source, struct zacpi_range *out, size_t room,
                                      size_t *count, struct zacpi_signature *named);
 
@@ -464,34 +477,44 @@ struct zacpi_processor { /* Processor Local APIC and Processor Local x2APIC, sec
 
 /* Which controllers interrupts come to, and how many items the five lists below have, by the first valid MADT
  * (section 5.2.12). A machine without a valid MADT, or whose MADT has no entry of a machine with APICs (Types 0 to 5, 9
- * and 0xa: a Multiprocessor Wakeup, 0x10, is none), is no refusal: the model isn't known, and the lists are empty.
+ * and 0xa: a Multiprocessor Wakeup, 0x10, is none), is no refusal here: the model isn't known, and the calls below refuse
+ * with ZACPI_NO_APICS.
  * Refuses then: ZACPI_TABLE_MISSING "FACP", 25 to 31 of enum zacpi_refusal for the first entry of the MADT at fault, in
  * the order of its entries, and of one entry's faults the least, and ZACPI_INVALID_GENERIC_ADDRESS if zacpi_pm_timer
  * refuses with that. */
 zacpi_status zacpi_interrupt_model(const struct zacpi_source *source, struct zacpi_interrupt_model *out,
                                  struct zacpi_signature *named);
-/* The I/O APICs, in the order of the first valid MADT (section 5.2.12.3). Empty if the model isn't known. Refuses then
- * as zacpi_interrupt_model does. */
+/* The I/O APICs, in the order of the first valid MADT (section 5.2.12.3). Refuses then as zacpi_interrupt_model does, and
+ * with ZACPI_NO_APICS if the model isn't known. */
 zacpi_status zacpi_list_io_apics(const struct zacpi_source *source, struct zacpi_io_apic *out, size_t room, size_t *count,
                                struct zacpi_signature *named);
-/* The Interrupt Source Override entries (section 5.2.12.5), in the order of the first valid MADT. Empty if the model
- * isn't known. Refuses then as zacpi_interrupt_model does. */
+/* The Interrupt Source Override entries (section 5.2.12.5), in the order of the first valid MADT. Refuses then as
+ * zacpi_interrupt_model does, and with ZACPI_NO_APICS if the model isn't known. */
 zacpi_status zacpi_list_overrides(const struct zacpi_source *source, struct zacpi_override *out, size_t room, size_t *count,
                                 struct zacpi_signature *named);
 /* The NMI Source entries (section 5.2.12.6), which name the I/O APIC pins that are non-maskable, in the order of the
- * first valid MADT. Empty if the model isn't known. Refuses then as zacpi_interrupt_model does. */
+ * first valid MADT. Refuses then as zacpi_interrupt_model does, and with ZACPI_NO_APICS if the model isn't known. */
 zacpi_status zacpi_list_nmi_sources(const struct zacpi_source *source, struct zacpi_nmi_source *out, size_t room,
                                   size_t *count, struct zacpi_signature *named);
 /* The Local APIC NMI and Local x2APIC NMI entries (sections 5.2.12.7 and 5.2.12.13), which name LINT pins, in the order
- * of the first valid MADT. Those of one processor are those with `of_all`, and those with its uid. Empty if the model
- * isn't known. Refuses then as zacpi_interrupt_model does. */
+ * of the first valid MADT. Those of one processor are those with `of_all`, and those with its uid. Refuses then as
+ * zacpi_interrupt_model does, and with ZACPI_NO_APICS if the model isn't known. */
 zacpi_status zacpi_list_nmi_lines(const struct zacpi_source *source, struct zacpi_nmi_line *out, size_t room, size_t *count,
                                 struct zacpi_signature *named);
 /* The processors, in the order of the first valid MADT: the first is the boot processor, also if it is disabled
- * (sections 5.2.12.1, 5.2.12.2 and 5.2.12.12). Empty if the model isn't known. Refuses then as zacpi_interrupt_model
- * does. */
+ * (sections 5.2.12.1, 5.2.12.2 and 5.2.12.12). Refuses then as zacpi_interrupt_model does, and with ZACPI_NO_APICS if the
+ * model isn't known. */
 zacpi_status zacpi_list_processors(const struct zacpi_source *source, struct zacpi_processor *out, size_t room,
                                  size_t *count, struct zacpi_signature *named);
+
+/* All of these at once, for about what one of them costs: into `out` what zacpi_interrupt_model answers, and into each
+ * list what its call above answers, as many items as there is room for; how many there are in all is in `out`. Refuses
+ * then as zacpi_interrupt_model does, and with ZACPI_NO_APICS if the model isn't known. */
+zacpi_status zacpi_platform(const struct zacpi_source *source, struct zacpi_interrupt_model *out,
+                          struct zacpi_processor *processors, size_t processors_room, struct zacpi_io_apic *io_apics,
+                          size_t io_apics_room, struct zacpi_override *overrides, size_t overrides_room,
+                          struct zacpi_nmi_source *nmi_sources, size_t nmi_sources_room,
+                          struct zacpi_nmi_line *nmi_lines, size_t nmi_lines_room, struct zacpi_signature *named);
 
 struct zacpi_interrupt {
     uint32_t global_system_interrupt;

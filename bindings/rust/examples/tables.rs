@@ -1,7 +1,7 @@
 //! tables IMAGE rsdt REVISION ADDRESS | rsdp ADDRESS | bios: what acpi_view prints, through the library.
 use zacpi::{
-    AcpiResult, AcpiTables, AmlTable, Fault, FixedHardware, InterruptModel, InterruptSourceOverride, IoApic, List,
-    NmiLine, NmiSource, PciRegion, PmTimer, Processor, Region, Signature, Table,
+    AcpiError, AcpiResult, AcpiTables, AmlTable, Fault, FixedHardware, InterruptModel, InterruptSourceOverride, IoApic,
+    List, NmiLine, NmiSource, PciRegion, Platform, PlatformRoom, PmTimer, Processor, Region, Signature, Table,
 };
 use std::process::ExitCode;
 
@@ -71,20 +71,44 @@ fn flags(polarity: u8, trigger: u8) -> String {
     format!("{} {}", name(polarity, "high", "low"), name(trigger, "edge", "level"))
 }
 
-fn print_interrupts(tables: &AcpiTables<'_>) {
-    each(tables.io_apics(&mut [IoApic::default(); MOST]), |a| {
+fn print_interrupts(found: &Platform<'_>) {
+    each(Ok(found.io_apics), |a| {
         println!("ioapic {} {:#x} {}", a.id, a.address, a.global_system_interrupt_base)
     });
-    each(tables.interrupt_source_overrides(&mut [InterruptSourceOverride::default(); MOST]), |o| {
+    each(Ok(found.overrides), |o| {
         println!("override {} {} {}", o.isa_source, o.global_system_interrupt, flags(o.polarity, o.trigger))
     });
-    each(tables.nmi_sources(&mut [NmiSource::default(); MOST]), |n| {
+    each(Ok(found.nmi_sources), |n| {
         println!("nmi {} {}", n.global_system_interrupt, flags(n.polarity, n.trigger))
     });
-    each(tables.local_apic_nmi_lines(&mut [NmiLine::default(); MOST]), |n| {
+    each(Ok(found.nmi_lines), |n| {
         let of = if n.of_all != 0 { "all".to_string() } else { n.processor_uid.to_string() };
         println!("line {of} lint{}", n.lint)
     });
+    each(Ok(found.processors), |p| {
+        let state = ["disabled", "waiting", "running"][p.state as usize];
+        println!("processor {} {} {state}", p.uid, p.local_apic_id)
+    });
+}
+
+/// The model and its lists.
+fn print_model(tables: &AcpiTables<'_>) {
+    let room = PlatformRoom {
+        processors: &mut [Processor::default(); MOST],
+        io_apics: &mut [IoApic::default(); MOST],
+        overrides: &mut [InterruptSourceOverride::default(); MOST],
+        nmi_sources: &mut [NmiSource::default(); MOST],
+        nmi_lines: &mut [NmiLine::default(); MOST],
+    };
+    match tables.platform(room) {
+        Ok(found) => {
+            let pics = if found.model.also_has_8259 != 0 { "yes" } else { "no" };
+            println!("model apic {:#x} pics {pics}", found.model.local_apic_address);
+            print_interrupts(&found);
+        }
+        Err(AcpiError::NoApics) => println!("model unknown"),
+        Err(refused) => println!("model: {refused}"),
+    }
 }
 
 fn platform(tables: &AcpiTables<'_>) -> AcpiResult<(InterruptModel, PmTimer, FixedHardware)> {
@@ -92,22 +116,12 @@ fn platform(tables: &AcpiTables<'_>) -> AcpiResult<(InterruptModel, PmTimer, Fix
 }
 
 fn print_platform(tables: &AcpiTables<'_>) {
-    let (model, timer, fixed) = match platform(tables) {
+    let (_, timer, fixed) = match platform(tables) {
         Ok(found) => found,
         Err(refused) => return println!("platform: {refused}"),
     };
     println!("platform profile {}", fixed.power_profile);
-    if model.known != 0 {
-        let pics = if model.also_has_8259 != 0 { "yes" } else { "no" };
-        println!("model apic {:#x} pics {pics}", model.local_apic_address);
-        print_interrupts(tables);
-    } else {
-        println!("model unknown");
-    }
-    each(tables.processors(&mut [Processor::default(); MOST]), |p| {
-        let state = ["disabled", "waiting", "running"][p.state as usize];
-        println!("processor {} {} {state}", p.uid, p.local_apic_id)
-    });
+    print_model(tables);
     if timer.present != 0 {
         println!("timer {:#x} bits {}", timer.base.address, if timer.is_32_bit != 0 { 32 } else { 24 });
     } else {

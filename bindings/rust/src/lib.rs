@@ -39,6 +39,11 @@ pub struct List<'b, T> {
 }
 
 impl<'b, T> List<'b, T> {
+    /// What was written of so many items, as far as there was room.
+    fn written(room: &'b [T], count: usize) -> Self {
+        List { items: &room[..count.min(room.len())], count }
+    }
+
     /// The items that there was room for.
     pub fn items(&self) -> &'b [T] {
         self.items
@@ -95,8 +100,7 @@ pub fn clip_ranges<'b>(
     if status != 0 {
         return Err(AcpiError::of(status, Signature::default()));
     }
-    let shown = count.min(room.len());
-    Ok(List { items: &room[..shown], count })
+    Ok(List::written(room, count))
 }
 
 /// Where a root table is looked for.
@@ -108,12 +112,14 @@ pub enum Start {
     Rsdt(u64),
     /// As an XSDT at an address (section 5.2.8).
     Xsdt(u64),
-    /// By the RSDP that the BIOS areas hold (section 5.2.5.1).
+    /// By the RSDP that the BIOS areas hold (section 5.2.5.1), each of which is lent in one piece.
     BiosSearch,
+    /// By the RSDP that the BIOS areas hold as far as they are lent (section 5.2.5.1).
+    Search,
 }
 
-/// The ranges that were asked for, and that lie in no one region: that which opening the tables was refused, or
-/// those of the members, the DSDT and the FACS. A kernel maps those that it can, joins them with the ranges of
+/// The ranges that were asked for, and that lie in no one region: those of a search's candidates, and then that which
+/// opening the tables was refused, or those of the members, the DSDT and the FACS. A kernel maps those that it can, joins them with the ranges of
 /// its regions (`clip_ranges`), and asks again, until no new range comes. Refuses with `RegionsNotAscending` and
 /// `RegionTooHigh`, and with nothing else.
 pub fn missing_ranges<'b>(
@@ -126,6 +132,7 @@ pub fn missing_ranges<'b>(
         Start::Rsdt(address) => (1, address),
         Start::Xsdt(address) => (2, address),
         Start::BiosSearch => (3, 0),
+        Start::Search => (4, 0),
     };
     let source = Source { regions: regions.as_ptr(), regions_length: regions.len(), address, start };
     let (mut count, mut named) = (0, Signature::default());
@@ -136,8 +143,29 @@ pub fn missing_ranges<'b>(
     if status != 0 {
         return Err(AcpiError::of(status, named));
     }
-    let shown = count.min(room.len());
-    Ok(List { items: &room[..shown], count })
+    Ok(List::written(room, count))
+}
+
+/// Room for the lists of `AcpiTables::platform`; none by default.
+#[derive(Debug, Default)]
+pub struct PlatformRoom<'b> {
+    pub processors: &'b mut [Processor],
+    pub io_apics: &'b mut [IoApic],
+    pub overrides: &'b mut [InterruptSourceOverride],
+    pub nmi_sources: &'b mut [NmiSource],
+    pub nmi_lines: &'b mut [NmiLine],
+}
+
+/// The interrupt model of a machine with APICs (MADT, section 5.2.12), with its lists.
+#[derive(Clone, Copy, Debug)]
+pub struct Platform<'b> {
+    pub model: InterruptModel,
+    /// The boot processor first.
+    pub processors: List<'b, Processor>,
+    pub io_apics: List<'b, IoApic>,
+    pub overrides: List<'b, InterruptSourceOverride>,
+    pub nmi_sources: List<'b, NmiSource>,
+    pub nmi_lines: List<'b, NmiLine>,
 }
 
 /// The tables of a machine. Each call opens them anew in the regions, so nothing is kept between calls. Each refuses
@@ -175,8 +203,7 @@ macro_rules! lists {
             if status != 0 {
                 return Err(AcpiError::of(status, named));
             }
-            let shown = count.min(room.len());
-            Ok(List { items: &room[..shown], count })
+            Ok(List::written(room, count))
         })*
     };
 }
@@ -207,6 +234,14 @@ impl<'k> AcpiTables<'k> {
         Self::opened(regions, 0, 3)
     }
 
+    /// The tables below the root table of the RSDP that the BIOS areas hold as far as they are lent (section 5.2.5.1).
+    ///
+    /// Refuses with `RegionsNotAscending` and `RegionTooHigh`, with `NoValidRsdp`, and then as `from_rsdt` does for the
+    /// root table.
+    pub fn search(regions: &'k [Region<'k>]) -> AcpiResult<Self> {
+        Self::opened(regions, 0, 4)
+    }
+
     fn opened(regions: &'k [Region<'k>], address: u64, start: u32) -> AcpiResult<Self> {
         let source = Source { regions: regions.as_ptr(), regions_length: regions.len(), address, start };
         let mut tables = AcpiTables { source, root: Root::default(), lent: PhantomData };
@@ -222,6 +257,41 @@ impl<'k> AcpiTables<'k> {
     /// Revision of the RSDP; 0 if opened at an RSDT, 2 if at an XSDT.
     pub fn revision(&self) -> u8 {
         self.root.revision
+    }
+
+    /// The interrupt model and all its lists at once, each as the call for it alone answers it. Refuses as
+    /// `interrupt_model` does, and with `NoApics`.
+    pub fn platform<'b>(&self, room: PlatformRoom<'b>) -> AcpiResult<Platform<'b>> {
+        let (mut model, mut named) = (InterruptModel::default(), Signature::default());
+        // SAFETY: the source holds live slices; the outputs are live, disjoint and initialised.
+        let status = unsafe {
+            raw::zacpi_platform(
+                &self.source,
+                &mut model,
+                room.processors.as_mut_ptr(),
+                room.processors.len(),
+                room.io_apics.as_mut_ptr(),
+                room.io_apics.len(),
+                room.overrides.as_mut_ptr(),
+                room.overrides.len(),
+                room.nmi_sources.as_mut_ptr(),
+                room.nmi_sources.len(),
+                room.nmi_lines.as_mut_ptr(),
+                room.nmi_lines.len(),
+                &mut named,
+            )
+        };
+        if status != 0 {
+            return Err(AcpiError::of(status, named));
+        }
+        Ok(Platform {
+            model,
+            processors: List::written(room.processors, model.processors),
+            io_apics: List::written(room.io_apics, model.io_apics),
+            overrides: List::written(room.overrides, model.overrides),
+            nmi_sources: List::written(room.nmi_sources, model.nmi_sources),
+            nmi_lines: List::written(room.nmi_lines, model.nmi_lines),
+        })
     }
 
     ones! {
@@ -304,17 +374,18 @@ impl<'k> AcpiTables<'k> {
         /// The memory that each region of PCI configuration space takes, with its base taken as that of bus 0, in the
         /// order of the MCFG. Refuses with `TableMissing`.
         ecam_ranges = zacpi_list_ecam_ranges() -> EcamRange;
-        /// The I/O APICs (section 5.2.12.3). Refuses as `interrupt_model` does.
+        /// The I/O APICs (section 5.2.12.3). Refuses as `interrupt_model` does, and with `NoApics`.
         io_apics = zacpi_list_io_apics() -> IoApic;
-        /// The Interrupt Source Override entries (section 5.2.12.5). Refuses as `interrupt_model` does.
+        /// The Interrupt Source Override entries (section 5.2.12.5). Refuses as `interrupt_model` does, and with
+        /// `NoApics`.
         interrupt_source_overrides = zacpi_list_overrides() -> InterruptSourceOverride;
-        /// The NMI Source entries (section 5.2.12.6). Refuses as `interrupt_model` does.
+        /// The NMI Source entries (section 5.2.12.6). Refuses as `interrupt_model` does, and with `NoApics`.
         nmi_sources = zacpi_list_nmi_sources() -> NmiSource;
         /// The Local APIC NMI and Local x2APIC NMI entries (sections 5.2.12.7 and 5.2.12.13). Refuses as
-        /// `interrupt_model` does.
+        /// `interrupt_model` does, and with `NoApics`.
         local_apic_nmi_lines = zacpi_list_nmi_lines() -> NmiLine;
         /// The processors, the boot processor first (sections 5.2.12.2 and 5.2.12.12). Refuses as `interrupt_model`
-        /// does.
+        /// does, and with `NoApics`.
         processors = zacpi_list_processors() -> Processor;
         /// The processors' interfaces to the GIC (section 5.2.12.14). Refuses as `gic_distributor` does.
         gic_cpu_interfaces = zacpi_list_gic_cpu_interfaces() -> GicCpuInterface;

@@ -56,6 +56,21 @@ calls! {
 }
 
 extern "C" {
+    pub(crate) fn zacpi_platform(
+        source: &Source<'_>,
+        out: &mut InterruptModel,
+        processors: *mut Processor,
+        processors_room: usize,
+        io_apics: *mut IoApic,
+        io_apics_room: usize,
+        overrides: *mut InterruptSourceOverride,
+        overrides_room: usize,
+        nmi_sources: *mut NmiSource,
+        nmi_sources_room: usize,
+        nmi_lines: *mut NmiLine,
+        nmi_lines_room: usize,
+        named: &mut Signature,
+    ) -> u32;
     pub(crate) fn zacpi_clip_ranges(
         ranges: *const Range,
         ranges_length: usize,

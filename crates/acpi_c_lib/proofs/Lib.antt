@@ -4,8 +4,10 @@ pub mod Clipping
 pub mod CountedList
 pub mod Filling
 pub mod IsaList
+pub mod Joined
 pub mod Listing
 pub mod Lying
 pub mod Names
 pub mod TimerCounts
+pub mod Tried
 pub mod Unlent
