@@ -47,11 +47,17 @@
  *                      lent, ZACPI_RSDP_INVALID_CHECKSUM for them (section 5.2.5.3); then as a start at the
  *                      root table that it names: the XSDT if the revision is above 0 and XsdtAddress isn't
  *                      0, else the RSDT
- *   search             ZACPI_MAP_FAILED if the word at 0x40e (the segment of the EBDA), or a BIOS area that is
- *                      asked for with the 16 bytes after it, isn't lent, ZACPI_NO_VALID_RSDP (section
- *                      5.2.5.1); then as a start at the root table that the RSDP names. The areas are 0xe0000 to
- *                      0xfffff and, if no RSDP there is valid, the EBDA's first KiB, or 0x80000 to 0x9ffff if it
- *                      doesn't begin in these. An RSDP begins at a multiple of 16, with 20 bytes in the area
+ *   search             ZACPI_NO_VALID_RSDP (section 5.2.5.1); then as a start at the root table that the RSDP names.
+ *                      The areas are the EBDA's first KiB as far as it lies below 0xa0000, if the word at 0x40e (the
+ *                      segment of the EBDA) is lent and the EBDA begins at 0x400 or above, and then 0xe0000 to
+ *                      0xfffff. An RSDP begins at a multiple of 16, with 20 bytes in the area. The first one is taken
+ *                      that a start at an RSDP wouldn't refuse: one that isn't lent is passed over like any other that
+ *                      isn't valid, so that no area has to be lent
+ *   BIOS search        ZACPI_MAP_FAILED if the word at 0x40e, or an area that is asked for with the 16 bytes after it,
+ *                      isn't lent, ZACPI_NO_VALID_RSDP (section 5.2.5.1); then as a start at the root table that
+ *                      the RSDP names. The areas are 0xe0000 to 0xfffff and, if no RSDP there is valid, the EBDA's
+ *                      first KiB, or 0x80000 to 0x9ffff if it doesn't begin in these. RSDPs begin and are passed over
+ *                      as above
  *   RSDT or XSDT       ZACPI_MAP_FAILED if 36 bytes aren't lent, ZACPI_SDT_INVALID_SIGNATURE, ..._OEM_ID,
  *                      ..._TABLE_ID, ..._LENGTH if its Length is under 36, ZACPI_MAP_FAILED if that many bytes
  *                      aren't lent, ZACPI_SDT_INVALID_CHECKSUM (sections 5.2.6 to 5.2.8); those that carry a
@@ -159,7 +165,10 @@ enum zacpi_start {
     ZACPI_START_RSDP = 0,       /* `address` is that of the RSDP, as a loader or UEFI passes it (section 5.2.5.2) */
     ZACPI_START_RSDT = 1,       /* `address` is that of the RSDT: pointers of four bytes (section 5.2.7) */
     ZACPI_START_XSDT = 2,       /* `address` is that of the XSDT: pointers of eight bytes (section 5.2.8) */
-    ZACPI_START_BIOS_SEARCH = 3 /* the RSDP is searched for in the BIOS areas; `address` isn't looked at */
+    ZACPI_START_BIOS_SEARCH = 3, /* the RSDP is searched for in the BIOS areas, each of which has to be lent in one
+                                  * piece; `address` isn't looked at */
+    ZACPI_START_SEARCH = 4       /* the RSDP is searched for in the BIOS areas as far as they are lent; `address` isn't
+                                  * looked at */
 };
 
 /* Where tables are looked for. The regions stand in ascending order and share no byte: each, also one of no bytes,
@@ -178,9 +187,9 @@ struct zacpi_source {
  * is left out. It has no source, looks at no memory, and is not about ACPI's tables. Refuses only:
  * ZACPI_RANGE_TOO_HIGH if the address after the last byte of one of `ranges`, of one of `without` or of the
  * window is above 2^64 - 1. */
-zacpi_status zacpi_clip_ranges(const struct zacpi_range *ranges, size_t ranges_length, const struct zacpi_range *without,
-                             size_t without_length, const struct zacpi_range *window, struct zacpi_range *out,
-                             size_t room, size_t *count);
+zacpi_status zacpi_clip_ranges(const struct zacpi_range *ranges, size_t ranges_length, const struct zacpi_range
+                               *without, size_t without_length, const struct zacpi_range *window, struct zacpi_range
+                               *out, size_t room, size_t *count);
 
 struct zacpi_place {
     size_t region; /* the index of the region */
@@ -188,8 +197,8 @@ struct zacpi_place {
 };
 
 /* Where bytes of physical memory are in the caller's regions, so that a table of a type that has no call here can be
- * read: the byte at `address` is regions[region].bytes[offset], and `length` bytes from there on lie in that region. For
- * a length of 0 too the address has to lie in a region. It has no source, and looks at no byte. Refuses only:
+ * read: the byte at `address` is regions[region].bytes[offset], and `length` bytes from there on lie in that region.
+ * For a length of 0 too the address has to lie in a region. It has no source, and looks at no byte. Refuses only:
  * ZACPI_REGIONS_NOT_ASCENDING and ZACPI_REGION_TOO_HIGH for the regions one after the other, and ZACPI_MAP_FAILED if no
  * region holds all these bytes. */
 zacpi_status zacpi_locate(const struct zacpi_region *regions, size_t regions_length, uint64_t address, uint64_t length,
@@ -226,7 +235,7 @@ struct zacpi_aml_table {
     uint32_t length;  /* Length less 36 */
 };
 
-/* The root table (sections 5.2.7 and 5.2.8). Refuses nothing more than what stands at the top. */
+/* The root table (sections 5.2.7 and 5.2.8). No other errors. */
 zacpi_status zacpi_open(const struct zacpi_source *source, struct zacpi_root *out, struct zacpi_signature *named);
 
 /* The ranges of memory that were asked for, and that lie in no one region. A kernel maps those that it can, joins them
@@ -235,64 +244,68 @@ zacpi_status zacpi_open(const struct zacpi_source *source, struct zacpi_root *ou
  * are opened, it is one for each member of the root table, in order, that is passed over with ZACPI_MAP_FAILED: its 36
  * bytes of header (section 5.2.6), or as many bytes as its header says. One for the DSDT and one for the FACS of the
  * first valid FADT come after these, for the same reason (sections 5.2.11.1 and 5.2.10; the FACS needs its Signature
- * and a Length of at least 64 before so many bytes are asked for). There is none if opening refuses otherwise. Each has
- * at least two bytes. Refuses: ZACPI_REGIONS_NOT_ASCENDING, ZACPI_REGION_TOO_HIGH, ZACPI_UNKNOWN_START, and nothing
- * else. */
+ * and a Length of at least 64 before so many bytes are asked for). Before all of these, also if opening refuses
+ * otherwise, a search has one for each RSDP that it passes over because of its Length, in the order of the search, up
+ * to the one that it takes: an RSDP whose 36 bytes are lent, and that is refused with ZACPI_MAP_FAILED since as many
+ * bytes as its Length says aren't; these are the range. A BIOS search comes to none if the word or the first area isn't
+ * lent. ZACPI_START_SEARCH asks for nothing of the areas that isn't lent, so neither the word at 0x40e nor an RSDP's 36
+ * bytes are ever among the ranges. Each range has at least two bytes. Refuses: ZACPI_REGIONS_NOT_ASCENDING,
+ * ZACPI_REGION_TOO_HIGH, ZACPI_UNKNOWN_START, and nothing else. */
 zacpi_status zacpi_list_missing_ranges(const struct zacpi_source *source, struct zacpi_range *out, size_t room,
                                      size_t *count, struct zacpi_signature *named);
 
 /* All tables that are listed and valid under the signatures that they bear, in the order of the root
- * table, repeats kept (sections 5.2.6 to 5.2.8). A member that isn't valid is passed over. Refuses nothing more than
- * what stands at the top. */
+ * table, repeats kept (sections 5.2.6 to 5.2.8). A member that isn't valid is passed over. No other errors. */
 zacpi_status zacpi_list_tables(const struct zacpi_source *source, struct zacpi_table *out, size_t room, size_t *count,
                              struct zacpi_signature *named);
 
 /* The first valid table of a signature (section 5.2.6). Its 36 bytes of header and its sum are checked;
  * the layout of its fields is the caller's to know. Refuses then: ZACPI_TABLE_MISSING with the signature. */
-zacpi_status zacpi_find_table(const struct zacpi_source *source, struct zacpi_signature signature, struct zacpi_table *out,
-                            struct zacpi_signature *named);
+zacpi_status zacpi_find_table(const struct zacpi_source *source, struct zacpi_signature signature, struct zacpi_table
+                              *out, struct zacpi_signature *named);
 
 /* The valid table of a signature that `index` others of it are listed before (section 5.2.6): 0 is the first one, as
- * zacpi_find_table answers it. Refuses then: ZACPI_TABLE_MISSING with the signature if there are no more than `index`. */
+ * zacpi_find_table answers it. Refuses then: ZACPI_TABLE_MISSING with the signature if there are no more than `index`.
+ * */
 zacpi_status zacpi_find_nth_table(const struct zacpi_source *source, struct zacpi_signature signature, size_t index,
                                 struct zacpi_table *out, struct zacpi_signature *named);
 
-/* The entries of any table, one after the other from byte `first` of it on, where its fixed fields end: each begins with
- * Type and Length, of `bytes_each` bytes each. This is 1 for a MADT, from byte 44 on, and an SRAT, from 48 on (sections
- * 5.2.12 and 5.2.16), and 2 for an NFIT, from 40 on (section 5.2.25), and a DMAR, from 48 on, whose layout is Intel's. An
- * entry begins where its Length is at least that of these two fields, and at most the bytes left; what its Type needs
- * besides is the caller's to know. If bytes are left in which no entry begins, `malformed` is 1, and the list has those
- * before them; else it is 0. It has no source: the table is the one at the address `table`, under the signature that it
- * bears, listed or not. Refuses: ZACPI_REGIONS_NOT_ASCENDING and ZACPI_REGION_TOO_HIGH for the regions one after the
- * other, ZACPI_UNKNOWN_WIDTH if `bytes_each` isn't 1 or 2, ZACPI_MAP_FAILED if 36 bytes aren't lent at `table`, 8 to 11
- * of enum zacpi_refusal, ZACPI_MAP_FAILED if as many bytes as its header says aren't lent, ZACPI_SDT_INVALID_CHECKSUM,
- * and ZACPI_SDT_INVALID_LENGTH if Length of the table is less than `first`. Those from 8 on carry its Signature. */
-zacpi_status zacpi_list_entries(const struct zacpi_region *regions, size_t regions_length, uint64_t table, uint32_t first,
-                              uint32_t bytes_each, struct zacpi_entry *out, size_t room, size_t *count,
-                              uint8_t *malformed, struct zacpi_signature *named);
+/* The entries of any table, one after the other from byte `first` of it on, where its fixed fields end: each begins
+ * with Type and Length, of `bytes_each` bytes each. This is 1 for a MADT, from byte 44 on, and an SRAT, from 48 on
+ * (sections 5.2.12 and 5.2.16), and 2 for an NFIT, from 40 on (section 5.2.25), and a DMAR, from 48 on, whose layout is
+ * Intel's. An entry begins where its Length is at least that of these two fields, and at most the bytes left; what its
+ * Type needs besides is the caller's to know. If bytes are left in which no entry begins, `malformed` is 1, and the
+ * list has those before them; else it is 0. It has no source: the table is the one at the address `table`, under the
+ * signature that it bears, listed or not. Refuses: ZACPI_REGIONS_NOT_ASCENDING and ZACPI_REGION_TOO_HIGH for the
+ * regions one after the other, ZACPI_UNKNOWN_WIDTH if `bytes_each` isn't 1 or 2, ZACPI_MAP_FAILED if 36 bytes aren't
+ * lent at `table`, 8 to 11 of enum zacpi_refusal, ZACPI_MAP_FAILED if as many bytes as its header says aren't lent,
+ * ZACPI_SDT_INVALID_CHECKSUM, and ZACPI_SDT_INVALID_LENGTH if Length of the table is less than `first`. Those from 8 on
+ * carry its Signature. */
+zacpi_status zacpi_list_entries(const struct zacpi_region *regions, size_t regions_length, uint64_t table, uint32_t
+                                first, uint32_t bytes_each, struct zacpi_entry *out, size_t room, size_t *count, uint8_t
+                                *malformed, struct zacpi_signature *named);
 
 /* The members of the root table that a lookup of a signature passes over for another reason than another Signature, or
  * one that isn't UTF-8, in order, up to the first that it takes (section 5.2.6). The lookup is that of the calls for
- * this table: it asks for the table's least length. Refuses nothing more than what stands at the top. */
-zacpi_status zacpi_list_faults(const struct zacpi_source *source, struct zacpi_signature signature, struct zacpi_fault *out,
-                             size_t room, size_t *count, struct zacpi_signature *named);
+ * this table: it asks for the table's least length. No other errors. */
+zacpi_status zacpi_list_faults(const struct zacpi_source *source, struct zacpi_signature signature, struct zacpi_fault
+                               *out, size_t room, size_t *count, struct zacpi_signature *named);
 
-/* The AML of the DSDT that the first valid FADT names (sections 5.2.9 and 5.2.11.1). Refuses then:
- * ZACPI_TABLE_MISSING "FACP", ZACPI_INVALID_DSDT_ADDRESS, and what the table there is refused with: ZACPI_MAP_FAILED if 36
- * bytes aren't lent, 8 to 11 of enum zacpi_refusal, ZACPI_MAP_FAILED if as many bytes as its header says aren't lent,
+/* The AML of the DSDT that the first valid FADT names (sections 5.2.9 and 5.2.11.1). Refuses then: ZACPI_TABLE_MISSING
+ * "FACP", ZACPI_INVALID_DSDT_ADDRESS, and what the table there is refused with: ZACPI_MAP_FAILED if 36 bytes aren't
+ * lent, 8 to 11 of enum zacpi_refusal, ZACPI_MAP_FAILED if as many bytes as its header says aren't lent,
  * ZACPI_SDT_INVALID_CHECKSUM. Those from 8 on carry "DSDT". */
 zacpi_status zacpi_dsdt(const struct zacpi_source *source, struct zacpi_aml_table *out, struct zacpi_signature *named);
 
-/* The AML of each valid SSDT, in the order of the root table (section 5.2.11.2). Refuses nothing more than what stands
- * at the top. */
+/* The AML of each valid SSDT, in the order of the root table (section 5.2.11.2). No other errors. */
 zacpi_status zacpi_list_ssdts(const struct zacpi_source *source, struct zacpi_aml_table *out, size_t room,
                             size_t *count, struct zacpi_signature *named);
 
 /* The memory that the tables take, and that isn't to be given away: the root table, each listed table that is valid
  * under its own signature, in order, then the DSDT of the first valid FADT if it is valid, and that FADT's FACS if it
  * is lent, bears "FACS" and has a Length of at least 64 (sections 5.2.6 to 5.2.11). The ranges may overlap. The RSDP
- * isn't among them, nor are the image of the boot graphic and the mailbox by which processors are woken. Refuses
- * nothing more than what stands at the top. */
+ * isn't among them, nor are the image of the boot graphic and the mailbox by which processors are woken. No other
+ * errors. */
 zacpi_status zacpi_list_ranges(const struct zacpi_source *source, struct zacpi_range *out, size_t room, size_t *count,
                              struct zacpi_signature *named);
 
@@ -393,10 +406,10 @@ struct zacpi_console { /* SPCR, whose layout is Microsoft's, and so are these na
     uint8_t pci_device, pci_function;    /* PCI Device Number, PCI Function Number */
 };
 
-/* The fixed hardware of the first valid FADT (section 5.2.9). Refuses then: ZACPI_TABLE_MISSING "FACP". A register whose
- * address is refused is no refusal: its `present` is 2. Those of pm1a and reset are present at address 0 too, and those
- * of sleep if the table is of revision 2 or above and has all twelve bytes: 0 stands for none. On a machine of reduced
- * hardware (HW_REDUCED_ACPI, bit 20 of `flags`) those of pm1, pm2, gpe and the timer mean nothing. */
+/* The fixed hardware of the first valid FADT (section 5.2.9). Refuses then: ZACPI_TABLE_MISSING "FACP". A register
+ * whose address is refused is no refusal: its `present` is 2. Those of pm1a and reset are present at address 0 too, and
+ * those of sleep if the table is of revision 2 or above and has all twelve bytes: 0 stands for none. On a machine of
+ * reduced hardware (HW_REDUCED_ACPI, bit 20 of `flags`) those of pm1, pm2, gpe and the timer mean nothing. */
 zacpi_status zacpi_fixed_hardware(const struct zacpi_source *source, struct zacpi_fixed_hardware *out,
                                 struct zacpi_signature *named);
 
@@ -409,7 +422,8 @@ zacpi_status zacpi_console(const struct zacpi_source *source, struct zacpi_conso
  * Refuses then: ZACPI_TABLE_MISSING "FACP", ZACPI_INVALID_GENERIC_ADDRESS if PM_TMR_LEN is 4 and X_PM_TMR_BLK has an
  * Address that isn't 0 and a reserved code. No timer is no refusal: `present` is 0 if PM_TMR_LEN isn't 4, or no field
  * gives an address. */
-zacpi_status zacpi_pm_timer(const struct zacpi_source *source, struct zacpi_pm_timer *out, struct zacpi_signature *named);
+zacpi_status zacpi_pm_timer(const struct zacpi_source *source, struct zacpi_pm_timer *out, struct zacpi_signature
+                            *named);
 
 /* The block of event timers of the first valid HPET, whose signature section 5.2.6 reserves and whose layout is the
  * IA-PC HPET Specification's. Refuses then: ZACPI_TABLE_MISSING "HPET", ZACPI_INVALID_GENERIC_ADDRESS if Address Space
@@ -450,8 +464,8 @@ zacpi_status zacpi_list_ecam_ranges(const struct zacpi_source *source, struct za
  * as the PCI Firmware Specification, section 4.1.2, says: this is what a kernel wants. Of several regions of the first
  * valid MCFG that hold the bus the first counts. Refuses then: ZACPI_TABLE_MISSING "MCFG", ZACPI_NO_SUCH_FUNCTION if no
  * region holds the bus, for a device above 31, a function above 7, and a sum of 2^64 or more. */
-zacpi_status zacpi_pci_ecam_address(const struct zacpi_source *source, uint16_t segment_group, uint8_t bus, uint8_t device,
-                                  uint8_t function, uint64_t *out, struct zacpi_signature *named);
+zacpi_status zacpi_pci_ecam_address(const struct zacpi_source *source, uint16_t segment_group, uint8_t bus, uint8_t
+                                    device, uint8_t function, uint64_t *out, struct zacpi_signature *named);
 
 /* ---- Interrupts and processors of a PC (MADT, section 5.2.12) -------------------------------------- */
 
@@ -495,36 +509,45 @@ struct zacpi_processor { /* Processor Local APIC and Processor Local x2APIC, sec
     uint8_t is_boot;        /* whether it is the boot processor */
 };
 
-/* Which controllers interrupts come to, and how many items the five lists below have, by the first valid MADT
- * (section 5.2.12). A machine without a valid MADT, or whose MADT has no entry of a machine with APICs (Types 0 to 5, 9
- * and 0xa: a Multiprocessor Wakeup, 0x10, is none), is no refusal: the model isn't known, and the lists are empty.
- * Refuses then: ZACPI_TABLE_MISSING "FACP", 25 to 31 of enum zacpi_refusal for the first entry of the MADT at fault, in
- * the order of its entries, and of one entry's faults the least, and ZACPI_INVALID_GENERIC_ADDRESS if zacpi_pm_timer
- * refuses with that. */
+/* Which controllers interrupts come to, and how many items the five lists below have, by the first valid MADT (section
+ * 5.2.12). A machine without a valid MADT, or whose MADT has no entry of a machine with APICs (Types 0 to 5, 9 and 0xa:
+ * a Multiprocessor Wakeup, 0x10, is none), is no refusal here: the model isn't known, and the calls below refuse with
+ * ZACPI_NO_APICS. Refuses then: ZACPI_TABLE_MISSING "FACP", 25 to 31 of enum zacpi_refusal for the first entry of the
+ * MADT at fault, in the order of its entries, and of one entry's faults the least, and ZACPI_INVALID_GENERIC_ADDRESS if
+ * zacpi_pm_timer refuses with that. */
 zacpi_status zacpi_interrupt_model(const struct zacpi_source *source, struct zacpi_interrupt_model *out,
                                  struct zacpi_signature *named);
-/* The I/O APICs, in the order of the first valid MADT (section 5.2.12.3). Empty if the model isn't known. Refuses then
- * as zacpi_interrupt_model does. */
-zacpi_status zacpi_list_io_apics(const struct zacpi_source *source, struct zacpi_io_apic *out, size_t room, size_t *count,
-                               struct zacpi_signature *named);
-/* The Interrupt Source Override entries (section 5.2.12.5), in the order of the first valid MADT. Empty if the model
- * isn't known. Refuses then as zacpi_interrupt_model does. */
-zacpi_status zacpi_list_overrides(const struct zacpi_source *source, struct zacpi_interrupt_source_override *out,
-                                size_t room, size_t *count, struct zacpi_signature *named);
+/* The I/O APICs, in the order of the first valid MADT (section 5.2.12.3). Refuses then as zacpi_interrupt_model does,
+ * and with ZACPI_NO_APICS if the model isn't known. */
+zacpi_status zacpi_list_io_apics(const struct zacpi_source *source, struct zacpi_io_apic *out, size_t room, size_t
+                                 *count, struct zacpi_signature *named);
+/* The Interrupt Source Override entries (section 5.2.12.5), in the order of the first valid MADT. Refuses then as
+ * zacpi_interrupt_model does, and with ZACPI_NO_APICS if the model isn't known. */
+zacpi_status zacpi_list_overrides(const struct zacpi_source *source, struct zacpi_interrupt_source_override *out, size_t
+                                  room, size_t *count, struct zacpi_signature *named);
 /* The NMI Source entries (section 5.2.12.6), which name the I/O APIC pins that are non-maskable, in the order of the
- * first valid MADT. Empty if the model isn't known. Refuses then as zacpi_interrupt_model does. */
+ * first valid MADT. Refuses then as zacpi_interrupt_model does, and with ZACPI_NO_APICS if the model isn't known. */
 zacpi_status zacpi_list_nmi_sources(const struct zacpi_source *source, struct zacpi_nmi_source *out, size_t room,
                                   size_t *count, struct zacpi_signature *named);
 /* The Local APIC NMI and Local x2APIC NMI entries (sections 5.2.12.7 and 5.2.12.13), which name LINT pins, in the order
- * of the first valid MADT. Those of one processor are those with `of_all`, and those with its uid. Empty if the model
- * isn't known. Refuses then as zacpi_interrupt_model does. */
-zacpi_status zacpi_list_nmi_lines(const struct zacpi_source *source, struct zacpi_nmi_line *out, size_t room, size_t *count,
-                                struct zacpi_signature *named);
+ * of the first valid MADT. Those of one processor are those with `of_all`, and those with its uid. Refuses then as
+ * zacpi_interrupt_model does, and with ZACPI_NO_APICS if the model isn't known. */
+zacpi_status zacpi_list_nmi_lines(const struct zacpi_source *source, struct zacpi_nmi_line *out, size_t room, size_t
+                                  *count, struct zacpi_signature *named);
 /* The processors, in the order of the first valid MADT: the first is the boot processor, also if it is disabled
- * (sections 5.2.12.1, 5.2.12.2 and 5.2.12.12). Empty if the model isn't known. Refuses then as zacpi_interrupt_model
- * does. */
+ * (sections 5.2.12.1, 5.2.12.2 and 5.2.12.12). Refuses then as zacpi_interrupt_model does, and with ZACPI_NO_APICS if
+ * the model isn't known. */
 zacpi_status zacpi_list_processors(const struct zacpi_source *source, struct zacpi_processor *out, size_t room,
                                  size_t *count, struct zacpi_signature *named);
+
+/* All of these at once, for about what one of them costs: into `out` what zacpi_interrupt_model answers, and into each
+ * list what its call above answers, as many items as there is room for; how many there are in all is in `out`. Refuses
+ * then as zacpi_interrupt_model does, and with ZACPI_NO_APICS if the model isn't known. */
+zacpi_status zacpi_platform(const struct zacpi_source *source, struct zacpi_interrupt_model *out, struct zacpi_processor
+                            *processors, size_t processors_room, struct zacpi_io_apic *io_apics, size_t io_apics_room,
+                            struct zacpi_interrupt_source_override *overrides, size_t overrides_room, struct
+                            zacpi_nmi_source *nmi_sources, size_t nmi_sources_room, struct zacpi_nmi_line *nmi_lines,
+                            size_t nmi_lines_room, struct zacpi_signature *named);
 
 struct zacpi_interrupt {
     uint32_t global_system_interrupt;
@@ -710,8 +733,8 @@ struct zacpi_localities {
  * enabled (Enabled, bit 0 of Flags) and have at least one byte (section 5.2.16.2). They may overlap. Refuses then:
  * ZACPI_TABLE_MISSING "SRAT", ZACPI_NUMA_INVALID_ENTRY_LENGTH if bytes are left in which no entry begins,
  * ZACPI_NUMA_INVALID_MEMORY_RANGE if the address after one of these ranges is above 2^64 - 1. */
-zacpi_status zacpi_list_memory_affinities(const struct zacpi_source *source, struct zacpi_memory_affinity *out, size_t room,
-                                        size_t *count, struct zacpi_signature *named);
+zacpi_status zacpi_list_memory_affinities(const struct zacpi_source *source, struct zacpi_memory_affinity *out, size_t
+                                          room, size_t *count, struct zacpi_signature *named);
 /* The domain of the memory at a physical address: that of the first range of zacpi_list_memory_affinities that holds it
  * (section 5.2.16.2). Refuses then as zacpi_list_memory_affinities does, and with ZACPI_NO_DOMAIN if none holds it. */
 zacpi_status zacpi_domain_of_address(const struct zacpi_source *source, uint64_t address, uint32_t *out,
@@ -732,8 +755,9 @@ zacpi_status zacpi_domain_of_processor(const struct zacpi_source *source, uint32
 zacpi_status zacpi_localities(const struct zacpi_source *source, struct zacpi_localities *out,
                             struct zacpi_signature *named);
 /* How far one locality is from another, by the first valid SLIT (section 5.2.17): in units of which 10 are the distance
- * of a locality from itself, and 255 stands for unreachable. Refuses then: ZACPI_TABLE_MISSING "SLIT", ZACPI_NO_DISTANCE
- * if one of them isn't below Number of System Localities, or if the table ends before the byte of the pair. */
+ * of a locality from itself, and 255 stands for unreachable. Refuses then: ZACPI_TABLE_MISSING "SLIT",
+ * ZACPI_NO_DISTANCE if one of them isn't below Number of System Localities, or if the table ends before the byte of the
+ * pair. */
 zacpi_status zacpi_distance(const struct zacpi_source *source, uint64_t from, uint64_t to, uint8_t *out,
                           struct zacpi_signature *named);
 

@@ -25,6 +25,12 @@
 #define PINNED(number) number, ZACPI_POLARITY_HIGH, ZACPI_TRIGGER_EDGE, 0xfec00000, 0, 2, number, 1, 1
 #define UNPINNED(number) number, ZACPI_POLARITY_HIGH, ZACPI_TRIGGER_EDGE, 0, 0, 0, 0, 1, 0
 #define NO_ROUTE 0, 0, 0, 0, 0, 0, 0, 0, 0
+/* Fields of an item that isn't written. */
+#define PAINTED_PROCESSOR 0xa5a5a5a5, 0xa5a5a5a5, PAINT, PAINT
+#define PAINTED_IO_APIC 0xa5a5a5a5, 0xa5a5a5a5, PAINT
+#define PAINTED_OVERRIDE 0xa5a5a5a5, PAINT, PAINT, PAINT
+#define PAINTED_NMI_SOURCE 0xa5a5a5a5, PAINT, PAINT
+#define PAINTED_NMI_LINE 0xa5a5a5a5, PAINT, PAINT
 /* The first of two tables is a byte too short. */
 #define LEAST_OF(letters, short_one) \
     GOOD(list_faults, LEAST, letters, NO, 1, AT(short_one), ZACPI_SDT_INVALID_LENGTH)
@@ -48,6 +54,17 @@ static const struct row rows[] = {
     REFUSED(open, NO_ROOT, NULL, NO, ZACPI_MAP_FAILED, NULL),
     REFUSED(open, EMPTY_INSIDE, NULL, NO, ZACPI_REGIONS_NOT_ASCENDING, NULL),
     GOOD(open, EMPTY_AFTER, NULL, NO, 1, AT(EMPTY), 36, 0, 4),
+    REFUSED(open, LENT_NONE, NULL, NO, ZACPI_NO_VALID_RSDP, NULL),
+    REFUSED(open, LENT_NO_ROOT, NULL, NO, ZACPI_MAP_FAILED, NULL), /* the RSDP of the EBDA comes first */
+    GOOD(open, LENT_BIOS, NULL, NO, 1, BIOS + 0x10000, 36, 0, 4),
+    REFUSED(open, LENT_20_BYTES, NULL, NO, ZACPI_NO_VALID_RSDP, NULL), /* an RSDP is asked for with 36 bytes */
+    GOOD(open, LENT_36_BYTES, NULL, NO, 1, BIOS + 0x10000, 36, 0, 4),
+    REFUSED(open, LENT_LONG, NULL, NO, ZACPI_NO_VALID_RSDP, NULL),
+    GOOD(open, LENT_LONG_EBDA, NULL, NO, 1, BIOS + 0x10000, 36, 0, 4),
+    GOOD(open, LENT_TABLES, NULL, NO, 1, 0x200000, 36, 0, 4),
+    REFUSED(open, LONG_ALONE, NULL, NO, ZACPI_MAP_FAILED, NULL),
+    REFUSED(open, LONG_BEFORE_ROOT, NULL, NO, ZACPI_MAP_FAILED, NULL),
+    GOOD(open, LONG_AND_TABLES, NULL, NO, 1, 0x200000, 36, 0, 4),
 
     /* The header of a member, a table whose header is lent, and the DSDT and the FACS of the FADT. */
     GOOD(list_missing_ranges, HOLES, NULL, NO, 4, 0x200000, 36, TAIL, 80, 0x300000, 36, 0x400000, 36),
@@ -59,6 +76,18 @@ static const struct row rows[] = {
     NOTHING(list_missing_ranges, NO_RSDP),
     NOTHING(list_missing_ranges, FOUND), /* the second area isn't asked for */
     GOOD(list_missing_ranges, NO_ROOT, NULL, NO, 1, 0x200000, 36),
+    /* Of two RSDPs the Length reaches past what is lent; then the second area, or the root table, isn't lent. */
+    GOOD(list_missing_ranges, LONG_ALONE, NULL, NO, 3, BIOS, BIOS_SIZE + 1, 0xfffe0, 64, 0x90000, 0x410),
+    GOOD(list_missing_ranges, LONG_BEFORE_ROOT, NULL, NO, 3, BIOS, BIOS_SIZE + 1, 0xfffe0, 64, 0x200000, 36),
+    GOOD(list_missing_ranges, LONG_AND_TABLES, NULL, NO, 2, BIOS, BIOS_SIZE + 1, 0xfffe0, 64),
+    /* What isn't lent of the areas isn't asked for. */
+    NOTHING(list_missing_ranges, LENT_NONE),
+    GOOD(list_missing_ranges, LENT_NO_ROOT, NULL, NO, 1, 0x200000, 36),
+    NOTHING(list_missing_ranges, LENT_BIOS),
+    NOTHING(list_missing_ranges, LENT_20_BYTES),
+    GOOD(list_missing_ranges, LENT_LONG, NULL, NO, 1, 0xfffe0, 64), /* of the other one 32 bytes are lent */
+    GOOD(list_missing_ranges, LENT_LONG_EBDA, NULL, NO, 1, 0x903e0, 49),
+    NOTHING(list_missing_ranges, LENT_TABLES), /* they come after the RSDP that is taken */
     GOOD(list_missing_ranges, RSDP_LONG, NULL, NO, 1, AT(RSDP_LONG), SIZE),
     GOOD(list_missing_ranges, RSDP_LOST, NULL, NO, 1, 0x300000000, 36),
     GOOD(list_missing_ranges, RSDP_CUT, NULL, NO, 1, CUT(2), 52),
@@ -211,18 +240,51 @@ static const struct row rows[] = {
     REFUSED(interrupt_model, SERVER, NULL, NO, ZACPI_MADT_UNEXPECTED_ENTRY, NULL),
     REFUSED(interrupt_model, TIMER_5, NULL, NO, ZACPI_INVALID_GENERIC_ADDRESS, NULL),
     REFUSED(interrupt_model, EMPTY, NULL, NO, ZACPI_TABLE_MISSING, "FACP"),
+    /* All of these at once: what lies past an item is as it was. */
+    GOOD(platform, DESKTOP, NULL, NO, 1, 0x1fee02000, 1, 2, 3, 4, 5, 1, 1, 0x21, 0x42, ZACPI_PROCESSOR_DISABLED, 1,
+         0x22, 0x44, ZACPI_PROCESSOR_WAITING, 0, 0x567, 0x12345, ZACPI_PROCESSOR_WAITING, 0,
+         0x568, 0x12346, ZACPI_PROCESSOR_DISABLED, 0, 0x23, 0x46, ZACPI_PROCESSOR_WAITING, 0,
+         0xfec02000, 48, 9, PAINTED_IO_APIC, 37, 5, ZACPI_POLARITY_LOW, ZACPI_TRIGGER_LEVEL,
+         38, 12, ZACPI_POLARITY_HIGH, ZACPI_TRIGGER_BUS, 50, ZACPI_POLARITY_HIGH, ZACPI_TRIGGER_EDGE,
+         51, ZACPI_POLARITY_LOW, ZACPI_TRIGGER_LEVEL, 52, ZACPI_POLARITY_BUS, ZACPI_TRIGGER_LEVEL,
+         0, 1, 1, 0x22, 0, 0, 0, 1, 0, 0x567, 0, 1),
+    /* One item less of each: the I/O APIC has room. */
+    GOOD(platform, DESKTOP, NULL, A(1), 1, 0x1fee02000, 1, 2, 3, 4, 5, 1, 1, 0x21, 0x42, ZACPI_PROCESSOR_DISABLED, 1,
+         0x22, 0x44, ZACPI_PROCESSOR_WAITING, 0, 0x567, 0x12345, ZACPI_PROCESSOR_WAITING, 0,
+         0x568, 0x12346, ZACPI_PROCESSOR_DISABLED, 0, PAINTED_PROCESSOR,
+         0xfec02000, 48, 9, PAINTED_IO_APIC, 37, 5, ZACPI_POLARITY_LOW, ZACPI_TRIGGER_LEVEL, PAINTED_OVERRIDE,
+         50, ZACPI_POLARITY_HIGH, ZACPI_TRIGGER_EDGE, 51, ZACPI_POLARITY_LOW, ZACPI_TRIGGER_LEVEL,
+         PAINTED_NMI_SOURCE, 0, 1, 1, 0x22, 0, 0, 0, 1, 0, PAINTED_NMI_LINE),
+    /* Two less: no room for I/O APICs and overrides. */
+    GOOD(platform, PC, NULL, A(2), 1, 0, 2, 2, 0, 0, 1, 1, 0, 1, 33, ZACPI_PROCESSOR_RUNNING, 1, PAINTED_PROCESSOR,
+         PAINTED_PROCESSOR, PAINTED_PROCESSOR, PAINTED_PROCESSOR, PAINTED_IO_APIC, PAINTED_IO_APIC, PAINTED_OVERRIDE,
+         PAINTED_OVERRIDE, PAINTED_NMI_SOURCE, PAINTED_NMI_SOURCE, PAINTED_NMI_SOURCE, PAINTED_NMI_LINE,
+         PAINTED_NMI_LINE, PAINTED_NMI_LINE, PAINTED_NMI_LINE),
+    GOOD(platform, MOBILE, NULL, NO, 1, 0xfee03000, 0, 0, 0, 0, 2, 1, 0, 8, 7, ZACPI_PROCESSOR_RUNNING, 1,
+         6, 5, ZACPI_PROCESSOR_DISABLED, 0, PAINTED_PROCESSOR, PAINTED_PROCESSOR, PAINTED_PROCESSOR, PAINTED_IO_APIC,
+         PAINTED_IO_APIC, PAINTED_OVERRIDE, PAINTED_OVERRIDE, PAINTED_NMI_SOURCE, PAINTED_NMI_SOURCE,
+         PAINTED_NMI_SOURCE, PAINTED_NMI_LINE, PAINTED_NMI_LINE, PAINTED_NMI_LINE, PAINTED_NMI_LINE),
+    REFUSED(platform, WORKSTATION, NULL, NO, ZACPI_NO_APICS, NULL),
+    REFUSED(platform, HOLES, NULL, NO, ZACPI_NO_APICS, NULL), /* no MADT */
+    REFUSED(platform, SERVER, NULL, NO, ZACPI_MADT_UNEXPECTED_ENTRY, NULL),
+    REFUSED(platform, TIMER_5, NULL, NO, ZACPI_INVALID_GENERIC_ADDRESS, NULL),
+    REFUSED(platform, EMPTY, NULL, NO, ZACPI_TABLE_MISSING, "FACP"),
     GOOD(list_io_apics, DESKTOP, NULL, NO, 1, 0xfec02000, 48, 9),
     GOOD(list_io_apics, PC, NULL, NO, 2, 0xfec00000, 0, 2, 0xfec01000, 24, 3),
     NOTHING(list_io_apics, MOBILE),
+    REFUSED(list_io_apics, WORKSTATION, NULL, NO, ZACPI_NO_APICS, NULL),
+    REFUSED(list_io_apics, HOLES, NULL, NO, ZACPI_NO_APICS, NULL), /* no MADT */
     REFUSED(list_io_apics, SERVER, NULL, NO, ZACPI_MADT_UNEXPECTED_ENTRY, NULL),
     REFUSED(list_io_apics, EMPTY, NULL, NO, ZACPI_TABLE_MISSING, "FACP"),
     GOOD(list_nmi_sources, DESKTOP, NULL, NO, 3, 50, ZACPI_POLARITY_HIGH, ZACPI_TRIGGER_EDGE,
          51, ZACPI_POLARITY_LOW, ZACPI_TRIGGER_LEVEL, 52, ZACPI_POLARITY_BUS, ZACPI_TRIGGER_LEVEL),
     NOTHING(list_nmi_sources, PC),
+    REFUSED(list_nmi_sources, WORKSTATION, NULL, NO, ZACPI_NO_APICS, NULL),
     REFUSED(list_nmi_sources, SERVER, NULL, NO, ZACPI_MADT_UNEXPECTED_ENTRY, NULL),
     REFUSED(list_nmi_sources, EMPTY, NULL, NO, ZACPI_TABLE_MISSING, "FACP"),
     GOOD(list_nmi_lines, DESKTOP, NULL, NO, 4, 0, 1, 1, 0x22, 0, 0, 0, 1, 0, 0x567, 0, 1),
     NOTHING(list_nmi_lines, PC),
+    REFUSED(list_nmi_lines, HOLES, NULL, NO, ZACPI_NO_APICS, NULL),
     REFUSED(list_nmi_lines, SERVER, NULL, NO, ZACPI_MADT_UNEXPECTED_ENTRY, NULL),
     REFUSED(list_nmi_lines, EMPTY, NULL, NO, ZACPI_TABLE_MISSING, "FACP"),
     /* The boot processor is the first, and here it is disabled. */
@@ -230,7 +292,8 @@ static const struct row rows[] = {
          0x22, 0x44, ZACPI_PROCESSOR_WAITING, 0, 0x567, 0x12345, ZACPI_PROCESSOR_WAITING, 0,
          0x568, 0x12346, ZACPI_PROCESSOR_DISABLED, 0, 0x23, 0x46, ZACPI_PROCESSOR_WAITING, 0),
     GOOD(list_processors, MOBILE, NULL, NO, 2, 8, 7, ZACPI_PROCESSOR_RUNNING, 1, 6, 5, ZACPI_PROCESSOR_DISABLED, 0),
-    NOTHING(list_processors, WORKSTATION),
+    REFUSED(list_processors, WORKSTATION, NULL, NO, ZACPI_NO_APICS, NULL),
+    REFUSED(list_processors, HOLES, NULL, NO, ZACPI_NO_APICS, NULL),
     REFUSED(list_processors, SERVER, NULL, NO, ZACPI_MADT_UNEXPECTED_ENTRY, NULL),
     REFUSED(list_processors, EMPTY, NULL, NO, ZACPI_TABLE_MISSING, "FACP"),
 
@@ -238,7 +301,8 @@ static const struct row rows[] = {
          38, 12, ZACPI_POLARITY_HIGH, ZACPI_TRIGGER_BUS),
     GOOD(list_overrides, PC, NULL, NO, 2, 20, 9, ZACPI_POLARITY_HIGH, ZACPI_TRIGGER_EDGE,
          2, 0, ZACPI_POLARITY_BUS, ZACPI_TRIGGER_BUS),
-    NOTHING(list_overrides, HOLES), /* no MADT */
+    NOTHING(list_overrides, MOBILE),
+    REFUSED(list_overrides, HOLES, NULL, NO, ZACPI_NO_APICS, NULL),
     REFUSED(list_overrides, EMPTY, NULL, NO, ZACPI_TABLE_MISSING, "FACP"),
     GOOD(sci_interrupt, PC, NULL, NO, 1, 20, ZACPI_POLARITY_HIGH, ZACPI_TRIGGER_EDGE),
     REFUSED(sci_interrupt, HOLES, NULL, NO, ZACPI_NO_APICS, NULL),

@@ -13,6 +13,7 @@
 #define CUT_SIZE 40u
 #define BIOS 0xe0000u /* the first area in which an RSDP is searched for, and the 16 bytes after it */
 #define BIOS_SIZE 0x20010u
+#define LONG_BIOS 0x40000000u /* where another first area is kept, which has RSDPs that are too long */
 #define EBDA 0x90000u /* the second, by the word at 0x40e, and the 16 bytes after it */
 #define EBDA_SIZE 0x410u
 #define ONES UINT64_MAX
@@ -255,13 +256,19 @@ static const struct table {
     {AT(FADT_HALF_X), "FACP", 6, 238, fadt_half_x},
     {BIOS + 0x10000, "RSDT", 1, 36, no_fields}};
 
-/* RSDPs: Revision at 15, RsdtAddress at 16, Length at 20, XsdtAddress at 24 (section 5.2.5.3). */
+/* RSDPs: the first byte of OEMID at 9, Revision at 15, RsdtAddress at 16, Length at 20, XsdtAddress at 24 (section
+ * 5.2.5.3). */
 static const struct rsdp {
     uint64_t address;
-    unsigned revision, rsdt_address, length;
+    unsigned oem_id, revision, rsdt_address, length;
     uint64_t xsdt_address;
 } rsdps[] = {
-    {AT(RSDP_0), 0, AT(ARM), 0, 0}, {AT(RSDP_2), 2, AT(EMPTY), 36, AT(PC)}, {AT(RSDP_MIXED), 2, AT(ARM), 36, 0},
-    {AT(RSDP_LONG), 2, 0, SIZE, AT(PC)}, {AT(RSDP_LOST), 2, 0, 36, 0x300000000}, {AT(RSDP_CUT), 0, CUT(2), 0, 0},
-    {AT(RSDP_SHORT), 2, 0, 35, AT(PC)}, {BIOS + 0x1ffe0, 0, BIOS + 0x10000, 0, 0}, {EBDA + 0x40, 0, 0x200000, 0, 0}};
+    {AT(RSDP_0), 0, 0, AT(ARM), 0, 0}, {AT(RSDP_2), 0, 2, AT(EMPTY), 36, AT(PC)},
+    {AT(RSDP_MIXED), 0, 2, AT(ARM), 36, 0}, {AT(RSDP_LONG), 0, 2, 0, SIZE, AT(PC)},
+    {AT(RSDP_LOST), 0, 2, 0, 36, 0x300000000}, {AT(RSDP_CUT), 0, 0, CUT(2), 0, 0},
+    {AT(RSDP_SHORT), 0, 2, 0, 35, AT(PC)}, {BIOS + 0x1ffe0, 0, 0, BIOS + 0x10000, 0, 0},
+    {EBDA + 0x40, 0, 0, 0x200000, 0, 0}, {EBDA + 0x3e0, 0, 2, 0, 0x31, AT(PC)},
+    /* A byte too long for the area with the 16 bytes after it; too short; not UTF-8; and in the last 32 bytes. */
+    {LONG_BIOS, 0, 2, 0, BIOS_SIZE + 1, AT(PC)}, {LONG_BIOS + 0x40, 0, 2, 0, 35, AT(PC)},
+    {LONG_BIOS + 0x80, 0xff, 2, 0, SIZE, AT(PC)}, {LONG_BIOS + 0x1ffe0, 0, 2, 0, 64, AT(PC)}};
 #endif

@@ -22,17 +22,20 @@ void on_fault(uint64_t number, uint64_t code, uint64_t instruction) {
     say(&serial, " at "), say_address(&serial, instruction), line();
     leave(LEAVE_FAULT);
 }
-/* The extended BIOS data area (EBDA), whose segment is the word at 0x40e, as the library reads it (section 5.2.5.1). */
-static uint64_t ebda(void) {
-    uint64_t address = low(at(0x40e), 2) << 4;
-    return address >= 0x80000 && address < 0x9ffff ? address : 0x80000;
+/* The first KiB of the extended BIOS data area (EBDA), whose segment is the word at 0x40e, as far as it lies below video
+ * memory (section 5.2.5.1). */
+static struct zacpi_range ebda(void) {
+    struct zacpi_range area = {low(at(0x40e), 2) << 4, 0x400};
+    if (area.address < 0x400 || area.address >= 0xa0000) area.length = 0;
+    else if (area.length > 0xa0000 - area.address) area.length = 0xa0000 - area.address;
+    return area;
 }
 
-/* What the loader's map names, free or not, and the BIOS areas, which it may leave out. The search asks for
- * 16 bytes after each area, so that the last candidate is there as a whole. Of multiboot's information mmap_length is
- * at 44 and mmap_addr at 48; of an entry size is at 0, base_addr at 4, length at 12 and type at 20. */
+/* What the loader's map names, free or not, and what the search looks at, which it may leave out: that word and the BIOS
+ * areas. Of multiboot's information mmap_length is at 44 and mmap_addr at 48; of an entry size is at 0, base_addr at 4,
+ * length at 12 and type at 20. */
 static size_t memory_map(const volatile uint8_t *info) {
-    const struct zacpi_range areas[] = {{0x400, 0x100}, {ebda(), 0xa0010 - ebda()}, {0xe0000, 0x20010}};
+    const struct zacpi_range areas[] = {{0x400, 0x100}, ebda(), {0xe0000, 0x20000}};
     const volatile uint8_t *entry = at(low(info + 48, 4)), *end = entry + low(info + 44, 4);
     size_t n = 0;
     for (; entry < end; entry += 4 + low(entry, 4), n++) { /* an entry's size doesn't count itself */
@@ -172,7 +175,7 @@ static void figures(const struct zacpi_source *source, struct zacpi_source known
 
 void kernel(uint32_t magic, uint32_t information) {
     const volatile uint8_t *info = at(information);
-    struct zacpi_source source = {regions, 0, 0, ZACPI_START_BIOS_SEARCH};
+    struct zacpi_source source = {regions, 0, 0, ZACPI_START_SEARCH};
     struct zacpi_source known = source;
     struct zacpi_signature named = {{0}};
     struct zacpi_root root = {0};

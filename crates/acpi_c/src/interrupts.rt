@@ -1,8 +1,9 @@
 //! The interrupt model and the processors, and how interrupts come to the I/O APICs.
-ghost use Rattle.acpi_c_lib.specs.Answers.{Answers, AnswersList};
+ghost use Rattle.std.specs.Prelude.{◌≡◌};
+ghost use Rattle.acpi_c_lib.specs.Answers.{Answers, AnswersList, items_said, put_from};
 ghost use Rattle.acpi_c_lib.specs.IsaList.{isa_list_below};
 ghost use Rattle.acpi_c_lib.specs.Model.{below_platform, counts_of, io_apics_of, nmi_lines_of, nmi_sources_of, overrides_of, processors_of};
-ghost use Rattle.acpi_c_lib.specs.Routes.{isa_below, pin_below, sci_below};
+ghost use Rattle.acpi_c_lib.specs.Routes.{below_apics, below_known, isa_below, pin_below, sci_below};
 
 use acpi_c_lib::answer::answer;
 use acpi_c_lib::interrupt_records::{
@@ -11,6 +12,7 @@ use acpi_c_lib::interrupt_records::{
 };
 use acpi_c_lib::interrupts::entries;
 use acpi_c_lib::isa_list::isa_list;
+use acpi_c_lib::platform::platform;
 use acpi_c_lib::processors::{model, processors};
 use acpi_c_lib::records::{Signature, Source};
 use acpi_c_lib::routes::{isa, pin, sci};
@@ -36,9 +38,44 @@ pub extern "C" fn zacpi_list_processors(
     named: &mut Signature,
 ) -> u32
     ensures { AnswersList result out.old out.new count.old count.new named.old named.new
-        (below_platform source.now processors_of) }
+        (below_known source.now processors_of) }
 {
     answer(processors(source, out), count, named)
+}
+
+/// The model and all its lists at once, each as the call for it alone answers it.
+#[unsafe(no_mangle)]
+pub extern "C" fn zacpi_platform(
+    source: &Source<'_>,
+    out: &mut Model,
+    processors: &mut [Processor],
+    io_apics: &mut [IoApic],
+    overrides: &mut [InterruptSourceOverride],
+    nmi_sources: &mut [NmiSource],
+    nmi_lines: &mut [NmiLine],
+    named: &mut Name,
+) -> u32
+    ensures model { Answers result out.old out.new named.old named.new (below_known source.now counts_of) }
+    ensures processors { processors.new
+        ≡ put_from processors.old 0 (items_said (below_known source.now processors_of)) }
+    ensures io_apics { io_apics.new
+        ≡ put_from io_apics.old 0 (items_said (below_apics source.now io_apics_of)) }
+    ensures overrides { overrides.new
+        ≡ put_from overrides.old 0 (items_said (below_apics source.now overrides_of)) }
+    ensures nmi_sources { nmi_sources.new
+        ≡ put_from nmi_sources.old 0 (items_said (below_apics source.now nmi_sources_of)) }
+    ensures nmi_lines { nmi_lines.new
+        ≡ put_from nmi_lines.old 0 (items_said (below_apics source.now nmi_lines_of)) }
+{
+    let said = platform(
+        source,
+        processors,
+        io_apics,
+        overrides,
+        nmi_sources,
+        nmi_lines,
+    );
+    answer(said, out, named)
 }
 
 /// The I/O APICs (section 5.2.12.3).
@@ -50,7 +87,7 @@ pub extern "C" fn zacpi_list_io_apics(
     named: &mut Signature,
 ) -> u32
     ensures { AnswersList result out.old out.new count.old count.new named.old named.new
-        (below_platform source.now io_apics_of) }
+        (below_apics source.now io_apics_of) }
 {
     answer(entries(source, out), count, named)
 }
@@ -64,7 +101,7 @@ pub extern "C" fn zacpi_list_overrides(
     named: &mut Signature,
 ) -> u32
     ensures { AnswersList result out.old out.new count.old count.new named.old named.new
-        (below_platform source.now overrides_of) }
+        (below_apics source.now overrides_of) }
 {
     answer(entries(source, out), count, named)
 }
@@ -78,7 +115,7 @@ pub extern "C" fn zacpi_list_nmi_sources(
     named: &mut Signature,
 ) -> u32
     ensures { AnswersList result out.old out.new count.old count.new named.old named.new
-        (below_platform source.now nmi_sources_of) }
+        (below_apics source.now nmi_sources_of) }
 {
     answer(entries(source, out), count, named)
 }
@@ -92,7 +129,7 @@ pub extern "C" fn zacpi_list_nmi_lines(
     named: &mut Signature,
 ) -> u32
     ensures { AnswersList result out.old out.new count.old count.new named.old named.new
-        (below_platform source.now nmi_lines_of) }
+        (below_apics source.now nmi_lines_of) }
 {
     answer(entries(source, out), count, named)
 }

@@ -5,13 +5,8 @@ use Rattle.std.specs.List.{filter_map}
 use Rattle.std.specs.Option.{option_map}
 use Rattle.acpi_base.specs.Model.{processor_in, processors_of}
 use Rattle.acpi_base.specs.declared.model.item.MadtItem.{MadtItem}
-use Rattle.acpi_c_lib.specs.Model.{listed, processor_record, processors_in}
+use Rattle.acpi_c_lib.specs.Model.{left_after, listed, processor_record}
 use Rattle.acpi_c_lib.specs.declared.interrupt_records.Processor.{Processor}
-
--- those still to come, after so many
-abbrev pub left_after : ℕ → List MadtItem → List Processor
-left_after zero items = processors_in items
-left_after (suc n) items = map processor_record (filter_map (processor_in true) items)
 
 pub next_some : (n : ℕ) (x : MadtItem) (items : List MadtItem) (r : Processor) → option_map processor_record (processor_in (nat_lt 0 n) x) ≡ Some r
     → left_after n (x ∷ items) ≡ r ∷ left_after (n + 1) items

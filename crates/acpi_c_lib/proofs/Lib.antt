@@ -6,9 +6,11 @@ pub mod EntryLengths
 pub mod Filling
 pub mod Halved
 pub mod IsaList
+pub mod Joined
 pub mod Listing
 pub mod Lying
 pub mod Names
 pub mod TableEnds
 pub mod TimerCounts
+pub mod Tried
 pub mod Unlent

@@ -2,7 +2,7 @@
 use Rattle.std.proofs.Common.{◌≡◌, ℕ, ◌≤◌, List, [], ◌∷◌, ◌++◌, Bool, true, false, Option, Some, None, Result, Ok, Err, arith, refl, sym, ap, subst, ◌∙◌, if◌then◌else◌}
 use Rattle.std.specs.Prelude.{◌==◌}
 use Rattle.std.specs.List.{last_or}
-use Rattle.std.specs.Option.{option_map}
+use Rattle.std.specs.Option.{ok_or, option_map}
 use Rattle.std.specs.Result.{is_ok}
 use Rattle.acpi_base.specs.Bytes.{field_of}
 use Rattle.acpi_base.specs.Header.{check_names, check_table}
@@ -13,17 +13,20 @@ use Rattle.acpi_base.specs.Steps.{◌>>=◌, lent}
 use Rattle.acpi_base.specs.Table.{length_in, table_at, table_of, whole_of}
 use Rattle.acpi_base.specs.declared.error.AcpiError.{AcpiError}
 use Rattle.acpi_base.specs.declared.error.AcpiError.TheVariants.{MapFailed, NoValidRsdp}
+use Rattle.acpi_base.specs.declared.range.AddressRange.{AddressRange}
 use Rattle.acpi_base.specs.declared.table.header.SdtHeader.{SdtHeader}
 use Rattle.acpi_base.specs.declared.table.signature.Signature.{Signature}
-use Rattle.acpi.specs.Opened.{opened_at, opened_by_rsdp, opened_by_search, opened_from}
+use Rattle.acpi.specs.Areas.{areas_ranges, bios_areas, found_among, found_in_areas}
+use Rattle.acpi.specs.Opened.{Opened, opened_at, opened_by_rsdp, opened_by_search, opened_from}
 use Rattle.acpi.specs.OpenedRanges.{area_ranges, opened_by_rsdp_ranges, opened_by_search_ranges, opened_ranges, or_else_ranges, search_ranges}
 use Rattle.acpi.specs.Root.{root_of_revision}
-use Rattle.acpi.specs.Rsdp.{check_first, check_sum, extended_length_of, length_of, rsdp_at, rsdp_of}
+use Rattle.acpi.specs.Rsdp.{check_first, check_sum, extended_length_of, length_of, root_of_rsdp, rsdp_at, rsdp_of}
 use Rattle.acpi.specs.Search.{first_area, found_in, found_rsdp, or_else, room_of, second_area, word_in}
-use Rattle.acpi_c_lib.specs.Below.{refused_as}
+use Rattle.acpi_c_lib.specs.Below.{ebda_in, opened_as_lent, refused_as}
+use Rattle.acpi_c_lib.specs.declared.records.Range.{Range}
 use Rattle.acpi_c_lib.specs.declared.refusal.Refusal.{Refusal}
 use Rattle.acpi_c_lib.specs.declared.refusal.Refusal.TheVariants.{Acpi, UnknownStart}
-use Rattle.acpi_c_lib.specs.Missing.{IsUnlent, OpeningHasHole, hole, last_range, range_of}
+use Rattle.acpi_c_lib.specs.Missing.{IsUnlent, OpeningHasHole, hole, last_range, opened_as_lent_ranges, range_of}
 
 -- ---- the checks, which refuse by other errors
 
@@ -118,6 +121,46 @@ rsdp_unlent m a e = grind (arith, sum_not, rsdp_not, from_unlent)
 by_search_unlent : (m : Memory) → opened_by_search m ≡ Err MapFailed → IsUnlent m (last_range (opened_by_search_ranges m))
 by_search_unlent m e = rw last_append (grind (arith, search_unlent, from_unlent))
 
+-- the search in areas has one refusal, and it is another
+
+abbrev opened_by : Memory → Result (ℕ × List ℕ) AcpiError → Result Opened AcpiError
+opened_by m r = r >>= λ found. opened_from m (root_of_rsdp found.1)
+
+abbrev ranges_by : Memory → Result (ℕ × List ℕ) AcpiError → Ranges
+ranges_by m r = ranges.◌>>=◌ r (λ found. opened_ranges m (root_of_rsdp found.1))
+
+nothing_by : (m : Memory) (o : Option (ℕ × List ℕ)) (e : AcpiError) → ok_or o NoValidRsdp ≡ Err e → opened_by m (ok_or o NoValidRsdp) ≡ Err MapFailed → ⊥
+nothing_by m (Some found) e is refused = cc
+nothing_by m None e is refused = cc
+
+pub lent_nothing : (m : Memory) (e : AcpiError) → found_in_areas m (bios_areas (ebda_in m)) ≡ Err e → opened_as_lent m ≡ Err MapFailed → ⊥
+unfolding opened_as_lent found_in_areas
+lent_nothing m e is refused = nothing_by m (found_among m (bios_areas (ebda_in m))) e is refused
+
+root_by : (m : Memory) (xs : Ranges) (r : Result (ℕ × List ℕ) AcpiError) (found : ℕ × List ℕ) (x : Range) → r ≡ Ok found → opened_by m r ≡ Err MapFailed
+    → (opened_from m (root_of_rsdp found.1) ≡ Err MapFailed → last_range (opened_ranges m (root_of_rsdp found.1)) ≡ Some x) → last_range (xs ++ ranges_by m r) ≡ Some x
+root_by m xs (Ok y) found x is refused last =
+    let same : found ≡ y = cc in
+    let here : opened_from m (root_of_rsdp y.1) ≡ Err MapFailed → last_range (opened_ranges m (root_of_rsdp y.1)) ≡ Some x =
+    subst (λ (z : ℕ × List ℕ). opened_from m (root_of_rsdp z.1) ≡ Err MapFailed → last_range (opened_ranges m (root_of_rsdp z.1)) ≡ Some x) same last in
+    ap (option_map range_of) (last_append None xs (opened_ranges m (root_of_rsdp y.1))) ∙ here refused
+root_by m xs (Err e) found x is refused last = absurd cc
+
+pub lent_root : (m : Memory) (found : ℕ × List ℕ) (x : Range) → found_in_areas m (bios_areas (ebda_in m)) ≡ Ok found → opened_as_lent m ≡ Err MapFailed
+    → (opened_from m (root_of_rsdp found.1) ≡ Err MapFailed → last_range (opened_ranges m (root_of_rsdp found.1)) ≡ Some x)
+    → last_range (opened_as_lent_ranges m) ≡ Some x
+unfolding opened_as_lent opened_as_lent_ranges
+lent_root m found x is refused last = root_by m (areas_ranges m (bios_areas (ebda_in m))) (found_in_areas m (bios_areas (ebda_in m))) found x is refused last
+
+areas_by : (m : Memory) (xs : Ranges) (o : Option (ℕ × List ℕ)) → opened_by m (ok_or o NoValidRsdp) ≡ Err MapFailed → IsUnlent m (last_range (xs ++ ranges_by m (ok_or o NoValidRsdp)))
+areas_by m xs (Some found) refused =
+    subst (λ o. IsUnlent m (option_map range_of o)) (sym (last_append None xs (opened_ranges m (root_of_rsdp found.1)))) (from_unlent m (root_of_rsdp found.1) refused)
+areas_by m xs None refused = absurd cc
+
+by_areas_unlent : (m : Memory) → opened_as_lent m ≡ Err MapFailed → IsUnlent m (last_range (opened_as_lent_ranges m))
+unfolding opened_as_lent opened_as_lent_ranges found_in_areas
+by_areas_unlent m e = areas_by m (areas_ranges m (bios_areas (ebda_in m))) (found_among m (bios_areas (ebda_in m))) e
+
 refused_is : {A : Type 0} (r : Result A AcpiError) → refused_as r ≡ Err (Acpi MapFailed) → r ≡ Err MapFailed
 refused_is r e = grind arith
 
@@ -131,4 +174,5 @@ opening_unlent m s =
     started m (s.start == 0) (opened_by_rsdp m s.address) _ (opened_by_rsdp_ranges m s.address) _ (rsdp_unlent m s.address)
     (started m (s.start == 1) (opened_at m (0, s.address)) _ (opened_ranges m (root_of_revision 0 s.address)) _ (from_unlent m (root_of_revision 0 s.address))
     (started m (s.start == 2) (opened_at m (2, s.address)) _ (opened_ranges m (root_of_revision 2 s.address)) _ (from_unlent m (root_of_revision 2 s.address))
-    (started m (s.start == 3) (opened_by_search m) (Err UnknownStart) (opened_by_search_ranges m) [] (by_search_unlent m) (λ q. cc))))
+    (started m (s.start == 3) (opened_by_search m) _ (opened_by_search_ranges m) _ (by_search_unlent m)
+    (started m (s.start == 4) (opened_as_lent m) (Err UnknownStart) (opened_as_lent_ranges m) [] (by_areas_unlent m) (λ q. cc)))))

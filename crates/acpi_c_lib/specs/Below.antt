@@ -1,12 +1,16 @@
 -- The tables that a caller names.
-use Rattle.std.specs.Prelude.{ℕ, ◌==◌, List, drop, Result, Ok, Err, if◌then◌else◌}
+use Rattle.std.specs.Prelude.{ℕ, ◌*◌, ◌==◌, List, drop, Option, Result, Ok, Err, if◌then◌else◌}
+use Rattle.std.specs.Option.{option_map}
+use Rattle.std.specs.Result.{result_ok}
 use Rattle.acpi_base.specs.Memory.{Memory}
 use Rattle.acpi_base.specs.Steps.{◌>>=◌}
 use Rattle.acpi_base.specs.Table.{Kind}
 use Rattle.acpi_base.specs.declared.error.AcpiError.{AcpiError}
+use Rattle.acpi.specs.Areas.{bios_areas, opened_in_areas}
 use Rattle.acpi.specs.Lookup.{lookup}
 use Rattle.acpi.specs.Opened.{Opened, opened_at, opened_by_rsdp, opened_by_search}
 use Rattle.acpi.specs.Root.{pointers, width_of}
+use Rattle.acpi.specs.Search.{word_in}
 use Rattle.acpi_c_lib.specs.Answers.{result_map}
 use Rattle.acpi_c_lib.specs.Regions.{memory_in}
 use Rattle.acpi_c_lib.specs.declared.records.Source.{Source}
@@ -18,14 +22,23 @@ abbrev pub refused_as : {A : Type 0} → Result A AcpiError → Result A Refusal
 refused_as (Ok x) = Ok x
 refused_as (Err e) = Err (Acpi e)
 
+-- the address of the extended BIOS data area (EBDA), 16 times the word at 40:0Eh, if that is lent
+abbrev pub ebda_in : Memory → Option ℕ
+ebda_in m = option_map (λ word. 16 * word) (result_ok (word_in m))
+
+-- by the search in the BIOS areas as far as they are lent
+unfoldable pub opened_as_lent : Memory → Result Opened AcpiError
+opened_as_lent m = opened_in_areas m (bios_areas (ebda_in m))
+
 -- the root table that a start's number and an address lead to: by an RSDP (section 5.2.5.3), as an RSDT (5.2.7), as an
--- XSDT (5.2.8), by the search of the BIOS areas (5.2.5.1)
+-- XSDT (5.2.8), by the search of the BIOS areas (5.2.5.1), or by the search in these as far as they are lent
 abbrev pub opened_in : Memory → Source → Result Opened Refusal
 opened_in m s =
     if s.start == 0 then refused_as (opened_by_rsdp m s.address)
     else if s.start == 1 then refused_as (opened_at m (0, s.address))
     else if s.start == 2 then refused_as (opened_at m (2, s.address))
     else if s.start == 3 then refused_as (opened_by_search m)
+    else if s.start == 4 then refused_as (opened_as_lent m)
     else Err UnknownStart
 
 -- what a definition over a memory and the root table in it says of the tables that a caller names

@@ -1,21 +1,28 @@
 -- The ranges of memory that a caller has to map before the calls can read all tables.
-use Rattle.std.specs.Prelude.{◌≡◌, ℕ, ◌==◌, List, [], ◌++◌, drop, filter_map, Option, Some, None, Result, Ok, Err, if◌then◌else◌}
+use Rattle.std.specs.Prelude.{◌≡◌, ℕ, zero, suc, ◌+◌, ◌*◌, ◌/◌, ◌^◌, ◌≤◌, ◌==◌, List, [], ◌∷◌, ◌++◌, drop, filter_map, Bool, true, false, Option, Some, None, Result, Ok, Err, if◌then◌else◌}
 use Rattle.std.specs.List.{cons_option, last_or}
-use Rattle.std.specs.Option.{option_map}
+use Rattle.std.specs.Option.{is_some, option_map}
+use Rattle.std.specs.Result.{is_ok}
 use Rattle.acpi_base.specs.Memory.{Memory, at}
 use Rattle.acpi_base.specs.Ranges.{Ranges, own_table_ranges}
-use Rattle.acpi_base.specs.Steps.{◌>>=◌}
+use Rattle.acpi_base.specs.Steps.{◌>>=◌, lent}
 use Rattle.acpi_base.specs.Table.{own_table_at}
 use Rattle.acpi_base.specs.declared.error.AcpiError.{AcpiError}
 use Rattle.acpi_base.specs.declared.error.AcpiError.TheVariants.{MapFailed}
+use Rattle.acpi_base.specs.declared.range.AddressRange.{AddressRange}
 use Rattle.acpi_fixed.specs.Fadt.{fadt_at}
+use Rattle.acpi_fixed.specs.declared.fadt.Fadt.{Fadt}
+use Rattle.acpi.specs.Areas.{bios_areas, count_in, first_in, opened_in_areas_ranges}
+use Rattle.acpi.specs.Later.{or_later}
 use Rattle.acpi.specs.Lists.{fadt_kind}
 use Rattle.acpi.specs.Lookup.{lookup}
 use Rattle.acpi.specs.Opened.{Opened}
-use Rattle.acpi.specs.OpenedRanges.{opened_by_rsdp_ranges, opened_by_search_ranges, opened_ranges}
+use Rattle.acpi.specs.OpenedRanges.{opened_by_rsdp_ranges, opened_by_search_ranges, opened_ranges, rsdp_ranges}
 use Rattle.acpi.specs.Places.{dsdt_place, dsdt_place_ranges, facs_place, facs_place_ranges}
 use Rattle.acpi.specs.Root.{pointers, root_of_revision, width_of}
-use Rattle.acpi_c_lib.specs.Below.{opened_in}
+use Rattle.acpi.specs.Rsdp.{rsdp_at}
+use Rattle.acpi.specs.Search.{count_of, first_area, room_of, second_area, walk, word_in}
+use Rattle.acpi_c_lib.specs.Below.{ebda_in, opened_in}
 use Rattle.acpi_c_lib.specs.Regions.{memory_in}
 use Rattle.acpi_c_lib.specs.declared.records.Range.{Range}
 use Rattle.acpi_c_lib.specs.declared.records.Source.{Source}
@@ -52,7 +59,64 @@ led_holes m (Err e) = []
 abbrev pub holes_below : Memory → List ℕ → List Range
 holes_below m ps = filter_map (member_hole m) ps ++ led_holes m (lookup m fadt_kind ps)
 
+-- ---- of the RSDPs that a search comes to (section 5.2.5.1)
+
+-- as many bytes of a candidate as its Length says, if its 36 bytes are lent and these aren't: the last of its ranges
+-- after the first
+unfoldable pub candidate_hole : Memory → ℕ → Option Range
+candidate_hole m a = hole (rsdp_at m a) (drop 1 (rsdp_ranges m a))
+
+-- those of so many candidates from an address on, up to the first valid one
+unfoldable pub walk_holes : Memory → ℕ → ℕ → List Range
+walk_holes m zero a = []
+walk_holes m (suc n) a = or_later (λ b. []) (rsdp_at m a) (cons_option (candidate_hole m a) (walk_holes m n (a + 16)))
+
+-- whether one of them is valid
+unfoldable pub has_valid : Memory → ℕ → ℕ → Bool
+has_valid m n a = is_some (walk m n a)
+
+-- those that are come to only if nothing is found before
+abbrev pub unless : Bool → List Range → List Range
+unless true holes = []
+unless false holes = holes
+
+-- of the second area that is asked for in one piece with 16 bytes after it, if it is lent so
+unfoldable pub second_holes : Memory → ℕ → List Range
+second_holes m word =
+    let s = second_area word in
+    if is_ok (lent m s.start (room_of s)) then walk_holes m (count_of s) s.start else []
+
+-- of both such areas, if the word is lent that says where the second lies, and the first is
+unfoldable pub pieces_holes : Memory → Result ℕ AcpiError → List Range
+pieces_holes m (Ok word) =
+    let s = first_area in
+    if is_ok (lent m s.start (room_of s)) then
+    walk_holes m (count_of s) s.start ++ unless (has_valid m (count_of s) s.start) (second_holes m word)
+    else []
+pieces_holes m (Err e) = []
+
+-- an area begins at a multiple of 16, in the first MiB
+abbrev pub Fits : AddressRange → Type 0
+Fits s = (s.address / 16 * 16 ≡ s.address) × (s.address + s.length ≤ 2 ^ 20)
+
+-- of areas as far as they are lent
+unfoldable pub areas_holes : Memory → List AddressRange → List Range
+areas_holes m [] = []
+areas_holes m (s ∷ areas) =
+    walk_holes m (count_in s) (first_in s) ++ unless (has_valid m (count_in s) (first_in s)) (areas_holes m areas)
+
+-- of a start, by its number
+unfoldable pub candidate_holes : Memory → Source → List Range
+candidate_holes m s =
+    if s.start == 3 then pieces_holes m (word_in m)
+    else if s.start == 4 then areas_holes m (bios_areas (ebda_in m))
+    else []
+
 -- ---- of the tables that a caller names
+
+-- those of `opened_as_lent`
+unfoldable pub opened_as_lent_ranges : Memory → Ranges
+opened_as_lent_ranges m = opened_in_areas_ranges m (bios_areas (ebda_in m))
 
 -- the ranges of opening, by the number of a start
 abbrev pub opening_ranges : Memory → Source → Ranges
@@ -61,6 +125,7 @@ opening_ranges m s =
     else if s.start == 1 then opened_ranges m (root_of_revision 0 s.address)
     else if s.start == 2 then opened_ranges m (root_of_revision 2 s.address)
     else if s.start == 3 then opened_by_search_ranges m
+    else if s.start == 4 then opened_as_lent_ranges m
     else []
 
 -- those below the root table, or the one of opening
@@ -69,10 +134,12 @@ missing_in m s (Ok o) = Ok (holes_below m (pointers (width_of o.kind) (drop 36 o
 missing_in m s (Err (Acpi e)) = Ok (cons_option (hole {A = Opened} (Err e) (opening_ranges m s)) [])
 missing_in m s (Err e) = Err e
 
+-- those of a search's candidates, and then the others
 abbrev pub missing_below : Source → Result (List Range) Refusal
 missing_below s = do
   m ← memory_in s.regions.now
-  missing_in m s (opened_in m s)
+  others ← missing_in m s (opened_in m s)
+  Ok (candidate_holes m s ++ others)
 
 -- ---- what the ranges tell
 
@@ -84,6 +151,17 @@ IsUnlent m None = ⊥
 -- each member that is refused because it isn't lent has a range
 abbrev pub MembersHaveHoles : Type 0
 MembersHaveHoles = (m : Memory) (p : ℕ) → own_table_at m p ≡ Err MapFailed → IsUnlent m (member_hole m p)
+
+-- so has a candidate that is lent, and refused because it isn't lent as far as its Length says
+abbrev pub CandidatesHaveHoles : Type 0
+CandidatesHaveHoles = (m : Memory) (a : ℕ) (b : List ℕ) → lent m a 36 ≡ Ok b → rsdp_at m a ≡ Err MapFailed
+    → IsUnlent m (candidate_hole m a)
+
+-- so have the DSDT and the FACS that a FADT leads to
+abbrev pub LedHaveHoles : Type 0
+LedHaveHoles = (m : Memory) (f : Fadt)
+    → (dsdt_place m f ≡ Err MapFailed → IsUnlent m (hole (dsdt_place m f) (dsdt_place_ranges m f)))
+    × (facs_place m f ≡ Err MapFailed → IsUnlent m (hole (facs_place m f) (facs_place_ranges m f)))
 
 -- opening that is refused because something isn't lent has a range
 abbrev pub OpeningHasHole : Type 0

@@ -1,10 +1,12 @@
 -- The interrupt model (MADT, section 5.2.12) as C gets it.
-use Rattle.std.specs.Prelude.{ℕ, Bool, true, false, List, [], ◌∷◌, length, map, Option, Some, None, Result}
+use Rattle.std.specs.Prelude.{ℕ, zero, suc, Bool, true, false, List, [], ◌∷◌, length, map, Option, Some, None, Result}
+use Rattle.std.specs.List.{filter_map}
 use Rattle.acpi_base.specs.Interrupts.{line_code, polarity_code, trigger_code}
 use Rattle.acpi_base.specs.Madt.{madt_at}
 use Rattle.acpi_base.specs.Memory.{Memory}
 use Rattle.acpi_base.specs.Model as base
 use Rattle.acpi_base.specs.declared.error.AcpiError.{AcpiError}
+use Rattle.acpi_base.specs.declared.model.interrupt.Apic.{Apic}
 use Rattle.acpi_base.specs.declared.model.interrupt.InterruptModel.TheVariants as model
 use Rattle.acpi_base.specs.declared.model.interrupt.InterruptSourceOverride.{InterruptSourceOverride}
 use Rattle.acpi_base.specs.declared.model.interrupt.IoApic.{IoApic}
@@ -31,6 +33,14 @@ use Rattle.acpi_c_lib.specs.declared.refusal.Refusal.{Refusal}
 abbrev pub Platform : Type 0
 Platform = base.Model (Unit {0})
 
+-- a model of APICs
+abbrev pub Apics : Type 0
+Apics = Apic (Unit {0})
+
+-- what the MADT that describes APICs says of them
+abbrev pub apics_by : List ℕ → Apics
+apics_by table = base.apic_of (madt_at table) (base.items_of table)
+
 -- what the MADT that describes APICs says, or nothing if there is none
 abbrev pub model_by : Option (List ℕ) → Platform
 model_by (Some table) = base.gathered (madt_at table) (base.items_of table)
@@ -56,9 +66,8 @@ io_apic_record x = record {
   id = x.id;
 }
 
-abbrev pub io_apics_of : Platform → List records.IoApic
-io_apics_of (model.Apic apic, processors) = map io_apic_record apic.io_apics
-io_apics_of (model.Unknown, processors) = []
+abbrev pub io_apics_of : Apics → List records.IoApic
+io_apics_of apic = map io_apic_record apic.io_apics
 
 -- ---- overrides (section 5.2.12.5)
 
@@ -70,9 +79,8 @@ override_record x = record {
   trigger = trigger_code x.trigger_mode;
 }
 
-abbrev pub overrides_of : Platform → List records.InterruptSourceOverride
-overrides_of (model.Apic apic, processors) = map override_record apic.interrupt_source_overrides
-overrides_of (model.Unknown, processors) = []
+abbrev pub overrides_of : Apics → List records.InterruptSourceOverride
+overrides_of apic = map override_record apic.interrupt_source_overrides
 
 -- ---- non-maskable interrupts (sections 5.2.12.6, 5.2.12.7 and 5.2.12.13)
 
@@ -83,9 +91,8 @@ nmi_source_record x = record {
   trigger = trigger_code x.trigger_mode;
 }
 
-abbrev pub nmi_sources_of : Platform → List records.NmiSource
-nmi_sources_of (model.Apic apic, processors) = map nmi_source_record apic.nmi_sources
-nmi_sources_of (model.Unknown, processors) = []
+abbrev pub nmi_sources_of : Apics → List records.NmiSource
+nmi_sources_of apic = map nmi_source_record apic.nmi_sources
 
 -- the id of one processor
 abbrev pub uid_of : NmiProcessor → ℕ
@@ -103,9 +110,8 @@ nmi_line_record x = record {
   lint = line_code x.line;
 }
 
-abbrev pub nmi_lines_of : Platform → List records.NmiLine
-nmi_lines_of (model.Apic apic, processors) = map nmi_line_record apic.local_apic_nmi_lines
-nmi_lines_of (model.Unknown, processors) = []
+abbrev pub nmi_lines_of : Apics → List records.NmiLine
+nmi_lines_of apic = map nmi_line_record apic.local_apic_nmi_lines
 
 -- ---- processors (sections 5.2.12.2 and 5.2.12.12)
 
@@ -134,6 +140,11 @@ listed None = []
 -- those that entries say
 abbrev pub processors_in : List MadtItem → List records.Processor
 processors_in items = map processor_record (listed (base.processors_of items))
+
+-- those still to come, after so many
+abbrev pub left_after : ℕ → List MadtItem → List records.Processor
+left_after zero items = processors_in items
+left_after (suc n) items = map processor_record (filter_map (base.processor_in true) items)
 
 abbrev pub processors_of : Platform → List records.Processor
 processors_of platform = map processor_record (listed platform.1)

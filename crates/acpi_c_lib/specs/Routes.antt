@@ -6,15 +6,15 @@ use Rattle.acpi_base.specs.Isa.{isa_interrupt, sci_interrupt}
 use Rattle.acpi_base.specs.Memory.{Memory}
 use Rattle.acpi_base.specs.Pin.{base_of, io_apic_for}
 use Rattle.acpi_base.specs.Steps.{◌>>=◌}
-use Rattle.acpi_base.specs.declared.model.interrupt.Apic.{Apic}
 use Rattle.acpi_base.specs.declared.model.interrupt.InterruptModel.TheVariants as model
 use Rattle.acpi_base.specs.declared.model.interrupt.IoApic.{IoApic}
 use Rattle.acpi_base.specs.declared.model.isa.IsaInterrupt.{IsaInterrupt}
 use Rattle.acpi_fixed.specs.Fadt.{fadt_at}
 use Rattle.acpi.specs.Lists.{fadt_kind}
 use Rattle.acpi.specs.Lookup.{lookup}
+use Rattle.acpi_c_lib.specs.Answers.{result_map}
 use Rattle.acpi_c_lib.specs.Below.{below, refused_as}
-use Rattle.acpi_c_lib.specs.Model.{Platform, io_apic_record, platform_model}
+use Rattle.acpi_c_lib.specs.Model.{Apics, Platform, io_apic_record, platform_model}
 use Rattle.acpi_c_lib.specs.declared.interrupt_records.Interrupt.{Interrupt}
 use Rattle.acpi_c_lib.specs.declared.interrupt_records.IoApicPin.{IoApicPin}
 use Rattle.acpi_c_lib.specs.declared.records.Source.{Source}
@@ -29,15 +29,29 @@ interrupt_record i = record {
 }
 
 -- the APICs of a platform
-abbrev pub apics_of : Platform → Result (Apic (Unit {0})) Refusal
+abbrev pub apics_of : Platform → Result Apics Refusal
 apics_of (model.Apic apic, processors) = Ok apic
 apics_of (model.Unknown, processors) = Err NoApics
 
 -- the APICs of the platform of the tables
-abbrev pub apics_in : Memory → List ℕ → Result (Apic (Unit {0})) Refusal
+abbrev pub apics_in : Memory → List ℕ → Result Apics Refusal
 apics_in m ps = do
   platform ← refused_as (platform_model m ps)
   apics_of platform
+
+-- the platform of the tables, if it has APICs
+abbrev pub platform_in : Memory → List ℕ → Result Platform Refusal
+platform_in m ps = do
+  platform ← refused_as (platform_model m ps)
+  _ ← apics_of platform
+  Ok platform
+
+-- what is shown of the APICs, and of the platform that has some, of the tables that a caller names
+abbrev pub below_apics : {A : Type 0} → Source → (Apics → A) → Result A Refusal
+below_apics s show = result_map show (below s apics_in)
+
+abbrev pub below_known : {A : Type 0} → Source → (Platform → A) → Result A Refusal
+below_known s show = result_map show (below s platform_in)
 
 -- an interrupt, or that there is none such
 abbrev pub interrupt_or : Option IsaInterrupt → Result Interrupt Refusal

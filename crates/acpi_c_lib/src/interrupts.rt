@@ -1,6 +1,6 @@
 //! The interrupt model, gathered with no heap: what is counted is counted by a walk along the entries of
 //! the MADT, and what is listed is written by another one.
-ghost use Rattle.std.specs.Prelude.{◌≡◌, ◌^◌, ◌<◌, length, map, IfOk, IfSome};
+ghost use Rattle.std.specs.Prelude.{◌≡◌, ◌^◌, ◌<◌, length, map, IfOk, IfSome, Some};
 ghost use Rattle.std.specs.List.{filter_map};
 ghost use Rattle.std.specs.Option.{option_map};
 ghost use Rattle.acpi_base.specs.Interrupts.{polarity_code, trigger_code};
@@ -11,7 +11,8 @@ ghost use Rattle.acpi_base.specs.Steps.{Gives};
 ghost use Rattle.acpi.specs.Platform.{model_in};
 ghost use Rattle.acpi.specs.Tables.{of_tables};
 ghost use Rattle.acpi_c_lib.specs.Answers.{Fills, Writes};
-ghost use Rattle.acpi_c_lib.specs.Model.{below_platform, io_apic_record, model_by, platform_model};
+ghost use Rattle.acpi_c_lib.specs.Model.{apics_by, io_apic_record, model_by, platform_model};
+ghost use Rattle.acpi_c_lib.specs.Routes.{apics_in, below_apics, platform_in};
 
 use crate::interrupt_records as records;
 use crate::lists::put;
@@ -55,6 +56,20 @@ pub(crate) fn apic_madt<'h, H: AcpiHandler>(
     Ok(found)
 }
 
+/// The MADT that describes the machine's APICs, with how much there is of each sort.
+///
+/// Refuses as `apic_madt` does, and then with `NoApics` if there is none.
+pub(crate) fn known_madt<'h, H: AcpiHandler>(
+    tables: &AcpiTables<'h, H>,
+) -> Result<ApicMadt<'h, H>, Refusal>
+    ensures apics { Gives (λ x. apics_by (bytes_of x.madt)) result (of_tables tables.now apics_in) }
+    ensures platform { Gives (λ x. model_by (Some (bytes_of x.madt))) result
+        (of_tables tables.now platform_in) }
+    ensures counts { IfOk result (λ x. x.counts ≡ counts_of (items_of (bytes_of x.madt))) }
+{
+    apic_madt(tables)?.ok_or(Refusal::NoApics)
+}
+
 /// The first valid MADT, if it describes APICs, with how much there is of each sort, or `None` if no valid one is
 /// listed or it describes none. The FADT isn't looked at.
 ///
@@ -89,12 +104,12 @@ pub(crate) fn items_of<'m, H: Lender>(madt: &'m PhysicalMapping<'_, H, Madt>) ->
 
 /// A record of C's of what entries of a MADT say.
 pub trait MadtRecord: Copy {
-    ghost use Rattle.std.specs.Prelude.{◌≡◌, ℕ, List, [], Option, Some, None, map};
+    ghost use Rattle.std.specs.Prelude.{◌≡◌, ℕ, List, Option, map};
     ghost use Rattle.std.specs.List.{filter_map};
     ghost use Rattle.std.specs.Option.{option_map};
     ghost use Rattle.acpi_base.specs.Model.{items_of};
     ghost use Rattle.acpi_base.specs.declared.model.item.MadtItem.{MadtItem};
-    ghost use Rattle.acpi_c_lib.specs.Model.{Platform, model_by};
+    ghost use Rattle.acpi_c_lib.specs.Model.{Apics, apics_by};
 
     /// What it shows.
     type Part;
@@ -105,30 +120,26 @@ pub trait MadtRecord: Copy {
     // The record of it.
     ghost record_of: { Self.Part → Self };
 
-    // The records of those that a platform has.
-    ghost shown: { Platform → List Self };
+    // The records of those that the APICs have.
+    ghost shown: { Apics → List Self };
 
     /// The record of what an entry says, if it is of this sort.
     fn said(item: MadtItem) -> Option<Self>
         ensures { result ≡ option_map record_of (part_in item) };
 
-    // They are those that the entries of the MADT say, and none if the model is unknown.
+    // They are those that the entries of the MADT say.
     ghost of_entries: { (table : List ℕ)
-        → shown (model_by (Some table)) ≡ map record_of (filter_map part_in (items_of table)) };
-
-    ghost of_none: { shown (model_by None) ≡ [] };
+        → shown (apics_by table) ≡ map record_of (filter_map part_in (items_of table)) };
 }
 
 /// Lists what entries of one sort say, by the first valid MADT.
 pub fn entries<R: MadtRecord>(source: &Source<'_>, out: &mut [R]) -> Result<usize, Refusal>
-    ensures { Fills result out.old out.new (below_platform source.now R.shown) }
+    ensures { Fills result out.old out.new (below_apics source.now R.shown) }
 {
     let memory = Mapped::new(source.regions)?;
     let tables = open(&memory, source)?;
-    match apic_madt(&tables)? {
-        Some(found) => Ok(fill_entries(items_of(&found.madt), out)),
-        None => Ok(0),
-    }
+    let found = known_madt(&tables)?;
+    Ok(fill_entries(items_of(&found.madt), out))
 }
 
 fn fill_entries<R: MadtRecord>(items: MadtItems<'_>, out: &mut [R]) -> usize
@@ -160,8 +171,6 @@ impl MadtRecord for records::IoApic {
 
     ghost of_entries = { λ table. refl };
 
-    ghost of_none = { refl };
-
     fn said(item: MadtItem) -> Option<records::IoApic> {
         match item {
             MadtItem::IoApic(found) => Some(io_apic_record(&found)),
@@ -184,8 +193,6 @@ impl MadtRecord for records::InterruptSourceOverride {
     ghost shown = { overrides_of };
 
     ghost of_entries = { λ table. refl };
-
-    ghost of_none = { refl };
 
     fn said(item: MadtItem) -> Option<records::InterruptSourceOverride> {
         match item {
@@ -215,8 +222,6 @@ impl MadtRecord for records::NmiSource {
 
     ghost of_entries = { λ table. refl };
 
-    ghost of_none = { refl };
-
     fn said(item: MadtItem) -> Option<records::NmiSource> {
         match item {
             MadtItem::NmiSource(found) => Some(records::NmiSource {
@@ -243,8 +248,6 @@ impl MadtRecord for records::NmiLine {
     ghost shown = { nmi_lines_of };
 
     ghost of_entries = { λ table. refl };
-
-    ghost of_none = { refl };
 
     fn said(item: MadtItem) -> Option<records::NmiLine> {
         let MadtItem::NmiLine(found) = item else {

@@ -10,7 +10,7 @@ ghost use Rattle.acpi_c_lib.specs.IsaList.{WritesOne, isa_list_below, nearer_of,
 
 use crate::interrupt_records as records;
 use crate::interrupt_records::{Interrupt, IoApicPin, IsaInterrupts, IsaRoute};
-use crate::interrupts::{apic_madt, io_apic_record};
+use crate::interrupts::{io_apic_record, known_madt};
 use crate::opening::open;
 use crate::records::Source;
 use crate::refusal::Refusal;
@@ -27,7 +27,7 @@ pub fn isa_list(source: &Source<'_>, out: &mut IsaInterrupts) -> Result<(), Refu
 {
     let memory = Mapped::new(source.regions)?;
     let tables = open(&memory, source)?;
-    let found = apic_madt(&tables)?.ok_or(Refusal::NoApics)?;
+    let found = known_madt(&tables)?;
     write_routes(&found.madt, &mut out.routes);
     Ok(())
 }

@@ -1,12 +1,24 @@
 //! Laws of the definitions, each the contract of a call that does nothing.
 ghost use Rattle.acpi_c_lib.specs.IsaList.{ItemsAreAnswers};
-ghost use Rattle.acpi_c_lib.specs.Missing.{MembersHaveHoles, OpeningHasHole};
+ghost use Rattle.acpi_c_lib.specs.Missing.{CandidatesHaveHoles, LedHaveHoles, MembersHaveHoles, OpeningHasHole};
 
 /// Each member of the root table that is refused with `MapFailed` has a range among those that
 /// `zacpi_list_missing_ranges` lists, and that range lies in no one region.
 #[tactic(auto, using(crate::proofs::Unlent::length_not, crate::proofs::Unlent::table_not), unfolding(acpi_base::specs::Table::own_table_at, acpi_base::specs::Table::table_at, acpi_base::specs::Table::table_of, acpi_base::specs::Table::whole_of))]
 pub fn members_refused_have_ranges()
     ensures { MembersHaveHoles }
+{}
+
+/// So has the DSDT or the FACS of a FADT that is refused with `MapFailed`.
+#[tactic(auto, using(crate::proofs::Unlent::length_not, crate::proofs::Unlent::table_not), unfolding(acpi_base::specs::Table::table_at, acpi_base::specs::Table::table_of, acpi_base::specs::Table::whole_of, acpi::specs::Places::dsdt_place, acpi::specs::Places::facs_at, acpi::specs::Places::facs_length))]
+pub fn led_tables_have_ranges()
+    ensures { LedHaveHoles }
+{}
+
+/// So has each candidate of a search whose 36 bytes are lent, if it is refused with `MapFailed`.
+#[tactic(auto, using(crate::proofs::Unlent::rsdp_not, crate::proofs::Unlent::sum_not), unfolding(acpi::specs::Rsdp::rsdp_at, crate::specs::Missing::candidate_hole))]
+pub fn candidates_have_ranges()
+    ensures { CandidatesHaveHoles }
 {}
 
 /// If opening the tables is refused with `MapFailed`, `zacpi_list_missing_ranges` lists a range, and that range

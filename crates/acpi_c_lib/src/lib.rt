@@ -9,6 +9,7 @@
 pub mod answer;
 pub mod arm_records;
 pub mod arm_timers;
+mod candidates;
 pub mod clip;
 pub mod console;
 pub mod devices;
@@ -27,6 +28,7 @@ pub mod numa;
 pub mod numa_records;
 pub mod opening;
 pub mod pci;
+pub mod platform;
 pub mod processors;
 pub mod records;
 pub mod refusal;

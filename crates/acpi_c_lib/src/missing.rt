@@ -14,19 +14,20 @@ ghost use Rattle.acpi.specs.Places.{dsdt_place, dsdt_place_ranges, facs_place, f
 ghost use Rattle.acpi.specs.Pointers.{pointers_left};
 ghost use Rattle.acpi.specs.Rsdp.{root_of};
 ghost use Rattle.acpi.specs.Search.{found_rsdp, room_of, second_area};
-ghost use Rattle.acpi_c_lib.specs.Answers.{Fills, put_from};
-ghost use Rattle.acpi_c_lib.specs.Below.{opened_in};
-ghost use Rattle.acpi_c_lib.specs.Missing.{hole, last_range, member_hole, missing_below};
-ghost use Rattle.acpi_c_lib.specs.Missing.{opening_ranges, range_of};
+ghost use Rattle.acpi_c_lib.specs.Answers.{Fills, items_said, put_from, result_map};
+ghost use Rattle.acpi_c_lib.specs.Below.{opened_as_lent, opened_in};
+ghost use Rattle.acpi_c_lib.specs.Missing.{hole, last_range, member_hole, missing_below, missing_in};
+ghost use Rattle.acpi_c_lib.specs.Missing.{opened_as_lent_ranges, opening_ranges, range_of};
 ghost use Rattle.acpi_c_lib.specs.declared.refusal.Refusal.TheVariants.{Acpi};
 
+use crate::candidates::candidate_holes;
 use crate::lists::put;
-use crate::opening::open;
+use crate::opening::{ebda, open};
 use crate::records::{Range, Source};
 use crate::refusal::Refusal;
 use crate::regions::Mapped;
 use acpi::fadt::Fadt;
-use acpi::rsdp::Rsdp;
+use acpi::rsdp::{Rsdp, bios_areas};
 use acpi::sdt::{SdtHeader, Signature, map_own_sdt, map_sdt};
 use acpi::{AcpiError, AcpiHandler, PhysicalMapping, Pointers};
 
@@ -35,37 +36,57 @@ pub fn missing(source: &Source<'_>, out: &mut [Range]) -> Result<usize, Refusal>
     ensures { Fills result out.old out.new (missing_below source.now) }
 {
     let memory = Mapped::new(source.regions)?;
-    match open(&memory, source) {
+    let from = candidate_holes(&memory, source, out);
+    others(&memory, source, out, from)
+}
+
+/// Those that aren't of a search's candidates, from an index on, and where the next would stand.
+fn others<H: AcpiHandler>(
+    handler: &H,
+    source: &Source<'_>,
+    out: &mut [Range],
+    from: usize,
+) -> Result<usize, Refusal>
+    requires { from < 2 ^ 30 }
+    ensures count { let m = H.memory handler.now in
+        result ≡ result_map (λ xs. from + length xs) (missing_in m source.now (opened_in m source.now)) }
+    ensures items { let m = H.memory handler.now in
+        out.new ≡ put_from out.old from (items_said (missing_in m source.now (opened_in m source.now))) }
+{
+    match open(handler, source) {
         Ok(tables) => {
             let led = match tables.find_table::<Fadt>() {
-                Ok(fadt) => (dsdt_hole(&memory, &fadt), facs_hole(&memory, &fadt)),
+                Ok(fadt) => (dsdt_hole(handler, &fadt), facs_hole(handler, &fadt)),
                 Err(_) => (None, None),
             };
-            Ok(fill(&memory, tables.addresses(), led, out))
+            Ok(fill(handler, tables.addresses(), led, out, from))
         }
         Err(Refusal::Acpi(AcpiError::MapFailed)) => {
-            let refused = opening_hole(&memory, source);
-            Ok(put_pair((Some(refused), None), out, 0))
+            let refused = opening_hole(handler, source);
+            Ok(put_pair((Some(refused), None), out, from))
         }
-        Err(Refusal::Acpi(_)) => Ok(0),
+        Err(Refusal::Acpi(_)) => Ok(from),
         Err(refusal) => Err(refusal),
     }
 }
 
-/// Writes where the members are refused that aren't lent, and then a pair of ranges, and says how many there are.
+/// Writes where the members are refused that aren't lent, and then a pair of ranges, from an index on, and says where the
+/// next would stand.
 fn fill<H: AcpiHandler>(
     handler: &H,
     addresses: Pointers<'_>,
     others: (Option<Range>, Option<Range>),
     out: &mut [Range],
+    from: usize,
 ) -> usize
-    requires { length (pointers_left addresses) < 2 ^ 32 }
-    ensures count { result ≡ length (filter_map (member_hole (H.memory handler.now))
+    requires few { length (pointers_left addresses) < 2 ^ 32 }
+    requires low { from < 2 ^ 30 }
+    ensures count { result ≡ from + length (filter_map (member_hole (H.memory handler.now))
         (pointers_left addresses.entry) ++ cons_option others.0 (cons_option others.1 [])) }
-    ensures items { out.new ≡ put_from out.old 0 (filter_map (member_hole (H.memory handler.now))
+    ensures items { out.new ≡ put_from out.old from (filter_map (member_hole (H.memory handler.now))
         (pointers_left addresses.entry) ++ cons_option others.0 (cons_option others.1 [])) }
 {
-    let mut count = 0;
+    let mut count = from;
     for address in addresses {
         if let Some(range) = member_hole(handler, address) {
             put(out, count, range);
@@ -76,8 +97,12 @@ fn fill<H: AcpiHandler>(
 }
 
 /// Writes those of a pair that are there from an index on, and says where the next would stand.
-fn put_pair(pair: (Option<Range>, Option<Range>), out: &mut [Range], from: usize) -> usize
-    requires { from < 2 ^ 32 }
+pub(crate) fn put_pair(
+    pair: (Option<Range>, Option<Range>),
+    out: &mut [Range],
+    from: usize,
+) -> usize
+    requires { from < 2 ^ 33 }
     ensures count { result ≡ from + length (cons_option pair.0 (cons_option pair.1 [])) }
     ensures items { out.new ≡ put_from out.old from (cons_option pair.0 (cons_option pair.1 [])) }
 {
@@ -94,7 +119,7 @@ fn put_pair(pair: (Option<Range>, Option<Range>), out: &mut [Range], from: usize
 }
 
 /// So many bytes from an address.
-fn range(address: u64, length: u32) -> Range
+pub(crate) fn range(address: u64, length: u32) -> Range
     ensures { result ≡ range_of (address, length) }
 {
     Range {
@@ -104,7 +129,7 @@ fn range(address: u64, length: u32) -> Range
 }
 
 /// Whether so many bytes are lent, of which there are at least two.
-fn is_lent<H: AcpiHandler>(handler: &H, address: u64, length: u32) -> bool
+pub(crate) fn is_lent<H: AcpiHandler>(handler: &H, address: u64, length: u32) -> bool
     requires { 2 ≤ length }
     ensures { result ≡ is_ok (lent (H.memory handler.now) address length) }
 {
@@ -176,7 +201,8 @@ fn opening_hole<H: AcpiHandler>(handler: &H, source: &Source<'_>) -> Range
     match source.start {
         0 => rsdp_hole(handler, source.address),
         1 | 2 => table_hole(handler, source.address),
-        _ => search_hole(handler),
+        3 => search_hole(handler),
+        _ => areas_root_hole(handler),
     }
 }
 
@@ -223,6 +249,18 @@ fn search_hole<H: AcpiHandler>(handler: &H) -> Range
     }
 }
 
+/// Where opening by the search in the areas as far as they are lent is refused so: the root table that the RSDP leads to.
+#[tactic(auto, using(crate::proofs::Unlent::lent_root, crate::proofs::Unlent::lent_nothing))]
+fn areas_root_hole<H: AcpiHandler>(handler: &H) -> Range
+    requires { opened_as_lent (H.memory handler.now) ≡ Err MapFailed }
+    ensures { last_range (opened_as_lent_ranges (H.memory handler.now)) ≡ Some result }
+{
+    match Rsdp::search_in(handler, &bios_areas(ebda(handler))) {
+        Ok(rsdp) => root_hole(handler, &rsdp),
+        Err(_) => unreachable!(),
+    }
+}
+
 /// Where the search is refused: the word at 0x40e, which is the segment of the extended BIOS data area (EBDA), or the
 /// first area, 0xe0000..0x100000, or the second one, each with 16 bytes after it (section 5.2.5.1).
 #[tactic(auto, using(crate::proofs::Unlent::search_refused))]
@@ -241,7 +279,7 @@ fn areas_hole<H: AcpiHandler>(handler: &H) -> Range
 
 /// The second area with 16 bytes after it: the EBDA's first 1024 bytes, or, if its address is under 0x80000 or is
 /// 0x9ffff or above, 0x80000..0xa0000 (section 5.2.5.1).
-fn second_hole(word: u16) -> Range
+pub(crate) fn second_hole(word: u16) -> Range
     ensures { let area = second_area word in result ≡ range_of (area.start, room_of area) }
 {
     let start = 16 * word as u64;

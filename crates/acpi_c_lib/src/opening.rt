@@ -2,17 +2,20 @@
 ghost use Rattle.std.specs.Prelude.{◌≡◌, Ok, IfOk};
 ghost use Rattle.acpi_base.specs.Steps.{Gives};
 ghost use Rattle.acpi.specs.Opened.{opened_of};
+ghost use Rattle.acpi.specs.Search.{word_in};
 ghost use Rattle.acpi.specs.Tables.{lender_of};
-ghost use Rattle.acpi_c_lib.specs.Below.{opened_in};
+ghost use Rattle.acpi_c_lib.specs.Below.{ebda_in, opened_as_lent, opened_in};
 ghost use Rattle.acpi_c_lib.specs.Shown.{root_below};
 
 use crate::records::{Root, Source};
 use crate::refusal::Refusal;
 use crate::regions::Mapped;
-use acpi::{AcpiHandler, AcpiTables};
+use acpi::rsdp::bios_areas;
+use acpi::{AcpiHandler, AcpiResult, AcpiTables, PhysicalMapping};
 
 /// The tables below what a source's start says: 0 the RSDP at its address (section 5.2.5.3), 1 the RSDT there (section
-/// 5.2.7), 2 the XSDT there (section 5.2.8), and 3 the RSDP that the BIOS areas hold (section 5.2.5.1).
+/// 5.2.7), 2 the XSDT there (section 5.2.8), 3 the RSDP that the BIOS areas hold (section 5.2.5.1), and 4 that which
+/// they hold as far as they are lent.
 ///
 /// Refuses an unknown start with `UnknownStart`, and else as the constructors of `AcpiTables` do.
 pub(crate) fn open<'h, H: AcpiHandler>(
@@ -27,9 +30,38 @@ pub(crate) fn open<'h, H: AcpiHandler>(
         1 => AcpiTables::from_rsdt(handler, 0, source.address)?,
         2 => AcpiTables::from_rsdt(handler, 2, source.address)?,
         3 => AcpiTables::search_for_rsdp_bios(handler)?,
+        4 => search_as_lent(handler)?,
         _ => return Err(Refusal::UnknownStart),
     };
     Ok(tables)
+}
+
+/// The tables below the RSDP that the BIOS areas hold as far as they are lent (section 5.2.5.1).
+#[tactic(auto, unfolding(crate::specs::Below::opened_as_lent))]
+fn search_as_lent<'h, H: AcpiHandler>(handler: &'h H) -> AcpiResult<AcpiTables<'h, H>>
+    ensures handler { IfOk result (λ t. lender_of t ≡ handler.now) }
+    ensures opened { Gives (λ t. opened_of t) result (opened_as_lent (H.memory handler.now)) }
+{
+    AcpiTables::search_in(handler, &bios_areas(ebda(handler)))
+}
+
+/// The segment of the extended BIOS data area (EBDA), which is the word at 0x40e (section 5.2.5.1).
+#[tactic(auto, unfolding(acpi::specs::Search::word_in))]
+pub(crate) fn ebda_segment<H: AcpiHandler>(handler: &H) -> AcpiResult<u16>
+    ensures { Gives (λ word. word) result (word_in (H.memory handler.now)) }
+{
+    let word = PhysicalMapping::<'_, H, u16>::map(handler, 0x40e, 2)?;
+    Ok(*word.get())
+}
+
+/// The address of the EBDA, if its segment is lent.
+pub(crate) fn ebda<H: AcpiHandler>(handler: &H) -> Option<u64>
+    ensures { result ≡ ebda_in (H.memory handler.now) }
+{
+    match ebda_segment(handler) {
+        Ok(segment) => Some(16 * segment as u64),
+        Err(_) => None,
+    }
 }
 
 /// The root table that a source leads to.

@@ -1,23 +1,26 @@
 //! The processors, and what there is of interrupts in all.
-ghost use Rattle.std.specs.Prelude.{◌≡◌, ◌^◌, ◌<◌, length};
+ghost use Rattle.std.specs.Prelude.{◌≡◌, ◌^◌, ◌<◌, length, Some};
 ghost use Rattle.std.specs.List.{filter_map};
 ghost use Rattle.std.specs.Option.{option_map};
+ghost use Rattle.acpi_base.specs.Items as items;
 ghost use Rattle.acpi_base.specs.Items.{items_left};
-ghost use Rattle.acpi_base.specs.Model.{last_address, local_apic_address_in, processor_in, state_of};
+ghost use Rattle.acpi_base.specs.Mapping.{bytes_of};
+ghost use Rattle.acpi_base.specs.Model.{items_of, last_address, local_apic_address_in, processor_in, state_of};
 ghost use Rattle.acpi_c_lib.specs.Answers.{Fills, Writes};
-ghost use Rattle.acpi_c_lib.specs.Model.{below_platform, counts_of, processor_record, processors_in, processors_of, state_code};
+ghost use Rattle.acpi_c_lib.specs.Model.{apics_by, below_platform, counts_of, model_by, processor_record, processors_in, processors_of, state_code};
+ghost use Rattle.acpi_c_lib.specs.Routes.{below_known};
 
 use crate::interrupt_records::{InterruptModel, Processor};
-use crate::interrupts::{apic_madt, items_of};
+use crate::interrupts::{ApicMadt, apic_madt, items_of, known_madt};
 use crate::lists::put;
 use crate::opening::open;
 use crate::records::Source;
 use crate::refusal::Refusal;
 use crate::regions::Mapped;
+use acpi::Lender;
 use acpi_base::model::{MadtItem, MadtItems};
 
 /// Which controllers interrupts come to, and how many of each sort the first valid MADT has.
-#[tactic(auto, using(crate::proofs::BootProcessor::as_many))]
 pub fn model(source: &Source<'_>) -> Result<InterruptModel, Refusal>
     ensures { result ≡ below_platform source.now counts_of }
 {
@@ -25,18 +28,9 @@ pub fn model(source: &Source<'_>) -> Result<InterruptModel, Refusal>
     let tables = open(&memory, source)?;
     match apic_madt(&tables)? {
         Some(found) => {
-            let items = items_of(&found.madt);
             let address = found.madt.local_apic_address as u64;
-            Ok(InterruptModel {
-                local_apic_address: local_apic_address(items, address),
-                io_apics: found.counts.io_apics,
-                overrides: found.counts.overrides,
-                nmi_sources: found.counts.nmi_sources,
-                nmi_lines: found.counts.nmi_lines,
-                processors: found.counts.processors,
-                known: 1,
-                also_has_8259: found.madt.supports_8259() as u8,
-            })
+            let last = local_apic_address(items_of(&found.madt), address);
+            Ok(known_model(&found, last))
         }
         None => Ok(InterruptModel {
             local_apic_address: 0,
@@ -48,6 +42,28 @@ pub fn model(source: &Source<'_>) -> Result<InterruptModel, Refusal>
             known: 0,
             also_has_8259: 0,
         }),
+    }
+}
+
+/// The model of a MADT that describes APICs, with this address of the local ones.
+#[tactic(auto, using(crate::proofs::BootProcessor::as_many))]
+pub(crate) fn known_model<H: Lender>(
+    found: &ApicMadt<'_, H>,
+    local_apic_address: u64,
+) -> InterruptModel
+    requires address { local_apic_address ≡ (apics_by (bytes_of found.now.madt)).local_apic_address }
+    requires counts { found.now.counts ≡ items.counts_of (items_of (bytes_of found.now.madt)) }
+    ensures { result ≡ counts_of (model_by (Some (bytes_of found.now.madt))) }
+{
+    InterruptModel {
+        local_apic_address,
+        io_apics: found.counts.io_apics,
+        overrides: found.counts.overrides,
+        nmi_sources: found.counts.nmi_sources,
+        nmi_lines: found.counts.nmi_lines,
+        processors: found.counts.processors,
+        known: 1,
+        also_has_8259: found.madt.supports_8259() as u8,
     }
 }
 
@@ -66,14 +82,12 @@ fn local_apic_address(items: MadtItems<'_>, address: u64) -> u64
 
 /// Lists the processors of the first valid MADT, the boot processor first.
 pub fn processors(source: &Source<'_>, out: &mut [Processor]) -> Result<usize, Refusal>
-    ensures { Fills result out.old out.new (below_platform source.now processors_of) }
+    ensures { Fills result out.old out.new (below_known source.now processors_of) }
 {
     let memory = Mapped::new(source.regions)?;
     let tables = open(&memory, source)?;
-    match apic_madt(&tables)? {
-        Some(found) => Ok(fill_processors(items_of(&found.madt), out)),
-        None => Ok(0),
-    }
+    let found = known_madt(&tables)?;
+    Ok(fill_processors(items_of(&found.madt), out))
 }
 
 /// The first processor is the boot processor.
@@ -93,7 +107,7 @@ fn fill_processors(items: MadtItems<'_>, out: &mut [Processor]) -> usize
 }
 
 /// The processor that an item says, as an application processor or as the boot processor.
-fn processor_of(item: MadtItem, is_ap: bool) -> Option<Processor>
+pub(crate) fn processor_of(item: MadtItem, is_ap: bool) -> Option<Processor>
     ensures { result ≡ option_map processor_record (processor_in is_ap item) }
 {
     match item {

@@ -9,7 +9,7 @@ ghost use Rattle.acpi_c_lib.specs.Routes as routes;
 ghost use Rattle.acpi_c_lib.specs.Routes.{is_nearer, isa_below, pin_below, sci_below};
 
 use crate::interrupt_records::{Interrupt, IoApicPin};
-use crate::interrupts::{apic_madt, io_apic_record, polarity_code, trigger_code};
+use crate::interrupts::{apic_madt, io_apic_record, known_madt, polarity_code, trigger_code};
 use crate::isa_list::overrides_in;
 use crate::opening::open;
 use crate::records::Source;
@@ -28,7 +28,7 @@ pub fn isa(source: &Source<'_>, irq: u8) -> Result<Interrupt, Refusal>
 {
     let memory = Mapped::new(source.regions)?;
     let tables = open(&memory, source)?;
-    let found = apic_madt(&tables)?.ok_or(Refusal::NoApics)?;
+    let found = known_madt(&tables)?;
     let interrupt = isa_in(&found.madt, irq).ok_or(Refusal::NoSuchInterrupt)?;
     Ok(interrupt_record(interrupt))
 }
@@ -51,7 +51,7 @@ pub fn pin(source: &Source<'_>, interrupt: u32) -> Result<IoApicPin, Refusal>
 {
     let memory = Mapped::new(source.regions)?;
     let tables = open(&memory, source)?;
-    let found = apic_madt(&tables)?.ok_or(Refusal::NoApics)?;
+    let found = known_madt(&tables)?;
     let io_apic = nearest(&found.madt, interrupt).ok_or(Refusal::NoSuchIoApic)?;
     Ok(IoApicPin {
         io_apic: io_apic_record(&io_apic),

@@ -11,6 +11,6 @@ use Rattle.acpi_c_lib.proofs.missing.fill.Given as goal
 abbrev pub invariant-loop-address : goal.invariant-loop-address
 invariant-loop-address g l =
     let left : List ℕ → List Range = λ ps. filter_map (member_hole (g.H.AcpiHandler.memory l.handler)) ps ++ cons_option l.others.0 (cons_option l.others.1 []) in
-    (put_from l.out l.count (left (pointers_left l.address-iterator)) ≡ put_from l.initial.out 0 (left (pointers_left l.initial.address-iterator)))
-    × ((l.count + length (left (pointers_left l.address-iterator)) ≡ length (left (pointers_left l.initial.address-iterator)))
-    × (l.count + length (pointers_left l.address-iterator) ≤ length (pointers_left l.initial.address-iterator)))
+    (put_from l.out l.count (left (pointers_left l.address-iterator)) ≡ put_from l.initial.out l.initial.count (left (pointers_left l.initial.address-iterator)))
+    × ((l.count + length (left (pointers_left l.address-iterator)) ≡ l.initial.count + length (left (pointers_left l.initial.address-iterator)))
+    × (l.count + length (pointers_left l.address-iterator) ≤ l.initial.count + length (pointers_left l.initial.address-iterator)))

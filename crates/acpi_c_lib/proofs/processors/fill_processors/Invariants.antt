@@ -1,8 +1,7 @@
 use Rattle.std.proofs.Common.{◌≡◌, ◌+◌, ◌≤◌, length}
 use Rattle.acpi_base.specs.Items.{items_left}
-use Rattle.acpi_c_lib.proofs.BootProcessor.{left_after}
 use Rattle.acpi_c_lib.specs.Answers.{put_from}
-use Rattle.acpi_c_lib.specs.Model.{processors_in}
+use Rattle.acpi_c_lib.specs.Model.{left_after, processors_in}
 use Rattle.acpi_c_lib.proofs.processors.fill_processors.Given as goal
 
 -- what is written and what is left are the whole, and the count has room for what is left
