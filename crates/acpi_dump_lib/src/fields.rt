@@ -1,56 +1,23 @@
 //! Fields, one a line: offset, name, value, meaning.
 
-use crate::layouts::{Bit, Code, Field, Meaning};
+use crate::layouts::form::{Code, Flag, Meaning};
+use crate::text::print_indent;
+use crate::walk::Shown;
 use acpi::sdt::field;
 use std::io;
 use std::io::Write;
 
-/// These bytes of a slice, if it has them.
-pub(crate) fn cut(bytes: &[u8], start: usize, end: usize) -> Option<&[u8]> {
-    if start <= end && end <= bytes.len() {
-        Some(&bytes[start..end])
-    } else {
-        None
-    }
-}
-
-/// Prints the fields of a part of a table that begins at `base`, in order, as far as it has them,
-/// and all other bytes of it as they are.
-pub(crate) fn print_fields<W: Write>(
-    base: u64,
-    part: &[u8],
-    lists: &[&[Field]],
-    out: &mut W,
-) -> io::Result<()> {
-    let mut shown = 0;
-    for list in lists {
-        for field in *list {
-            let Field(start, length, _, _) = *field;
-            let end = start.saturating_add(length);
-            if let Some(value) = cut(part, start, end) {
-                print_bytes(base, part, shown, start, out)?;
-                print_field(base.saturating_add(start as u64), value, field, out)?;
-                shown = end;
-            }
-        }
-    }
-    print_bytes(base, part, shown, part.len(), out)
-}
-
-/// Prints the bytes of a part of a table that no field covers, 16 a line.
+/// Prints bytes that no field covers, which begin at an offset of the table, 16 a line.
 pub(crate) fn print_bytes<W: Write>(
-    base: u64,
-    part: &[u8],
-    start: usize,
-    end: usize,
+    offset: u64,
+    bytes: &[u8],
+    depth: usize,
     out: &mut W,
 ) -> io::Result<()> {
-    let Some(bytes) = cut(part, start, end) else {
-        return Ok(());
-    };
-    let mut offset = base.saturating_add(start as u64);
+    let mut offset = offset;
     for line in bytes.chunks(16) {
-        write!(out, "  {offset:04x}  ")?;
+        print_indent(depth, out)?;
+        write!(out, "{offset:04x}  ")?;
         print_hex(line, out)?;
         writeln!(out)?;
         offset = offset.saturating_add(16);
@@ -66,19 +33,38 @@ fn print_hex<W: Write>(bytes: &[u8], out: &mut W) -> io::Result<()> {
     Ok(())
 }
 
-/// Prints one field.
-fn print_field<W: Write>(offset: u64, value: &[u8], field: &Field, out: &mut W) -> io::Result<()> {
-    let Field(_, _, name, meaning) = *field;
-    write!(out, "  {offset:04x}  {name:<38}  ")?;
-    print_value(value, meaning, out)?;
-    print_meaning(value, meaning, out)?;
+/// The column in which values begin.
+const VALUES: usize = 46;
+
+/// Prints one field, in a structure so deep in others.
+pub(crate) fn print_field<W: Write>(
+    shown: &Shown<'_>,
+    depth: usize,
+    out: &mut W,
+) -> io::Result<()> {
+    print_indent(depth, out)?;
+    write!(out, "{:04x}  {}", shown.offset, shown.name)?;
+    let mut column = depth
+        .saturating_mul(2)
+        .saturating_add(shown.name.len())
+        .saturating_add(8);
+    if let Some(number) = shown.number {
+        write!(out, " {number:<3}")?;
+        column = column.saturating_add(4);
+    }
+    for _ in column..VALUES {
+        write!(out, " ")?;
+    }
+    write!(out, "  ")?;
+    print_value(shown.bytes, shown.meaning, out)?;
+    print_meaning(shown.bytes, shown.meaning, out)?;
     writeln!(out)
 }
 
 /// Prints a number of up to eight bytes as one, the highest digit first, and a text or more bytes
 /// in their order.
 fn print_value<W: Write>(value: &[u8], meaning: Meaning, out: &mut W) -> io::Result<()> {
-    if value.len() > 8 || matches!(meaning, Meaning::Text) {
+    if value.len() > 8 || matches!(meaning, Meaning::Text | Meaning::Wide | Meaning::Row) {
         return print_hex(value, out);
     }
     write!(out, "0x")?;
@@ -105,8 +91,15 @@ fn print_meaning<W: Write>(value: &[u8], meaning: Meaning, out: &mut W) -> io::R
             write!(out, "  ")?;
             print_text(value, out)
         }
-        Meaning::Codes(codes) => print_code(number_of(value), codes, out),
-        Meaning::Bits(bits) => print_bits(number_of(value), bits, out),
+        Meaning::Wide => print_wide(value, out),
+        Meaning::Row => print_row(value, out),
+        Meaning::Guid => print_guid(value, out),
+        Meaning::Function => print_function(number_of(value), out),
+        Meaning::Codes(codes) => match find_code(number_of(value), codes) {
+            Some(name) => write!(out, "  {name}"),
+            None => Ok(()),
+        },
+        Meaning::Flags(flags) => print_flags(number_of(value), flags, out),
         Meaning::Register => print_register(value, out),
     }
 }
@@ -124,28 +117,101 @@ pub(crate) fn print_text<W: Write>(bytes: &[u8], out: &mut W) -> io::Result<()> 
     Ok(())
 }
 
-/// Prints the meaning of a number that is a code.
-fn print_code<W: Write>(number: u64, codes: &[Code], out: &mut W) -> io::Result<()> {
+/// The meaning of a number that is a code.
+fn find_code(number: u64, codes: &'static [Code]) -> Option<&'static str> {
     for code in codes {
         let Code(value, name) = *code;
         if value == number {
-            return write!(out, "  {name}");
+            return Some(name);
+        }
+    }
+    None
+}
+
+/// Bits of a number, from the lowest of them on.
+fn bits_of(number: u64, lowest: u32, count: u32) -> u64 {
+    if lowest >= 64 {
+        return 0;
+    }
+    let rest = number >> lowest;
+    if count >= 64 {
+        rest
+    } else {
+        rest & ((1 << count) - 1)
+    }
+}
+
+/// Prints the parts of a number that aren't 0, and the meanings of those that are codes.
+fn print_flags<W: Write>(number: u64, flags: &'static [Flag], out: &mut W) -> io::Result<()> {
+    let mut between = "  ";
+    for flag in flags {
+        match *flag {
+            Flag::Bit(place, name) => {
+                if bits_of(number, place, 1) == 1 {
+                    write!(out, "{between}{name}")?;
+                    between = ", ";
+                }
+            }
+            Flag::Number(lowest, count, name) => {
+                let part = bits_of(number, lowest, count);
+                if part != 0 {
+                    write!(out, "{between}{name} {part}")?;
+                    between = ", ";
+                }
+            }
+            Flag::Choice(lowest, count, codes) => {
+                if let Some(name) = find_code(bits_of(number, lowest, count), codes) {
+                    write!(out, "{between}{name}")?;
+                    between = ", ";
+                }
+            }
         }
     }
     Ok(())
 }
 
-/// Prints those bits of a number that are set.
-fn print_bits<W: Write>(number: u64, bits: &[Bit], out: &mut W) -> io::Result<()> {
-    let mut between = "  ";
-    for bit in bits {
-        let Bit(place, name) = *bit;
-        if place < 64 && (number >> place) & 1 == 1 {
-            write!(out, "{between}{name}")?;
-            between = ", ";
+/// Prints a text in UTF-16 as characters, those that aren't printable ASCII as `.`, up to a zero.
+fn print_wide<W: Write>(value: &[u8], out: &mut W) -> io::Result<()> {
+    write!(out, "  ")?;
+    for unit in value.chunks(2) {
+        match unit {
+            [0, 0] => return Ok(()),
+            [letter, 0] => print_text(&[*letter], out)?,
+            _ => write!(out, ".")?,
         }
     }
     Ok(())
+}
+
+/// Prints bytes as decimal numbers.
+fn print_row<W: Write>(value: &[u8], out: &mut W) -> io::Result<()> {
+    write!(out, " ")?;
+    for number in value {
+        write!(out, " {number}")?;
+    }
+    Ok(())
+}
+
+/// Prints a GUID, whose first three numbers have their lowest bytes first.
+fn print_guid<W: Write>(value: &[u8], out: &mut W) -> io::Result<()> {
+    if value.len() != 16 {
+        return Ok(());
+    }
+    let first = field(value, 0, 4);
+    let second = field(value, 4, 2);
+    let third = field(value, 6, 2);
+    write!(out, "  {first:08x}-{second:04x}-{third:04x}-")?;
+    print_hex(&value[8..10], out)?;
+    write!(out, "-")?;
+    print_hex(&value[10..], out)
+}
+
+/// Prints a PCI function.
+fn print_function<W: Write>(number: u64, out: &mut W) -> io::Result<()> {
+    let bus = bits_of(number, 8, 8);
+    let device = bits_of(number, 3, 5);
+    let function = bits_of(number, 0, 3);
+    write!(out, "  {bus:02x}:{device:02x}.{function}")
 }
 
 /// Prints the parts of a generic address, if it isn't all zeros.

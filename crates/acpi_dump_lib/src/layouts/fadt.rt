@@ -1,7 +1,9 @@
 //! The FADT (section 5.2.9).
 
-use super::Meaning::{Bits, Codes, Decimal, Plain, Register};
-use super::{Bit, Code, Field};
+use super::form::Flag::Bit;
+use super::form::Meaning::{Codes, Decimal, Flags, Plain, Register};
+use super::form::Part::Field;
+use super::form::{Code, Flag, Part};
 
 const PROFILES: &[Code] = &[
     Code(0, "Unspecified"),
@@ -16,7 +18,7 @@ const PROFILES: &[Code] = &[
 ];
 
 /// The bits of IAPC_BOOT_ARCH, the IA-PC Boot Architecture Flags (section 5.2.9.3).
-const PC_FLAGS: &[Bit] = &[
+const PC_FLAGS: &[Flag] = &[
     Bit(0, "LEGACY_DEVICES"),
     Bit(1, "8042"),
     Bit(2, "VGA Not Present"),
@@ -26,10 +28,10 @@ const PC_FLAGS: &[Bit] = &[
 ];
 
 /// The bits of ARM_BOOT_ARCH, the Arm Boot Architecture Flags (section 5.2.9.4).
-const ARM_FLAGS: &[Bit] = &[Bit(0, "PSCI_COMPLIANT"), Bit(1, "PSCI_USE_HVC")];
+const ARM_FLAGS: &[Flag] = &[Bit(0, "PSCI_COMPLIANT"), Bit(1, "PSCI_USE_HVC")];
 
 /// The bits of Flags, the Fixed Feature Flags (section 5.2.9).
-const FLAGS: &[Bit] = &[
+const FLAGS: &[Flag] = &[
     Bit(0, "WBINVD"),
     Bit(1, "WBINVD_FLUSH"),
     Bit(2, "PROC_C1"),
@@ -55,7 +57,7 @@ const FLAGS: &[Bit] = &[
 ];
 
 /// The FADT's fields after the header (section 5.2.9).
-pub(crate) const FADT: &[Field] = &[
+pub(crate) const FADT: &[Part] = &[
     Field(36, 4, "FIRMWARE_CTRL", Plain),
     Field(40, 4, "DSDT", Plain),
     Field(44, 1, "Reserved", Plain),
@@ -91,12 +93,12 @@ pub(crate) const FADT: &[Field] = &[
     Field(106, 1, "DAY_ALRM", Plain),
     Field(107, 1, "MON_ALRM", Plain),
     Field(108, 1, "CENTURY", Plain),
-    Field(109, 2, "IAPC_BOOT_ARCH", Bits(PC_FLAGS)),
+    Field(109, 2, "IAPC_BOOT_ARCH", Flags(PC_FLAGS)),
     Field(111, 1, "Reserved", Plain),
-    Field(112, 4, "Flags", Bits(FLAGS)),
+    Field(112, 4, "Flags", Flags(FLAGS)),
     Field(116, 12, "RESET_REG", Register),
     Field(128, 1, "RESET_VALUE", Plain),
-    Field(129, 2, "ARM_BOOT_ARCH", Bits(ARM_FLAGS)),
+    Field(129, 2, "ARM_BOOT_ARCH", Flags(ARM_FLAGS)),
     Field(131, 1, "FADT Minor Version", Plain),
     Field(132, 8, "X_FIRMWARE_CTRL", Plain),
     Field(140, 8, "X_DSDT", Plain),

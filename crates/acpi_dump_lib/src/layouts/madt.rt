@@ -1,23 +1,30 @@
 //! The MADT and its entries (section 5.2.12).
 
-use super::Meaning::{Bits, Codes, Decimal, Plain};
-use super::{Bit, Code, Field};
+use super::form::End::Whole;
+use super::form::Entries::Typed;
+use super::form::Flag::Bit;
+use super::form::Kind::Type;
+use super::form::Meaning::{Codes, Decimal, Flags, Plain};
+use super::form::Part::{Field, List};
+use super::form::Start::At;
+use super::form::{Code, Flag, Kind, Part, Place};
 
-const MADT_FLAGS: &[Bit] = &[Bit(0, "PCAT_COMPAT")];
+const MADT_FLAGS: &[Flag] = &[Bit(0, "PCAT_COMPAT")];
 
 /// The MADT's fields after the header (table 5.19).
-pub(crate) const MADT: &[Field] = &[
+pub(crate) const MADT: &[Part] = &[
     Field(36, 4, "Local Interrupt Controller Address", Plain),
-    Field(40, 4, "Flags", Bits(MADT_FLAGS)),
+    Field(40, 4, "Flags", Flags(MADT_FLAGS)),
+    List(At(44), Whole, Typed(Place(0, 1), Place(1, 1), ENTRY, ENTRIES)),
 ];
 
 /// The fields that each entry of a MADT begins with (section 5.2.12), by offsets in the entry, as those below.
-pub(crate) const ENTRY: &[Field] = &[
-    Field(0, 1, "Type", Codes(KINDS)),
+const ENTRY: &[Part] = &[
+    Field(0, 1, "Type", Plain),
     Field(1, 1, "Length", Decimal),
 ];
 
-const LOCAL: &[Bit] = &[Bit(0, "Enabled"), Bit(1, "Online Capable")];
+const LOCAL: &[Flag] = &[Bit(0, "Enabled"), Bit(1, "Online Capable")];
 
 /// The MPS INTI flags (table 5.26): the polarity in bits 0 and 1, the trigger in bits 2 and 3.
 const INTI: &[Code] = &[
@@ -38,9 +45,9 @@ const PLATFORM: &[Code] = &[
     Code(3, "Corrected Platform Error Interrupt"),
 ];
 
-const CPEI: &[Bit] = &[Bit(0, "CPEI Processor Override")];
+const CPEI: &[Flag] = &[Bit(0, "CPEI Processor Override")];
 
-const GICC: &[Bit] = &[
+const GICC: &[Flag] = &[
     Bit(0, "Enabled"),
     Bit(1, "Performance Interrupt Mode"),
     Bit(2, "VGIC Maintenance interrupt Mode Flags"),
@@ -55,109 +62,89 @@ const VERSIONS: &[Code] = &[
     Code(4, "GICv4"),
 ];
 
-const FRAME: &[Bit] = &[Bit(0, "SPI Count/Base Select")];
+const FRAME: &[Flag] = &[Bit(0, "SPI Count/Base Select")];
 
-const KINDS: &[Code] = &[
-    Code(0x00, "Processor Local APIC"),
-    Code(0x01, "I/O APIC"),
-    Code(0x02, "Interrupt Source Override"),
-    Code(0x03, "NMI Source"),
-    Code(0x04, "Local APIC NMI"),
-    Code(0x05, "Local APIC Address Override"),
-    Code(0x06, "I/O SAPIC"),
-    Code(0x07, "Local SAPIC"),
-    Code(0x08, "Platform Interrupt Sources"),
-    Code(0x09, "Processor Local x2APIC"),
-    Code(0x0a, "Local x2APIC NMI"),
-    Code(0x0b, "GIC CPU Interface (GICC)"),
-    Code(0x0c, "GIC Distributor (GICD)"),
-    Code(0x0d, "GIC MSI Frame"),
-    Code(0x0e, "GIC Redistributor (GICR)"),
-    Code(0x0f, "GIC Interrupt Translation Service (ITS)"),
-    Code(0x10, "Multiprocessor Wakeup"),
-];
-
-const LOCAL_APIC: &[Field] = &[
+const LOCAL_APIC: &[Part] = &[
     Field(2, 1, "ACPI Processor UID", Decimal),
     Field(3, 1, "APIC ID", Decimal),
-    Field(4, 4, "Flags", Bits(LOCAL)),
+    Field(4, 4, "Flags", Flags(LOCAL)),
 ];
 
-const IO_APIC: &[Field] = &[
+const IO_APIC: &[Part] = &[
     Field(2, 1, "I/O APIC ID", Decimal),
     Field(3, 1, "Reserved", Plain),
     Field(4, 4, "I/O APIC Address", Plain),
     Field(8, 4, "Global System Interrupt Base", Decimal),
 ];
 
-const SOURCE_OVERRIDE: &[Field] = &[
+const SOURCE_OVERRIDE: &[Part] = &[
     Field(2, 1, "Bus", Decimal),
     Field(3, 1, "Source", Decimal),
     Field(4, 4, "Global System Interrupt", Decimal),
     Field(8, 2, "Flags", Codes(INTI)),
 ];
 
-const NMI_SOURCE: &[Field] = &[
+const NMI_SOURCE: &[Part] = &[
     Field(2, 2, "Flags", Codes(INTI)),
     Field(4, 4, "Global System Interrupt", Decimal),
 ];
 
-const LOCAL_NMI: &[Field] = &[
+const LOCAL_NMI: &[Part] = &[
     Field(2, 1, "ACPI Processor UID", Decimal),
     Field(3, 2, "Flags", Codes(INTI)),
     Field(5, 1, "Local APIC LINT#", Decimal),
 ];
 
-const ADDRESS_OVERRIDE: &[Field] = &[
+const ADDRESS_OVERRIDE: &[Part] = &[
     Field(2, 2, "Reserved", Plain),
     Field(4, 8, "Local APIC Address", Plain),
 ];
 
-const IO_SAPIC: &[Field] = &[
+const IO_SAPIC: &[Part] = &[
     Field(2, 1, "I/O APIC ID", Decimal),
     Field(3, 1, "Reserved", Plain),
     Field(4, 4, "Global System Interrupt Base", Decimal),
     Field(8, 8, "I/O SAPIC Address", Plain),
 ];
 
-const LOCAL_SAPIC: &[Field] = &[
+const LOCAL_SAPIC: &[Part] = &[
     Field(2, 1, "ACPI Processor ID", Decimal),
     Field(3, 1, "Local SAPIC ID", Decimal),
     Field(4, 1, "Local SAPIC EID", Decimal),
     Field(5, 3, "Reserved", Plain),
-    Field(8, 4, "Flags", Bits(LOCAL)),
+    Field(8, 4, "Flags", Flags(LOCAL)),
     Field(12, 4, "ACPI Processor UID Value", Decimal),
 ];
 
-const PLATFORM_SOURCE: &[Field] = &[
+const PLATFORM_SOURCE: &[Part] = &[
     Field(2, 2, "Flags", Codes(INTI)),
     Field(4, 1, "Interrupt Type", Codes(PLATFORM)),
     Field(5, 1, "Processor ID", Decimal),
     Field(6, 1, "Processor EID", Decimal),
     Field(7, 1, "I/O SAPIC Vector", Plain),
     Field(8, 4, "Global System Interrupt", Decimal),
-    Field(12, 4, "Platform Interrupt Source Flags", Bits(CPEI)),
+    Field(12, 4, "Platform Interrupt Source Flags", Flags(CPEI)),
 ];
 
-const LOCAL_X2APIC: &[Field] = &[
+const LOCAL_X2APIC: &[Part] = &[
     Field(2, 2, "Reserved", Plain),
     Field(4, 4, "X2APIC ID", Decimal),
-    Field(8, 4, "Flags", Bits(LOCAL)),
+    Field(8, 4, "Flags", Flags(LOCAL)),
     Field(12, 4, "ACPI Processor UID", Decimal),
 ];
 
-const X2APIC_NMI: &[Field] = &[
+const X2APIC_NMI: &[Part] = &[
     Field(2, 2, "Flags", Codes(INTI)),
     Field(4, 4, "ACPI Processor UID", Decimal),
     Field(8, 1, "Local x2APIC LINT#", Decimal),
     Field(9, 3, "Reserved", Plain),
 ];
 
-const GICC_ENTRY: &[Field] = &[
+const GICC_ENTRY: &[Part] = &[
     Field(2, 2, "Reserved", Plain),
     Field(4, 4, "CPU Interface Number", Decimal),
     Field(8, 4, "ACPI Processor UID", Decimal),
-    Field(12, 4, "Flags", Bits(GICC)),
+    Field(12, 4, "Flags", Flags(GICC)),
     Field(16, 4, "Parking Protocol Version", Plain),
     Field(20, 4, "Performance Interrupt GSIV", Decimal),
     Field(24, 8, "Parked Address", Plain),
@@ -173,7 +160,7 @@ const GICC_ENTRY: &[Field] = &[
     Field(80, 2, "TRBE Interrupt", Decimal),
 ];
 
-const GICD: &[Field] = &[
+const GICD: &[Part] = &[
     Field(2, 2, "Reserved", Plain),
     Field(4, 4, "GIC ID", Decimal),
     Field(8, 8, "Physical Base Address", Plain),
@@ -182,54 +169,51 @@ const GICD: &[Field] = &[
     Field(21, 3, "Reserved", Plain),
 ];
 
-const MSI_FRAME: &[Field] = &[
+const MSI_FRAME: &[Part] = &[
     Field(2, 2, "Reserved", Plain),
     Field(4, 4, "GIC MSI Frame ID", Decimal),
     Field(8, 8, "Physical Base Address", Plain),
-    Field(16, 4, "Flags", Bits(FRAME)),
+    Field(16, 4, "Flags", Flags(FRAME)),
     Field(20, 2, "SPI Count", Decimal),
     Field(22, 2, "SPI Base", Decimal),
 ];
 
-const GICR: &[Field] = &[
+const GICR: &[Part] = &[
     Field(2, 2, "Reserved", Plain),
     Field(4, 8, "Discovery Range Base Address", Plain),
     Field(12, 4, "Discovery Range Length", Plain),
 ];
 
-const ITS: &[Field] = &[
+const ITS: &[Part] = &[
     Field(2, 2, "Reserved", Plain),
     Field(4, 4, "GIC ITS ID", Decimal),
     Field(8, 8, "Physical Base Address", Plain),
     Field(16, 4, "Reserved", Plain),
 ];
 
-const WAKEUP: &[Field] = &[
+const WAKEUP: &[Part] = &[
     Field(2, 2, "MailBoxVersion", Plain),
     Field(4, 4, "Reserved", Plain),
     Field(8, 8, "MailBoxAddress", Plain),
 ];
 
-/// The fields of an entry of this kind after the two that each begins with.
-pub(crate) fn entry_fields(kind: u8) -> &'static [Field] {
-    match kind {
-        0x00 => LOCAL_APIC,
-        0x01 => IO_APIC,
-        0x02 => SOURCE_OVERRIDE,
-        0x03 => NMI_SOURCE,
-        0x04 => LOCAL_NMI,
-        0x05 => ADDRESS_OVERRIDE,
-        0x06 => IO_SAPIC,
-        0x07 => LOCAL_SAPIC,
-        0x08 => PLATFORM_SOURCE,
-        0x09 => LOCAL_X2APIC,
-        0x0a => X2APIC_NMI,
-        0x0b => GICC_ENTRY,
-        0x0c => GICD,
-        0x0d => MSI_FRAME,
-        0x0e => GICR,
-        0x0f => ITS,
-        0x10 => WAKEUP,
-        _ => &[],
-    }
-}
+/// The types of entries (table 5.21).
+const ENTRIES: &[Kind] = &[
+    Type(0x00, "Processor Local APIC", LOCAL_APIC),
+    Type(0x01, "I/O APIC", IO_APIC),
+    Type(0x02, "Interrupt Source Override", SOURCE_OVERRIDE),
+    Type(0x03, "NMI Source", NMI_SOURCE),
+    Type(0x04, "Local APIC NMI", LOCAL_NMI),
+    Type(0x05, "Local APIC Address Override", ADDRESS_OVERRIDE),
+    Type(0x06, "I/O SAPIC", IO_SAPIC),
+    Type(0x07, "Local SAPIC", LOCAL_SAPIC),
+    Type(0x08, "Platform Interrupt Sources", PLATFORM_SOURCE),
+    Type(0x09, "Processor Local x2APIC", LOCAL_X2APIC),
+    Type(0x0a, "Local x2APIC NMI", X2APIC_NMI),
+    Type(0x0b, "GIC CPU Interface (GICC)", GICC_ENTRY),
+    Type(0x0c, "GIC Distributor (GICD)", GICD),
+    Type(0x0d, "GIC MSI Frame", MSI_FRAME),
+    Type(0x0e, "GIC Redistributor (GICR)", GICR),
+    Type(0x0f, "GIC Interrupt Translation Service (ITS)", ITS),
+    Type(0x10, "Multiprocessor Wakeup", WAKEUP),
+];
