@@ -271,7 +271,7 @@ fn rest_of(piece: Piece<'_>, start: usize) -> Piece<'_> {
 /// The number at a place of a structure: 0 if it has none there.
 fn number_at(bytes: &[u8], place: Place) -> u64 {
     let Place(offset, length) = place;
-    if length <= 8 {
+    if length <= 8 && end_of(place) <= bytes.len() {
         field(bytes, offset, length)
     } else {
         0
@@ -393,8 +393,8 @@ fn given_length(rest: &[u8], kind: Place, place: Place) -> Result<usize, Fault> 
     }
 }
 
-/// Where a part begins and ends in a structure, of which so many bytes are shown. If it can't begin
-/// there, that is shown.
+/// Shows the bytes up to where a part begins in a structure, of which so many bytes are shown, or why it
+/// can't be there. It answers where the part is.
 fn show_start<S: Show>(
     piece: Piece<'_>,
     shown: usize,
@@ -402,29 +402,39 @@ fn show_start<S: Show>(
     end: End,
     show: &mut S,
 ) -> io::Result<Option<Extent>> {
+    match place_part(piece.bytes, shown, start, end) {
+        Ok(extent) => {
+            show_gap(piece, shown, extent.start, show)?;
+            Ok(Some(extent))
+        }
+        Err(Some(fault)) => {
+            show.malformed(piece.base, fault)?;
+            Ok(None)
+        }
+        Err(None) => Ok(None),
+    }
+}
+
+/// Where a part begins and ends in a structure, of which so many bytes are shown. Refuses with `None`
+/// if the part is empty.
+fn place_part(bytes: &[u8], shown: usize, start: Start, end: End) -> Result<Extent, Option<Fault>> {
     let start = match start {
         Start::At(offset) => offset,
-        Start::Offset(place) => offset_at(piece.bytes, place),
+        Start::Offset(place) => offset_at(bytes, place),
         Start::After => shown,
     };
-    let extent = extent_of(piece.bytes, start, end);
-    if extent.is_counted && extent.count == 0 || extent.end <= extent.start && !extent.is_counted {
-        return Ok(None);
+    let extent = extent_of(bytes, start, end);
+    if extent.count == 0 || extent.end <= start && !extent.is_counted {
+        Err(None)
+    } else if start < shown {
+        Err(Some(Fault::Before(start as u64)))
+    } else if bytes.len() < start {
+        Err(Some(Fault::Outside(start as u64)))
+    } else if bytes.len() < extent.end {
+        Err(Some(Fault::Beyond(extent.end as u64)))
+    } else {
+        Ok(extent)
     }
-    if start < shown {
-        show.malformed(piece.base, Fault::Before(start as u64))?;
-        return Ok(None);
-    }
-    if piece.bytes.len() < start {
-        show.malformed(piece.base, Fault::Outside(start as u64))?;
-        return Ok(None);
-    }
-    if piece.bytes.len() < extent.end {
-        show.malformed(piece.base, Fault::Beyond(extent.end as u64))?;
-    }
-    show_gap(piece, shown, start, show)?;
-    let end = extent.end.min(piece.bytes.len());
-    Ok(Some(Extent { end, ..extent }))
 }
 
 /// Where a part ends that begins at an offset of a structure.
