@@ -1,17 +1,23 @@
-//! The ACPI tables in a file of memory, as lines: one a table, or the fields or the bytes of some.
+//! The ACPI tables of an input: one line a table, the fields or the bytes of some, or the machine in short.
 //!
-//! Every function returns for every file, without fault. Which bytes are printed is tested, and not
+//! Every function returns for every input, without fault. Which bytes are printed is tested, and not
 //! proved.
 #![tactic(auto)]
 
 mod arguments;
 mod contents;
+mod entries;
+mod errors;
 mod fields;
 mod getters;
 mod hex;
+mod input;
 mod layouts;
 mod listing;
+mod paint;
 pub mod run;
 mod shown;
+pub mod sources;
+mod status;
 mod text;
 mod walk;

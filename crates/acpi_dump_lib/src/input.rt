@@ -1,0 +1,8 @@
+//! Inputs: what the program is pointed at, as memory or as tables.
+
+pub(crate) mod candidates;
+pub(crate) mod gather;
+pub(crate) mod kind;
+mod order;
+mod row;
+mod text;
