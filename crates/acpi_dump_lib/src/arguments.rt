@@ -93,7 +93,12 @@ impl<T: Drop> From<AllocFailed<T>> for Mistake<'_> {
 }
 
 /// An option with a value.
-fn valued<'a>(alloc: Global, name: &'static str, value: &'static str, help: &'static str) -> Arg<'a> {
+fn valued<'a>(
+    alloc: Global,
+    name: &'static str,
+    value: &'static str,
+    help: &'static str,
+) -> Arg<'a> {
     Arg::new(alloc, name)
         .long(name)
         .value_name(value)
@@ -102,7 +107,12 @@ fn valued<'a>(alloc: Global, name: &'static str, value: &'static str, help: &'st
 }
 
 /// An option with a value that may come several times, or with several values between commas.
-fn repeated<'a>(alloc: Global, name: &'static str, value: &'static str, help: &'static str) -> Arg<'a> {
+fn repeated<'a>(
+    alloc: Global,
+    name: &'static str,
+    value: &'static str,
+    help: &'static str,
+) -> Arg<'a> {
     Arg::new(alloc, name)
         .long(name)
         .value_name(value)
@@ -143,8 +153,18 @@ pub(crate) fn command<'a>(alloc: Global) -> Result<Command<'a>, AllocError> {
         .after_help(AFTER)
         .no_binary_name(true)
         .arg(inputs(alloc))?
-        .arg(valued(alloc, "as", "KIND", "What the input is: image, memory, text or table"))?
-        .arg(valued(alloc, "at", "ADDRESS", "The address of raw memory's first byte"))?
+        .arg(valued(
+            alloc,
+            "as",
+            "KIND",
+            "What the input is: image, memory, text or table",
+        ))?
+        .arg(valued(
+            alloc,
+            "at",
+            "ADDRESS",
+            "The address of raw memory's first byte",
+        ))?
         .arg(valued(
             alloc,
             "start",
@@ -157,8 +177,18 @@ pub(crate) fn command<'a>(alloc: Global) -> Result<Command<'a>, AllocError> {
 /// A command with the options that say what is shown.
 fn shown_options<'a>(alloc: Global, command: Command<'a>) -> Result<Command<'a>, AllocError> {
     let command = command
-        .arg(repeated(alloc, "table", "SIG", "The fields of the tables of a signature, or of all"))?
-        .arg(repeated(alloc, "hex", "SIG", "The bytes of the tables of a signature, or of all"))?
+        .arg(repeated(
+            alloc,
+            "table",
+            "SIG",
+            "The fields of the tables of a signature, or of all",
+        ))?
+        .arg(repeated(
+            alloc,
+            "hex",
+            "SIG",
+            "The bytes of the tables of a signature, or of all",
+        ))?
         .arg(flag(alloc, "summary", "The machine in short"))?
         .arg(flag(alloc, "find", "Every RSDP in memory, valid or not"))?
         .arg(flag(alloc, "compare", "What differs between two inputs"))?;
@@ -311,6 +341,7 @@ fn with_words<'w>(mut asked: Asked<'w>) -> Result<Asked<'w>, Mistake<'w>> {
 }
 
 const AT: &str = "ADDRESS, which is 0x and one to sixteen hexadecimal digits";
+
 const START: &str = "rsdt:REVISION:ADDRESS | rsdp:ADDRESS | bios";
 
 /// The request that matches make.
@@ -327,7 +358,12 @@ pub(crate) fn asked_by<'w>(
         "image | memory | text | table",
     )?;
     let at = checked("at", at, at.and_then(|word| parse_address(word)), AT)?;
-    let start = checked("start", start, start.and_then(|word| parse_start(word)), START)?;
+    let start = checked(
+        "start",
+        start,
+        start.and_then(|word| parse_start(word)),
+        START,
+    )?;
     let color = checked(
         "color",
         color,

@@ -185,7 +185,10 @@ fn entry_of_file(file: &TableFile) -> Entry<'_> {
 /// The tables in files, in order.
 ///
 /// Refuses if memory runs out.
-pub(crate) fn entries_of_files(alloc: Global, files: &[TableFile]) -> Result<Vec<Entry<'_>>, AllocError> {
+pub(crate) fn entries_of_files(
+    alloc: Global,
+    files: &[TableFile],
+) -> Result<Vec<Entry<'_>>, AllocError> {
     let mut entries = Vec::new(alloc);
     for file in files {
         entries.push(entry_of_file(file))?;

@@ -26,7 +26,7 @@ pub(crate) fn print_bytes<W: Write>(
 }
 
 /// Prints bytes as pairs of digits.
-fn print_hex<W: Write>(bytes: &[u8], out: &mut W) -> io::Result<()> {
+pub(crate) fn print_hex<W: Write>(bytes: &[u8], out: &mut W) -> io::Result<()> {
     for byte in bytes {
         write!(out, "{byte:02x}")?;
     }
@@ -63,7 +63,7 @@ pub(crate) fn print_field<W: Write>(
 
 /// Prints a number of up to eight bytes as one, the highest digit first, and a text or more bytes
 /// in their order.
-fn print_value<W: Write>(value: &[u8], meaning: Meaning, out: &mut W) -> io::Result<()> {
+pub(crate) fn print_value<W: Write>(value: &[u8], meaning: Meaning, out: &mut W) -> io::Result<()> {
     if value.len() > 8 || matches!(meaning, Meaning::Text | Meaning::Wide | Meaning::Row) {
         return print_hex(value, out);
     }
@@ -75,7 +75,7 @@ fn print_value<W: Write>(value: &[u8], meaning: Meaning, out: &mut W) -> io::Res
 }
 
 /// The number of up to eight bytes.
-fn number_of(value: &[u8]) -> u64 {
+pub(crate) fn number_of(value: &[u8]) -> u64 {
     if value.len() > 8 {
         return 0;
     }
@@ -83,7 +83,11 @@ fn number_of(value: &[u8]) -> u64 {
 }
 
 /// Prints the meaning of a field's value, if it means more than itself.
-fn print_meaning<W: Write>(value: &[u8], meaning: Meaning, out: &mut W) -> io::Result<()> {
+pub(crate) fn print_meaning<W: Write>(
+    value: &[u8],
+    meaning: Meaning,
+    out: &mut W,
+) -> io::Result<()> {
     match meaning {
         Meaning::Plain => Ok(()),
         Meaning::Decimal => write!(out, "  {}", number_of(value)),

@@ -5,13 +5,16 @@
 #![tactic(auto)]
 
 mod arguments;
+mod compare;
 mod contents;
 mod entries;
 mod errors;
 mod fields;
+mod find;
 mod getters;
 mod hex;
 mod input;
+mod json;
 mod layouts;
 mod listing;
 mod paint;
@@ -19,5 +22,7 @@ pub mod run;
 mod shown;
 pub mod sources;
 mod status;
+mod summary;
 mod text;
+mod views;
 mod walk;

@@ -17,8 +17,14 @@ fn last_part(path: &str) -> &str {
 }
 
 /// Prints the headings, then a line for each table.
-pub(crate) fn print_lines<W: Write>(entries: &[Entry<'_>], paint: Paint, out: &mut W) -> io::Result<()> {
-    let are_files = entries.iter().any(|entry| matches!(entry.place, Place::File(_)));
+pub(crate) fn print_lines<W: Write>(
+    entries: &[Entry<'_>],
+    paint: Paint,
+    out: &mut W,
+) -> io::Result<()> {
+    let are_files = entries
+        .iter()
+        .any(|entry| matches!(entry.place, Place::File(_)));
     paint.heading(
         if are_files {
             "SIG  FILE             LENGTH   REV OEM ID TABLE ID OEM REV  CRTR CRTR REV STATUS"
@@ -78,7 +84,10 @@ fn print_headless<W: Write>(header: &SdtHeader, entry: &Entry<'_>, out: &mut W) 
     } else {
         header.length as u64
     };
-    write!(out, "{length:08x} -   -      -        -        -    -       ")
+    write!(
+        out,
+        "{length:08x} -   -      -        -        -    -       "
+    )
 }
 
 /// Prints the columns of a header.

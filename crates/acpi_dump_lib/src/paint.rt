@@ -11,8 +11,11 @@ pub(crate) struct Paint {
 }
 
 const BOLD: &str = "\x1b[1m";
+
 const GREEN: &str = "\x1b[32m";
+
 const RED: &str = "\x1b[31m";
+
 const PLAIN: &str = "\x1b[0m";
 
 impl Paint {

@@ -1,17 +1,11 @@
 //! The program over any files and any writers.
 
-use crate::arguments::{Asked, Color, Mistake, View, asked_by, command};
-use crate::entries::{Entry, entries_of, entries_of_files, lent_at};
-use crate::errors::{tell, tell_word};
-use crate::input::candidates::{candidates, ebda_of, starts};
+use crate::arguments::{Asked, Color, Mistake, View, WrongWord, asked_by, command};
+use crate::errors::tell_word;
 use crate::input::gather::{Input, Reading, gather};
-use crate::listing::print_lines;
 use crate::paint::Paint;
-use crate::shown::print_tables;
 use crate::sources::Sources;
-use acpi::AcpiTables;
-use acpi_cli::root::Root;
-use acpi_image_reader::MemoryImage;
+use crate::views::{Output, print_compared, print_input};
 use std::alloc::{AllocError, Global};
 use std::io;
 use std::io::{BufWriter, Write};
@@ -53,7 +47,7 @@ fn print_asked<S: Sources, W: Write, E: Write>(
     let command = command(alloc)?;
     let matches = match command.try_get_matches_from(arguments) {
         Ok(matches) => matches,
-        Err(refusal) => return print_refusal(&refusal, out, err),
+        Err(refusal) => return print_refusal(alloc, &refusal, out, err),
     };
     match asked_by(alloc, &matches) {
         Ok(asked) => print_inputs(alloc, &asked, sources, out, err),
@@ -67,6 +61,7 @@ fn print_asked<S: Sources, W: Write, E: Write>(
 
 /// Prints why words are no command, or the help or the version that they ask for.
 fn print_refusal<W: Write, E: Write>(
+    alloc: Global,
     refusal: &clap::Error,
     out: &mut W,
     err: &mut E,
@@ -75,7 +70,10 @@ fn print_refusal<W: Write, E: Write>(
         return Err(io::Error::from(AllocError));
     }
     if refusal.use_stderr() {
-        write!(err, "{refusal}")?;
+        let text = format!(in alloc; "{refusal}")?;
+        let text = text.as_str();
+        let what = text.strip_prefix("error: ").unwrap_or(text);
+        write!(err, "acpi_dump: {what}")?;
         return Ok(2);
     }
     write!(out, "{refusal}")?;
@@ -96,125 +94,48 @@ fn print_inputs<S: Sources, W: Write, E: Write>(
         Color::Never => false,
     };
     let paint = Paint { is_on };
+    let output = Output {
+        alloc,
+        asked,
+        paint,
+    };
+    if !matches!(asked.view, View::Differences) {
+        let Some(input) = gather_named(alloc, asked, &asked.inputs, sources, err)? else {
+            return Ok(1);
+        };
+        return print_input(output, &input, out, err);
+    }
+    let [old, new] = asked.inputs.as_slice() else {
+        tell_word(
+            err,
+            WrongWord {
+                option: "compare",
+                word: "it takes two inputs",
+                usage: "A B",
+            },
+        )?;
+        return Ok(2);
+    };
+    let Some(first) = gather_named(alloc, asked, &[*old], sources, err)? else {
+        return Ok(1);
+    };
+    let Some(second) = gather_named(alloc, asked, &[*new], sources, err)? else {
+        return Ok(1);
+    };
+    print_compared(output, &first, &second, out, err)
+}
+
+/// The input that words name, read as it is asked for.
+fn gather_named<S: Sources, E: Write>(
+    alloc: Global,
+    asked: &Asked<'_>,
+    names: &[&str],
+    sources: &mut S,
+    err: &mut E,
+) -> io::Result<Option<Input>> {
     let reading = Reading {
         kind: asked.kind,
         at: asked.at,
     };
-    let Some(input) = gather(alloc, &asked.inputs, reading, sources, err)? else {
-        return Ok(1);
-    };
-    let name = match asked.inputs.as_slice() {
-        [] => "/sys/firmware/acpi/tables",
-        [first, ..] => *first,
-    };
-    match &input {
-        Input::Memory(bytes) => match MemoryImage::from_bytes(alloc, bytes) {
-            Ok(image) => print_memory(alloc, &image, name, asked, paint, out, err),
-            Err(refusal) => {
-                tell(err, name, &refusal)?;
-                Ok(1)
-            }
-        },
-        Input::Tables(files) => {
-            let entries = entries_of_files(alloc, files)?;
-            print_entries(&entries, name, asked, paint, out, err)
-        }
-    }
-}
-
-/// The way to the root table of a memory: the one that is said, or the one RSDP that a search finds. If there are
-/// several, it says so, and takes the first; if there is none, it says that.
-fn start_of<E: Write>(
-    alloc: Global,
-    image: &MemoryImage<'_>,
-    name: &str,
-    said: Option<Root>,
-    err: &mut E,
-) -> io::Result<Option<Root>> {
-    if said.is_some() {
-        return Ok(said);
-    }
-    let found = candidates(alloc, image)?;
-    let ebda = ebda_of(lent_at(image, 0x40e));
-    let addresses = starts(alloc, &found, ebda)?;
-    match addresses.as_slice() {
-        [] => {
-            tell(err, name, &"no valid RSDP: --find shows those that there are, --start says where to begin")?;
-            Ok(None)
-        }
-        [address] => Ok(Some(Root::Rsdp { address: *address })),
-        [address, ..] => {
-            write!(err, "acpi_dump: {name}: valid RSDPs at")?;
-            for address in &addresses {
-                write!(err, " 0x{address:x}")?;
-            }
-            writeln!(err, ": the first is taken")?;
-            Ok(Some(Root::Rsdp { address: *address }))
-        }
-    }
-}
-
-/// Prints what is asked for of a memory.
-fn print_memory<W: Write, E: Write>(
-    alloc: Global,
-    image: &MemoryImage<'_>,
-    name: &str,
-    asked: &Asked<'_>,
-    paint: Paint,
-    out: &mut W,
-    err: &mut E,
-) -> io::Result<u8> {
-    let Some(root) = start_of(alloc, image, name, asked.start, err)? else {
-        return Ok(1);
-    };
-    match root.open(image) {
-        Ok(tables) => print_opened(alloc, image, &tables, name, asked, paint, out, err),
-        Err(refusal) => {
-            match root {
-                Root::Rsdt { address, .. } | Root::Rsdp { address } => {
-                    tell(err, name, &format_args!("0x{address:x}: {refusal}"))?;
-                }
-                Root::Bios => tell(err, name, &refusal)?,
-            }
-            Ok(1)
-        }
-    }
-}
-
-/// Prints what is asked for of the tables of a memory.
-fn print_opened<W: Write, E: Write>(
-    alloc: Global,
-    image: &MemoryImage<'_>,
-    tables: &AcpiTables<'_, MemoryImage<'_>>,
-    name: &str,
-    asked: &Asked<'_>,
-    paint: Paint,
-    out: &mut W,
-    err: &mut E,
-) -> io::Result<u8> {
-    let entries = entries_of(alloc, image, tables)?;
-    print_entries(&entries, name, asked, paint, out, err)
-}
-
-/// Prints what is asked for of tables.
-fn print_entries<W: Write, E: Write>(
-    entries: &[Entry<'_>],
-    name: &str,
-    asked: &Asked<'_>,
-    paint: Paint,
-    out: &mut W,
-    err: &mut E,
-) -> io::Result<u8> {
-    match &asked.view {
-        View::Tables(choices) => {
-            if !print_tables(entries, choices, name, paint, out, err)? {
-                return Ok(1);
-            }
-        }
-        _ => print_lines(entries, paint, out)?,
-    }
-    if asked.is_strict && entries.iter().any(|entry| entry.status.is_invalid()) {
-        return Ok(3);
-    }
-    Ok(0)
+    gather(alloc, names, reading, sources, err)
 }

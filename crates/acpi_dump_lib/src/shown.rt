@@ -18,33 +18,40 @@ pub(crate) fn chooses(choice: Choice, entry: &Entry<'_>) -> bool {
     }
 }
 
-/// Prints the tables that are chosen, choice by choice, and answers whether each choice of a signature has one. For
-/// one that hasn't, it says so.
-pub(crate) fn print_tables<W: Write, E: Write>(
+/// Prints the tables that are chosen, choice by choice.
+pub(crate) fn print_tables<W: Write>(
     entries: &[Entry<'_>],
     choices: &[Choice],
-    name: &str,
     paint: Paint,
     out: &mut W,
-    err: &mut E,
-) -> io::Result<bool> {
-    let mut all_there = true;
+) -> io::Result<()> {
     for choice in choices {
-        let mut any = false;
         for entry in entries {
             if chooses(*choice, entry) {
-                any = true;
                 print_table(entry, choice.contents, paint, out)?;
             }
         }
+    }
+    Ok(())
+}
+
+/// Whether a signature that is chosen has no table. For each such one it says so.
+pub(crate) fn missing<E: Write>(
+    entries: &[Entry<'_>],
+    choices: &[Choice],
+    name: &str,
+    err: &mut E,
+) -> io::Result<bool> {
+    let mut any = false;
+    for choice in choices {
         if let Some(signature) = choice.signature
-            && !any
+            && !entries.iter().any(|entry| entry.has(signature))
         {
-            all_there = false;
+            any = true;
             tell(err, name, &format_args!("no table {signature}"))?;
         }
     }
-    Ok(all_there)
+    Ok(any)
 }
 
 /// Prints the contents of a table, under where it lies and, unless it is valid, what the checks say.
@@ -72,6 +79,8 @@ fn print_table<W: Write>(
     if entry.bytes.is_empty() {
         return Ok(());
     }
-    let signature = entry.signature().unwrap_or(Signature::from_bytes([0, 0, 0, 0]));
+    let signature = entry
+        .signature()
+        .unwrap_or(Signature::from_bytes([0, 0, 0, 0]));
     print_contents(signature, entry.bytes, contents, out)
 }

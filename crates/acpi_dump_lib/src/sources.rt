@@ -1,9 +1,8 @@
 //! What the program reads: folders, files and standard input, and whether its output is a terminal.
 
 use std::alloc::Global;
-use std::fs;
 use std::io::{ErrorKind, IsTerminal, Read};
-use std::{env, io};
+use std::{env, fs, io};
 
 /// Files and folders, as the program or a test reaches them.
 pub trait Sources {

@@ -482,19 +482,17 @@ fn after_zero(bytes: &[u8], start: usize) -> usize {
     match cut(bytes, start, bytes.len()) {
         Some(text) => {
             let length = text.iter().take_while(|byte| **byte != 0).count();
-            start.saturating_add(length).saturating_add(1).min(bytes.len())
+            start
+                .saturating_add(length)
+                .saturating_add(1)
+                .min(bytes.len())
         }
         None => start,
     }
 }
 
 /// Shows how many of the elements that are counted aren't there, if some aren't.
-fn show_missing<S: Show>(
-    offset: u64,
-    extent: Extent,
-    found: u64,
-    show: &mut S,
-) -> io::Result<()> {
+fn show_missing<S: Show>(offset: u64, extent: Extent, found: u64, show: &mut S) -> io::Result<()> {
     if extent.is_counted && found < extent.count {
         return show.malformed(offset, Fault::Missing(extent.count - found));
     }
@@ -502,13 +500,10 @@ fn show_missing<S: Show>(
 }
 
 /// Shows those bytes of a structure that no field covers.
-fn show_gap<S: Show>(
-    piece: Piece<'_>,
-    start: usize,
-    end: usize,
-    show: &mut S,
-) -> io::Result<()> {
-    if start < end && let Some(bytes) = cut(piece.bytes, start, end) {
+fn show_gap<S: Show>(piece: Piece<'_>, start: usize, end: usize, show: &mut S) -> io::Result<()> {
+    if start < end
+        && let Some(bytes) = cut(piece.bytes, start, end)
+    {
         return show.bytes(piece.base.saturating_add(start as u64), bytes);
     }
     Ok(())

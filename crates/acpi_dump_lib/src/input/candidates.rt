@@ -78,11 +78,7 @@ pub(crate) fn has_valid_rsdp(bytes: &[u8]) -> bool {
 }
 
 /// Adds the candidates that bytes from an address on have, in ascending order.
-fn push_candidates(
-    found: &mut Vec<Candidate>,
-    start: u64,
-    bytes: &[u8],
-) -> Result<(), AllocError> {
+fn push_candidates(found: &mut Vec<Candidate>, start: u64, bytes: &[u8]) -> Result<(), AllocError> {
     let first = ((16 - start % 16) % 16) as usize;
     for offset in (first..bytes.len()).step_by(16) {
         let rest = bytes.get(offset..).unwrap_or(&[]);

@@ -47,7 +47,10 @@ fn path_of(alloc: Global, folder: &str, name: &str) -> Result<String, AllocError
 fn in_order(alloc: Global, names: Vec<String>) -> Result<Vec<String>, AllocError> {
     let mut sorted: Vec<String> = Vec::new(alloc);
     for name in names {
-        let place = sorted.iter().take_while(|it| comes_before(it.as_bytes(), name.as_bytes())).count();
+        let place = sorted
+            .iter()
+            .take_while(|it| comes_before(it.as_bytes(), name.as_bytes()))
+            .count();
         if place <= sorted.len() {
             sorted.insert(place, name)?;
         }
@@ -134,7 +137,11 @@ fn add_input<E: Write>(
             Ok(true)
         }
         Some(_) => {
-            tell(err, name, &"memory, which stands alone and not beside other inputs")?;
+            tell(
+                err,
+                name,
+                &"memory, which stands alone and not beside other inputs",
+            )?;
             Ok(false)
         }
         None => {
@@ -231,7 +238,11 @@ fn memory_from<E: Write>(
         Ok(image) => Ok(Some(Input::Memory(image))),
         Err(Refusal::OutOfMemory) => Err(io::Error::from(AllocError)),
         Err(_) => {
-            tell(err, name, &format_args!("memory from 0x{address:x} on would end above 2^64 - 1"))?;
+            tell(
+                err,
+                name,
+                &format_args!("memory from 0x{address:x} on would end above 2^64 - 1"),
+            )?;
             Ok(None)
         }
     }
@@ -376,7 +387,11 @@ pub(crate) fn gather<S: Sources, E: Write>(
         [] => {
             let own = gather_tables(alloc, &[OWN], reading, sources, err)?;
             if own.is_none() {
-                tell(err, OWN, &"Linux shows the machine's tables there, to root alone")?;
+                tell(
+                    err,
+                    OWN,
+                    &"Linux shows the machine's tables there, to root alone",
+                )?;
             }
             Ok(own)
         }

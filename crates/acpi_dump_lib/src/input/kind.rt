@@ -33,7 +33,9 @@ pub(crate) fn parse_kind(word: &str) -> Option<Kind> {
 /// Whether a byte can stand in the signature of a table in a file: an upper-case letter, a digit, or one of
 /// those that firmware uses besides.
 fn is_letter(byte: u8) -> bool {
-    byte.is_ascii_uppercase() || byte.is_ascii_digit() || matches!(byte, b'_' | b'!' | b'#' | b'$' | b'@')
+    byte.is_ascii_uppercase()
+        || byte.is_ascii_digit()
+        || matches!(byte, b'_' | b'!' | b'#' | b'$' | b'@')
 }
 
 /// Whether bytes begin as a table does: with the RSDP's signature, or with four letters and room for a header.

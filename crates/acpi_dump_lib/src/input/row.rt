@@ -1,9 +1,10 @@
 //! A row of a table in the text of acpidump: its offset, a colon, and up to 16 pairs of hexadecimal digits.
+ghost use Rattle.std.specs.Prelude.{◌≡◌, ◌<◌, IfOk, IfSome, Some, None, if◌then◌else◌, length, option_map};
+ghost use Rattle.std.specs.Char.{digit_value, is_digit};
+ghost use Rattle.acpi_dump_lib.specs.DumpText.{begins_with_gap, byte_of as pair_byte, first_pair as pair_of, is_gap, row_of, with_pairs};
 
+use acpi_cli::number_of;
 use std::alloc::AllocError;
-
-/// How many bytes a row has at most.
-const ROW: usize = 16;
 
 /// A row.
 #[derive(Clone, Copy)]
@@ -16,13 +17,12 @@ pub(crate) struct Row<'t> {
 
 /// The row that a line is, or `None` if it doesn't begin with one to eight hexadecimal digits, a colon and a
 /// space, after any spaces.
-pub(crate) fn row_in(line: &str) -> Option<Row<'_>> {
+#[tactic(auto, unfolding(crate::specs::DumpText::row_of))]
+pub(crate) fn row_in(line: &str) -> Option<Row<'_>>
+    ensures { option_map (λ r. (r.offset, r.pairs.now)) result ≡ row_of line.now }
+{
     let (offset, pairs) = line.split_once(':')?;
-    let offset = offset.trim_start();
-    if offset.is_empty() || offset.len() > 8 || !offset.bytes().all(|byte| byte.is_ascii_hexdigit()) {
-        return None;
-    }
-    let offset = u64::from_str_radix(offset, 16).ok()?;
+    let offset = number_of(offset.trim_start(), 16, 8)?;
     let pairs = pairs.strip_prefix(" ")?;
     Some(Row {
         offset,
@@ -30,52 +30,62 @@ pub(crate) fn row_in(line: &str) -> Option<Row<'_>> {
     })
 }
 
-/// The value of a hexadecimal digit.
-fn digit(byte: u8) -> Option<u8> {
-    let value = (byte as char).to_digit(16)?;
-    u8::try_from(value).ok()
-}
-
 /// The byte that two digits spell.
-fn byte_of(high: u8, low: u8) -> Option<u8> {
-    let (high, low) = (digit(high)?, digit(low)?);
-    if high > 15 || low > 15 {
-        return None;
-    }
-    Some(high * 16 + low)
+#[tactic(auto, unfolding(crate::specs::DumpText::byte_of))]
+fn byte_of(high: u8, low: u8) -> Option<u8>
+    ensures { result ≡ pair_byte high low }
+{
+    let high = (high as char).to_digit(16)?;
+    let low = (low as char).to_digit(16)?;
+    Some((high * 16 + low) as u8)
 }
 
 /// Whether a byte ends a pair, or stands in place of one: a space or the carriage return of a line's end.
-fn is_blank(byte: u8) -> bool {
+fn is_blank(byte: u8) -> bool
+    ensures { result ≡ is_gap byte }
+{
     byte == b' ' || byte == b'\r'
 }
 
+/// Whether a text begins with a gap, or is empty.
+fn ends(text: &[u8]) -> bool
+    ensures { result ≡ begins_with_gap text.now }
+{
+    match text {
+        [] => true,
+        [first, ..] => is_blank(*first),
+    }
+}
+
 /// The pair that a text begins with, and what stands after it and its space, or `None` if it begins with none.
-fn first_pair(text: &[u8]) -> Option<(u8, &[u8])> {
+fn first_pair(text: &[u8]) -> Option<(u8, &[u8])>
+    ensures { option_map (λ p. (p.0, p.1.now)) result ≡ pair_of text.now }
+{
     match text {
         [high, low] => Some((byte_of(*high, *low)?, &[])),
-        [high, low, end, rest @ ..] if is_blank(*end) => Some((byte_of(*high, *low)?, rest)),
+        [high, low, gap, rest @ ..] if is_blank(*gap) => Some((byte_of(*high, *low)?, rest)),
         _ => None,
     }
 }
 
-/// Adds the bytes that up to 16 pairs spell, up to a blank or the end of the text, and answers whether all of
-/// that are pairs.
+/// Adds the bytes that up to 16 pairs spell, up to a gap in place of one or the end of the text, and answers whether
+/// all of that are pairs.
 ///
 /// Refuses if memory runs out.
-pub(crate) fn push_pairs(bytes: &mut Vec<u8>, text: &[u8]) -> Result<bool, AllocError> {
+#[tactic(auto, using(crate::proofs::Pairs::pairs_done, crate::proofs::Pairs::pairs_gap, crate::proofs::Pairs::pairs_wrong, crate::proofs::Pairs::pairs_more))]
+pub(crate) fn push_pairs(bytes: &mut Vec<u8>, text: &[u8]) -> Result<bool, AllocError>
+    ensures { IfOk result (λ all. with_pairs 16 bytes.old.items text.now
+        ≡ (if all then Some bytes.new.items else None)) }
+{
     let mut rest = text;
-    for _ in 0..ROW {
-        match rest {
-            [] => return Ok(true),
-            [first, ..] if is_blank(*first) => return Ok(true),
-            _ => {}
-        }
+    let mut left = 16usize;
+    while left > 0 && !ends(rest) {
         let Some((byte, after)) = first_pair(rest) else {
             return Ok(false);
         };
         bytes.push(byte)?;
         rest = after;
+        left -= 1;
     }
     Ok(true)
 }

@@ -40,9 +40,12 @@ const PLATFORM_TIMERS: &[Part] = &[
         255,
         &[
             When(Place(88, 4), 0, 0, VIRTUAL_EL2),
-            When(Place(88, 4), 1, 0xffff_ffff, &[
-                When(Place(92, 4), 104, 0xffff_ffff, VIRTUAL_EL2),
-            ]),
+            When(
+                Place(88, 4),
+                1,
+                0xffff_ffff,
+                &[When(Place(92, 4), 104, 0xffff_ffff, VIRTUAL_EL2)],
+            ),
         ],
     ),
     List(

@@ -15,14 +15,15 @@ const MADT_FLAGS: &[Flag] = &[Bit(0, "PCAT_COMPAT")];
 pub(crate) const MADT: &[Part] = &[
     Field(36, 4, "Local Interrupt Controller Address", Plain),
     Field(40, 4, "Flags", Flags(MADT_FLAGS)),
-    List(At(44), Whole, Typed(Place(0, 1), Place(1, 1), ENTRY, ENTRIES)),
+    List(
+        At(44),
+        Whole,
+        Typed(Place(0, 1), Place(1, 1), ENTRY, ENTRIES),
+    ),
 ];
 
 /// The fields that each entry of a MADT begins with (section 5.2.12), by offsets in the entry, as those below.
-const ENTRY: &[Part] = &[
-    Field(0, 1, "Type", Plain),
-    Field(1, 1, "Length", Decimal),
-];
+const ENTRY: &[Part] = &[Field(0, 1, "Type", Plain), Field(1, 1, "Length", Decimal)];
 
 const LOCAL: &[Flag] = &[Bit(0, "Enabled"), Bit(1, "Online Capable")];
 

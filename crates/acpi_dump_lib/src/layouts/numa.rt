@@ -14,14 +14,15 @@ use super::form::{Code, Flag, Kind, Part, Place};
 pub(crate) const SRAT: &[Part] = &[
     Field(36, 4, "Reserved", Plain),
     Field(40, 8, "Reserved", Plain),
-    List(At(48), Whole, Typed(Place(0, 1), Place(1, 1), SRAT_ENTRY, ENTRIES)),
+    List(
+        At(48),
+        Whole,
+        Typed(Place(0, 1), Place(1, 1), SRAT_ENTRY, ENTRIES),
+    ),
 ];
 
 /// The fields that each entry of a SRAT begins with, by offsets in the entry, as those below.
-const SRAT_ENTRY: &[Part] = &[
-    Field(0, 1, "Type", Plain),
-    Field(1, 1, "Length", Decimal),
-];
+const SRAT_ENTRY: &[Part] = &[Field(0, 1, "Type", Plain), Field(1, 1, "Length", Decimal)];
 
 /// The SLIT's fields after the header (table 5.68): a row has the distances from a locality to each.
 pub(crate) const SLIT: &[Part] = &[
