@@ -257,16 +257,14 @@ fn checked<'w, T: Drop>(
 
 /// The way that `rsdt:REVISION:ADDRESS`, `rsdp:ADDRESS` or `bios` says.
 fn parse_start(word: &str) -> Option<Root> {
-    let mut parts = [""; 4];
-    let mut count = 0;
-    for part in word.split(':') {
-        if count >= parts.len() {
-            return None;
-        }
-        parts[count] = part;
-        count += 1;
+    let mut parts = word.split(':');
+    let words = [parts.next(), parts.next(), parts.next(), parts.next()];
+    match words {
+        [Some(form), None, _, _] => parse_root(&[form]),
+        [Some(form), Some(address), None, _] => parse_root(&[form, address]),
+        [Some(form), Some(revision), Some(address), None] => parse_root(&[form, revision, address]),
+        _ => None,
     }
-    parse_root(&parts[..count])
 }
 
 /// The moment that a word names.
@@ -324,7 +322,7 @@ fn with_words<'w>(mut asked: Asked<'w>) -> Result<Asked<'w>, Mistake<'w>> {
         return Ok(asked);
     }
     let (image, word) = (*image, *form);
-    let Some(root) = parse_root(&asked.inputs[1..]) else {
+    let Some(root) = parse_root(asked.inputs.get(1..).unwrap_or(&[])) else {
         return Err(Mistake::Word(WrongWord {
             option: "",
             word,

@@ -107,22 +107,18 @@ fn differences<'a>(
     new: &'a [Item],
 ) -> io::Result<Vec<Difference<'a>>> {
     let mut found = Vec::new(alloc);
-    let (mut i, mut j) = (0, 0);
-    while i < old.len() || j < new.len() {
+    let (mut i, mut j) = (0usize, 0usize);
+    for _ in 0..old.len().saturating_add(new.len()) {
         let (a, b) = next_pair(old.get(i), new.get(j));
+        let Some(item) = a.or(b) else {
+            break;
+        };
         if a.is_some() {
-            i += 1;
+            i = i.saturating_add(1);
         }
         if b.is_some() {
-            j += 1;
+            j = j.saturating_add(1);
         }
-        if a.is_none() && b.is_none() {
-            break;
-        }
-        let item = match (a, b) {
-            (Some(item), _) | (None, Some(item)) => item,
-            (None, None) => break,
-        };
         let (old_value, new_value) = (value_of(a), value_of(b));
         if old_value != new_value {
             found.push(Difference {
@@ -163,7 +159,7 @@ fn same_in<'e, 'a>(
 ) -> Option<&'e Entry<'a>> {
     let key = key_of(entries.get(index)?);
     let mut before = 0usize;
-    for entry in &entries[..index] {
+    for entry in entries.iter().take(index) {
         if key_of(entry) == key {
             before = before.saturating_add(1);
         }

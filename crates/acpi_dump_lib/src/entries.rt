@@ -116,7 +116,7 @@ fn check_header(lent: &[u8], signature: Signature, cut: AcpiError) -> Status {
             length,
         },
         Err(AcpiError::SdtInvalidChecksum(signature)) => {
-            let is = field(lent, 9, 1) as u8;
+            let is = lent.get(9).copied().unwrap_or(0);
             let should = is.wrapping_sub(byte_sum(cut_to_length(lent)));
             Status::WrongSum {
                 signature,
@@ -145,7 +145,7 @@ fn check_facs(lent: &[u8], cut: AcpiError) -> Status {
         return Status::Cut {
             refusal: cut,
             has: lent.len(),
-            length: length as u32,
+            length: u32::try_from(length).unwrap_or(u32::MAX),
         };
     }
     Status::Valid

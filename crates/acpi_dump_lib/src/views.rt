@@ -15,8 +15,8 @@ use crate::status::Status;
 use crate::summary::{Fact, facts_of};
 use acpi::AcpiTables;
 use acpi_cli::root::Root;
+use acpi_image::{PlacedTable, write_image};
 use acpi_image_reader::MemoryImage;
-use acpi_pack_lib::{FileBytes, pack_tables};
 use serde_json::Value;
 use std::alloc::{AllocError, Global};
 use std::io;
@@ -253,8 +253,7 @@ fn print_found<W: Write, E: Write>(
     Ok(0)
 }
 
-/// The facts of an input, or `None`, after saying why, if there are none. Those of files are those of the image that
-/// `acpi_pack` makes of the valid ones.
+/// The facts of an input, or `None`, after saying why, if there are none. Those of files are those of the valid ones.
 fn facts_in<E: Write>(
     output: Output<'_, '_>,
     loaded: &Loaded<'_>,
@@ -269,7 +268,19 @@ fn facts_in<E: Write>(
     }
 }
 
-/// The facts of tables that come as files.
+/// Where the root table of tables that come as files is put, and from where on they are.
+const ROOT: u64 = 0x1000_0000;
+const FIRST: u64 = 0x1_0000_0000;
+
+/// The letters of tables that no root table lists.
+const UNLISTED: &[&[u8]] = &[b"DSDT", b"FACS", b"RSDT", b"XSDT", b"RSD "];
+
+/// The letters that a table begins with.
+fn letters_of(bytes: &[u8]) -> &[u8] {
+    bytes.get(..4).unwrap_or(bytes)
+}
+
+/// The facts of tables that come as files: of the valid ones, in a memory where each has a place.
 fn facts_of_files<E: Write>(
     output: Output<'_, '_>,
     files: &[TableFile],
@@ -277,13 +288,20 @@ fn facts_of_files<E: Write>(
 ) -> io::Result<Option<Vec<Fact>>> {
     let alloc = output.alloc;
     let entries = entries_of_files(alloc, files)?;
-    let mut valid: Vec<FileBytes<'_>> = Vec::new(alloc);
+    let mut placed = Vec::new(alloc);
+    let mut address = FIRST;
     for entry in &entries {
-        if matches!(entry.status, Status::Valid | Status::NoLookup(_)) {
-            valid.push(Some(entry.bytes))?;
+        let is_valid = matches!(entry.status, Status::Valid | Status::NoLookup(_));
+        if is_valid && !UNLISTED.contains(&letters_of(entry.bytes)) {
+            placed.push(PlacedTable {
+                address,
+                bytes: entry.bytes,
+            })?;
+            // The length of a table is below 2^32, so that 16 times it keeps the next one aligned and apart.
+            address = address.saturating_add((entry.bytes.len() as u64).saturating_mul(16));
         }
     }
-    let packed = match pack_tables(alloc, &valid) {
+    let packed = match write_image(alloc, 0xe0000, ROOT, 2, &placed) {
         Ok(packed) => packed,
         Err(refusal) => {
             tell(err, output.name(0), &refusal)?;

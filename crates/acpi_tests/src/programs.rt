@@ -174,4 +174,13 @@ fn a_line_that_cant_be_printed_fails(rt: HostRuntime) {
     let asked = parse_command(rt.alloc(), &["out", "tables", "facs"]);
     let outcome = asked.map(|asked| run(rt.alloc(), &asked, &files, &mut Closed));
     check(&rt, "failed", matches!(outcome, Ok(Err(_))), true);
+    let mut sources = HostSources::new(&rt);
+    let dumped = dump(
+        rt.alloc(),
+        &["--version"],
+        &mut sources,
+        &mut Closed,
+        &mut Closed,
+    );
+    check(&rt, "failed", dumped.is_err(), true);
 }

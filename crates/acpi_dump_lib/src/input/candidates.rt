@@ -109,7 +109,7 @@ pub(crate) fn ebda_of(lent: &[u8]) -> Option<u64> {
     if lent.len() < 2 {
         return None;
     }
-    Some(field(lent, 0, 2) * 16)
+    Some(field(lent, 0, 2).saturating_mul(16))
 }
 
 /// The addresses of the valid candidates that the BIOS areas have, those from 0xe0000 on first, or else

@@ -1,11 +1,11 @@
 //! Reading the inputs that the arguments name.
 
 use crate::errors::tell;
+use crate::input::memory::image_of;
 use crate::input::kind::{Kind, kind_of, text_in};
 use crate::input::order::comes_before;
 use crate::input::text::{TextError, tables_in};
 use crate::sources::{Sources, reason_of};
-use acpi_pack_lib::{Refusal, pack_files};
 use std::alloc::{AllocError, Global};
 use std::io;
 use std::io::Write;
@@ -234,18 +234,12 @@ fn memory_from<E: Write>(
     bytes: &[u8],
     err: &mut E,
 ) -> io::Result<Option<Input>> {
-    match pack_files(alloc, &[address], &[Some(bytes)]) {
-        Ok(image) => Ok(Some(Input::Memory(image))),
-        Err(Refusal::OutOfMemory) => Err(io::Error::from(AllocError)),
-        Err(_) => {
-            tell(
-                err,
-                name,
-                &format_args!("memory from 0x{address:x} on would end above 2^64 - 1"),
-            )?;
-            Ok(None)
-        }
+    if bytes.len() as u64 > u64::MAX - address {
+        let what = format_args!("memory from 0x{address:x} on would end above 2^64 - 1");
+        tell(err, name, &what)?;
+        return Ok(None);
     }
+    Ok(Some(Input::Memory(image_of(alloc, address, bytes)?)))
 }
 
 /// How inputs are read.

@@ -76,6 +76,14 @@ fn is_text(bytes: &[u8]) -> bool {
     false
 }
 
+/// Whether bytes are an image that lends some.
+fn is_image(alloc: Global, bytes: &[u8]) -> bool {
+    match &MemoryImage::from_bytes(alloc, bytes) {
+        Ok(image) => image.records().iter().any(|record| !record.bytes.is_empty()),
+        Err(_) => false,
+    }
+}
+
 /// The kind of input that bytes are, or `None` if they are none. A table whose length isn't that of the bytes
 /// comes after all that is surer, and memory last: it has to have a valid RSDP at a multiple of 16.
 pub(crate) fn kind_of(alloc: Global, bytes: &[u8]) -> Option<Kind> {
@@ -85,7 +93,7 @@ pub(crate) fn kind_of(alloc: Global, bytes: &[u8]) -> Option<Kind> {
     if is_whole_table(bytes) {
         return Some(Kind::Table);
     }
-    if MemoryImage::from_bytes(alloc, bytes).is_ok() {
+    if is_image(alloc, bytes) {
         return Some(Kind::Image);
     }
     if is_text(bytes) {

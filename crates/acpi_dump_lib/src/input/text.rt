@@ -49,9 +49,11 @@ pub(crate) struct Reading {
 }
 
 /// The first line of a text without its line feed, and what stands after that.
+#[tactic(auto, using(crate::proofs::Lines::after_shorter))]
 pub(crate) fn first_line(text: &str) -> (&str, &str)
     ensures line { result.0.now ≡ before_first (λ c. c == 10) text.now }
     ensures rest { result.1.now ≡ after_first (λ c. c == 10) text.now }
+    ensures shorter { 0 < length text.now → length result.1.now < length text.now }
 {
     match text.split_once('\n') {
         Some(parts) => parts,
