@@ -9,6 +9,7 @@ mod contents;
 mod fields;
 mod getters;
 mod hex;
+mod language;
 mod layouts;
 mod listing;
 pub mod run;
