@@ -1,6 +1,7 @@
 //! Fields, one a line: offset, name, value, meaning.
 
-use crate::layouts::form::{Code, Flag, Meaning};
+use crate::language::{Meaning, after_blanks, before_blanks, cut_at, next_word};
+use crate::language;
 use crate::text::print_indent;
 use crate::walk::Shown;
 use acpi::sdt::field;
@@ -83,11 +84,7 @@ pub(crate) fn number_of(value: &[u8]) -> u64 {
 }
 
 /// Prints the meaning of a field's value, if it means more than itself.
-pub(crate) fn print_meaning<W: Write>(
-    value: &[u8],
-    meaning: Meaning,
-    out: &mut W,
-) -> io::Result<()> {
+pub(crate) fn print_meaning<W: Write>(value: &[u8], meaning: Meaning, out: &mut W) -> io::Result<()> {
     match meaning {
         Meaning::Plain => Ok(()),
         Meaning::Decimal => write!(out, "  {}", number_of(value)),
@@ -99,10 +96,8 @@ pub(crate) fn print_meaning<W: Write>(
         Meaning::Row => print_row(value, out),
         Meaning::Guid => print_guid(value, out),
         Meaning::Function => print_function(number_of(value), out),
-        Meaning::Codes(codes) => match find_code(number_of(value), codes) {
-            Some(name) => write!(out, "  {name}"),
-            None => Ok(()),
-        },
+        Meaning::Path => print_path(value, out),
+        Meaning::Codes(codes) => print_code(number_of(value), codes, out),
         Meaning::Flags(flags) => print_flags(number_of(value), flags, out),
         Meaning::Register => print_register(value, out),
     }
@@ -121,57 +116,72 @@ pub(crate) fn print_text<W: Write>(bytes: &[u8], out: &mut W) -> io::Result<()> 
     Ok(())
 }
 
-/// The meaning of a number that is a code.
-fn find_code(number: u64, codes: &'static [Code]) -> Option<&'static str> {
-    for code in codes {
-        let Code(value, name) = *code;
-        if value == number {
-            return Some(name);
+/// Prints the meaning of a number that is a code.
+fn print_code<W: Write>(number: u64, codes: &'static [u8], out: &mut W) -> io::Result<()> {
+    for item in codes.split(|byte| *byte == b'|' || *byte == b'\n') {
+        let (code, name) = next_word(item);
+        if !code.is_empty() && language::number_of(code) == number {
+            write!(out, "  ")?;
+            return print_text(before_blanks(after_blanks(name)), out);
         }
     }
-    None
+    Ok(())
 }
 
-/// Bits of a number, from the lowest of them on.
-fn bits_of(number: u64, lowest: u32, count: u32) -> u64 {
-    if lowest >= 64 {
+/// The bits of a number from one on up to another.
+fn bits_of(number: u64, first: u64, last: u64) -> u64 {
+    if first > 63 || last < first {
         return 0;
     }
-    let rest = number >> lowest;
-    if count >= 64 {
-        rest
-    } else {
+    let rest = number >> first;
+    let count = last.min(63) - first + 1;
+    if count < 64 {
         rest & ((1 << count) - 1)
+    } else {
+        rest
     }
 }
 
 /// Prints the parts of a number that aren't 0, and the meanings of those that are codes.
-fn print_flags<W: Write>(number: u64, flags: &'static [Flag], out: &mut W) -> io::Result<()> {
+fn print_flags<W: Write>(number: u64, flags: &'static [u8], out: &mut W) -> io::Result<()> {
     let mut between = "  ";
-    for flag in flags {
-        match *flag {
-            Flag::Bit(place, name) => {
-                if bits_of(number, place, 1) == 1 {
-                    write!(out, "{between}{name}")?;
-                    between = ", ";
-                }
-            }
-            Flag::Number(lowest, count, name) => {
-                let part = bits_of(number, lowest, count);
-                if part != 0 {
-                    write!(out, "{between}{name} {part}")?;
-                    between = ", ";
-                }
-            }
-            Flag::Choice(lowest, count, codes) => {
-                if let Some(name) = find_code(bits_of(number, lowest, count), codes) {
-                    write!(out, "{between}{name}")?;
-                    between = ", ";
-                }
-            }
+    for item in flags.split(|byte| *byte == b'|' || *byte == b'\n') {
+        let (bits, name) = next_word(item);
+        if !bits.is_empty() && print_flag(number, between, bits, name, out)? {
+            between = ", ";
         }
     }
     Ok(())
+}
+
+/// Prints a part of a number, by the word for its bits, after what parts it from the one before. It
+/// answers whether there is something to print.
+fn print_flag<W: Write>(
+    number: u64,
+    between: &str,
+    bits: &'static [u8],
+    name: &'static [u8],
+    out: &mut W,
+) -> io::Result<bool> {
+    let name = before_blanks(after_blanks(name));
+    let (bits, code) = cut_at(bits, b'/');
+    let (highest, lowest) = cut_at(bits, b':');
+    let first = language::number_of(highest);
+    let (last, first) = if lowest.is_empty() {
+        (first, first)
+    } else {
+        (first, language::number_of(lowest))
+    };
+    let part = bits_of(number, first, last);
+    if code.is_empty() && part == 0 || !code.is_empty() && part != language::number_of(code) {
+        return Ok(false);
+    }
+    write!(out, "{between}")?;
+    print_text(name, out)?;
+    if code.is_empty() && first < last {
+        write!(out, " {part}")?;
+    }
+    Ok(true)
 }
 
 /// Prints a text in UTF-16 as characters, those that aren't printable ASCII as `.`, up to a zero.
@@ -210,11 +220,19 @@ fn print_guid<W: Write>(value: &[u8], out: &mut W) -> io::Result<()> {
     print_hex(&value[10..], out)
 }
 
+/// Prints the numbers of a device and a function.
+fn print_path<W: Write>(value: &[u8], out: &mut W) -> io::Result<()> {
+    let [device, function] = value else {
+        return Ok(());
+    };
+    write!(out, "  {device:02x}.{function}")
+}
+
 /// Prints a PCI function.
 fn print_function<W: Write>(number: u64, out: &mut W) -> io::Result<()> {
-    let bus = bits_of(number, 8, 8);
-    let device = bits_of(number, 3, 5);
-    let function = bits_of(number, 0, 3);
+    let bus = bits_of(number, 8, 15);
+    let device = bits_of(number, 3, 7);
+    let function = bits_of(number, 0, 2);
     write!(out, "  {bus:02x}:{device:02x}.{function}")
 }
 

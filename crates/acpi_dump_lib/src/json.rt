@@ -3,7 +3,7 @@
 use crate::arguments::{Choice, Contents};
 use crate::entries::{Entry, Place};
 use crate::fields::{number_of, print_hex, print_meaning, print_text, print_value};
-use crate::layouts::form::Meaning;
+use crate::language::Meaning;
 use crate::shown::chooses;
 use crate::text::print_fault;
 use crate::walk::{Fault, Group, Show, Shown, walk_table};

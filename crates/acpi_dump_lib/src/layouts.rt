@@ -1,56 +1,58 @@
-//! The fields of tables, by the names of their specifications.
+//! The layouts of tables, in the language that `language.rt` describes, with the names of their
+//! specifications.
 
+mod boot;
 mod devices;
-mod fadt;
-pub(crate) mod form;
-mod gtdt;
-mod madt;
-mod numa;
+mod errors;
+mod interrupts;
+mod iommu;
+mod localities;
+mod management;
+mod memory;
+mod processors;
+mod roots;
+mod trust;
 
+use crate::language::find_block;
 use acpi::sdt::Signature;
-use form::Meaning::{Decimal, Plain, Text};
-use form::Part;
-use form::Part::Field;
 
-/// The header that every table begins with (section 5.2.6, table 5.4).
-pub(crate) const HEADER: &[Part] = &[
-    Field(0, 4, "Signature", Text),
-    Field(4, 4, "Length", Decimal),
-    Field(8, 1, "Revision", Plain),
-    Field(9, 1, "Checksum", Plain),
-    Field(10, 6, "OEMID", Text),
-    Field(16, 8, "OEM Table ID", Text),
-    Field(24, 4, "OEM Revision", Plain),
-    Field(28, 4, "Creator ID", Text),
-    Field(32, 4, "Creator Revision", Plain),
-];
+pub(crate) use roots::header;
 
-/// A table: its signature, and its parts after the header.
-#[derive(Clone, Copy)]
-struct Table(&'static [u8; 4], &'static [Part]);
+/// How many texts of layouts there are.
+const TEXTS: u8 = 17;
 
-/// The tables whose layouts are known, by their signatures. A FACS has no header: these are all of
-/// its parts.
-const TABLES: &[Table] = &[
-    Table(b"APIC", madt::MADT),
-    Table(b"BGRT", devices::BGRT),
-    Table(b"FACP", fadt::FADT),
-    Table(b"FACS", devices::FACS),
-    Table(b"GTDT", gtdt::GTDT),
-    Table(b"HPET", devices::HPET),
-    Table(b"MCFG", devices::MCFG),
-    Table(b"SLIT", numa::SLIT),
-    Table(b"SPCR", devices::SPCR),
-    Table(b"SRAT", numa::SRAT),
-];
+/// One of the texts of layouts.
+fn text(number: u8) -> &'static [u8] {
+    match number {
+        0 => roots::roots(),
+        1 => interrupts::madt(),
+        2 => interrupts::gtdt(),
+        3 => localities::localities(),
+        4 => devices::ports(),
+        5 => devices::timers(),
+        6 => boot::boot(),
+        7 => errors::errors(),
+        8 => iommu::dmar(),
+        9 => iommu::ivrs(),
+        10 => iommu::iort(),
+        11 => memory::memory(),
+        12 => memory::nfit(),
+        13 => trust::trust(),
+        14 => processors::processors(),
+        15 => processors::machines(),
+        16 => management::management(),
+        _ => b"",
+    }
+}
 
-/// The parts after the header of a table with this signature.
-pub(crate) fn parts_of(signature: Signature) -> &'static [Part] {
-    for table in TABLES {
-        let Table(name, parts) = *table;
-        if signature == Signature::from_bytes(*name) {
-            return parts;
+/// The text that has the layout of a table with this signature, and its lines after the header. A FACS has
+/// no header: these are then all of its lines.
+pub(crate) fn layout_of(signature: Signature) -> (&'static [u8], &'static [u8]) {
+    for number in 0..TEXTS {
+        let text = text(number);
+        if let Some(block) = find_block(text, &signature.to_bytes(), None) {
+            return (text, block.lines);
         }
     }
-    &[]
+    (b"", b"")
 }

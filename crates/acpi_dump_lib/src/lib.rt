@@ -1,7 +1,7 @@
 //! The ACPI tables of an input: one line a table, the fields or the bytes of some, or the machine in short.
 //!
-//! Every function returns for every input, without fault. Which bytes are printed is tested, and not
-//! proved.
+//! Every function returns for every input, without fault. The tables of acpidump's text are exact by a definition; which
+//! bytes are printed is tested, and not proved.
 #![tactic(auto)]
 
 mod arguments;
@@ -15,6 +15,7 @@ mod getters;
 mod hex;
 mod input;
 mod json;
+mod language;
 mod layouts;
 mod listing;
 mod paint;

@@ -1,8 +1,12 @@
 //! A walk over a table by its layout, which shows what there is in the order of the bytes.
 
-use crate::layouts::form::{End, Entries, Kind, Meaning, Part, Place, Size, Start};
-use crate::layouts::{HEADER, parts_of};
-use acpi::sdt::{Signature, field};
+ghost use Rattle.std.specs.Prelude.{◌<◌, length};
+
+use crate::language::{
+    Block, Meaning, cut_at, field_of, find_block, is_number, next_word, number_of, sum_of, text_of,
+};
+use crate::layouts::{header, layout_of};
+use acpi::sdt::Signature;
 use std::io;
 
 /// How deep structures lie in structures at most.
@@ -73,30 +77,30 @@ pub(crate) trait Show {
     fn malformed(&mut self, offset: u64, fault: Fault) -> io::Result<()>;
 }
 
-/// A structure: where it begins in the table, and its bytes.
+/// A structure: where it begins in the table, its bytes, and the text that its layout stands in.
 #[derive(Clone, Copy)]
 struct Piece<'a> {
     base: u64,
     bytes: &'a [u8],
+    text: &'static [u8],
 }
 
-/// Where a part of a structure begins and ends, and how many elements it has at most.
+/// Where a part of a structure begins and ends, and how many elements it has if they are counted.
 #[derive(Clone, Copy)]
 struct Extent {
     start: usize,
     end: usize,
-    count: u64,
-    is_counted: bool,
+    count: Option<u64>,
 }
 
-/// What is known of an entry: its length, its name, its type, and two lists of its parts.
+/// What is known of an entry: its length, its name, its type, and the lines of its layout.
 #[derive(Clone, Copy)]
 struct Entry {
     length: usize,
     name: &'static str,
     kind: Option<u64>,
-    head: &'static [Part],
-    parts: &'static [Part],
+    head: &'static [u8],
+    lines: &'static [u8],
 }
 
 /// These bytes of a slice, if it has them.
@@ -114,24 +118,26 @@ pub(crate) fn walk_table<S: Show>(
     table: &[u8],
     show: &mut S,
 ) -> io::Result<()> {
+    let (text, lines) = layout_of(signature);
     let piece = Piece {
         base: 0,
         bytes: table,
+        text,
     };
     let head = if signature == Signature::FACS {
-        &[]
+        b""
     } else {
-        HEADER
+        header()
     };
-    walk_structure(piece, head, parts_of(signature), DEEPEST, show)
+    walk_structure(piece, head, lines, DEEPEST, show)
 }
 
 /// Shows the parts of a structure, and all other bytes of it as they are.
 #[cycle(walk)]
 fn walk_structure<S: Show>(
     piece: Piece<'_>,
-    head: &'static [Part],
-    parts: &'static [Part],
+    head: &'static [u8],
+    lines: &'static [u8],
     depth: u32,
     show: &mut S,
 ) -> io::Result<()> {
@@ -139,16 +145,17 @@ fn walk_structure<S: Show>(
         show.malformed(piece.base, Fault::Deep)?;
         return show.bytes(piece.base, piece.bytes);
     }
-    let shown = walk_parts(piece, head, 0, depth - 1, show)?;
-    let shown = walk_parts(piece, parts, shown, depth - 1, show)?;
+    let shown = walk_lines(piece, head, 0, depth - 1, show)?;
+    let shown = walk_lines(piece, lines, shown, depth - 1, show)?;
     show_gap(piece, shown, piece.bytes.len(), show)
 }
 
-/// Shows parts of a structure, of which so many bytes are shown. It answers how many are then.
+/// Shows the parts of a structure that lines describe, of which so many bytes are shown. It answers how
+/// many are then.
 #[cycle(walk)]
-fn walk_parts<S: Show>(
+fn walk_lines<S: Show>(
     piece: Piece<'_>,
-    parts: &'static [Part],
+    lines: &'static [u8],
     from: usize,
     depth: u32,
     show: &mut S,
@@ -157,41 +164,55 @@ fn walk_parts<S: Show>(
     if depth == 0 {
         return Ok(shown);
     }
-    for part in parts {
-        shown = match part {
-            Part::Field(start, length, name, meaning) => {
-                show_field(piece, shown, Place(*start, *length), name, *meaning, show)?
-            }
-            Part::Run(start, end, name, meaning) => {
-                show_run(piece, shown, *start, *end, name, *meaning, show)?
-            }
-            Part::Numbers(start, end, size, name, meaning) => {
-                match show_start(piece, shown, *start, *end, show)? {
-                    Some(extent) => show_numbers(piece, extent, *size, name, *meaning, show)?,
-                    None => shown,
-                }
-            }
-            Part::List(start, end, entries) => {
-                match show_start(piece, shown, *start, *end, show)? {
-                    Some(extent) => walk_list(piece, extent, entries, depth - 1, show)?,
-                    None => shown,
-                }
-            }
-            Part::When(place, least, most, parts) => {
-                let number = number_at(piece.bytes, *place);
-                if *least <= number && number <= *most {
-                    walk_parts(piece, parts, shown, depth - 1, show)?
-                } else {
-                    shown
-                }
-            }
-            Part::Then(parts) => {
-                let inner = walk_parts(rest_of(piece, shown), parts, 0, depth - 1, show)?;
+    let mut left = lines;
+    'lines: while !left.is_empty() {
+        let (line, others) = cut_at(left, b'\n');
+        left = others;
+        let (word, rest) = next_word(line);
+        shown = match word {
+            b"" => shown,
+            b"if" => walk_lines(piece, chosen_lines(piece, rest), shown, depth - 1, show)?,
+            b"with" => walk_lines(piece, lines_of(piece.text, rest), shown, depth - 1, show)?,
+            b"then" => {
+                let inner = walk_lines(
+                    rest_of(piece, shown),
+                    lines_of(piece.text, rest),
+                    0,
+                    depth - 1,
+                    show,
+                )?;
                 shown.saturating_add(inner)
             }
+            _ => walk_part(piece, shown, word, rest, depth - 1, show)?,
         };
     }
     Ok(shown)
+}
+
+/// Shows the part that a line describes, by its first word and what follows it.
+#[cycle(walk)]
+fn walk_part<S: Show>(
+    piece: Piece<'_>,
+    shown: usize,
+    word: &'static [u8],
+    rest: &'static [u8],
+    depth: u32,
+    show: &mut S,
+) -> io::Result<usize> {
+    let start = if matches!(word, b">") {
+        shown
+    } else {
+        sum_of(word, piece.bytes).number as usize
+    };
+    let (length, rest) = next_word(rest);
+    if let [b'{', count @ ..] = length {
+        let extent = list_extent(piece.bytes, start, count);
+        if depth > 0 && show_start(piece, shown, extent, show)? {
+            return walk_list(piece, extent, rest, depth - 1, show);
+        }
+        return Ok(shown);
+    }
+    show_fields(piece, shown, start, is_number(word), length, rest, show)
 }
 
 /// Shows the entries of a list, as far as they are there. It answers up to where the structure is shown then.
@@ -199,7 +220,7 @@ fn walk_parts<S: Show>(
 fn walk_list<S: Show>(
     piece: Piece<'_>,
     extent: Extent,
-    entries: &'static Entries,
+    how: &'static [u8],
     depth: u32,
     show: &mut S,
 ) -> io::Result<usize> {
@@ -207,45 +228,52 @@ fn walk_list<S: Show>(
         return Ok(extent.start);
     };
     let mut offset = piece.base.saturating_add(extent.start as u64);
-    let mut number = 0;
+    let mut number: u64 = 0;
     if depth == 0 {
         return Ok(extent.start);
     }
-    while number < extent.count && !rest.is_empty() {
-        let fault = match next_entry(piece.bytes, rest, entries) {
-            Ok(entry) => {
-                if 0 < entry.length && entry.length <= rest.len() {
-                    let (bytes, others) = rest.split_at(entry.length);
-                    show.begin(&group_of(offset, number, entry))?;
-                    let inner = Piece {
-                        base: offset,
-                        bytes,
-                    };
-                    walk_structure(inner, entry.head, entry.parts, depth - 1, show)?;
-                    show.end()?;
-                    offset = offset.saturating_add(bytes.len() as u64);
-                    number = number.saturating_add(1);
-                    rest = others;
-                    continue;
-                }
-                fault_of(entry.length)
+    'entries: while !rest.is_empty() && is_more(extent, number) {
+        let entry = match next_entry(piece, rest, how) {
+            Ok(entry) => entry,
+            Err(fault) => {
+                show.malformed(offset, fault)?;
+                show.bytes(offset, rest)?;
+                return Ok(extent.end);
             }
-            Err(fault) => fault,
         };
-        show.malformed(offset, fault)?;
-        show.bytes(offset, rest)?;
-        return Ok(extent.end);
+        let (bytes, others) = split(rest, entry.length);
+        show.begin(&group_of(offset, number, entry))?;
+        let inner = Piece {
+            base: offset,
+            bytes,
+            text: piece.text,
+        };
+        walk_structure(inner, entry.head, entry.lines, depth - 1, show)?;
+        show.end()?;
+        offset = offset.saturating_add(bytes.len() as u64);
+        number = number.saturating_add(1);
+        rest = others;
     }
     show_missing(offset, extent, number, show)?;
     Ok(extent.end.saturating_sub(rest.len()))
 }
 
-/// Why an entry of this length isn't one, if it is 0 or more than the bytes that are left.
-fn fault_of(length: usize) -> Fault {
-    if length == 0 {
-        Fault::Length(0)
+/// Bytes up to a place, which isn't their beginning, and those from there on.
+fn split(bytes: &[u8], place: usize) -> (&[u8], &[u8])
+    ensures shorter { 0 < length bytes.now → length result.1.now < length bytes.now }
+{
+    if 0 < place && place <= bytes.len() {
+        (&bytes[..place], &bytes[place..])
     } else {
-        Fault::Past(length as u64)
+        (bytes, &[])
+    }
+}
+
+/// Whether a list has more elements than so many.
+fn is_more(extent: Extent, number: u64) -> bool {
+    match extent.count {
+        Some(count) => number < count,
+        None => true,
     }
 }
 
@@ -265,215 +293,200 @@ fn rest_of(piece: Piece<'_>, start: usize) -> Piece<'_> {
     Piece {
         base: piece.base.saturating_add(start as u64),
         bytes: cut(piece.bytes, start, piece.bytes.len()).unwrap_or(&[]),
+        text: piece.text,
     }
 }
 
-/// The number at a place of a structure: 0 if it has none there.
-fn number_at(bytes: &[u8], place: Place) -> u64 {
-    let Place(offset, length) = place;
-    if length <= 8 && end_of(place) <= bytes.len() {
-        field(bytes, offset, length)
+/// The lines of the block that the first word names.
+fn lines_of(text: &'static [u8], rest: &'static [u8]) -> &'static [u8] {
+    let (name, _) = next_word(rest);
+    match find_block(text, name, None) {
+        Some(block) => block.lines,
+        None => b"",
+    }
+}
+
+/// The lines of the block that the fourth word names, if the number at the place that is the first
+/// is neither less than the second nor more than the third.
+fn chosen_lines(piece: Piece<'_>, rest: &'static [u8]) -> &'static [u8] {
+    let (place, rest) = next_word(rest);
+    let (first, rest) = next_word(rest);
+    let (last, rest) = next_word(rest);
+    let number = sum_of(place, piece.bytes).number;
+    if number_of(first) <= number && number <= number_of(last) {
+        lines_of(piece.text, rest)
     } else {
-        0
-    }
-}
-
-/// The number at a place as a length or an offset.
-fn offset_at(bytes: &[u8], place: Place) -> usize {
-    number_at(bytes, place) as usize
-}
-
-/// A length in bytes in a structure.
-fn length_of(bytes: &[u8], size: Size) -> usize {
-    match size {
-        Size::Bytes(length) => length,
-        Size::Plus(least, place, each) => {
-            least.saturating_add(offset_at(bytes, place).saturating_mul(each))
-        }
+        b""
     }
 }
 
 /// The entry that bytes in a structure begin with, or why they don't begin with one.
-fn next_entry(outer: &[u8], rest: &[u8], entries: &'static Entries) -> Result<Entry, Fault> {
-    match entries {
-        Entries::Equal(size, name, parts) => {
-            let entry = plain_entry(length_of(outer, *size), name, parts);
-            if rest.len() < entry.length {
-                return Err(Fault::Cut);
-            }
-            Ok(entry)
+fn next_entry(piece: Piece<'_>, rest: &[u8], how: &'static [u8]) -> Result<Entry, Fault> {
+    let (word, how) = next_word(how);
+    let (first, how) = next_word(how);
+    match word {
+        b"each" => {
+            let length = if matches!(first, b"z") {
+                after_zero(rest, 0)
+            } else {
+                sum_of(first, piece.bytes).number as usize
+            };
+            plain_entry(piece.text, checked_length(rest, length, 1)?, how)
         }
-        Entries::Own(place, name, parts) => {
-            let length = given_length(rest, *place, *place)?;
-            Ok(plain_entry(length, name, parts))
+        b"own" => plain_entry(piece.text, own_length(rest, first, 1)?, how),
+        b"typed" => {
+            let kind = sum_of(first, rest);
+            let (size, how) = next_word(how);
+            let length = own_length(rest, size, kind.end)?;
+            typed_entry(piece.text, length, kind.number, how)
         }
-        Entries::Typed(kind, place, head, kinds) => {
-            let length = given_length(rest, *kind, *place)?;
-            Ok(typed_entry(length, number_at(rest, *kind), head, kinds))
-        }
-        Entries::Sized(place, head, kinds) => {
-            if rest.len() < end_of(*place) {
-                return Err(Fault::Cut);
-            }
-            let kind = number_at(rest, *place);
-            match find_kind(kind, kinds) {
-                Some(Kind::Types(_, _, name, size, parts)) => Ok(Entry {
-                    length: length_of(rest, *size),
-                    name,
-                    kind: Some(kind),
-                    head,
-                    parts,
-                }),
-                Some(_) | None => Err(Fault::Unknown(kind)),
-            }
+        _ => {
+            let kind = sum_of(first, rest);
+            sized_entry(piece.text, rest, kind.number, kind.end, how)
         }
     }
 }
 
-/// An entry without a type.
-fn plain_entry(length: usize, name: &'static str, parts: &'static [Part]) -> Entry {
-    Entry {
-        length,
-        name,
-        kind: None,
-        head: &[],
-        parts,
-    }
-}
-
-/// An entry of a type.
-fn typed_entry(length: usize, kind: u64, head: &'static [Part], kinds: &'static [Kind]) -> Entry {
-    let (name, parts) = match find_kind(kind, kinds) {
-        Some(Kind::Type(_, name, parts)) => (*name, *parts),
-        Some(Kind::Types(_, _, name, _, parts)) => (*name, *parts),
-        None => ("", NO_PARTS),
-    };
-    Entry {
-        length,
-        name,
-        kind: Some(kind),
-        head,
-        parts,
-    }
-}
-
-const NO_PARTS: &[Part] = &[];
-
-/// The type that a number is of.
-fn find_kind(number: u64, kinds: &'static [Kind]) -> Option<&'static Kind> {
-    for kind in kinds {
-        let (first, last) = match kind {
-            Kind::Type(code, _, _) => (*code, *code),
-            Kind::Types(first, last, _, _, _) => (*first, *last),
-        };
-        if first <= number && number <= last {
-            return Some(kind);
-        }
-    }
-    None
-}
-
-/// The offset after a place.
-fn end_of(place: Place) -> usize {
-    let Place(offset, length) = place;
-    offset.saturating_add(length)
-}
-
-/// The length that stands in the entry that bytes begin with, whose type stands at another place.
-fn given_length(rest: &[u8], kind: Place, place: Place) -> Result<usize, Fault> {
-    let least = end_of(kind).max(end_of(place));
+/// A length of an entry, if it is at least so much, and at most what is left.
+fn checked_length(rest: &[u8], length: usize, least: usize) -> Result<usize, Fault> {
     if rest.len() < least {
-        return Err(Fault::Cut);
-    }
-    let length = offset_at(rest, place);
-    if length < least {
+        Err(Fault::Cut)
+    } else if length < least {
         Err(Fault::Length(length as u64))
+    } else if rest.len() < length {
+        Err(Fault::Past(length as u64))
     } else {
         Ok(length)
     }
 }
 
+/// The length that stands in the entry that bytes begin with, which is at least so much.
+fn own_length(rest: &[u8], size: &'static [u8], least: usize) -> Result<usize, Fault> {
+    let length = sum_of(size, rest);
+    checked_length(rest, length.number as usize, length.end.max(least))
+}
+
+/// An entry without a type.
+fn plain_entry(text: &'static [u8], length: usize, how: &'static [u8]) -> Result<Entry, Fault> {
+    let (name, _) = next_word(how);
+    Ok(entry_of(length, None, b"", find_block(text, name, None)))
+}
+
+/// An entry of a type.
+fn typed_entry(
+    text: &'static [u8],
+    length: usize,
+    kind: u64,
+    how: &'static [u8],
+) -> Result<Entry, Fault> {
+    let (name, _) = next_word(how);
+    let block = find_block(text, name, Some(kind));
+    Ok(entry_of(length, Some(kind), lines_of(text, how), block))
+}
+
+/// An entry of a type that determines its length.
+fn sized_entry(
+    text: &'static [u8],
+    rest: &[u8],
+    kind: u64,
+    least: usize,
+    how: &'static [u8],
+) -> Result<Entry, Fault> {
+    if rest.len() < least {
+        return Err(Fault::Cut);
+    }
+    let (name, _) = next_word(how);
+    let block = find_block(text, name, Some(kind));
+    let Some(Block { size, .. }) = block else {
+        return Err(Fault::Unknown(kind));
+    };
+    let length = own_length(rest, size, least)?;
+    Ok(entry_of(length, Some(kind), lines_of(text, how), block))
+}
+
+/// An entry that a block describes.
+fn entry_of(
+    length: usize,
+    kind: Option<u64>,
+    head: &'static [u8],
+    block: Option<Block>,
+) -> Entry {
+    let (name, lines) = match block {
+        Some(block) => (text_of(block.title), block.lines),
+        None => ("", NO_LINES),
+    };
+    Entry {
+        length,
+        name,
+        kind,
+        head,
+        lines,
+    }
+}
+
+const NO_LINES: &[u8] = b"";
+
+/// Where a list ends that begins at an offset of a structure, and how many entries it has, by the word
+/// after `{`.
+fn list_extent(bytes: &[u8], start: usize, word: &'static [u8]) -> Extent {
+    let (word, _) = cut_at(word, b'}');
+    match word {
+        b"*" => Extent {
+            start,
+            end: bytes.len(),
+            count: None,
+        },
+        [b'~', length @ ..] => Extent {
+            start,
+            end: start.saturating_add(sum_of(length, bytes).number as usize),
+            count: None,
+        },
+        _ => Extent {
+            start,
+            end: bytes.len(),
+            count: Some(sum_of(word, bytes).number),
+        },
+    }
+}
+
 /// Shows the bytes up to where a part begins in a structure, of which so many bytes are shown, or why it
-/// can't be there. It answers where the part is.
+/// can't be there. It answers whether the part is there.
 fn show_start<S: Show>(
     piece: Piece<'_>,
     shown: usize,
-    start: Start,
-    end: End,
+    extent: Extent,
     show: &mut S,
-) -> io::Result<Option<Extent>> {
-    match place_part(piece.bytes, shown, start, end) {
-        Ok(extent) => {
+) -> io::Result<bool> {
+    match check_extent(piece.bytes, shown, extent) {
+        Ok(()) => {
             show_gap(piece, shown, extent.start, show)?;
-            Ok(Some(extent))
+            Ok(true)
         }
         Err(Some(fault)) => {
             show.malformed(piece.base, fault)?;
-            Ok(None)
+            Ok(false)
         }
-        Err(None) => Ok(None),
+        Err(None) => Ok(false),
     }
 }
 
-/// Where a part begins and ends in a structure, of which so many bytes are shown. Refuses with `None`
-/// if the part is empty.
-fn place_part(bytes: &[u8], shown: usize, start: Start, end: End) -> Result<Extent, Option<Fault>> {
-    let start = match start {
-        Start::At(offset) => offset,
-        Start::Offset(place) => offset_at(bytes, place),
-        Start::After => shown,
+/// Refuses a part of a structure, of which so many bytes are shown, if it isn't there: with `None` if it is
+/// empty.
+fn check_extent(bytes: &[u8], shown: usize, extent: Extent) -> Result<(), Option<Fault>> {
+    let is_empty = match extent.count {
+        Some(count) => count == 0,
+        None => extent.end <= extent.start,
     };
-    let extent = extent_of(bytes, start, end);
-    if extent.count == 0 || extent.end <= start && !extent.is_counted {
+    if is_empty {
         Err(None)
-    } else if start < shown {
-        Err(Some(Fault::Before(start as u64)))
-    } else if bytes.len() < start {
-        Err(Some(Fault::Outside(start as u64)))
+    } else if extent.start < shown {
+        Err(Some(Fault::Before(extent.start as u64)))
+    } else if bytes.len() < extent.start {
+        Err(Some(Fault::Outside(extent.start as u64)))
     } else if bytes.len() < extent.end {
         Err(Some(Fault::Beyond(extent.end as u64)))
     } else {
-        Ok(extent)
-    }
-}
-
-/// Where a part ends that begins at an offset of a structure.
-fn extent_of(bytes: &[u8], start: usize, end: End) -> Extent {
-    let whole = Extent {
-        start,
-        end: bytes.len(),
-        count: u64::MAX,
-        is_counted: false,
-    };
-    match end {
-        End::Whole => whole,
-        End::To(place) => Extent {
-            end: offset_at(bytes, place),
-            ..whole
-        },
-        End::Length(place) => Extent {
-            end: start.saturating_add(offset_at(bytes, place)),
-            ..whole
-        },
-        End::Times(count) => counted(whole, count),
-        End::Count(place) => counted(whole, number_at(bytes, place)),
-        End::Product(one, other) => counted(
-            whole,
-            number_at(bytes, one).saturating_mul(number_at(bytes, other)),
-        ),
-        End::Zero => Extent {
-            end: after_zero(bytes, start),
-            ..whole
-        },
-    }
-}
-
-/// An extent of so many elements.
-fn counted(whole: Extent, count: u64) -> Extent {
-    Extent {
-        count,
-        is_counted: true,
-        ..whole
+        Ok(())
     }
 }
 
@@ -492,99 +505,139 @@ fn after_zero(bytes: &[u8], start: usize) -> usize {
 }
 
 /// Shows how many of the elements that are counted aren't there, if some aren't.
-fn show_missing<S: Show>(offset: u64, extent: Extent, found: u64, show: &mut S) -> io::Result<()> {
-    if extent.is_counted && found < extent.count {
-        return show.malformed(offset, Fault::Missing(extent.count - found));
+fn show_missing<S: Show>(
+    offset: u64,
+    extent: Extent,
+    found: u64,
+    show: &mut S,
+) -> io::Result<()> {
+    if let Some(count) = extent.count && found < count {
+        return show.malformed(offset, Fault::Missing(count - found));
     }
     Ok(())
 }
 
 /// Shows those bytes of a structure that no field covers.
-fn show_gap<S: Show>(piece: Piece<'_>, start: usize, end: usize, show: &mut S) -> io::Result<()> {
-    if start < end
-        && let Some(bytes) = cut(piece.bytes, start, end)
-    {
+fn show_gap<S: Show>(
+    piece: Piece<'_>,
+    start: usize,
+    end: usize,
+    show: &mut S,
+) -> io::Result<()> {
+    if start < end && let Some(bytes) = cut(piece.bytes, start, end) {
         return show.bytes(piece.base.saturating_add(start as u64), bytes);
     }
     Ok(())
 }
 
-/// Shows a field, if the structure has its bytes. It answers up to where the structure is shown then.
-fn show_field<S: Show>(
+/// Shows the field or the fields that begin at an offset of a structure, by the word for the length, and
+/// what follows it. It answers up to where the structure is shown then.
+fn show_fields<S: Show>(
     piece: Piece<'_>,
     shown: usize,
-    place: Place,
-    name: &'static str,
-    meaning: Meaning,
+    start: usize,
+    is_fixed: bool,
+    word: &'static [u8],
+    rest: &'static [u8],
     show: &mut S,
 ) -> io::Result<usize> {
-    let Place(start, _) = place;
-    let end = end_of(place);
-    let Some(bytes) = cut(piece.bytes, start, end) else {
-        return Ok(shown);
-    };
-    if start < shown {
+    let (length, count) = cut_at(word, b'[');
+    if !count.is_empty() {
+        let extent = array_extent(piece.bytes, start, count);
+        if show_start(piece, shown, extent, show)? {
+            return show_numbers(piece, extent, length, rest, show);
+        }
         return Ok(shown);
     }
-    show_gap(piece, shown, start, show)?;
+    let end = match length {
+        b"*" => piece.bytes.len(),
+        b"z" => after_zero(piece.bytes, start),
+        [b'<', end @ ..] => sum_of(end, piece.bytes).number as usize,
+        _ => start.saturating_add(sum_of(length, piece.bytes).number as usize),
+    };
+    let extent = Extent {
+        start,
+        end,
+        count: None,
+    };
+    if is_fixed && is_number(length) {
+        if start < shown || piece.bytes.len() < end {
+            return Ok(shown);
+        }
+        show_gap(piece, shown, start, show)?;
+    } else if !show_start(piece, shown, extent, show)? {
+        return Ok(shown);
+    }
+    show_field(piece, extent, rest, show)
+}
+
+/// Where fields of one length end that begin at an offset of a structure, and how many there are, by the
+/// word after `[`.
+fn array_extent(bytes: &[u8], start: usize, word: &'static [u8]) -> Extent {
+    let (word, _) = cut_at(word, b']');
+    Extent {
+        start,
+        end: bytes.len(),
+        count: if matches!(word, b"*") {
+            None
+        } else {
+            Some(sum_of(word, bytes).number)
+        },
+    }
+}
+
+/// Shows a field. It answers up to where the structure is shown then.
+fn show_field<S: Show>(
+    piece: Piece<'_>,
+    extent: Extent,
+    rest: &'static [u8],
+    show: &mut S,
+) -> io::Result<usize> {
+    let Some(bytes) = cut(piece.bytes, extent.start, extent.end) else {
+        return Ok(extent.start);
+    };
+    let (meaning, name) = field_of(piece.text, rest);
     show.field(&Shown {
-        offset: piece.base.saturating_add(start as u64),
+        offset: piece.base.saturating_add(extent.start as u64),
         bytes,
         name,
         number: None,
         meaning,
     })?;
-    Ok(end)
-}
-
-/// Shows a field of a length that the structure gives.
-fn show_run<S: Show>(
-    piece: Piece<'_>,
-    shown: usize,
-    start: Start,
-    end: End,
-    name: &'static str,
-    meaning: Meaning,
-    show: &mut S,
-) -> io::Result<usize> {
-    let Some(extent) = show_start(piece, shown, start, end, show)? else {
-        return Ok(shown);
-    };
-    let place = Place(extent.start, extent.end.saturating_sub(extent.start));
-    show_field(piece, extent.start, place, name, meaning, show)
+    Ok(extent.end)
 }
 
 /// Shows fields of one length, as far as they are there. It answers up to where the structure is shown then.
 fn show_numbers<S: Show>(
     piece: Piece<'_>,
     extent: Extent,
-    size: Size,
-    name: &'static str,
-    meaning: Meaning,
+    length: &'static [u8],
+    rest: &'static [u8],
     show: &mut S,
 ) -> io::Result<usize> {
-    let length = length_of(piece.bytes, size);
+    let length = sum_of(length, piece.bytes).number as usize;
     let Some(bytes) = cut(piece.bytes, extent.start, extent.end) else {
         return Ok(extent.start);
     };
-    let mut offset = piece.base.saturating_add(extent.start as u64);
-    let mut number = 0;
     if length == 0 {
         return Ok(extent.start);
     }
+    let (meaning, name) = field_of(piece.text, rest);
+    let mut shown = extent.start;
+    let mut number: u64 = 0;
     for bytes in bytes.chunks(length) {
-        if number < extent.count && bytes.len() == length {
+        if is_more(extent, number) && bytes.len() == length {
             show.field(&Shown {
-                offset,
+                offset: piece.base.saturating_add(shown as u64),
                 bytes,
                 name,
                 number: Some(number),
                 meaning,
             })?;
-            offset = offset.saturating_add(bytes.len() as u64);
+            shown = shown.saturating_add(length);
             number = number.saturating_add(1);
         }
     }
-    show_missing(offset, extent, number, show)?;
-    Ok(offset.saturating_sub(piece.base) as usize)
+    show_missing(piece.base.saturating_add(shown as u64), extent, number, show)?;
+    Ok(shown)
 }
