@@ -10,12 +10,13 @@ use acpi::sdt::Signature;
 use std::io;
 use std::io::Write;
 
-/// Whether a choice has a table.
+/// Whether a choice has a table, of which some byte is there.
 pub(crate) fn chooses(choice: Choice, entry: &Entry<'_>) -> bool {
-    match choice.signature {
+    let is_wanted = match choice.signature {
         Some(signature) => entry.has(signature),
         None => true,
-    }
+    };
+    is_wanted && !entry.bytes.is_empty()
 }
 
 /// Prints the tables that are chosen, choice by choice.
@@ -45,7 +46,7 @@ pub(crate) fn missing<E: Write>(
     let mut any = false;
     for choice in choices {
         if let Some(signature) = choice.signature
-            && !entries.iter().any(|entry| entry.has(signature))
+            && !entries.iter().any(|entry| chooses(*choice, entry))
         {
             any = true;
             tell(err, name, &format_args!("no table {signature}"))?;
@@ -75,9 +76,6 @@ fn print_table<W: Write>(
         write!(out, "  check: ")?;
         paint.status(entry.status, out)?;
         writeln!(out)?;
-    }
-    if entry.bytes.is_empty() {
-        return Ok(());
     }
     let signature = entry
         .signature()

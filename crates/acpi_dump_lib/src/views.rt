@@ -270,6 +270,7 @@ fn facts_in<E: Write>(
 
 /// Where the root table of tables that come as files is put, and from where on they are.
 const ROOT: u64 = 0x1000_0000;
+
 const FIRST: u64 = 0x1_0000_0000;
 
 /// The letters of tables that no root table lists.

@@ -1,8 +1,8 @@
 //! Reading the inputs that the arguments name.
 
 use crate::errors::tell;
-use crate::input::memory::image_of;
 use crate::input::kind::{Kind, kind_of, text_in};
+use crate::input::memory::image_of;
 use crate::input::order::comes_before;
 use crate::input::text::{TextError, tables_in};
 use crate::sources::{Sources, reason_of};

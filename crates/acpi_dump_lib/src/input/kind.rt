@@ -79,7 +79,10 @@ fn is_text(bytes: &[u8]) -> bool {
 /// Whether bytes are an image that lends some.
 fn is_image(alloc: Global, bytes: &[u8]) -> bool {
     match &MemoryImage::from_bytes(alloc, bytes) {
-        Ok(image) => image.records().iter().any(|record| !record.bytes.is_empty()),
+        Ok(image) => image
+            .records()
+            .iter()
+            .any(|record| !record.bytes.is_empty()),
         Err(_) => false,
     }
 }
