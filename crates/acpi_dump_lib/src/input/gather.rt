@@ -58,6 +58,15 @@ fn in_order(alloc: Global, names: Vec<String>) -> Result<Vec<String>, AllocError
     Ok(sorted)
 }
 
+/// The bytes of an input, which is standard input if its name is `-`.
+fn content_of<S: Sources>(alloc: Global, name: &str, sources: &mut S) -> io::Result<Vec<u8>> {
+    if name == "-" {
+        sources.read_standard_input(alloc)
+    } else {
+        sources.read(name)
+    }
+}
+
 /// The bytes of an input, or `None`, after saying why, if the system refuses it.
 fn read_input<S: Sources, E: Write>(
     alloc: Global,
@@ -65,12 +74,7 @@ fn read_input<S: Sources, E: Write>(
     sources: &mut S,
     err: &mut E,
 ) -> io::Result<Option<Vec<u8>>> {
-    let content = if name == "-" {
-        sources.read_standard_input(alloc)
-    } else {
-        sources.read(name)
-    };
-    match content {
+    match content_of(alloc, name, sources) {
         Ok(bytes) if bytes.is_empty() => {
             tell(err, name, &"it is empty")?;
             Ok(None)
@@ -272,7 +276,7 @@ fn gather_file<S: Sources, E: Write>(
 ) -> io::Result<Option<Input>> {
     // What is said to be an image may be empty.
     if reading.kind == Some(Kind::Image) {
-        return gather_image(name, sources, err);
+        return gather_image(alloc, name, sources, err);
     }
     let Some(bytes) = read_input(alloc, name, sources, err)? else {
         return Ok(None);
@@ -292,11 +296,12 @@ fn gather_file<S: Sources, E: Write>(
 
 /// The image that a word names.
 fn gather_image<S: Sources, E: Write>(
+    alloc: Global,
     name: &str,
     sources: &mut S,
     err: &mut E,
 ) -> io::Result<Option<Input>> {
-    match sources.read(name) {
+    match content_of(alloc, name, sources) {
         Ok(bytes) => Ok(Some(Input::Memory(bytes))),
         Err(refusal) => {
             tell(err, name, &reason_of(&refusal))?;
