@@ -3,6 +3,7 @@
 pub(crate) mod candidates;
 pub(crate) mod gather;
 pub(crate) mod kind;
+mod machine;
 mod memory;
 mod order;
 mod row;

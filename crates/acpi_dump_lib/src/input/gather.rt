@@ -3,6 +3,7 @@
 use crate::errors::tell;
 use crate::input::kind::{Kind, kind_of, text_in};
 use crate::input::memory::image_of;
+use crate::input::machine::are_of_one_machine;
 use crate::input::order::comes_before;
 use crate::input::text::{TextError, tables_in};
 use crate::sources::{Sources, reason_of};
@@ -196,36 +197,6 @@ fn add_folder<S: Sources, E: Write>(
     if tables.len() == before {
         tell(err, folder, &"no table in it")?;
         return Ok(false);
-    }
-    Ok(true)
-}
-
-/// The letters that a table begins with.
-fn letters_of(bytes: &[u8]) -> &[u8] {
-    bytes.get(..4).unwrap_or(bytes)
-}
-
-/// Whether tables are those of one machine: it has one of each of these. If not, it says which file is the second.
-fn are_of_one_machine<E: Write>(tables: &[TableFile], err: &mut E) -> io::Result<bool> {
-    for letters in [b"FACP", b"DSDT", b"FACS", b"RSDT", b"XSDT", b"RSD "] {
-        let letters: &[u8] = letters;
-        let mut first: Option<&TableFile> = None;
-        for table in tables {
-            if letters_of(&table.bytes) != letters {
-                continue;
-            }
-            if let Some(first) = first {
-                let signature = str::from_utf8(letters).unwrap_or("");
-                let other = first.name.as_str();
-                tell(
-                    err,
-                    table.name.as_str(),
-                    &format_args!("a second {signature} beside {other}: tables of two machines"),
-                )?;
-                return Ok(false);
-            }
-            first = Some(table);
-        }
     }
     Ok(true)
 }
