@@ -3,7 +3,7 @@
 pub(crate) mod candidates;
 pub(crate) mod gather;
 pub(crate) mod kind;
-mod machine;
+pub(crate) mod machine;
 mod memory;
 mod order;
 mod row;

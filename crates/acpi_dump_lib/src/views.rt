@@ -7,6 +7,7 @@ use crate::errors::tell;
 use crate::find::{candidates_of, print_candidates, print_facts, values_of};
 use crate::input::candidates::{candidates, ebda_of, starts};
 use crate::input::gather::{Input, TableFile};
+use crate::input::machine::letters_of;
 use crate::json::{chosen_of, lines_of, print_document};
 use crate::listing::print_lines;
 use crate::paint::Paint;
@@ -275,11 +276,6 @@ const FIRST: u64 = 0x1_0000_0000;
 
 /// The letters of tables that no root table lists.
 const UNLISTED: &[&[u8]] = &[b"DSDT", b"FACS", b"RSDT", b"XSDT", b"RSD "];
-
-/// The letters that a table begins with.
-fn letters_of(bytes: &[u8]) -> &[u8] {
-    bytes.get(..4).unwrap_or(bytes)
-}
 
 /// The facts of tables that come as files: of the valid ones, in a memory where each has a place.
 fn facts_of_files<E: Write>(

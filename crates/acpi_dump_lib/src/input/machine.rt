@@ -6,7 +6,7 @@ use std::io;
 use std::io::Write;
 
 /// The letters that a table begins with.
-fn letters_of(bytes: &[u8]) -> &[u8] {
+pub(crate) fn letters_of(bytes: &[u8]) -> &[u8] {
     bytes.get(..4).unwrap_or(bytes)
 }
 
