@@ -1,7 +1,7 @@
 //! Fields, one a line: offset, name, value, meaning.
 
-use crate::language;
 use crate::language::{Meaning, after_blanks, before_blanks, cut_at, next_word};
+use crate::language;
 use crate::text::print_indent;
 use crate::walk::Shown;
 use acpi::sdt::field;
@@ -84,11 +84,7 @@ pub(crate) fn number_of(value: &[u8]) -> u64 {
 }
 
 /// Prints the meaning of a field's value, if it means more than itself.
-pub(crate) fn print_meaning<W: Write>(
-    value: &[u8],
-    meaning: Meaning,
-    out: &mut W,
-) -> io::Result<()> {
+pub(crate) fn print_meaning<W: Write>(value: &[u8], meaning: Meaning, out: &mut W) -> io::Result<()> {
     match meaning {
         Meaning::Plain => Ok(()),
         Meaning::Decimal => write!(out, "  {}", number_of(value)),
@@ -148,21 +144,21 @@ fn bits_of(number: u64, first: u64, last: u64) -> u64 {
 
 /// Prints the parts of a number that aren't 0, and the meanings of those that are codes.
 fn print_flags<W: Write>(number: u64, flags: &'static [u8], out: &mut W) -> io::Result<()> {
-    let mut between = "  ";
+    let mut is_first = true;
     for item in flags.split(|byte| *byte == b'|' || *byte == b'\n') {
         let (bits, name) = next_word(item);
-        if !bits.is_empty() && print_flag(number, between, bits, name, out)? {
-            between = ", ";
+        if !bits.is_empty() && print_flag(number, is_first, bits, name, out)? {
+            is_first = false;
         }
     }
     Ok(())
 }
 
-/// Prints a part of a number, by the word for its bits, after what parts it from the one before. It
-/// answers whether there is something to print.
+/// Prints a part of a number, by the word for its bits, after a comma if it isn't the first that is
+/// printed. It answers whether there is something to print.
 fn print_flag<W: Write>(
     number: u64,
-    between: &str,
+    is_first: bool,
     bits: &'static [u8],
     name: &'static [u8],
     out: &mut W,
@@ -180,7 +176,11 @@ fn print_flag<W: Write>(
     if code.is_empty() && part == 0 || !code.is_empty() && part != language::number_of(code) {
         return Ok(false);
     }
-    write!(out, "{between}")?;
+    if is_first {
+        write!(out, "  ")?;
+    } else {
+        write!(out, ", ")?;
+    }
     print_text(name, out)?;
     if code.is_empty() && first < last {
         write!(out, " {part}")?;
