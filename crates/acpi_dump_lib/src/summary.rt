@@ -275,7 +275,7 @@ fn add_hpet(facts: &mut Facts, info: &HpetInfo) -> Result<(), AllocError> {
     facts.add(
         &format_args!("HPET {number}"),
         &format_args!(
-            "at 0x{address:x}, {bits} bits, last comparator {comparators}, periods of {tick} ticks or more"
+            "at 0x{address:x}, {bits} bits, {comparators} comparators, periods of {tick} ticks or more"
         ),
     )
 }
