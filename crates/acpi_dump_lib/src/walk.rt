@@ -331,7 +331,7 @@ fn next_entry(piece: Piece<'_>, rest: &[u8], how: &'static [u8]) -> Result<Entry
             } else {
                 sum_of(first, piece.bytes).number as usize
             };
-            plain_entry(piece.text, checked_length(rest, length, 1)?, how)
+            plain_entry(piece.text, checked_length(rest, length, length.max(1))?, how)
         }
         b"own" => plain_entry(piece.text, own_length(rest, first, 1)?, how),
         b"typed" => {
