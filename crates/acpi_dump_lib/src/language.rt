@@ -116,9 +116,7 @@ pub(crate) fn number_of(word: &[u8]) -> u64 {
     };
     let mut number: u64 = 0;
     for digit in digits {
-        number = number
-            .saturating_mul(base)
-            .saturating_add(digit_of(*digit));
+        number = number.saturating_mul(base).saturating_add(digit_of(*digit));
     }
     number
 }
@@ -199,11 +197,7 @@ pub(crate) fn sum_of(word: &[u8], bytes: &[u8]) -> Sum {
 }
 
 /// The block of a text with a name, for structures of a type, or for what all of them begin with.
-pub(crate) fn find_block(
-    text: &'static [u8],
-    name: &[u8],
-    kind: Option<u64>,
-) -> Option<Block> {
+pub(crate) fn find_block(text: &'static [u8], name: &[u8], kind: Option<u64>) -> Option<Block> {
     for block in text.split(|byte| *byte == b'=') {
         let (head, lines) = cut_at(block, b'\n');
         let (word, head) = next_word(head);

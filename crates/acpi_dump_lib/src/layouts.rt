@@ -15,7 +15,6 @@ mod trust;
 
 use crate::language::find_block;
 use acpi::sdt::Signature;
-
 pub(crate) use roots::header;
 
 /// How many texts of layouts there are.

@@ -331,7 +331,11 @@ fn next_entry(piece: Piece<'_>, rest: &[u8], how: &'static [u8]) -> Result<Entry
             } else {
                 sum_of(first, piece.bytes).number as usize
             };
-            plain_entry(piece.text, checked_length(rest, length, length.max(1))?, how)
+            plain_entry(
+                piece.text,
+                checked_length(rest, length, length.max(1))?,
+                how,
+            )
         }
         b"own" => plain_entry(piece.text, own_length(rest, first, 1)?, how),
         b"typed" => {
@@ -405,12 +409,7 @@ fn sized_entry(
 }
 
 /// An entry that a block describes.
-fn entry_of(
-    length: usize,
-    kind: Option<u64>,
-    head: &'static [u8],
-    block: Option<Block>,
-) -> Entry {
+fn entry_of(length: usize, kind: Option<u64>, head: &'static [u8], block: Option<Block>) -> Entry {
     let (name, lines) = match block {
         Some(block) => (text_of(block.title), block.lines),
         None => ("", NO_LINES),
@@ -505,26 +504,20 @@ fn after_zero(bytes: &[u8], start: usize) -> usize {
 }
 
 /// Shows how many of the elements that are counted aren't there, if some aren't.
-fn show_missing<S: Show>(
-    offset: u64,
-    extent: Extent,
-    found: u64,
-    show: &mut S,
-) -> io::Result<()> {
-    if let Some(count) = extent.count && found < count {
+fn show_missing<S: Show>(offset: u64, extent: Extent, found: u64, show: &mut S) -> io::Result<()> {
+    if let Some(count) = extent.count
+        && found < count
+    {
         return show.malformed(offset, Fault::Missing(count - found));
     }
     Ok(())
 }
 
 /// Shows those bytes of a structure that no field covers.
-fn show_gap<S: Show>(
-    piece: Piece<'_>,
-    start: usize,
-    end: usize,
-    show: &mut S,
-) -> io::Result<()> {
-    if start < end && let Some(bytes) = cut(piece.bytes, start, end) {
+fn show_gap<S: Show>(piece: Piece<'_>, start: usize, end: usize, show: &mut S) -> io::Result<()> {
+    if start < end
+        && let Some(bytes) = cut(piece.bytes, start, end)
+    {
         return show.bytes(piece.base.saturating_add(start as u64), bytes);
     }
     Ok(())
@@ -638,6 +631,11 @@ fn show_numbers<S: Show>(
             number = number.saturating_add(1);
         }
     }
-    show_missing(piece.base.saturating_add(shown as u64), extent, number, show)?;
+    show_missing(
+        piece.base.saturating_add(shown as u64),
+        extent,
+        number,
+        show,
+    )?;
     Ok(shown)
 }
