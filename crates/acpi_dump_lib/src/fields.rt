@@ -1,7 +1,7 @@
 //! Fields, one a line: offset, name, value, meaning.
 
-use crate::language::{Meaning, after_blanks, before_blanks, cut_at, next_word};
 use crate::language;
+use crate::language::{Meaning, after_blanks, before_blanks, cut_at, next_word};
 use crate::text::print_indent;
 use crate::walk::Shown;
 use acpi::sdt::field;

@@ -216,6 +216,15 @@ pub(crate) fn find_block(text: &'static [u8], name: &[u8], kind: Option<u64>) ->
     None
 }
 
+/// The lines of the block that the first word names.
+pub(crate) fn lines_of(text: &'static [u8], rest: &'static [u8]) -> &'static [u8] {
+    let (name, _) = next_word(rest);
+    match find_block(text, name, None) {
+        Some(block) => block.lines,
+        None => b"",
+    }
+}
+
 /// Whether a type is one of those that a block is for.
 fn is_of_kind(kinds: &[u8], kind: Option<u64>) -> bool {
     match kind {

@@ -1,12 +1,16 @@
 //! A walk over a table by its layout, which shows what there is in the order of the bytes.
 
+mod entry;
+mod parts;
+
 ghost use Rattle.std.specs.Prelude.{◌<◌, length};
 
-use crate::language::{
-    Block, Meaning, cut_at, field_of, find_block, is_number, next_word, number_of, sum_of, text_of,
-};
+use crate::language::{Meaning, cut_at, is_number, lines_of, next_word, number_of, sum_of};
 use crate::layouts::{header, layout_of};
 use acpi::sdt::Signature;
+use entry::{Entry, next_entry};
+pub(crate) use parts::cut;
+use parts::{Extent, Piece, is_more, list_extent, show_fields, show_gap, show_missing, show_start};
 use std::io;
 
 /// How deep structures lie in structures at most.
@@ -75,41 +79,6 @@ pub(crate) trait Show {
     /// Shows why bytes from an offset of the table on aren't shown by the layout. The bytes, if there are
     /// some, come next.
     fn malformed(&mut self, offset: u64, fault: Fault) -> io::Result<()>;
-}
-
-/// A structure: where it begins in the table, its bytes, and the text that its layout stands in.
-#[derive(Clone, Copy)]
-struct Piece<'a> {
-    base: u64,
-    bytes: &'a [u8],
-    text: &'static [u8],
-}
-
-/// Where a part of a structure begins and ends, and how many elements it has if they are counted.
-#[derive(Clone, Copy)]
-struct Extent {
-    start: usize,
-    end: usize,
-    count: Option<u64>,
-}
-
-/// What is known of an entry: its length, its name, its type, and the lines of its layout.
-#[derive(Clone, Copy)]
-struct Entry {
-    length: usize,
-    name: &'static str,
-    kind: Option<u64>,
-    head: &'static [u8],
-    lines: &'static [u8],
-}
-
-/// These bytes of a slice, if it has them.
-pub(crate) fn cut(bytes: &[u8], start: usize, end: usize) -> Option<&[u8]> {
-    if start <= end && end <= bytes.len() {
-        Some(&bytes[start..end])
-    } else {
-        None
-    }
 }
 
 /// Shows a table.
@@ -269,14 +238,6 @@ fn split(bytes: &[u8], place: usize) -> (&[u8], &[u8])
     }
 }
 
-/// Whether a list has more elements than so many.
-fn is_more(extent: Extent, number: u64) -> bool {
-    match extent.count {
-        Some(count) => number < count,
-        None => true,
-    }
-}
-
 /// The group that an entry is.
 fn group_of(offset: u64, number: u64, entry: Entry) -> Group {
     Group {
@@ -297,15 +258,6 @@ fn rest_of(piece: Piece<'_>, start: usize) -> Piece<'_> {
     }
 }
 
-/// The lines of the block that the first word names.
-fn lines_of(text: &'static [u8], rest: &'static [u8]) -> &'static [u8] {
-    let (name, _) = next_word(rest);
-    match find_block(text, name, None) {
-        Some(block) => block.lines,
-        None => b"",
-    }
-}
-
 /// The lines of the block that the fourth word names, if the number at the place that is the first
 /// is neither less than the second nor more than the third.
 fn chosen_lines(piece: Piece<'_>, rest: &'static [u8]) -> &'static [u8] {
@@ -318,320 +270,4 @@ fn chosen_lines(piece: Piece<'_>, rest: &'static [u8]) -> &'static [u8] {
     } else {
         b""
     }
-}
-
-/// The entry that bytes in a structure begin with, or why they don't begin with one.
-fn next_entry(piece: Piece<'_>, rest: &[u8], how: &'static [u8]) -> Result<Entry, Fault> {
-    let (word, how) = next_word(how);
-    let (first, how) = next_word(how);
-    match word {
-        b"each" => {
-            let length = if matches!(first, b"z") {
-                after_zero(rest, 0)
-            } else {
-                sum_of(first, piece.bytes).number as usize
-            };
-            plain_entry(piece.text, checked_length(rest, length, 1)?, how)
-        }
-        b"own" => plain_entry(piece.text, own_length(rest, first, 1)?, how),
-        b"typed" => {
-            let kind = sum_of(first, rest);
-            let (size, how) = next_word(how);
-            let length = own_length(rest, size, kind.end)?;
-            typed_entry(piece.text, length, kind.number, how)
-        }
-        _ => {
-            let kind = sum_of(first, rest);
-            sized_entry(piece.text, rest, kind.number, kind.end, how)
-        }
-    }
-}
-
-/// A length of an entry, if it is at least so much, and at most what is left.
-fn checked_length(rest: &[u8], length: usize, least: usize) -> Result<usize, Fault> {
-    if rest.len() < least {
-        Err(Fault::Cut)
-    } else if length < least {
-        Err(Fault::Length(length as u64))
-    } else if rest.len() < length {
-        Err(Fault::Past(length as u64))
-    } else {
-        Ok(length)
-    }
-}
-
-/// The length that stands in the entry that bytes begin with, which is at least so much.
-fn own_length(rest: &[u8], size: &'static [u8], least: usize) -> Result<usize, Fault> {
-    let length = sum_of(size, rest);
-    checked_length(rest, length.number as usize, length.end.max(least))
-}
-
-/// An entry without a type.
-fn plain_entry(text: &'static [u8], length: usize, how: &'static [u8]) -> Result<Entry, Fault> {
-    let (name, _) = next_word(how);
-    Ok(entry_of(length, None, b"", find_block(text, name, None)))
-}
-
-/// An entry of a type.
-fn typed_entry(
-    text: &'static [u8],
-    length: usize,
-    kind: u64,
-    how: &'static [u8],
-) -> Result<Entry, Fault> {
-    let (name, _) = next_word(how);
-    let block = find_block(text, name, Some(kind));
-    Ok(entry_of(length, Some(kind), lines_of(text, how), block))
-}
-
-/// An entry of a type that determines its length.
-fn sized_entry(
-    text: &'static [u8],
-    rest: &[u8],
-    kind: u64,
-    least: usize,
-    how: &'static [u8],
-) -> Result<Entry, Fault> {
-    if rest.len() < least {
-        return Err(Fault::Cut);
-    }
-    let (name, _) = next_word(how);
-    let block = find_block(text, name, Some(kind));
-    let Some(Block { size, .. }) = block else {
-        return Err(Fault::Unknown(kind));
-    };
-    let length = own_length(rest, size, least)?;
-    Ok(entry_of(length, Some(kind), lines_of(text, how), block))
-}
-
-/// An entry that a block describes.
-fn entry_of(length: usize, kind: Option<u64>, head: &'static [u8], block: Option<Block>) -> Entry {
-    let (name, lines) = match block {
-        Some(block) => (text_of(block.title), block.lines),
-        None => ("", NO_LINES),
-    };
-    Entry {
-        length,
-        name,
-        kind,
-        head,
-        lines,
-    }
-}
-
-const NO_LINES: &[u8] = b"";
-
-/// Where a list ends that begins at an offset of a structure, and how many entries it has, by the word
-/// after `{`.
-fn list_extent(bytes: &[u8], start: usize, word: &'static [u8]) -> Extent {
-    let (word, _) = cut_at(word, b'}');
-    match word {
-        b"*" => Extent {
-            start,
-            end: bytes.len(),
-            count: None,
-        },
-        [b'~', length @ ..] => Extent {
-            start,
-            end: start.saturating_add(sum_of(length, bytes).number as usize),
-            count: None,
-        },
-        _ => Extent {
-            start,
-            end: bytes.len(),
-            count: Some(sum_of(word, bytes).number),
-        },
-    }
-}
-
-/// Shows the bytes up to where a part begins in a structure, of which so many bytes are shown, or why it
-/// can't be there. It answers whether the part is there.
-fn show_start<S: Show>(
-    piece: Piece<'_>,
-    shown: usize,
-    extent: Extent,
-    show: &mut S,
-) -> io::Result<bool> {
-    match check_extent(piece.bytes, shown, extent) {
-        Ok(()) => {
-            show_gap(piece, shown, extent.start, show)?;
-            Ok(true)
-        }
-        Err(Some(fault)) => {
-            show.malformed(piece.base, fault)?;
-            Ok(false)
-        }
-        Err(None) => Ok(false),
-    }
-}
-
-/// Refuses a part of a structure, of which so many bytes are shown, if it isn't there: with `None` if it is
-/// empty.
-fn check_extent(bytes: &[u8], shown: usize, extent: Extent) -> Result<(), Option<Fault>> {
-    let is_empty = match extent.count {
-        Some(count) => count == 0,
-        None => extent.end <= extent.start,
-    };
-    if is_empty {
-        Err(None)
-    } else if extent.start < shown {
-        Err(Some(Fault::Before(extent.start as u64)))
-    } else if bytes.len() < extent.start {
-        Err(Some(Fault::Outside(extent.start as u64)))
-    } else if bytes.len() < extent.end {
-        Err(Some(Fault::Beyond(extent.end as u64)))
-    } else {
-        Ok(())
-    }
-}
-
-/// The offset after the first zero from an offset on, or after all bytes if there is none.
-fn after_zero(bytes: &[u8], start: usize) -> usize {
-    match cut(bytes, start, bytes.len()) {
-        Some(text) => {
-            let length = text.iter().take_while(|byte| **byte != 0).count();
-            start
-                .saturating_add(length)
-                .saturating_add(1)
-                .min(bytes.len())
-        }
-        None => start,
-    }
-}
-
-/// Shows how many of the elements that are counted aren't there, if some aren't.
-fn show_missing<S: Show>(offset: u64, extent: Extent, found: u64, show: &mut S) -> io::Result<()> {
-    if let Some(count) = extent.count
-        && found < count
-    {
-        return show.malformed(offset, Fault::Missing(count - found));
-    }
-    Ok(())
-}
-
-/// Shows those bytes of a structure that no field covers.
-fn show_gap<S: Show>(piece: Piece<'_>, start: usize, end: usize, show: &mut S) -> io::Result<()> {
-    if start < end
-        && let Some(bytes) = cut(piece.bytes, start, end)
-    {
-        return show.bytes(piece.base.saturating_add(start as u64), bytes);
-    }
-    Ok(())
-}
-
-/// Shows the field or the fields that begin at an offset of a structure, by the word for the length, and
-/// what follows it. It answers up to where the structure is shown then.
-fn show_fields<S: Show>(
-    piece: Piece<'_>,
-    shown: usize,
-    start: usize,
-    is_fixed: bool,
-    word: &'static [u8],
-    rest: &'static [u8],
-    show: &mut S,
-) -> io::Result<usize> {
-    let (length, count) = cut_at(word, b'[');
-    if !count.is_empty() {
-        let extent = array_extent(piece.bytes, start, count);
-        if show_start(piece, shown, extent, show)? {
-            return show_numbers(piece, extent, length, rest, show);
-        }
-        return Ok(shown);
-    }
-    let end = match length {
-        b"*" => piece.bytes.len(),
-        b"z" => after_zero(piece.bytes, start),
-        [b'<', end @ ..] => sum_of(end, piece.bytes).number as usize,
-        _ => start.saturating_add(sum_of(length, piece.bytes).number as usize),
-    };
-    let extent = Extent {
-        start,
-        end,
-        count: None,
-    };
-    if is_fixed && is_number(length) {
-        if start < shown || piece.bytes.len() < end {
-            return Ok(shown);
-        }
-        show_gap(piece, shown, start, show)?;
-    } else if !show_start(piece, shown, extent, show)? {
-        return Ok(shown);
-    }
-    show_field(piece, extent, rest, show)
-}
-
-/// Where fields of one length end that begin at an offset of a structure, and how many there are, by the
-/// word after `[`.
-fn array_extent(bytes: &[u8], start: usize, word: &'static [u8]) -> Extent {
-    let (word, _) = cut_at(word, b']');
-    Extent {
-        start,
-        end: bytes.len(),
-        count: if matches!(word, b"*") {
-            None
-        } else {
-            Some(sum_of(word, bytes).number)
-        },
-    }
-}
-
-/// Shows a field. It answers up to where the structure is shown then.
-fn show_field<S: Show>(
-    piece: Piece<'_>,
-    extent: Extent,
-    rest: &'static [u8],
-    show: &mut S,
-) -> io::Result<usize> {
-    let Some(bytes) = cut(piece.bytes, extent.start, extent.end) else {
-        return Ok(extent.start);
-    };
-    let (meaning, name) = field_of(piece.text, rest);
-    show.field(&Shown {
-        offset: piece.base.saturating_add(extent.start as u64),
-        bytes,
-        name,
-        number: None,
-        meaning,
-    })?;
-    Ok(extent.end)
-}
-
-/// Shows fields of one length, as far as they are there. It answers up to where the structure is shown then.
-fn show_numbers<S: Show>(
-    piece: Piece<'_>,
-    extent: Extent,
-    length: &'static [u8],
-    rest: &'static [u8],
-    show: &mut S,
-) -> io::Result<usize> {
-    let length = sum_of(length, piece.bytes).number as usize;
-    let Some(bytes) = cut(piece.bytes, extent.start, extent.end) else {
-        return Ok(extent.start);
-    };
-    if length == 0 {
-        return Ok(extent.start);
-    }
-    let (meaning, name) = field_of(piece.text, rest);
-    let mut shown = extent.start;
-    let mut number: u64 = 0;
-    for bytes in bytes.chunks(length) {
-        if is_more(extent, number) && bytes.len() == length {
-            show.field(&Shown {
-                offset: piece.base.saturating_add(shown as u64),
-                bytes,
-                name,
-                number: Some(number),
-                meaning,
-            })?;
-            shown = shown.saturating_add(length);
-            number = number.saturating_add(1);
-        }
-    }
-    show_missing(
-        piece.base.saturating_add(shown as u64),
-        extent,
-        number,
-        show,
-    )?;
-    Ok(shown)
 }

@@ -275,6 +275,7 @@ if 0:1 2 2 IORT-memory-access-16
 32 1 dec Memory address size limit
 if 3:1 0 2 IORT-root-complex-2
 if 3:1 3 255 IORT-root-complex-3
+if 3:1 4 255 IORT-root-complex-4
 with IORT-mappings
 
 = IORT-memory-access-16 * - Memory access properties after the node's head
@@ -286,7 +287,9 @@ then IORT-memory-access
 = IORT-root-complex-3 * - since revision 3
 33 2 flags PASID capabilities | 4:0 Max PASID width
 35 1 - Reserved
-36 4 flags Flags | 0 Write implicit read-allocate
+
+= IORT-root-complex-4 * - since revision 4
+36 4 - Flags
 
 = IORT-node 3 - SMMUv1 or SMMUv2
 16 8 - Base address
