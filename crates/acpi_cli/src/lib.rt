@@ -25,7 +25,7 @@ fn are_digits(text: &str, base: u32) -> bool
 
 /// The number that digits of a base encode, the highest first, or `None` if there are none, more
 /// than `most`, or something else among them.
-fn number_of(digits: &str, base: u32, most: usize) -> Option<u64>
+pub fn number_of(digits: &str, base: u32, most: usize) -> Option<u64>
     requires low { 2 ≤ base }
     requires high { base ≤ 36 }
     requires fits { base ^ most ≤ 2 ^ 64 }

@@ -1,10 +1,9 @@
-//! Prints the ACPI tables in a file of memory: a line for each, or the fields or the bytes of all
-//! valid tables of a signature.
+//! Shows the ACPI tables of a machine, of files, of acpidump's text or of memory.
 #![tactic(auto)]
 
-use acpi_cli::files::HostFiles;
 use acpi_cli::{args, borrowed};
 use acpi_dump_lib::run::dump;
+use acpi_dump_lib::sources::HostSources;
 use std::io;
 use std::process::ExitCode;
 
@@ -18,6 +17,6 @@ fn main(rt: HostRuntime) -> ExitCode {
 fn status(rt: &HostRuntime) -> io::Result<u8> {
     let args = args(rt)?;
     let args = borrowed(rt.alloc(), &args)?;
-    let mut files = HostFiles::new(rt);
-    dump(rt.alloc(), &args, &mut files, io::writer(rt), rt.stderr())
+    let mut sources = HostSources::new(rt);
+    dump(rt.alloc(), &args, &mut sources, io::writer(rt), rt.stderr())
 }

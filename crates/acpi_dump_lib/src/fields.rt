@@ -1,56 +1,24 @@
 //! Fields, one a line: offset, name, value, meaning.
 
-use crate::layouts::{Bit, Code, Field, Meaning};
+use crate::language;
+use crate::language::{Meaning, after_blanks, before_blanks, cut_at, next_word};
+use crate::text::print_indent;
+use crate::walk::Shown;
 use acpi::sdt::field;
 use std::io;
 use std::io::Write;
 
-/// These bytes of a slice, if it has them.
-pub(crate) fn cut(bytes: &[u8], start: usize, end: usize) -> Option<&[u8]> {
-    if start <= end && end <= bytes.len() {
-        Some(&bytes[start..end])
-    } else {
-        None
-    }
-}
-
-/// Prints the fields of a part of a table that begins at `base`, in order, as far as it has them,
-/// and all other bytes of it as they are.
-pub(crate) fn print_fields<W: Write>(
-    base: u64,
-    part: &[u8],
-    lists: &[&[Field]],
-    out: &mut W,
-) -> io::Result<()> {
-    let mut shown = 0;
-    for list in lists {
-        for field in *list {
-            let Field(start, length, _, _) = *field;
-            let end = start.saturating_add(length);
-            if let Some(value) = cut(part, start, end) {
-                print_bytes(base, part, shown, start, out)?;
-                print_field(base.saturating_add(start as u64), value, field, out)?;
-                shown = end;
-            }
-        }
-    }
-    print_bytes(base, part, shown, part.len(), out)
-}
-
-/// Prints the bytes of a part of a table that no field covers, 16 a line.
+/// Prints bytes that no field covers, which begin at an offset of the table, 16 a line.
 pub(crate) fn print_bytes<W: Write>(
-    base: u64,
-    part: &[u8],
-    start: usize,
-    end: usize,
+    offset: u64,
+    bytes: &[u8],
+    depth: usize,
     out: &mut W,
 ) -> io::Result<()> {
-    let Some(bytes) = cut(part, start, end) else {
-        return Ok(());
-    };
-    let mut offset = base.saturating_add(start as u64);
+    let mut offset = offset;
     for line in bytes.chunks(16) {
-        write!(out, "  {offset:04x}  ")?;
+        print_indent(depth, out)?;
+        write!(out, "{offset:04x}  ")?;
         print_hex(line, out)?;
         writeln!(out)?;
         offset = offset.saturating_add(16);
@@ -59,26 +27,45 @@ pub(crate) fn print_bytes<W: Write>(
 }
 
 /// Prints bytes as pairs of digits.
-fn print_hex<W: Write>(bytes: &[u8], out: &mut W) -> io::Result<()> {
+pub(crate) fn print_hex<W: Write>(bytes: &[u8], out: &mut W) -> io::Result<()> {
     for byte in bytes {
         write!(out, "{byte:02x}")?;
     }
     Ok(())
 }
 
-/// Prints one field.
-fn print_field<W: Write>(offset: u64, value: &[u8], field: &Field, out: &mut W) -> io::Result<()> {
-    let Field(_, _, name, meaning) = *field;
-    write!(out, "  {offset:04x}  {name:<38}  ")?;
-    print_value(value, meaning, out)?;
-    print_meaning(value, meaning, out)?;
+/// The column in which values begin.
+const VALUES: usize = 46;
+
+/// Prints one field, in a structure so deep in others.
+pub(crate) fn print_field<W: Write>(
+    shown: &Shown<'_>,
+    depth: usize,
+    out: &mut W,
+) -> io::Result<()> {
+    print_indent(depth, out)?;
+    write!(out, "{:04x}  {}", shown.offset, shown.name)?;
+    let mut column = depth
+        .saturating_mul(2)
+        .saturating_add(shown.name.len())
+        .saturating_add(8);
+    if let Some(number) = shown.number {
+        write!(out, " {number:<3}")?;
+        column = column.saturating_add(4);
+    }
+    for _ in column..VALUES {
+        write!(out, " ")?;
+    }
+    write!(out, "  ")?;
+    print_value(shown.bytes, shown.meaning, out)?;
+    print_meaning(shown.bytes, shown.meaning, out)?;
     writeln!(out)
 }
 
 /// Prints a number of up to eight bytes as one, the highest digit first, and a text or more bytes
 /// in their order.
-fn print_value<W: Write>(value: &[u8], meaning: Meaning, out: &mut W) -> io::Result<()> {
-    if value.len() > 8 || matches!(meaning, Meaning::Text) {
+pub(crate) fn print_value<W: Write>(value: &[u8], meaning: Meaning, out: &mut W) -> io::Result<()> {
+    if value.len() > 8 || matches!(meaning, Meaning::Text | Meaning::Wide | Meaning::Row) {
         return print_hex(value, out);
     }
     write!(out, "0x")?;
@@ -89,7 +76,7 @@ fn print_value<W: Write>(value: &[u8], meaning: Meaning, out: &mut W) -> io::Res
 }
 
 /// The number of up to eight bytes.
-fn number_of(value: &[u8]) -> u64 {
+pub(crate) fn number_of(value: &[u8]) -> u64 {
     if value.len() > 8 {
         return 0;
     }
@@ -97,7 +84,7 @@ fn number_of(value: &[u8]) -> u64 {
 }
 
 /// Prints the meaning of a field's value, if it means more than itself.
-fn print_meaning<W: Write>(value: &[u8], meaning: Meaning, out: &mut W) -> io::Result<()> {
+pub(crate) fn print_meaning<W: Write>(value: &[u8], meaning: Meaning, out: &mut W) -> io::Result<()> {
     match meaning {
         Meaning::Plain => Ok(()),
         Meaning::Decimal => write!(out, "  {}", number_of(value)),
@@ -105,8 +92,13 @@ fn print_meaning<W: Write>(value: &[u8], meaning: Meaning, out: &mut W) -> io::R
             write!(out, "  ")?;
             print_text(value, out)
         }
+        Meaning::Wide => print_wide(value, out),
+        Meaning::Row => print_row(value, out),
+        Meaning::Guid => print_guid(value, out),
+        Meaning::Function => print_function(number_of(value), out),
+        Meaning::Path => print_path(value, out),
         Meaning::Codes(codes) => print_code(number_of(value), codes, out),
-        Meaning::Bits(bits) => print_bits(number_of(value), bits, out),
+        Meaning::Flags(flags) => print_flags(number_of(value), flags, out),
         Meaning::Register => print_register(value, out),
     }
 }
@@ -125,27 +117,127 @@ pub(crate) fn print_text<W: Write>(bytes: &[u8], out: &mut W) -> io::Result<()> 
 }
 
 /// Prints the meaning of a number that is a code.
-fn print_code<W: Write>(number: u64, codes: &[Code], out: &mut W) -> io::Result<()> {
-    for code in codes {
-        let Code(value, name) = *code;
-        if value == number {
-            return write!(out, "  {name}");
+fn print_code<W: Write>(number: u64, codes: &'static [u8], out: &mut W) -> io::Result<()> {
+    for item in codes.split(|byte| *byte == b'|' || *byte == b'\n') {
+        let (code, name) = next_word(item);
+        if !code.is_empty() && language::number_of(code) == number {
+            write!(out, "  ")?;
+            return print_text(before_blanks(after_blanks(name)), out);
         }
     }
     Ok(())
 }
 
-/// Prints those bits of a number that are set.
-fn print_bits<W: Write>(number: u64, bits: &[Bit], out: &mut W) -> io::Result<()> {
-    let mut between = "  ";
-    for bit in bits {
-        let Bit(place, name) = *bit;
-        if place < 64 && (number >> place) & 1 == 1 {
-            write!(out, "{between}{name}")?;
-            between = ", ";
+/// The bits of a number from one on up to another.
+fn bits_of(number: u64, first: u64, last: u64) -> u64 {
+    if first > 63 || last < first {
+        return 0;
+    }
+    let rest = number >> first;
+    let count = last.min(63) - first + 1;
+    if count < 64 {
+        rest & ((1 << count) - 1)
+    } else {
+        rest
+    }
+}
+
+/// Prints the parts of a number that aren't 0, and the meanings of those that are codes.
+fn print_flags<W: Write>(number: u64, flags: &'static [u8], out: &mut W) -> io::Result<()> {
+    let mut is_first = true;
+    for item in flags.split(|byte| *byte == b'|' || *byte == b'\n') {
+        let (bits, name) = next_word(item);
+        if !bits.is_empty() && print_flag(number, is_first, bits, name, out)? {
+            is_first = false;
         }
     }
     Ok(())
+}
+
+/// Prints a part of a number, by the word for its bits, after a comma if it isn't the first that is
+/// printed. It answers whether there is something to print.
+fn print_flag<W: Write>(
+    number: u64,
+    is_first: bool,
+    bits: &'static [u8],
+    name: &'static [u8],
+    out: &mut W,
+) -> io::Result<bool> {
+    let name = before_blanks(after_blanks(name));
+    let (bits, code) = cut_at(bits, b'/');
+    let (highest, lowest) = cut_at(bits, b':');
+    let first = language::number_of(highest);
+    let (last, first) = if lowest.is_empty() {
+        (first, first)
+    } else {
+        (first, language::number_of(lowest))
+    };
+    let part = bits_of(number, first, last);
+    if code.is_empty() && part == 0 || !code.is_empty() && part != language::number_of(code) {
+        return Ok(false);
+    }
+    if is_first {
+        write!(out, "  ")?;
+    } else {
+        write!(out, ", ")?;
+    }
+    print_text(name, out)?;
+    if code.is_empty() && first < last {
+        write!(out, " {part}")?;
+    }
+    Ok(true)
+}
+
+/// Prints a text in UTF-16 as characters, those that aren't printable ASCII as `.`, up to a zero.
+fn print_wide<W: Write>(value: &[u8], out: &mut W) -> io::Result<()> {
+    write!(out, "  ")?;
+    for unit in value.chunks(2) {
+        match unit {
+            [0, 0] => return Ok(()),
+            [letter, 0] => print_text(&[*letter], out)?,
+            _ => write!(out, ".")?,
+        }
+    }
+    Ok(())
+}
+
+/// Prints bytes as decimal numbers.
+fn print_row<W: Write>(value: &[u8], out: &mut W) -> io::Result<()> {
+    write!(out, " ")?;
+    for number in value {
+        write!(out, " {number}")?;
+    }
+    Ok(())
+}
+
+/// Prints a GUID, whose first three numbers have their lowest bytes first.
+fn print_guid<W: Write>(value: &[u8], out: &mut W) -> io::Result<()> {
+    if value.len() != 16 {
+        return Ok(());
+    }
+    let first = field(value, 0, 4);
+    let second = field(value, 4, 2);
+    let third = field(value, 6, 2);
+    write!(out, "  {first:08x}-{second:04x}-{third:04x}-")?;
+    print_hex(&value[8..10], out)?;
+    write!(out, "-")?;
+    print_hex(&value[10..], out)
+}
+
+/// Prints the numbers of a device and a function.
+fn print_path<W: Write>(value: &[u8], out: &mut W) -> io::Result<()> {
+    let [device, function] = value else {
+        return Ok(());
+    };
+    write!(out, "  {device:02x}.{function}")
+}
+
+/// Prints a PCI function.
+fn print_function<W: Write>(number: u64, out: &mut W) -> io::Result<()> {
+    let bus = bits_of(number, 8, 15);
+    let device = bits_of(number, 3, 7);
+    let function = bits_of(number, 0, 2);
+    write!(out, "  {bus:02x}:{device:02x}.{function}")
 }
 
 /// Prints the parts of a generic address, if it isn't all zeros.

@@ -1,16 +1,29 @@
-//! The ACPI tables in a file of memory, as lines: one a table, or the fields or the bytes of some.
+//! The ACPI tables of an input: one line a table, the fields or the bytes of some, or the machine in short.
 //!
-//! Every function returns for every file, without fault. Which bytes are printed is tested, and not
-//! proved.
+//! Every function returns for every input, without fault. The tables of acpidump's text are exact by a definition; which
+//! bytes are printed is tested, and not proved.
 #![tactic(auto)]
 
 mod arguments;
+mod compare;
 mod contents;
+mod entries;
+mod errors;
 mod fields;
+mod find;
 mod getters;
-mod gtdt;
 mod hex;
+mod input;
+mod json;
+mod language;
 mod layouts;
 mod listing;
+mod paint;
 pub mod run;
 mod shown;
+pub mod sources;
+mod status;
+mod summary;
+mod text;
+mod views;
+mod walk;

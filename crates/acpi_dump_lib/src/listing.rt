@@ -1,94 +1,98 @@
 //! One line a table.
 
+use crate::entries::{Entry, Place};
 use crate::fields::print_text;
-use crate::shown::map_facs;
-use acpi::fadt::Fadt;
-use acpi::sdt::{SdtHeader, Signature, map_sdt};
-use acpi::{AcpiError, AcpiHandler, AcpiTables, PhysicalMapping, PhysicalRecord};
+use crate::paint::Paint;
+use acpi::PhysicalRecord;
+use acpi::sdt::{SdtHeader, Signature};
 use std::io;
 use std::io::Write;
 
-/// Prints the headings, then a line for the root table, for each member, and, if a valid FADT is
-/// listed, for the DSDT and the FACS.
-pub(crate) fn print_lines<H: AcpiHandler, W: Write>(
-    handler: &H,
-    tables: &AcpiTables<'_, H>,
+/// The name of a file without the folders before it.
+fn last_part(path: &str) -> &str {
+    match path.rsplit_once('/') {
+        Some((_, name)) if !name.is_empty() => name,
+        _ => path,
+    }
+}
+
+/// Prints the headings, then a line for each table.
+pub(crate) fn print_lines<W: Write>(
+    entries: &[Entry<'_>],
+    paint: Paint,
     out: &mut W,
 ) -> io::Result<()> {
-    writeln!(
+    let are_files = entries
+        .iter()
+        .any(|entry| matches!(entry.place, Place::File(_)));
+    paint.heading(
+        if are_files {
+            "SIG  FILE             LENGTH   REV OEM ID TABLE ID OEM REV  CRTR CRTR REV STATUS"
+        } else {
+            "SIG  ADDRESS          LENGTH   REV OEM ID TABLE ID OEM REV  CRTR CRTR REV STATUS"
+        },
         out,
-        "SIG  ADDRESS          LENGTH   REV OEM ID TABLE ID OEM REV  CRTR CRTR REV STATUS"
     )?;
-    print_header(handler, Some(tables.root_address()), None, out)?;
-    for member in tables.members() {
-        print_header(handler, Some(member.address), member.header.err(), out)?;
+    writeln!(out)?;
+    for entry in entries {
+        print_line(entry, paint, out)?;
     }
-    let found = tables.find_table::<Fadt>();
-    match &found {
-        Ok(fadt) => print_led(handler, fadt.get(), out),
-        Err(_) => Ok(()),
-    }
+    Ok(())
 }
 
-/// Prints the lines of the DSDT and the FACS that a FADT leads to.
-fn print_led<H: AcpiHandler, W: Write>(handler: &H, fadt: &Fadt, out: &mut W) -> io::Result<()> {
-    match fadt.dsdt_address() {
-        Ok(address) => {
-            let refusal = map_sdt(handler, address, Signature::DSDT).err();
-            print_header(handler, Some(address), refusal, out)?;
-        }
-        Err(refusal) => print_header(handler, None, Some(refusal), out)?,
-    }
-    match fadt.facs_address() {
-        Ok(address) => print_facs(handler, address, out),
-        Err(refusal) => print_header(handler, None, Some(refusal), out),
-    }
-}
-
-/// Prints the line of the FACS at an address, which has no ids.
-fn print_facs<H: AcpiHandler, W: Write>(handler: &H, address: u64, out: &mut W) -> io::Result<()> {
-    let head = PhysicalMapping::<H, SdtHeader>::map(handler, address, SdtHeader::MIN_LENGTH);
-    match &head {
-        Ok(head) => {
-            print_text(&head.get().signature.to_bytes(), out)?;
-            write!(out, " {address:016x} {:08x}", head.get().length)?;
-        }
-        Err(_) => write!(out, "-    {address:016x} -       ")?,
-    }
-    write!(out, " -   -      -        -        -    -       ")?;
-    print_status(map_facs(handler, address).err(), out)
-}
-
-/// Prints the line of a table with a header: the header's fields if its 36 bytes are lent, and the refusal of
-/// the table, if it is refused.
-fn print_header<H: AcpiHandler, W: Write>(
-    handler: &H,
-    address: Option<u64>,
-    refusal: Option<AcpiError>,
-    out: &mut W,
-) -> io::Result<()> {
-    let Some(address) = address else {
-        write!(
-            out,
-            "-    -                -        -   -      -        -        -    -       "
-        )?;
-        return print_status(refusal, out);
+/// Prints the line of a table.
+fn print_line<W: Write>(entry: &Entry<'_>, paint: Paint, out: &mut W) -> io::Result<()> {
+    let is_headless = entry.sought == Some(Signature::FACS)
+        || entry.bytes.starts_with(b"FACS")
+        || entry.bytes.starts_with(b"RSD PTR ");
+    let header = if entry.bytes.len() < SdtHeader::MIN_LENGTH {
+        None
+    } else {
+        Some(SdtHeader::read(entry.bytes))
     };
-    let head = PhysicalMapping::<H, SdtHeader>::map(handler, address, SdtHeader::MIN_LENGTH);
-    match &head {
-        Ok(head) => print_columns(address, head.get(), out)?,
-        Err(_) => write!(
-            out,
-            "-    {address:016x} -        -   -      -        -        -    -       "
-        )?,
+    match &header {
+        Some(header) => print_text(&header.signature.to_bytes(), out)?,
+        None => write!(out, "-   ")?,
     }
-    print_status(refusal, out)
+    print_place(entry.place, out)?;
+    match &header {
+        Some(header) if is_headless => print_headless(header, entry, out)?,
+        Some(header) => print_columns(header, out)?,
+        None => write!(out, "-        -   -      -        -        -    -       ")?,
+    }
+    write!(out, " ")?;
+    paint.status(entry.status, out)?;
+    writeln!(out)
+}
+
+/// Prints where a table lies.
+fn print_place<W: Write>(place: Place<'_>, out: &mut W) -> io::Result<()> {
+    match place {
+        Place::Address(address) => write!(out, " {address:016x} "),
+        Place::File(path) => {
+            let name = last_part(path);
+            write!(out, " {name:<16} ")
+        }
+        Place::Nowhere => write!(out, " -                "),
+    }
+}
+
+/// Prints the columns of a FACS or an RSDP, which have no header: the length alone.
+fn print_headless<W: Write>(header: &SdtHeader, entry: &Entry<'_>, out: &mut W) -> io::Result<()> {
+    let length = if entry.bytes.starts_with(b"RSD PTR ") {
+        entry.bytes.len() as u64
+    } else {
+        header.length as u64
+    };
+    write!(
+        out,
+        "{length:08x} -   -      -        -        -    -       "
+    )
 }
 
 /// Prints the columns of a header.
-fn print_columns<W: Write>(address: u64, header: &SdtHeader, out: &mut W) -> io::Result<()> {
-    print_text(&header.signature.to_bytes(), out)?;
-    write!(out, " {address:016x} {:08x}", header.length)?;
+fn print_columns<W: Write>(header: &SdtHeader, out: &mut W) -> io::Result<()> {
+    write!(out, "{:08x}", header.length)?;
     write!(out, " {:02x}  ", header.revision)?;
     print_text(&header.oem_id, out)?;
     write!(out, " ")?;
@@ -96,12 +100,4 @@ fn print_columns<W: Write>(address: u64, header: &SdtHeader, out: &mut W) -> io:
     write!(out, " {:08x} ", header.oem_revision)?;
     print_text(&header.creator_id.to_le_bytes(), out)?;
     write!(out, " {:08x}", header.creator_revision)
-}
-
-/// Prints the last column, and ends the line.
-fn print_status<W: Write>(refusal: Option<AcpiError>, out: &mut W) -> io::Result<()> {
-    match refusal {
-        None => writeln!(out, " ok"),
-        Some(refusal) => writeln!(out, " {refusal}"),
-    }
 }

@@ -6,6 +6,7 @@ use crate::reading::{GRAPHIC, ROOT, file_of};
 use acpi_cli::args_or_none;
 use acpi_cli::files::{HostFiles, count};
 use acpi_dump_lib::run::dump;
+use acpi_dump_lib::sources::{HostSources, Sources};
 use acpi_pack_lib::arguments::parse_command;
 use acpi_pack_lib::program::pack;
 use acpi_pack_lib::run::run;
@@ -46,11 +47,10 @@ type Run = (&'static [&'static str], u8, usize);
 
 /// Runs of `acpi_dump`. The file `asked.image` has an RSDT at 0x1000 that lists a BGRT.
 static DUMPS: [Run; 12] = [
-    (&[], 2, 0),
-    (&["asked.image"], 2, 0),
     (&["asked.image", "rsdt", "256", "0x1000"], 2, 0),
     (&["asked.image", "bios", "--table"], 2, 0),
-    (&["--help", "--version"], 2, 0),
+    (&["asked.image", "--table", "FAC"], 2, 0),
+    (&["asked.image", "--find", "--summary"], 2, 0),
     (&["--help"], 0, 0),
     (&["--version"], 0, 0),
     (&["asked.image", "rsdt", "0", "0x1000"], 0, 1),
@@ -65,15 +65,49 @@ static DUMPS: [Run; 12] = [
         1,
     ),
     (&["asked.image", "bios"], 1, 1),
-    (&["missing.image", "bios"], 1, 1),
+    (&["missing.image", "bios"], 1, 0),
+    (&["--compare", "asked.image", "asked.image"], 1, 2),
 ];
 
-/// The status of a run of `acpi_dump`, and how many files it asks for.
+/// The files of the system, and how many of them were read.
+#[derive(Drop)]
+struct Counted<'r> {
+    files: HostSources<'r>,
+    read: usize,
+}
+
+impl Sources for Counted<'_> {
+    fn is_folder(&mut self, name: &str) -> io::Result<bool> {
+        self.files.is_folder(name)
+    }
+
+    fn names_in(&mut self, alloc: Global, folder: &str) -> io::Result<Vec<String>> {
+        self.files.names_in(alloc, folder)
+    }
+
+    fn read(&mut self, name: &str) -> io::Result<Vec<u8>> {
+        self.read = self.read.saturating_add(1);
+        self.files.read(name)
+    }
+
+    fn read_standard_input(&mut self, alloc: Global) -> io::Result<Vec<u8>> {
+        self.files.read_standard_input(alloc)
+    }
+
+    fn takes_color(&mut self) -> bool {
+        false
+    }
+}
+
+/// The status of a run of `acpi_dump`, and how many files it reads.
 fn dumped(rt: &HostRuntime, arguments: &[&str]) -> Option<(u8, usize)> {
-    let mut files = HostFiles::new(rt);
+    let mut sources = Counted {
+        files: HostSources::new(rt),
+        read: 0,
+    };
     let (mut out, mut err) = (Vec::new(rt.alloc()), Vec::new(rt.alloc()));
-    let status = dump(rt.alloc(), arguments, &mut files, &mut out, &mut err).ok()?;
-    Some((status, count(&files)))
+    let status = dump(rt.alloc(), arguments, &mut sources, &mut out, &mut err).ok()?;
+    Some((status, sources.read))
 }
 
 /// Runs of `acpi_pack`.
@@ -140,4 +174,13 @@ fn a_line_that_cant_be_printed_fails(rt: HostRuntime) {
     let asked = parse_command(rt.alloc(), &["out", "tables", "facs"]);
     let outcome = asked.map(|asked| run(rt.alloc(), &asked, &files, &mut Closed));
     check(&rt, "failed", matches!(outcome, Ok(Err(_))), true);
+    let mut sources = HostSources::new(&rt);
+    let dumped = dump(
+        rt.alloc(),
+        &["--version"],
+        &mut sources,
+        &mut Closed,
+        &mut Closed,
+    );
+    check(&rt, "failed", dumped.is_err(), true);
 }

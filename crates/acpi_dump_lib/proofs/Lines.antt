@@ -1,0 +1,53 @@
+-- A text, one line at a time.
+use Rattle.std.proofs.Common.{◌≡◌, ℕ, ◌+◌, ◌<◌, ◌≤◌, ◌==◌, Bool, true, false, not, List, [], ◌∷◌, length, refl, ap, arith, cond, if◌then◌else◌}
+use Rattle.std.specs.Prelude.{Option, Some, None, Result, Ok, Err}
+use Rattle.std.specs.List.{after_first, before_first, prefix_len}
+use Rattle.acpi_dump_lib.specs.DumpText.{Spelled, Tables, all_of, lines_of, onto_first, or_wrong, tables_from, with_line}
+use Rattle.std.proofs.lemmas.Grind.{common_steps}
+
+abbrev feed : ℕ → Bool
+feed c = c == 10
+
+before_more : (c : ℕ) (text : List ℕ) → c == 10 ≡ false → before_first feed (c ∷ text) ≡ c ∷ before_first feed text
+before_more c text e = grind (arith, common_steps)
+
+after_more : (c : ℕ) (text : List ℕ) → c == 10 ≡ false → after_first feed (c ∷ text) ≡ after_first feed text
+after_more c text e = grind (arith, common_steps)
+
+lines_step : (text : List ℕ) → 0 < length text
+    → lines_of text ≡ before_first feed text ∷ lines_of (after_first feed text)
+unfolding lines_of
+lines_step [] h = absurd (omega arith)
+lines_step (c ∷ []) h = elim (c == 10)
+    as (λ t. (if t then [] ∷ [] else (c ∷ []) ∷ [])
+    ≡ before_first (λ _. t) (c ∷ []) ∷ lines_of (after_first (λ _. t) (c ∷ []))) [ true ↦ refl | false ↦ refl ]
+lines_step (c ∷ d ∷ text) h =
+    let more = lines_step (d ∷ text) (omega arith) in
+    (elim (c == 10) as (λ t. c == 10 ≡ t → (if t then [] ∷ lines_of (d ∷ text) else onto_first c (lines_of (d ∷ text)))
+    ≡ before_first feed (c ∷ d ∷ text) ∷ lines_of (after_first feed (c ∷ d ∷ text))) [
+      | true ↦ λ is. rw is refl
+      | false ↦ λ is. rw (before_more c (d ∷ text) is, after_more c (d ∷ text) is, more) refl
+    ]) refl
+
+-- what stands after the first line is shorter
+pub after_shorter : (text : List ℕ) → 0 < length text → length (after_first feed text) < length text
+after_shorter text h = grind (arith, common_steps)
+
+-- no line is left
+pub lines_end : (n : ℕ) (t : Tables) (text : List ℕ) → length text ≤ 0 → tables_from n t (lines_of text) ≡ Ok (all_of t)
+unfolding lines_of tables_from
+lines_end n t [] h = refl
+lines_end n t (c ∷ text) h = absurd (omega arith)
+
+-- the first line is wrong
+pub lines_wrong : (n : ℕ) (t : Tables) (text : List ℕ) → 0 < length text
+    → with_line t (before_first feed text) ≡ None → tables_from n t (lines_of text) ≡ Err n
+unfolding tables_from
+lines_wrong n t text h e = rw (lines_step text h) (ap (λ o. or_wrong n o (λ more. tables_from (n + 1) more (lines_of (after_first feed text)))) e)
+
+-- the first line is right
+pub lines_more : (n : ℕ) (t more : Tables) (text : List ℕ) → 0 < length text
+    → with_line t (before_first feed text) ≡ Some more
+    → tables_from n t (lines_of text) ≡ tables_from (n + 1) more (lines_of (after_first feed text))
+unfolding tables_from
+lines_more n t more text h e = rw (lines_step text h) (ap (λ o. or_wrong n o (λ next. tables_from (n + 1) next (lines_of (after_first feed text)))) e)

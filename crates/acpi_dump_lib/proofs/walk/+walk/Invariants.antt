@@ -1,0 +1,23 @@
+use Rattle.std.proofs.Common.{length}
+use Rattle.acpi_dump_lib.proofs.walk.+walk.Given as goal
+
+-- each call goes a level deeper
+abbrev pub decreases-walk_structure : goal.decreases-walk_structure
+decreases-walk_structure g l = l.depth
+
+abbrev pub decreases-walk_lines : goal.decreases-walk_lines
+decreases-walk_lines g l = l.depth
+
+abbrev pub decreases-walk_part : goal.decreases-walk_part
+decreases-walk_part g l = l.depth
+
+abbrev pub decreases-walk_list : goal.decreases-walk_list
+decreases-walk_list g l = l.depth
+
+-- each line leaves fewer bytes
+abbrev pub decreases-walk_lines-lines : goal.decreases-walk_lines-lines
+decreases-walk_lines-lines g l = length l.left
+
+-- each entry leaves fewer bytes
+abbrev pub decreases-walk_list-entries : goal.decreases-walk_list-entries
+decreases-walk_list-entries g l = length l.rest

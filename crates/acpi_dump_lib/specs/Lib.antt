@@ -1,0 +1,2 @@
+pub mod DumpText
+pub mod Held

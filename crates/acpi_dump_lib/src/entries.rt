@@ -1,0 +1,265 @@
+//! The tables that an input has, with what their checks say.
+
+use crate::input::candidates::check_file;
+use crate::input::gather::TableFile;
+use crate::status::Status;
+use acpi::bgrt::Bgrt;
+use acpi::fadt::Fadt;
+use acpi::hpet::HpetTable;
+use acpi::madt::Madt;
+use acpi::mcfg::Mcfg;
+use acpi::sdt::{SdtHeader, Signature, field};
+use acpi::spcr::Spcr;
+use acpi::{AcpiError, AcpiHandler, AcpiResult, AcpiTable, AcpiTables, PhysicalRecord};
+use acpi_base::bytes::byte_sum;
+use std::alloc::{AllocError, Global};
+
+/// Where a table lies.
+#[derive(Clone, Copy)]
+pub(crate) enum Place<'a> {
+    /// At a physical address.
+    Address(u64),
+    /// In a file.
+    File(&'a str),
+    /// Nothing says where.
+    Nowhere,
+}
+
+/// A table of an input, valid or not.
+#[derive(Clone, Copy)]
+pub(crate) struct Entry<'a> {
+    pub(crate) place: Place<'a>,
+    /// The signature that it should have, if something says so.
+    pub(crate) sought: Option<Signature>,
+    /// Its bytes: those that there are, and no more than its length says.
+    pub(crate) bytes: &'a [u8],
+    pub(crate) status: Status,
+}
+
+impl Entry<'_> {
+    /// The signature that it begins with, if it has so many bytes.
+    pub(crate) fn signature(&self) -> Option<Signature> {
+        match self.bytes {
+            [a, b, c, d, ..] => Some(Signature::from_bytes([*a, *b, *c, *d])),
+            _ => None,
+        }
+    }
+
+    /// Whether it has a signature, or should have it, in either case.
+    pub(crate) fn has(&self, wanted: Signature) -> bool {
+        let wanted = wanted.to_bytes();
+        is_same(self.signature(), &wanted) || is_same(self.sought, &wanted)
+    }
+}
+
+/// Whether a signature is these letters in either case.
+fn is_same(signature: Option<Signature>, letters: &[u8; 4]) -> bool {
+    match signature {
+        Some(signature) => {
+            let found = signature.to_bytes();
+            let (found, letters): (&[u8], &[u8]) = (&found, letters);
+            found.eq_ignore_ascii_case(letters)
+        }
+        None => false,
+    }
+}
+
+/// As many of the bytes as the length field at offset 4 says, and at least a header, as far as there are any.
+fn cut_to_length(lent: &[u8]) -> &[u8] {
+    let length = field(lent, 4, 4).max(36) as usize;
+    lent.get(..length).unwrap_or(lent)
+}
+
+/// The refusal of a table's bytes by the lookup of its type.
+fn check_typed<T: AcpiTable>(bytes: &[u8]) -> AcpiResult<()> {
+    if bytes.len() < T::MIN_LENGTH {
+        return Err(AcpiError::SdtInvalidLength(T::SIGNATURE));
+    }
+    T::read(bytes).validate(bytes)
+}
+
+/// The refusal of a table by the lookup of its signature, if there is one.
+fn check_lookup(signature: Signature, bytes: &[u8]) -> AcpiResult<()> {
+    if signature == Signature::FADT {
+        check_typed::<Fadt>(bytes)
+    } else if signature == Signature::MADT {
+        check_typed::<Madt>(bytes)
+    } else if signature == Signature::HPET {
+        check_typed::<HpetTable>(bytes)
+    } else if signature == Signature::MCFG {
+        check_typed::<Mcfg>(bytes)
+    } else if signature == Signature::BGRT {
+        check_typed::<Bgrt>(bytes)
+    } else if signature == Signature::SPCR {
+        check_typed::<Spcr>(bytes)
+    } else {
+        Ok(())
+    }
+}
+
+/// What the checks of section 5.2.6 say of a table that should have this signature, over the bytes that there are
+/// from its first one on. A table that is cut is refused as `cut` says.
+fn check_header(lent: &[u8], signature: Signature, cut: AcpiError) -> Status {
+    if lent.len() < SdtHeader::MIN_LENGTH {
+        return Status::Refused(cut);
+    }
+    let header = SdtHeader::read(lent);
+    let length = header.length;
+    match header.validate(signature, lent) {
+        Ok(()) => match check_lookup(signature, cut_to_length(lent)) {
+            Ok(()) => Status::Valid,
+            Err(refusal) => Status::NoLookup(refusal),
+        },
+        Err(AcpiError::SdtInvalidLength(_)) if length as usize > lent.len() => Status::Cut {
+            refusal: cut,
+            has: lent.len(),
+            length,
+        },
+        Err(AcpiError::SdtInvalidChecksum(signature)) => {
+            let is = lent.get(9).copied().unwrap_or(0);
+            let should = is.wrapping_sub(byte_sum(cut_to_length(lent)));
+            Status::WrongSum {
+                signature,
+                is,
+                should,
+            }
+        }
+        Err(refusal) => Status::Refused(refusal),
+    }
+}
+
+/// What the checks say of a FACS (section 5.2.10), which has no checksum: its signature, and at least 64 bytes, as
+/// many as its length says.
+fn check_facs(lent: &[u8], cut: AcpiError) -> Status {
+    if lent.len() < 8 {
+        return Status::Refused(cut);
+    }
+    if !lent.starts_with(b"FACS") {
+        return Status::Refused(AcpiError::SdtInvalidSignature(Signature::FACS));
+    }
+    let length = field(lent, 4, 4);
+    if length < 64 {
+        return Status::Refused(AcpiError::SdtInvalidLength(Signature::FACS));
+    }
+    if length > lent.len() as u64 {
+        return Status::Cut {
+            refusal: cut,
+            has: lent.len(),
+            length: u32::try_from(length).unwrap_or(u32::MAX),
+        };
+    }
+    Status::Valid
+}
+
+/// The table in a file.
+fn entry_of_file(file: &TableFile) -> Entry<'_> {
+    let lent = file.bytes.as_slice();
+    let place = match file.address {
+        Some(address) => Place::Address(address),
+        None => Place::File(file.name.as_str()),
+    };
+    let signature = match lent {
+        [a, b, c, d, ..] => Signature::from_bytes([*a, *b, *c, *d]),
+        _ => Signature::from_bytes([0, 0, 0, 0]),
+    };
+    let cut = AcpiError::SdtInvalidLength(signature);
+    let (bytes, status) = if lent.starts_with(b"RSD PTR ") {
+        let status = match check_file(lent) {
+            Ok(()) => Status::Valid,
+            Err(refusal) => Status::Refused(refusal),
+        };
+        (lent, status)
+    } else if signature == Signature::FACS {
+        (lent, check_facs(lent, cut))
+    } else {
+        (lent, check_header(lent, signature, cut))
+    };
+    Entry {
+        place,
+        sought: None,
+        bytes,
+        status,
+    }
+}
+
+/// The tables in files, in order.
+///
+/// Refuses if memory runs out.
+pub(crate) fn entries_of_files(
+    alloc: Global,
+    files: &[TableFile],
+) -> Result<Vec<Entry<'_>>, AllocError> {
+    let mut entries = Vec::new(alloc);
+    for file in files {
+        entries.push(entry_of_file(file))?;
+    }
+    Ok(entries)
+}
+
+/// The bytes that are lent from an address on.
+pub(crate) fn lent_at<H: AcpiHandler>(handler: &H, address: u64) -> &[u8] {
+    match handler.map_physical_region(address, 1) {
+        Ok(lent) => lent,
+        Err(_) => &[],
+    }
+}
+
+/// The table at an address, checked under the signature that it should have, or under its own.
+fn entry_at<H: AcpiHandler>(handler: &H, address: u64, sought: Option<Signature>) -> Entry<'_> {
+    let lent = lent_at(handler, address);
+    let own = match lent {
+        [a, b, c, d, ..] => Signature::from_bytes([*a, *b, *c, *d]),
+        _ => Signature::from_bytes([0, 0, 0, 0]),
+    };
+    let status = match sought {
+        Some(_) if lent.is_empty() => Status::NotHere,
+        Some(signature) if signature == Signature::FACS => check_facs(lent, AcpiError::MapFailed),
+        Some(signature) => check_header(lent, signature, AcpiError::MapFailed),
+        None => check_header(lent, own, AcpiError::MapFailed),
+    };
+    Entry {
+        place: Place::Address(address),
+        sought,
+        bytes: cut_to_length(lent),
+        status,
+    }
+}
+
+/// The table that a FADT leads to, or its refusal to say where.
+fn entry_led<'h, H: AcpiHandler>(
+    handler: &'h H,
+    address: AcpiResult<u64>,
+    signature: Signature,
+) -> Entry<'h> {
+    match address {
+        Ok(address) => entry_at(handler, address, Some(signature)),
+        Err(refusal) => Entry {
+            place: Place::Nowhere,
+            sought: Some(signature),
+            bytes: &[],
+            status: Status::Refused(refusal),
+        },
+    }
+}
+
+/// The tables that a memory has: the root table, its members, and, if a valid FADT is listed, the DSDT and the FACS
+/// that it leads to.
+///
+/// Refuses if memory runs out.
+pub(crate) fn entries_of<'h, H: AcpiHandler>(
+    alloc: Global,
+    handler: &'h H,
+    tables: &AcpiTables<'_, H>,
+) -> Result<Vec<Entry<'h>>, AllocError> {
+    let mut entries = Vec::new(alloc);
+    entries.push(entry_at(handler, tables.root_address(), None))?;
+    for address in tables.addresses() {
+        entries.push(entry_at(handler, address, None))?;
+    }
+    if let Ok(fadt) = &tables.find_table::<Fadt>() {
+        let (dsdt, facs) = (fadt.get().dsdt_address(), fadt.get().facs_address());
+        entries.push(entry_led(handler, dsdt, Signature::DSDT))?;
+        entries.push(entry_led(handler, facs, Signature::FACS))?;
+    }
+    Ok(entries)
+}

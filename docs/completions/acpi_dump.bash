@@ -1,0 +1,18 @@
+# Completes the options of acpi_dump in bash: source this file.
+_acpi_dump() {
+    local word=${COMP_WORDS[COMP_CWORD]} before=${COMP_WORDS[COMP_CWORD - 1]}
+    case $before in
+        --as) COMPREPLY=($(compgen -W "image memory text table" -- "$word")) ;;
+        --color) COMPREPLY=($(compgen -W "auto always never" -- "$word")) ;;
+        --start) COMPREPLY=($(compgen -W "rsdt: rsdp: bios" -- "$word")) ;;
+        --at) COMPREPLY=() ;;
+        --table | --hex) COMPREPLY=($(compgen -W "all APIC DSDT FACP FACS HPET MCFG SPCR SRAT SSDT" -- "$word")) ;;
+        *)
+            case $word in
+                -*) COMPREPLY=($(compgen -W "--as --at --start --table --hex --summary --find --compare --json --strict --color --help --version" -- "$word")) ;;
+                *) COMPREPLY=($(compgen -f -- "$word")) ;;
+            esac
+            ;;
+    esac
+}
+complete -o filenames -F _acpi_dump acpi_dump
