@@ -84,7 +84,11 @@ pub(crate) fn number_of(value: &[u8]) -> u64 {
 }
 
 /// Prints the meaning of a field's value, if it means more than itself.
-pub(crate) fn print_meaning<W: Write>(value: &[u8], meaning: Meaning, out: &mut W) -> io::Result<()> {
+pub(crate) fn print_meaning<W: Write>(
+    value: &[u8],
+    meaning: Meaning,
+    out: &mut W,
+) -> io::Result<()> {
     match meaning {
         Meaning::Plain => Ok(()),
         Meaning::Decimal => write!(out, "  {}", number_of(value)),

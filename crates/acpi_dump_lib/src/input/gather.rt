@@ -2,8 +2,8 @@
 
 use crate::errors::tell;
 use crate::input::kind::{Kind, kind_of, text_in};
-use crate::input::memory::image_of;
 use crate::input::machine::are_of_one_machine;
+use crate::input::memory::image_of;
 use crate::input::order::comes_before;
 use crate::input::text::{TextError, tables_in};
 use crate::sources::{Sources, reason_of};
