@@ -47,13 +47,13 @@ pub extern "C" fn zacpi_list_processors(
 #[unsafe(no_mangle)]
 pub extern "C" fn zacpi_platform(
     source: &Source<'_>,
-    out: &mut Model,
+    out: &mut InterruptModel,
     processors: &mut [Processor],
     io_apics: &mut [IoApic],
     overrides: &mut [InterruptSourceOverride],
     nmi_sources: &mut [NmiSource],
     nmi_lines: &mut [NmiLine],
-    named: &mut Name,
+    named: &mut Signature,
 ) -> u32
     ensures model { Answers result out.old out.new named.old named.new (below_known source.now counts_of) }
     ensures processors { processors.new
