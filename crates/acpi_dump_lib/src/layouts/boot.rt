@@ -75,7 +75,7 @@ const BOOT: &[u8] = b"
 36 8 - Grant Table Address
 44 8 - Grant Table Size
 52 4 dec Event Channel Interrupt
-56 1 flags Event Channel Flags | 0 active low | 1 edge-triggered
+56 1 - Event Channel Flags
 
 = PHAT * - Platform Health Assessment Table
 36 {*} typed 0:2 2:2 PHAT-record

@@ -185,7 +185,7 @@ if 20:4 29 0xffffffff CSRT-shared
 
 = CSRT-descriptor * - Resource Descriptor
 0 4 dec Length
-4 2 codes Type | 1 interrupt | 2 timer | 3 DMA | 4 cache
+4 2 codes Type | 1 interrupt | 2 timer | 3 DMA
 6 2 - Subtype
 8 4 text UID
 ";

@@ -53,7 +53,7 @@ if 36:2 1 1 TCPA-server
 48 8 - Log Area Start Address (LASA)
 56 2 - TCG Specification Revision
 58 1 flags Device Flags | 0 PCI device | 1 Bus is Plug and Play | 2 Configuration address is valid
-59 1 flags Interrupt Flags | 0 edge-triggered | 1 active low | 2 SCI triggered through GPE | 3 I/O APIC interrupt
+59 1 flags Interrupt Flags | 0 Interrupt mode | 1 Interrupt polarity | 2 SCI triggered through GPE | 3 I/O APIC interrupt
 60 1 dec GPE
 61 3 - Reserved
 64 4 dec Global System Interrupt
