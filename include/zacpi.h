@@ -2,24 +2,25 @@
  * Specification, version 6.4, unless another document is named. Names of fields, as Length or SCI_INT, are those of the
  * document that lays the table out.
  *
- * No call keeps a state, takes memory or calls back, so any number may run at once, each with outputs of its own. Each
- * one but zacpi_clip_ranges gets the memory that the caller has mapped, and checks it; one that gets a struct
- * zacpi_source then opens the tables in it anew. It can be called with any numbers in these structs and over any bytes.
+ * No call keeps a state, takes memory or calls back, so any number may run at once, each with outputs of its own. All
+ * but zacpi_clip_ranges are passed the regions of memory that the caller has mapped, and check them; zacpi_locate and
+ * zacpi_list_entries are passed the regions alone, and all others a struct zacpi_source, whose tables they open anew.
+ * Each can be called with any numbers in its arguments and over any bytes.
  *
- * What the caller keeps: no pointer is null, each is aligned for its type and points to as many items as
- * the length beside it says, all initialised; an output shares no byte with an input or another output;
- * and while a call runs nobody writes what it reads, nor touches what it writes. For a length of 0 the
- * pointer isn't null either. Interrupts may be on if the caller's ABI allows for the red zone; SSE2 is
- * used, so a kernel enables it first (CR0.EM clear, CR4.OSFXSR set), and the stack is aligned as the ABI
- * says. A call may change every vector register, as the ABI allows.
+ * What the caller keeps: no pointer is null, each is aligned for its type and points to as many items as the length
+ * beside it says, all initialised; an output shares no byte with an input or another output; and while a call runs
+ * nobody writes what it reads, nor touches what it writes. For a length of 0 the pointer isn't null either. The stack
+ * is aligned as the ABI says. The archives for kernels (C.md) use general registers alone, and no red zone. The
+ * others use vector registers, which are enabled first (on x86-64 CR0.EM clear, CR4.OSFXSR set), may change every one
+ * that the ABI lets a function change, and may use the red zone, the 128 bytes below the stack pointer on x86-64.
  *
- * What each call answers: ZACPI_OK and all its outputs written, or the number of the first refusal and
- * nothing written, but for `named`: if the refusal carries a signature (8 to 13 of enum zacpi_refusal),
- * that is written there. In every other case `named` is as it was.
+ * What each call answers: ZACPI_OK and all its outputs written, or the number of the first refusal and nothing written,
+ * but for `named`, which zacpi_clip_ranges and zacpi_locate don't have: if the refusal carries a signature (8 to 13 of
+ * enum zacpi_refusal), that is written there. In every other case `named` is as it was.
  *
  * A list (zacpi_list_... but for zacpi_list_isa_interrupts, and zacpi_clip_ranges) has `out` and `room`, and writes the
  * first `room` items there, and into `count` how many there are in all, which can be more. Items of `out` from `count`
- * on are as they were. With a room of 0 it only counts.
+ * on are as they were. With a room of 0 it only counts. The lists of zacpi_platform have no `count` of their own.
  *
  * A physical address is a number of bytes, and so is a length, unless something else stands at the field.
  * A field that says whether something holds is 0 for no and 1 for yes.
@@ -50,9 +51,9 @@
  *   search             ZACPI_NO_VALID_RSDP (section 5.2.5.1); then as a start at the root table that the RSDP names.
  *                      The areas are the EBDA's first KiB as far as it lies below 0xa0000, if the word at 0x40e (the
  *                      segment of the EBDA) is lent and the EBDA begins at 0x400 or above, and then 0xe0000 to
- *                      0xfffff. An RSDP begins at a multiple of 16, with 20 bytes in the area. The first one is taken
- *                      that a start at an RSDP wouldn't refuse: one that isn't lent is passed over like any other that
- *                      isn't valid, so that no area has to be lent
+ *                      0xfffff. An RSDP begins at a multiple of 16, with 20 bytes in the area. The first valid one is
+ *                      taken, of which a start at an RSDP would refuse nothing but the root table. One that isn't lent
+ *                      is passed over like any other that isn't valid, so that no area has to be lent
  *   BIOS search        ZACPI_MAP_FAILED if the word at 0x40e, or an area that is asked for with the 16 bytes after it,
  *                      isn't lent, ZACPI_NO_VALID_RSDP (section 5.2.5.1); then as a start at the root table that
  *                      the RSDP names. The areas are 0xe0000 to 0xfffff and, if no RSDP there is valid, the EBDA's
@@ -107,7 +108,8 @@ enum zacpi_refusal {
     ZACPI_NO_SUCH_FUNCTION = 19,        /* no region of configuration space holds this PCI function */
     ZACPI_UNKNOWN_START = 20,           /* zacpi_source.start isn't one of enum zacpi_start */
     ZACPI_RANGE_TOO_HIGH = 21,          /* the address after a range's last byte is above 2^64 - 1 */
-    ZACPI_NO_APICS = 22,                /* no valid MADT has an entry of a machine with APICs: the model is unknown */
+    ZACPI_NO_APICS = 22,                /* there is no valid MADT, or the first has no entry of a machine with APICs:
+                                         * the interrupt model isn't known */
     ZACPI_NO_SUCH_INTERRUPT = 23,       /* no ISA interrupt of this number comes to an I/O APIC */
     ZACPI_NO_SUCH_IO_APIC = 24,         /* no I/O APIC has this global system interrupt */
     /* 25 to 31: the entries of a valid MADT (section 5.2.12), one after the other from byte 44 on. One begins where its
@@ -128,7 +130,8 @@ enum zacpi_refusal {
     ZACPI_NO_GIC = 34,                    /* the MADT has no GICD entry (section 5.2.12.15) */
     ZACPI_NO_DOMAIN = 35,                 /* the SRAT puts the address or processor into no domain */
     ZACPI_NO_DISTANCE = 36,               /* the SLIT has no distance of these two localities (section 5.2.17) */
-    ZACPI_UNKNOWN_WIDTH = 37              /* Type and Length of an entry have one byte or two each, and no other number */
+    ZACPI_UNKNOWN_WIDTH = 37              /* Type and Length of an entry have one byte or two each, and no other
+                                          * number */
 };
 
 /* The name of a status, as acpi_view prints it: "MapFailed". "Unknown" for any other number. */
@@ -198,9 +201,9 @@ struct zacpi_place {
 
 /* Where bytes of physical memory are in the caller's regions, so that a table of a type that has no call here can be
  * read: the byte at `address` is regions[region].bytes[offset], and `length` bytes from there on lie in that region.
- * For a length of 0 too the address has to lie in a region. It has no source, and looks at no byte. Refuses only:
- * ZACPI_REGIONS_NOT_ASCENDING and ZACPI_REGION_TOO_HIGH for the regions one after the other, and ZACPI_MAP_FAILED if no
- * region holds all these bytes. */
+ * It has no source, and looks at no byte. Refuses only: ZACPI_REGIONS_NOT_ASCENDING and ZACPI_REGION_TOO_HIGH for the
+ * regions one after the other, and ZACPI_MAP_FAILED if `address` lies in no region, also for a length of 0, or the
+ * bytes reach past the end of the one that it lies in. */
 zacpi_status zacpi_locate(const struct zacpi_region *regions, size_t regions_length, uint64_t address, uint64_t length,
                         struct zacpi_place *out);
 
@@ -238,19 +241,20 @@ struct zacpi_aml_table {
 /* The root table (sections 5.2.7 and 5.2.8). No other errors. */
 zacpi_status zacpi_open(const struct zacpi_source *source, struct zacpi_root *out, struct zacpi_signature *named);
 
-/* The ranges of memory that were asked for, and that lie in no one region. A kernel maps those that it can, joins them
- * with its regions' ranges (zacpi_clip_ranges: a table has to lie in one region), and asks again, until no new range
- * comes. If opening the tables is refused with ZACPI_MAP_FAILED, it is the one range that was refused. If the tables
- * are opened, it is one for each member of the root table, in order, that is passed over with ZACPI_MAP_FAILED: its 36
- * bytes of header (section 5.2.6), or as many bytes as its header says. One for the DSDT and one for the FACS of the
- * first valid FADT come after these, for the same reason (sections 5.2.11.1 and 5.2.10; the FACS needs its Signature
- * and a Length of at least 64 before so many bytes are asked for). Before all of these, also if opening refuses
- * otherwise, a search has one for each RSDP that it passes over because of its Length, in the order of the search, up
- * to the one that it takes: an RSDP whose 36 bytes are lent, and that is refused with ZACPI_MAP_FAILED since as many
- * bytes as its Length says aren't; these are the range. A BIOS search comes to none if the word or the first area isn't
- * lent. ZACPI_START_SEARCH asks for nothing of the areas that isn't lent, so neither the word at 0x40e nor an RSDP's 36
- * bytes are ever among the ranges. Each range has at least two bytes. Refuses: ZACPI_REGIONS_NOT_ASCENDING,
- * ZACPI_REGION_TOO_HIGH, ZACPI_UNKNOWN_START, and nothing else. */
+/* The ranges of memory that the tables still need, and that lie in no one region. A kernel maps those that it can,
+ * joins them with its regions' ranges (zacpi_clip_ranges: a table has to lie in one region), and asks again, until no
+ * new range comes. If opening the tables is refused with ZACPI_MAP_FAILED, it is the one range that was refused. If
+ * the tables are opened, it is one for each member of the root table, in order, that is passed over with
+ * ZACPI_MAP_FAILED: its 36 bytes of header (section 5.2.6), or as many bytes as its header says. One for the DSDT and
+ * one for the FACS of the first valid FADT come after these, for the same reason (sections 5.2.11.1 and 5.2.10; the
+ * FACS needs its Signature and a Length of at least 64 before that many bytes are asked for). Before all of these,
+ * also if opening refuses otherwise, either search has one for each RSDP that it passes over because of its Length, in
+ * the order of the search, up to the one that it takes: an RSDP whose 36 bytes are lent, and that is refused with
+ * ZACPI_MAP_FAILED since as many bytes as its Length says aren't; these are the range. A BIOS search has none of these
+ * if the word or the first area isn't lent, and none of a second area that isn't. ZACPI_START_SEARCH needs nothing of
+ * the areas to be lent, so neither the word at 0x40e nor an RSDP's 36 bytes are ever among its ranges. Each range has
+ * at least two bytes. Refuses: ZACPI_REGIONS_NOT_ASCENDING, ZACPI_REGION_TOO_HIGH, ZACPI_UNKNOWN_START, and nothing
+ * else. */
 zacpi_status zacpi_list_missing_ranges(const struct zacpi_source *source, struct zacpi_range *out, size_t room,
                                      size_t *count, struct zacpi_signature *named);
 
@@ -264,9 +268,9 @@ zacpi_status zacpi_list_tables(const struct zacpi_source *source, struct zacpi_t
 zacpi_status zacpi_find_table(const struct zacpi_source *source, struct zacpi_signature signature, struct zacpi_table
                               *out, struct zacpi_signature *named);
 
-/* The valid table of a signature that `index` others of it are listed before (section 5.2.6): 0 is the first one, as
- * zacpi_find_table answers it. Refuses then: ZACPI_TABLE_MISSING with the signature if there are no more than `index`.
- * */
+/* The `index`-th valid table of a signature, counted from 0 in the order of the root table (section 5.2.6): 0 is the
+ * one that zacpi_find_table answers. Refuses then: ZACPI_TABLE_MISSING with the signature if there are no more than
+ * `index`. */
 zacpi_status zacpi_find_nth_table(const struct zacpi_source *source, struct zacpi_signature signature, size_t index,
                                 struct zacpi_table *out, struct zacpi_signature *named);
 
@@ -279,8 +283,8 @@ zacpi_status zacpi_find_nth_table(const struct zacpi_source *source, struct zacp
  * signature that it bears, listed or not. Refuses: ZACPI_REGIONS_NOT_ASCENDING and ZACPI_REGION_TOO_HIGH for the
  * regions one after the other, ZACPI_UNKNOWN_WIDTH if `bytes_each` isn't 1 or 2, ZACPI_MAP_FAILED if 36 bytes aren't
  * lent at `table`, 8 to 11 of enum zacpi_refusal, ZACPI_MAP_FAILED if as many bytes as its header says aren't lent,
- * ZACPI_SDT_INVALID_CHECKSUM, and ZACPI_SDT_INVALID_LENGTH if Length of the table is less than `first`. Those from 8 on
- * carry its Signature. */
+ * ZACPI_SDT_INVALID_CHECKSUM, and ZACPI_SDT_INVALID_LENGTH if Length of the table is less than `first`. 8 to 12 carry
+ * the table's Signature. If it refuses, `malformed` is as it was too. */
 zacpi_status zacpi_list_entries(const struct zacpi_region *regions, size_t regions_length, uint64_t table, uint32_t
                                 first, uint32_t bytes_each, struct zacpi_entry *out, size_t room, size_t *count, uint8_t
                                 *malformed, struct zacpi_signature *named);
@@ -294,7 +298,7 @@ zacpi_status zacpi_list_faults(const struct zacpi_source *source, struct zacpi_s
 /* The AML of the DSDT that the first valid FADT names (sections 5.2.9 and 5.2.11.1). Refuses then: ZACPI_TABLE_MISSING
  * "FACP", ZACPI_INVALID_DSDT_ADDRESS, and what the table there is refused with: ZACPI_MAP_FAILED if 36 bytes aren't
  * lent, 8 to 11 of enum zacpi_refusal, ZACPI_MAP_FAILED if as many bytes as its header says aren't lent,
- * ZACPI_SDT_INVALID_CHECKSUM. Those from 8 on carry "DSDT". */
+ * ZACPI_SDT_INVALID_CHECKSUM. 8 to 12 carry "DSDT". */
 zacpi_status zacpi_dsdt(const struct zacpi_source *source, struct zacpi_aml_table *out, struct zacpi_signature *named);
 
 /* The AML of each valid SSDT, in the order of the root table (section 5.2.11.2). No other errors. */
@@ -362,8 +366,8 @@ struct zacpi_fixed_hardware {
     struct zacpi_register pm1a_control, pm1b_control; /* X_PM1n_CNT_BLK or PM1n_CNT_BLK: control registers */
     struct zacpi_register pm2_control;    /* X_PM2_CNT_BLK or PM2_CNT_BLK */
     struct zacpi_register pm_timer;       /* X_PM_TMR_BLK or PM_TMR_BLK, section 4.8.3.3. None if PM_TMR_LEN isn't 4 */
-    struct zacpi_register gpe0, gpe1;     /* X_GPEn_BLK or GPEn_BLK, also if GPEn_BLK_LEN is 0. For ports of 32 bytes and
-                                          * more see gpe0_block */
+    struct zacpi_register gpe0, gpe1;     /* X_GPEn_BLK or GPEn_BLK, also if GPEn_BLK_LEN is 0. For ports of 32 bytes
+                                          * and more see gpe0_block */
     struct zacpi_register reset;          /* RESET_REG: counts only if bit 10 of `flags` (RESET_REG_SUP) is set */
     struct zacpi_register sleep_control;  /* SLEEP_CONTROL_REG, of a machine of reduced hardware */
     struct zacpi_register sleep_status;   /* SLEEP_STATUS_REG, of a machine of reduced hardware */
@@ -540,9 +544,9 @@ zacpi_status zacpi_list_nmi_lines(const struct zacpi_source *source, struct zacp
 zacpi_status zacpi_list_processors(const struct zacpi_source *source, struct zacpi_processor *out, size_t room,
                                  size_t *count, struct zacpi_signature *named);
 
-/* All of these at once, for about what one of them costs: into `out` what zacpi_interrupt_model answers, and into each
- * list what its call above answers, as many items as there is room for; how many there are in all is in `out`. Refuses
- * then as zacpi_interrupt_model does, and with ZACPI_NO_APICS if the model isn't known. */
+/* All of these at once, with the tables opened once: into `out` what zacpi_interrupt_model answers, and into each list
+ * what its call above answers, as many items as there is room for; how many there are in all is in `out`. Refuses then
+ * as zacpi_interrupt_model does, and with ZACPI_NO_APICS if the model isn't known, where that call refuses nothing. */
 zacpi_status zacpi_platform(const struct zacpi_source *source, struct zacpi_interrupt_model *out, struct zacpi_processor
                             *processors, size_t processors_room, struct zacpi_io_apic *io_apics, size_t io_apics_room,
                             struct zacpi_interrupt_source_override *overrides, size_t overrides_room, struct
@@ -582,7 +586,8 @@ struct zacpi_isa_route {
     struct zacpi_interrupt interrupt; /* what zacpi_isa_interrupt answers, or zeros */
     struct zacpi_io_apic_pin pin;     /* what zacpi_io_apic_pin answers for it, or zeros */
     uint8_t present;                  /* 0: zacpi_isa_interrupt refuses it with ZACPI_NO_SUCH_INTERRUPT */
-    uint8_t has_pin;                  /* 0: it isn't present, or zacpi_io_apic_pin refuses it with ZACPI_NO_SUCH_IO_APIC */
+    uint8_t has_pin;                  /* 0: it isn't present, or zacpi_io_apic_pin refuses it with
+                                       * ZACPI_NO_SUCH_IO_APIC */
 };
 struct zacpi_isa_interrupts {
     struct zacpi_isa_route routes[16]; /* item n is irq n */
@@ -603,7 +608,7 @@ struct zacpi_gic_distributor { /* GIC Distributor (GICD), section 5.2.12.15 */
     uint32_t system_vector_base; /* System Vector Base: reserved, and kept as it is */
     uint8_t version;             /* GIC version: 1 to 4; 0: the hardware tells */
 };
-struct zacpi_gic_cpu_interface { /* GIC CPU Interface (GICC), section 5.2.12.14. An address or interrupt of 0 is none. */
+struct zacpi_gic_cpu_interface { /* GIC CPU Interface (GICC), section 5.2.12.14. An address or interrupt of 0 is none */
     uint64_t mpidr;                    /* MPIDR */
     uint64_t parked_address;           /* Parked Address: of the parking protocol's mailbox */
     uint64_t address;                  /* Physical Base Address: of the interface's registers */
