@@ -110,7 +110,7 @@ static void places(const struct zacpi_source *source) {
 /* How the 16 ISA interrupts come to the I/O APICs. */
 static void pins(const struct zacpi_source *source) {
     struct zacpi_signature named = {{0}};
-    struct zacpi_isa_interrupts isa;
+    static struct zacpi_isa_interrupts isa; /* an output has to be initialised too */
     if (zacpi_list_isa_interrupts(source, &isa, &named)) return;
     for (size_t irq = 0; irq < 16; irq++) {
         const struct zacpi_isa_route *route = isa.routes + irq;

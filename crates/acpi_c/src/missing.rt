@@ -6,17 +6,8 @@ use acpi_c_lib::answer::answer;
 use acpi_c_lib::missing::missing;
 use acpi_c_lib::records::{Range, Signature, Source};
 
-/// The ranges of memory that were asked for, and that lie in no one region: as many as there is room for,
-/// and how many there are. A kernel maps those that it can, joins them with the ranges of its regions
-/// (`zacpi_clip_ranges`, since a table has to lie in one region), and asks again, until no new range comes.
-///
-/// If opening the tables refuses with `ZACPI_MAP_FAILED`, it is the one range that was refused. If the tables are
-/// opened, it is a range for each member of the root table, in order, that is refused with it: its
-/// 36 bytes of header (section 5.2.6), or as many bytes as its header says. One for the DSDT and one for the
-/// FACS that the first valid FADT leads to come after these, if they aren't lent (sections 5.2.11.1 and
-/// 5.2.10).
-///
-/// A range has at least two bytes. There is none if opening the tables refuses with anything else.
+/// The ranges of memory that were asked for, and that lie in no one region: as many as there is room for, and how many
+/// there are. `include/zacpi.h` says which these are, and in which order.
 ///
 /// Refuses with `ZACPI_REGIONS_NOT_ASCENDING`, `ZACPI_REGION_TOO_HIGH` and `ZACPI_UNKNOWN_START`, and with nothing else.
 #[unsafe(no_mangle)]
