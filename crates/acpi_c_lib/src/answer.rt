@@ -22,7 +22,7 @@ pub fn answer<T: Copy>(said: Result<T, Refusal>, out: &mut T, named: &mut Signat
     }
 }
 
-/// The same of a call whose refusals carry no signature.
+/// The number that C gets of a call whose errors carry no signature: 0, with the value written, or that of the error.
 pub fn answer_plain<T: Copy>(said: Result<T, Refusal>, out: &mut T) -> u32
     ensures { AnswersPlain result out.old out.new said }
 {

@@ -197,7 +197,7 @@ fn whole_hole<H: AcpiHandler>(handler: &H, address: u64, rsdp: &Rsdp) -> Option<
     }
 }
 
-/// So many bytes from an address, if they are asked for, and the refusal is that they aren't lent.
+/// That many bytes from an address, if they are asked for, and the error is that they aren't lent.
 fn hole_by(error: AcpiError, address: u64, length: Option<u32>) -> Option<Range>
     ensures { result ≡ hole {A = Unit {0}} (Err error) (length_ranges address length) }
 {

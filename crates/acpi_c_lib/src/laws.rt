@@ -9,13 +9,15 @@ pub fn members_refused_have_ranges()
     ensures { MembersHaveHoles }
 {}
 
-/// So has the DSDT or the FACS of a FADT that is refused with `MapFailed`.
+/// If the error of the DSDT or the FACS that a FADT leads to is `MapFailed`, there is the range that
+/// `zacpi_list_missing_ranges` lists of it, and that range lies in no one region.
 #[tactic(auto, using(crate::proofs::Unlent::length_not, crate::proofs::Unlent::table_not), unfolding(acpi_base::specs::Table::table_at, acpi_base::specs::Table::table_of, acpi_base::specs::Table::whole_of, acpi::specs::Places::dsdt_place, acpi::specs::Places::facs_at, acpi::specs::Places::facs_length))]
 pub fn led_tables_have_ranges()
     ensures { LedHaveHoles }
 {}
 
-/// So has each candidate of a search whose 36 bytes are lent, if it is refused with `MapFailed`.
+/// If the error of a candidate of a search whose 36 bytes are lent is `MapFailed`, there is the range that
+/// `zacpi_list_missing_ranges` lists of it, and that range lies in no one region.
 #[tactic(auto, using(crate::proofs::Unlent::rsdp_not, crate::proofs::Unlent::sum_not), unfolding(acpi::specs::Rsdp::rsdp_at, crate::specs::Missing::candidate_hole))]
 pub fn candidates_have_ranges()
     ensures { CandidatesHaveHoles }

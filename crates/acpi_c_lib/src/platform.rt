@@ -117,7 +117,8 @@ fn add<R: MadtRecord>(item: MadtItem, out: &mut [R], at: usize) -> usize
     }
 }
 
-/// The same of a processor. The first one is the boot processor.
+/// Writes the processor that an item says, if it says one, and returns the place of the next. The one at place 0 is the
+/// boot processor.
 #[inline(always)]
 #[tactic(auto, using(crate::proofs::BootProcessor::next_some, crate::proofs::BootProcessor::next_none))]
 fn add_processor(item: MadtItem, out: &mut [Processor], at: usize) -> usize

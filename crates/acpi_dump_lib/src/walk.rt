@@ -49,7 +49,7 @@ pub(crate) enum Fault {
     Cut,
     /// The entry that begins there has this type, which isn't known and has no length.
     Unknown(u64),
-    /// So many entries that are counted aren't there.
+    /// That many of the entries that are counted aren't there.
     Missing(u64),
     /// What is to begin at this offset of the structure there begins before the end of what stands
     /// before it.

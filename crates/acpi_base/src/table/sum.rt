@@ -8,8 +8,8 @@ use std::simd::prelude::*;
 
 const LANES: usize = 16;
 
-/// As many bytes as one turn of the loop adds. All of it goes to the same lanes: these fit into the general registers of
-/// a kernel's code, which has no vectors, and lanes of four vectors would not.
+/// As many bytes as one turn of the loop adds, all of them to the same lanes: these nearly fit into the general
+/// registers of a kernel's code, which has no vectors, and the lanes of four vectors are far from it.
 const BLOCK: usize = 4 * LANES;
 
 /// From place `n` on, these are the lanes that keep the last `n` of sixteen.

@@ -160,7 +160,7 @@ fn add_input<E: Write>(
     }
 }
 
-/// Adds the tables of a folder, in the order of their names. What is no table is passed over: a folder in it,
+/// Adds the tables of a folder, in the order of their names. What isn't a table is passed over: a folder in it,
 /// and a file that doesn't begin as one, which is said.
 fn add_folder<S: Sources, E: Write>(
     alloc: Global,
