@@ -1,15 +1,23 @@
 -- What is compared by `==` is equal exactly if it is one: values of enums by their variants and fields, structs by
 -- their fields.
-use Rattle.acpi_base.specs.contracts.range.AddressRangePartialEq.TheImpl as ranges
 use Rattle.acpi_base.specs.declared.range.AddressRange.{AddressRange}
-use Rattle.std.proofs.Common.{rules, ◌≡◌, ℕ, Bool, List, [], ◌∷◌, true, false, refl, ap, sym, ◌∙◌}
-use Rattle.std.specs.Prelude.{◌&&◌, ◌==◌}
+use Rattle.std.proofs.Common.{rules, ◌≡◌, ℕ, Bool, List, [], ◌∷◌, true, false, refl, ap, sym, ◌∙◌, arith, suc}
+use Rattle.std.specs.Prelude.{◌&&◌, ◌==◌, Contains}
 use mathlib.Core.Logic.{inl, inr}
 use denote.Enum.Compared.{Each, by}
 use denote.Enum.Declared.{Record, Choice, values_one}
 use denote.Struct.Field.{Field}
 use denote.Struct.Values.{Values}
 use Rattle.acpi_base.specs.Equality.{IsEquality}
+use Rattle.acpi_base.specs.declared.address.AccessSize.{AccessSize}
+use Rattle.acpi_base.specs.declared.error.AcpiError.{AcpiError}
+use Rattle.acpi_base.specs.declared.address.AddressSpace.{AddressSpace}
+use Rattle.acpi_base.specs.declared.address.GenericAddress.{GenericAddress}
+use Rattle.acpi_base.specs.declared.error.MadtError.{MadtError}
+use Rattle.acpi_base.specs.declared.table.signature.Signature.{Signature}
+use Rattle.acpi_base.specs.declared.tables.spcr.interface.SpcrInterfaceType.{SpcrInterfaceType}
+use Rattle.std.specs.List.{AllZip}
+use Rattle.acpi_base.specs.contracts.range.AddressRangePartialEq.TheImpl as ranges
 use Rattle.acpi_base.specs.contracts.error.AcpiError as error
 use Rattle.acpi_base.specs.contracts.error.AcpiErrorPartialEq.TheImpl as errors
 use Rattle.acpi_base.specs.contracts.address.AddressSpace as space
@@ -20,13 +28,6 @@ use Rattle.acpi_base.specs.contracts.address.GenericAddressPartialEq.TheImpl as 
 use Rattle.acpi_base.specs.contracts.error.MadtErrorPartialEq.TheImpl as madt_errors
 use Rattle.acpi_base.specs.contracts.tables.spcr.interface.SpcrInterfaceType as interface
 use Rattle.acpi_base.specs.contracts.tables.spcr.interface.SpcrInterfaceTypePartialEq.TheImpl as interfaces
-use Rattle.acpi_base.specs.declared.address.AccessSize.{AccessSize}
-use Rattle.acpi_base.specs.declared.error.AcpiError.{AcpiError}
-use Rattle.acpi_base.specs.declared.address.AddressSpace.{AddressSpace}
-use Rattle.acpi_base.specs.declared.address.GenericAddress.{GenericAddress}
-use Rattle.acpi_base.specs.declared.error.MadtError.{MadtError}
-use Rattle.acpi_base.specs.declared.table.signature.Signature.{Signature}
-use Rattle.acpi_base.specs.declared.tables.spcr.interface.SpcrInterfaceType.{SpcrInterfaceType}
 
 -- the test at each variant is that of equal fields
 abbrev pub Exact : (parts : List (List Field)) → Each Bool parts → Type 0
@@ -116,3 +117,15 @@ range_of p = record { address = p.0; length = p.1 }
 pub ranges_are : (x y : AddressRange) → IsEquality (ranges.ghosts.eq x y) x y
 ranges_are x y =
     made (λ r. (r.address, r.length)) range_of _ x y refl refl (pairs _ _ _ _ _ _ (numbers_are x.address y.address) (numbers_are x.length y.length))
+
+-- ---- lists of clones
+
+-- if each clone of an item equals it, clones of the items in order are the items
+pub clones_equal : {X : Type 0} (R : X → X → Type 0) (xs ys : List X) → ((x y : X) → Contains xs x → R x y → y ≡ x) → AllZip R xs ys → ys ≡ xs
+clones_equal R [] [] same zip = refl
+clones_equal R [] (y ∷ ys) same zip = absurd zip
+clones_equal R (x ∷ xs) [] same zip = absurd zip
+clones_equal R (x ∷ xs) (y ∷ ys) same zip =
+    let here : y ≡ x = same x y (0, omega arith, refl) zip.0 in
+    let rest : ys ≡ xs = clones_equal R xs ys (λ a b held. same a b (suc held.0, omega (arith, held.1), held.2)) zip.1 in
+    cc

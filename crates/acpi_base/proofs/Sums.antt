@@ -1,14 +1,21 @@
--- Sums modulo 256 in lanes that wrap.
-use Rattle.std.proofs.Common.{◌≡◌, ℕ, suc, zero, ◌+◌, ◌-◌, ◌%◌, ◌≤◌, ◌<◌, List, [], ◌∷◌, ◌++◌, length, length-append, length-drop, take, drop, replicate, refl, ap, sym, ◌∙◌, arith}
-use Rattle.std.specs.Prelude.{bit_and, sum}
+-- Sums modulo 256: in lanes that wrap, and of a valid table in which one byte is changed.
+use Rattle.std.proofs.Common.{◌≡◌, ℕ, suc, zero, ◌+◌, ◌-◌, ◌%◌, ◌≤◌, ◌<◌, List, [], ◌∷◌, ◌++◌, length, length-append, length-drop, take, drop, replicate, refl, ap, sym, ◌∙◌, arith, ◌≢◌, ◌⊎◌, inl, inr, Bool, true, false, set, get_or, sum, Result, Ok, Err, subst}
+use Rattle.std.specs.Prelude.{bit_and, IsOk, IsErr}
 use Rattle.std.specs.Simd.Lanes.{chunk, fold_l, zip2}
 use Rattle.std.proofs.Math.Seq.{take-add, take-append-add}
-use Rattle.std.proofs.lemmas.List.{drop-append-le, drop-drop, drop-replicate, take_all, take-replicate}
-use Rattle.std.proofs.lemmas.List.Sums.{sum_by-append, sum_by-cons, sum_by-take-drop}
+use Rattle.std.proofs.lemmas.List.{drop-append-le, drop-drop, drop-replicate, take_all, take-replicate, drop-set-lt, drop-set-add, take-set-le}
+use Rattle.std.proofs.lemmas.List.Sums.{sum_by-append, sum_by-cons, sum_by-take-drop, sum_by-set}
 use Rattle.std.proofs.lemmas.Nat.{and_mask}
 use Rattle.std.proofs.lemmas.Simd.{length-chunk, length-replicate, length-zip2}
-use Rattle.acpi_base.specs.Bytes.{sum_of}
+use Rattle.acpi_base.specs.Bytes.{sum_of, IsBytes, field_of, number}
 use Rattle.acpi_base.specs.Sums.{AddsUp}
+use Rattle.std.proofs.lemmas.Bool.{leb-true, eqb-true, and_parts}
+use Rattle.acpi_base.proofs.Steps.{bind_ok, holds_ok}
+use Rattle.acpi_base.specs.Header.{check_names, check_table, header_at}
+use Rattle.acpi_base.specs.Laws.{DamageShows}
+use Rattle.acpi_base.specs.Steps.{holds}
+use Rattle.acpi_base.specs.declared.error.AcpiError.{AcpiError}
+use Rattle.acpi_base.specs.declared.table.signature.Signature.{Signature}
 
 -- lanes that wrap
 abbrev pub wrapped : List ℕ → List ℕ → List ℕ
@@ -35,30 +42,30 @@ fold-below a [] small = small
 fold-below a (x ∷ xs) small = fold-below ((a + x) % 256) xs (omega arith)
 
 -- no lanes are filled yet
-pub adds_up-nothing : AddsUp (replicate 16 0) []
+pub adds_up_nothing : AddsUp (replicate 16 0) []
 unfolding sum_of
-adds_up-nothing = (refl, refl)
+adds_up_nothing = (refl, refl)
 
 -- one vector of the bytes more
 sum-next : (bytes : List ℕ) (at end : ℕ) → at + 16 ≡ end → sum (take end bytes) ≡ sum (take at bytes) + sum (chunk at 16 bytes)
 sum-next bytes at end there =
     ap (λ n. sum (take n bytes)) (sym there) ∙ ap sum (take-add at 16 bytes) ∙ sum_by-append (λ x. x) (take at bytes) (chunk at 16 bytes)
 
-pub adds_up-next : (lanes bytes : List ℕ) (at end : ℕ) → at + 16 ≡ end → end ≤ length bytes → AddsUp lanes (take at bytes) → AddsUp (wrapped lanes (chunk at 16 bytes)) (take end bytes)
+pub adds_up_next : (lanes bytes : List ℕ) (at end : ℕ) → at + 16 ≡ end → end ≤ length bytes → AddsUp lanes (take at bytes) → AddsUp (wrapped lanes (chunk at 16 bytes)) (take end bytes)
 unfolding sum_of
-adds_up-next lanes bytes at end there room so_far =
+adds_up_next lanes bytes at end there room so_far =
     let same : length lanes ≡ length (chunk at 16 bytes) = omega (arith, so_far.0, length-chunk at 16 bytes (omega (arith, there, room))) in
     (length-zip2 _ lanes (chunk at 16 bytes) same ∙ so_far.0, omega (arith, so_far.1, sum-wrapped lanes (chunk at 16 bytes) same, sum-next bytes at end there))
 
 -- four vectors more
-pub adds_up-block : (lanes bytes : List ℕ) (at : ℕ) → at + 64 ≤ length bytes → AddsUp lanes (take at bytes)
+pub adds_up_block : (lanes bytes : List ℕ) (at : ℕ) → at + 64 ≤ length bytes → AddsUp lanes (take at bytes)
     → AddsUp (wrapped (wrapped (wrapped (wrapped lanes (chunk at 16 bytes)) (chunk (at + 16) 16 bytes))
     (chunk (at + 32) 16 bytes)) (chunk (at + 48) 16 bytes)) (take (at + 64) bytes)
-adds_up-block lanes bytes at room so_far =
-    let one = adds_up-next lanes bytes at (at + 16) refl (omega (arith, room)) so_far in
-    let two = adds_up-next _ bytes (at + 16) (at + 32) (omega arith) (omega (arith, room)) one in
-    let three = adds_up-next _ bytes (at + 32) (at + 48) (omega arith) (omega (arith, room)) two in
-    adds_up-next _ bytes (at + 48) (at + 64) (omega arith) room three
+adds_up_block lanes bytes at room so_far =
+    let one = adds_up_next lanes bytes at (at + 16) refl (omega (arith, room)) so_far in
+    let two = adds_up_next _ bytes (at + 16) (at + 32) (omega arith) (omega (arith, room)) one in
+    let three = adds_up_next _ bytes (at + 32) (at + 48) (omega arith) (omega (arith, room)) two in
+    adds_up_next _ bytes (at + 48) (at + 64) (omega arith) room three
 
 -- if all lanes are kept, their sum is; and if the first are cleared, that of the others
 sum-kept_all : (xs : List ℕ) (n : ℕ) → length xs ≡ n → sum (zip2 bit_and xs (replicate n 255)) % 256 ≡ sum xs % 256
@@ -91,10 +98,10 @@ keeps_last n few =
     ∙ take-append-add cleared (replicate 16 255) n
     ∙ ap (λ l. cleared ++ l) (take-replicate n 16 255 few)
 
-pub adds_up-last : (bytes : List ℕ) (n : ℕ) → 16 ≤ length bytes → n ≤ 16
+pub adds_up_last : (bytes : List ℕ) (n : ℕ) → 16 ≤ length bytes → n ≤ 16
     → AddsUp (zip2 bit_and (chunk (length bytes - 16) 16 bytes) (chunk n 16 masks)) (drop (length bytes - n) bytes)
 unfolding sum_of
-adds_up-last bytes n long few =
+adds_up_last bytes n long few =
     let whole = length-chunk (length bytes - 16) 16 bytes (omega arith) in
     let there : drop (16 - n) (chunk (length bytes - 16) 16 bytes) ≡ drop (length bytes - n) bytes =
     ap (drop (16 - n)) (take_all 16 (drop (length bytes - 16) bytes) (omega (arith, length-drop (length bytes - 16) bytes)))
@@ -108,9 +115,9 @@ adds_up-last bytes n long few =
     )
 
 -- the lanes of all bytes
-pub adds_up-whole : (lanes last bytes : List ℕ) (at : ℕ) → AddsUp lanes (take at bytes) → AddsUp last (drop at bytes) → fold_l (λ s x. (s + x) % 256) 0 (wrapped lanes last) ≡ sum_of bytes
+pub adds_up_whole : (lanes last bytes : List ℕ) (at : ℕ) → AddsUp lanes (take at bytes) → AddsUp last (drop at bytes) → fold_l (λ s x. (s + x) % 256) 0 (wrapped lanes last) ≡ sum_of bytes
 unfolding sum_of
-adds_up-whole lanes last bytes at so_far rest =
+adds_up_whole lanes last bytes at so_far rest =
     omega (
       arith,
       so_far.1,
@@ -120,3 +127,56 @@ adds_up-whole lanes last bytes at so_far rest =
       sum-wrapped lanes last (so_far.0 ∙ sym rest.0),
       sum_by-take-drop (λ x. x) bytes at,
     )
+
+-- ---- one changed byte of a valid table is found by the sum
+
+last_holds : (b : Bool) (d : AcpiError) (x : Unit {0}) → holds b d ≡ Ok x → b ≡ true
+last_holds true d x e = refl
+last_holds false d x e = absurd cc
+
+-- what passes has its length, and sums to zero
+passed : (s : Signature) (bytes : List ℕ) (x : Unit {0}) → check_table s bytes ≡ Ok x → (field_of bytes 4 4 ≤ length bytes) × (sum (take (field_of bytes 4 4) bytes) % 256 ≡ 0)
+unfolding check_table sum_of
+passed s bytes x e =
+    let names = bind_ok (check_names s (header_at bytes)) _ x e in
+    let fits = holds_ok _ _ _ x names.2 in
+    let within : field_of bytes 4 4 ≤ length bytes = leb-true _ _ (and_parts _ _ fits.0).1 in
+    let zero_sum : sum (take (field_of bytes 4 4) bytes) % 256 ≡ 0 = eqb-true _ _ (last_holds _ _ x fits.1) in
+    (within, zero_sum)
+
+is_ok_value : (r : Result (Unit {0}) AcpiError) → IsOk r → r ≡ Ok tt
+is_ok_value (Ok tt) o = refl
+is_ok_value (Err d) o = absurd cc
+
+err_from_not : (r : Result (Unit {0}) AcpiError) → ((x : Unit {0}) → r ≡ Ok x → ⊥) → IsErr r
+err_from_not (Ok x) never = absurd (never x refl)
+err_from_not (Err d) never = refl
+
+length_stays : (bytes : List ℕ) (k b : ℕ) → (k < 4) ⊎ (8 ≤ k) → field_of (set bytes k b) 4 4 ≡ field_of bytes 4 4
+unfolding field_of
+length_stays bytes k b (inl low) = ap (λ s. number (take 4 s)) (drop-set-lt 4 bytes k b low)
+length_stays bytes k b (inr high) =
+    let k_is : 4 + (k - 4) ≡ k = omega arith in
+    let moved : drop 4 (set bytes k b) ≡ set (drop 4 bytes) (k - 4) b = subst (λ (i : ℕ). drop 4 (set bytes i b) ≡ set (drop 4 bytes) (k - 4) b) k_is (drop-set-add 4 bytes (k - 4) b) in
+    ap (λ s. number (take 4 s)) moved ∙ ap number (take-set-le 4 (drop 4 bytes) (k - 4) b (omega arith))
+
+-- the sum changes by what the byte changes
+sum_set : (n : ℕ) (bytes : List ℕ) (k b : ℕ) → k < n → k < length bytes → sum (take n (set bytes k b)) + get_or bytes k 0 ≡ sum (take n bytes) + b
+sum_set n bytes k b l m =
+    let front : sum (take n bytes) + sum (drop n bytes) ≡ sum bytes = sum_by-take-drop (λ x. x) bytes n in
+    let changed : sum (take n (set bytes k b)) + sum (drop n (set bytes k b)) ≡ sum (set bytes k b) = sum_by-take-drop (λ x. x) (set bytes k b) n in
+    let behind : sum (drop n (set bytes k b)) ≡ sum (drop n bytes) = ap sum (drop-set-lt n bytes k b l) in
+    let whole : sum (set bytes k b) + get_or bytes k 0 ≡ sum bytes + b = sum_by-set (λ x. x) bytes k b 0 m in
+    omega arith
+
+pub damage_shows : (s : Signature) (bytes : List ℕ) → IsBytes bytes → IsOk (check_table s bytes) → DamageShows s bytes
+damage_shows s bytes are ok k b below outside small other =
+    let before = passed s bytes tt (is_ok_value _ ok) in
+    err_from_not _ (λ x e.
+    let after = passed s (set bytes k b) x e in
+    let stays : field_of (set bytes k b) 4 4 ≡ field_of bytes 4 4 = length_stays bytes k b outside in
+    let zero_after : sum (take (field_of bytes 4 4) (set bytes k b)) % 256 ≡ 0 = subst (λ (n : ℕ). sum (take n (set bytes k b)) % 256 ≡ 0) stays after.1 in
+    let moved = sum_set (field_of bytes 4 4) bytes k b below (omega (arith, before.0)) in
+    let old_small : get_or bytes k 0 < 256 = are k in
+    let differ : b ≢ get_or bytes k 0 = other in
+    omega (arith, moved, before.1))

@@ -65,7 +65,7 @@ pub trait AcpiTable: PhysicalRecord {
 ///
 /// Refuses with `SdtInvalidChecksum`, carrying the signature, if they don't.
 #[inline(always)]
-#[tactic(auto, using(crate::proofs::TableByHeader::bad_rest, crate::proofs::TableByHeader::good_rest))]
+#[tactic(auto, using(crate::proofs::OwnTable::bad_rest, crate::proofs::OwnTable::good_rest))]
 pub fn sum_refusal(signature: Signature, bytes: &[u8]) -> AcpiResult<()>
     requires least { 36 ≤ length bytes.now }
     requires names { check_names signature (header_at bytes.now) ≡ Ok tt }

@@ -20,7 +20,7 @@ use std::alloc::Allocator;
 /// The model of APICs, with room for exactly what is counted.
 ///
 /// Refuses with `AllocError` if memory is refused, or a clone of the allocator.
-#[tactic(auto, using(crate::proofs::MadtItems::said_items))]
+#[tactic(auto, using(crate::proofs::EntryLists::said_items))]
 fn gather<A: Allocator + Clone>(
     madt: &Madt,
     table: &[u8],

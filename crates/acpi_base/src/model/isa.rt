@@ -36,6 +36,7 @@ impl<A: Allocator> Apic<A> {
     ///
     /// The interrupt that the FADT gives as `sci_interrupt` is asked for by the function of that name:
     /// it is not of the ISA bus, and is raised in another way.
+    #[tactic(auto, using(crate::proofs::Isa::if_shared))]
     pub fn isa_interrupt(&self, irq: u8) -> Option<IsaInterrupt>
         ensures value { result ≡ isa_interrupt self.now.interrupt_source_overrides irq }
         // Another ISA interrupt shares its global system interrupt only by overrides of both.

@@ -25,7 +25,7 @@ impl<'h, H: Lender> PhysicalMapping<'h, H, Madt> {
 
     /// What the entries say, in order, for a caller with no heap: `parse_interrupt_model_in` sorts
     /// the same items into lists. Whether an entry is refused, `model_counts` says first.
-    #[tactic(auto, using(crate::proofs::MadtItems::said_items))]
+    #[tactic(auto, using(crate::proofs::EntryLists::said_items))]
     pub fn items(&self) -> MadtItems<'_>
         ensures items { items_left result ≡ items_of (bytes_of self.now) }
         ensures few { 2 * length (items_left result) + 44 ≤ length (bytes_of self.now) }

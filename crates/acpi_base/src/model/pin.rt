@@ -23,6 +23,7 @@ impl<A: Allocator> Apic<A> {
     ///
     /// The number of pins of an I/O APIC is in its own registers, and in no table. Compare the pin with
     /// that number: if it is not below it, the interrupt comes to no pin.
+    #[tactic(auto, using(crate::proofs::Pin::is_nearest))]
     pub fn io_apic_for(&self, global_system_interrupt: u32) -> Option<IoApicPin<'_>>
         ensures value { option_map pin_of result
             ≡ io_apic_for self.now.io_apics global_system_interrupt }

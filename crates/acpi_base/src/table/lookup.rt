@@ -19,7 +19,7 @@ use crate::memory::mapping::PhysicalMapping;
 /// The header's bytes at an address, if they begin with this signature. Most members that a
 /// lookup passes over have another one: so that is compared before anything else is made of them.
 #[inline(always)]
-#[tactic(auto, using(crate::proofs::TableByHeader::no_header, crate::proofs::TableByHeader::another_signature))]
+#[tactic(auto, using(crate::proofs::OwnTable::no_header, crate::proofs::OwnTable::another_signature))]
 fn claim_header<'h, H: Lender>(
     handler: &'h H,
     address: u64,
@@ -78,7 +78,7 @@ fn claim_whole<'h, H: Lender>(
 /// The bytes of the table whose header is claimed, if it is valid for `T`. No record is made of them here:
 /// they are small to pass on, and the record is read where it is to lie.
 #[inline(never)]
-#[tactic(auto, using(crate::proofs::TableByHeader::names_there, crate::proofs::TableByHeader::length_there), unfolding(crate::specs::Table::table_of))]
+#[tactic(auto, using(crate::proofs::OwnTable::names_there, crate::proofs::OwnTable::length_there), unfolding(crate::specs::Table::table_of))]
 fn claim_valid<'h, H: Lender, T: AcpiTable>(head: Claim<'h, H>) -> AcpiResult<Claim<'h, H>>
     requires header { length (shown_by head) ≡ 36 }
     requires lent { IsLentOf (H.memory (claimed_from head)) head }
@@ -175,7 +175,7 @@ pub fn map_table<'h, H: Lender, T: AcpiTable>(
 /// The table whose header is claimed, if it is valid under this signature as one of which only
 /// the header and the sum matter.
 #[inline(never)]
-#[tactic(auto, using(crate::proofs::TableByHeader::bad_sum, crate::proofs::TableByHeader::good_sum), unfolding(crate::specs::Table::table_of))]
+#[tactic(auto, using(crate::proofs::OwnTable::bad_sum, crate::proofs::OwnTable::good_sum), unfolding(crate::specs::Table::table_of))]
 fn map_by_header_and_sum<'h, H: Lender>(
     head: Claim<'h, H>,
     signature: Signature,
@@ -232,7 +232,7 @@ pub fn map_sdt<'h, H: Lender>(
 /// its header (section 5.2.6).
 ///
 /// Refuses as `map_sdt` does for that signature.
-#[tactic(auto, using(crate::proofs::TableByHeader::own_table, crate::proofs::AllowedRanges::asked_own_header, crate::proofs::AllowedRanges::asked_own), unfolding(crate::specs::Table::own_table_at))]
+#[tactic(auto, using(crate::proofs::OwnTable::own_table, crate::proofs::AllowedRanges::asked_own_header, crate::proofs::AllowedRanges::asked_own), unfolding(crate::specs::Table::own_table_at))]
 pub fn map_own_sdt<'h, H: Lender>(
     handler: &'h H,
     address: u64,

@@ -20,6 +20,7 @@ static TAIL_MASKS: [u8; 32] = [
 
 /// The sum of the bytes modulo 256, which is 0 over the whole of a valid table (section 5.2.6).
 #[inline]
+#[tactic(auto, using(crate::proofs::Sums::adds_up_nothing))]
 pub fn byte_sum(bytes: &[u8]) -> u8
     ensures { result ≡ sum_of bytes.now }
 {

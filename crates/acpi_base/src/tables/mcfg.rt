@@ -114,7 +114,7 @@ impl<'a> McfgEntryIter<'a> {
 
     /// The entries of an MCFG's bytes: as many as there are whole ones after its 44 fixed bytes. It needs no
     /// handler.
-    #[tactic(auto, using(crate::proofs::McfgEntries::length_entries_of))]
+    #[tactic(auto, using(crate::proofs::EntryLists::length_entries_of))]
     pub fn over(table: &'a [u8]) -> Self
         ensures items { mcfg_entries_left result ≡ mcfg_entries_of table.now }
         ensures count { length (mcfg_entries_left result) ≡ (length table.now - 44) / 16 }
@@ -147,7 +147,7 @@ impl Iterator for McfgEntryIter<'_> {
 
 impl ExactSizeIterator for McfgEntryIter<'_> {
     /// How many entries are still to come.
-    #[tactic(auto, using(crate::proofs::McfgEntries::length_whole_entries))]
+    #[tactic(auto, using(crate::proofs::EntryLists::length_whole_entries))]
     fn len(&self) -> usize {
         self.rest.len() / McfgEntry::MIN_LENGTH
     }

@@ -64,6 +64,7 @@ impl PhysicalRecord for Spcr {
 
     ghost reading = { spcr_at };
 
+    #[tactic(auto, unfolding(crate::specs::Spcr::spcr_at))]
     fn read(bytes: &[u8]) -> Self {
         Spcr {
             header: SdtHeader::read(bytes),

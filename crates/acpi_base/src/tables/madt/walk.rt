@@ -26,7 +26,7 @@ impl<'a> MadtEntryIter<'a> {
     ghost use Rattle.acpi_base.specs.MadtWalk.{entries_left, has_ended, is_malformed, rest_left};
 
     /// The entries of a MADT's bytes (section 5.2.12): those after its 44 fixed bytes. It needs no handler.
-    #[tactic(auto, using(crate::proofs::EntryCounts::entries_few, crate::proofs::EntryCounts::cut_of_few))]
+    #[tactic(auto, using(crate::proofs::EntryLists::entries_few, crate::proofs::EntryLists::cut_of_few))]
     pub fn over(table: &'a [u8]) -> Self
         ensures items { entries_left result ≡ entries_of table.now }
         ensures rest { rest_left result ≡ (cut_of table.now).1 }
@@ -85,7 +85,7 @@ impl Iterator for MadtEntryIter<'_> {
     ghost remaining = { item_count (λ s. entries_left s) };
 
     #[inline(always)]
-    #[tactic(auto, using(crate::proofs::MadtSteps::defined_first))]
+    #[tactic(auto, using(crate::proofs::EntryLists::defined_first))]
     fn next(&mut self) -> Option<MadtEntry> {
         match self.split_defined() {
             Some((entry, others)) => {
@@ -102,7 +102,7 @@ impl Iterator for MadtEntryIter<'_> {
 
 /// Whether bytes begin with the type and the length of an entry, and the type is a defined one.
 #[inline(always)]
-#[tactic(auto, using(crate::proofs::MadtSteps::begins_defined))]
+#[tactic(auto, using(crate::proofs::EntryLists::begins_defined))]
 fn begins_defined(bytes: &[u8]) -> bool
     ensures exact { (result ≡ true) ↔ ((2 ≤ length bytes.now) × (slice_index bytes.now 0 ≤ 16)) }
     ensures defined { (result ≡ true) → BeginsDefined (cut madt_grammar bytes.now).0 }

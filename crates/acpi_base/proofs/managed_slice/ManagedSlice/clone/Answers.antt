@@ -1,4 +1,4 @@
-use Rattle.acpi_base.proofs.Clones.{clones_equal}
+use Rattle.acpi_base.proofs.Equalities.{clones_equal}
 use Rattle.acpi_base.proofs.managed_slice.ManagedSlice.clone.Goals as goal
 
 pub returns : goal.returns

@@ -8,7 +8,7 @@ use Rattle.acpi_base.specs.Model.{Model}
 use Rattle.acpi_base.specs.ModelBuilder.{HasRoom, model_behind}
 use Rattle.acpi_base.specs.declared.model.builder.ModelBuilder.{ModelBuilder}
 use Rattle.acpi_base.specs.declared.model.item.MadtItem.{MadtItem}
-use Rattle.acpi_base.proofs.MadtItems.{said_more}
+use Rattle.acpi_base.proofs.EntryLists.{said_more}
 use Rattle.acpi_base.proofs.model.gather.gather.Goals as goal
 
 abbrev left : List ℕ → List MadtItem

@@ -2,7 +2,7 @@ use Rattle.std.proofs.Common.{◌≡◌, ◌<◌, ◌-◌, [], ◌∷◌, ◌++�
 use Rattle.std.proofs.lemmas.List.{get_or_default}
 use Rattle.acpi_base.specs.declared.model.isa_overrides.IsaOverrides.TheInside.{Inside}
 use Rattle.acpi_base.specs.IsaOverrides.{AreCounted, IsGathered}
-use Rattle.acpi_base.proofs.IsaGathered.{from_counted, one_counted, one_gathered, own_if_above, own_if_below}
+use Rattle.acpi_base.proofs.Isa.{from_counted, one_counted, one_gathered, own_if_above, own_if_below}
 use Rattle.acpi_base.proofs.model.isa_overrides.IsaOverrides.add.Goals as goal
 use Rattle.acpi_base.proofs.model.isa_overrides.IsaOverrides.add.Goals.{then-source-lt16, else-source-lt16}
 

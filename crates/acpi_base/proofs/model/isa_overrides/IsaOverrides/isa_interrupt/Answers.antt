@@ -1,6 +1,6 @@
 use Rattle.std.proofs.Common.{arith, subst, sym}
 use Rattle.acpi_base.specs.IsaOverrides.{IsGathered}
-use Rattle.acpi_base.proofs.IsaGathered.{of_free, of_taken}
+use Rattle.acpi_base.proofs.Isa.{of_free, of_taken}
 use Rattle.acpi_base.proofs.model.isa_overrides.IsaOverrides.isa_interrupt.Goals as goal
 
 pub returns-then-taken : goal.returns-then-taken

@@ -1,5 +1,5 @@
 use Rattle.std.proofs.Common.{replicate, arith}
-use Rattle.acpi_base.proofs.IsaGathered.{all_alike, nothing_counted, nothing_gathered}
+use Rattle.acpi_base.proofs.Isa.{all_alike, nothing_counted, nothing_gathered}
 use Rattle.acpi_base.proofs.model.isa_overrides.IsaOverrides.new.Goals as goal
 
 pub invariant_of-result : goal.invariant_of-result

@@ -1,5 +1,5 @@
 use Rattle.std.proofs.Common.{◌≤◌, length, arith}
-use Rattle.acpi_base.proofs.EntryCounts.{items_few}
+use Rattle.acpi_base.proofs.EntryLists.{items_few}
 use Rattle.acpi_base.proofs.model.items.PhysicalMapping+H+Madt.items.Goals as goal
 
 pub returns-clause-few : goal.returns-clause-few

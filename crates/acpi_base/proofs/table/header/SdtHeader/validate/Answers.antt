@@ -1,5 +1,5 @@
 use Rattle.std.proofs.Common.{arith}
-use Rattle.acpi_base.proofs.Damage.{damage_shows}
+use Rattle.acpi_base.proofs.Sums.{damage_shows}
 use Rattle.acpi_base.proofs.table.header.SdtHeader.validate.Goals as goal
 
 pub returns-clause-damage : goal.returns-clause-damage
