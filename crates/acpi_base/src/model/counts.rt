@@ -1,11 +1,11 @@
 //! The number of items to gather, or the refusal.
 ghost use Rattle.std.specs.Prelude.{◌≡◌};
-ghost use Rattle.acpi_base.specs.Items.{counted};
+ghost use Rattle.acpi_base.specs.Items.{counted, model_counts};
 
 use super::item::MadtItem;
 use crate::bytes::skip;
 use crate::entries::split_front;
-use crate::error::MadtError;
+use crate::error::{AcpiError, AcpiResult, MadtError};
 use crate::memory::handler::PhysicalRecord;
 use crate::tables::madt::{MADT_GRAMMAR, Madt};
 
@@ -27,9 +27,21 @@ pub struct Counts {
 }
 
 impl Counts {
+    /// The counts of the items in a MADT's bytes.
+    ///
+    /// Refuses with `InvalidMadt`, carrying the first fault.
+    pub(super) fn of_madt(table: &[u8]) -> AcpiResult<Counts>
+        ensures { result ≡ model_counts table.now }
+    {
+        match Counts::of(table) {
+            Ok(counts) => Ok(counts),
+            Err(fault) => Err(AcpiError::InvalidMadt(fault)),
+        }
+    }
+
     /// The counts of the items in a MADT's bytes, or the first fault: that of an entry, or
     /// `InvalidEntryLength` if bytes are left in which no entry begins.
-    pub(super) fn of(table: &[u8]) -> Result<Counts, MadtError>
+    fn of(table: &[u8]) -> Result<Counts, MadtError>
         ensures { result ≡ counted table.now }
     {
         let mut counts = Counts {

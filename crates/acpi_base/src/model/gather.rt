@@ -12,7 +12,7 @@ use super::counts::Counts;
 use super::interrupt::InterruptModel;
 use crate::bytes::skip;
 use crate::entries::split_whole;
-use crate::error::{AcpiError, AcpiResult};
+use crate::error::AcpiResult;
 use crate::memory::handler::PhysicalRecord;
 use crate::tables::madt::{MADT_GRAMMAR, Madt};
 use std::alloc::Allocator;
@@ -52,7 +52,7 @@ pub(crate) fn model_in<A: Allocator + Clone>(
 ) -> AcpiResult<ModelAndProcessors<A>>
     ensures { GivesOrFull (AsksMemory table.now) result (model_with madt.now table.now) }
 {
-    let counts = Counts::of(table).map_err(AcpiError::InvalidMadt)?;
+    let counts = Counts::of_madt(table)?;
     if !counts.is_of_apic {
         return Ok((InterruptModel::Unknown, None));
     }

@@ -5,7 +5,7 @@ use super::counts::Counts;
 use super::item::MadtItem;
 use crate::bytes::skip;
 use crate::entries::split_front;
-use crate::error::{AcpiError, AcpiResult};
+use crate::error::AcpiResult;
 use crate::memory::handler::{Lender, PhysicalRecord};
 use crate::memory::mapping::PhysicalMapping;
 use crate::tables::madt::{MADT_GRAMMAR, Madt};
@@ -41,7 +41,7 @@ impl<'h, H: Lender> PhysicalMapping<'h, H, Madt> {
     pub fn model_counts(&self) -> AcpiResult<Counts>
         ensures { result ≡ model_counts (bytes_of self.now) }
     {
-        Counts::of(self.bytes()).map_err(AcpiError::InvalidMadt)
+        Counts::of_madt(self.bytes())
     }
 }
 
