@@ -3,7 +3,7 @@
 ghost use Rattle.std.specs.Prelude.{◌≡◌};
 ghost use Rattle.acpi_base.specs.Address.{generic_address_of};
 
-use crate::bytes::{field, filled};
+use crate::bytes::{field_in, filled, u8_in};
 use crate::error::{AcpiError, AcpiResult};
 use crate::memory::handler::PhysicalRecord;
 
@@ -149,14 +149,14 @@ impl GenericAddress {
     pub fn from_raw(raw: RawAddress) -> AcpiResult<GenericAddress>
         ensures { result ≡ generic_address_of raw }
     {
-        let address_space = AddressSpace::try_from(field(&raw, 0, 1) as u8)?; // Address Space ID
-        let access_size = AccessSize::try_from(field(&raw, 3, 1) as u8)?; // Access Size
+        let address_space = AddressSpace::try_from(u8_in(&raw, 0))?; // Address Space ID
+        let access_size = AccessSize::try_from(u8_in(&raw, 3))?; // Access Size
         Ok(GenericAddress {
             address_space,
-            bit_width: field(&raw, 1, 1) as u8, // Register Bit Width
-            bit_offset: field(&raw, 2, 1) as u8, // Register Bit Offset
+            bit_width: u8_in(&raw, 1), // Register Bit Width
+            bit_offset: u8_in(&raw, 2), // Register Bit Offset
             access_size,
-            address: field(&raw, 4, 8), // Address
+            address: field_in(&raw, 4, 8), // Address
         })
     }
 }
