@@ -1,3 +1,2 @@
-pub mod Domain
-pub mod Found
+pub mod Affinities
 pub mod SratCounts

@@ -5,7 +5,7 @@ use Rattle.acpi_base.specs.declared.error.AcpiError.TheVariants.{AllocError}
 use Rattle.acpi_numa.specs.declared.error.NumaError.{NumaError}
 use Rattle.acpi_numa.specs.declared.error.NumaError.TheVariants.{Acpi}
 
--- what is said of a table, or why there is no table: an error of the lookup becomes `Acpi` of it
+-- what is said of the table that a lookup finds, or the lookup's error `e` as `Acpi e`
 abbrev pub joined : {A : Type 0} → Result (Result A NumaError) AcpiError → Result A NumaError
 joined (Ok said) = said
 joined (Err e) = Err (Acpi e)

@@ -1,4 +1,4 @@
-use Rattle.acpi_numa.proofs.Domain.{domain_first}
+use Rattle.acpi_numa.proofs.Affinities.{domain_first}
 use Rattle.acpi_numa.proofs.srat.affinities.MemoryAffinities.domain_of.Goals as goal
 
 pub returns-clause-first : goal.returns-clause-first

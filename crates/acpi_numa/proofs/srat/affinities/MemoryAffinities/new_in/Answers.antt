@@ -1,6 +1,6 @@
 use Rattle.acpi.proofs.Agreed.{from_tables}
 use Rattle.acpi.proofs.Moved.{moved_tables}
-use Rattle.acpi_numa.proofs.Found.{affinities_follow, same_affinities}
+use Rattle.acpi_numa.proofs.Affinities.{affinities_follow, same_affinities}
 use Rattle.acpi_numa.proofs.srat.affinities.MemoryAffinities.new_in.Goals as goal
 
 pub returns-clause-footprint : goal.returns-clause-footprint
