@@ -1,5 +1,3 @@
 pub mod Images
 pub mod Listing
-pub mod Records
-pub mod Rest
 pub mod Sharing

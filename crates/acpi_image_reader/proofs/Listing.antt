@@ -1,19 +1,20 @@
 -- Regions by their starts: the last one that starts at an address or below it is the only one that
 -- can hold the address.
-use Rattle.std.proofs.Common.{Option, ◌≡◌, ℕ, zero, suc, ◌-◌, ◌<◌, ◌≤◌, ◌==◌, ◌&&◌, nat_lt, Bool, true, false, List, [], ◌∷◌, ◌++◌, length, drop, slice_index_or, Some, None, IsSome, refl, sym, ap, subst, ◌∙◌, arith, inl, inr, ◌⊎◌}
-use Rattle.std.proofs.lemmas.Bool.{and_parts, and_from, ltb-true, lt-ltb, eqb-true, cases_lt, or_right}
-use Rattle.std.proofs.Common.{eq-eqb, ne_eqb, cond}
-use Rattle.std.proofs.lemmas.Bool.{and_right, cases_eq, le-ltb}
+use Rattle.std.proofs.Common.{Option, ◌≡◌, ℕ, zero, suc, ◌-◌, ◌<◌, ◌≤◌, ◌==◌, ◌&&◌, nat_lt, Bool, true, false, List, [], ◌∷◌, ◌++◌, length, drop, slice_index_or, Some, None, IsSome, refl, sym, ap, subst, ◌∙◌, arith, inl, inr, ◌⊎◌, eq-eqb, ne_eqb, cond, take}
+use Rattle.std.proofs.lemmas.Bool.{and_parts, and_from, ltb-true, lt-ltb, eqb-true, cases_lt, or_right, and_right, cases_eq, le-ltb, le-leb, lt-leb, and_left}
 use Rattle.std.proofs.lemmas.Bool.Decides.{nat_tests}
 use Rattle.std.specs.BTreeMap.{BTreeMap, get}
 use Rattle.std.specs.Option.{option_map}
 use Rattle.std.specs.Ordering.{is_eq, nat_cmp}
 use Rattle.std.proofs.lemmas.List.Elements.{All-from_recursion, All-contains, recursion_from_All, Contains-get_or}
 use Rattle.std.specs.List.{AllByRecursion, Contains}
-use Rattle.acpi_base.specs.Memory.{Memory, Region, AreApart, IsMemory, end_of, lies_in, rest_from}
+use Rattle.acpi_base.specs.Memory.{Memory, Region, AreApart, IsMemory, end_of, lies_in, rest_from, at}
 use Rattle.acpi_image_reader.specs.Image.{share, shares_any}
 use Rattle.acpi_image_reader.specs.Starts.{AreAllApart, ListsStarts, bytes_at}
 use Rattle.acpi_image_reader.proofs.Sharing.{all_apart, apart_is, inside, shares_none, within}
+use Rattle.std.proofs.Math.Seq.{take-length}
+use Rattle.acpi_image_reader.specs.Regions.{region_of}
+use Rattle.acpi_image_reader.specs.declared.record.Record.{Record}
 
 pub all_apart_in : (m : Memory) → IsMemory m → AreAllApart m
 all_apart_in [] h = tt
@@ -312,3 +313,31 @@ module _ {X : Type 0} (view : X → List ℕ) (starts : BTreeMap ℕ X) (m : Mem
 
   pub some_listed : (a : ℕ) → IsSome (bytes_at m a) → IsSome (get nat_cmp starts a)
   some_listed a some = some_mapped view (get nat_cmp starts a) (rw (h a) some)
+
+-- ---- what is lent, from the rest of a region
+
+pub at_rest : (m : Memory) (a : ℕ) (s : List ℕ) → s ≡ rest_from m a → at m a (length s) ≡ Some s
+unfolding at
+at_rest m a s e =
+    let fits : length s ≤ length (rest_from m a) = rw e (omega arith) in
+    let whole : take (length s) (rest_from m a) ≡ s = rw (← e) (take-length s) in
+    rw (le-leb _ _ fits, whole) refl
+
+pub at_none : (m : Memory) (a n : ℕ) (s : List ℕ) → s ≡ rest_from m a → length s < n → at m a n ≡ None
+unfolding at
+at_none m a n s e h =
+    let short : length (rest_from m a) < n = rw (← e) h in
+    rw (lt-leb _ _ short) refl
+
+pub is_inside : (r : Record) (a : ℕ) → r.start ≤ a → a - r.start < length r.bytes.now → lies_in (region_of r) a ≡ true
+is_inside r a low high =
+    let below : a < end_of (region_of r) = omega arith in
+    and_from _ _ (le-leb _ _ low) (lt-ltb _ _ below)
+
+pub is_above : (r : Record) (a : ℕ) → r.start ≤ a → length r.bytes.now ≤ a - r.start → lies_in (region_of r) a ≡ false
+is_above r a low high =
+    let above : end_of (region_of r) ≤ a = omega arith in
+    and_right _ _ (le-ltb _ _ above)
+
+pub is_below : (r : Record) (a : ℕ) → a < r.start → lies_in (region_of r) a ≡ false
+is_below r a low = and_left _ _ (lt-leb _ _ low)

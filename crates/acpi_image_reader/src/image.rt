@@ -80,7 +80,7 @@ impl AcpiHandler for MemoryImage<'_> {
     /// Lends all bytes from a physical address to the end of its record.
     ///
     /// Refuses with `MapFailed` if no record has `size` bytes from that address on.
-    #[tactic(auto, using(crate::proofs::Rest::at_rest, crate::proofs::Rest::at_none))]
+    #[tactic(auto, using(crate::proofs::Listing::at_rest, crate::proofs::Listing::at_none))]
     fn map_physical_region(&self, address: u64, size: usize) -> AcpiResult<&[u8]>
         requires { 0 < size }
         ensures enough { IfOk result (λ s. size ≤ length s.now) }

@@ -1,4 +1,4 @@
-use Rattle.acpi_image_reader.proofs.Records.{IsReading}
+use Rattle.acpi_image_reader.proofs.Images.{IsReading}
 use Rattle.acpi_image_reader.specs.Regions.{regions_of}
 use Rattle.std.proofs.Common.{length}
 use Rattle.acpi_image_reader.proofs.reader.records_of.Given as goal
