@@ -1,5 +1,4 @@
 pub mod Checked
-pub mod Overlaps
 pub mod Placed
 pub mod Places
 pub mod Summed

@@ -21,6 +21,7 @@ pub fn written_is_read()
 {}
 
 /// The headers of the tables in an image that is written are those of every memory with its valid tables.
+#[tactic(auto, using(crate::proofs::WrittenLaws::headers_say))]
 pub fn written_headers()
     ensures { SaysOfTables (λ m ps. Ok (valid_headers m ps)) }
 {}
@@ -33,11 +34,13 @@ pub fn written_platform<A: Allocator>()
 
 /// The event timer block of the HPET in an image that is written is that of every memory with its valid
 /// tables.
+#[tactic(auto, using(crate::proofs::WrittenLaws::hpet_says))]
 pub fn written_hpet()
     ensures { SaysOfTables hpet_of }
 {}
 
 /// The regions of the MCFG in an image that is written are those of every memory with its valid tables.
+#[tactic(auto, using(crate::proofs::WrittenLaws::regions_say))]
 pub fn written_regions()
     ensures { SaysOfTables found_regions }
 {}
