@@ -1,13 +1,10 @@
 pub mod Agreed
-pub mod AgreedOpened
 pub mod Among
 pub mod Ascending
 pub mod Asked
 pub mod Calls
-pub mod Equalities
 pub mod First
 pub mod Moved
-pub mod Passed
 pub mod Places
 pub mod Placing
 pub mod Search

@@ -17,7 +17,7 @@ use Rattle.acpi_base.specs.Table.{Kind, plain_kind, table_at}
 use Rattle.acpi_fixed.specs.Fadt.{dsdt_address_of, facs_address_of, fadt_at}
 use Rattle.acpi_fixed.specs.declared.fadt.Fadt.{Fadt}
 use Rattle.acpi.proofs.Agreed.{same_each, same_lookup}
-use Rattle.acpi.proofs.Passed.{filter_map_few, one_more, pointers_few}
+use Rattle.acpi.proofs.First.{filter_map_few, one_more, pointers_few}
 use Rattle.acpi.specs.Footprint.{header_ranges, lookup_ranges}
 use Rattle.acpi.specs.Lists.{fadt_kind, own_header_at}
 use Rattle.acpi.specs.Lookup.{lookup}

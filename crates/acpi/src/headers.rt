@@ -4,9 +4,10 @@ ghost use Rattle.acpi_base.specs.Ranges.{Allows};
 ghost use Rattle.acpi.specs.Footprint.{header_ranges};
 ghost use Rattle.acpi.specs.Pointers.{pointers_left};
 
+use crate::members::own_header;
 use crate::pointers::Pointers;
 use acpi_base::Lender;
-use acpi_base::sdt::{SdtHeader, map_own_sdt};
+use acpi_base::sdt::SdtHeader;
 
 /// The headers (section 5.2.6) of all members that are valid under the signatures that they have, in the
 /// order of the root table, as `AcpiTables::headers` gives them. A table that is listed twice comes twice.
@@ -43,11 +44,10 @@ impl<H: Lender> Iterator for SdtHeaderIterator<'_, '_, H> {
 
     ghost remaining = { item_count (headers_left H.memory) };
 
-    #[tactic(auto, unfolding(crate::specs::Lists::own_header_at))]
     fn next(&mut self) -> Option<SdtHeader> {
         while let Some(address) = self.pointers.next() {
-            if let Ok(table) = map_own_sdt(self.handler, address) {
-                return Some(*table.get());
+            if let Ok(header) = own_header(self.handler, address) {
+                return Some(header);
             }
         }
         None

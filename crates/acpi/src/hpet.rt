@@ -4,7 +4,7 @@ ghost use Rattle.acpi_base.specs.Bits.{bits_of};
 ghost use Rattle.acpi.specs.Hpet.{protection_of};
 
 use crate::tables::AcpiTables;
-use acpi_base::bytes::{bits, field_in, has_bit};
+use acpi_base::bytes::{bits, field_in, has_bit, u8_in, u16_in, u32_in};
 use acpi_base::sdt::SdtHeader;
 use acpi_base::table::sum_refusal;
 use acpi_base::{AcpiError, AcpiResult, AcpiTable, Lender, PhysicalRecord, Signature};
@@ -35,12 +35,12 @@ impl PhysicalRecord for HpetTable {
     fn read(bytes: &[u8]) -> Self {
         HpetTable {
             header: SdtHeader::read(bytes),
-            event_timer_block_id: field_in(bytes, 36, 4) as u32, // Event Timer Block ID
-            address_space: field_in(bytes, 40, 1) as u8, // BASE_ADDRESS: Address Space ID
+            event_timer_block_id: u32_in(bytes, 36), // Event Timer Block ID
+            address_space: u8_in(bytes, 40), // BASE_ADDRESS: Address Space ID
             address: field_in(bytes, 44, 8), // BASE_ADDRESS: Address
-            hpet_number: field_in(bytes, 52, 1) as u8, // HPET Number
-            clock_tick_unit: field_in(bytes, 53, 2) as u16, // Main Counter Minimum Clock_tick in Periodic Mode
-            page_protection_and_oem: field_in(bytes, 55, 1) as u8, // Page Protection And OEM Attribute
+            hpet_number: u8_in(bytes, 52), // HPET Number
+            clock_tick_unit: u16_in(bytes, 53), // Main Counter Minimum Clock_tick in Periodic Mode
+            page_protection_and_oem: u8_in(bytes, 55), // Page Protection And OEM Attribute
         }
     }
 }
@@ -136,8 +136,10 @@ impl HpetInfo {
         requires { AllowsBelow tables.now (λ m. lookup_ranges m hpet_kind) }
         ensures { result ≡ of_tables tables.now hpet_of }
     {
-        let table = tables.find_table::<HpetTable>()?;
-        HpetInfo::of(&table)
+        match tables.find_table::<HpetTable>() {
+            Ok(table) => HpetInfo::of(&table),
+            Err(error) => Err(error),
+        }
     }
 
     /// The event timer block that a table describes, or its refusal.

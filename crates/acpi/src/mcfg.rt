@@ -9,7 +9,7 @@ mod ecam;
 use crate::tables::AcpiTables;
 use acpi_base::managed_slice::ManagedSlice;
 pub use acpi_base::mcfg::{Mcfg, McfgEntry, McfgEntryIter};
-use acpi_base::{AcpiResult, Lender};
+use acpi_base::{AcpiError, AcpiResult, Lender};
 pub use ecam::EcamRanges;
 use std::alloc::{AllocError, Allocator, Global};
 use std::marker::Model;
@@ -90,11 +90,15 @@ impl<A: Allocator> PciConfigRegions<A> {
         ensures { GivesOrFull (of_tables tables.now RegionsAsk) result
             (of_tables tables.now found_regions) }
     {
-        let mcfg = tables.find_table::<Mcfg>()?;
-        let regions = collected(mcfg.entries(), allocator)?;
-        Ok(PciConfigRegions {
-            regions: ManagedSlice::from_vec(regions),
-        })
+        match tables.find_table::<Mcfg>() {
+            Ok(mcfg) => match collected(mcfg.entries(), allocator) {
+                Ok(regions) => Ok(PciConfigRegions {
+                    regions: ManagedSlice::from_vec(regions),
+                }),
+                Err(_) => Err(AcpiError::AllocError),
+            },
+            Err(error) => Err(error),
+        }
     }
 
     /// The physical address of a PCI function's configuration space, if a region's base is that of the
@@ -131,8 +135,10 @@ impl<A: Allocator> PciConfigRegions<A> {
         if device > 31 || function > 7 {
             return None;
         }
-        let region = region_for(self.regions.as_slice(), segment, bus)?;
-        function_address(&region, bus, device, function)
+        match region_for(self.regions.as_slice(), segment, bus) {
+            Some(region) => function_address(&region, bus, device, function),
+            None => None,
+        }
     }
 
     /// Each region once, in the order of the table, also those that hold no bus.

@@ -66,10 +66,12 @@ ghost use Rattle.acpi.specs.Lists.{own_header_at};
 
 /// The header of the table at an address, if that is valid under the signature that it has.
 #[tactic(auto, unfolding(crate::specs::Lists::own_header_at))]
-fn own_header<H: Lender>(handler: &H, address: u64) -> AcpiResult<SdtHeader>
+pub(crate) fn own_header<H: Lender>(handler: &H, address: u64) -> AcpiResult<SdtHeader>
     requires { Allows (H.may handler.now) (own_table_ranges (H.memory handler.now) address) }
     ensures { result ≡ own_header_at (H.memory handler.now) address }
 {
-    let table = map_own_sdt(handler, address)?;
-    Ok(*table.get())
+    match map_own_sdt(handler, address) {
+        Ok(table) => Ok(*table.get()),
+        Err(error) => Err(error),
+    }
 }

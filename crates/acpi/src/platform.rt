@@ -48,14 +48,16 @@ impl<A: Allocator + Clone> Clone for PlatformInfo<A> {
         × ⟦<Option<ProcessorInfo<A>> as Clone>⟧.is_infallible x.processor_info };
 
     fn clone(&self) -> Result<PlatformInfo<A>, AllocError> {
-        let interrupt_model = self.interrupt_model.clone()?;
-        match self.processor_info.clone() {
-            Ok(processor_info) => Ok(PlatformInfo {
-                power_profile: self.power_profile,
-                interrupt_model,
-                processor_info,
-                pm_timer: self.pm_timer,
-            }),
+        match self.interrupt_model.clone() {
+            Ok(interrupt_model) => match self.processor_info.clone() {
+                Ok(processor_info) => Ok(PlatformInfo {
+                    power_profile: self.power_profile,
+                    interrupt_model,
+                    processor_info,
+                    pm_timer: self.pm_timer,
+                }),
+                Err(refused) => Err(refused),
+            },
             Err(refused) => Err(refused),
         }
     }
@@ -109,8 +111,13 @@ impl<A: Allocator + Clone> PlatformInfo<A> {
         requires { AllowsBelow tables.now platform_ranges }
         ensures { GivesPlatform tables.now result }
     {
-        let fadt = tables.find_fadt_exact()?;
-        PlatformInfo::beside(fadt.power_profile(), PmTimer::of(&fadt), tables, allocator)
+        match tables.find_fadt_exact() {
+            Ok(fadt) => {
+                let timer = PmTimer::of(&fadt);
+                PlatformInfo::beside(fadt.power_profile(), timer, tables, allocator)
+            }
+            Err(error) => Err(error),
+        }
     }
 
     /// The platform of the first valid MADT, and of what the FADT says: a profile, and a timer or its
@@ -125,14 +132,18 @@ impl<A: Allocator + Clone> PlatformInfo<A> {
         ensures { GivesOrFull (of_tables tables.now ModelAsks) result
             (of_tables tables.now platform_beside power_profile timer) }
     {
-        let (interrupt_model, processor_info) = found_model(tables, allocator)?;
-        let pm_timer = timer?;
-        Ok(PlatformInfo {
-            power_profile,
-            interrupt_model,
-            processor_info,
-            pm_timer,
-        })
+        match found_model(tables, allocator) {
+            Ok((interrupt_model, processor_info)) => match timer {
+                Ok(pm_timer) => Ok(PlatformInfo {
+                    power_profile,
+                    interrupt_model,
+                    processor_info,
+                    pm_timer,
+                }),
+                Err(error) => Err(error),
+            },
+            Err(error) => Err(error),
+        }
     }
 }
 

@@ -67,8 +67,7 @@ impl<H: Lender> Iterator for TableRanges<'_, '_, H> {
     ghost remaining = { item_count (places_left H.memory) };
 
     fn next(&mut self) -> Option<AddressRange> {
-        if let Some(root) = self.root {
-            self.root = None;
+        if let Some(root) = self.root.take() {
             return Some(root);
         }
         while let Some(address) = self.pointers.next() {
@@ -76,13 +75,10 @@ impl<H: Lender> Iterator for TableRanges<'_, '_, H> {
                 return Some(place);
             }
         }
-        if let Some(dsdt) = self.dsdt {
-            self.dsdt = None;
+        if let Some(dsdt) = self.dsdt.take() {
             return Some(dsdt);
         }
-        let facs = self.facs?;
-        self.facs = None;
-        Some(facs)
+        self.facs.take()
     }
 }
 
@@ -92,11 +88,13 @@ fn own_place<H: Lender>(handler: &H, address: u64) -> AcpiResult<AddressRange>
     requires { Allows (H.may handler.now) (own_table_ranges (H.memory handler.now) address) }
     ensures { result ≡ place_at (H.memory handler.now) address }
 {
-    let table = map_own_sdt(handler, address)?;
-    Ok(AddressRange {
-        address,
-        length: table.region_length() as u64,
-    })
+    match map_own_sdt(handler, address) {
+        Ok(table) => Ok(AddressRange {
+            address,
+            length: table.region_length() as u64,
+        }),
+        Err(error) => Err(error),
+    }
 }
 
 /// The length of a FACS (section 5.2.10), whose signature and length lie where those of a header do.
@@ -124,9 +122,11 @@ pub(crate) fn facs_at<H: Lender>(handler: &H, address: u64) -> AcpiResult<Addres
     let head = PhysicalMapping::<H, SdtHeader>::map(handler, address, SdtHeader::MIN_LENGTH)?;
     let length = facs_length(&head)?;
     drop(head);
-    let whole = PhysicalMapping::<H, SdtHeader>::map(handler, address, length)?;
-    Ok(AddressRange {
-        address,
-        length: whole.region_length() as u64,
-    })
+    match PhysicalMapping::<H, SdtHeader>::map(handler, address, length) {
+        Ok(whole) => Ok(AddressRange {
+            address,
+            length: whole.region_length() as u64,
+        }),
+        Err(error) => Err(error),
+    }
 }

@@ -13,7 +13,7 @@ mod search;
 
 use self::raw_bytes::RawBytes;
 use crate::root::{RootKind, RootPointer};
-use acpi_base::bytes::{byte_sum, field, is_text, text_of};
+use acpi_base::bytes::{byte_sum, field_in, is_text, text_of, u8_in, u32_in};
 use acpi_base::{AcpiError, AcpiResult, Lender, PhysicalMapping, PhysicalRecord};
 pub use given::bios_areas;
 
@@ -47,16 +47,16 @@ impl PhysicalRecord for Rsdp {
             signature: [
                 bytes[0], bytes[1], bytes[2], bytes[3], bytes[4], bytes[5], bytes[6], bytes[7],
             ],
-            checksum: field(bytes, 8, 1) as u8, // Checksum
+            checksum: u8_in(bytes, 8), // Checksum
             // OEMID
             oem_id: [
                 bytes[9], bytes[10], bytes[11], bytes[12], bytes[13], bytes[14],
             ],
-            revision: field(bytes, 15, 1) as u8, // Revision
-            rsdt_address: field(bytes, 16, 4) as u32, // RsdtAddress
-            length: field(bytes, 20, 4) as u32, // Length
-            xsdt_address: field(bytes, 24, 8), // XsdtAddress
-            ext_checksum: field(bytes, 32, 1) as u8, // Extended Checksum
+            revision: u8_in(bytes, 15), // Revision
+            rsdt_address: u32_in(bytes, 16), // RsdtAddress
+            length: u32_in(bytes, 20), // Length
+            xsdt_address: field_in(bytes, 24, 8), // XsdtAddress
+            ext_checksum: u8_in(bytes, 32), // Extended Checksum
         }
     }
 }
@@ -245,8 +245,10 @@ fn check_whole<H: Lender>(handler: &H, address: u64, length: usize) -> AcpiResul
     requires asked { H.may handler.now address length ≡ true }
     ensures { result ≡ check_whole_at (H.memory handler.now) address (Some length) }
 {
-    let whole = PhysicalMapping::<'_, H, RawBytes>::map(handler, address, length)?;
-    check_sum(whole.bytes())
+    match PhysicalMapping::<'_, H, RawBytes>::map(handler, address, length) {
+        Ok(whole) => check_sum(whole.bytes()),
+        Err(error) => Err(error),
+    }
 }
 
 /// The checks of an RSDP whose 36 bytes are mapped.
@@ -258,9 +260,10 @@ fn check_mapped<H: Lender>(handler: &H, rsdp: &PhysicalMapping<'_, H, Rsdp>) -> 
     ensures { Gives (λ _. bytes_of rsdp.now) result
         (rsdp_at (H.memory handler.now) (start_of rsdp.now)) }
 {
-    match rsdp.get().summed_length(rsdp.bytes())? {
-        None => Ok(()),
-        Some(length) => check_whole(handler, rsdp.physical_start(), length),
+    match rsdp.get().summed_length(rsdp.bytes()) {
+        Ok(None) => Ok(()),
+        Ok(Some(length)) => check_whole(handler, rsdp.physical_start(), length),
+        Err(error) => Err(error),
     }
 }
 
@@ -282,9 +285,11 @@ pub(crate) fn map_rsdp<'h, H: Lender>(
     ensures lent { IfOk result (λ m. IsOfMemory (H.memory handler.now) m) }
     ensures rsdp { Gives (λ m. bytes_of m) result (rsdp_at (H.memory handler.now) address) }
 {
-    let rsdp = PhysicalMapping::<'h, H, Rsdp>::map(handler, address, 36)?;
-    match check_mapped(handler, &rsdp) {
-        Ok(()) => Ok(rsdp),
+    match PhysicalMapping::<'h, H, Rsdp>::map(handler, address, 36) {
+        Ok(rsdp) => match check_mapped(handler, &rsdp) {
+            Ok(()) => Ok(rsdp),
+            Err(error) => Err(error),
+        },
         Err(error) => Err(error),
     }
 }

@@ -5,9 +5,9 @@ ghost use Rattle.acpi.specs.Footprint.{ssdt_ranges};
 ghost use Rattle.acpi.specs.Pointers.{pointers_left};
 
 use crate::pointers::Pointers;
-use crate::records::{AmlTable, aml_behind};
+use crate::records::{AmlTable, stream_at};
 use acpi_base::Lender;
-use acpi_base::sdt::{Signature, map_sdt};
+use acpi_base::sdt::Signature;
 
 /// The AML of all members that are valid SSDTs (section 5.2.11.2), in the order of the root table, as
 /// `AcpiTables::ssdts` gives it. A table that is listed twice comes twice.
@@ -44,11 +44,10 @@ impl<H: Lender> Iterator for SsdtIterator<'_, '_, H> {
 
     ghost remaining = { item_count (ssdts_left H.memory) };
 
-    #[tactic(auto, unfolding(crate::specs::Lists::stream_at))]
     fn next(&mut self) -> Option<AmlTable> {
         while let Some(address) = self.pointers.next() {
-            if let Ok(table) = map_sdt(self.handler, address, Signature::SSDT) {
-                return Some(aml_behind(&table));
+            if let Ok(table) = stream_at(self.handler, Signature::SSDT, address) {
+                return Some(table);
             }
         }
         None

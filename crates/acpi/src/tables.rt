@@ -13,11 +13,11 @@ use crate::faults::TableFaults;
 use crate::headers::SdtHeaderIterator;
 use crate::platform::PlatformInfo;
 use crate::pointers::Pointers;
-use crate::records::{AmlTable, aml_behind};
+use crate::records::{AmlTable, stream_at};
 use crate::root::RootKind;
 use crate::ssdts::SsdtIterator;
 use acpi_base::bytes::skip;
-use acpi_base::sdt::{SdtHeader, map_sdt};
+use acpi_base::sdt::SdtHeader;
 use acpi_base::table::{ValidTable, valid_at};
 use acpi_base::{AcpiError, AcpiResult, AcpiTable, Lender, PhysicalMapping, Signature};
 use acpi_fixed::fadt::{Fadt, FadtView};
@@ -39,21 +39,19 @@ pub struct AcpiTables<'h, H: Lender> {
 impl<'h, H: Lender> AcpiTables<'h, H> {
     ghost use Rattle.std.specs.Prelude.{◌≤◌, ◌∷◌, ◌++◌, ℕ, List};
     ghost use Rattle.std.specs.Prelude.{IfErr, IsErr, IfOk, Ok, Err};
-    ghost use Rattle.acpi_base.specs.Ranges.{Allows, table_ranges};
     ghost use Rattle.acpi_base.specs.Steps.{Gives};
-    ghost use Rattle.acpi_base.specs.Table.{plain_kind, table_at};
+    ghost use Rattle.acpi_base.specs.Table.{table_at};
     ghost use Rattle.acpi_base.specs.declared.error.AcpiError.TheVariants.{TableMissing};
-    ghost use Rattle.acpi_base.specs.declared.table.signature.TheConstants.Signature.{DSDT};
     ghost use Rattle.acpi.specs.Footprint.{AllowsBelow, FootprintBelow, dsdt_ranges, header_ranges};
     ghost use Rattle.acpi.specs.Footprint.{lookup_ranges, platform_ranges, ssdt_ranges};
-    ghost use Rattle.acpi.specs.Lists.{dsdt_stream, fadt_kind, stream_at};
+    ghost use Rattle.acpi.specs.Lists.{dsdt_stream, fadt_kind};
     ghost use Rattle.acpi.specs.Lists.{faults_of, ssdt_streams, valid_headers};
     ghost use Rattle.acpi.specs.Lookup.{IsFirstValid, NoneValid, lookup};
     ghost use Rattle.acpi.specs.PlatformAnswer.{GivesPlatform, PlatformFootprint};
     ghost use Rattle.acpi.specs.PlatformAnswer.{PlatformRelocation};
     ghost use Rattle.acpi.specs.Pointers.{pointers_left};
     ghost use Rattle.acpi.specs.Relocation.{Relocation};
-    ghost use Rattle.acpi.specs.Tables.{lender_of, may_of, memory_of, of_tables, pointers_of, revision_of};
+    ghost use Rattle.acpi.specs.Tables.{lender_of, memory_of, of_tables, pointers_of, revision_of};
     ghost use Rattle.acpi.specs.Walks.{faults_left, headers_left, ssdts_left};
 
     /// The revision that the tables were opened with: that of the RSDP (section 5.2.5.3), or the one that
@@ -98,8 +96,10 @@ impl<'h, H: Lender> AcpiTables<'h, H> {
         ensures found { Gives (λ m. (start_of m, bytes_of m)) result
             (of_tables self.now (λ m. lookup m T.kind)) }
     {
-        let found = self.first_valid::<T>()?;
-        Ok(found.mapping())
+        match self.first_valid::<T>() {
+            Ok(found) => Ok(found.mapping()),
+            Err(error) => Err(error),
+        }
     }
 
     /// The first member of the root table that is valid for `T` (sections 5.2.7 and 5.2.8): its address
@@ -161,8 +161,10 @@ impl<'h, H: Lender> AcpiTables<'h, H> {
         ensures found { Gives (λ v. (start_of v.mapping, bytes_of v.mapping)) result
             (of_tables self.now (λ m. lookup m fadt_kind)) }
     {
-        let found = self.first_valid::<Fadt>()?;
-        Ok(FadtView::new(found))
+        match self.first_valid::<Fadt>() {
+            Ok(found) => Ok(FadtView::new(found)),
+            Err(error) => Err(error),
+        }
     }
 
     /// The headers (section 5.2.6) of all members that are valid under the signatures that they have, in
@@ -219,18 +221,13 @@ impl<'h, H: Lender> AcpiTables<'h, H> {
         requires { AllowsBelow self.now dsdt_ranges }
         ensures { result ≡ of_tables self.now dsdt_stream }
     {
-        let fadt = self.find_fadt_exact()?;
-        self.dsdt_at(fadt.dsdt_address()?)
-    }
-
-    /// The AML of the DSDT at an address.
-    #[tactic(auto, unfolding(crate::specs::Lists::stream_at))]
-    fn dsdt_at(&self, address: u64) -> AcpiResult<AmlTable>
-        requires { Allows (may_of self.now) (table_ranges (memory_of self.now) (plain_kind DSDT) address) }
-        ensures { result ≡ stream_at (memory_of self.now) DSDT address }
-    {
-        let dsdt = map_sdt(self.root.handler(), address, Signature::DSDT)?;
-        Ok(aml_behind(&dsdt))
+        match self.find_fadt_exact() {
+            Ok(fadt) => match fadt.dsdt_address() {
+                Ok(address) => stream_at(self.root.handler(), Signature::DSDT, address),
+                Err(error) => Err(error),
+            },
+            Err(error) => Err(error),
+        }
     }
 
     /// Why members were passed over in a lookup of `T`: the address and the refusal of each member

@@ -1,4 +1,5 @@
 pub mod Codes
+pub mod Equalities
 pub mod Instances
 pub mod Ordered
 pub mod Placed

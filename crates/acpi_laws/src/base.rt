@@ -52,6 +52,7 @@ pub fn signature_equality(a: &Signature, b: &Signature) -> bool
 }
 
 /// Two `AcpiError`s compare as equal exactly if they are the same variant and carry the same.
+#[tactic(auto, using(acpi_base::proofs::Equalities::errors_are))]
 pub fn error_equality(a: &AcpiError, b: &AcpiError) -> bool
     ensures { IsEquality result a.now b.now }
 {
@@ -82,6 +83,7 @@ pub fn command_of_its_number(
 }
 
 /// Two `AddressSpace`s compare as equal exactly if they are the same variant with the same code.
+#[tactic(auto, using(acpi_base::proofs::Equalities::spaces_are))]
 pub fn space_equality(a: &AddressSpace, b: &AddressSpace) -> bool
     ensures { IsEquality result a.now b.now }
 {
@@ -96,6 +98,7 @@ pub fn access_size_equality(a: &AccessSize, b: &AccessSize) -> bool
 }
 
 /// Two `GenericAddress`es compare as equal exactly if all their fields are equal.
+#[tactic(auto, using(acpi_base::proofs::Equalities::addresses_are))]
 pub fn address_equality(a: &GenericAddress, b: &GenericAddress) -> bool
     ensures { IsEquality result a.now b.now }
 {
@@ -103,6 +106,7 @@ pub fn address_equality(a: &GenericAddress, b: &GenericAddress) -> bool
 }
 
 /// Two `AddressRange`s compare as equal exactly if all their fields are equal.
+#[tactic(auto, using(acpi_base::proofs::Equalities::ranges_are))]
 pub fn range_equality(a: &AddressRange, b: &AddressRange) -> bool
     ensures { IsEquality result a.now b.now }
 {
@@ -110,6 +114,7 @@ pub fn range_equality(a: &AddressRange, b: &AddressRange) -> bool
 }
 
 /// Two `SpcrInterfaceType`s compare as equal exactly if they are the same variant with the same code.
+#[tactic(auto, using(acpi_base::proofs::Equalities::interfaces_are))]
 pub fn interface_equality(a: &SpcrInterfaceType, b: &SpcrInterfaceType) -> bool
     ensures { IsEquality result a.now b.now }
 {

@@ -11,12 +11,14 @@ pub fn lent_is_inside()
 {}
 
 /// A number whose bytes reach past the end of a table is read as if zeros followed (section 5.2).
+#[tactic(auto, using(acpi_base::proofs::FieldPastEnd::field_past_end))]
 pub fn field_past_end()
     ensures { FieldPastEnd }
 {}
 
 /// A code in a generic address is decoded to the one value that has it, and refused with
 /// `InvalidGenericAddress` if there is none (section 5.2.3.2).
+#[tactic(auto, using(crate::proofs::Codes::spaces_decode, crate::proofs::Codes::sizes_decode))]
 pub fn codes_decode()
     ensures spaces { SpacesDecode }
     ensures sizes { SizesDecode }
@@ -43,6 +45,7 @@ pub fn lookup_is_first()
 {}
 
 /// A member that isn't valid, put anywhere into the list of pointers, changes nothing in a lookup.
+#[tactic(auto, using(acpi::proofs::First::skips_invalid))]
 pub fn skips_invalid()
     ensures { SkipsInvalid }
 {}

@@ -43,6 +43,7 @@ pub fn image_type_hash<H: Hasher>(form: &ImageType, state: &mut H)
 }
 
 /// The registers in the record of a FADT are those that the table's bytes give.
+#[tactic(auto, unfolding(acpi_fixed::specs::Fadt::fadt_at))]
 pub fn registers_are_the_tables(table: &[u8])
     ensures { registers_of (fadt_at table.now) ≡ registers_at table.now }
 {}

@@ -1,6 +1,7 @@
 //! The bytes of a memory that the definitions depend on. Each definition is the same over every memory that
 //! agrees on its ranges, and some follow the valid tables alone, wherever these lie.
 ghost use Rattle.acpi_base.specs.Ranges.{OwnTableDependsOn, TableDependsOn};
+ghost use Rattle.acpi.specs.Areas.{AreasDependOn, OpenedInAreasDependsOn};
 ghost use Rattle.acpi.specs.FootprintLaws.{DsdtDependsOn, FaultsDependOn, HeadersDependOn};
 ghost use Rattle.acpi.specs.FootprintLaws.{HpetDependsOn, LookupDependsOn, MailboxDependsOn};
 ghost use Rattle.acpi.specs.FootprintLaws.{PlatformDependsOn, RegionsDependOn, SsdtsDependOn};
@@ -88,37 +89,51 @@ pub fn mailbox_depends_on()
 
 /// The RSDP at an address, or its refusal, is the same over every memory that agrees on its
 /// ranges.
-#[tactic(auto, using(acpi::proofs::AgreedOpened::same_rsdp))]
+#[tactic(auto, using(acpi::proofs::Agreed::same_rsdp))]
 pub fn rsdp_depends_on()
     ensures { RsdpDependsOn }
 {}
 
 /// The RSDP that the search finds, or its refusal, is the same over every memory that agrees on
 /// its ranges.
-#[tactic(auto, using(acpi::proofs::AgreedOpened::same_search))]
+#[tactic(auto, using(acpi::proofs::Agreed::same_search))]
 pub fn search_depends_on()
     ensures { SearchDependsOn }
 {}
 
 /// The root table that is opened, or its refusal, is the same over every memory that agrees on
 /// its ranges.
-#[tactic(auto, using(acpi::proofs::AgreedOpened::same_opened))]
+#[tactic(auto, using(acpi::proofs::Agreed::same_opened))]
 pub fn opened_depends_on()
     ensures { OpenedDependsOn }
 {}
 
 /// The root table that the RSDP at an address leads to, or its refusal, is the same over every
 /// memory that agrees on its ranges.
-#[tactic(auto, using(acpi::proofs::AgreedOpened::same_opened_by_rsdp))]
+#[tactic(auto, using(acpi::proofs::Agreed::same_opened_by_rsdp))]
 pub fn opened_by_rsdp_depends_on()
     ensures { OpenedByRsdpDependsOn }
 {}
 
 /// The root table of the RSDP that the search finds, or its refusal, is the same over every memory that
 /// agrees on its ranges.
-#[tactic(auto, using(acpi::proofs::AgreedOpened::same_opened_by_search))]
+#[tactic(auto, using(acpi::proofs::Agreed::same_opened_by_search))]
 pub fn opened_by_search_depends_on()
     ensures { OpenedBySearchDependsOn }
+{}
+
+/// The RSDP that a search in given areas finds, or its refusal, is the same over every memory that agrees
+/// on its ranges.
+#[tactic(auto, using(acpi::proofs::Agreed::same_in_areas))]
+pub fn areas_depend_on()
+    ensures { AreasDependOn }
+{}
+
+/// The root table of the RSDP that a search in given areas finds, or its refusal, is the same over every
+/// memory that agrees on its ranges.
+#[tactic(auto, using(acpi::proofs::Agreed::same_opened_in_areas))]
+pub fn opened_in_areas_depends_on()
+    ensures { OpenedInAreasDependsOn }
 {}
 
 /// A lookup of a table whose header and sum are checked finds the same bytes in every memory that has

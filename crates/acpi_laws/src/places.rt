@@ -9,18 +9,21 @@ pub fn one_for_each()
 {}
 
 /// The headers that `members` gives as `Ok` are those that `headers` gives.
+#[tactic(auto, using(crate::proofs::Placed::headers_of_members))]
 pub fn headers_of_members()
     ensures { HeadersOfMembers }
 {}
 
 /// The first that `find_tables` gives is what `find_table` finds, and it gives one exactly if that
 /// succeeds.
+#[tactic(auto, using(crate::proofs::Placed::first_is_found))]
 pub fn first_is_found()
     ensures { FirstIsFound }
 {}
 
 /// `find_sdt` answers what `find_table` does for a type that asks for 36 bytes and the checks of a
 /// header, and for nothing else.
+#[tactic(auto, using(crate::proofs::Placed::found_by_signature))]
 pub fn found_by_signature()
     ensures { FoundBySignature }
 {}

@@ -20,6 +20,7 @@ impl<A: Allocator> PciConfigRegions<A> {
     /// It is `None` if no region holds the bus, if the device is above 31 or the function above 7, and
     /// if the sum is 2^64 or more; no later region is then tried. Of the 4096 bytes of configuration
     /// space only the first is promised to lie below 2^64. A base is taken as it is, aligned or not.
+    #[tactic(auto, using(crate::proofs::Places::if_beside))]
     pub fn ecam_address(
         &self,
         segment_group_no: u16,
@@ -38,8 +39,10 @@ impl<A: Allocator> PciConfigRegions<A> {
     fn ecam_address_exact(&self, segment: u16, bus: u8, device: u8, function: u8) -> Option<u64>
         ensures { result ≡ ecam_address self.now segment bus device function }
     {
-        let region = region_for(self.regions.as_slice(), segment, bus)?;
-        region.ecam_address(bus, device, function)
+        match region_for(self.regions.as_slice(), segment, bus) {
+            Some(region) => region.ecam_address(bus, device, function),
+            None => None,
+        }
     }
 
     /// The memory that the configuration space of each region takes, in the order of the table, by the

@@ -72,7 +72,10 @@ fn mailbox_address<H: Lender>(tables: &AcpiTables<'_, H>) -> AcpiResult<u64>
     requires { AllowsBelow tables.now (λ m. lookup_ranges m madt_kind) }
     ensures { result ≡ of_tables tables.now mailbox_found }
 {
-    tables.find_table::<Madt>()?.get_mpwk_mailbox_addr()
+    match tables.find_table::<Madt>() {
+        Ok(madt) => madt.get_mpwk_mailbox_addr(),
+        Err(error) => Err(error),
+    }
 }
 
 /// Wakes a processor by the mailbox at an address.
@@ -114,7 +117,6 @@ fn wake<M: Mailbox>(
 
 /// Reads the command until it is 0, at most `timeout_loops` times. Refuses with
 /// `InvalidMadt(WakeupApsTimeout)` if no read is 0.
-#[tactic(auto, using(crate::proofs::Calls::one_read, crate::proofs::Calls::woken))]
 fn wait<M: Mailbox>(mailbox: &mut M, timeout_loops: u64) -> AcpiResult<()>
     ensures answered { MatchResult result
         (λ _. Wakes (M.answer mailbox.old) timeout_loops (M.answer mailbox.new))

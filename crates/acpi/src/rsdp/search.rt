@@ -13,7 +13,7 @@ ghost use Rattle.acpi.specs.Search.{count_of, found_in, found_rsdp, last_in, pla
 use super::area::{Area, FIRST_AREA, second_area};
 use super::raw_bytes::RawBytes;
 use super::{Rsdp, map_rsdp};
-use acpi_base::bytes::field;
+use acpi_base::bytes::u16_in;
 use acpi_base::{AcpiError, AcpiResult, Lender, PhysicalMapping};
 
 /// Whether the signature of an RSDP stands at an offset.
@@ -71,8 +71,10 @@ fn search_area<'h, H: Lender>(
     ensures found { Gives (option_map placed) result (found_in (H.memory handler.now) area) }
 {
     let length = (area.end - area.start + 16) as usize;
-    let mapping = PhysicalMapping::<'h, H, RawBytes>::map(handler, area.start, length)?;
-    Ok(first_candidate(handler, area, mapping.bytes()))
+    match PhysicalMapping::<'h, H, RawBytes>::map(handler, area.start, length) {
+        Ok(mapping) => Ok(first_candidate(handler, area, mapping.bytes())),
+        Err(error) => Err(error),
+    }
 }
 
 /// The word at 40:0Eh of the BIOS data area, the segment of the EBDA: it names the second area.
@@ -81,8 +83,10 @@ fn area_word<H: Lender>(handler: &H) -> AcpiResult<u16>
     requires { H.may handler.now 0x40e 2 ≡ true }
     ensures { Gives (λ w. w) result (word_in (H.memory handler.now)) }
 {
-    let word = PhysicalMapping::<'_, H, RawBytes>::map(handler, 0x40e, 2)?;
-    Ok(field(word.bytes(), 0, 2) as u16)
+    match PhysicalMapping::<'_, H, RawBytes>::map(handler, 0x40e, 2) {
+        Ok(word) => Ok(u16_in(word.bytes(), 0)),
+        Err(error) => Err(error),
+    }
 }
 
 /// The least valid candidate of the area that is searched last.
@@ -100,7 +104,11 @@ fn search_last<'h, H: Lender>(
     ensures lent { IfOk result (λ m. IsOfMemory (H.memory handler.now) m) }
     ensures found { Gives placed result (last_in (H.memory handler.now) area) }
 {
-    search_area(handler, area)?.ok_or(AcpiError::NoValidRsdp)
+    match search_area(handler, area) {
+        Ok(Some(found)) => Ok(found),
+        Ok(None) => Err(AcpiError::NoValidRsdp),
+        Err(error) => Err(error),
+    }
 }
 
 /// The RSDP that `search_for_on_bios` answers, or its refusal: the search, step by step.
@@ -114,10 +122,10 @@ fn search_for_on_bios_exact<'h, H: Lender>(
     ensures found { Gives placed result (found_rsdp (H.memory handler.now)) }
 {
     let word = area_word(handler)?;
-    let first = search_area(handler, FIRST_AREA)?;
-    match first {
-        Some(found) => Ok(found),
-        None => search_last(handler, second_area(word)),
+    match search_area(handler, FIRST_AREA) {
+        Ok(Some(found)) => Ok(found),
+        Ok(None) => search_last(handler, second_area(word)),
+        Err(error) => Err(error),
     }
 }
 

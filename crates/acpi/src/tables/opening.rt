@@ -50,7 +50,7 @@ impl<'h, H: Lender> AcpiTables<'h, H> {
     /// not valid UTF-8, `RsdpInvalidChecksum` if the first 20 bytes don't sum to 0 modulo 256 or, above
     /// revision 0, the length is under 36, `MapFailed` if that many bytes aren't lent, and
     /// `RsdpInvalidChecksum` if they don't sum to 0 modulo 256. Then it refuses as `from_rsdt` does.
-    #[tactic(auto, using(crate::proofs::AgreedOpened::same_opened_by_rsdp))]
+    #[tactic(auto, using(crate::proofs::Agreed::same_opened_by_rsdp))]
     pub fn from_rsdp(handler: &'h H, address: u64) -> AcpiResult<Self>
         requires { Allows (H.may handler.now) (opened_by_rsdp_ranges (H.memory handler.now) address) }
         ensures handler { IfOk result (λ t. lender_of t ≡ handler.now) }
@@ -74,8 +74,10 @@ impl<'h, H: Lender> AcpiTables<'h, H> {
             (opened_by_rsdp (H.memory handler.now) address) }
         ensures pointers { IfOk result (λ t. SpellsPointers t) }
     {
-        let rsdp = map_rsdp(handler, address)?;
-        AcpiTables::from_root(handler, rsdp)
+        match map_rsdp(handler, address) {
+            Ok(rsdp) => AcpiTables::from_root(handler, rsdp),
+            Err(error) => Err(error),
+        }
     }
 
     /// The tables below the root table of the RSDP that `Rsdp::search_for_on_bios` finds (section
@@ -83,7 +85,7 @@ impl<'h, H: Lender> AcpiTables<'h, H> {
     /// is tried if the root table is bad.
     ///
     /// Refuses first as that search does, with `MapFailed` or `NoValidRsdp`, and then as `from_rsdt` does.
-    #[tactic(auto, using(crate::proofs::AgreedOpened::same_opened_by_search))]
+    #[tactic(auto, using(crate::proofs::Agreed::same_opened_by_search))]
     pub fn search_for_rsdp_bios(handler: &'h H) -> AcpiResult<Self>
         requires { Allows (H.may handler.now) (opened_by_search_ranges (H.memory handler.now)) }
         ensures handler { IfOk result (λ t. lender_of t ≡ handler.now) }
@@ -105,8 +107,10 @@ impl<'h, H: Lender> AcpiTables<'h, H> {
         ensures exact { Gives (λ t. opened_of t) result (opened_by_search (H.memory handler.now)) }
         ensures pointers { IfOk result (λ t. SpellsPointers t) }
     {
-        let rsdp = Rsdp::search_for_on_bios(handler)?;
-        AcpiTables::from_root(handler, rsdp)
+        match Rsdp::search_for_on_bios(handler) {
+            Ok(rsdp) => AcpiTables::from_root(handler, rsdp),
+            Err(error) => Err(error),
+        }
     }
 
     /// The tables below the root table that a valid RSDP leads to (sections 5.2.5.3, 5.2.7 and 5.2.8). Of
@@ -114,7 +118,7 @@ impl<'h, H: Lender> AcpiTables<'h, H> {
     /// passes all checks of the RSDP.
     ///
     /// Refuses as `from_rsdt` does.
-    #[tactic(auto, using(crate::proofs::AgreedOpened::same_opened_by_rsdp))]
+    #[tactic(auto, using(crate::proofs::Agreed::same_opened_by_rsdp))]
     pub fn from_validated_rsdp(
         handler: &'h H,
         mapping: PhysicalMapping<'h, H, Rsdp>,
@@ -150,8 +154,10 @@ impl<'h, H: Lender> AcpiTables<'h, H> {
     {
         let address = mapping.physical_start();
         drop(mapping);
-        let rsdp = PhysicalMapping::map(handler, address, Rsdp::MIN_LENGTH)?;
-        AcpiTables::from_root(handler, rsdp)
+        match PhysicalMapping::map(handler, address, Rsdp::MIN_LENGTH) {
+            Ok(rsdp) => AcpiTables::from_root(handler, rsdp),
+            Err(error) => Err(error),
+        }
     }
 
     /// The tables below the root table that an RSDP leads to, which is unmapped first.
@@ -210,11 +216,13 @@ impl<'h, H: Lender> AcpiTables<'h, H> {
         ensures exact { Gives (λ t. opened_of t) result (opened_from (H.memory handler.now) root_pointer) }
         ensures pointers { IfOk result (λ t. SpellsPointers t) }
     {
-        let root = map_root(handler, root_pointer.kind, root_pointer.address)?;
-        Ok(AcpiTables {
-            revision: root_pointer.revision,
-            kind: root_pointer.kind,
-            root,
-        })
+        match map_root(handler, root_pointer.kind, root_pointer.address) {
+            Ok(root) => Ok(AcpiTables {
+                revision: root_pointer.revision,
+                kind: root_pointer.kind,
+                root,
+            }),
+            Err(error) => Err(error),
+        }
     }
 }

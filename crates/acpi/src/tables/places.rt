@@ -196,11 +196,13 @@ impl<'h, H: Lender> AcpiTables<'h, H> {
         ensures { result ≡ dsdt_place (memory_of self.now) (viewed fadt.now) }
     {
         let address = fadt.dsdt_address()?;
-        let dsdt = map_sdt(self.root.handler(), address, Signature::DSDT)?;
-        Ok(AddressRange {
-            address,
-            length: dsdt.region_length() as u64,
-        })
+        match map_sdt(self.root.handler(), address, Signature::DSDT) {
+            Ok(dsdt) => Ok(AddressRange {
+                address,
+                length: dsdt.region_length() as u64,
+            }),
+            Err(error) => Err(error),
+        }
     }
 
     /// Where the FACS lies that a FADT leads to.
@@ -208,6 +210,9 @@ impl<'h, H: Lender> AcpiTables<'h, H> {
         requires { Allows (may_of self.now) (facs_place_ranges (memory_of self.now) (viewed fadt.now)) }
         ensures { result ≡ facs_place (memory_of self.now) (viewed fadt.now) }
     {
-        facs_at(self.root.handler(), fadt.facs_address()?)
+        match fadt.facs_address() {
+            Ok(address) => facs_at(self.root.handler(), address),
+            Err(error) => Err(error),
+        }
     }
 }

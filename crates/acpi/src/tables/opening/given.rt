@@ -19,7 +19,7 @@ impl<'h, H: Lender> AcpiTables<'h, H> {
     /// is tried if the root table is bad.
     ///
     /// Refuses first as that search does, with `NoValidRsdp`, and then as `from_rsdt` does.
-    #[tactic(auto, using(crate::proofs::AgreedOpened::same_opened_in_areas))]
+    #[tactic(auto, using(crate::proofs::Agreed::same_opened_in_areas))]
     pub fn search_in(handler: &'h H, areas: &[AddressRange]) -> AcpiResult<Self>
         requires { Allows (H.may handler.now)
             (opened_in_areas_ranges (H.memory handler.now) areas.now) }
@@ -45,7 +45,9 @@ impl<'h, H: Lender> AcpiTables<'h, H> {
             (opened_in_areas (H.memory handler.now) areas.now) }
         ensures pointers { IfOk result (λ t. SpellsPointers t) }
     {
-        let rsdp = Rsdp::search_in(handler, areas)?;
-        AcpiTables::from_root(handler, rsdp)
+        match Rsdp::search_in(handler, areas) {
+            Ok(rsdp) => AcpiTables::from_root(handler, rsdp),
+            Err(error) => Err(error),
+        }
     }
 }

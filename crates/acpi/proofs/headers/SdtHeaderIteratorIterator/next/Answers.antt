@@ -8,7 +8,7 @@ invariant_of-self g c =
     let h = c.loop-address.self.handler.now in
     record { asked = asked_kept (g.H.Lender.may h) (own_table_ranges (g.H.Lender.memory h)) (pointers_left c.loop-address.self.pointers) (pointers_left c.next.new.self) c.next.result c.next.ensures.steps c.loop-address.self.asked }
 
-pub map_own_sdt-requires : goal.map_own_sdt-requires
-map_own_sdt-requires g c =
+pub own_header-requires : goal.own_header-requires
+own_header-requires g c =
     let h = c.loop-address.self.handler.now in
     asked_each (g.H.Lender.may h) (own_table_ranges (g.H.Lender.memory h)) c.in-Some.address _ _ c.in-Some.ensures.steps c.loop-address.self.asked

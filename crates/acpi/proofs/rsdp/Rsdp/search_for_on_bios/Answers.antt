@@ -1,5 +1,5 @@
 use Rattle.acpi_base.specs.Mapping.{bytes_of, start_of}
-use Rattle.acpi.proofs.AgreedOpened.{same_search}
+use Rattle.acpi.proofs.Agreed.{same_search}
 use Rattle.acpi.proofs.Search.{found_valid, searched}
 use Rattle.acpi.proofs.rsdp.Rsdp.search_for_on_bios.Goals as goal
 

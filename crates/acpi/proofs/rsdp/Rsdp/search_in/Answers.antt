@@ -1,4 +1,4 @@
-use Rattle.acpi.proofs.AgreedOpened.{same_in_areas}
+use Rattle.acpi.proofs.Agreed.{same_in_areas}
 use Rattle.acpi.proofs.Among.{found_valid_in, searched_in}
 use Rattle.acpi.proofs.rsdp.Rsdp.search_in.Goals as goal
 

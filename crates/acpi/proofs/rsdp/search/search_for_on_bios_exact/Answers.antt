@@ -12,4 +12,4 @@ search_area-requires-clause-asked g c =
 pub search_last-requires-clause-asked : goal.search_last-requires-clause-asked
 search_last-requires-clause-asked g c =
     let h = c.args.handler.now in
-    subst (λ s. Allows (g.H.Lender.may h) (area_ranges (g.H.Lender.memory h) s)) (sym c.second_area.ensures.value) (asked_second_area (g.H.Lender.may h) (g.H.Lender.memory h) c.in_ok-word.word c.requires c.in_ok-word.ensures (rw c.in-None.is at c.in_ok-first.ensures.found))
+    subst (λ s. Allows (g.H.Lender.may h) (area_ranges (g.H.Lender.memory h) s)) (sym c.second_area.ensures.value) (asked_second_area (g.H.Lender.may h) (g.H.Lender.memory h) c.in_ok-word.word c.requires c.in_ok-word.ensures (rw c.in-Ok-None.field-0-is at c.in-Ok-None.ensures.found))

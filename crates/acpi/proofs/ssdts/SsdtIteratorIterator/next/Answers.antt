@@ -10,7 +10,7 @@ invariant_of-self g c =
     let h = c.loop-address.self.handler.now in
     record { asked = asked_kept (g.H.Lender.may h) (table_ranges (g.H.Lender.memory h) (plain_kind SSDT)) (pointers_left c.loop-address.self.pointers) (pointers_left c.next.new.self) c.next.result c.next.ensures.steps c.loop-address.self.asked }
 
-pub map_sdt-requires : goal.map_sdt-requires
-map_sdt-requires g c =
+pub stream_at-requires : goal.stream_at-requires
+stream_at-requires g c =
     let h = c.loop-address.self.handler.now in
     asked_each (g.H.Lender.may h) (table_ranges (g.H.Lender.memory h) (plain_kind SSDT)) c.in-Some.address _ _ c.in-Some.ensures.steps c.loop-address.self.asked

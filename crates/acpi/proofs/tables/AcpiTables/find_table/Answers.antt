@@ -1,7 +1,6 @@
 use Rattle.acpi.proofs.Agreed.{from_tables, same_lookup}
 use Rattle.acpi_base.specs.Mapping.{bytes_of, start_of}
-use Rattle.acpi.proofs.First.{gives_absent, gives_first, gives_missing}
-use Rattle.acpi.proofs.Passed.{gives_skipping}
+use Rattle.acpi.proofs.First.{gives_absent, gives_first, gives_missing, gives_skipping}
 use Rattle.acpi.proofs.tables.AcpiTables.find_table.Goals as goal
 
 pub returns-clause-first : goal.returns-clause-first

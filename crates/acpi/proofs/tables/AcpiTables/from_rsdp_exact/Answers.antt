@@ -9,4 +9,4 @@ map_rsdp-requires g c =
 pub from_root-requires : goal.from_root-requires
 from_root-requires g c =
     let h = c.args.handler.now in
-    asked_root (g.H.Lender.may h) (g.H.Lender.memory h) c.args.address _ c.requires c.in_ok-rsdp.ensures.rsdp
+    asked_root (g.H.Lender.may h) (g.H.Lender.memory h) c.args.address _ c.requires c.in-Ok.ensures.rsdp

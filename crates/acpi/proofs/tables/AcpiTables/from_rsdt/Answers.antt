@@ -1,4 +1,4 @@
-use Rattle.acpi.proofs.AgreedOpened.{same_opened}
+use Rattle.acpi.proofs.Agreed.{same_opened}
 use Rattle.acpi.specs.Root.{root_of_revision}
 use Rattle.acpi.proofs.tables.AcpiTables.from_rsdt.Goals as goal
 

@@ -1,10 +1,13 @@
 use Rattle.std.proofs.Common.{refl}
 use Rattle.acpi.proofs.Agreed.{from_tables, in_ok}
-use Rattle.acpi.proofs.Passed.{fits_root}
+use Rattle.acpi.proofs.First.{fits_root}
 use Rattle.acpi.proofs.Placing.{addresses_are, members_few, same_members}
 use Rattle.acpi.specs.Root.{width_of}
 use Rattle.acpi.specs.Tables.{kind_of, root_of}
 use Rattle.acpi.proofs.tables.AcpiTables.members.Goals as goal
+
+pub returns-clause-items : goal.returns-clause-items
+returns-clause-items g c = rw (c.new.ensures, c.handler.ensures, c.pointers.ensures) refl
 
 pub returns-clause-each : goal.returns-clause-each
 returns-clause-each g c = rw (c.new.ensures, c.pointers.ensures) (addresses_are _ _)

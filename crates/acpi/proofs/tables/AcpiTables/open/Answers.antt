@@ -1,6 +1,6 @@
 use Rattle.acpi.proofs.Spelled.{root_pointers}
 use Rattle.acpi.proofs.tables.AcpiTables.open.Goals as goal
 
-pub returns-clause-pointers : goal.returns-clause-pointers
-returns-clause-pointers g c =
-    root_pointers _ c.args.root_pointer.kind c.args.root_pointer.address _ (g.met.H.Lender.regions c.args.handler.now) c.in_ok-root.ensures.root
+pub returns-in-Ok-clause-pointers : goal.returns-in-Ok-clause-pointers
+returns-in-Ok-clause-pointers g c =
+    root_pointers _ c.args.root_pointer.kind c.args.root_pointer.address _ (g.met.H.Lender.regions c.args.handler.now) c.in-Ok.ensures.root

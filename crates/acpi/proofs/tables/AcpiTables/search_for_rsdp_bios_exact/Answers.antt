@@ -9,4 +9,4 @@ search_for_on_bios-requires g c =
 pub from_root-requires : goal.from_root-requires
 from_root-requires g c =
     let h = c.args.handler.now in
-    asked_found (g.H.Lender.may h) (g.H.Lender.memory h) _ c.requires c.in_ok-rsdp.ensures.exact
+    asked_found (g.H.Lender.may h) (g.H.Lender.memory h) _ c.requires c.in-Ok.ensures.exact

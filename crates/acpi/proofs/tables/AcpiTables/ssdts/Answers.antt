@@ -1,9 +1,12 @@
 use Rattle.std.proofs.Common.{refl}
 use Rattle.acpi.proofs.Agreed.{from_tables, in_ok, same_ssdts}
-use Rattle.acpi.proofs.Passed.{filter_map_few, fits_root}
+use Rattle.acpi.proofs.First.{filter_map_few, fits_root}
 use Rattle.acpi.specs.Root.{width_of}
 use Rattle.acpi.specs.Tables.{kind_of, root_of}
 use Rattle.acpi.proofs.tables.AcpiTables.ssdts.Goals as goal
+
+pub returns-clause-items : goal.returns-clause-items
+returns-clause-items g c = rw (c.new.ensures, c.handler.ensures, c.pointers.ensures) refl
 
 pub returns-clause-few : goal.returns-clause-few
 returns-clause-few g c = rw (c.new.ensures, c.pointers.ensures) (filter_map_few _ _)
