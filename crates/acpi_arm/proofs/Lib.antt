@@ -1,2 +1,1 @@
-mod Equalities
-mod Found
+mod Theorems

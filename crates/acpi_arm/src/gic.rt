@@ -123,7 +123,7 @@ impl<A: Allocator + Copy> GicModel<A> {
             (of_tables tables.now found_gic) }
     {
         let madt = tables.find_table::<Madt>()?;
-        GicModel::of(madt.bytes(), allocator)
+        madt.gic_model_in(allocator)
     }
 }
 

@@ -6,7 +6,7 @@ ghost use Rattle.acpi_arm.specs.Gtdt.{arm_timer_at};
 pub use crate::frames::{GtFrame, GtFrameIter, TimerInterrupt};
 use crate::interrupt::{polarity_in, trigger_in, unless_ones};
 pub use crate::timers::{GtBlock, PlatformTimer, PlatformTimerIter, SbsaWatchdog};
-use acpi_base::bytes::{field_in, has_bit};
+use acpi_base::bytes::{field_in, has_bit, u32_in};
 use acpi_base::extended::ExtendedField;
 use acpi_base::model::{Polarity, TriggerMode};
 use acpi_base::sdt::SdtHeader;
@@ -45,9 +45,9 @@ fn timer_in(bytes: &[u8], offset: usize) -> ArmTimer
     requires { offset + 8 ≤ length bytes.now }
     ensures { result ≡ arm_timer_at bytes.now offset }
 {
-    let flags = field_in(bytes, offset + 4, 4) as u32; // Flags
+    let flags = u32_in(bytes, offset + 4); // Flags
     ArmTimer {
-        interrupt: field_in(bytes, offset, 4) as u32, // GSIV
+        interrupt: u32_in(bytes, offset), // GSIV
         trigger_mode: trigger_in(flags, 0), // Timer interrupt Mode
         polarity: polarity_in(flags, 1), // Timer Interrupt polarity
         always_on: has_bit(flags as u64, 2), // Always-on Capability
@@ -97,8 +97,8 @@ impl PhysicalRecord for Gtdt {
             virtual_el1_timer: timer_in(bytes, 64), // Virtual EL1 Timer GSIV, Virtual EL1 Timer Flags
             el2_timer: timer_in(bytes, 72), // EL2 Timer GSIV, EL2 Timer Flags
             read_base: field_in(bytes, 80, 8), // CntReadBase Physical Address
-            platform_timer_count: field_in(bytes, 88, 4) as u32, // Platform Timer Count
-            platform_timer_offset: field_in(bytes, 92, 4) as u32, // Platform Timer Offset
+            platform_timer_count: u32_in(bytes, 88), // Platform Timer Count
+            platform_timer_offset: u32_in(bytes, 92), // Platform Timer Offset
             el2_virtual: ExtendedField::read(bytes, 96), // Virtual EL2 Timer GSIV, Virtual EL2 Timer Flags
         }
     }

@@ -33,6 +33,7 @@ pub fn spi_range_equality(a: &SpiRange, b: &SpiRange) -> bool
 }
 
 /// Two `ArmTimer`s compare as equal exactly if all their fields are equal.
+#[tactic(auto, using(crate::proofs::Theorems::timers_are))]
 pub fn arm_timer_equality(a: &ArmTimer, b: &ArmTimer) -> bool
     ensures { IsEquality result a.now b.now }
 {
@@ -40,6 +41,7 @@ pub fn arm_timer_equality(a: &ArmTimer, b: &ArmTimer) -> bool
 }
 
 /// Two `TimerInterrupt`s compare as equal exactly if all their fields are equal.
+#[tactic(auto, using(crate::proofs::Theorems::interrupts_are))]
 pub fn timer_interrupt_equality(a: &TimerInterrupt, b: &TimerInterrupt) -> bool
     ensures { IsEquality result a.now b.now }
 {

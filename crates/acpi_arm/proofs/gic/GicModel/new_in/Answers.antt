@@ -1,6 +1,6 @@
 use Rattle.acpi.proofs.Agreed.{from_tables}
 use Rattle.acpi.proofs.Moved.{moved_tables}
-use Rattle.acpi_arm.proofs.Found.{gic_follows, same_gic}
+use Rattle.acpi_arm.proofs.Theorems.{gic_follows, same_gic}
 use Rattle.acpi_arm.proofs.gic.GicModel.new_in.Goals as goal
 
 pub returns-clause-footprint : goal.returns-clause-footprint

@@ -1,5 +1,14 @@
--- Timers compare as equal exactly if their fields do.
-use Rattle.std.proofs.Common.{rules, ℕ, Bool, true, false, refl}
+-- A GIC depends on the valid MADT alone, wherever it lies, and timers compare as equal exactly if their fields do.
+use Rattle.std.proofs.Common.{lit≤, rules, ℕ, Bool, true, false, refl}
+use Rattle.acpi_base.specs.Ranges.{DependsOn}
+use Rattle.acpi_base.specs.Steps.{◌>>=◌}
+use Rattle.acpi_base.specs.declared.table.signature.TheConstants.Signature.{MADT}
+use Rattle.acpi.proofs.Agreed.{same_said}
+use Rattle.acpi.proofs.Moved.{said_follows}
+use Rattle.acpi.specs.Footprint.{lookup_ranges}
+use Rattle.acpi.specs.Platform.{madt_kind}
+use Rattle.acpi.specs.Relocation.{FollowsTables}
+use Rattle.acpi_arm.specs.Gic.{found_gic, gic_of}
 use mathlib.Core.Bool.{beq}
 use Rattle.acpi_base.proofs.Equalities.{made, numbers_are, pairs}
 use Rattle.acpi_base.specs.Equality.{IsEquality}
@@ -11,6 +20,14 @@ use Rattle.acpi_arm.specs.contracts.frames.TimerInterruptPartialEq.TheImpl as in
 use Rattle.acpi_arm.specs.contracts.gtdt.ArmTimerPartialEq.TheImpl as timers
 use Rattle.acpi_arm.specs.declared.frames.TimerInterrupt.{TimerInterrupt}
 use Rattle.acpi_arm.specs.declared.gtdt.ArmTimer.{ArmTimer}
+
+pub same_gic : {A : Type 0} → DependsOn (λ m. lookup_ranges m madt_kind) (λ m ps. found_gic {A = A} m ps)
+same_gic m n ps h = same_said madt_kind m n ps (λ r. r >>= λ f. gic_of f.1) h
+
+pub gic_follows : {A : Type 0} → FollowsTables (λ m ps. found_gic {A = A} m ps)
+gic_follows = said_follows MADT 44 (λ b. gic_of b) (lit≤ tt)
+
+-- ---- equality
 
 polarities_are : (x y : Polarity) → IsEquality (polarities.ghosts.eq x y) x y
 polarities_are x y = search rules

@@ -1,5 +1,0 @@
-use Rattle.acpi_arm.proofs.Equalities.{timers_are}
-use Rattle.acpi_arm.proofs.laws.arm_timer_equality.Goals as goal
-
-pub returns : goal.returns
-returns c = rw c.eq.ensures (timers_are c.args.a.now c.args.b.now)
