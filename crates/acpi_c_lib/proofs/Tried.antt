@@ -1,14 +1,12 @@
 -- What isn't lent of the candidates of a search, one at a time.
-use Rattle.std.proofs.Common.{◌≡◌, ◌∙◌, ℕ, zero, suc, ◌+◌, ◌-◌, ◌*◌, ◌/◌, ◌<◌, ◌≤◌, ◌^◌, List, [], ◌∷◌, ◌++◌, length, length-append, drop, Bool, true, false, Option, Some, None, Result, Ok, Err, arith, refl, sym, ap, if◌then◌else◌}
-use Rattle.std.proofs.lemmas.List.{append-nil}
+use Rattle.std.proofs.Common.{◌≡◌, ◌∙◌, ℕ, zero, suc, ◌+◌, ◌-◌, ◌*◌, ◌/◌, ◌<◌, ◌≤◌, ◌^◌, List, [], ◌∷◌, length, drop, Bool, true, false, Option, Some, None, Result, Ok, Err, arith, refl, sym, ap, if◌then◌else◌}
 use Rattle.std.specs.List.{cons_option}
 use Rattle.std.specs.Option.{is_some, ok_or, option_map, option_or}
 use Rattle.std.specs.Result.{is_ok, result_ok}
 use Rattle.std.specs.Str.{bytes_eq}
-use Rattle.acpi_base.specs.Bytes.{field_of}
 use Rattle.acpi_base.specs.Memory.{Memory}
 use Rattle.acpi_base.specs.Ranges.{Ranges}
-use Rattle.acpi_base.specs.Steps.{◌>>=◌, lent}
+use Rattle.acpi_base.specs.Steps.{lent}
 use Rattle.acpi_base.specs.declared.error.AcpiError.{AcpiError}
 use Rattle.acpi_base.specs.declared.error.AcpiError.TheVariants.{AllocError, InvalidDsdtAddress, InvalidFacsAddress, InvalidGenericAddress, InvalidMadt, InvalidNamespaceString, MapFailed, NoValidRsdp, RsdpIncorrectSignature, RsdpInvalidChecksum, RsdpInvalidOemId, SdtInvalidChecksum, SdtInvalidLength, SdtInvalidOemId, SdtInvalidSignature, SdtInvalidTableId, TableMissing}
 use Rattle.acpi_base.specs.declared.range.AddressRange.{AddressRange}
@@ -21,8 +19,9 @@ use Rattle.acpi.specs.Search.{area, count_of, room_of, second_area, walk, word_i
 use Rattle.acpi.specs.declared.rsdp.Rsdp.{Rsdp}
 use Rattle.acpi_c_lib.specs.Answers.{Writes, put_from}
 use Rattle.acpi_c_lib.specs.Below.{ebda_in}
-use Rattle.acpi_c_lib.specs.Missing.{Fits, areas_holes, candidate_hole, has_valid, hole, last_range, pieces_holes, second_holes, unless, walk_holes}
-use Rattle.acpi_c_lib.proofs.CountedList.{put_both}
+use Rattle.acpi_c_lib.specs.Missing.{areas_holes, candidate_hole, has_valid, hole, last_range, walk_holes}
+use Rattle.acpi_c_lib.specs.declared.candidates.Areas.{Areas}
+use Rattle.acpi_c_lib.proofs.Written.{one_part, two_parts}
 use Rattle.acpi_c_lib.specs.declared.records.Range.{Range}
 use Rattle.acpi_c_lib.proofs.Unlent.{no_hole, rsdp_length, rsdp_not, sum_not}
 
@@ -221,64 +220,27 @@ walked_all m count first k new old next from over w =
     let zero_more : next + 0 ≡ next = omega arith in
     (rw none at w.0, sym zero_more ∙ (rw none at w.1), sym (not_valid m (count - k) (first + 16 * k) nothing_left) ∙ w.3)
 
--- ---- of two parts
+-- ---- of two areas
 
-unless_none : (b : Bool) → unless b [] ≡ []
-unless_none true = refl
-unless_none false = refl
+module _ (m : Memory) (a : Areas) (old mid : List Range) (n : ℕ) (valid : Bool) (written : mid ≡ put_from old 0 (walk_holes m a.first.count a.first.first)) (counted : n ≡ 0 + length (walk_holes m a.first.count a.first.first)) (is : valid ≡ has_valid m a.first.count a.first.first) where
+  pub first_found : valid ≡ true → Writes n old mid (areas_holes m a)
+  first_found found = rw (← is, found) (one_part old mid _ n written counted)
 
-pub two_parts : (old mid new xs ys : List Range) (n k : ℕ) → mid ≡ put_from old 0 xs → n ≡ 0 + length xs → new ≡ put_from mid n ys → k ≡ n + length ys → Writes k old new (xs ++ ys)
-two_parts old mid new xs ys n k first counted second all = (
-  omega (arith, all, counted, length-append xs ys),
-  second ∙ ap (λ x. put_from x n ys) first ∙ ap (λ i. put_from (put_from old 0 xs) i ys) (counted ∙ omega arith) ∙ put_both old xs ys,
-)
+  pub both_walked : (new : List Range) (k : ℕ) → valid ≡ false → new ≡ put_from mid n (walk_holes m a.second.count a.second.first) → k ≡ n + length (walk_holes m a.second.count a.second.first) → Writes k old new (areas_holes m a)
+  both_walked new k none second all = rw (← is, none) (two_parts old mid new _ _ n k written counted second all)
 
-pub one_part : (old new xs : List Range) (n : ℕ) → new ≡ put_from old 0 xs → n ≡ 0 + length xs → Writes n old new (xs ++ [])
-one_part old new xs n first counted = rw (append-nil xs) (omega (arith, counted), first)
+abbrev IsLow : AddressRange → Type 0
+IsLow s = (s.address / 16 * 16 ≡ s.address) × (s.address + s.length ≤ 2 ^ 20)
 
--- ---- of areas as far as they are lent
-
-pub areas_found : (m : Memory) (s t : AddressRange) (b : Bool) → b ≡ has_valid m (count_in s) (first_in s) → b ≡ true → areas_holes m (s ∷ t ∷ []) ≡ walk_holes m (count_in s) (first_in s) ++ []
-unfolding areas_holes
-areas_found m s t b is found = rw (← is, found) refl
-
-pub areas_both : (m : Memory) (s t : AddressRange) (b : Bool) → b ≡ has_valid m (count_in s) (first_in s) → b ≡ false → areas_holes m (s ∷ t ∷ []) ≡ walk_holes m (count_in s) (first_in s) ++ walk_holes m (count_in t) (first_in t)
-unfolding areas_holes
-areas_both m s t b is found =
-    let last = unless_none (has_valid m (count_in t) (first_in t)) in
-    rw (← is, found, last, append-nil (walk_holes m (count_in t) (first_in t))) refl
-
-by_word : (r : Result ℕ AcpiError) → Fits (ebda_area (option_map (λ word. 16 * word) (result_ok r)))
+by_word : (r : Result ℕ AcpiError) → IsLow (ebda_area (option_map (λ word. 16 * word) (result_ok r)))
 by_word (Ok word) = grind arith
 by_word (Err e) = (refl, omega arith)
 
-pub ebda_fits : (m : Memory) → Fits (ebda_area (ebda_in m))
+pub ebda_fits : (m : Memory) → IsLow (ebda_area (ebda_in m))
 ebda_fits m = by_word (word_in m)
 
-pub bios_fits : Fits (range 0xe0000 0x20000)
+pub bios_fits : IsLow (range 0xe0000 0x20000)
 bios_fits = (refl, omega arith)
-
--- ---- of areas in one piece
-
-if_true : {A : Type 0} (b : Bool) (x y : A) → b ≡ true → (if b then x else y) ≡ x
-if_true true x y e = refl
-if_true false x y e = absurd cc
-
-if_false : {A : Type 0} (b : Bool) (x y : A) → b ≡ false → (if b then x else y) ≡ y
-if_false true x y e = absurd cc
-if_false false x y e = refl
-
-pub no_first : (m : Memory) (word : ℕ) → is_ok (lent m 0xe0000 0x20010) ≡ false → pieces_holes m (Ok word) ≡ []
-unfolding pieces_holes
-no_first m word e = if_false _ _ _ e
-
-pub one_piece : (m : Memory) (word : ℕ) → is_ok (lent m 0xe0000 0x20010) ≡ true → has_valid m 0x1fff 0xe0000 ≡ true → pieces_holes m (Ok word) ≡ walk_holes m 0x1fff 0xe0000 ++ []
-unfolding pieces_holes
-one_piece m word e found = if_true _ _ _ e ∙ ap (λ b. walk_holes m 0x1fff 0xe0000 ++ unless b (second_holes m word)) found
-
-pub both_pieces : (m : Memory) (word : ℕ) → is_ok (lent m 0xe0000 0x20010) ≡ true → has_valid m 0x1fff 0xe0000 ≡ false → pieces_holes m (Ok word) ≡ walk_holes m 0x1fff 0xe0000 ++ second_holes m word
-unfolding pieces_holes
-both_pieces m word e none = if_true _ _ _ e ∙ ap (λ b. walk_holes m 0x1fff 0xe0000 ++ unless b (second_holes m word)) none
 
 abbrev pub SecondFits : ℕ → Type 0
 SecondFits word = let s = second_area word in (s.start / 16 * 16 ≡ s.start) × (s.start + 16 * ((room_of s - 20) / 16) ≤ 2 ^ 20) × (count_of s ≡ (room_of s - 20) / 16) × (20 ≤ room_of s) × (room_of s < 2 ^ 32)

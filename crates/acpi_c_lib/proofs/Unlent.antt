@@ -1,19 +1,18 @@
--- Where what leads to a table is refused because it isn't lent.
-use Rattle.std.proofs.Common.{◌≡◌, ℕ, ◌≤◌, List, [], ◌∷◌, ◌++◌, Bool, true, false, Option, Some, None, Result, Ok, Err, arith, refl, sym, ap, subst, ◌∙◌, if◌then◌else◌}
-use Rattle.std.specs.Prelude.{◌==◌}
+-- Where opening and what leads to a table are refused because something isn't lent.
+use Rattle.acpi_base.specs.Ranges as ranges
+use Rattle.std.proofs.Common.{◌≡◌, ℕ, ◌≤◌, List, [], ◌∷◌, ◌++◌, Bool, true, false, Option, Some, None, Result, Ok, Err, arith, refl, sym, ap, subst, ◌∙◌, if◌then◌else◌, ◌+◌, length}
+use Rattle.std.specs.Prelude.{◌==◌, Result, Ok, Err}
 use Rattle.std.specs.List.{last_or}
 use Rattle.std.specs.Option.{ok_or, option_map}
 use Rattle.std.specs.Result.{is_ok}
 use Rattle.acpi_base.specs.Bytes.{field_of}
 use Rattle.acpi_base.specs.Header.{check_names, check_table}
 use Rattle.acpi_base.specs.Memory.{Memory, at}
-use Rattle.acpi_base.specs.Ranges as ranges
 use Rattle.acpi_base.specs.Ranges.{Ranges}
 use Rattle.acpi_base.specs.Steps.{◌>>=◌, lent}
 use Rattle.acpi_base.specs.Table.{length_in, table_at, table_of, whole_of}
 use Rattle.acpi_base.specs.declared.error.AcpiError.{AcpiError}
 use Rattle.acpi_base.specs.declared.error.AcpiError.TheVariants.{MapFailed, NoValidRsdp}
-use Rattle.acpi_base.specs.declared.range.AddressRange.{AddressRange}
 use Rattle.acpi_base.specs.declared.table.header.SdtHeader.{SdtHeader}
 use Rattle.acpi_base.specs.declared.table.signature.Signature.{Signature}
 use Rattle.acpi.specs.Areas.{areas_ranges, bios_areas, found_among, found_in_areas}
@@ -22,11 +21,15 @@ use Rattle.acpi.specs.OpenedRanges.{area_ranges, opened_by_rsdp_ranges, opened_b
 use Rattle.acpi.specs.Root.{root_of_revision}
 use Rattle.acpi.specs.Rsdp.{check_first, check_sum, extended_length_of, length_of, root_of_rsdp, rsdp_at, rsdp_of}
 use Rattle.acpi.specs.Search.{first_area, found_in, found_rsdp, or_else, room_of, second_area, word_in}
-use Rattle.acpi_c_lib.specs.Below.{ebda_in, opened_as_lent, refused_as}
+use Rattle.acpi_c_lib.specs.Below.{ebda_in, opened_as_lent, refused_as, opened_in}
 use Rattle.acpi_c_lib.specs.declared.records.Range.{Range}
 use Rattle.acpi_c_lib.specs.declared.refusal.Refusal.{Refusal}
 use Rattle.acpi_c_lib.specs.declared.refusal.Refusal.TheVariants.{Acpi, UnknownStart}
-use Rattle.acpi_c_lib.specs.Missing.{IsUnlent, OpeningHasHole, hole, last_range, opened_as_lent_ranges, range_of}
+use Rattle.acpi_c_lib.specs.Missing.{IsUnlent, OpeningHasHole, candidate_holes, has_valid, hole, last_range, missing_below, missing_in, opened_as_lent_ranges, range_of, walk_holes}
+use Rattle.acpi_c_lib.specs.Answers.{Fills, Writes, items_said, put_from, result_map}
+use Rattle.acpi_c_lib.specs.Regions.{memory_in}
+use Rattle.acpi_c_lib.specs.declared.records.Source.{Source}
+use Rattle.acpi_c_lib.proofs.Written.{two_parts}
 
 -- ---- the checks, which refuse by other errors
 
@@ -176,3 +179,42 @@ opening_unlent m s =
     (started m (s.start == 2) (opened_at m (2, s.address)) _ (opened_ranges m (root_of_revision 2 s.address)) _ (from_unlent m (root_of_revision 2 s.address))
     (started m (s.start == 3) (opened_by_search m) _ (opened_by_search_ranges m) _ (by_search_unlent m)
     (started m (s.start == 4) (opened_as_lent m) (Err UnknownStart) (opened_as_lent_ranges m) [] (by_areas_unlent m) (λ q. cc)))))
+
+-- ---- the ranges of a search's candidates, and then the others
+
+-- only an unknown start is refused, and that is no search
+never_refused : (m : Memory) (s : Source) (r : Result Opened AcpiError) (e : Refusal) → missing_in m s (refused_as r) ≡ Err e → ⊥
+never_refused m s (Ok o) e is = cc
+never_refused m s (Err x) e is = cc
+
+not_this : (m : Memory) (s : Source) (b : Bool) (r : Result Opened AcpiError) (later : Result Opened Refusal) (e : Refusal) → missing_in m s (if b then refused_as r else later) ≡ Err e
+    → (b ≡ false) × (missing_in m s later ≡ Err e)
+not_this m s true r later e is = absurd (never_refused m s r e is)
+not_this m s false r later e is = (refl, is)
+
+no_candidates : (m : Memory) (s : Source) (e : Refusal) → missing_in m s (opened_in m s) ≡ Err e → candidate_holes m s ≡ []
+unfolding candidate_holes has_valid walk_holes
+no_candidates m s e is =
+    let after_0 = not_this m s (s.start == 0) _ _ e is in
+    let after_1 = not_this m s (s.start == 1) _ _ e after_0.1 in
+    let after_2 = not_this m s (s.start == 2) _ _ e after_1.1 in
+    let after_3 = not_this m s (s.start == 3) _ _ e after_2.1 in
+    let after_4 = not_this m s (s.start == 4) _ _ e after_3.1 in
+    rw (after_3.0, after_4.0) refl
+
+abbrev both : List Range → Result (List Range) Refusal → Result (List Range) Refusal
+both xs others = others >>= λ ys. Ok (xs ++ ys)
+
+by_others : (old mid new xs : List Range) (n : ℕ) (said : Result ℕ Refusal) (others : Result (List Range) Refusal) → ((e : Refusal) → others ≡ Err e → xs ≡ []) → Writes n old mid xs
+    → said ≡ result_map (λ ys. n + length ys) others → new ≡ put_from mid n (items_said others) → Fills said old new (both xs others)
+by_others old mid new xs n said (Ok ys) none first count items =
+    let all = two_parts old mid new xs ys n (n + length ys) first.1 (first.0 ∙ omega arith) items refl in
+    (count ∙ ap (λ k. Ok k) all.0, all.1)
+by_others old mid new xs n said (Err e) none first count items =
+    let empty = none e refl in
+    (count, items ∙ first.1 ∙ ap (λ zs. put_from old 0 zs) empty)
+
+pub joined : (s : Source) (m : Memory) (old mid new : List Range) (n : ℕ) (said : Result ℕ Refusal) → memory_in s.regions.now ≡ Ok m → Writes n old mid (candidate_holes m s)
+    → said ≡ result_map (λ ys. n + length ys) (missing_in m s (opened_in m s)) → new ≡ put_from mid n (items_said (missing_in m s (opened_in m s))) → Fills said old new (missing_below s)
+joined s m old mid new n said is first count items =
+    rw is (by_others old mid new (candidate_holes m s) n said (missing_in m s (opened_in m s)) (no_candidates m s) first count items)

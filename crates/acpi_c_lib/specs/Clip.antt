@@ -1,6 +1,6 @@
 -- Ranges of memory in order, some of them left out, clipped to a window.
-use Rattle.std.specs.Prelude.{◌≡◌, ℕ, ◌+◌, ◌^◌, ◌<◌, ◌≤◌, ◌&&◌, not, nat_le, nat_lt, Bool, true, false, List, [], ◌∷◌, length, if◌then◌else◌}
-use Rattle.std.specs.List.{AllByRecursion, list_any}
+use Rattle.std.specs.Prelude.{◌≡◌, ℕ, ◌+◌, ◌^◌, ◌<◌, ◌≤◌, ◌&&◌, not, nat_le, nat_lt, Bool, true, false, List, [], ◌∷◌, fold, length, if◌then◌else◌}
+use Rattle.std.specs.List.{AllByRecursion, list_all, list_any}
 use Rattle.acpi_c_lib.specs.Answers.{put_from}
 use Rattle.acpi_c_lib.specs.Codes.{code_of}
 use Rattle.acpi_c_lib.specs.declared.records.Range.{Range}
@@ -11,8 +11,7 @@ abbrev pub fits : Range → Bool
 fits r = nat_lt (r.address + r.length) (2 ^ 64)
 
 abbrev pub all_fit : List Range → Bool
-all_fit [] = true
-all_fit (r ∷ rs) = fits r && all_fit rs
+all_fit rs = list_all fits rs
 
 -- a range holds an address
 abbrev pub holds : ℕ → Range → Bool
@@ -72,8 +71,7 @@ change_of r a limit =
 
 -- the next address after this one at which one of several ranges begins or has ended, or the limit
 abbrev pub change_in : List Range → ℕ → ℕ → ℕ
-change_in [] a limit = limit
-change_in (r ∷ rs) a limit = change_in rs a (change_of r a limit)
+change_in rs a limit = fold (λ first r. change_of r a first) limit rs
 
 -- no byte from an address on is wanted
 abbrev pub NoneFrom : List Range → List Range → Range → ℕ → Type 0

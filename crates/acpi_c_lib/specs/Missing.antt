@@ -1,5 +1,5 @@
 -- The ranges of memory that a caller has to map before the calls can read all tables.
-use Rattle.std.specs.Prelude.{◌≡◌, ℕ, zero, suc, ◌+◌, ◌*◌, ◌/◌, ◌^◌, ◌≤◌, ◌==◌, List, [], ◌∷◌, ◌++◌, drop, filter_map, Bool, true, false, Option, Some, None, Result, Ok, Err, if◌then◌else◌}
+use Rattle.std.specs.Prelude.{◌≡◌, ℕ, zero, suc, ◌+◌, ◌*◌, ◌/◌, ◌^◌, ◌≤◌, ◌==◌, List, [], ◌∷◌, ◌++◌, drop, filter_map, Bool, Option, Some, None, Result, Ok, Err, if◌then◌else◌}
 use Rattle.std.specs.List.{cons_option, last_or}
 use Rattle.std.specs.Option.{is_some, option_map}
 use Rattle.std.specs.Result.{is_ok}
@@ -24,6 +24,8 @@ use Rattle.acpi.specs.Rsdp.{rsdp_at}
 use Rattle.acpi.specs.Search.{count_of, first_area, room_of, second_area, walk, word_in}
 use Rattle.acpi_c_lib.specs.Below.{ebda_in, opened_in}
 use Rattle.acpi_c_lib.specs.Regions.{memory_in}
+use Rattle.acpi_c_lib.specs.declared.candidates.Areas.{Areas}
+use Rattle.acpi_c_lib.specs.declared.candidates.Candidates.{Candidates}
 use Rattle.acpi_c_lib.specs.declared.records.Range.{Range}
 use Rattle.acpi_c_lib.specs.declared.records.Source.{Source}
 use Rattle.acpi_c_lib.specs.declared.refusal.Refusal.{Refusal}
@@ -75,42 +77,49 @@ walk_holes m (suc n) a = or_later (λ b. []) (rsdp_at m a) (cons_option (candida
 unfoldable pub has_valid : Memory → ℕ → ℕ → Bool
 has_valid m n a = is_some (walk m n a)
 
--- those that are come to only if nothing is found before
-abbrev pub unless : Bool → List Range → List Range
-unless true holes = []
-unless false holes = holes
+-- no area has candidates
+abbrev pub no_areas : Areas
+no_areas = record { first = record { first = 0; count = 0 }; second = record { first = 0; count = 0 } }
 
--- of the second area that is asked for in one piece with 16 bytes after it, if it is lent so
-unfoldable pub second_holes : Memory → ℕ → List Range
-second_holes m word =
+-- those of both areas that are asked for in one piece with 16 bytes after it, if the word that says where the second
+-- lies is lent, and so is the first; the second has some if it is lent so
+abbrev pub pieces : Memory → Result ℕ AcpiError → Areas
+pieces m (Ok word) =
     let s = second_area word in
-    if is_ok (lent m s.start (room_of s)) then walk_holes m (count_of s) s.start else []
+    if is_ok (lent m first_area.start (room_of first_area)) then record {
+      first = record { first = first_area.start; count = count_of first_area };
+      second = record { first = s.start; count = if is_ok (lent m s.start (room_of s)) then count_of s else 0 };
+    }
+    else no_areas
+pieces m (Err e) = no_areas
 
--- of both such areas, if the word is lent that says where the second lies, and the first is
-unfoldable pub pieces_holes : Memory → Result ℕ AcpiError → List Range
-pieces_holes m (Ok word) =
-    let s = first_area in
-    if is_ok (lent m s.start (room_of s)) then
-    walk_holes m (count_of s) s.start ++ unless (has_valid m (count_of s) s.start) (second_holes m word)
-    else []
-pieces_holes m (Err e) = []
+-- those of an area as far as it is lent
+abbrev pub stretch : AddressRange → Candidates
+stretch s = record { first = first_in s; count = count_in s }
 
--- an area begins at a multiple of 16, in the first MiB
-abbrev pub Fits : AddressRange → Type 0
-Fits s = (s.address / 16 * 16 ≡ s.address) × (s.address + s.length ≤ 2 ^ 20)
+abbrev pub stretches : List AddressRange → Areas
+stretches (s ∷ t ∷ more) = record { first = stretch s; second = stretch t }
+stretches _ = no_areas
 
--- of areas as far as they are lent
-unfoldable pub areas_holes : Memory → List AddressRange → List Range
-areas_holes m [] = []
-areas_holes m (s ∷ areas) =
-    walk_holes m (count_in s) (first_in s) ++ unless (has_valid m (count_in s) (first_in s)) (areas_holes m areas)
+-- those of the search that a start is, by its number
+abbrev pub areas_of : Memory → Source → Areas
+areas_of m s =
+    if s.start == 3 then pieces m (word_in m)
+    else if s.start == 4 then stretches (bios_areas (ebda_in m))
+    else no_areas
 
--- of a start, by its number
+-- they begin at a multiple of 16, in the first MiB
+abbrev pub Fits : Candidates → Type 0
+Fits c = (c.first / 16 * 16 ≡ c.first) × (c.first + 16 * c.count ≤ 2 ^ 20)
+
+-- those of the first area, and if none is valid there those of the second
+abbrev pub areas_holes : Memory → Areas → List Range
+areas_holes m a =
+    walk_holes m a.first.count a.first.first
+    ++ (if has_valid m a.first.count a.first.first then [] else walk_holes m a.second.count a.second.first)
+
 unfoldable pub candidate_holes : Memory → Source → List Range
-candidate_holes m s =
-    if s.start == 3 then pieces_holes m (word_in m)
-    else if s.start == 4 then areas_holes m (bios_areas (ebda_in m))
-    else []
+candidate_holes m s = areas_holes m (areas_of m s)
 
 -- ---- of the tables that a caller names
 

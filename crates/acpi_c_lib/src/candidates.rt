@@ -1,16 +1,14 @@
 //! What isn't lent of the RSDPs that a search comes to (section 5.2.5.1): each is tried as the search tries it.
-ghost use Rattle.std.specs.Prelude.{◌≡◌, ◌+◌, ◌*◌, ◌/◌, ◌<◌, ◌≤◌, ◌^◌, ◌∷◌, [], length, false, true, Ok, Err, IfErr};
+ghost use Rattle.std.specs.Prelude.{◌≡◌, ◌+◌, ◌*◌, ◌/◌, ◌<◌, ◌≤◌, ◌^◌, length, false, true, Ok, Err, IfErr};
 ghost use Rattle.std.specs.Result.{is_ok};
 ghost use Rattle.std.specs.Str.{bytes_eq};
 ghost use Rattle.acpi_base.specs.Steps.{lent};
-ghost use Rattle.acpi.specs.Areas.{bios_areas, count_in, first_in};
 ghost use Rattle.acpi.specs.OpenedRanges.{length_ranges};
 ghost use Rattle.acpi.specs.Rsdp.{rsd_ptr, rsdp_at, rsdp_of, signature_of};
 ghost use Rattle.acpi.specs.Search.{word_in};
 ghost use Rattle.acpi_c_lib.specs.Answers.{Writes, put_from};
-ghost use Rattle.acpi_c_lib.specs.Below.{ebda_in};
 ghost use Rattle.acpi_c_lib.specs.Missing as missing;
-ghost use Rattle.acpi_c_lib.specs.Missing.{Fits, areas_holes, candidate_hole, has_valid, hole, pieces_holes, second_holes, walk_holes};
+ghost use Rattle.acpi_c_lib.specs.Missing.{Fits, areas_of, candidate_hole, has_valid, hole, pieces, stretch, walk_holes};
 
 use crate::missing::{is_lent, put_pair, range, second_hole};
 use crate::opening::{ebda, ebda_segment};
@@ -18,8 +16,21 @@ use crate::records::{Range, Source};
 use acpi::rsdp::{Rsdp, bios_areas};
 use acpi::{AcpiError, AcpiHandler, AcpiTables, AddressRange, PhysicalMapping};
 
+/// Candidates of a search: the address of the first, and how many there are, 16 bytes apart.
+#[derive(Clone, Copy)]
+struct Candidates {
+    first: u64,
+    count: u64,
+}
+
+/// Those of a search's two areas: it comes to the second's if none of the first's is valid.
+#[derive(Clone, Copy)]
+struct Areas {
+    first: Candidates,
+    second: Candidates,
+}
+
 /// Writes what isn't lent of the candidates of a source's search, and says how many ranges that are.
-#[tactic(auto, unfolding(crate::specs::Missing::candidate_holes))]
 pub(crate) fn candidate_holes<H: AcpiHandler>(
     handler: &H,
     source: &Source<'_>,
@@ -29,127 +40,109 @@ pub(crate) fn candidate_holes<H: AcpiHandler>(
         (missing.candidate_holes (H.memory handler.now) source.now) }
     ensures few { result < 2 ^ 30 }
 {
-    match source.start {
-        3 => in_pieces(handler, out),
-        4 => in_areas(handler, out),
-        _ => 0,
-    }
-}
-
-/// Of the search that asks for the word at 0x40e, and then for each area in one piece with 16 bytes after it.
-#[tactic(auto, unfolding(crate::specs::Missing::pieces_holes))]
-fn in_pieces<H: AcpiHandler>(handler: &H, out: &mut [Range]) -> usize
-    ensures written { Writes result out.old out.new
-        (pieces_holes (H.memory handler.now) (word_in (H.memory handler.now))) }
-    ensures few { result < 2 ^ 30 }
-{
-    match ebda_segment(handler) {
-        Ok(word) => in_both_pieces(handler, word, out),
-        Err(_) => 0,
-    }
-}
-
-/// Of both areas of the former, by the word.
-fn in_both_pieces<H: AcpiHandler>(handler: &H, word: u16, out: &mut [Range]) -> usize
-    ensures written { Writes result out.old out.new (pieces_holes (H.memory handler.now) (Ok word)) }
-    ensures few { result < 2 ^ 30 }
-{
-    if !is_lent(handler, 0xe0000, 0x20010) {
-        return 0;
-    }
-    let (count, is_found) = walk(handler, 0xe0000, 0x1fff, out, 0);
+    let areas = areas_of(handler, source);
+    let (count, is_found) = walk(handler, areas.first, out, 0);
     if is_found {
         return count;
     }
-    in_second_piece(handler, word, out, count)
+    walk(handler, areas.second, out, count).0
 }
 
-/// Of the second area of the former, by the word, from an index on; where the next would stand.
-#[tactic(auto, using(crate::proofs::Tried::second_fits), unfolding(crate::specs::Missing::second_holes))]
-fn in_second_piece<H: AcpiHandler>(handler: &H, word: u16, out: &mut [Range], from: usize) -> usize
-    requires few { from < 2 ^ 20 }
-    ensures written { out.new ≡ put_from out.old from (second_holes (H.memory handler.now) word) }
-    ensures next { result ≡ from + length (second_holes (H.memory handler.now) word) }
-    ensures most { result < 2 ^ 30 }
-{
-    let second = second_hole(word);
-    if !is_lent(handler, second.address, second.length as u32) {
-        return from;
-    }
-    let count = (second.length - 20) / 16;
-    walk(handler, second.address, count, out, from).0
-}
-
-/// Of the search in the areas as far as they are lent.
+/// The candidates of a source's search. Another start has none.
 #[tactic(auto, using(crate::proofs::Tried::ebda_fits, crate::proofs::Tried::bios_fits))]
-fn in_areas<H: AcpiHandler>(handler: &H, out: &mut [Range]) -> usize
-    ensures written { Writes result out.old out.new
-        (areas_holes (H.memory handler.now) (bios_areas (ebda_in (H.memory handler.now)))) }
-    ensures few { result < 2 ^ 30 }
+fn areas_of<H: AcpiHandler>(handler: &H, source: &Source<'_>) -> Areas
+    ensures exact { result ≡ areas_of (H.memory handler.now) source.now }
+    ensures first { Fits result.first }
+    ensures second { Fits result.second }
 {
-    let [first, second] = bios_areas(ebda(handler));
-    in_both(handler, first, second, out)
-}
-
-fn in_both<H: AcpiHandler>(
-    handler: &H,
-    first: AddressRange,
-    second: AddressRange,
-    out: &mut [Range],
-) -> usize
-    requires first { Fits first }
-    requires second { Fits second }
-    ensures written { Writes result out.old out.new
-        (areas_holes (H.memory handler.now) (first ∷ second ∷ [])) }
-    ensures few { result < 2 ^ 30 }
-{
-    let (count, is_found) = in_area(handler, first, out, 0);
-    if is_found {
-        return count;
+    match source.start {
+        3 => pieces(handler),
+        4 => {
+            let [first, second] = bios_areas(ebda(handler));
+            Areas {
+                first: stretch(first),
+                second: stretch(second),
+            }
+        }
+        _ => no_areas(),
     }
-    in_area(handler, second, out, count).0
 }
 
-/// Of an area of the latter, from an index on; where the next would stand, and whether a candidate is valid.
-#[tactic(auto, using(crate::proofs::Tried::first_is, crate::proofs::Tried::count_is))]
-fn in_area<H: AcpiHandler>(
-    handler: &H,
-    area: AddressRange,
-    out: &mut [Range],
-    from: usize,
-) -> (usize, bool)
-    requires fits { Fits area }
-    requires few { from < 2 ^ 20 }
-    ensures written { out.new ≡ put_from out.old from
-        (walk_holes (H.memory handler.now) (count_in area) (first_in area)) }
-    ensures next { result.0
-        ≡ from + length (walk_holes (H.memory handler.now) (count_in area) (first_in area)) }
-    ensures most { result.0 ≤ from + 2 ^ 16 }
-    ensures found { result.1 ≡ has_valid (H.memory handler.now) (count_in area) (first_in area) }
+fn no_areas() -> Areas
+    ensures { result ≡ missing.no_areas }
 {
-    let count = u64::saturating_sub(area.length, 4) / 16;
-    walk(handler, area.address, count, out, from)
+    let none = Candidates { first: 0, count: 0 };
+    Areas {
+        first: none,
+        second: none,
+    }
 }
 
-/// Of so many candidates from an address on, up to the first valid one.
+/// Those of the search that asks for the word at 0x40e, and then for each area in one piece with 16 bytes after it.
+#[tactic(auto, using(crate::proofs::Tried::second_fits))]
+fn pieces<H: AcpiHandler>(handler: &H) -> Areas
+    ensures exact { result ≡ pieces (H.memory handler.now) (word_in (H.memory handler.now)) }
+    ensures first { Fits result.first }
+    ensures second { Fits result.second }
+{
+    let Ok(word) = ebda_segment(handler) else {
+        return no_areas();
+    };
+    if !is_lent(handler, 0xe0000, 0x20010) {
+        return no_areas();
+    }
+    let second = second_hole(word);
+    let is_second = is_lent(handler, second.address, second.length as u32);
+    Areas {
+        first: Candidates {
+            first: 0xe0000,
+            count: 0x1fff,
+        },
+        second: Candidates {
+            first: second.address,
+            count: if is_second {
+                (second.length - 20) / 16
+            } else {
+                0
+            },
+        },
+    }
+}
+
+/// Those of an area as far as it is lent.
+#[tactic(auto, using(crate::proofs::Tried::first_is, crate::proofs::Tried::count_is))]
+fn stretch(area: AddressRange) -> Candidates
+    requires begins { area.address / 16 * 16 ≡ area.address }
+    requires low { area.address + area.length ≤ 2 ^ 20 }
+    ensures exact { result ≡ stretch area }
+    ensures fits { Fits result }
+{
+    Candidates {
+        first: area.address,
+        count: u64::saturating_sub(area.length, 4) / 16,
+    }
+}
+
+/// Writes what isn't lent of candidates from an index on, up to the first valid one: where the next would stand, and
+/// whether one is valid.
 fn walk<H: AcpiHandler>(
     handler: &H,
-    first: u64,
-    count: u64,
+    candidates: Candidates,
     out: &mut [Range],
     from: usize,
 ) -> (usize, bool)
-    requires begins { first / 16 * 16 ≡ first }
-    requires low { first + 16 * count ≤ 2 ^ 20 }
+    requires fits { Fits candidates }
     requires few { from < 2 ^ 20 }
-    ensures written { out.new ≡ put_from out.old from (walk_holes (H.memory handler.now) count first) }
-    ensures next { result.0 ≡ from + length (walk_holes (H.memory handler.now) count first) }
-    ensures most { result.0 ≤ from + count }
-    ensures found { result.1 ≡ has_valid (H.memory handler.now) count first }
+    ensures written { out.new ≡ put_from out.old from
+        (walk_holes (H.memory handler.now) candidates.count candidates.first) }
+    ensures next { result.0
+        ≡ from + length (walk_holes (H.memory handler.now) candidates.count candidates.first) }
+    ensures most { result.0 ≤ from + candidates.count }
+    ensures found { result.1 ≡ has_valid (H.memory handler.now) candidates.count candidates.first }
 {
     let mut next = from;
-    for k in 0..count {
-        match tried(handler, first + 16 * k) {
+    for k in 0..candidates.count {
+        match tried(handler, candidates.first + 16 * k) {
             Ok(()) => return (next, true),
             Err(hole) => next = put_pair((hole, None), out, next),
         }

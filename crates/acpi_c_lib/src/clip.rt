@@ -49,12 +49,7 @@ fn fits(range: &Range) -> bool
 fn all_fit(ranges: &[Range]) -> bool
     ensures { result ≡ clip.all_fit ranges.now }
 {
-    for range in ranges {
-        if !fits(range) {
-            return false;
-        }
-    }
-    true
+    ranges.iter().all(|range| fits(range))
 }
 
 /// Whether a range holds an address.
@@ -68,12 +63,7 @@ fn holds(range: &Range, address: u64) -> bool
 fn any_holds(ranges: &[Range], address: u64) -> bool
     ensures { result ≡ clip.any_holds address ranges.now }
 {
-    for range in ranges {
-        if holds(range, address) {
-            return true;
-        }
-    }
-    false
+    ranges.iter().any(|range| holds(range, address))
 }
 
 /// The next address after this one at which a range begins or has ended, or the limit if that comes before.
@@ -101,11 +91,9 @@ fn least(x: u64, y: u64) -> u64
 fn change_in(ranges: &[Range], address: u64, limit: u64) -> u64
     ensures { result ≡ change_in ranges.now address limit }
 {
-    let mut first = limit;
-    for range in ranges {
-        first = change_of(range, address, first);
-    }
-    first
+    ranges
+        .iter()
+        .fold(limit, |first, range| change_of(range, address, first))
 }
 
 impl Wanted<'_> {

@@ -14,7 +14,7 @@ use crate::refusal::Refusal;
 use crate::regions::Mapped;
 use acpi::AcpiResult;
 use acpi::fadt::{Fadt, GpeBlock, PowerProfile};
-use acpi_base::bytes::{field, field_in};
+use acpi_base::bytes::{field, u16_in, u32_in};
 
 /// The fixed hardware of the first valid FADT.
 pub fn fixed(source: &Source<'_>) -> Result<FixedHardware, Refusal>
@@ -44,8 +44,8 @@ fn flags_in(table: &[u8]) -> RawFlags
     ensures arm { result.arm ≡ arm_bits (fadt_at table.now).arm_boot_arch }
 {
     RawFlags {
-        feature: field_in(table, 112, 4) as u32,
-        pc: field_in(table, 109, 2) as u16,
+        feature: u32_in(table, 112),
+        pc: u16_in(table, 109),
         arm: field(table, 129, 2) as u16,
     }
 }

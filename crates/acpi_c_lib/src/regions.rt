@@ -45,7 +45,7 @@ impl<'k> Region<'k> {
     }
 
     /// The bytes from an address on, if it lies in this region.
-    #[tactic(auto, using(crate::proofs::Lying::is_inside, crate::proofs::Lying::is_above, crate::proofs::Lying::is_below))]
+    #[tactic(auto, using(crate::proofs::Ascending::is_inside, crate::proofs::Ascending::is_above, crate::proofs::Ascending::is_below))]
     fn rest(&self, address: u64) -> Option<&'k [u8]>
         ensures inside { IfSome result (λ s. lies_in (region_of self.now) address ≡ true) }
         ensures bytes { IfSome result
@@ -83,7 +83,7 @@ fn index_for(regions: &[Region<'_>], address: u64) -> usize
 }
 
 /// The bytes from an address to the end of the region that it lies in, or none.
-#[tactic(auto, using(crate::proofs::Halved::nothing_past, crate::proofs::Halved::rest_of_one), unfolding(acpi_base::specs::Memory::rest_from))]
+#[tactic(auto, using(crate::proofs::Ascending::nothing_past, crate::proofs::Ascending::rest_of_one), unfolding(acpi_base::specs::Memory::rest_from))]
 fn rest_at<'k>(regions: &[Region<'k>], address: u64) -> &'k [u8]
     requires { IsAscending (memory_of regions.now) }
     ensures { result.now ≡ rest_from (memory_of regions.now) address }
@@ -98,7 +98,7 @@ fn rest_at<'k>(regions: &[Region<'k>], address: u64) -> &'k [u8]
 }
 
 /// Where so many bytes from an address lie, if they lie in one region.
-#[tactic(auto, using(crate::proofs::Halved::no_place_past, crate::proofs::Halved::place_there))]
+#[tactic(auto, using(crate::proofs::Ascending::no_place_past, crate::proofs::Ascending::place_there))]
 fn place_for(regions: &[Region<'_>], address: u64, length: u64) -> Option<Place>
     requires { IsAscending (memory_of regions.now) }
     ensures { result ≡ place_from 0 (memory_of regions.now) address length }
@@ -174,7 +174,7 @@ impl AcpiHandler for Mapped<'_> {
 
     ghost memory = { λ m. mapped_memory m };
 
-    #[tactic(auto, using(crate::proofs::Lying::at_rest, crate::proofs::Lying::at_none))]
+    #[tactic(auto, using(crate::proofs::Ascending::at_rest, crate::proofs::Ascending::at_none))]
     fn map_physical_region(&self, address: u64, size: usize) -> AcpiResult<&[u8]> {
         let rest = rest_at(self.regions, address);
         if size <= rest.len() {

@@ -62,7 +62,7 @@ pub fn find(source: &Source<'_>, name: records::Signature) -> Result<Table, Refu
 }
 
 /// The signature of four letters.
-#[tactic(auto, using(crate::proofs::Names::signature_is))]
+#[tactic(auto, using(crate::proofs::Sdt::signature_is))]
 pub(crate) fn signature_named(name: records::Signature) -> Signature
     ensures { result ≡ signature_named name }
 {

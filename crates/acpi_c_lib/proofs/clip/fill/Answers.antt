@@ -1,5 +1,5 @@
 use Rattle.std.proofs.Common.{◌≤◌, ◌<◌, [], ◌∷◌, ◌++◌, arith}
-use Rattle.acpi_c_lib.proofs.Filling.{clipped_all, filled_more, range_at}
+use Rattle.acpi_c_lib.proofs.Clipping.{clipped_all, filled_more, range_at}
 use Rattle.acpi_c_lib.proofs.clip.fill.Goals as goal
 
 pub loop-address-preserved : goal.loop-address-preserved

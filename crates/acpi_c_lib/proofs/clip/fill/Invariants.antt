@@ -1,5 +1,5 @@
 use Rattle.std.proofs.Common.{◌-◌, ◌^◌, ◌≤◌, List}
-use Rattle.acpi_c_lib.proofs.Filling.{IsFilled}
+use Rattle.acpi_c_lib.proofs.Clipping.{IsFilled}
 use Rattle.acpi_c_lib.specs.declared.records.Range.{Range}
 use Rattle.acpi_c_lib.proofs.clip.fill.Given as goal
 

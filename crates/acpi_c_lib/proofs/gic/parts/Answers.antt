@@ -1,6 +1,6 @@
 use Rattle.acpi_base.specs.Mapping.{bytes_of}
 use Rattle.acpi_c_lib.specs.Arm.{gic_in}
-use Rattle.acpi_c_lib.proofs.Listing.{listed}
+use Rattle.acpi_c_lib.proofs.Written.{listed}
 use Rattle.acpi_c_lib.proofs.gic.parts.Goals as goal
 
 pub returns : goal.returns

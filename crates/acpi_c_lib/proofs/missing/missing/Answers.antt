@@ -1,5 +1,5 @@
 use Rattle.acpi_c_lib.specs.Held.{mapped_memory}
-use Rattle.acpi_c_lib.proofs.Joined.{joined}
+use Rattle.acpi_c_lib.proofs.Unlent.{joined}
 use Rattle.acpi_c_lib.proofs.missing.missing.Goals as goal
 
 pub returns : goal.returns

@@ -10,7 +10,7 @@ use Rattle.acpi.specs.Opened.{opened_of}
 use Rattle.acpi_numa.specs.Affinities.{ranges_of}
 use Rattle.acpi_c_lib.specs.Held.{mapped_memory}
 use Rattle.acpi_c_lib.specs.Numa.{affinities_in, affinity_record, numa_refused}
-use Rattle.acpi_c_lib.proofs.Listing.{listed}
+use Rattle.acpi_c_lib.proofs.Written.{listed}
 use Rattle.acpi_c_lib.proofs.numa.affinities.Goals as goal
 
 abbrev checked : Bool → Bool → List MemoryRange → Result (List MemoryRange) NumaError

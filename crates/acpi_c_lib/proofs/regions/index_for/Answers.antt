@@ -1,6 +1,6 @@
 use Rattle.std.proofs.Common.{rules, leb}
 use Rattle.std.proofs.lemmas.List.Sorted.{IsPartitionPoint-from_clause}
-use Rattle.acpi_c_lib.proofs.Halved.{only_last, passes_before}
+use Rattle.acpi_c_lib.proofs.Ascending.{only_last, passes_before}
 use Rattle.acpi_c_lib.proofs.regions.index_for.Goals as goal
 
 pub returns : goal.returns

@@ -1,5 +1,5 @@
 use Rattle.std.proofs.Common.{arith, sym}
-use Rattle.acpi_c_lib.proofs.Halved.{bytes_after, place_inside, place_short}
+use Rattle.acpi_c_lib.proofs.Ascending.{bytes_after, place_inside, place_short}
 use Rattle.acpi_c_lib.proofs.regions.place_for.Goals as goal
 
 pub returns-then-length-rest : goal.returns-then-length-rest

@@ -1,5 +1,5 @@
 use Rattle.std.proofs.Common.{arith}
-use Rattle.acpi_c_lib.proofs.Halved.{rest_inside}
+use Rattle.acpi_c_lib.proofs.Ascending.{rest_inside}
 use Rattle.acpi_c_lib.proofs.regions.rest_at.Goals as goal
 
 pub returns-in-Some-rest : goal.returns-in-Some-rest

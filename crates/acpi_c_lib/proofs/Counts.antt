@@ -1,19 +1,63 @@
--- How many frames and watchdogs there are at most, and how frames are written block by block.
-use Rattle.std.proofs.Common.{◌≡◌, ℕ, zero, suc, ◌+◌, ◌*◌, ◌≤◌, Bool, true, false, List, [], ◌∷◌, ◌++◌, length, drop, Option, Some, None, refl, ap, sym, ◌∙◌, arith, length-append, length-drop, inl, inr}
-use Rattle.std.specs.Prelude.{◌==◌, ◌&&◌, ◌||◌, not, nat_le, map, if◌then◌else◌}
-use Rattle.std.specs.List.{AllByRecursion, concat, cons_option, filter_map}
+-- What entries say, one at a time, and how many there are at most.
+use Rattle.acpi_arm.specs.Timers as arm
+use Rattle.acpi_c_lib.specs.Records as records
+use Rattle.std.proofs.Common.{◌≡◌, ℕ, zero, suc, ◌+◌, List, [], ◌∷◌, length, map, Some, None, true, refl, add-one, arith, ◌<◌, ◌++◌, length-append, ap, ◌*◌, ◌≤◌, Bool, false, drop, Option, sym, ◌∙◌, length-drop, inl, inr}
+use Rattle.std.specs.Prelude.{nat_lt, ◌==◌, ◌&&◌, ◌||◌, not, nat_le, map, if◌then◌else◌}
+use Rattle.std.specs.List.{filter_map, concat, AllByRecursion, cons_option}
+use Rattle.std.specs.Option.{option_map}
+use Rattle.acpi_base.specs.Model.{processor_in, processors_of}
+use Rattle.acpi_base.specs.declared.model.item.MadtItem.{MadtItem}
+use Rattle.acpi_c_lib.specs.Model.{left_after, listed, processor_record}
+use Rattle.acpi_c_lib.specs.declared.interrupt_records.Processor.{Processor}
+use Rattle.acpi_base.proofs.Cuts.{cut_is_cut}
+use Rattle.acpi_base.specs.Bytes.{IsBytes, field_of}
+use Rattle.acpi_base.specs.Entries.{IsEntry, after_one, cut, number_in, width_of, with_entry}
+use Rattle.acpi_base.specs.declared.entries.Width.{Width}
+use Rattle.acpi_base.specs.declared.entries.Width.TheVariants.{One, Two}
+use Rattle.acpi_c_lib.specs.Entries.{plain_grammar, plain_layout}
 use Rattle.std.proofs.lemmas.Bool.Decides.{nat_tests}
 use Rattle.std.proofs.lemmas.List.{length-map}
-use Rattle.acpi_base.proofs.Cuts.{cut_is_cut}
-use Rattle.acpi_base.specs.Bytes.{field_of}
-use Rattle.acpi_base.specs.Entries.{IsEntry, cut}
-use Rattle.acpi_arm.specs.Timers as arm
 use Rattle.acpi_arm.specs.Timers.{Timer, frame_count, frames_fit, is_sound, kind_of, sound_front, timer_bytes, timer_count, timer_of, timers_grammar, timers_layout, watchdog_at}
 use Rattle.acpi_arm.specs.declared.frames.GtFrame.{GtFrame}
-use Rattle.acpi_c_lib.proofs.CountedList.{put_parts}
+use Rattle.acpi_c_lib.proofs.Written.{put_parts}
 use Rattle.acpi_c_lib.specs.Answers.{put_from}
 use Rattle.acpi_c_lib.specs.ArmTimers.{frame_record, frames_in, frames_of, frames_shown, watchdog_in, watchdogs_shown}
-use Rattle.acpi_c_lib.specs.Records as records
+
+-- ---- processors: the first is the boot processor
+
+pub next_some : (n : ℕ) (x : MadtItem) (items : List MadtItem) (r : Processor) → option_map processor_record (processor_in (nat_lt 0 n) x) ≡ Some r
+    → left_after n (x ∷ items) ≡ r ∷ left_after (n + 1) items
+next_some zero x items r e = grind (arith, e)
+next_some (suc n) x items r e = grind (arith, e, add-one (suc n))
+
+pub next_none : (n : ℕ) (x : MadtItem) (items : List MadtItem) → option_map processor_record (processor_in (nat_lt 0 n) x) ≡ None → left_after n (x ∷ items) ≡ left_after n items
+next_none zero x items e = grind (arith, e)
+next_none (suc n) x items e = grind (arith, e)
+
+-- as many are listed as there are entries of processors
+pub as_many : (items : List MadtItem) → length (listed (processors_of items)) ≡ length (filter_map (processor_in true) items)
+as_many [] = refl
+as_many (x ∷ items) = grind (arith, as_many items)
+
+-- ---- entries of any table
+
+-- a number of at most two bytes
+pub number_small : (w : Width) (at : ℕ) (bytes : List ℕ) → IsBytes bytes → number_in w at bytes < 65536
+number_small One at bytes h = omega (arith, h at)
+number_small Two at bytes h = omega (arith, h at, h (at + 1))
+
+pub entry_small : (w : Width) (e : List ℕ) → IsBytes e → IsEntry (plain_layout w) e → length e < 65536
+entry_small w e h entry = omega (arith, number_small w (width_of w) e h, entry.size)
+
+-- the bytes of an entry and those after it are all bytes
+pub front_whole : (w : Width) (rest e others : List ℕ) → cut (plain_grammar w) rest ≡ with_entry e (cut (after_one (plain_grammar w)) others) → length rest ≡ length e + length others
+front_whole w rest e others front =
+    let all = cut_is_cut 0 (plain_grammar w) rest in
+    let more = cut_is_cut 0 (plain_grammar w) others in
+    let here : rest ≡ concat (e ∷ (cut (plain_grammar w) others).0) ++ (cut (plain_grammar w) others).1 = rw front at all.whole in
+    let long = ap length here in
+    let later = ap length more.whole in
+    omega (arith, long, later, length-append (concat (e ∷ (cut (plain_grammar w) others).0)) (cut (plain_grammar w) others).1, length-append e (concat (cut (plain_grammar w) others).0), length-append (concat (cut (plain_grammar w) others).0) (cut (plain_grammar w) others).1)
 
 -- ---- frames
 

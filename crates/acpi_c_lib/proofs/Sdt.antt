@@ -1,5 +1,9 @@
--- A table that is lent ends below 2^64.
-use Rattle.std.proofs.Common.{◌≡◌, ℕ, ◌+◌, ◌^◌, ◌<◌, ◌≤◌, List, length, Ok, arith, subst}
+-- A signature is its four bytes, and a table that is lent ends below 2^64.
+use Rattle.std.proofs.Common.{◌≡◌, ℕ, List, true, ap, ◌+◌, ◌^◌, ◌<◌, ◌≤◌, length, Ok, arith, subst}
+use Rattle.std.specs.Str.{bytes_eq}
+use Rattle.std.proofs.lemmas.Slice.Eq.{bytes_eq-Decides}
+use Rattle.acpi_base.specs.Text.{letters_of}
+use Rattle.acpi_base.specs.declared.table.signature.Signature.{Signature}
 use Rattle.std.proofs.lemmas.List.{length-take}
 use Rattle.std.proofs.lemmas.Option.{cond_some}
 use Rattle.acpi_base.proofs.LentBytes.{lent_ends}
@@ -8,6 +12,16 @@ use Rattle.acpi_base.specs.Header.{header_at}
 use Rattle.acpi_base.specs.Memory.{Memory, IsMemory, at, rest_from}
 use Rattle.acpi_base.specs.Steps.{lent}
 use Rattle.acpi_base.specs.Table.{Kind, length_in, own_table_at, plain_kind, table_at, table_of, whole_of}
+
+abbrev of_letters : List ℕ → Signature
+of_letters b = record { 0 = b }
+
+pub signature_is : (s : Signature) (b : List ℕ) → letters_of s ≡ b → s ≡ of_letters b
+signature_is s b e = ap of_letters e
+
+-- a signature that compares equal is that signature
+pub same_signature : (s k : Signature) → bytes_eq s.0 k.0 ≡ true → s ≡ k
+same_signature s k h = signature_is s k.0 ((bytes_eq-Decides s.0 k.0).0 h)
 
 lent_short : (m : Memory) (a n : ℕ) (bytes : List ℕ) → lent m a n ≡ Ok bytes → length bytes ≤ n
 unfolding at
