@@ -322,10 +322,11 @@ zacpi_status zacpi_find_nth_table(const struct zacpi_source *source,
 
 /* The entries of any table from its byte `first` on, where its fixed fields end: each begins with
  * Type and Length, of `bytes_each` bytes each (1 in a MADT from byte 44 and an SRAT from 48, 2 in
- * an NFIT from 40 and a DMAR from 48). An entry's Length is at least that of these two and at most
- * the bytes left; `malformed` is 1 if bytes are left in which none begins. `table` is an address,
- * listed or not. Errors: those of the regions, ZACPI_UNKNOWN_WIDTH for another `bytes_each`, those
- * of a table, ZACPI_SDT_INVALID_LENGTH if its Length is under `first`. */
+ * an NFIT from 40 and a DMAR from 48; sections 5.2.12, 5.2.16 and 5.2.25, and Intel's layout). An
+ * entry's Length is at least that of these two and at most the bytes left, and what its Type needs
+ * besides is the caller's to know; `malformed` is 1 if bytes are left in which none begins. `table`
+ * is an address, listed or not. Errors: those of the regions, ZACPI_UNKNOWN_WIDTH for another
+ * `bytes_each`, those of a table, ZACPI_SDT_INVALID_LENGTH if its Length is under `first`. */
 zacpi_status zacpi_list_entries(const struct zacpi_region *regions, size_t regions_length,
                                 uint64_t table, uint32_t first, uint32_t bytes_each,
                                 struct zacpi_entry *out, size_t room, size_t *count,
@@ -606,8 +607,8 @@ struct zacpi_processor { /* Processor Local APIC and Processor Local x2APIC, sec
  * valid MADT (section 5.2.12). Without one, or if it has no entry of a machine with APICs (Types 0
  * to 5, 9 and 0xa, not 0x10), the model isn't known, and the calls below return ZACPI_NO_APICS.
  * Further errors: ZACPI_TABLE_MISSING "FACP", 25 to 31 of enum zacpi_refusal for the first entry of
- * the MADT at fault, of one entry's the least, and ZACPI_INVALID_GENERIC_ADDRESS if zacpi_pm_timer
- * returns it. */
+ * the MADT at fault, of one entry's faults the least, and ZACPI_INVALID_GENERIC_ADDRESS if
+ * zacpi_pm_timer returns it. */
 zacpi_status zacpi_interrupt_model(const struct zacpi_source *source,
                                    struct zacpi_interrupt_model *out,
                                    struct zacpi_signature *named);
