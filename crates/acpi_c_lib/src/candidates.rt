@@ -152,7 +152,6 @@ fn walk<H: AcpiHandler>(
 
 /// Tries a candidate: whether it is valid, or else as many bytes of it as its Length says, if its 36 bytes are lent and
 /// these aren't.
-#[tactic(auto, using(crate::proofs::Tried::head_refused, crate::proofs::Tried::head_hole, crate::proofs::Tried::unsigned_refused, crate::proofs::Tried::unsigned_hole, crate::proofs::Tried::one_refused))]
 fn tried<H: AcpiHandler>(handler: &H, address: u64) -> Result<(), Option<Range>>
     requires begins { address / 16 * 16 ≡ address }
     requires low { address + 20 < 2 ^ 64 }
