@@ -1,6 +1,5 @@
 pub mod Ascending
 pub mod Clipping
-pub mod Counts
 pub mod IsaList
 pub mod Sdt
 pub mod Tried

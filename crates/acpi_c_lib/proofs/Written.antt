@@ -1,15 +1,34 @@
--- Lists that are written, in one part or in two.
-use Rattle.std.proofs.Common.{◌≡◌, ◌∙◌, ◌+◌, ℕ, List, [], ◌∷◌, ◌++◌, length, length-append, slice_set, ap, sym, arith, drop}
-use Rattle.std.proofs.lemmas.List.{append-nil}
+-- Lists that are written, in one part or in two, and how many items entries give at most.
+use Rattle.acpi_arm.specs.Timers as arm
+use Rattle.acpi_c_lib.specs.Records as records
+use Rattle.std.proofs.Common.{◌≡◌, ◌∙◌, ◌+◌, ℕ, List, [], ◌∷◌, ◌++◌, length, length-append, slice_set, ap, sym, arith, drop, zero, suc, map, Some, None, true, refl, add-one, ◌<◌, ◌*◌, ◌≤◌, Bool, false, Option, length-drop, inl, inr}
+use Rattle.std.proofs.lemmas.List.{append-nil, length-map}
 use Rattle.acpi_c_lib.specs.Answers.{Writes, put_from, Fills, result_map}
-use Rattle.std.specs.Prelude.{Result, Ok}
+use Rattle.std.specs.Prelude.{Result, Ok, nat_lt, ◌==◌, ◌&&◌, ◌||◌, not, nat_le, map, if◌then◌else◌}
 use Rattle.acpi_base.specs.Memory.{Memory}
 use Rattle.acpi.specs.Opened.{Opened}
-use Rattle.acpi.specs.Root.{pointers, width_of}
+use Rattle.acpi.specs.Root as root
+use Rattle.acpi.specs.Root.{pointers}
 use Rattle.acpi_c_lib.specs.Below.{below, opened_in}
 use Rattle.acpi_c_lib.specs.Regions.{memory_in}
 use Rattle.acpi_c_lib.specs.declared.records.Source.{Source}
 use Rattle.acpi_c_lib.specs.declared.refusal.Refusal.{Refusal}
+use Rattle.std.specs.List.{filter_map, concat, AllByRecursion, cons_option}
+use Rattle.std.specs.Option.{option_map}
+use Rattle.acpi_base.specs.Model.{processor_in, processors_of}
+use Rattle.acpi_base.specs.declared.model.item.MadtItem.{MadtItem}
+use Rattle.acpi_c_lib.specs.Model.{left_after, listed, processor_record}
+use Rattle.acpi_c_lib.specs.declared.interrupt_records.Processor.{Processor}
+use Rattle.acpi_base.proofs.Cuts.{cut_is_cut}
+use Rattle.acpi_base.specs.Bytes.{IsBytes, field_of}
+use Rattle.acpi_base.specs.Entries.{IsEntry, after_one, cut, number_in, width_of, with_entry}
+use Rattle.acpi_base.specs.declared.entries.Width.{Width}
+use Rattle.acpi_base.specs.declared.entries.Width.TheVariants.{One, Two}
+use Rattle.acpi_c_lib.specs.Entries.{plain_grammar, plain_layout}
+use Rattle.std.proofs.lemmas.Bool.Decides.{nat_tests}
+use Rattle.acpi_arm.specs.Timers.{Timer, frame_count, frames_fit, is_sound, kind_of, sound_front, timer_bytes, timer_count, timer_of, timers_grammar, timers_layout, watchdog_at}
+use Rattle.acpi_arm.specs.declared.frames.GtFrame.{GtFrame}
+use Rattle.acpi_c_lib.specs.ArmTimers.{frame_record, frames_in, frames_of, frames_shown, watchdog_in, watchdogs_shown}
 
 -- what is written from where the first part ends on is the second part
 pub put_parts : {X : Type 0} (old : List X) (n : ℕ) (xs ys : List X) → put_from old n (xs ++ ys) ≡ put_from (put_from old n xs) (n + length xs) ys
@@ -30,7 +49,142 @@ one_part old new xs n first counted = rw (append-nil xs) (omega (arith, counted)
 
 -- ---- of what is said of the tables that a caller names
 
-pub listed : {A X : Type 0} (s : Source) (m : Memory) (o : Opened) (answer : Memory → List ℕ → Result A Refusal) (show : A → List X) (x : A) (n : ℕ) (old new : List X)
-    → memory_in s.regions.now ≡ Ok m → opened_in m s ≡ Ok o → answer m (pointers (width_of o.kind) (drop 36 o.root)) ≡ Ok x → Writes n old new (show x)
+pub fills_said : {A X : Type 0} (s : Source) (m : Memory) (o : Opened) (answer : Memory → List ℕ → Result A Refusal) (show : A → List X) (x : A) (n : ℕ) (old new : List X)
+    → memory_in s.regions.now ≡ Ok m → opened_in m s ≡ Ok o → answer m (pointers (root.width_of o.kind) (drop 36 o.root)) ≡ Ok x → Writes n old new (show x)
     → Fills (Ok n) old new (result_map show (below s answer))
-listed s m o answer show x n old new a b c written = rw (a, b, c) (ap Ok written.0, written.1)
+fills_said s m o answer show x n old new a b c written = rw (a, b, c) (ap Ok written.0, written.1)
+
+-- ---- processors: the first is the boot processor
+
+pub next_some : (n : ℕ) (x : MadtItem) (items : List MadtItem) (r : Processor) → option_map processor_record (processor_in (nat_lt 0 n) x) ≡ Some r
+    → left_after n (x ∷ items) ≡ r ∷ left_after (n + 1) items
+next_some zero x items r e = grind (arith, e)
+next_some (suc n) x items r e = grind (arith, e, add-one (suc n))
+
+pub next_none : (n : ℕ) (x : MadtItem) (items : List MadtItem) → option_map processor_record (processor_in (nat_lt 0 n) x) ≡ None → left_after n (x ∷ items) ≡ left_after n items
+next_none zero x items e = grind (arith, e)
+next_none (suc n) x items e = grind (arith, e)
+
+-- as many are listed as there are entries of processors
+pub as_many : (items : List MadtItem) → length (listed (processors_of items)) ≡ length (filter_map (processor_in true) items)
+as_many [] = refl
+as_many (x ∷ items) = grind (arith, as_many items)
+
+-- ---- entries of any table
+
+-- a number of at most two bytes
+pub number_small : (w : Width) (at : ℕ) (bytes : List ℕ) → IsBytes bytes → number_in w at bytes < 65536
+number_small One at bytes h = omega (arith, h at)
+number_small Two at bytes h = omega (arith, h at, h (at + 1))
+
+pub entry_small : (w : Width) (e : List ℕ) → IsBytes e → IsEntry (plain_layout w) e → length e < 65536
+entry_small w e h entry = omega (arith, number_small w (width_of w) e h, entry.size)
+
+-- the bytes of an entry and those after it are all bytes
+pub front_whole : (w : Width) (rest e others : List ℕ) → cut (plain_grammar w) rest ≡ with_entry e (cut (after_one (plain_grammar w)) others) → length rest ≡ length e + length others
+front_whole w rest e others front =
+    let all = cut_is_cut 0 (plain_grammar w) rest in
+    let more = cut_is_cut 0 (plain_grammar w) others in
+    let here : rest ≡ concat (e ∷ (cut (plain_grammar w) others).0) ++ (cut (plain_grammar w) others).1 = rw front at all.whole in
+    let long = ap length here in
+    let later = ap length more.whole in
+    omega (arith, long, later, length-append (concat (e ∷ (cut (plain_grammar w) others).0)) (cut (plain_grammar w) others).1, length-append e (concat (cut (plain_grammar w) others).0), length-append (concat (cut (plain_grammar w) others).0) (cut (plain_grammar w) others).1)
+
+-- ---- frames
+
+length_frames : (n : ℕ) (bytes : List ℕ) → length (arm.frames_in n bytes) ≡ n
+length_frames zero bytes = refl
+length_frames (suc n) bytes = ap suc (length_frames n (drop 40 bytes))
+
+few : (n offset most : ℕ) → ((n == 0) || (nat_le 20 offset && nat_le (offset + 40 * n) most)) ≡ true → n ≤ most
+few n offset most h = grind (arith, nat_tests)
+
+abbrev said : Option Timer → List records.GtFrame
+said (Some t) = frames_in t
+said None = []
+
+by_kind : (e : List ℕ) (b c : Bool) → (not b || frames_fit e) ≡ true
+    → length (said (if b then Some (inl (field_of e 4 8, arm.frames_of e)) else if c then Some (inr (watchdog_at e)) else None)) ≤ length e
+by_kind e true c h =
+    let many = length-map (arm.frames_of e) (frame_record (field_of e 4 8)) ∙ length_frames (frame_count e) (drop (arm.frames_offset e) e) in
+    omega (arith, many, few (frame_count e) (arm.frames_offset e) (length e) h)
+by_kind e false true h = omega arith
+by_kind e false false h = omega arith
+
+with_said : (o : Option Timer) (timers : List Timer) (n m : ℕ) → length (said o) ≤ n → length (frames_of timers) ≤ m → length (frames_of (cons_option o timers)) ≤ n + m
+with_said (Some t) timers n m h k = omega (arith, h, k, length-append (frames_in t) (frames_of timers))
+with_said None timers n m h k = omega (arith, k)
+
+abbrev frames_among : List (List ℕ) → List records.GtFrame
+frames_among es = frames_of (filter_map timer_of es)
+
+by_sound : (b : Bool) (e : List ℕ) (es : List (List ℕ)) → is_sound e ≡ b → length (frames_among (sound_front es)) ≤ length (concat es)
+    → length (frames_among (if b then e ∷ sound_front es else [])) ≤ length e + length (concat es)
+by_sound true e es h k = with_said (timer_of e) (filter_map timer_of (sound_front es)) (length e) (length (concat es)) (by_kind e (kind_of e == 0) (kind_of e == 1) h) k
+by_sound false e es h k = omega arith
+
+frames_sound : (es : List (List ℕ)) → length (frames_among (sound_front es)) ≤ length (concat es)
+frames_sound [] = omega arith
+frames_sound (e ∷ es) = omega (arith, by_sound (is_sound e) e es refl (frames_sound es), length-append e (concat es))
+
+cut_whole : (count : ℕ) (bytes : List ℕ) → length (concat (cut (timers_grammar count) bytes).0) ≤ length bytes
+cut_whole count bytes =
+    let c = cut_is_cut 2 (timers_grammar count) bytes in
+    let long : length bytes ≡ length (concat (cut (timers_grammar count) bytes).0 ++ (cut (timers_grammar count) bytes).1) = ap length c.whole in
+    omega (arith, long, length-append (concat (cut (timers_grammar count) bytes).0) (cut (timers_grammar count) bytes).1)
+
+few_bytes : (b : Bool) (table : List ℕ) (n : ℕ) → length (if b then [] else drop n table) ≤ length table
+few_bytes true table n = omega arith
+few_bytes false table n = omega (arith, length-drop n table)
+
+bytes_few : (table : List ℕ) → length (timer_bytes table) ≤ length table
+bytes_few table = few_bytes _ table (field_of table 92 4)
+
+pub frames_few : (table : List ℕ) → length (frames_shown table) ≤ length table
+frames_few table =
+    omega (arith, frames_sound (cut (timers_grammar (timer_count table)) (timer_bytes table)).0, cut_whole (timer_count table) (timer_bytes table), bytes_few table)
+
+-- ---- watchdogs
+
+one_each : (es : List (List ℕ)) → AllByRecursion (IsEntry timers_layout) es → length es ≤ length (concat es)
+one_each [] a = omega arith
+one_each (e ∷ es) a = omega (arith, one_each es a.1, a.0.header, length-append e (concat es))
+
+length-cons_option : {X : Type 0} (o : Option X) (xs : List X) → length (cons_option o xs) ≤ suc (length xs)
+length-cons_option None xs = omega arith
+length-cons_option (Some x) xs = omega arith
+
+length-filter_map : {X Y : Type 0} (f : X → Option Y) (xs : List X) → length (filter_map f xs) ≤ length xs
+length-filter_map f [] = omega arith
+length-filter_map f (x ∷ xs) = omega (arith, length-filter_map f xs, length-cons_option (f x) (filter_map f xs))
+
+by_front : (b : Bool) (e : List ℕ) (es fs : List (List ℕ)) → length fs ≤ length es → length (if b then e ∷ fs else []) ≤ suc (length es)
+by_front true e es fs h = omega (arith, h)
+by_front false e es fs h = omega arith
+
+front_few : (es : List (List ℕ)) → length (sound_front es) ≤ length es
+front_few [] = omega arith
+front_few (e ∷ es) = by_front (is_sound e) e es (sound_front es) (front_few es)
+
+pub watchdogs_few : (table : List ℕ) → length (watchdogs_shown table) ≤ length table
+watchdogs_few table =
+    let es = (cut (timers_grammar (timer_count table)) (timer_bytes table)).0 in
+    let c = cut_is_cut 2 (timers_grammar (timer_count table)) (timer_bytes table) in
+    omega (arith, length-filter_map watchdog_in (filter_map timer_of (sound_front es)), length-filter_map timer_of (sound_front es), front_few es, one_each es c.entries, cut_whole (timer_count table) (timer_bytes table), bytes_few table)
+
+-- ---- blocks one after the other
+
+-- the frames that are left before a block, with the block's frames first
+
+pub block_first : (all : ℕ) (count : ℕ) (block : ℕ) (frames : List GtFrame) (left more : List Timer) → left ≡ inl (block, frames) ∷ more → count + length (frames_of left) ≡ all
+    → count + length (map (frame_record block) frames) + length (frames_of more) ≡ all
+block_first all count block frames left more e h =
+    let many = rw (e, length-append (map (frame_record block) frames) (frames_of more)) at h in
+    omega (arith, many)
+
+pub block_written : (old out : List records.GtFrame) (all : List records.GtFrame) (count : ℕ) (block : ℕ) (frames : List GtFrame) (left more : List Timer) → left ≡ inl (block, frames) ∷ more
+    → put_from out count (frames_of left) ≡ put_from old 0 all
+    → put_from (put_from out count (map (frame_record block) frames)) (count + length (map (frame_record block) frames)) (frames_of more) ≡ put_from old 0 all
+block_written old out all count block frames left more e h =
+    let whole = rw e at h in
+    sym (put_parts out count (map (frame_record block) frames) (frames_of more)) ∙ whole

@@ -98,7 +98,7 @@ pub fn frames(source: &Source<'_>, out: &mut [records::GtFrame]) -> Result<usize
 }
 
 /// The frames of all blocks of a GTDT.
-#[tactic(auto, using(crate::proofs::Counts::frames_few, crate::proofs::Written::put_parts))]
+#[tactic(auto, using(crate::proofs::Written::frames_few, crate::proofs::Written::put_parts))]
 fn fill_frames(table: &[u8], out: &mut [records::GtFrame]) -> usize
     ensures { Writes result out.old out.new (frames_shown table.now) }
 {
@@ -159,7 +159,7 @@ pub fn watchdogs(source: &Source<'_>, out: &mut [Watchdog]) -> Result<usize, Ref
 }
 
 /// The watchdogs of a GTDT.
-#[tactic(auto, using(crate::proofs::Counts::watchdogs_few))]
+#[tactic(auto, using(crate::proofs::Written::watchdogs_few))]
 fn fill_watchdogs(table: &[u8], out: &mut [Watchdog]) -> usize
     ensures { Writes result out.old out.new (watchdogs_shown table.now) }
 {

@@ -80,7 +80,7 @@ fn plain_grammar(width: Width) -> Grammar<0>
 }
 
 /// Writes the entries of bytes at an address, and answers how many there are, and the bytes after them.
-#[tactic(auto, using(crate::proofs::Counts::front_whole))]
+#[tactic(auto, using(crate::proofs::Written::front_whole))]
 fn fill<'a>(width: Width, bytes: &'a [u8], address: u64, out: &mut [Entry]) -> (usize, &'a [u8])
     requires { address + length bytes.now < 2 ^ 64 }
     ensures items { Writes result.0 out.old out.new
@@ -101,7 +101,7 @@ fn fill<'a>(width: Width, bytes: &'a [u8], address: u64, out: &mut [Entry]) -> (
 }
 
 /// An entry at an address.
-#[tactic(auto, using(crate::proofs::Counts::entry_small, crate::proofs::Counts::number_small))]
+#[tactic(auto, using(crate::proofs::Written::entry_small, crate::proofs::Written::number_small))]
 fn entry_record(width: Width, address: u64, entry: &[u8]) -> Entry
     requires { IsEntry (spec.plain_layout width) entry.now }
     ensures { result ≡ entry_record width address entry.now }

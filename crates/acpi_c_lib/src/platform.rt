@@ -120,7 +120,7 @@ fn add<R: MadtRecord>(item: MadtItem, out: &mut [R], at: usize) -> usize
 /// Writes the processor that an item says, if it says one, and returns the place of the next. The one at place 0 is the
 /// boot processor.
 #[inline(always)]
-#[tactic(auto, using(crate::proofs::Counts::next_some, crate::proofs::Counts::next_none))]
+#[tactic(auto, using(crate::proofs::Written::next_some, crate::proofs::Written::next_none))]
 fn add_processor(item: MadtItem, out: &mut [Processor], at: usize) -> usize
     requires { at < 2 ^ 63 }
     ensures written { (more : List MadtItem)

@@ -46,7 +46,7 @@ pub fn model(source: &Source<'_>) -> Result<InterruptModel, Refusal>
 }
 
 /// The model of a MADT that describes APICs, with this address of the local ones.
-#[tactic(auto, using(crate::proofs::Counts::as_many))]
+#[tactic(auto, using(crate::proofs::Written::as_many))]
 pub(crate) fn known_model<H: Lender>(
     found: &ApicMadt<'_, H>,
     local_apic_address: u64,
@@ -91,7 +91,7 @@ pub fn processors(source: &Source<'_>, out: &mut [Processor]) -> Result<usize, R
 }
 
 /// The first processor is the boot processor.
-#[tactic(auto, using(crate::proofs::Counts::next_some, crate::proofs::Counts::next_none))]
+#[tactic(auto, using(crate::proofs::Written::next_some, crate::proofs::Written::next_none))]
 fn fill_processors(items: MadtItems<'_>, out: &mut [Processor]) -> usize
     requires { length (items_left items) < 2 ^ 63 }
     ensures { Writes result out.old out.new (processors_in (items_left items.entry)) }

@@ -2,7 +2,7 @@ use Rattle.std.proofs.Common.{arith}
 use Rattle.std.proofs.lemmas.List.{length-map}
 use Rattle.acpi_arm.specs.Timers.{frames_left}
 use Rattle.acpi_c_lib.specs.ArmTimers.{frame_record, frames_shown}
-use Rattle.acpi_c_lib.proofs.Counts.{block_first, block_written, frames_few}
+use Rattle.acpi_c_lib.proofs.Written.{block_first, block_written, frames_few}
 use Rattle.acpi_c_lib.proofs.arm_timers.fill_frames.Goals as goal
 
 pub fill_block-count-requires : goal.fill_block-count-requires

@@ -10,7 +10,7 @@ use Rattle.acpi.specs.Opened.{opened_of}
 use Rattle.acpi_numa.specs.Affinities.{ranges_of}
 use Rattle.acpi_c_lib.specs.Held.{mapped_memory}
 use Rattle.acpi_c_lib.specs.Numa.{affinities_in, affinity_record, numa_refused}
-use Rattle.acpi_c_lib.proofs.Written.{listed}
+use Rattle.acpi_c_lib.proofs.Written.{fills_said}
 use Rattle.acpi_c_lib.proofs.numa.affinities.Goals as goal
 
 abbrev checked : Bool → Bool → List MemoryRange → Result (List MemoryRange) NumaError
@@ -31,4 +31,4 @@ returns c =
     let said = rw c.bytes.ensures.value at c.in_ok-count.ensures in
     let all = counted _ _ _ _ (sym said) in
     let items = rw c.bytes-2.ensures.value at c.fill_affinities.ensures in
-    listed c.args.source.now (mapped_memory c.in_ok-memory.memory) (opened_of c.in_ok-tables.tables) affinities_in (map affinity_record) (ranges_of (bytes_of c.in_ok-srat.srat)) _ _ _ c.in_ok-memory.ensures c.in_ok-tables.ensures.opened (rw found (ap numa_refused all.0)) (grind (arith, all.1, length-map), items)
+    fills_said c.args.source.now (mapped_memory c.in_ok-memory.memory) (opened_of c.in_ok-tables.tables) affinities_in (map affinity_record) (ranges_of (bytes_of c.in_ok-srat.srat)) _ _ _ c.in_ok-memory.ensures c.in_ok-tables.ensures.opened (rw found (ap numa_refused all.0)) (grind (arith, all.1, length-map), items)
