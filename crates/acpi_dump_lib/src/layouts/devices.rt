@@ -48,10 +48,24 @@ const PORTS: &[u8] = b"
 = serial-subtypes * - debug port subtypes of serial ports
 0x00 full 16550
 0x01 full 16450
+0x02 MAX311xE SPI
 0x03 Arm PL011
+0x04 MSM8x60
+0x05 Nvidia 16550
+0x06 TI OMAP
+0x08 APM88xxxx
+0x09 MSM8974
+0x0a SAM5250
+0x0b Intel USIF
+0x0c i.MX 6
 0x0d Arm SBSA generic, 32-bit accesses
 0x0e Arm SBSA generic
+0x0f Arm DCC
+0x10 BCM2835
+0x11 SDM845 with a clock of 1.8432 MHz
 0x12 16550 by generic address
+0x13 SDM845 with a clock of 7.372 MHz
+0x14 Intel LPSS
 
 = DBG2 * - Debug Port Table 2
 36 4 - OffsetDbgDeviceInfo

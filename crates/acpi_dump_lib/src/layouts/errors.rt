@@ -192,7 +192,7 @@ then HEST-notification
 7 1 codes Enabled | 1 enabled
 8 4 dec Number of Records To Pre-allocate
 12 4 dec Max Sections Per Record
-16 4 dec Bus
+16 4 flags Bus | 7:0 bus | 23:8 segment
 20 2 dec Device
 22 2 dec Function
 24 2 - Device Control
