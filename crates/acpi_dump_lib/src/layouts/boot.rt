@@ -1,9 +1,10 @@
 //! What firmware tells of the boot, and of licences.
 
-/// The BGRT, the FPDT, the RGRT (ACPI 6.5, sections 5.2.23, 5.2.24 and 5.2.35), the UEFI table (UEFI 2.10, appendix
-/// O), the BOOT, the MSDM, the SLIC, the WPBT and the WSMT (Microsoft: Simple Boot Flag Specification 2.1, Software
-/// Licensing Tables, Windows Platform Binary Table, Windows SMM Security Mitigations Table), the STAO and
-/// the XENV (Xen Project), the PHAT (ACPI 6.5, section 5.2.32) and the PRMT (Platform Runtime Mechanism 1.0).
+/// The BGRT, the FPDT with the S3PT and the FBPT that it points to, the RGRT (ACPI 6.5, sections 5.2.23, 5.2.24 and
+/// 5.2.35), the UEFI table (UEFI 2.10, appendix O), the BOOT, the MSDM, the SLIC, the WPBT and the WSMT (Microsoft:
+/// Simple Boot Flag Specification 2.1, Software Licensing Tables, Windows Platform Binary Table, Windows SMM Security
+/// Mitigations Table), the STAO and the XENV (Xen Project), the PHAT (ACPI 6.5, section 5.2.32) and the PRMT (Platform
+/// Runtime Mechanism 1.0).
 pub(crate) fn boot() -> &'static [u8] {
     BOOT
 }
@@ -32,6 +33,43 @@ const BOOT: &[u8] = b"
 = FPDT-record 1 - S3 Performance Table Pointer Record
 4 4 - Reserved
 8 8 - S3PT Pointer
+
+= S3PT * - S3 Performance Table
+
+= S3PT-records * - what follows its signature and its length
+8 {*} typed 0:2 2:1 S3PT-record
+
+= S3PT-record * - what each record begins with
+0 2 - Runtime Performance Record Type
+2 1 dec Record Length
+3 1 - Revision
+
+= S3PT-record 0 - Basic S3 Resume Performance Record
+4 4 dec Resume Count
+8 8 dec FullResume
+16 8 dec AverageResume
+
+= S3PT-record 1 - Basic S3 Suspend Performance Record
+4 8 dec SuspendStart
+12 8 dec SuspendEnd
+
+= FBPT * - Firmware Basic Boot Performance Table
+
+= FBPT-records * - what follows its signature and its length
+8 {*} typed 0:2 2:1 FBPT-record
+
+= FBPT-record * - what each record begins with
+0 2 - Performance Record Type
+2 1 dec Record Length
+3 1 - Revision
+
+= FBPT-record 2 - Firmware Basic Boot Performance Data Record
+4 4 - Reserved
+8 8 dec Reset End
+16 8 dec OS Loader LoadImage Start
+24 8 dec OS Loader StartImage Start
+32 8 dec ExitBootServices Entry
+40 8 dec ExitBootServices Exit
 
 = RGRT * - Regulatory Graphics Resource Table
 36 2 - Version

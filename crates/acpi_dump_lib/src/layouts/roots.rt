@@ -1,6 +1,7 @@
 //! The header of tables, and the tables that point to others (ACPI 6.5).
 
-/// The header that every table begins with (section 5.2.6, table 5.4).
+/// The header that every table begins with (section 5.2.6, table 5.4). An S3PT and an FBPT have only its first
+/// two fields: after their records, fields at lower offsets aren't shown.
 pub(crate) fn header() -> &'static [u8] {
     HEADER
 }
@@ -8,6 +9,8 @@ pub(crate) fn header() -> &'static [u8] {
 const HEADER: &[u8] = b"
 0 4 text Signature
 4 4 dec Length
+if 0:4 0x54503353 0x54503353 S3PT-records
+if 0:4 0x54504246 0x54504246 FBPT-records
 8 1 - Revision
 9 1 - Checksum
 10 6 text OEMID
