@@ -109,13 +109,50 @@ then DRTM-id
 6 2 dec Device Id Length
 8 2 dec Vendor Specific Data Offset
 10 2 dec Vendor Specific Data Length
-if 1:1 2 3 SDEV-components
+if 1:1 0 1 SDEV-plain
+if 1:1 2 255 SDEV-components
+
+= SDEV-plain * - if secure access components aren't present
+with SDEV-device-id
+with SDEV-vendor-data
+
+= SDEV-device-id * - Device Id
 4:2 6:2 text Device Id
+
+= SDEV-vendor-data * - Vendor Specific Data
 8:2 10:2 - Vendor Specific Data
 
 = SDEV-components * - if secure access components are present
 12 2 dec Secure Access Components Offset
 14 2 dec Secure Access Components Length
+with SDEV-device-id
+if 8:2-12:2 1 0xffff SDEV-component-list
+with SDEV-vendor-data
+if 8:2-12:2 0 0 SDEV-component-list
+
+= SDEV-component-list * - before Vendor Specific Data, or after it
+12:2 {~14:2} typed 0:1 2:2 SDEV-component
+
+= SDEV-component * - what each component begins with
+0 1 - Type
+2 2 dec Length
+
+= SDEV-component 0 - Identification Based Secure Access Component
+4 2 dec Hardware Identifier Offset
+6 2 dec Hardware Identifier Length
+8 2 dec Subsystem Identifier Offset
+10 2 dec Subsystem Identifier Length
+12 2 - Hardware Revision
+14 1 - Hardware Revision Present
+15 1 - Class Code Present
+16 1 - PCI-Compatible Base Class
+17 1 - PCI-Compatible Sub-Class
+18 1 - PCI-Compatible Programming Interface
+
+= SDEV-component 1 - Memory-based Secure Access Component
+4 4 - Reserved
+8 8 - Memory Address Base
+16 8 - Memory Length
 
 = SDEV-structure 1 - PCIe Endpoint Device based Device Structure
 4 2 dec PCI Segment Number
