@@ -73,6 +73,7 @@ pub(crate) struct WrongWord<'w> {
 }
 
 /// Why arguments ask for nothing.
+#[derive(Drop)]
 pub(crate) enum Mistake<'w> {
     /// A word is wrong.
     Word(WrongWord<'w>),
@@ -257,13 +258,12 @@ fn checked<'w, T: Drop>(
 
 /// The way that `rsdt:REVISION:ADDRESS`, `rsdp:ADDRESS` or `bios` says.
 fn parse_start(word: &str) -> Option<Root> {
-    let mut parts = word.split(':');
-    let words = [parts.next(), parts.next(), parts.next(), parts.next()];
-    match words {
-        [Some(form), None, _, _] => parse_root(&[form]),
-        [Some(form), Some(address), None, _] => parse_root(&[form, address]),
-        [Some(form), Some(revision), Some(address), None] => parse_root(&[form, revision, address]),
-        _ => None,
+    let Some((form, rest)) = word.split_once(':') else {
+        return parse_root(&[word]);
+    };
+    match rest.split_once(':') {
+        None => parse_root(&[form, rest]),
+        Some((revision, address)) => parse_root(&[form, revision, address]),
     }
 }
 
@@ -313,67 +313,83 @@ fn input_words<'w>(alloc: Global, matches: &ArgMatches<'w>) -> Result<Vec<&'w st
     Ok(words)
 }
 
-/// The request with the way to the root table that words after an image say, in place of more inputs.
-fn with_words<'w>(mut asked: Asked<'w>) -> Result<Asked<'w>, Mistake<'w>> {
-    let [image, form, ..] = asked.inputs.as_slice() else {
-        return Ok(asked);
+/// The way to the root table that words after an image say, in place of more inputs.
+fn root_after<'w>(words: &[&'w str]) -> Result<Option<Root>, Mistake<'w>> {
+    let [_, form, ..] = words else {
+        return Ok(None);
     };
     if !matches!(*form, "rsdt" | "rsdp" | "bios") {
-        return Ok(asked);
+        return Ok(None);
     }
-    let (image, word) = (*image, *form);
-    let Some(root) = parse_root(asked.inputs.get(1..).unwrap_or(&[])) else {
-        return Err(Mistake::Word(WrongWord {
+    match parse_root(words.get(1..).unwrap_or(&[])) {
+        Some(root) => Ok(Some(root)),
+        None => Err(Mistake::Word(WrongWord {
             option: "",
-            word,
+            word: *form,
             usage: "IMAGE rsdt REVISION ADDRESS | rsdp ADDRESS | bios",
-        }));
-    };
-    asked.inputs.truncate(0);
-    asked.inputs.push(image)?;
-    asked.start = Some(root);
-    if asked.kind.is_none() && asked.at.is_none() {
-        asked.kind = Some(Kind::Image);
+        })),
     }
-    Ok(asked)
 }
 
 const AT: &str = "ADDRESS, which is 0x and one to sixteen hexadecimal digits";
 
 const START: &str = "rsdt:REVISION:ADDRESS | rsdp:ADDRESS | bios";
 
+/// What options with a word say.
+#[derive(Clone, Copy)]
+struct Said {
+    kind: Option<Kind>,
+    at: Option<u64>,
+    start: Option<Root>,
+    color: Option<Color>,
+}
+
+/// What the options with a word say.
+fn said_by<'w>(matches: &ArgMatches<'w>) -> Result<Said, Mistake<'w>> {
+    let (kind, at) = (matches.get_str("as"), matches.get_str("at"));
+    let (start, color) = (matches.get_str("start"), matches.get_str("color"));
+    Ok(Said {
+        kind: checked(
+            "as",
+            kind,
+            kind.and_then(parse_kind),
+            "image | memory | text | table",
+        )?,
+        at: checked("at", at, at.and_then(parse_address), AT)?,
+        start: checked("start", start, start.and_then(parse_start), START)?,
+        color: checked(
+            "color",
+            color,
+            color.and_then(parse_color),
+            "auto | always | never",
+        )?,
+    })
+}
+
 /// The request that matches make.
 pub(crate) fn asked_by<'w>(
     alloc: Global,
     matches: &ArgMatches<'w>,
 ) -> Result<Asked<'w>, Mistake<'w>> {
-    let (kind, at) = (matches.get_str("as"), matches.get_str("at"));
-    let (start, color) = (matches.get_str("start"), matches.get_str("color"));
-    let kind = checked(
-        "as",
-        kind,
-        kind.and_then(|word| parse_kind(word)),
-        "image | memory | text | table",
-    )?;
-    let at = checked("at", at, at.and_then(|word| parse_address(word)), AT)?;
-    let start = checked(
-        "start",
-        start,
-        start.and_then(|word| parse_start(word)),
-        START,
-    )?;
-    let color = checked(
-        "color",
-        color,
-        color.and_then(|word| parse_color(word)),
-        "auto | always | never",
-    )?;
-    with_words(Asked {
-        inputs: input_words(alloc, matches)?,
+    let Said {
         kind,
         at,
         start,
-        view: view_of(alloc, matches)?,
+        color,
+    } = said_by(matches)?;
+    let mut inputs = input_words(alloc, matches)?;
+    let view = view_of(alloc, matches)?;
+    let root = root_after(&inputs)?;
+    if root.is_some() {
+        inputs.truncate(1);
+    }
+    let is_image = root.is_some() && kind.is_none() && at.is_none();
+    Ok(Asked {
+        inputs,
+        kind: if is_image { Some(Kind::Image) } else { kind },
+        at,
+        start: root.or(start),
+        view,
         is_json: matches.get_flag("json"),
         is_strict: matches.get_flag("strict"),
         color: color.unwrap_or(Color::Auto),

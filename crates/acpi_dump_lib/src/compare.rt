@@ -1,12 +1,13 @@
 //! What differs between the tables of two inputs.
 
-use crate::entries::{Entry, Place};
+use crate::entries::Entry;
 use crate::fields::{print_hex, print_meaning, print_value};
-use crate::json::Object;
+use crate::json::{List, Object, table_of};
+use crate::out::Out;
+use crate::shown::print_name;
 use crate::walk::{Fault, Group, Show, Shown, walk_table};
 use serde_json::Value;
-use std::alloc::Global;
-use std::io;
+use std::alloc::{AllocError, Global};
 use std::io::Write;
 
 /// A field or a run of bytes of a table: where it is, its name, and its value as text.
@@ -14,7 +15,7 @@ use std::io::Write;
 struct Item {
     offset: u64,
     name: &'static str,
-    value: Vec<u8>,
+    value: Out<Vec<u8>>,
 }
 
 /// The items of a table, in the order of its bytes.
@@ -22,59 +23,68 @@ struct Item {
 struct Items {
     alloc: Global,
     items: Vec<Item>,
+    /// Whether memory for an item was refused.
+    is_refused: bool,
+}
+
+impl Items {
+    /// Adds an item, if there was memory for its value.
+    fn add(&mut self, offset: u64, name: &'static str, value: Out<Vec<u8>>) {
+        let is_printed = value.printed().is_some();
+        let item = Item {
+            offset,
+            name,
+            value,
+        };
+        if !is_printed || self.items.push(item).is_err() {
+            self.is_refused = true;
+        }
+    }
 }
 
 impl Show for Items {
-    fn field(&mut self, shown: &Shown<'_>) -> io::Result<()> {
-        let mut value = Vec::new(self.alloc);
-        print_value(shown.bytes, shown.meaning, &mut value)?;
-        print_meaning(shown.bytes, shown.meaning, &mut value)?;
-        self.items.push(Item {
-            offset: shown.offset,
-            name: shown.name,
-            value,
-        })?;
-        Ok(())
+    fn field(&mut self, shown: &Shown<'_>) {
+        let mut value = Out::new(Vec::new(self.alloc));
+        print_value(shown.bytes, shown.meaning, &mut value);
+        print_meaning(shown.bytes, shown.meaning, &mut value);
+        self.add(shown.offset, shown.name, value);
     }
 
-    fn bytes(&mut self, offset: u64, bytes: &[u8]) -> io::Result<()> {
+    fn bytes(&mut self, offset: u64, bytes: &[u8]) {
         let mut offset = offset;
         for line in bytes.chunks(16) {
-            let mut value = Vec::new(self.alloc);
-            print_hex(line, &mut value)?;
-            self.items.push(Item {
-                offset,
-                name: "bytes",
-                value,
-            })?;
+            let mut value = Out::new(Vec::new(self.alloc));
+            print_hex(line, &mut value);
+            self.add(offset, "bytes", value);
             offset = offset.saturating_add(16);
         }
-        Ok(())
     }
 
-    fn begin(&mut self, _group: &Group) -> io::Result<()> {
-        Ok(())
-    }
+    fn begin(&mut self, _group: &Group) {}
 
-    fn end(&mut self) -> io::Result<()> {
-        Ok(())
-    }
+    fn end(&mut self) {}
 
-    fn malformed(&mut self, _offset: u64, _fault: Fault) -> io::Result<()> {
-        Ok(())
-    }
+    fn malformed(&mut self, _offset: u64, _fault: Fault) {}
 }
 
 /// The items of a table.
-fn items_of(alloc: Global, entry: &Entry<'_>) -> io::Result<Vec<Item>> {
+fn items_of(alloc: Global, entry: &Entry<'_>) -> Result<Vec<Item>, AllocError> {
     let mut shown = Items {
         alloc,
         items: Vec::new(alloc),
+        is_refused: false,
     };
     if let Some(signature) = entry.signature() {
-        walk_table(signature, entry.bytes, &mut shown)?;
+        walk_table(signature, entry.bytes, &mut shown);
     }
-    let Items { items, .. } = shown;
+    let Items {
+        items,
+        is_refused,
+        ..
+    } = shown;
+    if is_refused {
+        return Err(AllocError);
+    }
     Ok(items)
 }
 
@@ -83,8 +93,8 @@ fn items_of(alloc: Global, entry: &Entry<'_>) -> io::Result<Vec<Item>> {
 struct Difference<'a> {
     offset: u64,
     name: &'static str,
-    old: Option<&'a [u8]>,
-    new: Option<&'a [u8]>,
+    old: Option<&'a str>,
+    new: Option<&'a str>,
 }
 
 /// The item that comes first of those that are left on two sides, with the one beside it if that is the same field.
@@ -105,7 +115,7 @@ fn differences<'a>(
     alloc: Global,
     old: &'a [Item],
     new: &'a [Item],
-) -> io::Result<Vec<Difference<'a>>> {
+) -> Result<Vec<Difference<'a>>, AllocError> {
     let mut found = Vec::new(alloc);
     let (mut i, mut j) = (0usize, 0usize);
     for _ in 0..old.len().saturating_add(new.len()) {
@@ -133,11 +143,8 @@ fn differences<'a>(
 }
 
 /// The value of an item, if there is one.
-fn value_of(item: Option<&Item>) -> Option<&[u8]> {
-    match item {
-        Some(item) => Some(item.value.as_slice()),
-        None => None,
-    }
+fn value_of(item: Option<&Item>) -> Option<&str> {
+    item?.value.printed()
 }
 
 /// The letters by which a table is found again in another input: its signature and, of an SSDT, its OEM table id.
@@ -175,138 +182,144 @@ fn same_in<'e, 'a>(
     None
 }
 
-/// Prints what a table is called and where it lies.
-fn print_name<W: Write>(entry: &Entry<'_>, out: &mut W) -> io::Result<()> {
-    match (entry.signature(), entry.sought) {
-        (Some(signature), _) | (None, Some(signature)) => write!(out, "{signature}")?,
-        (None, None) => write!(out, "-")?,
-    }
-    match entry.place {
-        Place::Address(address) => write!(out, " at {address:016x}"),
-        Place::File(name) => write!(out, " in {name}"),
-        Place::Nowhere => Ok(()),
-    }
-}
-
 /// Prints a value, or that there is none.
-fn print_side<W: Write>(value: Option<&[u8]>, out: &mut W) -> io::Result<()> {
-    match value {
-        Some(value) => out.write_all(value),
-        None => write!(out, "none"),
+fn print_side<W: Write>(value: Option<&str>, out: &mut Out<W>) {
+    out.text(value.unwrap_or("none"));
+}
+
+/// Prints differences between two tables, under their names, if there are some.
+fn print_found<W: Write>(
+    old: &Entry<'_>,
+    new: &Entry<'_>,
+    found: &[Difference<'_>],
+    out: &mut Out<W>,
+) {
+    if found.is_empty() {
+        return;
+    }
+    print_name(old, out);
+    out.text(" and ");
+    print_name(new, out);
+    out.text("\n");
+    for difference in found {
+        let (offset, name) = (difference.offset, difference.name);
+        write!(out, "  {offset:04x}  {name:<38}  ");
+        print_side(difference.old, out);
+        out.text(" -> ");
+        print_side(difference.new, out);
+        out.text("\n");
     }
 }
 
-/// Prints the differences between two tables, under their names, if there are some.
+/// Prints the differences between two tables.
 fn print_pair<W: Write>(
     alloc: Global,
     old: &Entry<'_>,
     new: &Entry<'_>,
-    out: &mut W,
-) -> io::Result<()> {
-    let (old_items, new_items) = (items_of(alloc, old)?, items_of(alloc, new)?);
-    let found = differences(alloc, &old_items, &new_items)?;
-    if found.is_empty() {
-        return Ok(());
-    }
-    print_name(old, out)?;
-    write!(out, " and ")?;
-    print_name(new, out)?;
-    writeln!(out)?;
-    for difference in &found {
-        write!(
-            out,
-            "  {:04x}  {:<38}  ",
-            difference.offset, difference.name
-        )?;
-        print_side(difference.old, out)?;
-        write!(out, " -> ")?;
-        print_side(difference.new, out)?;
-        writeln!(out)?;
-    }
+    out: &mut Out<W>,
+) -> Result<(), AllocError> {
+    let items = items_of(alloc, old)?;
+    let others = items_of(alloc, new)?;
+    let found = differences(alloc, &items, &others)?;
+    print_found(old, new, &found, out);
     Ok(())
 }
 
 /// Prints the tables that are in one input alone, and of those in both the fields that differ.
+///
+/// Refuses if memory runs out.
 pub(crate) fn print_differences<W: Write>(
     alloc: Global,
     names: (&str, &str),
     old: &[Entry<'_>],
     new: &[Entry<'_>],
-    out: &mut W,
-) -> io::Result<()> {
+    out: &mut Out<W>,
+) -> Result<(), AllocError> {
     for index in 0..old.len() {
         match same_in(old, index, new) {
             Some(other) => print_pair(alloc, &old[index], other, out)?,
-            None => print_alone(names.0, &old[index], out)?,
+            None => print_alone(names.0, &old[index], out),
         }
     }
     for index in 0..new.len() {
         if same_in(new, index, old).is_none() {
-            print_alone(names.1, &new[index], out)?;
+            print_alone(names.1, &new[index], out);
         }
     }
     Ok(())
 }
 
 /// Prints that a table is in one input alone.
-fn print_alone<W: Write>(name: &str, entry: &Entry<'_>, out: &mut W) -> io::Result<()> {
-    write!(out, "only in {name}: ")?;
-    print_name(entry, out)?;
-    writeln!(out)
+fn print_alone<W: Write>(name: &str, entry: &Entry<'_>, out: &mut Out<W>) {
+    write!(out, "only in {name}: ");
+    print_name(entry, out);
+    out.text("\n");
 }
 
 /// The differences as a value: for each pair of tables that differ its fields, and the tables that are in one
 /// input alone.
+///
+/// Refuses if memory runs out.
 pub(crate) fn differences_of(
     alloc: Global,
     old: &[Entry<'_>],
     new: &[Entry<'_>],
-) -> io::Result<Value> {
-    let mut tables = Vec::new(alloc);
+) -> Result<Value, AllocError> {
+    let mut tables = List::new(alloc);
     for index in 0..old.len() {
-        let mut object = named(alloc, &old[index])?;
         match same_in(old, index, new) {
-            Some(other) => {
-                let fields = changed_of(alloc, &old[index], other)?;
-                if fields.is_empty() {
-                    continue;
-                }
-                object.put("fields", Value::Array(fields))?;
-            }
-            None => object.text("only", "first")?,
+            Some(other) => add_pair(alloc, &old[index], other, &mut tables),
+            None => add_alone(alloc, &old[index], "first", &mut tables),
         }
-        tables.push(object.value())?;
     }
     for index in 0..new.len() {
         if same_in(new, index, old).is_none() {
-            let mut object = named(alloc, &new[index])?;
-            object.text("only", "second")?;
-            tables.push(object.value())?;
+            add_alone(alloc, &new[index], "second", &mut tables);
         }
     }
-    Ok(Value::Array(tables))
+    tables.value()
 }
 
-/// An object with the name of a table.
-fn named(alloc: Global, entry: &Entry<'_>) -> io::Result<Object> {
-    crate::json::table_of(alloc, entry)
+/// Adds a table that is in one input alone.
+fn add_alone(alloc: Global, entry: &Entry<'_>, side: &str, tables: &mut List) {
+    let mut object = table_of(alloc, entry);
+    object.text("only", side);
+    tables.add(object);
+}
+
+/// Adds two tables of one name, if they differ.
+fn add_pair(alloc: Global, old: &Entry<'_>, new: &Entry<'_>, tables: &mut List) {
+    let fields = changed_of(alloc, old, new);
+    if matches!(&fields, Ok(Value::Array(fields)) if fields.is_empty()) {
+        return;
+    }
+    let mut object = table_of(alloc, old);
+    object.put("fields", fields);
+    tables.add(object);
 }
 
 /// The fields that differ between two tables, as values.
-fn changed_of(alloc: Global, old: &Entry<'_>, new: &Entry<'_>) -> io::Result<Vec<Value>> {
-    let (old_items, new_items) = (items_of(alloc, old)?, items_of(alloc, new)?);
-    let mut fields = Vec::new(alloc);
-    for difference in &differences(alloc, &old_items, &new_items)? {
+fn changed_of(alloc: Global, old: &Entry<'_>, new: &Entry<'_>) -> Result<Value, AllocError> {
+    let items = items_of(alloc, old)?;
+    let others = items_of(alloc, new)?;
+    let found = differences(alloc, &items, &others)?;
+    values_of(alloc, &found)
+}
+
+/// Differences as values.
+fn values_of(alloc: Global, found: &[Difference<'_>]) -> Result<Value, AllocError> {
+    let mut fields = List::new(alloc);
+    for difference in found {
         let mut object = Object::new(alloc);
-        object.number("offset", difference.offset)?;
-        object.text("name", difference.name)?;
+        object.number("offset", difference.offset);
+        object.text("name", difference.name);
         if let Some(value) = difference.old {
-            object.text("old", str::from_utf8(value).unwrap_or(""))?;
+            object.text("old", value);
         }
         if let Some(value) = difference.new {
-            object.text("new", str::from_utf8(value).unwrap_or(""))?;
+            object.text("new", value);
         }
-        fields.push(object.value())?;
+        fields.add(object);
     }
-    Ok(fields)
+    fields.value()
 }

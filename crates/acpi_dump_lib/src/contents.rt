@@ -3,10 +3,10 @@
 use crate::arguments::Contents;
 use crate::getters::print_getters;
 use crate::hex::print_dump;
+use crate::out::Out;
 use crate::text::Text;
 use crate::walk::walk_table;
 use acpi::sdt::Signature;
-use std::io;
 use std::io::Write;
 
 /// Prints the contents of a table.
@@ -14,8 +14,8 @@ pub(crate) fn print_contents<W: Write>(
     signature: Signature,
     table: &[u8],
     contents: Contents,
-    out: &mut W,
-) -> io::Result<()> {
+    out: &mut Out<W>,
+) {
     match contents {
         Contents::Bytes => print_dump(table, out),
         Contents::Fields => print_typed(signature, table, out),
@@ -23,10 +23,9 @@ pub(crate) fn print_contents<W: Write>(
 }
 
 /// Prints the fields of a table.
-fn print_typed<W: Write>(signature: Signature, table: &[u8], out: &mut W) -> io::Result<()> {
-    walk_table(signature, table, &mut Text { out, depth: 0 })?;
+fn print_typed<W: Write>(signature: Signature, table: &[u8], out: &mut Out<W>) {
+    walk_table(signature, table, &mut Text { out, depth: 0 });
     if signature == Signature::FADT {
         return print_getters(table, out);
     }
-    Ok(())
 }

@@ -1,7 +1,7 @@
 //! The tables that an input has, with what their checks say.
 
 use crate::input::candidates::check_file;
-use crate::input::gather::TableFile;
+use crate::input::tables::TableFile;
 use crate::status::Status;
 use acpi::bgrt::Bgrt;
 use acpi::fadt::Fadt;
@@ -242,6 +242,34 @@ fn entry_led<'h, H: AcpiHandler>(
     }
 }
 
+/// Adds the DSDT and the FACS that a valid FADT leads to, if one is listed.
+fn add_led<'h, H: AcpiHandler>(
+    handler: &'h H,
+    tables: &AcpiTables<'_, H>,
+    entries: &mut Vec<Entry<'h>>,
+) -> Result<(), AllocError> {
+    let (dsdt, facs) = match &tables.find_table::<Fadt>() {
+        Ok(fadt) => (fadt.get().dsdt_address(), fadt.get().facs_address()),
+        Err(_) => return Ok(()),
+    };
+    entries.push(entry_led(handler, dsdt, Signature::DSDT))?;
+    entries.push(entry_led(handler, facs, Signature::FACS))?;
+    Ok(())
+}
+
+/// Adds the root table and its members.
+fn add_listed<'h, H: AcpiHandler>(
+    handler: &'h H,
+    tables: &AcpiTables<'_, H>,
+    entries: &mut Vec<Entry<'h>>,
+) -> Result<(), AllocError> {
+    entries.push(entry_at(handler, tables.root_address(), None))?;
+    for address in tables.addresses() {
+        entries.push(entry_at(handler, address, None))?;
+    }
+    Ok(())
+}
+
 /// The tables that a memory has: the root table, its members, and, if a valid FADT is listed, the DSDT and the FACS
 /// that it leads to.
 ///
@@ -252,14 +280,7 @@ pub(crate) fn entries_of<'h, H: AcpiHandler>(
     tables: &AcpiTables<'_, H>,
 ) -> Result<Vec<Entry<'h>>, AllocError> {
     let mut entries = Vec::new(alloc);
-    entries.push(entry_at(handler, tables.root_address(), None))?;
-    for address in tables.addresses() {
-        entries.push(entry_at(handler, address, None))?;
-    }
-    if let Ok(fadt) = &tables.find_table::<Fadt>() {
-        let (dsdt, facs) = (fadt.get().dsdt_address(), fadt.get().facs_address());
-        entries.push(entry_led(handler, dsdt, Signature::DSDT))?;
-        entries.push(entry_led(handler, facs, Signature::FACS))?;
-    }
+    add_listed(handler, tables, &mut entries)?;
+    add_led(handler, tables, &mut entries)?;
     Ok(entries)
 }

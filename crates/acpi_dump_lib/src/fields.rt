@@ -2,77 +2,65 @@
 
 use crate::language;
 use crate::language::{Meaning, after_blanks, before_blanks, cut_at, next_word};
+use crate::out::Out;
 use crate::text::print_indent;
 use crate::walk::Shown;
 use acpi::sdt::field;
-use std::io;
 use std::io::Write;
 
 /// Prints bytes that no field covers, which begin at an offset of the table, 16 a line.
-pub(crate) fn print_bytes<W: Write>(
-    offset: u64,
-    bytes: &[u8],
-    depth: usize,
-    out: &mut W,
-) -> io::Result<()> {
+pub(crate) fn print_bytes<W: Write>(offset: u64, bytes: &[u8], depth: usize, out: &mut Out<W>) {
     let mut offset = offset;
     for line in bytes.chunks(16) {
-        print_indent(depth, out)?;
-        write!(out, "{offset:04x}  ")?;
-        print_hex(line, out)?;
-        writeln!(out)?;
+        print_indent(depth, out);
+        write!(out, "{offset:04x}  ");
+        print_hex(line, out);
+        out.text("\n");
         offset = offset.saturating_add(16);
     }
-    Ok(())
 }
 
 /// Prints bytes as pairs of digits.
-pub(crate) fn print_hex<W: Write>(bytes: &[u8], out: &mut W) -> io::Result<()> {
+pub(crate) fn print_hex<W: Write>(bytes: &[u8], out: &mut Out<W>) {
     for byte in bytes {
-        write!(out, "{byte:02x}")?;
+        write!(out, "{byte:02x}");
     }
-    Ok(())
 }
 
 /// The column in which values begin.
 const VALUES: usize = 46;
 
 /// Prints one field, in a structure so deep in others.
-pub(crate) fn print_field<W: Write>(
-    shown: &Shown<'_>,
-    depth: usize,
-    out: &mut W,
-) -> io::Result<()> {
-    print_indent(depth, out)?;
-    write!(out, "{:04x}  {}", shown.offset, shown.name)?;
+pub(crate) fn print_field<W: Write>(shown: &Shown<'_>, depth: usize, out: &mut Out<W>) {
+    print_indent(depth, out);
+    write!(out, "{:04x}  {}", shown.offset, shown.name);
     let mut column = depth
         .saturating_mul(2)
         .saturating_add(shown.name.len())
         .saturating_add(8);
     if let Some(number) = shown.number {
-        write!(out, " {number:<3}")?;
+        write!(out, " {number:<3}");
         column = column.saturating_add(4);
     }
     for _ in column..VALUES {
-        write!(out, " ")?;
+        out.text(" ");
     }
-    write!(out, "  ")?;
-    print_value(shown.bytes, shown.meaning, out)?;
-    print_meaning(shown.bytes, shown.meaning, out)?;
-    writeln!(out)
+    out.text("  ");
+    print_value(shown.bytes, shown.meaning, out);
+    print_meaning(shown.bytes, shown.meaning, out);
+    out.text("\n")
 }
 
 /// Prints a number of up to eight bytes as one, the highest digit first, and a text or more bytes
 /// in their order.
-pub(crate) fn print_value<W: Write>(value: &[u8], meaning: Meaning, out: &mut W) -> io::Result<()> {
+pub(crate) fn print_value<W: Write>(value: &[u8], meaning: Meaning, out: &mut Out<W>) {
     if value.len() > 8 || matches!(meaning, Meaning::Text | Meaning::Wide | Meaning::Row) {
         return print_hex(value, out);
     }
-    write!(out, "0x")?;
+    out.text("0x");
     for byte in value.iter().rev() {
-        write!(out, "{byte:02x}")?;
+        write!(out, "{byte:02x}");
     }
-    Ok(())
 }
 
 /// The number of up to eight bytes.
@@ -84,16 +72,12 @@ pub(crate) fn number_of(value: &[u8]) -> u64 {
 }
 
 /// Prints the meaning of a field's value, if it means more than itself.
-pub(crate) fn print_meaning<W: Write>(
-    value: &[u8],
-    meaning: Meaning,
-    out: &mut W,
-) -> io::Result<()> {
+pub(crate) fn print_meaning<W: Write>(value: &[u8], meaning: Meaning, out: &mut Out<W>) {
     match meaning {
-        Meaning::Plain => Ok(()),
+        Meaning::Plain => {}
         Meaning::Decimal => write!(out, "  {}", number_of(value)),
         Meaning::Text => {
-            write!(out, "  ")?;
+            out.text("  ");
             print_text(value, out)
         }
         Meaning::Wide => print_wide(value, out),
@@ -108,28 +92,26 @@ pub(crate) fn print_meaning<W: Write>(
 }
 
 /// Prints bytes as characters, those that aren't printable ASCII as `.`.
-pub(crate) fn print_text<W: Write>(bytes: &[u8], out: &mut W) -> io::Result<()> {
+pub(crate) fn print_text<W: Write>(bytes: &[u8], out: &mut Out<W>) {
     for byte in bytes {
         let shown = if (0x20..0x7f).contains(byte) {
             *byte as char
         } else {
             '.'
         };
-        write!(out, "{shown}")?;
+        write!(out, "{shown}");
     }
-    Ok(())
 }
 
 /// Prints the meaning of a number that is a code.
-fn print_code<W: Write>(number: u64, codes: &'static [u8], out: &mut W) -> io::Result<()> {
+fn print_code<W: Write>(number: u64, codes: &'static [u8], out: &mut Out<W>) {
     for item in codes.split(|byte| *byte == b'|' || *byte == b'\n') {
         let (code, name) = next_word(item);
         if !code.is_empty() && language::number_of(code) == number {
-            write!(out, "  ")?;
+            out.text("  ");
             return print_text(before_blanks(after_blanks(name)), out);
         }
     }
-    Ok(())
 }
 
 /// The bits of a number from one on up to another.
@@ -147,15 +129,14 @@ fn bits_of(number: u64, first: u64, last: u64) -> u64 {
 }
 
 /// Prints the parts of a number that aren't 0, and the meanings of those that are codes.
-fn print_flags<W: Write>(number: u64, flags: &'static [u8], out: &mut W) -> io::Result<()> {
+fn print_flags<W: Write>(number: u64, flags: &'static [u8], out: &mut Out<W>) {
     let mut is_first = true;
     for item in flags.split(|byte| *byte == b'|' || *byte == b'\n') {
         let (bits, name) = next_word(item);
-        if !bits.is_empty() && print_flag(number, is_first, bits, name, out)? {
+        if !bits.is_empty() && print_flag(number, is_first, bits, name, out) {
             is_first = false;
         }
     }
-    Ok(())
 }
 
 /// Prints a part of a number, by the word for its bits, after a comma if it isn't the first that is
@@ -165,8 +146,8 @@ fn print_flag<W: Write>(
     is_first: bool,
     bits: &'static [u8],
     name: &'static [u8],
-    out: &mut W,
-) -> io::Result<bool> {
+    out: &mut Out<W>,
+) -> bool {
     let name = before_blanks(after_blanks(name));
     let (bits, code) = cut_at(bits, b'/');
     let (highest, lowest) = cut_at(bits, b':');
@@ -178,66 +159,64 @@ fn print_flag<W: Write>(
     };
     let part = bits_of(number, first, last);
     if code.is_empty() && part == 0 || !code.is_empty() && part != language::number_of(code) {
-        return Ok(false);
+        return false;
     }
     if is_first {
-        write!(out, "  ")?;
+        out.text("  ");
     } else {
-        write!(out, ", ")?;
+        out.text(", ");
     }
-    print_text(name, out)?;
+    print_text(name, out);
     if code.is_empty() && first < last {
-        write!(out, " {part}")?;
+        write!(out, " {part}");
     }
-    Ok(true)
+    true
 }
 
 /// Prints a text in UTF-16 as characters, those that aren't printable ASCII as `.`, up to a zero.
-fn print_wide<W: Write>(value: &[u8], out: &mut W) -> io::Result<()> {
-    write!(out, "  ")?;
+fn print_wide<W: Write>(value: &[u8], out: &mut Out<W>) {
+    out.text("  ");
     for unit in value.chunks(2) {
         match unit {
-            [0, 0] => return Ok(()),
-            [letter, 0] => print_text(&[*letter], out)?,
-            _ => write!(out, ".")?,
+            [0, 0] => return,
+            [letter, 0] => print_text(&[*letter], out),
+            _ => out.text("."),
         }
     }
-    Ok(())
 }
 
 /// Prints bytes as decimal numbers.
-fn print_row<W: Write>(value: &[u8], out: &mut W) -> io::Result<()> {
-    write!(out, " ")?;
+fn print_row<W: Write>(value: &[u8], out: &mut Out<W>) {
+    out.text(" ");
     for number in value {
-        write!(out, " {number}")?;
+        write!(out, " {number}");
     }
-    Ok(())
 }
 
 /// Prints a GUID, whose first three numbers have their lowest bytes first.
-fn print_guid<W: Write>(value: &[u8], out: &mut W) -> io::Result<()> {
+fn print_guid<W: Write>(value: &[u8], out: &mut Out<W>) {
     if value.len() != 16 {
-        return Ok(());
+        return;
     }
     let first = field(value, 0, 4);
     let second = field(value, 4, 2);
     let third = field(value, 6, 2);
-    write!(out, "  {first:08x}-{second:04x}-{third:04x}-")?;
-    print_hex(&value[8..10], out)?;
-    write!(out, "-")?;
+    write!(out, "  {first:08x}-{second:04x}-{third:04x}-");
+    print_hex(&value[8..10], out);
+    out.text("-");
     print_hex(&value[10..], out)
 }
 
 /// Prints the numbers of a device and a function.
-fn print_path<W: Write>(value: &[u8], out: &mut W) -> io::Result<()> {
+fn print_path<W: Write>(value: &[u8], out: &mut Out<W>) {
     let [device, function] = value else {
-        return Ok(());
+        return;
     };
     write!(out, "  {device:02x}.{function}")
 }
 
 /// Prints a PCI function.
-fn print_function<W: Write>(number: u64, out: &mut W) -> io::Result<()> {
+fn print_function<W: Write>(number: u64, out: &mut Out<W>) {
     let bus = bits_of(number, 8, 15);
     let device = bits_of(number, 3, 7);
     let function = bits_of(number, 0, 2);
@@ -245,12 +224,12 @@ fn print_function<W: Write>(number: u64, out: &mut W) -> io::Result<()> {
 }
 
 /// Prints the parts of a generic address, if it isn't all zeros.
-fn print_register<W: Write>(value: &[u8], out: &mut W) -> io::Result<()> {
+fn print_register<W: Write>(value: &[u8], out: &mut Out<W>) {
     let [space, width, offset, size, address @ ..] = value else {
-        return Ok(());
+        return;
     };
     if value.iter().all(|byte| *byte == 0) {
-        return Ok(());
+        return;
     }
     let address = number_of(address);
     write!(

@@ -1,39 +1,39 @@
 //! The answers of a FADT's getters, which take several fields together.
 
+use crate::out::Out;
 use acpi::address::GenericAddress;
 use acpi::fadt::Fadt;
 use acpi::{AcpiResult, PhysicalRecord};
-use std::io;
 use std::io::Write;
 
 /// Prints the answers of the getters, if the table is as long as a FADT.
-pub(crate) fn print_getters<W: Write>(table: &[u8], out: &mut W) -> io::Result<()> {
+pub(crate) fn print_getters<W: Write>(table: &[u8], out: &mut Out<W>) {
     if table.len() < Fadt::MIN_LENGTH {
-        return Ok(());
+        return;
     }
     let fadt = Fadt::read(table);
-    writeln!(out, "  power profile: {:?}", fadt.power_profile())?;
-    print_address("FACS", fadt.facs_address(), out)?;
-    print_address("DSDT", fadt.dsdt_address(), out)?;
-    print_block("PM1a event block", fadt.pm1a_event_block().map(Some), out)?;
-    print_block("PM1b event block", fadt.pm1b_event_block(), out)?;
+    writeln!(out, "  power profile: {:?}", fadt.power_profile());
+    print_address("FACS", fadt.facs_address(), out);
+    print_address("DSDT", fadt.dsdt_address(), out);
+    print_block("PM1a event block", fadt.pm1a_event_block().map(Some), out);
+    print_block("PM1b event block", fadt.pm1b_event_block(), out);
     print_block(
         "PM1a control block",
         fadt.pm1a_control_block().map(Some),
         out,
-    )?;
-    print_block("PM1b control block", fadt.pm1b_control_block(), out)?;
-    print_block("PM2 control block", fadt.pm2_control_block(), out)?;
-    print_block("PM timer block", fadt.pm_timer_block(), out)?;
-    print_block("GPE0 block", fadt.gpe0_block(), out)?;
-    print_block("GPE1 block", fadt.gpe1_block(), out)?;
-    print_block("reset register", fadt.reset_register().map(Some), out)?;
-    print_block("sleep control register", fadt.sleep_control_register(), out)?;
+    );
+    print_block("PM1b control block", fadt.pm1b_control_block(), out);
+    print_block("PM2 control block", fadt.pm2_control_block(), out);
+    print_block("PM timer block", fadt.pm_timer_block(), out);
+    print_block("GPE0 block", fadt.gpe0_block(), out);
+    print_block("GPE1 block", fadt.gpe1_block(), out);
+    print_block("reset register", fadt.reset_register().map(Some), out);
+    print_block("sleep control register", fadt.sleep_control_register(), out);
     print_block("sleep status register", fadt.sleep_status_register(), out)
 }
 
 /// Prints an address, or its refusal.
-fn print_address<W: Write>(name: &str, address: AcpiResult<u64>, out: &mut W) -> io::Result<()> {
+fn print_address<W: Write>(name: &str, address: AcpiResult<u64>, out: &mut Out<W>) {
     match address {
         Ok(address) => writeln!(out, "  {name}: 0x{address:x}"),
         Err(refusal) => writeln!(out, "  {name}: {refusal}"),
@@ -41,11 +41,7 @@ fn print_address<W: Write>(name: &str, address: AcpiResult<u64>, out: &mut W) ->
 }
 
 /// Prints a block of registers, or its refusal.
-fn print_block<W: Write>(
-    name: &str,
-    block: AcpiResult<Option<GenericAddress>>,
-    out: &mut W,
-) -> io::Result<()> {
+fn print_block<W: Write>(name: &str, block: AcpiResult<Option<GenericAddress>>, out: &mut Out<W>) {
     match block {
         Ok(Some(block)) => writeln!(
             out,

@@ -1,23 +1,23 @@
 //! Bytes as `hexdump -C` lays them out.
 
 use crate::fields::print_text;
-use std::io;
+use crate::out::Out;
 use std::io::Write;
 
 /// Prints bytes in lines of 16: the offset, the bytes in hexadecimal, and their characters. Lines
 /// that are the same as the one before are one `*`. At last comes the number of bytes.
-pub(crate) fn print_dump<W: Write>(bytes: &[u8], out: &mut W) -> io::Result<()> {
+pub(crate) fn print_dump<W: Write>(bytes: &[u8], out: &mut Out<W>) {
     let mut before: Option<&[u8]> = None;
     let mut starred = false;
     let mut offset: u64 = 0;
     for line in bytes.chunks(16) {
         if before == Some(line) {
             if !starred {
-                writeln!(out, "*")?;
+                out.text("*\n");
             }
             starred = true;
         } else {
-            print_line(offset, line, out)?;
+            print_line(offset, line, out);
             starred = false;
         }
         before = Some(line);
@@ -27,18 +27,18 @@ pub(crate) fn print_dump<W: Write>(bytes: &[u8], out: &mut W) -> io::Result<()> 
 }
 
 /// Prints a line of up to 16 bytes.
-fn print_line<W: Write>(offset: u64, line: &[u8], out: &mut W) -> io::Result<()> {
-    write!(out, "{offset:08x}  ")?;
+fn print_line<W: Write>(offset: u64, line: &[u8], out: &mut Out<W>) {
+    write!(out, "{offset:08x}  ");
     for place in 0..16 {
         if place == 8 {
-            write!(out, " ")?;
+            out.text(" ");
         }
         match line.get(place) {
-            Some(byte) => write!(out, "{byte:02x} ")?,
-            None => write!(out, "   ")?,
+            Some(byte) => write!(out, "{byte:02x} "),
+            None => out.text("   "),
         }
     }
-    write!(out, " |")?;
-    print_text(line, out)?;
-    writeln!(out, "|")
+    out.text(" |");
+    print_text(line, out);
+    out.text("|\n")
 }

@@ -18,6 +18,7 @@ mod json;
 mod language;
 mod layouts;
 mod listing;
+mod out;
 mod paint;
 pub mod run;
 mod shown;

@@ -2,10 +2,10 @@
 
 use crate::entries::{Entry, Place};
 use crate::fields::print_text;
+use crate::out::Out;
 use crate::paint::Paint;
 use acpi::PhysicalRecord;
 use acpi::sdt::{SdtHeader, Signature};
-use std::io;
 use std::io::Write;
 
 /// The name of a file without the folders before it.
@@ -17,11 +17,7 @@ fn last_part(path: &str) -> &str {
 }
 
 /// Prints the headings, then a line for each table.
-pub(crate) fn print_lines<W: Write>(
-    entries: &[Entry<'_>],
-    paint: Paint,
-    out: &mut W,
-) -> io::Result<()> {
+pub(crate) fn print_lines<W: Write>(entries: &[Entry<'_>], paint: Paint, out: &mut Out<W>) {
     let are_files = entries
         .iter()
         .any(|entry| matches!(entry.place, Place::File(_)));
@@ -32,16 +28,15 @@ pub(crate) fn print_lines<W: Write>(
             "SIG  ADDRESS          LENGTH   REV OEM ID TABLE ID OEM REV  CRTR CRTR REV STATUS"
         },
         out,
-    )?;
-    writeln!(out)?;
+    );
+    out.text("\n");
     for entry in entries {
-        print_line(entry, paint, out)?;
+        print_line(entry, paint, out);
     }
-    Ok(())
 }
 
 /// Prints the line of a table.
-fn print_line<W: Write>(entry: &Entry<'_>, paint: Paint, out: &mut W) -> io::Result<()> {
+fn print_line<W: Write>(entry: &Entry<'_>, paint: Paint, out: &mut Out<W>) {
     let is_headless = entry.sought == Some(Signature::FACS)
         || entry.bytes.starts_with(b"FACS")
         || entry.bytes.starts_with(b"RSD PTR ");
@@ -51,34 +46,34 @@ fn print_line<W: Write>(entry: &Entry<'_>, paint: Paint, out: &mut W) -> io::Res
         Some(SdtHeader::read(entry.bytes))
     };
     match &header {
-        Some(header) => print_text(&header.signature.to_bytes(), out)?,
-        None => write!(out, "-   ")?,
+        Some(header) => print_text(&header.signature.to_bytes(), out),
+        None => out.text("-   "),
     }
-    print_place(entry.place, out)?;
+    print_place(entry.place, out);
     match &header {
-        Some(header) if is_headless => print_headless(header, entry, out)?,
-        Some(header) => print_columns(header, out)?,
-        None => write!(out, "-        -   -      -        -        -    -       ")?,
+        Some(header) if is_headless => print_headless(header, entry, out),
+        Some(header) => print_columns(header, out),
+        None => out.text("-        -   -      -        -        -    -       "),
     }
-    write!(out, " ")?;
-    paint.status(entry.status, out)?;
-    writeln!(out)
+    out.text(" ");
+    paint.status(entry.status, out);
+    out.text("\n")
 }
 
 /// Prints where a table lies.
-fn print_place<W: Write>(place: Place<'_>, out: &mut W) -> io::Result<()> {
+fn print_place<W: Write>(place: Place<'_>, out: &mut Out<W>) {
     match place {
         Place::Address(address) => write!(out, " {address:016x} "),
         Place::File(path) => {
             let name = last_part(path);
             write!(out, " {name:<16} ")
         }
-        Place::Nowhere => write!(out, " -                "),
+        Place::Nowhere => out.text(" -                "),
     }
 }
 
 /// Prints the columns of a FACS or an RSDP, which have no header: the length alone.
-fn print_headless<W: Write>(header: &SdtHeader, entry: &Entry<'_>, out: &mut W) -> io::Result<()> {
+fn print_headless<W: Write>(header: &SdtHeader, entry: &Entry<'_>, out: &mut Out<W>) {
     let length = if entry.bytes.starts_with(b"RSD PTR ") {
         entry.bytes.len() as u64
     } else {
@@ -91,13 +86,13 @@ fn print_headless<W: Write>(header: &SdtHeader, entry: &Entry<'_>, out: &mut W) 
 }
 
 /// Prints the columns of a header.
-fn print_columns<W: Write>(header: &SdtHeader, out: &mut W) -> io::Result<()> {
-    write!(out, "{:08x}", header.length)?;
-    write!(out, " {:02x}  ", header.revision)?;
-    print_text(&header.oem_id, out)?;
-    write!(out, " ")?;
-    print_text(&header.oem_table_id, out)?;
-    write!(out, " {:08x} ", header.oem_revision)?;
-    print_text(&header.creator_id.to_le_bytes(), out)?;
+fn print_columns<W: Write>(header: &SdtHeader, out: &mut Out<W>) {
+    write!(out, "{:08x}", header.length);
+    write!(out, " {:02x}  ", header.revision);
+    print_text(&header.oem_id, out);
+    out.text(" ");
+    print_text(&header.oem_table_id, out);
+    write!(out, " {:08x} ", header.oem_revision);
+    print_text(&header.creator_id.to_le_bytes(), out);
     write!(out, " {:08x}", header.creator_revision)
 }

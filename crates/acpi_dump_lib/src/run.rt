@@ -2,7 +2,9 @@
 
 use crate::arguments::{Asked, Color, Mistake, View, WrongWord, asked_by, command};
 use crate::errors::tell_word;
-use crate::input::gather::{Input, Reading, gather};
+use crate::input::gather::{Input, gather};
+use crate::input::read::Reading;
+use crate::out::Out;
 use crate::paint::Paint;
 use crate::sources::Sources;
 use crate::views::{Output, print_compared, print_input};
@@ -17,7 +19,8 @@ const BUFFERED: usize = 32768;
 /// is asked for isn't there or can't be read, 2 if the arguments are not a command, and 3 if all is shown but a
 /// table is invalid and `--strict` is given.
 ///
-/// Refuses with the refusal of the first write or flush that is refused, or if memory runs out.
+/// Refuses if memory runs out, or with the refusal of the first write or flush of `out`, or else of `err`, that is
+/// refused.
 pub fn dump<S: Sources, W: Write + Drop, E: Write + Drop>(
     alloc: Global,
     arguments: &[&str],
@@ -25,15 +28,15 @@ pub fn dump<S: Sources, W: Write + Drop, E: Write + Drop>(
     out: W,
     err: E,
 ) -> io::Result<u8> {
-    let mut out = BufWriter::with_capacity(alloc, BUFFERED, out)?;
-    let mut err = BufWriter::with_capacity(alloc, BUFFERED, err)?;
-    let printed = print_asked(alloc, arguments, sources, &mut out, &mut err);
-    let shown = out.flush();
-    let told = err.flush();
-    let status = printed?;
-    shown?;
-    told?;
-    Ok(status)
+    let mut out = Out::new(BufWriter::with_capacity(alloc, BUFFERED, out)?);
+    let mut err = Out::new(BufWriter::with_capacity(alloc, BUFFERED, err)?);
+    let status = print_asked(alloc, arguments, sources, &mut out, &mut err);
+    let shown = out.ended();
+    let told = err.ended();
+    match status {
+        Ok(status) => shown.and(told).map(|_| status),
+        Err(refusal) => Err(io::Error::from(refusal)),
+    }
 }
 
 /// Prints what the arguments ask for.
@@ -41,21 +44,20 @@ fn print_asked<S: Sources, W: Write, E: Write>(
     alloc: Global,
     arguments: &[&str],
     sources: &mut S,
-    out: &mut W,
-    err: &mut E,
-) -> io::Result<u8> {
+    out: &mut Out<W>,
+    err: &mut Out<E>,
+) -> Result<u8, AllocError> {
     let command = command(alloc)?;
-    let matches = match command.try_get_matches_from(arguments) {
-        Ok(matches) => matches,
-        Err(refusal) => return print_refusal(alloc, &refusal, out, err),
-    };
-    match asked_by(alloc, &matches) {
-        Ok(asked) => print_inputs(alloc, &asked, sources, out, err),
-        Err(Mistake::Word(wrong)) => {
-            tell_word(err, wrong)?;
-            Ok(2)
-        }
-        Err(Mistake::OutOfMemory) => Err(io::Error::from(AllocError)),
+    match &command.try_get_matches_from(arguments) {
+        Ok(matches) => match &asked_by(alloc, matches) {
+            Ok(asked) => print_inputs(alloc, asked, sources, out, err),
+            Err(Mistake::Word(wrong)) => {
+                tell_word(err, *wrong);
+                Ok(2)
+            }
+            Err(Mistake::OutOfMemory) => Err(AllocError),
+        },
+        Err(refusal) => print_refusal(alloc, refusal, out, err),
     }
 }
 
@@ -63,21 +65,31 @@ fn print_asked<S: Sources, W: Write, E: Write>(
 fn print_refusal<W: Write, E: Write>(
     alloc: Global,
     refusal: &clap::Error,
-    out: &mut W,
-    err: &mut E,
-) -> io::Result<u8> {
+    out: &mut Out<W>,
+    err: &mut Out<E>,
+) -> Result<u8, AllocError> {
     if refusal.kind() == clap::error::ErrorKind::OutOfMemory {
-        return Err(io::Error::from(AllocError));
+        return Err(AllocError);
     }
+    let text = format!(in alloc; "{refusal}")?;
+    let text = text.as_str();
     if refusal.use_stderr() {
-        let text = format!(in alloc; "{refusal}")?;
-        let text = text.as_str();
-        let what = text.strip_prefix("error: ").unwrap_or(text);
-        write!(err, "acpi_dump: {what}")?;
+        err.text("acpi_dump: ");
+        err.text(text.strip_prefix("error: ").unwrap_or(text));
         return Ok(2);
     }
-    write!(out, "{refusal}")?;
+    out.text(text);
     Ok(0)
+}
+
+/// Whether colors are printed.
+fn paint_of<S: Sources>(color: Color, sources: &mut S) -> Paint {
+    let is_on = match color {
+        Color::Auto => sources.takes_color(),
+        Color::Always => true,
+        Color::Never => false,
+    };
+    Paint { is_on }
 }
 
 /// Prints what is asked for of the inputs.
@@ -85,27 +97,31 @@ fn print_inputs<S: Sources, W: Write, E: Write>(
     alloc: Global,
     asked: &Asked<'_>,
     sources: &mut S,
-    out: &mut W,
-    err: &mut E,
-) -> io::Result<u8> {
-    let is_on = match asked.color {
-        Color::Auto => sources.takes_color(),
-        Color::Always => true,
-        Color::Never => false,
-    };
-    let paint = Paint { is_on };
+    out: &mut Out<W>,
+    err: &mut Out<E>,
+) -> Result<u8, AllocError> {
     let output = Output {
         alloc,
         asked,
-        paint,
+        paint: paint_of(asked.color, sources),
     };
-    if !matches!(asked.view, View::Differences) {
-        let Some(input) = gather_named(alloc, asked, &asked.inputs, sources, err)? else {
-            return Ok(1);
-        };
-        return print_input(output, &input, out, err);
+    if matches!(asked.view, View::Differences) {
+        return print_two(output, sources, out, err);
     }
-    let [old, new] = asked.inputs.as_slice() else {
+    match &gather_named(output, &asked.inputs, sources, err)? {
+        Some(input) => print_input(output, input, out, err),
+        None => Ok(1),
+    }
+}
+
+/// Prints what differs between the two inputs that are named.
+fn print_two<S: Sources, W: Write, E: Write>(
+    output: Output<'_, '_>,
+    sources: &mut S,
+    out: &mut Out<W>,
+    err: &mut Out<E>,
+) -> Result<u8, AllocError> {
+    let [old, new] = output.asked.inputs.as_slice() else {
         tell_word(
             err,
             WrongWord {
@@ -113,29 +129,40 @@ fn print_inputs<S: Sources, W: Write, E: Write>(
                 word: "it takes two inputs",
                 usage: "A B",
             },
-        )?;
+        );
         return Ok(2);
     };
-    let Some(first) = gather_named(alloc, asked, &[*old], sources, err)? else {
-        return Ok(1);
-    };
-    let Some(second) = gather_named(alloc, asked, &[*new], sources, err)? else {
-        return Ok(1);
-    };
-    print_compared(output, &first, &second, out, err)
+    match &gather_named(output, &[*old], sources, err)? {
+        Some(first) => print_beside(output, first, *new, sources, out, err),
+        None => Ok(1),
+    }
+}
+
+/// Prints what differs between an input and the one of this name.
+fn print_beside<S: Sources, W: Write, E: Write>(
+    output: Output<'_, '_>,
+    first: &Input,
+    name: &str,
+    sources: &mut S,
+    out: &mut Out<W>,
+    err: &mut Out<E>,
+) -> Result<u8, AllocError> {
+    match &gather_named(output, &[name], sources, err)? {
+        Some(second) => print_compared(output, first, second, out, err),
+        None => Ok(1),
+    }
 }
 
 /// The input that words name, read as it is asked for.
 fn gather_named<S: Sources, E: Write>(
-    alloc: Global,
-    asked: &Asked<'_>,
+    output: Output<'_, '_>,
     names: &[&str],
     sources: &mut S,
-    err: &mut E,
-) -> io::Result<Option<Input>> {
+    err: &mut Out<E>,
+) -> Result<Option<Input>, AllocError> {
     let reading = Reading {
-        kind: asked.kind,
-        at: asked.at,
+        kind: output.asked.kind,
+        at: output.asked.at,
     };
-    gather(alloc, names, reading, sources, err)
+    gather(output.alloc, names, reading, sources, err)
 }

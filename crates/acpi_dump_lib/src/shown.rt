@@ -4,10 +4,10 @@ use crate::arguments::{Choice, Contents};
 use crate::contents::print_contents;
 use crate::entries::{Entry, Place};
 use crate::errors::tell;
+use crate::out::Out;
 use crate::paint::Paint;
 use crate::status::Status;
 use acpi::sdt::Signature;
-use std::io;
 use std::io::Write;
 
 /// Whether a choice has a table, of which some byte is there.
@@ -24,16 +24,15 @@ pub(crate) fn print_tables<W: Write>(
     entries: &[Entry<'_>],
     choices: &[Choice],
     paint: Paint,
-    out: &mut W,
-) -> io::Result<()> {
+    out: &mut Out<W>,
+) {
     for choice in choices {
         for entry in entries {
             if chooses(*choice, entry) {
-                print_table(entry, choice.contents, paint, out)?;
+                print_table(entry, choice.contents, paint, out);
             }
         }
     }
-    Ok(())
 }
 
 /// Whether a signature that is chosen has no table. For each such one it says so.
@@ -41,44 +40,44 @@ pub(crate) fn missing<E: Write>(
     entries: &[Entry<'_>],
     choices: &[Choice],
     name: &str,
-    err: &mut E,
-) -> io::Result<bool> {
+    err: &mut Out<E>,
+) -> bool {
     let mut any = false;
     for choice in choices {
         if let Some(signature) = choice.signature
             && !entries.iter().any(|entry| chooses(*choice, entry))
         {
             any = true;
-            tell(err, name, &format_args!("no table {signature}"))?;
+            tell(err, name, &format_args!("no table {signature}"));
         }
     }
-    Ok(any)
+    any
+}
+
+/// Prints what a table is called and where it lies.
+pub(crate) fn print_name<W: Write>(entry: &Entry<'_>, out: &mut Out<W>) {
+    match entry.signature().or(entry.sought) {
+        Some(signature) => write!(out, "{signature}"),
+        None => out.text("-"),
+    }
+    match entry.place {
+        Place::Address(address) => write!(out, " at {address:016x}"),
+        Place::File(name) => write!(out, " in {name}"),
+        Place::Nowhere => {}
+    }
 }
 
 /// Prints the contents of a table, under where it lies and, unless it is valid, what the checks say.
-fn print_table<W: Write>(
-    entry: &Entry<'_>,
-    contents: Contents,
-    paint: Paint,
-    out: &mut W,
-) -> io::Result<()> {
-    match (entry.signature(), entry.sought) {
-        (Some(signature), _) | (None, Some(signature)) => write!(out, "{signature}")?,
-        (None, None) => write!(out, "-")?,
-    }
-    match entry.place {
-        Place::Address(address) => write!(out, " at {address:016x}")?,
-        Place::File(name) => write!(out, " in {name}")?,
-        Place::Nowhere => {}
-    }
-    writeln!(out)?;
+fn print_table<W: Write>(entry: &Entry<'_>, contents: Contents, paint: Paint, out: &mut Out<W>) {
+    print_name(entry, out);
+    out.text("\n");
     if !matches!(entry.status, Status::Valid) {
-        write!(out, "  check: ")?;
-        paint.status(entry.status, out)?;
-        writeln!(out)?;
+        out.text("  check: ");
+        paint.status(entry.status, out);
+        out.text("\n");
     }
     let signature = entry
         .signature()
         .unwrap_or(Signature::from_bytes([0, 0, 0, 0]));
-    print_contents(signature, entry.bytes, contents, out)
+    print_contents(signature, entry.bytes, contents, out);
 }

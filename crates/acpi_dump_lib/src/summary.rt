@@ -2,7 +2,8 @@
 
 use acpi::mcfg::PciConfigEntry;
 use acpi::platform::interrupt::{
-    Apic, InterruptModel, LocalInterruptLine, NmiProcessor, Polarity, TriggerMode,
+    Apic, InterruptModel, IoApic, LocalInterruptLine, NmiLine, NmiProcessor, NmiSource, Polarity,
+    TriggerMode,
 };
 use acpi::platform::{PmTimer, Processor, ProcessorState};
 use acpi::spcr::Spcr;
@@ -23,20 +24,39 @@ pub(crate) struct Fact {
 struct Facts {
     alloc: Global,
     facts: Vec<Fact>,
+    /// Whether memory for a fact was refused.
+    is_refused: bool,
+}
+
+/// A fact from what is printed of it.
+fn fact_of(alloc: Global, name: &impl Display, text: &impl Display) -> Result<Fact, AllocError> {
+    let name = format!(in alloc; "{name}")?;
+    let text = format!(in alloc; "{text}")?;
+    Ok(Fact { name, text })
 }
 
 impl Facts {
-    /// Adds a fact.
-    fn add(&mut self, name: &impl Display, text: &impl Display) -> Result<(), AllocError> {
-        let name = format!(in self.alloc; "{name}")?;
-        let text = format!(in self.alloc; "{text}")?;
-        self.facts.push(Fact { name, text })?;
-        Ok(())
+    /// Adds a fact, if there is memory for it.
+    fn add(&mut self, name: &impl Display, text: &impl Display) {
+        let is_added = match fact_of(self.alloc, name, text) {
+            Ok(fact) => self.facts.push(fact).is_ok(),
+            Err(_) => false,
+        };
+        if !is_added {
+            self.is_refused = true;
+        }
     }
 
     /// Adds why a part isn't known.
-    fn add_refused(&mut self, name: &str, refusal: AcpiError) -> Result<(), AllocError> {
-        self.add(&name, &format_args!("not known: {refusal}"))
+    fn add_refused(&mut self, name: &str, refusal: AcpiError) {
+        self.add(&name, &format_args!("not known: {refusal}"));
+    }
+
+    /// Adds why a part isn't known, unless it isn't there.
+    fn add_unless_missing(&mut self, name: &str, refusal: AcpiError) {
+        if !matches!(refusal, AcpiError::TableMissing(_)) {
+            self.add_refused(name, refusal);
+        }
     }
 }
 
@@ -50,60 +70,76 @@ pub(crate) fn facts_of<H: AcpiHandler>(
     let mut facts = Facts {
         alloc,
         facts: Vec::new(alloc),
+        is_refused: false,
     };
-    add_platform(&mut facts, tables)?;
+    add_platform(&mut facts, tables);
     match HpetInfo::new(tables) {
-        Ok(info) => add_hpet(&mut facts, &info)?,
-        Err(AcpiError::TableMissing(_)) => {}
-        Err(refusal) => facts.add_refused("HPET", refusal)?,
+        Ok(info) => add_hpet(&mut facts, &info),
+        Err(refusal) => facts.add_unless_missing("HPET", refusal),
     }
-    match PciConfigRegions::new(alloc, tables) {
-        Ok(regions) => {
-            for region in regions.iter() {
-                add_region(&mut facts, region)?;
-            }
-        }
-        Err(AcpiError::TableMissing(_)) => {}
-        Err(refusal) => facts.add_refused("PCI", refusal)?,
-    }
-    if let Ok(affinities) = MemoryAffinities::new(alloc, tables) {
-        for range in affinities.ranges() {
-            add_range(&mut facts, range)?;
-        }
-    }
+    add_regions(&mut facts, tables);
+    add_ranges(&mut facts, tables);
     if let Ok(console) = &tables.find_table::<Spcr>() {
-        add_console(&mut facts, console.get())?;
+        add_console(&mut facts, console.get());
     }
-    Ok(facts.facts)
+    let Facts {
+        facts,
+        is_refused,
+        ..
+    } = facts;
+    if is_refused {
+        return Err(AllocError);
+    }
+    Ok(facts)
 }
 
 /// Adds the facts of the platform.
-fn add_platform<H: AcpiHandler>(
+fn add_platform<H: AcpiHandler>(facts: &mut Facts, tables: &AcpiTables<'_, H>) {
+    match &tables.platform_info(facts.alloc) {
+        Ok(platform) => add_parts(facts, platform, tables),
+        Err(refusal) => facts.add_refused("platform", *refusal),
+    }
+}
+
+/// Adds the parts of the platform.
+fn add_parts<H: AcpiHandler>(
     facts: &mut Facts,
+    platform: &PlatformInfo<Global>,
     tables: &AcpiTables<'_, H>,
-) -> Result<(), AllocError> {
-    let platform = match tables.platform_info(facts.alloc) {
-        Ok(platform) => platform,
-        Err(refusal) => return facts.add_refused("platform", refusal),
-    };
-    let PlatformInfo {
-        power_profile,
-        interrupt_model,
-        processor_info,
-        pm_timer,
-    } = platform;
-    facts.add(&"profile", &format_args!("{power_profile:?}"))?;
-    if let Some(info) = &processor_info {
+) {
+    let profile = platform.power_profile;
+    facts.add(&"profile", &format_args!("{profile:?}"));
+    if let Some(info) = &platform.processor_info {
         let others = info.application_processors.as_slice();
-        add_processors(facts, &info.boot_processor, others, tables)?;
+        add_processors(facts, &info.boot_processor, others, tables);
     }
-    match &interrupt_model {
-        InterruptModel::Unknown => facts.add(&"interrupts", &"not described by local APICs")?,
-        InterruptModel::Apic(apic) => add_apic(facts, apic)?,
+    match &platform.interrupt_model {
+        InterruptModel::Unknown => facts.add(&"interrupts", &"not described by local APICs"),
+        InterruptModel::Apic(apic) => add_apic(facts, apic),
     }
-    match pm_timer {
-        Some(timer) => add_timer(facts, timer),
-        None => Ok(()),
+    if let Some(timer) = platform.pm_timer {
+        add_timer(facts, timer);
+    }
+}
+
+/// Adds the regions of PCI configuration space.
+fn add_regions<H: AcpiHandler>(facts: &mut Facts, tables: &AcpiTables<'_, H>) {
+    match &PciConfigRegions::new(facts.alloc, tables) {
+        Ok(regions) => {
+            for region in regions.iter() {
+                add_region(facts, region);
+            }
+        }
+        Err(refusal) => facts.add_unless_missing("PCI", *refusal),
+    }
+}
+
+/// Adds the ranges of memory with their domains.
+fn add_ranges<H: AcpiHandler>(facts: &mut Facts, tables: &AcpiTables<'_, H>) {
+    if let Ok(affinities) = &MemoryAffinities::new(facts.alloc, tables) {
+        for range in affinities.ranges() {
+            add_range(facts, range);
+        }
     }
 }
 
@@ -122,7 +158,7 @@ fn add_processors<H: AcpiHandler>(
     boot: &Processor,
     others: &[Processor],
     tables: &AcpiTables<'_, H>,
-) -> Result<(), AllocError> {
+) {
     let disabled = others
         .iter()
         .filter(|it| it.state == ProcessorState::Disabled)
@@ -131,21 +167,20 @@ fn add_processors<H: AcpiHandler>(
     facts.add(
         &"processors",
         &format_args!("{all}, {disabled} of them disabled"),
-    )?;
+    );
     let srat = tables.find_table::<Srat>();
     let table = match &srat {
         Ok(srat) => srat.bytes(),
         Err(_) => &[],
     };
-    add_processor(facts, boot, table)?;
+    add_processor(facts, boot, table);
     for processor in others {
-        add_processor(facts, processor, table)?;
+        add_processor(facts, processor, table);
     }
-    Ok(())
 }
 
 /// Adds a processor, with its domain by an SRAT's bytes.
-fn add_processor(facts: &mut Facts, processor: &Processor, srat: &[u8]) -> Result<(), AllocError> {
+fn add_processor(facts: &mut Facts, processor: &Processor, srat: &[u8]) {
     let uid = processor.processor_uid;
     let id = processor.local_apic_id;
     let state = state_word(processor.state);
@@ -180,7 +215,7 @@ fn trigger_words(trigger: TriggerMode) -> &'static str {
 }
 
 /// Adds the controllers, where each ISA interrupt comes, and the interrupts that can't be masked.
-fn add_apic(facts: &mut Facts, apic: &Apic<Global>) -> Result<(), AllocError> {
+fn add_apic(facts: &mut Facts, apic: &Apic<Global>) {
     let pics = if apic.also_has_legacy_pics {
         "and a pair of 8259s"
     } else {
@@ -190,44 +225,58 @@ fn add_apic(facts: &mut Facts, apic: &Apic<Global>) -> Result<(), AllocError> {
     facts.add(
         &"interrupts",
         &format_args!("local APICs at 0x{address:x}, {pics}"),
-    )?;
+    );
     for io_apic in apic.io_apics.as_slice() {
-        let (id, address) = (io_apic.id, io_apic.address);
-        let base = io_apic.global_system_interrupt_base;
-        facts.add(
-            &format_args!("I/O APIC {id}"),
-            &format_args!("at 0x{address:x}, interrupts from {base} on"),
-        )?;
+        add_io_apic(facts, io_apic);
     }
     for irq in 0..16u8 {
-        add_isa(facts, apic, irq)?;
+        add_isa(facts, apic, irq);
     }
     for source in apic.nmi_sources.as_slice() {
-        let interrupt = source.global_system_interrupt;
-        let (polarity, trigger) = (source.polarity, source.trigger_mode);
-        let (polarity, trigger) = (polarity_words(polarity), trigger_words(trigger));
-        facts.add(
-            &"NMI",
-            &format_args!("interrupt {interrupt}, {polarity}, {trigger}"),
-        )?;
+        add_nmi_source(facts, source);
     }
-    for nmi in apic.local_apic_nmi_lines.as_slice() {
-        let line = match nmi.line {
-            LocalInterruptLine::Lint0 => "LINT0",
-            LocalInterruptLine::Lint1 => "LINT1",
-        };
-        match nmi.processor {
-            NmiProcessor::All => facts.add(&"NMI", &format_args!("{line} of every processor"))?,
-            NmiProcessor::ProcessorUid(uid) => {
-                facts.add(&"NMI", &format_args!("{line} of processor {uid}"))?;
-            }
+    for line in apic.local_apic_nmi_lines.as_slice() {
+        add_nmi_line(facts, line);
+    }
+}
+
+/// Adds an I/O APIC.
+fn add_io_apic(facts: &mut Facts, io_apic: &IoApic) {
+    let (id, address) = (io_apic.id, io_apic.address);
+    let base = io_apic.global_system_interrupt_base;
+    facts.add(
+        &format_args!("I/O APIC {id}"),
+        &format_args!("at 0x{address:x}, interrupts from {base} on"),
+    );
+}
+
+/// Adds an interrupt that can't be masked.
+fn add_nmi_source(facts: &mut Facts, source: &NmiSource) {
+    let interrupt = source.global_system_interrupt;
+    let polarity = polarity_words(source.polarity);
+    let trigger = trigger_words(source.trigger_mode);
+    facts.add(
+        &"NMI",
+        &format_args!("interrupt {interrupt}, {polarity}, {trigger}"),
+    );
+}
+
+/// Adds the pin of local APICs that such interrupts come to.
+fn add_nmi_line(facts: &mut Facts, nmi: &NmiLine) {
+    let line = match nmi.line {
+        LocalInterruptLine::Lint0 => "LINT0",
+        LocalInterruptLine::Lint1 => "LINT1",
+    };
+    match nmi.processor {
+        NmiProcessor::All => facts.add(&"NMI", &format_args!("{line} of every processor")),
+        NmiProcessor::ProcessorUid(uid) => {
+            facts.add(&"NMI", &format_args!("{line} of processor {uid}"));
         }
     }
-    Ok(())
 }
 
 /// Adds where an ISA interrupt comes.
-fn add_isa(facts: &mut Facts, apic: &Apic<Global>, irq: u8) -> Result<(), AllocError> {
+fn add_isa(facts: &mut Facts, apic: &Apic<Global>, irq: u8) {
     let Some(isa) = apic.isa_interrupt(irq) else {
         return facts.add(&format_args!("ISA interrupt {irq}"), &"comes nowhere");
     };
@@ -254,7 +303,7 @@ fn add_isa(facts: &mut Facts, apic: &Apic<Global>, irq: u8) -> Result<(), AllocE
 }
 
 /// Adds the power management timer.
-fn add_timer(facts: &mut Facts, timer: PmTimer) -> Result<(), AllocError> {
+fn add_timer(facts: &mut Facts, timer: PmTimer) {
     let bits = if timer.supports_32bit { 32 } else { 24 };
     let (space, address) = (timer.base.address_space, timer.base.address);
     facts.add(
@@ -264,7 +313,7 @@ fn add_timer(facts: &mut Facts, timer: PmTimer) -> Result<(), AllocError> {
 }
 
 /// Adds the high precision event timers.
-fn add_hpet(facts: &mut Facts, info: &HpetInfo) -> Result<(), AllocError> {
+fn add_hpet(facts: &mut Facts, info: &HpetInfo) {
     let (number, address) = (info.hpet_number, info.base_address);
     let (comparators, tick) = (info.num_comparators(), info.clock_tick_unit);
     let bits = if info.main_counter_is_64bits() {
@@ -294,7 +343,7 @@ fn size_of(bytes: u64) -> (u64, &'static str) {
 }
 
 /// Adds a region of PCI configuration space, of which each bus takes 1 MiB.
-fn add_region(facts: &mut Facts, region: PciConfigEntry) -> Result<(), AllocError> {
+fn add_region(facts: &mut Facts, region: PciConfigEntry) {
     let (first, last) = region.bus_range.into_inner();
     let (segment, address) = (region.segment_group, region.physical_address);
     facts.add(
@@ -304,7 +353,7 @@ fn add_region(facts: &mut Facts, region: PciConfigEntry) -> Result<(), AllocErro
 }
 
 /// Adds a range of memory and its domain.
-fn add_range(facts: &mut Facts, range: &MemoryRange) -> Result<(), AllocError> {
+fn add_range(facts: &mut Facts, range: &MemoryRange) {
     let (domain, base) = (range.domain, range.base);
     let (size, unit) = size_of(range.length);
     let plug = if range.is_hot_pluggable {
@@ -319,7 +368,7 @@ fn add_range(facts: &mut Facts, range: &MemoryRange) -> Result<(), AllocError> {
 }
 
 /// Adds the serial console.
-fn add_console(facts: &mut Facts, console: &Spcr) -> Result<(), AllocError> {
+fn add_console(facts: &mut Facts, console: &Spcr) {
     let base = match console.base_address() {
         None => return facts.add(&"console", &"off"),
         Some(Err(refusal)) => return facts.add_refused("console", refusal),

@@ -1,60 +1,57 @@
 //! A table as lines of text.
 
 use crate::fields::{print_bytes, print_field};
+use crate::out::Out;
 use crate::walk::{Fault, Group, Show, Shown};
-use std::io;
 use std::io::Write;
 
 /// The text of a table: where it is written to, and how deep the structures lie that have begun.
 #[derive(Drop)]
 pub(crate) struct Text<'a, W> {
-    pub(crate) out: &'a mut W,
+    pub(crate) out: &'a mut Out<W>,
     pub(crate) depth: usize,
 }
 
 impl<W: Write> Show for Text<'_, W> {
-    fn field(&mut self, shown: &Shown<'_>) -> io::Result<()> {
+    fn field(&mut self, shown: &Shown<'_>) {
         print_field(shown, self.depth, self.out)
     }
 
-    fn bytes(&mut self, offset: u64, bytes: &[u8]) -> io::Result<()> {
+    fn bytes(&mut self, offset: u64, bytes: &[u8]) {
         print_bytes(offset, bytes, self.depth, self.out)
     }
 
-    fn begin(&mut self, group: &Group) -> io::Result<()> {
-        print_group(group, self.depth, self.out)?;
+    fn begin(&mut self, group: &Group) {
+        print_group(group, self.depth, self.out);
         self.depth = self.depth.saturating_add(1);
-        Ok(())
     }
 
-    fn end(&mut self) -> io::Result<()> {
+    fn end(&mut self) {
         self.depth = self.depth.saturating_sub(1);
-        Ok(())
     }
 
-    fn malformed(&mut self, offset: u64, fault: Fault) -> io::Result<()> {
-        print_indent(self.depth, self.out)?;
-        write!(self.out, "malformed: ")?;
-        print_fault(offset, fault, self.out)?;
-        writeln!(self.out)
+    fn malformed(&mut self, offset: u64, fault: Fault) {
+        print_indent(self.depth, self.out);
+        self.out.text("malformed: ");
+        print_fault(offset, fault, self.out);
+        self.out.text("\n")
     }
 }
 
 /// Prints the spaces that a line begins with.
-pub(crate) fn print_indent<W: Write>(depth: usize, out: &mut W) -> io::Result<()> {
-    write!(out, "  ")?;
+pub(crate) fn print_indent<W: Write>(depth: usize, out: &mut Out<W>) {
+    out.text("  ");
     for _ in 0..depth {
-        write!(out, "  ")?;
+        out.text("  ");
     }
-    Ok(())
 }
 
 /// Prints the heading of a structure.
-fn print_group<W: Write>(group: &Group, depth: usize, out: &mut W) -> io::Result<()> {
-    print_indent(depth, out)?;
-    write!(out, "entry {} at 0x{:x}", group.number, group.offset)?;
+fn print_group<W: Write>(group: &Group, depth: usize, out: &mut Out<W>) {
+    print_indent(depth, out);
+    write!(out, "entry {} at 0x{:x}", group.number, group.offset);
     if let Some(kind) = group.kind {
-        write!(out, ", type 0x{kind:x}")?;
+        write!(out, ", type 0x{kind:x}");
     }
     let name = if group.name.is_empty() {
         "unknown"
@@ -65,7 +62,7 @@ fn print_group<W: Write>(group: &Group, depth: usize, out: &mut W) -> io::Result
 }
 
 /// Prints why a rest from an offset of the table on isn't shown by the layout.
-pub(crate) fn print_fault<W: Write>(offset: u64, fault: Fault, out: &mut W) -> io::Result<()> {
+pub(crate) fn print_fault<W: Write>(offset: u64, fault: Fault, out: &mut Out<W>) {
     match fault {
         Fault::Length(length) => write!(out, "entry at 0x{offset:x} has length {length}"),
         Fault::Past(length) => write!(

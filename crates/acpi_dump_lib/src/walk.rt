@@ -11,7 +11,6 @@ use acpi::sdt::Signature;
 use entry::{Entry, next_entry};
 pub(crate) use parts::cut;
 use parts::{Extent, Piece, is_more, list_extent, show_fields, show_gap, show_missing, show_start};
-use std::io;
 
 /// How deep structures lie in structures at most.
 const DEEPEST: u32 = 16;
@@ -65,28 +64,24 @@ pub(crate) enum Fault {
 /// What a walk shows a table to, in the order of the bytes.
 pub(crate) trait Show {
     /// Shows a field.
-    fn field(&mut self, shown: &Shown<'_>) -> io::Result<()>;
+    fn field(&mut self, shown: &Shown<'_>);
 
     /// Shows bytes at an offset of the table that no field covers.
-    fn bytes(&mut self, offset: u64, bytes: &[u8]) -> io::Result<()>;
+    fn bytes(&mut self, offset: u64, bytes: &[u8]);
 
     /// Shows that a structure begins.
-    fn begin(&mut self, group: &Group) -> io::Result<()>;
+    fn begin(&mut self, group: &Group);
 
     /// Shows that the structure ends that began last and hasn't ended.
-    fn end(&mut self) -> io::Result<()>;
+    fn end(&mut self);
 
     /// Shows why bytes from an offset of the table on aren't shown by the layout. The bytes, if there are
     /// some, come next.
-    fn malformed(&mut self, offset: u64, fault: Fault) -> io::Result<()>;
+    fn malformed(&mut self, offset: u64, fault: Fault);
 }
 
 /// Shows a table.
-pub(crate) fn walk_table<S: Show>(
-    signature: Signature,
-    table: &[u8],
-    show: &mut S,
-) -> io::Result<()> {
+pub(crate) fn walk_table<S: Show>(signature: Signature, table: &[u8], show: &mut S) {
     let (text, lines) = layout_of(signature);
     let piece = Piece {
         base: 0,
@@ -109,13 +104,13 @@ fn walk_structure<S: Show>(
     lines: &'static [u8],
     depth: u32,
     show: &mut S,
-) -> io::Result<()> {
+) {
     if depth == 0 {
-        show.malformed(piece.base, Fault::Deep)?;
+        show.malformed(piece.base, Fault::Deep);
         return show.bytes(piece.base, piece.bytes);
     }
-    let shown = walk_lines(piece, head, 0, depth - 1, show)?;
-    let shown = walk_lines(piece, lines, shown, depth - 1, show)?;
+    let shown = walk_lines(piece, head, 0, depth - 1, show);
+    let shown = walk_lines(piece, lines, shown, depth - 1, show);
     show_gap(piece, shown, piece.bytes.len(), show)
 }
 
@@ -128,10 +123,10 @@ fn walk_lines<S: Show>(
     from: usize,
     depth: u32,
     show: &mut S,
-) -> io::Result<usize> {
+) -> usize {
     let mut shown = from;
     if depth == 0 {
-        return Ok(shown);
+        return shown;
     }
     let mut left = lines;
     'lines: while !left.is_empty() {
@@ -140,8 +135,8 @@ fn walk_lines<S: Show>(
         let (word, rest) = next_word(line);
         shown = match word {
             b"" => shown,
-            b"if" => walk_lines(piece, chosen_lines(piece, rest), shown, depth - 1, show)?,
-            b"with" => walk_lines(piece, lines_of(piece.text, rest), shown, depth - 1, show)?,
+            b"if" => walk_lines(piece, chosen_lines(piece, rest), shown, depth - 1, show),
+            b"with" => walk_lines(piece, lines_of(piece.text, rest), shown, depth - 1, show),
             b"then" => {
                 let inner = walk_lines(
                     rest_of(piece, shown),
@@ -149,13 +144,13 @@ fn walk_lines<S: Show>(
                     0,
                     depth - 1,
                     show,
-                )?;
+                );
                 shown.saturating_add(inner)
             }
-            _ => walk_part(piece, shown, word, rest, depth - 1, show)?,
+            _ => walk_part(piece, shown, word, rest, depth - 1, show),
         };
     }
-    Ok(shown)
+    shown
 }
 
 /// Shows the part that a line describes, by its first word and what follows it.
@@ -167,7 +162,7 @@ fn walk_part<S: Show>(
     rest: &'static [u8],
     depth: u32,
     show: &mut S,
-) -> io::Result<usize> {
+) -> usize {
     let start = if matches!(word, b">") {
         shown
     } else {
@@ -176,10 +171,10 @@ fn walk_part<S: Show>(
     let (length, rest) = next_word(rest);
     if let [b'{', count @ ..] = length {
         let extent = list_extent(piece.bytes, start, count);
-        if depth > 0 && show_start(piece, shown, extent, show)? {
+        if depth > 0 && show_start(piece, shown, extent, show) {
             return walk_list(piece, extent, rest, depth - 1, show);
         }
-        return Ok(shown);
+        return shown;
     }
     show_fields(piece, shown, start, is_number(word), length, rest, show)
 }
@@ -192,39 +187,39 @@ fn walk_list<S: Show>(
     how: &'static [u8],
     depth: u32,
     show: &mut S,
-) -> io::Result<usize> {
+) -> usize {
     let Some(mut rest) = cut(piece.bytes, extent.start, extent.end) else {
-        return Ok(extent.start);
+        return extent.start;
     };
     let mut offset = piece.base.saturating_add(extent.start as u64);
     let mut number: u64 = 0;
     if depth == 0 {
-        return Ok(extent.start);
+        return extent.start;
     }
     'entries: while !rest.is_empty() && is_more(extent, number) {
         let entry = match next_entry(piece, rest, how) {
             Ok(entry) => entry,
             Err(fault) => {
-                show.malformed(offset, fault)?;
-                show.bytes(offset, rest)?;
-                return Ok(extent.end);
+                show.malformed(offset, fault);
+                show.bytes(offset, rest);
+                return extent.end;
             }
         };
         let (bytes, others) = split(rest, entry.length);
-        show.begin(&group_of(offset, number, entry))?;
+        show.begin(&group_of(offset, number, entry));
         let inner = Piece {
             base: offset,
             bytes,
             text: piece.text,
         };
-        walk_structure(inner, entry.head, entry.lines, depth - 1, show)?;
-        show.end()?;
+        walk_structure(inner, entry.head, entry.lines, depth - 1, show);
+        show.end();
         offset = offset.saturating_add(bytes.len() as u64);
         number = number.saturating_add(1);
         rest = others;
     }
-    show_missing(offset, extent, number, show)?;
-    Ok(extent.end.saturating_sub(rest.len()))
+    show_missing(offset, extent, number, show);
+    extent.end.saturating_sub(rest.len())
 }
 
 /// Bytes up to a place, which isn't their beginning, and those from there on.

@@ -2,7 +2,6 @@
 
 use super::{Fault, Show, Shown};
 use crate::language::{cut_at, field_of, is_number, sum_of};
-use std::io;
 
 /// A structure: where it begins in the table, its bytes, and the text that its layout stands in.
 #[derive(Clone, Copy)]
@@ -81,17 +80,17 @@ pub(super) fn show_start<S: Show>(
     shown: usize,
     extent: Extent,
     show: &mut S,
-) -> io::Result<bool> {
+) -> bool {
     match check_extent(piece.bytes, shown, extent) {
         Ok(()) => {
-            show_gap(piece, shown, extent.start, show)?;
-            Ok(true)
+            show_gap(piece, shown, extent.start, show);
+            true
         }
         Err(Some(fault)) => {
-            show.malformed(piece.base, fault)?;
-            Ok(false)
+            show.malformed(piece.base, fault);
+            false
         }
-        Err(None) => Ok(false),
+        Err(None) => false,
     }
 }
 
@@ -116,33 +115,21 @@ fn check_extent(bytes: &[u8], shown: usize, extent: Extent) -> Result<(), Option
 }
 
 /// Shows how many of the elements that are counted aren't there, if some aren't.
-pub(super) fn show_missing<S: Show>(
-    offset: u64,
-    extent: Extent,
-    found: u64,
-    show: &mut S,
-) -> io::Result<()> {
+pub(super) fn show_missing<S: Show>(offset: u64, extent: Extent, found: u64, show: &mut S) {
     if let Some(count) = extent.count
         && found < count
     {
         return show.malformed(offset, Fault::Missing(count - found));
     }
-    Ok(())
 }
 
 /// Shows those bytes of a structure that no field covers.
-pub(super) fn show_gap<S: Show>(
-    piece: Piece<'_>,
-    start: usize,
-    end: usize,
-    show: &mut S,
-) -> io::Result<()> {
+pub(super) fn show_gap<S: Show>(piece: Piece<'_>, start: usize, end: usize, show: &mut S) {
     if start < end
         && let Some(bytes) = cut(piece.bytes, start, end)
     {
         return show.bytes(piece.base.saturating_add(start as u64), bytes);
     }
-    Ok(())
 }
 
 /// Shows the field or the fields that begin at an offset of a structure, by the word for the length, and
@@ -155,14 +142,14 @@ pub(super) fn show_fields<S: Show>(
     word: &'static [u8],
     rest: &'static [u8],
     show: &mut S,
-) -> io::Result<usize> {
+) -> usize {
     let (length, count) = cut_at(word, b'[');
     if !count.is_empty() {
         let extent = array_extent(piece.bytes, start, count);
-        if show_start(piece, shown, extent, show)? {
+        if show_start(piece, shown, extent, show) {
             return show_numbers(piece, extent, length, rest, show);
         }
-        return Ok(shown);
+        return shown;
     }
     let end = match length {
         b"*" => piece.bytes.len(),
@@ -177,11 +164,11 @@ pub(super) fn show_fields<S: Show>(
     };
     if is_fixed && is_number(length) {
         if start < shown || piece.bytes.len() < end {
-            return Ok(shown);
+            return shown;
         }
-        show_gap(piece, shown, start, show)?;
-    } else if !show_start(piece, shown, extent, show)? {
-        return Ok(shown);
+        show_gap(piece, shown, start, show);
+    } else if !show_start(piece, shown, extent, show) {
+        return shown;
     }
     show_field(piece, extent, rest, show)
 }
@@ -207,9 +194,9 @@ fn show_field<S: Show>(
     extent: Extent,
     rest: &'static [u8],
     show: &mut S,
-) -> io::Result<usize> {
+) -> usize {
     let Some(bytes) = cut(piece.bytes, extent.start, extent.end) else {
-        return Ok(extent.start);
+        return extent.start;
     };
     let (meaning, name) = field_of(piece.text, rest);
     show.field(&Shown {
@@ -218,8 +205,8 @@ fn show_field<S: Show>(
         name,
         number: None,
         meaning,
-    })?;
-    Ok(extent.end)
+    });
+    extent.end
 }
 
 /// Shows fields of one length, as far as they are there. It answers up to where the structure is shown then.
@@ -229,13 +216,13 @@ fn show_numbers<S: Show>(
     length: &'static [u8],
     rest: &'static [u8],
     show: &mut S,
-) -> io::Result<usize> {
+) -> usize {
     let length = sum_of(length, piece.bytes).number as usize;
     let Some(bytes) = cut(piece.bytes, extent.start, extent.end) else {
-        return Ok(extent.start);
+        return extent.start;
     };
     if length == 0 {
-        return Ok(extent.start);
+        return extent.start;
     }
     let (meaning, name) = field_of(piece.text, rest);
     let mut shown = extent.start;
@@ -248,7 +235,7 @@ fn show_numbers<S: Show>(
                 name,
                 number: Some(number),
                 meaning,
-            })?;
+            });
             shown = shown.saturating_add(length);
             number = number.saturating_add(1);
         }
@@ -258,6 +245,6 @@ fn show_numbers<S: Show>(
         extent,
         number,
         show,
-    )?;
-    Ok(shown)
+    );
+    shown
 }

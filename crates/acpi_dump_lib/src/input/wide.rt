@@ -1,0 +1,22 @@
+//! Texts in UTF-16, as PowerShell writes what a command prints.
+
+use std::alloc::{AllocError, Global};
+
+/// Whether bytes begin with the mark of a text in UTF-16 whose lower bytes come first.
+pub(crate) fn is_wide(bytes: &[u8]) -> bool {
+    matches!(bytes, [0xff, 0xfe, ..])
+}
+
+/// The text after the mark, with `?` in place of what isn't ASCII.
+///
+/// Refuses if memory runs out.
+pub(crate) fn narrowed(alloc: Global, bytes: &[u8]) -> Result<Vec<u8>, AllocError> {
+    let mut text = Vec::new(alloc);
+    for unit in bytes.get(2..).unwrap_or(&[]).chunks(2) {
+        text.push(match unit {
+            [letter, 0] if letter.is_ascii() => *letter,
+            _ => b'?',
+        })?;
+    }
+    Ok(text)
+}
