@@ -239,7 +239,6 @@ fn print_timers<W: Write>(info: &HpetInfo, out: &mut W) -> io::Result<()>
 /// them is an allocator's.
 ///
 /// Refuses with the refusal of the first write that is refused.
-#[tactic(auto, using(crate::proofs::Writing::said_or_full))]
 pub fn print_pci<H: AcpiHandler, A: Allocator + Clone, W: Write>(
     alloc: A,
     tables: &AcpiTables<'_, H>,
@@ -252,7 +251,6 @@ pub fn print_pci<H: AcpiHandler, A: Allocator + Clone, W: Write>(
 }
 
 /// Prints the lines of the regions that are found, or their refusal.
-#[tactic(auto, using(crate::proofs::Writing::shown_lines))]
 fn print_regions<A: Allocator, W: Write>(
     found: AcpiResult<PciConfigRegions<A>>,
     out: &mut W,

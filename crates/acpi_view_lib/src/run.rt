@@ -57,7 +57,6 @@ pub fn run<W: Write, E: Write>(
 /// command. It flushes both outputs, whatever is refused, and answers the status.
 ///
 /// Refuses with the refusal of the first write or flush that is refused.
-#[tactic(auto, using(crate::proofs::Running::ends_kept))]
 pub fn print_run<W: Write, E: Write>(
     alloc: Global,
     asked: Option<Root>,
@@ -149,7 +148,6 @@ pub fn refuse<D: Display + Drop, E: Write>(refusal: D, err: &mut E) -> io::Resul
 }
 
 /// Prints the lines of the tables in a memory, and answers the status.
-#[tactic(auto, using(crate::proofs::Running::no_lines))]
 fn print_image<H: AcpiHandler, W: Write, E: Write>(
     alloc: Global,
     handler: &H,

@@ -219,7 +219,6 @@ fn input_word(input: LocalInterruptLine) -> &'static str
 }
 
 /// Prints the line of each processor, the boot processor's first.
-#[tactic(auto, using(crate::proofs::Writing::then_more))]
 fn print_processors<A: Allocator, W: Write>(
     listed: &Option<ProcessorInfo<A>>,
     out: &mut W,
