@@ -2,24 +2,25 @@
 ghost use Rattle.std.specs.Prelude.{◌≡◌, true};
 ghost use Rattle.acpi_base.specs.Ranges.{is_listed};
 
-use crate::checks::check;
+use crate::checks::{check, check_at};
 use acpi::handler::{MappedRegion, RegionError};
 use acpi::madt::Madt;
 use acpi::platform::interrupt::InterruptModel;
 use acpi::sdt::Signature;
 use acpi::{AcpiError, AcpiHandler, AcpiResult, AcpiTables, Guarded, Lender, PhysicalMapping};
 use acpi_examples::caller::graphic_address;
+use acpi_examples::processors::print_processors;
 use acpi_examples::reserved::{MemoryMap, reserve_tables};
 use acpi_examples::resolved::isa_pin;
 use acpi_examples::table_type::find_both;
 use acpi_examples::writer::{GuestError, tables_of_guest};
-use acpi_image::{MemoryImage, PlacedTable, WriteError};
+use acpi_image::{MemoryImage, PlacedTable, WriteError, write_image};
 use acpi_testkit::handlers::Recording;
 use acpi_testkit::history::Event;
 use acpi_testkit::samples::graphics::two_tables;
 use acpi_testkit::samples::madts::with_madt;
 use acpi_testkit::samples::rsdps::two_roots;
-use acpi_testkit::samples::{front, put_graphic, seal_table};
+use acpi_testkit::samples::{front, put, put_graphic, put_table, seal_table};
 use std::alloc::Global;
 use std::process::Abort;
 
@@ -257,5 +258,55 @@ fn check_guest(
 fn a_guest_finds_the_tables_that_were_placed(rt: HostRuntime) {
     for (count, second, wanted) in &GUESTS {
         check_guest(&rt, rt.alloc(), *count, *second, *wanted);
+    }
+}
+
+/// Three local APICs (section 5.2.12.2): the ACPI processor UID, the APIC ID, and whether it is enabled.
+const LOCAL_APICS: [u8; 24] = [
+    0, 8, 1, 0, 1, 0, 0, 0, 0, 8, 2, 4, 1, 0, 0, 0, 0, 8, 3, 6, 0, 0, 0, 0,
+];
+
+/// Addresses of RSDPs, and what is printed from there.
+static PRINTED: [(u64, &str); 2] = [
+    (
+        0x500,
+        "processor 1 0 running\nprocessor 2 4 waiting\nprocessor 3 6 disabled\n",
+    ),
+    (0x501, "platform: MapFailed\n"),
+];
+
+/// What is printed of an image with a FADT and a MADT of these local APICs.
+fn printed(alloc: Global, rsdp: u64) -> Option<Vec<u8>> {
+    let (mut fadt, mut madt) = ([0; 116], [0; 68]);
+    put_table(&mut fadt, 0, b"FACP", 116);
+    put_table(&mut madt, 0, b"APIC", 68);
+    put(&mut madt, 44, &LOCAL_APICS);
+    seal_table(&mut fadt, 0, 116);
+    seal_table(&mut madt, 0, 68);
+    let tables = [
+        PlacedTable {
+            address: 0x2000,
+            bytes: &fadt,
+        },
+        PlacedTable {
+            address: 0x3000,
+            bytes: &madt,
+        },
+    ];
+    let file = write_image(alloc, 0x500, 0x1000, 2, &tables).ok()?;
+    let mut out = Vec::new(alloc);
+    print_processors(alloc, &file, rsdp, &mut out).ok()?;
+    Some(out)
+}
+
+#[test]
+fn the_processors_are_printed(rt: HostRuntime) {
+    for (rsdp, wanted) in &PRINTED {
+        let printed = printed(rt.alloc(), *rsdp);
+        let is_right = match &printed {
+            Some(text) => text.as_slice() == wanted.as_bytes(),
+            None => false,
+        };
+        check_at(&rt, "processors", *rsdp, is_right);
     }
 }
