@@ -1,6 +1,7 @@
 //! The timers that a GTDT describes.
 
 use crate::named::one_of;
+use crate::texts::{Parts, listed};
 use acpi::{AcpiTable, PhysicalRecord};
 use acpi_arm::gtdt::{Gtdt, PlatformTimer, PlatformTimerIter};
 use acpi_testkit::rows::shown;
@@ -33,18 +34,16 @@ pub(crate) fn platform(
     alloc: Global,
     mut timers: PlatformTimerIter<'_>,
 ) -> Result<String, AllocError> {
-    let mut text = String::new(alloc);
+    let mut parts = Parts::new(alloc);
     for timer in timers.by_ref() {
-        let said = of_timer(alloc, &timer)?;
-        write!(text, "{said}; ")?;
+        parts.add_text(of_timer(alloc, &timer));
     }
-    let end = if timers.ended_malformed() {
+    parts.add_words(if timers.ended_malformed() {
         "malformed"
     } else {
         "end"
-    };
-    text.push_str(end)?;
-    Ok(text)
+    });
+    parts.text()
 }
 
 /// A block's address and its frames, or a watchdog.
@@ -52,11 +51,19 @@ fn of_timer(alloc: Global, timer: &PlatformTimer<'_>) -> Result<String, AllocErr
     match timer {
         PlatformTimer::SbsaWatchdog(watchdog) => shown(alloc, watchdog),
         PlatformTimer::GtBlock(block) => {
-            let mut frames = Vec::new(alloc);
-            for frame in block.frames {
-                frames.push(frame)?;
-            }
-            shown(alloc, &(block.address, frames.as_slice()))
+            of_block(alloc, block.address, listed(alloc, block.frames))
         }
+    }
+}
+
+/// A block's address, and the text of its frames.
+fn of_block(
+    alloc: Global,
+    address: u64,
+    frames: Result<String, AllocError>,
+) -> Result<String, AllocError> {
+    match frames {
+        Ok(frames) => format!(in alloc; "({address}, {frames})"),
+        refused => refused,
     }
 }

@@ -1,8 +1,8 @@
 //! Questions about a memory, as it is or with a change (`changes`).
 //!
-//! Each is asked over three handlers: one that lends all it has from an address on, one that lends just
-//! what is asked for, and one that records. All three have to answer the same, and each loan that is
-//! recorded has to have its one notice.
+//! Each is asked over two handlers: one that lends all it has from an address on, and one that lends just
+//! what is asked for. Both are recorded: they have to answer the same, and each loan has to have its one
+//! notice.
 //!
 //! - `search`, `areas ..` and `bios areas EBDA`: where an RSDP is found (`ways`, `areas`);
 //! - `fronts of the file`: the fronts of the file of the memory that are files too;
@@ -27,7 +27,7 @@ use crate::texts::Parts;
 use acpi::AcpiHandler;
 use acpi_image::{ImageError, MemoryImage};
 use acpi_testkit::handlers::{Exact, Recording};
-use acpi_testkit::history::Flaw;
+use acpi_testkit::history::{Flaw, History};
 use acpi_testkit::rows::{Region, Row, shown};
 use acpi_testkit::samples::front;
 use areas::of_bios;
@@ -64,28 +64,94 @@ fn fronts(alloc: Global, file: &[u8]) -> Result<String, AllocError> {
     shown(alloc, &whole)
 }
 
-/// What all three handlers answer, or what each does, or what is wrong with the loans.
+/// Over which of the two handlers a question is asked, and whether the requests are counted.
+#[derive(Clone, Copy)]
+struct Way {
+    is_generous: bool,
+    is_exact: bool,
+    counts: bool,
+}
+
+/// What a question says of the way in which it is asked, and the rest of it.
+fn way_of(question: &str) -> (Way, &str) {
+    let mut way = Way {
+        is_generous: true,
+        is_exact: true,
+        counts: false,
+    };
+    if let Some(asked) = question.strip_prefix("most requests for ") {
+        way.counts = true;
+        return (way, asked);
+    }
+    if let Some(asked) = question.strip_suffix(" over the generous handler") {
+        way.is_exact = false;
+        return (way, asked);
+    }
+    if let Some(asked) = question.strip_suffix(" over the exact handler") {
+        way.is_generous = false;
+        return (way, asked);
+    }
+    (way, question)
+}
+
+/// What both handlers answer, or what each does, or what is wrong with the loans.
 fn over_handlers(
     alloc: Global,
     image: &MemoryImage<'_>,
     regions: &[Region],
     question: &str,
 ) -> Result<String, AllocError> {
-    let exact = Exact::new(image);
+    let (way, asked) = way_of(question);
+    let counted = if way.counts { Some(regions) } else { None };
     let mut parts = Parts::new(alloc);
-    if let Some(asked) = question.strip_prefix("most requests for ") {
-        parts.add_other(most_requests(alloc, image, regions, asked));
-        parts.add_other(most_requests(alloc, &exact, regions, asked));
-    } else if let Some(asked) = question.strip_suffix(" over the generous handler") {
-        parts.add_other(over(alloc, image, asked));
-    } else if let Some(asked) = question.strip_suffix(" over the exact handler") {
-        parts.add_other(over(alloc, &exact, asked));
-    } else {
-        parts.add_other(over(alloc, image, question));
-        parts.add_other(over(alloc, &exact, question));
-        parts.add_other(recorded(alloc, &Recording::new(image), question));
+    if way.is_generous {
+        parts.add_other(recorded(alloc, image, counted, asked));
+    }
+    if way.is_exact {
+        parts.add_other(recorded(alloc, &Exact::new(image), counted, asked));
     }
     parts.text()
+}
+
+/// What is answered over a handler whose requests are recorded, or what is wrong with its loans then. If
+/// regions are passed, it is said how often they are asked for. A question that asks for more than a
+/// history has room for shows only its answer.
+fn recorded<H: AcpiHandler>(
+    alloc: Global,
+    handler: &H,
+    counted: Option<&[Region]>,
+    question: &str,
+) -> Result<String, AllocError> {
+    let recording = Recording::new(handler);
+    let text = over(alloc, &recording, question);
+    match (recording.flaw(), counted) {
+        (None | Some(Flaw::Full), None) => text,
+        (None | Some(Flaw::Full), Some(regions)) => {
+            with_number(alloc, most_requests(&recording.history(), regions), text)
+        }
+        (Some(flaw), _) => shown(alloc, &flaw),
+    }
+}
+
+/// A number, and then a text.
+fn with_number(
+    alloc: Global,
+    number: usize,
+    text: Result<String, AllocError>,
+) -> Result<String, AllocError> {
+    match text {
+        Ok(text) => format!(in alloc; "{number} {text}"),
+        refused => refused,
+    }
+}
+
+/// How often the first bytes of a region are asked for, of the one that is asked for most.
+fn most_requests(history: &History, regions: &[Region]) -> usize {
+    let mut most = 0;
+    for region in regions {
+        most = history.requests_at(region.address).max(most);
+    }
+    most
 }
 
 /// What is answered over a handler.
@@ -96,35 +162,4 @@ fn over<H: AcpiHandler>(alloc: Global, handler: &H, question: &str) -> Result<St
         "areas" => in_hex(alloc, &searched(alloc, handler, Some(areas))),
         _ => tables::answer(alloc, handler, question),
     }
-}
-
-/// What is answered over a recording handler, or what is wrong with its loans then. A question that
-/// asks for more than a history has room for shows only its answer.
-fn recorded<H: AcpiHandler>(
-    alloc: Global,
-    recording: &Recording<'_, H>,
-    question: &str,
-) -> Result<String, AllocError> {
-    let text = over(alloc, recording, question)?;
-    match recording.flaw() {
-        None | Some(Flaw::Full) => Ok(text),
-        Some(flaw) => shown(alloc, &flaw),
-    }
-}
-
-/// How often a question asks for the first bytes of a region, for the one that it asks for most.
-fn most_requests<H: AcpiHandler>(
-    alloc: Global,
-    handler: &H,
-    regions: &[Region],
-    question: &str,
-) -> Result<String, AllocError> {
-    let recording = Recording::new(handler);
-    let text = recorded(alloc, &recording, question)?;
-    let history = recording.history();
-    let mut most = 0;
-    for region in regions {
-        most = history.requests_at(region.address).max(most);
-    }
-    format!(in alloc; "{most} {text}")
 }

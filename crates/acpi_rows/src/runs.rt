@@ -86,11 +86,17 @@ impl Chosen<'_> {
     fn add(&mut self, kind: &str, text: io::Result<Vec<u8>>) {
         match text {
             Ok(text) => {
-                if let Err(refusal) = self.write(kind, &text) {
-                    self.refused = Some(refusal);
-                }
+                self.write(kind, str::from_utf8(&text).unwrap_or("no text"));
             }
             Err(refusal) => self.refused = Some(refusal),
+        }
+    }
+
+    /// Adds each line of a text that is made here, as `add` does.
+    fn add_text(&mut self, kind: &str, text: Result<String, AllocError>) {
+        match text {
+            Ok(text) => self.write(kind, text.as_str()),
+            Err(refusal) => self.refused = Some(io::Error::from(refusal)),
         }
     }
 
@@ -103,14 +109,12 @@ impl Chosen<'_> {
     }
 
     /// Writes each line of a text, where it is asked for.
-    fn write(&mut self, kind: &str, text: &[u8]) -> io::Result<()> {
-        let text = str::from_utf8(text).unwrap_or("no text");
+    fn write(&mut self, kind: &str, text: &str) {
         for line in text.split_inclusive('\n') {
-            if self.is_asked(kind, line) {
-                write!(self.text, "{kind} {line}")?;
+            if self.is_asked(kind, line) && write!(self.text, "{kind} {line}").is_err() {
+                self.refused = Some(io::Error::from(AllocError));
             }
         }
-        Ok(())
     }
 }
 
@@ -138,8 +142,8 @@ fn lines(alloc: Global, words: &[&str], image: Option<&[u8]>, asks: &str) -> io:
     };
     lines.add("out", Ok(out));
     lines.add("err", Ok(err));
-    lines.add("file", taken_file(alloc, words));
-    lines.add("command", taken_command(alloc, words));
+    lines.add_text("file", taken_file(alloc, words));
+    lines.add_text("command", taken_command(alloc, words));
     // Each of these takes several runs, or heaps.
     if asks.contains("writes") {
         lines.add("writes", refused_writes(alloc, words, image));
@@ -152,26 +156,21 @@ fn lines(alloc: Global, words: &[&str], image: Option<&[u8]>, asks: &str) -> io:
 }
 
 /// The file that words name.
-fn taken_file(alloc: Global, words: &[&str]) -> io::Result<Vec<u8>> {
-    let file = match files_named(parse_command(words), words) {
-        [file, ..] => *file,
-        [] => "none",
-    };
-    let mut text = Vec::new(alloc);
-    writeln!(text, "{file}")?;
-    Ok(text)
+fn taken_file(alloc: Global, words: &[&str]) -> Result<String, AllocError> {
+    match files_named(parse_command(words), words) {
+        [file, ..] => format!(in alloc; "{file}\n"),
+        [] => String::from_str(alloc, "none\n"),
+    }
 }
 
 /// The command that words give.
-fn taken_command(alloc: Global, words: &[&str]) -> io::Result<Vec<u8>> {
-    let mut text = Vec::new(alloc);
+fn taken_command(alloc: Global, words: &[&str]) -> Result<String, AllocError> {
     match parse_command(words) {
         Some(Root::Rsdt { revision, address }) => {
-            writeln!(text, "rsdt {revision} 0x{address:x}")
+            format!(in alloc; "rsdt {revision} 0x{address:x}\n")
         }
-        Some(Root::Rsdp { address }) => writeln!(text, "rsdp 0x{address:x}"),
-        Some(Root::Bios) => writeln!(text, "bios"),
-        None => writeln!(text, "none"),
-    }?;
-    Ok(text)
+        Some(Root::Rsdp { address }) => format!(in alloc; "rsdp 0x{address:x}\n"),
+        Some(Root::Bios) => String::from_str(alloc, "bios\n"),
+        None => String::from_str(alloc, "none\n"),
+    }
 }

@@ -27,31 +27,16 @@ pub(super) fn sum_up<H: AcpiHandler>(
         (Verb::Wake, _) => say_number(transcript, wake(tables, step.count())),
         (verb, None) => gathered(alloc, transcript, tables, verb),
         (verb, Some(size)) => match LocalHeap::new(alloc, size as usize) {
-            Ok(heap) => gathered_in(&heap, transcript, tables, verb),
+            Ok(heap) => gathered(&heap, transcript, tables, verb),
             Err(_) => transcript.require(false),
         },
     }
 }
 
 /// Says how many regions of PCI configuration space there are, how many parts the GIC has, how many
-/// ranges of memory lie in domains, or 0 of a platform.
-fn gathered<H: AcpiHandler>(
-    alloc: Global,
-    transcript: &mut Transcript<'_>,
-    tables: &AcpiTables<'_, H>,
-    verb: Verb,
-) {
-    match verb {
-        Verb::Pci => say_number(transcript, regions_of(PciConfigRegions::new(alloc, tables))),
-        Verb::Gic => say_number(transcript, parts_of(GicModel::new(alloc, tables))),
-        Verb::Memory => say_number(transcript, ranges_of(MemoryAffinities::new(alloc, tables))),
-        _ => say_number(transcript, platform_of(tables.platform_info(alloc))),
-    }
-}
-
-/// Says the same, gathered in a heap.
-fn gathered_in<H: AcpiHandler>(
-    heap: &LocalHeap,
+/// ranges of memory lie in domains, or 0 of a platform, gathered in memory of an allocator.
+fn gathered<H: AcpiHandler, A: Allocator + Copy>(
+    allocator: A,
     transcript: &mut Transcript<'_>,
     tables: &AcpiTables<'_, H>,
     verb: Verb,
@@ -59,16 +44,14 @@ fn gathered_in<H: AcpiHandler>(
     match verb {
         Verb::Pci => say_number(
             transcript,
-            regions_of(PciConfigRegions::new_in(tables, heap)),
+            regions_of(PciConfigRegions::new_in(tables, allocator)),
         ),
-        Verb::Gic => say_number(transcript, parts_of(GicModel::new_in(tables, heap))),
-        Verb::Memory => {
-            say_number(
-                transcript,
-                ranges_of(MemoryAffinities::new_in(tables, heap)),
-            );
-        }
-        _ => say_number(transcript, platform_of(tables.platform_info_in(heap))),
+        Verb::Gic => say_number(transcript, parts_of(GicModel::new_in(tables, allocator))),
+        Verb::Memory => say_number(
+            transcript,
+            ranges_of(MemoryAffinities::new_in(tables, allocator)),
+        ),
+        _ => say_number(transcript, platform_of(tables.platform_info_in(allocator))),
     }
 }
 

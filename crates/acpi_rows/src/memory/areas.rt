@@ -11,19 +11,28 @@ use std::alloc::{AllocError, Global};
 /// Refuses another text with `InvalidGenericAddress`, which no search for an RSDP answers.
 pub(super) fn areas_of(alloc: Global, text: &str) -> AcpiResult<Vec<AddressRange>> {
     let mut areas = Vec::new(alloc);
-    if text.is_empty() {
-        return Ok(areas);
-    }
-    for area in text.split(", ") {
-        let (address, length) = area.split_once(' ').unwrap_or((area, ""));
-        let (Some(address), Ok(length)) = (parse_address(address), length.parse::<u64>()) else {
-            return Err(AcpiError::InvalidGenericAddress);
-        };
-        if areas.push(AddressRange { address, length }).is_err() {
-            return Err(AcpiError::AllocError);
+    let mut refused = None;
+    if !text.is_empty() {
+        for area in text.split(", ") {
+            refused = add_area(&mut areas, area).err().or(refused);
         }
     }
-    Ok(areas)
+    match refused {
+        None => Ok(areas),
+        Some(refusal) => Err(refusal),
+    }
+}
+
+/// Adds an area: its address and its length.
+fn add_area(areas: &mut Vec<AddressRange>, text: &str) -> AcpiResult<()> {
+    let (address, length) = text.split_once(' ').unwrap_or((text, ""));
+    let (Some(address), Ok(length)) = (parse_address(address), length.parse::<u64>()) else {
+        return Err(AcpiError::InvalidGenericAddress);
+    };
+    match areas.push(AddressRange { address, length }) {
+        Ok(()) => Ok(()),
+        Err(_) => Err(AcpiError::AllocError),
+    }
 }
 
 /// The areas of a BIOS whose EBDA is at the address that a text gives. A text that is no address

@@ -45,15 +45,17 @@ fn over_heap<H: AcpiHandler>(
     let heap = LocalHeap::new(alloc, size)?;
     let _filled = ManagedSlice::new_in(taken, 0u8, &heap);
     let used = heap.used();
-    let text = match asked {
-        "held by platform" => held_by_platform(alloc, &heap, used, tables.platform_info_in(&heap)),
-        "held by regions" => {
-            let _regions = PciConfigRegions::new_in(tables, &heap);
-            held(alloc, &heap, used)
-        }
-        _ => answer_in(alloc, tables, &heap, asked),
-    };
-    if heap.used() == used {
+    let text = answer_in(alloc, tables, &heap, asked);
+    unless_left(alloc, text, heap.used() == used)
+}
+
+/// A text, unless memory was left allocated.
+fn unless_left(
+    alloc: Global,
+    text: Result<String, AllocError>,
+    is_free: bool,
+) -> Result<String, AllocError> {
+    if is_free {
         text
     } else {
         String::from_str(alloc, "left allocated")
@@ -79,6 +81,16 @@ fn held_by_platform<A: Allocator>(
     text
 }
 
+/// The same, while regions of PCI configuration space are there.
+fn held_by_regions<A: Allocator>(
+    alloc: Global,
+    heap: &LocalHeap,
+    used: usize,
+    _answer: AcpiResult<PciConfigRegions<A>>,
+) -> Result<String, AllocError> {
+    held(alloc, heap, used)
+}
+
 /// The answer in memory of a heap. A clone says nothing if there is none for the platform itself.
 fn answer_in<H: AcpiHandler>(
     alloc: Global,
@@ -86,9 +98,14 @@ fn answer_in<H: AcpiHandler>(
     heap: &LocalHeap,
     asked: &str,
 ) -> Result<String, AllocError> {
+    let used = heap.used();
     let (word, _) = asked.split_once(' ').unwrap_or((asked, ""));
     match word {
         "platform" => said_platform(alloc, tables.platform_info_in(heap)),
+        "held" if asked == "held by platform" => {
+            held_by_platform(alloc, heap, used, tables.platform_info_in(heap))
+        }
+        "held" => held_by_regions(alloc, heap, used, PciConfigRegions::new_in(tables, heap)),
         "model" => model(alloc, tables, heap),
         "regions" | "function" => of_regions(alloc, PciConfigRegions::new_in(tables, heap), asked),
         _ if ranges::is_asked(asked) => {

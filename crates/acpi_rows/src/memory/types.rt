@@ -7,7 +7,7 @@ use acpi::hpet::HpetTable;
 use acpi::madt::Madt;
 use acpi::mcfg::Mcfg;
 use acpi::spcr::Spcr;
-use acpi::{AcpiHandler, AcpiTable, AcpiTables, PhysicalMapping};
+use acpi::{AcpiHandler, AcpiResult, AcpiTable, AcpiTables, PhysicalMapping};
 use acpi_testkit::answers::place_of;
 use acpi_testkit::rows::{named, shown};
 use std::alloc::{AllocError, Global};
@@ -95,16 +95,29 @@ fn of_type<T: AcpiTable, H: AcpiHandler>(
     match fact {
         Fact::Place => shown(alloc, &place_of::<T, H>(tables)),
         Fact::Faults => listed(alloc, tables.faults::<T>()),
-        Fact::Bytes => match tables.find_table::<T>() {
-            Ok(table) => hex::encode(alloc, table.bytes()),
-            Err(refusal) => shown(alloc, &refusal),
-        },
-        Fact::Lent => shown(
-            alloc,
-            &tables.find_table::<T>().map(|it| it.mapped_length()),
-        ),
         Fact::Found => listed(alloc, tables.find_tables::<T>().map(ends_of)),
+        Fact::Bytes => bytes_of(alloc, tables.find_table::<T>()),
+        Fact::Lent => lent_of(alloc, tables.find_table::<T>()),
     }
+}
+
+/// The bytes of a table, or the refusal.
+fn bytes_of<T: AcpiTable, H: AcpiHandler>(
+    alloc: Global,
+    found: AcpiResult<PhysicalMapping<'_, H, T>>,
+) -> Result<String, AllocError> {
+    match found {
+        Ok(table) => hex::encode(alloc, table.bytes()),
+        Err(refusal) => shown(alloc, &refusal),
+    }
+}
+
+/// How many bytes are lent of a table, or the refusal.
+fn lent_of<T: AcpiTable, H: AcpiHandler>(
+    alloc: Global,
+    found: AcpiResult<PhysicalMapping<'_, H, T>>,
+) -> Result<String, AllocError> {
+    shown(alloc, &found.map(|table| table.mapped_length()))
 }
 
 /// Where a table lies, and how long it is.
