@@ -117,7 +117,7 @@ impl HpetInfo {
     /// The event timer block of the first valid HPET (section 5.2.6 reserves the signature). Of the
     /// generic address in the table only the address space and the address count.
     ///
-    /// Refuses, in this order, with `TableMissing` if no valid HPET is listed, and with
+    /// Fails, in this order, with `TableMissing` if no valid HPET is listed, and with
     /// `InvalidGenericAddress` if the address space of its registers isn't 0, system memory.
     pub fn new<H: Lender>(tables: &AcpiTables<'_, H>) -> AcpiResult<HpetInfo>
         requires { AllowsBelow tables.now (λ m. lookup_ranges m hpet_kind) }

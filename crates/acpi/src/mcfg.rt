@@ -40,7 +40,7 @@ impl PciConfigRegions<Global> {
     /// The regions of the first valid MCFG, in the order of the table, in memory of the global allocator
     /// (section 5.2.6 reserves the signature).
     ///
-    /// Refuses, in this order, with `TableMissing` if no valid MCFG is listed, and with `AllocError` if
+    /// Fails, in this order, with `TableMissing` if no valid MCFG is listed, and with `AllocError` if
     /// memory is refused, and that only if the table has regions.
     pub fn new<H: Lender>(alloc: Global, tables: &AcpiTables<'_, H>) -> AcpiResult<Self>
         requires { AllowsBelow tables.now (λ m. lookup_ranges m mcfg_kind) }
@@ -68,7 +68,7 @@ impl<A: Allocator> PciConfigRegions<A> {
     /// The regions of the first valid MCFG, in the order of the table, in memory of an allocator (section
     /// 5.2.6 reserves the signature).
     ///
-    /// Refuses, in this order, with `TableMissing` if no valid MCFG is listed, and with `AllocError` if
+    /// Fails, in this order, with `TableMissing` if no valid MCFG is listed, and with `AllocError` if
     /// memory is refused, and that only if the table has regions.
     pub fn new_in<H: Lender>(tables: &AcpiTables<'_, H>, allocator: A) -> AcpiResult<Self>
         requires { AllowsBelow tables.now (λ m. lookup_ranges m mcfg_kind) }

@@ -14,7 +14,7 @@ pub struct TableMember {
     /// The pointer: the physical address that the root table lists.
     pub address: u64,
     /// The header of the table there (section 5.2.6), if that is valid under the signature that it has, or
-    /// else the first refusal.
+    /// else the first error.
     pub header: AcpiResult<SdtHeader>,
 }
 

@@ -27,7 +27,7 @@ pub use wakeup::wakeup_aps;
 /// 5.2.9) and its MADT (section 5.2.12) say.
 #[derive(Drop)]
 pub struct PlatformInfo<A: Allocator> {
-    /// Preferred_PM_Profile: the machine's purpose, as the FADT says (section 5.2.9).
+    /// Preferred_PM_Profile of the FADT: the machine's purpose (section 5.2.9).
     pub power_profile: PowerProfile,
     /// The interrupt controllers that the MADT describes (section 5.2.12), or `Unknown`.
     pub interrupt_model: InterruptModel<A>,
@@ -37,7 +37,7 @@ pub struct PlatformInfo<A: Allocator> {
     pub pm_timer: Option<PmTimer>,
 }
 
-/// Clones with the fields of the original, or `AllocError` if memory is refused, or a clone of the
+/// Clones with the fields of the original, or `AllocError` if memory runs out, also for a clone of the
 /// allocator. If there is no interrupt model and no processor, nothing is asked for.
 impl<A: Allocator + Clone> Clone for PlatformInfo<A> {
     ghost use Rattle.std.specs.Prelude.{◌≡◌};
@@ -68,7 +68,7 @@ impl PlatformInfo<Global> {
     /// describe, in memory of the global allocator. If no MADT is valid, the interrupt model is `Unknown`,
     /// and there are no processors.
     ///
-    /// Refuses, in this order, with `TableMissing` if no valid FADT is listed, with what
+    /// Fails, in this order, with `TableMissing` if no valid FADT is listed, with what
     /// `parse_interrupt_model_in` refuses of the MADT, `AllocError` included, and with what
     /// `PmTimer::new` refuses.
     pub fn new<H: Lender>(alloc: Global, tables: &AcpiTables<'_, H>) -> AcpiResult<Self>
@@ -87,12 +87,12 @@ impl PlatformInfo<Global> {
 impl<A: Allocator + Clone> PlatformInfo<A> {
     /// The platform that the first valid FADT (section 5.2.9) and the first valid MADT (section 5.2.12)
     /// describe, in memory of an allocator. If no MADT is valid, the interrupt model is `Unknown`, and
-    /// there are no processors. A MADT with a malformed remainder is refused whole: a model of half the
+    /// there are no processors. A MADT with a malformed remainder is an error: a model of half the
     /// entries would be taken for the whole.
     ///
-    /// Refuses, in this order, with `TableMissing` if no valid FADT is listed, with what
+    /// Fails, in this order, with `TableMissing` if no valid FADT is listed, with what
     /// `parse_interrupt_model_in` refuses of the MADT, and with what `PmTimer::new` refuses. Memory is
-    /// asked for only if the MADT describes APICs; `AllocError` then comes before any refusal of the
+    /// asked for only if the MADT describes APICs; `AllocError` then comes before any error of the
     /// timer.
     pub fn new_in<H: Lender>(tables: &AcpiTables<'_, H>, allocator: A) -> AcpiResult<Self>
         requires { AllowsBelow tables.now platform_ranges }

@@ -22,7 +22,7 @@ pub struct AmlTable {
 pub struct TableFault {
     /// The physical address that the root table lists.
     pub address: u64,
-    /// The refusal of the table there: the first check that fails.
+    /// The error of the table there: that of the first check that fails.
     pub error: AcpiError,
 }
 

@@ -158,7 +158,7 @@ impl Rsdp {
     /// Checks an RSDP (section 5.2.5.3) by the bytes that it was read from. Bytes after its length don't
     /// count.
     ///
-    /// Refuses, in this order, with `RsdpIncorrectSignature` if the signature is not `RSD PTR `,
+    /// Fails, in this order, with `RsdpIncorrectSignature` if the signature is not `RSD PTR `,
     /// `RsdpInvalidOemId` if the OEM id is not valid UTF-8, and `RsdpInvalidChecksum` if the first
     /// 20 bytes do not sum to 0 modulo 256. For a revision above 0 it also refuses with
     /// `RsdpInvalidChecksum` if the length is under 36 or above the number of bytes, or if that many
@@ -269,7 +269,7 @@ fn check_mapped<H: Lender>(handler: &H, rsdp: &PhysicalMapping<'_, H, Rsdp>) -> 
 
 /// The valid RSDP at an address: a mapping of its 36 bytes.
 ///
-/// Refuses, in this order, with `MapFailed` if 36 bytes aren't lent, `RsdpIncorrectSignature`
+/// Fails, in this order, with `MapFailed` if 36 bytes aren't lent, `RsdpIncorrectSignature`
 /// if the signature is not `RSD PTR `, `RsdpInvalidOemId` if the OEM id is not valid UTF-8, and
 /// `RsdpInvalidChecksum` if the first 20 bytes do not sum to 0 modulo 256. For a revision above
 /// 0 it goes on with `RsdpInvalidChecksum` if the length is under 36, `MapFailed` if that

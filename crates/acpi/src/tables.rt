@@ -105,7 +105,7 @@ impl<'h, H: Lender> AcpiTables<'h, H> {
     /// The first member of the root table that is valid for `T` (sections 5.2.7 and 5.2.8): its address
     /// is the mapping's `physical_start`, and its bytes are the mapping's.
     ///
-    /// Refuses with `TableMissing`, carrying `T::SIGNATURE`, if no member is valid for `T`. A
+    /// Fails with `TableMissing`, carrying `T::SIGNATURE`, if no member is valid for `T`. A
     /// member that isn't lent, or fails another check, is passed over.
     pub fn find_table<T: AcpiTable>(&self) -> AcpiResult<PhysicalMapping<'h, H, T>>
         requires { AllowsBelow self.now (λ m. lookup_ranges m T.kind) }
@@ -137,7 +137,7 @@ impl<'h, H: Lender> AcpiTables<'h, H> {
     /// The first member of the root table that is a valid FADT (section 5.2.9), as `find_table` finds it: a
     /// field of it is read when it is asked for.
     ///
-    /// Refuses as `find_table` does.
+    /// Fails as `find_table` does.
     pub fn find_fadt(&self) -> AcpiResult<FadtView<'h, H>>
         requires { AllowsBelow self.now (λ m. lookup_ranges m fadt_kind) }
         ensures handler { IfOk result (λ v. handler_of v.mapping ≡ lender_of self.now) }
@@ -203,8 +203,8 @@ impl<'h, H: Lender> AcpiTables<'h, H> {
     /// The AML of the DSDT (section 5.2.11.1): that of the table at the address that the first
     /// valid FADT gives (section 5.2.9).
     ///
-    /// Refuses, in this order, with `TableMissing` if no valid FADT is listed, `InvalidDsdtAddress` if
-    /// that FADT gives no address, and with the refusal of the table there: `MapFailed`,
+    /// Fails, in this order, with `TableMissing` if no valid FADT is listed, `InvalidDsdtAddress` if
+    /// that FADT gives no address, and with the error of the table there: `MapFailed`,
     /// `SdtInvalidSignature` and so on, carrying the DSDT's signature.
     pub fn dsdt(&self) -> AcpiResult<AmlTable>
         requires { AllowsBelow self.now dsdt_ranges }
@@ -230,8 +230,8 @@ impl<'h, H: Lender> AcpiTables<'h, H> {
         }
     }
 
-    /// Why members were passed over in a lookup of `T`: the address and the refusal of each member
-    /// before the first one that is valid for `T` (of all members if none is) whose refusal isn't
+    /// Why members were passed over in a lookup of `T`: the address and the error of each member
+    /// before the first one that is valid for `T` (of all members if none is) whose error isn't
     /// `SdtInvalidSignature`, in order. It gives at most one for each pointer.
     pub fn faults<T: AcpiTable>(&self) -> TableFaults<'_, 'h, H, T>
         requires { AllowsBelow self.now (λ m. lookup_ranges m T.kind) }
@@ -247,9 +247,9 @@ impl<'h, H: Lender> AcpiTables<'h, H> {
     }
 
     /// The platform that the first valid FADT (section 5.2.9) and the first valid MADT (section 5.2.12)
-    /// describe, in memory of the global allocator: the answer of `PlatformInfo::new` over these tables.
+    /// describe, in memory of the global allocator: `PlatformInfo::new` of these tables.
     ///
-    /// Refuses as `PlatformInfo::new` does.
+    /// Fails as `PlatformInfo::new` does.
     pub fn platform_info(&self, alloc: Global) -> AcpiResult<PlatformInfo<Global>>
         requires { AllowsBelow self.now platform_ranges }
         ensures exact { GivesPlatform self.now result }
@@ -260,9 +260,9 @@ impl<'h, H: Lender> AcpiTables<'h, H> {
     }
 
     /// The platform that the first valid FADT (section 5.2.9) and the first valid MADT (section 5.2.12)
-    /// describe, in memory of an allocator: the answer of `PlatformInfo::new_in` over these tables.
+    /// describe, in memory of an allocator: `PlatformInfo::new_in` of these tables.
     ///
-    /// Refuses as `PlatformInfo::new_in` does.
+    /// Fails as `PlatformInfo::new_in` does.
     pub fn platform_info_in<A: Allocator + Clone>(
         &self,
         allocator: A,

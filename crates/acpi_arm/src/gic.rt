@@ -47,7 +47,7 @@ impl GicModel<Global> {
     /// The GIC that the first valid MADT describes (sections 5.2.12.14 to 5.2.12.18), in memory of the
     /// global allocator, or `None` if it describes no distributor.
     ///
-    /// Refuses, in this order, with `TableMissing` if no valid MADT is listed, with
+    /// Fails, in this order, with `TableMissing` if no valid MADT is listed, with
     /// `InvalidMadt(InvalidEntryLength)` if the entries end malformed, and with `AllocError` if memory is
     /// refused, and that only if there is a distributor and some list has an item.
     pub fn new<H: Lender>(alloc: Global, tables: &AcpiTables<'_, H>) -> AcpiResult<Option<Self>>
@@ -70,7 +70,7 @@ impl<A: Allocator + Copy> GicModel<A> {
     /// or `None` if no entry describes a distributor, as on a machine with APICs. It needs no handler.
     /// Entries of all other types are skipped, and of several distributors the first one counts.
     ///
-    /// Refuses, in this order, with `InvalidMadt(InvalidEntryLength)` if the entries end malformed, that
+    /// Fails, in this order, with `InvalidMadt(InvalidEntryLength)` if the entries end malformed, that
     /// is, if bytes are left in which no entry begins, and with `AllocError` if memory is refused, and that
     /// only if there is a distributor and some list has an item.
     pub fn of(table: &[u8], allocator: A) -> AcpiResult<Option<Self>>
@@ -99,7 +99,7 @@ impl<A: Allocator + Copy> GicModel<A> {
     /// The GIC that the first valid MADT describes (sections 5.2.12.14 to 5.2.12.18), in memory of an
     /// allocator, or `None` if it describes no distributor.
     ///
-    /// Refuses, in this order, with `TableMissing` if no valid MADT is listed, with
+    /// Fails, in this order, with `TableMissing` if no valid MADT is listed, with
     /// `InvalidMadt(InvalidEntryLength)` if the entries end malformed, and with `AllocError` if memory is
     /// refused, and that only if there is a distributor and some list has an item.
     pub fn new_in<H: Lender>(tables: &AcpiTables<'_, H>, allocator: A) -> AcpiResult<Option<Self>>
@@ -137,7 +137,7 @@ pub trait GicCalls {
     /// The GIC that this MADT describes (sections 5.2.12.14 to 5.2.12.18), in memory of an allocator, or
     /// `None` if it describes no distributor.
     ///
-    /// Refuses as `GicModel::of` does.
+    /// Fails as `GicModel::of` does.
     fn gic_model_in<A: Allocator + Copy>(&self, allocator: A) -> AcpiResult<Option<GicModel<A>>>
         ensures { GivesOrFull (AsksMemory (table self.now)) result (gic_of (table self.now)) };
 }

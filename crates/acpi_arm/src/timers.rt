@@ -153,7 +153,7 @@ impl<'a> PlatformTimerIter<'a> {
     }
 
     /// Whether `next` has answered `None` at a fault, before it took as many structures as Platform Timer
-    /// Count says (section 5.2.24). As long as `next` hasn't answered `None` it is false.
+    /// Count says (section 5.2.24). Before `next` has returned `None` it is false.
     pub fn ended_malformed(&self) -> bool
         ensures { result ≡ is_malformed self.now }
     {

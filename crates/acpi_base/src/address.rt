@@ -48,7 +48,7 @@ impl TryFrom<u8> for AddressSpace {
 
     /// The space of a code of Address Space ID (section 5.2.3.2).
     ///
-    /// Refuses a reserved code with `InvalidGenericAddress`: those from 0x0b to 0xbf, but for 0x7f.
+    /// Fails for a reserved code with `InvalidGenericAddress`: those from 0x0b to 0xbf, but for 0x7f.
     fn try_from(code: u8) -> AcpiResult<AddressSpace> {
         match code {
             0x00 => Ok(AddressSpace::SystemMemory),
@@ -93,7 +93,7 @@ impl TryFrom<u8> for AccessSize {
 
     /// The access size of a code of Access Size (section 5.2.3.2).
     ///
-    /// Refuses a reserved code with `InvalidGenericAddress`: those above 4.
+    /// Fails for a reserved code with `InvalidGenericAddress`: those above 4.
     fn try_from(code: u8) -> AcpiResult<AccessSize> {
         match code {
             0 => Ok(AccessSize::Undefined),

@@ -4,7 +4,7 @@ use crate::table::signature::Signature;
 use std::alloc::AllocError;
 use std::fmt;
 
-/// The answer of a call that can refuse: a value, or an `AcpiError`.
+/// What a call that can fail returns: a value, or an `AcpiError`.
 pub type AcpiResult<T> = Result<T, AcpiError>;
 
 /// Why a call refuses. A signature that is carried is the one that was asked for.
@@ -33,12 +33,12 @@ pub enum AcpiError {
     InvalidFacsAddress,
     /// The FADT gives no address of the DSDT: X_DSDT and DSDT are 0 (section 5.2.9).
     InvalidDsdtAddress,
-    /// The MADT is valid, but one of its entries is refused (section 5.2.12), or a processor isn't woken.
+    /// The MADT is valid, but one of its entries isn't (section 5.2.12), or a processor isn't woken.
     InvalidMadt(MadtError),
     /// A generic address has a reserved code (section 5.2.3.2), the ports of a FADT's block are 32 bytes or
     /// more (section 5.2.9), or the registers of an HPET don't lie in memory.
     InvalidGenericAddress,
-    /// The allocator refused memory.
+    /// Out of memory.
     AllocError,
     /// The handler doesn't lend the range of memory that was asked for.
     MapFailed,
@@ -55,7 +55,7 @@ impl From<AllocError> for AcpiError {
 
     ghost from_gives = { λ _ e. e ≡ NoMemory };
 
-    /// Makes `AllocError`, if memory is refused.
+    /// Makes `AllocError`, after an allocation failed.
     fn from(_refused: AllocError) -> AcpiError {
         AcpiError::AllocError
     }
@@ -102,7 +102,7 @@ impl fmt::Display for AcpiError {
     }
 }
 
-/// Why an entry of a valid MADT is refused, or a processor isn't woken (section 5.2.12).
+/// What is wrong with an entry of a valid MADT, or why a processor isn't woken (section 5.2.12).
 #[derive(Clone, Copy, Debug, PartialEq, Eq)]
 pub enum MadtError {
     /// There is an entry of a type that the model has no place for, or none of the type asked for.

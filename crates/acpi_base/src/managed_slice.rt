@@ -23,7 +23,7 @@ impl<T, A: Allocator> Model for ManagedSlice<T, A> {
 impl<T: Clone + Drop, A: Allocator> ManagedSlice<T, A> {
     /// `len` items, each of them equal to `value`, whose clones have to equal it, in memory of an allocator.
     ///
-    /// Refuses with `AllocError` if memory is refused, or a clone of `value`, and that only if `len` isn't 0.
+    /// Fails with `AllocError` if memory runs out, also for a clone of `value`, and only if `len` isn't 0.
     pub fn new_in(len: usize, value: T, allocator: A) -> AcpiResult<ManagedSlice<T, A>>
         requires { (y : T) → T.is_clone value y → y ≡ value }
         ensures items { IfOk result (λ s. s ≡ replicate len value) }
@@ -44,7 +44,7 @@ impl<T: Clone + Drop> ManagedSlice<T, Global> {
     /// `len` items, each of them equal to `value`, whose clones have to equal it, in memory of the global
     /// allocator.
     ///
-    /// Refuses with `AllocError` if memory is refused, or a clone of `value`, and that only if `len` isn't 0.
+    /// Fails with `AllocError` if memory runs out, also for a clone of `value`, and only if `len` isn't 0.
     pub fn new(alloc: Global, len: usize, value: T) -> AcpiResult<ManagedSlice<T, Global>>
         requires { (y : T) → T.is_clone value y → y ≡ value }
         ensures items { IfOk result (λ s. s ≡ replicate len value) }
@@ -85,7 +85,7 @@ impl<T, A: Allocator> ManagedSlice<T, A> {
 impl<T: Clone + Drop, A: Allocator + Clone> ManagedSlice<T, A> {
     /// Clones of the items, which have to equal them, in order, in memory of a clone of the allocator.
     ///
-    /// Refuses with `AllocError` if memory is refused, or the clone of the allocator or of an item.
+    /// Fails with `AllocError` if memory runs out, also for the clone of the allocator or of an item.
     pub fn clone(&self) -> Result<ManagedSlice<T, A>, AllocError>
         requires { (x y : T) → Contains self.now x → T.is_clone x y → y ≡ x }
         ensures { IfOk result (λ s. s ≡ self.now) }

@@ -1,6 +1,6 @@
 //! Ranges of physical memory.
 
-/// A range of physical addresses: so many bytes from an address on.
+/// A range of physical addresses: where it begins, and how many bytes it has.
 #[derive(Clone, Copy, Debug, PartialEq, Eq)]
 pub struct AddressRange {
     /// The physical address of the range's first byte.

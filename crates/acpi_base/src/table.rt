@@ -32,15 +32,15 @@ pub trait AcpiTable: PhysicalRecord {
         ensures { (b : List ℕ) → Self.MIN_LENGTH ≤ length b → self.now ≡ Self.reading b
             → result.now ≡ header_at b };
 
-    /// Checks the table that this value was read from, by its bytes, and refuses as `kind.check` says. Most
-    /// types answer `self.header().validate(Self::SIGNATURE, bytes)`, and have an `sdt_kind` of that
+    /// Checks the table that this value was read from, by its bytes, and returns the error of `kind.check`. Most
+    /// types return `self.header().validate(Self::SIGNATURE, bytes)`, and have an `sdt_kind` of that
     /// signature as their kind.
     fn validate(&self, bytes: &[u8]) -> AcpiResult<()>
         requires least { Self.MIN_LENGTH ≤ length bytes.now }
         requires read { self.now ≡ Self.reading bytes.now }
         ensures { result ≡ kind.check bytes.now };
 
-    /// What `validate` answers for the record that these bytes mean, if their header is known to have the
+    /// What `validate` returns for the record that these bytes mean, if their header is known to have the
     /// names of a table of this type, and a length that is their number. A lookup asks it of each member
     /// that has such a header. A type whose kind is an `sdt_kind` need only look at the sum: `sum_refusal`
     /// does.
@@ -63,7 +63,7 @@ pub trait AcpiTable: PhysicalRecord {
 /// Checks what is left to check of a table whose header has the names, and a length that is the number of
 /// its bytes: that these sum to 0 modulo 256 (section 5.2.6).
 ///
-/// Refuses with `SdtInvalidChecksum`, carrying the signature, if they don't.
+/// Fails with `SdtInvalidChecksum`, carrying the signature, if they don't.
 #[inline(always)]
 #[tactic(auto, using(crate::proofs::OwnTable::bad_rest, crate::proofs::OwnTable::good_rest))]
 pub fn sum_refusal(signature: Signature, bytes: &[u8]) -> AcpiResult<()>

@@ -54,7 +54,7 @@ pub extern "C" fn zacpi_dsdt(source: &Source<'_>, out: &mut AmlTable, named: &mu
     answer(dsdt(source), out, named)
 }
 
-/// The valid table of a signature that so many others of it are listed before (section 5.2.6).
+/// The `index`-th valid table with this signature, counted from 0 (section 5.2.6).
 #[unsafe(no_mangle)]
 pub extern "C" fn zacpi_find_nth_table(
     source: &Source<'_>,

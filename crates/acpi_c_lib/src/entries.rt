@@ -15,7 +15,7 @@ use acpi::sdt::map_own_sdt;
 use acpi_base::bytes::skip;
 use acpi_base::entries::{EntryLayout, Grammar, Place, Width, number_at, split_front};
 
-/// Lists the entries of the table at an address, from an offset on, whose Type and Length have so many bytes each, and
+/// Lists the entries of the table at an address, from an offset on, with Type and Length of the given width, and
 /// says whether bytes are left after them.
 pub fn table_entries(
     regions: &[Region<'_>],

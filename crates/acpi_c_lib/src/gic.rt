@@ -33,7 +33,7 @@ struct GicMadt<'h, H: Lender> {
 
 /// The first valid MADT, if it describes a GIC.
 ///
-/// Refuses with `TableMissing` if no valid MADT is listed, with `InvalidMadt(InvalidEntryLength)` if its entries end
+/// Fails with `TableMissing` if no valid MADT is listed, with `InvalidMadt(InvalidEntryLength)` if its entries end
 /// malformed, and with `NoGic` if none of them describes a distributor.
 fn gic_madt<'h, H: AcpiHandler>(tables: &AcpiTables<'h, H>) -> Result<GicMadt<'h, H>, Refusal>
     ensures { Gives (λ x. model_beside (bytes_of x.madt) x.distributor) result

@@ -39,8 +39,8 @@ pub(crate) struct ApicMadt<'h, H: Lender> {
 /// The MADT that describes the machine's APICs, with how much there is of each sort, or `None` if no
 /// valid one is listed or it describes none.
 ///
-/// Refuses, in this order, with `TableMissing` if no valid FADT is listed, with `InvalidMadt` for the first entry of
-/// the MADT at fault, and with the refusal of the FADT's timer: as `PlatformInfo::new` does, so what is answered is
+/// Fails, in this order, with `TableMissing` if no valid FADT is listed, with `InvalidMadt` for the first entry of
+/// the MADT at fault, and with the error of the FADT's timer: as `PlatformInfo::new` does, so what is answered is
 /// what that call answers.
 pub(crate) fn apic_madt<'h, H: AcpiHandler>(
     tables: &AcpiTables<'h, H>,
@@ -58,7 +58,7 @@ pub(crate) fn apic_madt<'h, H: AcpiHandler>(
 
 /// The MADT that describes the machine's APICs, with how much there is of each sort.
 ///
-/// Refuses as `apic_madt` does, and then with `NoApics` if there is none.
+/// Fails as `apic_madt` does, and then with `NoApics` if there is none.
 pub(crate) fn known_madt<'h, H: AcpiHandler>(
     tables: &AcpiTables<'h, H>,
 ) -> Result<ApicMadt<'h, H>, Refusal>
@@ -73,7 +73,7 @@ pub(crate) fn known_madt<'h, H: AcpiHandler>(
 /// The first valid MADT, if it describes APICs, with how much there is of each sort, or `None` if no valid one is
 /// listed or it describes none. The FADT isn't looked at.
 ///
-/// Refuses with `InvalidMadt` for the first entry that is at fault.
+/// Fails with `InvalidMadt` for the first entry that is at fault.
 fn found_madt<'h, H: AcpiHandler>(tables: &AcpiTables<'h, H>) -> AcpiResult<Option<ApicMadt<'h, H>>>
     ensures model { Gives (λ o. model_by (option_map (λ x. bytes_of x.madt) o)) result
         (of_tables tables.now model_in) }

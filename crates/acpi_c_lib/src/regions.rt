@@ -29,7 +29,7 @@ impl<'k> Region<'k> {
 
     /// The address after its last byte.
     ///
-    /// Refuses with `RegionTooHigh` if that is 2^64 or above.
+    /// Fails with `RegionTooHigh` if that is 2^64 or above.
     fn end(self) -> Result<u64, Refusal>
         ensures end { IfOk result (λ e. e ≡ end_of (region_of self.entry)) }
         ensures low { IfOk result (λ e. end_of (region_of self.entry) < 2 ^ 64) }
@@ -117,7 +117,7 @@ fn place_for(regions: &[Region<'_>], address: u64, length: u64) -> Option<Place>
 
 /// Where so many bytes from an address lie.
 ///
-/// Refuses as `check` does, and then with `MapFailed` if the address lies in no region, or the bytes reach past the end
+/// Fails as `check` does, and then with `MapFailed` if the address lies in no region, or the bytes reach past the end
 /// of the one that it lies in.
 pub fn locate(regions: &[Region<'_>], address: u64, length: u64) -> Result<Place, Refusal>
     ensures { result ≡ located regions.now address length }
@@ -159,7 +159,7 @@ impl<'k> Mapped<'k> {
 
     /// The memory of these regions.
     ///
-    /// Refuses as `check` does.
+    /// Fails as `check` does.
     pub(crate) fn new(regions: &'k [Region<'k>]) -> Result<Mapped<'k>, Refusal>
         ensures { Gives (λ m. mapped_memory m) result (memory_in regions.now) }
     {

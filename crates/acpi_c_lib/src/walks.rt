@@ -17,7 +17,7 @@ use acpi::{
     TableRanges,
 };
 
-/// The valid table of a signature that so many other valid ones of it are listed before.
+/// The `index`-th valid table with this signature, counted from 0.
 pub fn nth(source: &Source<'_>, name: records::Signature, index: usize) -> Result<Table, Refusal>
     ensures { result ≡ nth_below source.now name index }
 {

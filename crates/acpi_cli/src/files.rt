@@ -32,7 +32,7 @@ pub trait Files {
 
     /// Asks for the file of a name, and keeps the bytes that are read of it.
     ///
-    /// Refuses if memory for the list is refused, and then asks for no file.
+    /// Fails if memory for the list is refused, and then asks for no file.
     fn read(&mut self, name: &str) -> Result<(), AllocError>
         ensures asked { OnOk result ((content : Option (List ℕ)) × (asked self.new
             ≡ asked self.old ++ record { name = name.now; content = content } ∷ [])) }

@@ -56,7 +56,7 @@ pub fn parse_address(word: &str) -> Option<u64>
 /// These arguments, or no arguments if the system refused them for another reason than memory, as when one is
 /// not valid UTF-8.
 ///
-/// Refuses if memory for the arguments was refused.
+/// Fails if memory for the arguments was refused.
 pub fn args_or_none(alloc: Global, args: io::Result<Vec<String>>) -> io::Result<Vec<String>>
     ensures had { IfOk args (λ t. result ≡ Ok t) }
     // Memory that is refused doesn't make the arguments wrong.
@@ -83,7 +83,7 @@ fn after_name(mut args: Vec<String>) -> Vec<String>
 
 /// The process's arguments after the program's name, in order.
 ///
-/// Refuses if the system refuses them.
+/// Fails if the system refuses them.
 fn given_args(rt: &HostRuntime) -> io::Result<Vec<String>> {
     let args = env::args(rt)?.collect(rt.alloc())?;
     Ok(after_name(args))
@@ -92,14 +92,14 @@ fn given_args(rt: &HostRuntime) -> io::Result<Vec<String>> {
 /// The process's arguments after the program's name, in order, or no arguments if the system refuses them for
 /// another reason than memory, as when one is not valid UTF-8.
 ///
-/// Refuses if memory for them is refused.
+/// Fails if memory for them is refused.
 pub fn args(rt: &HostRuntime) -> io::Result<Vec<String>> {
     args_or_none(rt.alloc(), given_args(rt))
 }
 
 /// Owned texts, borrowed, in order.
 ///
-/// Refuses if it runs out of memory.
+/// Fails if it runs out of memory.
 pub fn borrowed(alloc: Global, texts: &[String]) -> Result<Vec<&str>, AllocError>
     ensures { IfOk result (λ v. map (λ w. w.now) v.items ≡ map string_bytes texts.now) }
 {

@@ -35,7 +35,7 @@ impl Root {
 
     /// The tables below the root table that this way leads to.
     ///
-    /// Refuses as `AcpiTables::from_rsdt`, `from_rsdp` or `search_for_rsdp_bios` does.
+    /// Fails as `AcpiTables::from_rsdt`, `from_rsdp` or `search_for_rsdp_bios` does.
     pub fn open<H: AcpiHandler>(self, handler: &H) -> AcpiResult<AcpiTables<'_, H>>
         ensures lender { IfOk result (λ t. lender_of t ≡ handler.now) }
         ensures exact { Gives (λ t. opened_of t) result (opened_for (H.memory handler.now) self) }

@@ -13,7 +13,7 @@ fn main(rt: HostRuntime) -> ExitCode {
 
 /// The status of the program over the process's arguments, files and outputs.
 ///
-/// Refuses if a write is refused or memory runs out.
+/// Fails if a write fails or memory runs out.
 fn status(rt: &HostRuntime) -> io::Result<u8> {
     let args = args(rt)?;
     let args = borrowed(rt.alloc(), &args)?;

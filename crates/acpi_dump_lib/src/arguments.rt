@@ -238,7 +238,7 @@ fn push_choices<'w>(
 
 /// The value that the word of an option has, if the option is there.
 ///
-/// Refuses with the word if it has none.
+/// Fails with the word if it has none.
 fn checked<'w, T: Drop>(
     option: &'static str,
     word: Option<&'w str>,

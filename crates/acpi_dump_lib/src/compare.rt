@@ -227,7 +227,7 @@ fn print_pair<W: Write>(
 
 /// Prints the tables that are in one input alone, and of those in both the fields that differ.
 ///
-/// Refuses if memory runs out.
+/// Fails if memory runs out.
 pub(crate) fn print_differences<W: Write>(
     alloc: Global,
     names: (&str, &str),
@@ -259,7 +259,7 @@ fn print_alone<W: Write>(name: &str, entry: &Entry<'_>, out: &mut Out<W>) {
 /// The differences as a value: for each pair of tables that differ its fields, and the tables that are in one
 /// input alone.
 ///
-/// Refuses if memory runs out.
+/// Fails if memory runs out.
 pub(crate) fn differences_of(
     alloc: Global,
     old: &[Entry<'_>],

@@ -184,7 +184,7 @@ fn entry_of_file(file: &TableFile) -> Entry<'_> {
 
 /// The tables in files, in order.
 ///
-/// Refuses if memory runs out.
+/// Fails if memory runs out.
 pub(crate) fn entries_of_files(
     alloc: Global,
     files: &[TableFile],
@@ -273,7 +273,7 @@ fn add_listed<'h, H: AcpiHandler>(
 /// The tables that a memory has: the root table, its members, and, if a valid FADT is listed, the DSDT and the FACS
 /// that it leads to.
 ///
-/// Refuses if memory runs out.
+/// Fails if memory runs out.
 pub(crate) fn entries_of<'h, H: AcpiHandler>(
     alloc: Global,
     handler: &'h H,

@@ -99,7 +99,7 @@ impl Object {
 
     /// The value that it is.
     ///
-    /// Refuses if memory for a member was refused.
+    /// Fails if memory for a member was refused.
     pub(crate) fn value(self) -> Result<Value, AllocError> {
         let Object {
             members,
@@ -149,7 +149,7 @@ impl List {
 
     /// The value that it is.
     ///
-    /// Refuses if memory for a value was refused.
+    /// Fails if memory for a value was refused.
     pub(crate) fn value(self) -> Result<Value, AllocError> {
         let List { values, is_refused } = self;
         if is_refused {
@@ -353,7 +353,7 @@ fn texts_of(alloc: Global, texts: &[&str]) -> Result<Value, AllocError> {
 
 /// Prints the document of a view: its version, the view's name, the inputs, and what the view shows.
 ///
-/// Refuses if memory for it was or is refused.
+/// Fails if memory for it was or is refused.
 pub(crate) fn print_document<W: Write>(
     alloc: Global,
     view: &str,

@@ -23,7 +23,7 @@ impl<W: Write + Drop> Out<W> {
 
     /// Flushes the writer, also if it refused a write.
     ///
-    /// Refuses with the refusal of the first write or of the flush.
+    /// Fails with the error of the first write or of the flush.
     pub(crate) fn ended(self) -> io::Result<()> {
         let Out {
             mut writer,

@@ -19,7 +19,7 @@ const BUFFERED: usize = 32768;
 /// is asked for isn't there or can't be read, 2 if the arguments are not a command, and 3 if all is shown but a
 /// table is invalid and `--strict` is given.
 ///
-/// Refuses if memory runs out, or with the refusal of the first write or flush of `out`, or else of `err`, that is
+/// Fails if memory runs out, or with the error of the first write or flush of `out`, or else of `err`, that is
 /// refused.
 pub fn dump<S: Sources, W: Write + Drop, E: Write + Drop>(
     alloc: Global,

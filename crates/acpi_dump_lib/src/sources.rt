@@ -8,22 +8,22 @@ use std::{env, fs, io};
 pub trait Sources {
     /// Whether a name leads to a folder.
     ///
-    /// Refuses if the system doesn't say what it leads to.
+    /// Fails if the system doesn't say what it leads to.
     fn is_folder(&mut self, name: &str) -> io::Result<bool>;
 
     /// The names of what lies in a folder, in no order.
     ///
-    /// Refuses if the system refuses the folder, or memory runs out.
+    /// Fails if the system refuses the folder, or memory runs out.
     fn names_in(&mut self, alloc: Global, folder: &str) -> io::Result<Vec<String>>;
 
     /// The bytes of a file.
     ///
-    /// Refuses if the system refuses the file, or memory runs out.
+    /// Fails if the system refuses the file, or memory runs out.
     fn read(&mut self, name: &str) -> io::Result<Vec<u8>>;
 
     /// All bytes of standard input.
     ///
-    /// Refuses if the system refuses them, or memory runs out.
+    /// Fails if the system refuses them, or memory runs out.
     fn read_standard_input(&mut self, alloc: Global) -> io::Result<Vec<u8>>;
 
     /// Whether standard output is a terminal whose user hasn't set `NO_COLOR`.

@@ -62,7 +62,7 @@ impl Facts {
 
 /// The facts of a machine's tables.
 ///
-/// Refuses if memory runs out.
+/// Fails if memory runs out.
 pub(crate) fn facts_of<H: AcpiHandler>(
     alloc: Global,
     tables: &AcpiTables<'_, H>,

@@ -171,7 +171,7 @@ fn entries_in<'l, E: Write>(
 
 /// Prints what is asked for of an input.
 ///
-/// Refuses if memory runs out.
+/// Fails if memory runs out.
 pub(crate) fn print_input<W: Write, E: Write>(
     output: Output<'_, '_>,
     input: &Input,

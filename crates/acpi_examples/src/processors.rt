@@ -10,7 +10,7 @@ use std::io::Write;
 /// Prints a line for each processor of the tables below the RSDP at an address, the boot processor first; or
 /// one line that says which error the image has, or the tables.
 ///
-/// Refuses with the refusal of a write.
+/// Fails with the error of a write.
 pub fn print_processors<W: Write>(
     alloc: Global,
     image: &[u8],

@@ -170,7 +170,7 @@ impl Fadt {
     /// X_FIRMWARE_CTRL or FIRMWARE_CTRL, the physical address of the FACS: the 64-bit field if it
     /// is there and not 0, else the 32-bit one (sections 5.2.9 and 5.2.10).
     ///
-    /// Refuses with `InvalidFacsAddress` if that is 0.
+    /// Fails with `InvalidFacsAddress` if that is 0.
     pub fn facs_address(&self) -> AcpiResult<u64>
         ensures { result ≡ facs_address_of self.now }
     {
@@ -181,7 +181,7 @@ impl Fadt {
     /// X_DSDT or DSDT, the physical address of the DSDT: the 64-bit field if it is there and not
     /// 0, else the 32-bit one (sections 5.2.9 and 5.2.11.1).
     ///
-    /// Refuses with `InvalidDsdtAddress` if that is 0.
+    /// Fails with `InvalidDsdtAddress` if that is 0.
     pub fn dsdt_address(&self) -> AcpiResult<u64>
         ensures { result ≡ dsdt_address_of self.now }
     {
@@ -195,7 +195,7 @@ impl Fadt {
     /// A machine of reduced hardware has none, whatever is answered here: ask
     /// `flags.system_is_hw_reduced_acpi()` first.
     ///
-    /// Refuses with `InvalidGenericAddress` a reserved code in the extended block, and a length of
+    /// Fails with `InvalidGenericAddress` a reserved code in the extended block, and a length of
     /// 32 bytes and more if the ports count.
     pub fn pm1a_event_block(&self) -> AcpiResult<GenericAddress>
         ensures { result ≡ block_of (registers_of self.now).pm1a_event }
@@ -206,7 +206,7 @@ impl Fadt {
     /// X_PM1b_EVT_BLK or PM1b_EVT_BLK: the second block of event registers, or `None` if neither
     /// field gives an address (section 5.2.9).
     ///
-    /// Refuses as `pm1a_event_block` does.
+    /// Fails as `pm1a_event_block` does.
     pub fn pm1b_event_block(&self) -> AcpiResult<Option<GenericAddress>>
         ensures { result ≡ optional_block_of (registers_of self.now).pm1b_event }
     {
@@ -219,7 +219,7 @@ impl Fadt {
     /// A machine of reduced hardware has none, whatever is answered here: ask
     /// `flags.system_is_hw_reduced_acpi()` first.
     ///
-    /// Refuses as `pm1a_event_block` does.
+    /// Fails as `pm1a_event_block` does.
     pub fn pm1a_control_block(&self) -> AcpiResult<GenericAddress>
         ensures { result ≡ block_of (registers_of self.now).pm1a_control }
     {
@@ -229,7 +229,7 @@ impl Fadt {
     /// X_PM1b_CNT_BLK or PM1b_CNT_BLK: the second block of control registers, or `None` if
     /// neither field gives an address (section 5.2.9).
     ///
-    /// Refuses as `pm1a_event_block` does.
+    /// Fails as `pm1a_event_block` does.
     pub fn pm1b_control_block(&self) -> AcpiResult<Option<GenericAddress>>
         ensures { result ≡ optional_block_of (registers_of self.now).pm1b_control }
     {
@@ -239,7 +239,7 @@ impl Fadt {
     /// X_PM2_CNT_BLK or PM2_CNT_BLK: the second control register, or `None` if neither field
     /// gives an address (section 5.2.9).
     ///
-    /// Refuses as `pm1a_event_block` does.
+    /// Fails as `pm1a_event_block` does.
     pub fn pm2_control_block(&self) -> AcpiResult<Option<GenericAddress>>
         ensures { result ≡ optional_block_of (registers_of self.now).pm2_control }
     {
@@ -259,9 +259,9 @@ impl Fadt {
     /// X_GPE0_BLK or GPE0_BLK: the registers of the first general purpose events, or `None` if
     /// neither field gives an address (section 5.2.9).
     ///
-    /// Refuses as `pm1a_event_block` does: also a block that the 32-bit field places and that is 32
+    /// Fails as `pm1a_event_block` does: also a block that the 32-bit field places and that is 32
     /// bytes long or longer, as real chipsets have them, since eight bits a byte don't fit the
-    /// width. `gpe0` answers those too.
+    /// width. `gpe0` returns those too.
     pub fn gpe0_block(&self) -> AcpiResult<Option<GenericAddress>>
         ensures { result ≡ optional_block_of (registers_of self.now).gpe0 }
     {
@@ -271,9 +271,9 @@ impl Fadt {
     /// X_GPE1_BLK or GPE1_BLK: the registers of further general purpose events, or `None` if
     /// neither field gives an address (section 5.2.9).
     ///
-    /// Refuses as `pm1a_event_block` does: also a block that the 32-bit field places and that is 32
+    /// Fails as `pm1a_event_block` does: also a block that the 32-bit field places and that is 32
     /// bytes long or longer, as real chipsets have them, since eight bits a byte don't fit the
-    /// width. `gpe1` answers those too.
+    /// width. `gpe1` returns those too.
     pub fn gpe1_block(&self) -> AcpiResult<Option<GenericAddress>>
         ensures { result ≡ optional_block_of (registers_of self.now).gpe1 }
     {
@@ -283,7 +283,7 @@ impl Fadt {
     /// RESET_REG: the register that resets the machine, if `flags.supports_system_reset_via_fadt()` says
     /// that there is one (section 5.2.9). The flag isn't tested here.
     ///
-    /// Refuses a reserved code with `InvalidGenericAddress`.
+    /// Fails for a reserved code with `InvalidGenericAddress`.
     pub fn reset_register(&self) -> AcpiResult<GenericAddress>
         ensures { result ≡ generic_address_of (registers_of self.now).reset }
     {
@@ -293,17 +293,17 @@ impl Fadt {
     /// SLEEP_CONTROL_REG: the register that puts a machine of reduced hardware to sleep, or `None`
     /// if the table has no field for it (section 5.2.9).
     ///
-    /// Refuses a reserved code with `InvalidGenericAddress`.
+    /// Fails for a reserved code with `InvalidGenericAddress`.
     pub fn sleep_control_register(&self) -> AcpiResult<Option<GenericAddress>>
         ensures { result ≡ register_of (registers_of self.now).sleep_control }
     {
         register_from(self.registers.sleep_control)
     }
 
-    /// SLEEP_STATUS_REG: the register that says how a machine of reduced hardware woke, or `None`
+    /// SLEEP_STATUS_REG: the register that tells how a hardware-reduced machine woke, or `None`
     /// if the table has no field for it (section 5.2.9).
     ///
-    /// Refuses a reserved code with `InvalidGenericAddress`.
+    /// Fails for a reserved code with `InvalidGenericAddress`.
     pub fn sleep_status_register(&self) -> AcpiResult<Option<GenericAddress>>
         ensures { result ≡ register_of (registers_of self.now).sleep_status }
     {

@@ -26,9 +26,9 @@ pub struct PlacedTable<'a> {
     pub bytes: &'a [u8],
 }
 
-/// The file of memory that `write_image` answers, in memory of an allocator.
+/// The file of memory that `write_image` returns, in memory of an allocator.
 ///
-/// Refuses as `write_image` does.
+/// Fails as `write_image` does.
 #[tactic(auto, unfolding(crate::specs::WriteChecks::written))]
 pub fn write_in<A: Allocator + Copy>(
     alloc: A,
@@ -52,12 +52,12 @@ pub fn write_in<A: Allocator + Copy>(
 /// tables, which the root table lists in order. Addresses are physical. Byte 9 of each table is set so that
 /// the table sums to 0 modulo 256.
 ///
-/// Refuses, in this order, with `ZeroRoot` if the root table's address is 0, `BadTable` for the
+/// Fails, in this order, with `ZeroRoot` if the root table's address is 0, `BadTable` for the
 /// first table that has under 36 bytes, or whose length field is not the number of its bytes, or
 /// whose signature or ids are not valid UTF-8, `TooMany` if the root table's length is 2^32 or above,
 /// `PointerTooLarge` if for revision 0 the root table's address or a table's is 2^32 or above,
 /// `EndTooLarge` if a record's start and length add up to more than 2^64 - 1, `Overlap` if two
-/// records share a byte, and `OutOfMemory` if memory is refused.
+/// records share a byte, and `OutOfMemory` if memory runs out.
 pub fn write_image(
     alloc: Global,
     rsdp_address: u64,

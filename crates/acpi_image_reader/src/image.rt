@@ -39,10 +39,10 @@ impl<'a> MemoryImage<'a> {
     /// The memory that a file encodes. It allocates only a list of the records and
     /// a map of their starts.
     ///
-    /// Refuses at the first record that fails, and of that one, in this order, with `Truncated` if fewer
+    /// Fails at the first record that fails, and of that one, in this order, with `Truncated` if fewer
     /// than 16 bytes are left or fewer than `length` after them, `EndTooLarge` if `start + length` is
     /// above 2^64 - 1, `Overlap` if it shares a byte with an earlier record, and `OutOfMemory`
-    /// if memory is refused. Records that only adjoin share no byte, and one without bytes shares none.
+    /// if memory runs out. Records that only adjoin share no byte, and one without bytes shares none.
     #[tactic(auto, using(crate::proofs::Images::image_found, crate::proofs::Images::image_only, crate::proofs::Images::image_law))]
     pub fn from_bytes(alloc: Global, bytes: &'a [u8]) -> Result<MemoryImage<'a>, ImageError>
         // The file is the records of the memory, and nothing else.
@@ -79,7 +79,7 @@ impl AcpiHandler for MemoryImage<'_> {
 
     /// Lends all bytes from a physical address to the end of its record.
     ///
-    /// Refuses with `MapFailed` if no record has `size` bytes from that address on.
+    /// Fails with `MapFailed` if no record has `size` bytes from that address on.
     #[tactic(auto, using(crate::proofs::Listing::at_rest, crate::proofs::Listing::at_none))]
     fn map_physical_region(&self, address: u64, size: usize) -> AcpiResult<&[u8]>
         requires { 0 < size }

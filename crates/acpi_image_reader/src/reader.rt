@@ -12,7 +12,7 @@ use std::alloc::Allocator;
 /// The record that the bytes begin with, which shares no byte with an earlier one, and the bytes
 /// after it.
 ///
-/// Refuses, in this order, with `Truncated`, `EndTooLarge` and `Overlap`.
+/// Fails, in this order, with `Truncated`, `EndTooLarge` and `Overlap`.
 #[tactic(auto, unfolding(crate::specs::Image::next_at))]
 fn next_record<'a, A: Allocator>(
     earlier: &Records<'_, A>,
@@ -33,7 +33,7 @@ fn next_record<'a, A: Allocator>(
 
 /// The records of a file, kept in memory of an allocator.
 ///
-/// Refuses at the first record that fails, and of that one, in this order, with `Truncated` if fewer than 16
+/// Fails at the first record that fails, and of that one, in this order, with `Truncated` if fewer than 16
 /// bytes are left or fewer than the record's length after them, `EndTooLarge` if its start and its length add
 /// up to more than 2^64 - 1, `Overlap` if it shares a byte with an earlier record, and `OutOfMemory` if memory
 /// for it is refused.

@@ -66,7 +66,7 @@ impl<'a> Record<'a> {
 
 /// The record that the bytes begin with, and the bytes after it.
 ///
-/// Refuses, in this order, with `Truncated` and `EndTooLarge`.
+/// Fails, in this order, with `Truncated` and `EndTooLarge`.
 #[tactic(auto, unfolding(crate::specs::Image::record_at))]
 pub(crate) fn first_record(bytes: &[u8]) -> Result<(Record<'_>, &[u8]), ImageError>
     ensures shorter { IfOk result (λ x. length x.1.now < length bytes.now) }

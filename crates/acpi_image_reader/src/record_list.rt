@@ -15,7 +15,7 @@ use std::collections::BTreeMap;
 
 /// Keeps one more record, after the others.
 ///
-/// Refuses with `OutOfMemory` if memory for it is refused.
+/// Fails with `OutOfMemory` if memory for it is refused.
 fn keep<'a, A: Allocator>(
     records: &mut Vec<Record<'a>, A>,
     added: Record<'a>,
@@ -32,7 +32,7 @@ fn keep<'a, A: Allocator>(
 
 /// Keeps the start of one more record, which shares no byte with the others, if it has bytes.
 ///
-/// Refuses with `OutOfMemory` if memory for it is refused.
+/// Fails with `OutOfMemory` if memory for it is refused.
 fn keep_start<'a, A: Allocator + Clone>(
     starts: &mut BTreeMap<u64, &'a [u8], A>,
     added: Record<'a>,
@@ -82,7 +82,7 @@ impl<'a, A: Allocator> Records<'a, A> {
 
     /// These records, with one more after them.
     ///
-    /// Refuses with `OutOfMemory` if memory for it is refused.
+    /// Fails with `OutOfMemory` if memory for it is refused.
     pub(crate) fn with(self, added: Record<'a>) -> Result<Records<'a, A>, ImageError>
     where
         A: Clone,

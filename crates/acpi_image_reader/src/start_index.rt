@@ -28,7 +28,7 @@ pub fn last_up_to<V, A: Allocator>(starts: &BTreeMap<u64, V, A>, address: u64) -
 
 /// Adds the start of one more region, which has bytes and shares none with those that are listed.
 ///
-/// Refuses if memory for it is refused.
+/// Fails if memory for it is refused.
 pub fn add_start<V: Drop, A: Allocator + Clone>(
     starts: &mut BTreeMap<u64, V, A>,
     start: u64,

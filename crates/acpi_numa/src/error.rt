@@ -40,7 +40,7 @@ impl From<AllocError> for NumaError {
 
     ghost from_gives = { λ _ e. e ≡ Acpi NoMemory };
 
-    /// Makes `Acpi` of `AllocError`, if memory is refused.
+    /// Makes `Acpi` of `AllocError`, if memory runs out.
     fn from(_refused: AllocError) -> NumaError {
         NumaError::Acpi(AcpiError::AllocError)
     }

@@ -14,7 +14,7 @@ pub struct Slit {
     /// The header that every table begins with.
     pub header: SdtHeader,
     /// Number of System Localities: how many localities there are. Nothing promises that the table has the
-    /// distances of so many.
+    /// distances of that many.
     pub localities: u64,
 }
 

@@ -27,7 +27,7 @@ pub struct Command<'w> {
 
 /// The command of pairs of arguments, ADDRESS and FILE.
 ///
-/// Refuses if it runs out of memory.
+/// Fails if it runs out of memory.
 fn parse_memory<'w>(
     alloc: Global,
     out: &'w str,
@@ -59,7 +59,7 @@ fn parse_memory<'w>(
 
 /// The command of files of tables.
 ///
-/// Refuses if it runs out of memory.
+/// Fails if it runs out of memory.
 fn parse_tables<'w>(
     alloc: Global,
     out: &'w str,
@@ -77,7 +77,7 @@ fn parse_tables<'w>(
 
 /// The command of a form, and the arguments after it.
 ///
-/// Refuses if it runs out of memory.
+/// Fails if it runs out of memory.
 fn parse_form<'w>(
     alloc: Global,
     out: &'w str,
@@ -97,7 +97,7 @@ fn parse_form<'w>(
 /// The command that the arguments after the program's name are, or `None` if they are not a command: OUT,
 /// which may be any text, a form, and the arguments of that form, at least one.
 ///
-/// Refuses if it runs out of memory.
+/// Fails if it runs out of memory.
 pub fn parse_command<'w>(
     alloc: Global,
     words: &[&'w str],

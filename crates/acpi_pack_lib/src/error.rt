@@ -51,7 +51,7 @@ pub enum Refusal {
     OutOfMemory,
 }
 
-/// Prints the refusal of the file, or the variant's name.
+/// Prints the error of the file, or the variant's name.
 impl fmt::Display for Refusal {
     ghost use Rattle.std.specs.Prelude.{Some};
     ghost use Rattle.acpi_pack_lib.specs.Texts.{refusal_text};
@@ -67,7 +67,7 @@ impl fmt::Display for Refusal {
     }
 }
 
-/// Makes `OutOfMemory`, if memory is refused for one more item.
+/// Makes `OutOfMemory`, if memory runs out for one more item.
 impl<T: Drop> From<AllocFailed<T>> for Refusal {
     ghost use Rattle.std.specs.Prelude.{◌≡◌};
     ghost use Rattle.acpi_pack_lib.specs.declared.error.Refusal.TheVariants.{OutOfMemory};
@@ -79,7 +79,7 @@ impl<T: Drop> From<AllocFailed<T>> for Refusal {
     }
 }
 
-/// Makes `OutOfMemory`, if memory is refused for one more record: the only refusal of functions that put
+/// Makes `OutOfMemory`, if memory runs out for one more record: the only refusal of functions that put
 /// records into a file.
 impl From<WriteError> for Refusal {
     ghost use Rattle.std.specs.Prelude.{◌≡◌};

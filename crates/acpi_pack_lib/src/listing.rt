@@ -61,7 +61,7 @@ fn table_label<'w>(names: &[&'w str], entry: IndexedFile<'_>) -> Label<'w>
 
 /// Puts the labels of the files of a role after those that are there.
 ///
-/// Refuses if it runs out of memory.
+/// Fails if it runs out of memory.
 fn put_labels<'w>(
     labels: &mut Vec<Label<'w>>,
     names: &[&'w str],
@@ -78,7 +78,7 @@ fn put_labels<'w>(
 
 /// The labels of files at addresses: their names.
 ///
-/// Refuses if it runs out of memory.
+/// Fails if it runs out of memory.
 fn range_labels<'w>(alloc: Global, names: &[&'w str]) -> Result<Vec<Label<'w>>, AllocError>
     ensures { IfOk result (λ v. map label_text v.items ≡ map (λ n. n.now) names.now) }
 {
@@ -91,7 +91,7 @@ fn range_labels<'w>(alloc: Global, names: &[&'w str]) -> Result<Vec<Label<'w>>, 
 
 /// The labels of the records of an image of tables.
 ///
-/// Refuses if it runs out of memory.
+/// Fails if it runs out of memory.
 fn tables_labels<'w>(
     alloc: Global,
     names: &[&'w str],
@@ -110,7 +110,7 @@ fn tables_labels<'w>(
 
 /// The labels of the records of an image, in order.
 ///
-/// Refuses if it runs out of memory.
+/// Fails if it runs out of memory.
 fn labels_of<'w>(
     alloc: Global,
     command: &Command<'w>,
@@ -137,7 +137,7 @@ fn label_at<'w>(labels: &[Label<'w>], index: usize) -> Label<'w>
 
 /// The lines of these records, one for each, in order.
 ///
-/// Refuses if it runs out of memory.
+/// Fails if it runs out of memory.
 fn lines_of(
     alloc: Global,
     labels: &[Label<'_>],
@@ -180,7 +180,7 @@ fn record_lines_exact(
 /// physical address, in hexadecimal digits, and the label. For files at addresses that is the file's name;
 /// for tables it is `RSDP`, `XSDT`, or the signature and the file's name.
 ///
-/// Refuses as `MemoryImage::from_bytes` does.
+/// Fails as `MemoryImage::from_bytes` does.
 pub fn record_lines(
     alloc: Global,
     command: &Command<'_>,

@@ -57,7 +57,7 @@ fn shares_byte(addresses: &[u64], files: &[FileBytes<'_>], table: &PlacedTable<'
 
 /// Tests the place of the file of this index, after earlier files at their addresses.
 ///
-/// Refuses, in this order, with `EndTooLarge` and `Overlap`.
+/// Fails, in this order, with `EndTooLarge` and `Overlap`.
 #[tactic(auto, unfolding(crate::specs::Pack::check_place))]
 fn check_place(
     index: usize,
@@ -80,7 +80,7 @@ fn check_place(
 
 /// Tests the place of each file.
 ///
-/// Refuses, files in order, as `check_place` does.
+/// Fails, files in order, as `check_place` does.
 fn check_places(addresses: &[u64], files: &[FileBytes<'_>]) -> Result<(), Refusal>
     ensures { result ≡ check_places 0 [] (regions addresses.now (contents files.now)) }
 {
@@ -96,7 +96,7 @@ fn check_places(addresses: &[u64], files: &[FileBytes<'_>]) -> Result<(), Refusa
 
 /// Puts the records of files at their addresses, one after the other.
 ///
-/// Refuses with `OutOfMemory`.
+/// Fails with `OutOfMemory`.
 #[tactic(auto, using(acpi_image::proofs::WrittenMemory::each_fits))]
 fn put_files(file: &mut Vec<u8>, addresses: &[u64], files: &[FileBytes<'_>]) -> Result<(), Refusal>
     ensures put { let all = regions addresses.now (contents files.now) in
@@ -132,10 +132,10 @@ fn pack_files_exact(
 
 /// A file of memory that has each of these files at its physical address, as it is.
 ///
-/// Refuses with the first of these that holds: of a file, in order, `Unreadable` if it can't be read or
+/// Fails with the first of these that holds: of a file, in order, `Unreadable` if it can't be read or
 /// `Empty` if it has no bytes; then of a file, in order, `EndTooLarge` if its address and the number of its
 /// bytes add up to more than 2^64 - 1, or `Overlap` if it shares a byte with an earlier one; and if no file
-/// is refused, `OutOfMemory` if memory is refused.
+/// is refused, `OutOfMemory` if memory runs out.
 pub fn pack_files(
     alloc: Global,
     addresses: &[u64],
@@ -182,7 +182,7 @@ pub(crate) fn dsdt_address(files: &[FileBytes<'_>]) -> Option<u64>
 
 /// The DSDT at the address at which it is to lie. It is left out if no address is given.
 ///
-/// Refuses, in this order, with `EndTooLarge`, `Overlap` if it shares a byte with the RSDP, and
+/// Fails, in this order, with `EndTooLarge`, `Overlap` if it shares a byte with the RSDP, and
 /// `Overlap` for a second DSDT.
 fn dsdt_at<'a>(
     address: Option<u64>,
@@ -222,7 +222,7 @@ fn fixed_of<'a>(dsdt: Option<PlacedTable<'a>>) -> PlacedTable<'a>
 
 /// Puts the records of tables, one after the other.
 ///
-/// Refuses with `OutOfMemory`.
+/// Fails with `OutOfMemory`.
 fn put_tables(file: &mut Vec<u8>, tables: &[PlacedTable<'_>]) -> Result<(), Refusal>
     ensures put { OnOk result
         (file.new.items ≡ file.old.items ++ flat_map record_spelling (placed tables.now)) }
@@ -237,7 +237,7 @@ fn put_tables(file: &mut Vec<u8>, tables: &[PlacedTable<'_>]) -> Result<(), Refu
 /// Puts the records of an RSDP of revision 2, the XSDT at an address, the tables that it lists, and the
 /// DSDT.
 ///
-/// Refuses with `OutOfMemory`.
+/// Fails with `OutOfMemory`.
 #[tactic(auto, using(acpi_image::proofs::WrittenMemory::each_fits))]
 fn put_all(
     file: &mut Vec<u8>,
@@ -276,7 +276,7 @@ fn root_length(count: usize) -> Option<usize>
 
 /// The file of memory that lists the tables among files, and has the DSDT at its address.
 ///
-/// Refuses with `NoRoom`, and if nothing is refused so, with `OutOfMemory`.
+/// Fails with `NoRoom`, and if nothing is refused so, with `OutOfMemory`.
 #[tactic(auto, unfolding(crate::specs::Pack::laid_out))]
 fn lay_out(
     alloc: Global,
@@ -323,7 +323,7 @@ fn pack_tables_exact(alloc: Global, files: &[FileBytes<'_>]) -> Result<Vec<u8>, 
 /// A file that no root table lists is left out, as a FACS, a root table and an RSDP, and so is a DSDT for
 /// which no FADT gives an address.
 ///
-/// Refuses with the first of these that holds: of a file, in order, `Unreadable` if it can't be read, `Empty`
+/// Fails with the first of these that holds: of a file, in order, `Unreadable` if it can't be read, `Empty`
 /// if it has no bytes, and, unless it is left out as unlisted, `Short` if it has under 36 bytes or fewer than
 /// its length field says, or `Long` if it has more; of the DSDT `EndTooLarge` or `Overlap`; `NoRoom` if the
 /// tables can't all be listed and placed; and if nothing of this is refused, `OutOfMemory` if memory is

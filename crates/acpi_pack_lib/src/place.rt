@@ -87,7 +87,7 @@ pub(crate) fn place_one(fixed: &PlacedTable<'_>, from: u64, count: usize) -> Opt
 
 /// Tests that each table that is listed has an address, placed as `place` does.
 ///
-/// Refuses with `NoRoom` if one has none.
+/// Fails with `NoRoom` if one has none.
 pub(crate) fn check_room(
     files: &[FileBytes<'_>],
     fixed: &PlacedTable<'_>,
@@ -109,7 +109,7 @@ pub(crate) fn check_room(
 /// The tables that are listed, from an address on, in order, each at the address that `place_one`
 /// gives it after the one before it.
 ///
-/// Refuses with `NoRoom` if one has none, and with `OutOfMemory`.
+/// Fails with `NoRoom` if one has none, and with `OutOfMemory`.
 pub(crate) fn place<'a>(
     alloc: Global,
     files: &[FileBytes<'a>],

@@ -27,10 +27,10 @@ fn files_named<'c, 'w>(asked: &'c Option<Command<'w>>) -> &'c [&'w str]
     }
 }
 
-/// Saves an image, and prints the lines of its records, or why it isn't saved. It answers the status: 0
+/// Saves an image, and prints the lines of its records, or why it isn't saved. It returns the status: 0
 /// if it is saved, and else 1.
 ///
-/// Refuses if a write is refused or memory runs out.
+/// Fails if a write fails or memory runs out.
 fn save_image<S: Storage, W: Write, E: Write>(
     alloc: Global,
     command: &Command<'_>,
@@ -60,9 +60,9 @@ fn save_image<S: Storage, W: Write, E: Write>(
     }
 }
 
-/// Does what follows of a run's outcome: saves the image, if there is one. It answers the status.
+/// Does what follows of a run's outcome: saves the image, if there is one. It returns the status.
 ///
-/// Refuses if a write is refused or memory runs out.
+/// Fails if a write fails or memory runs out.
 fn finish<S: Storage, W: Write, E: Write>(
     alloc: Global,
     asked: &Option<Command<'_>>,
@@ -87,10 +87,10 @@ fn finish<S: Storage, W: Write, E: Write>(
 
 /// Packs the files that the arguments name. They are judged first; if they are a command, the files that they
 /// name are read, in order, and else none. If `run` answers an image, it is saved, and then the lines of its
-/// records are printed on the output. It answers the status: 0 if the image is saved, 1 if something is
+/// records are printed on the output. It returns the status: 0 if the image is saved, 1 if something is
 /// refused, and 2 if the arguments are not a command.
 ///
-/// Refuses if a write is refused, or memory for anything but the image itself.
+/// Fails if a write fails, or memory for anything but the image itself.
 fn pack_asked<F: Files, S: Storage, W: Write, E: Write>(
     alloc: Global,
     arguments: &[&str],
@@ -120,7 +120,7 @@ fn pack_asked<F: Files, S: Storage, W: Write, E: Write>(
 /// made of them is saved; then the lines of its records are printed on the output. The status is 0 if the
 /// image is saved, 1 if something is refused, and 2 if the arguments are not a command.
 ///
-/// Refuses if a write is refused, or memory for anything but the image itself.
+/// Fails if a write fails, or memory for anything but the image itself.
 pub fn pack<F: Files, S: Storage, W: Write, E: Write>(
     alloc: Global,
     arguments: &[&str],

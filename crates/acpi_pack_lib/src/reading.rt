@@ -8,7 +8,7 @@ use std::alloc::{AllocError, Global};
 
 /// Asks for the files of these names, each once and in order.
 ///
-/// Refuses if memory for the list is refused, and then asks for no further file.
+/// Fails if memory for the list is refused, and then asks for no further file.
 pub(crate) fn read_all<F: Files>(files: &mut F, names: &[&str]) -> Result<(), AllocError>
     ensures asked { OnOk result (Asks (map (λ n. n.now) names.now) (F.asked files.old) (F.asked files.new)) }
     ensures refused { OnErr result (AsksFront (map (λ n. n.now) names.now) (F.asked files.old) (F.asked files.new)) }
@@ -22,7 +22,7 @@ pub(crate) fn read_all<F: Files>(files: &mut F, names: &[&str]) -> Result<(), Al
 /// The bytes that were read of the files that were asked for after the first `start` of them, in order, each
 /// `None` if the file can't be read.
 ///
-/// Refuses if it runs out of memory.
+/// Fails if it runs out of memory.
 pub(crate) fn contents_from<F: Files>(
     alloc: Global,
     files: &F,
@@ -41,7 +41,7 @@ pub(crate) fn contents_from<F: Files>(
 
 /// The bytes that were read of these files, in order.
 ///
-/// Refuses if it runs out of memory.
+/// Fails if it runs out of memory.
 fn contents(alloc: Global, readings: &[Reading]) -> Result<Vec<Option<&[u8]>>, AllocError>
     ensures { IfOk result (λ v.
         map option_copied v.items ≡ contents_of (map read_of readings.now)) }

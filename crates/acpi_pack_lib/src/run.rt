@@ -28,7 +28,7 @@ pub enum Outcome {
 
 /// The image that a command asks for.
 ///
-/// Refuses as `pack_files` and `pack_tables` do.
+/// Fails as `pack_files` and `pack_tables` do.
 fn packed(alloc: Global, form: &Form, files: &[FileBytes<'_>]) -> Result<Vec<u8>, Refusal>
     ensures exact { IfOk result (λ v.
         file_of (packed_by (addresses_of form.now) (contents files.now)) ≡ Ok v.items) }
@@ -43,7 +43,7 @@ fn packed(alloc: Global, form: &Form, files: &[FileBytes<'_>]) -> Result<Vec<u8>
 
 /// Puts a line for each of these files, which are left out.
 ///
-/// Refuses if it runs out of memory.
+/// Fails if it runs out of memory.
 fn put_left_out(
     text: &mut String,
     names: &[&str],
@@ -61,7 +61,7 @@ fn put_left_out(
 
 /// A line for each file of a command that is left out.
 ///
-/// Refuses if it runs out of memory.
+/// Fails if it runs out of memory.
 fn left_out(
     alloc: Global,
     form: &Form,
@@ -94,7 +94,7 @@ fn refused_name<'w>(command: &Command<'w>, refusal: Refusal) -> &'w str
 
 /// The line that says why nothing is packed.
 ///
-/// Refuses if it runs out of memory.
+/// Fails if it runs out of memory.
 fn refused_line(
     alloc: Global,
     command: &Command<'_>,
@@ -110,7 +110,7 @@ fn refused_line(
 
 /// The line on the usage.
 ///
-/// Refuses if it runs out of memory.
+/// Fails if it runs out of memory.
 fn usage_line(alloc: Global) -> Result<String, AllocError>
     ensures { IfOk result (λ t. string_bytes t ≡ usage_line) }
 {
@@ -120,7 +120,7 @@ fn usage_line(alloc: Global) -> Result<String, AllocError>
 
 /// The outcome of a command, and the text that is printed of it.
 ///
-/// Refuses if memory for the text is refused.
+/// Fails if memory for the text is refused.
 fn report_command(
     alloc: Global,
     command: &Command<'_>,
@@ -142,7 +142,7 @@ fn report_command(
 
 /// The outcome of the command that is asked for, if any, and the text that is printed of it.
 ///
-/// Refuses if memory for the text is refused.
+/// Fails if memory for the text is refused.
 fn report(
     alloc: Global,
     asked: &Option<Command<'_>>,
@@ -164,7 +164,7 @@ fn report(
 /// Faults are found in this order: arguments that are not a command, then the refusals of `pack_files` or
 /// `pack_tables`.
 ///
-/// Refuses if a write to standard error, or memory for the lines, is refused.
+/// Fails if a write to standard error, or memory for the lines, is refused.
 pub fn run<E: Write>(
     alloc: Global,
     asked: &Option<Command<'_>>,

@@ -122,7 +122,7 @@ fn is_source(rt: &HostRuntime, name: &str, found: &Found, sources: &[&str]) -> b
 
 /// Tests the thing that has the name of the file that is to be made.
 ///
-/// Refuses, in this order, with `NotAFile`, `SameFile`, and `Unwritable` if the system doesn't say what has
+/// Fails, in this order, with `NotAFile`, `SameFile`, and `Unwritable` if the system doesn't say what has
 /// that name.
 fn check_found(found: &Found, is_source: bool) -> Result<(), SaveError>
     ensures { result ≡ check_found found.now is_source }
@@ -185,10 +185,10 @@ fn put(mut file: File, bytes: &[u8], found: &Found) -> io::Result<()> {
 /// prefix of it. The file has the mode of the one that it replaces, and if there is none, only its owner may
 /// read and write it. `sources` are the names of the files that the bytes were made from.
 ///
-/// Refuses, in this order, with `NotAFile` if something else than a regular file has this name,
+/// Fails, in this order, with `NotAFile` if something else than a regular file has this name,
 /// `SameFile` if it is one of the sources, `Unwritable` if the system doesn't say what has this name,
 /// `PartExists` if something has the name with `.part` after it, and `Unwritable` if the file can't be made,
-/// written or renamed; and with `OutOfMemory` if memory is refused. If a file with `.part` was made, it is then
+/// written or renamed; and with `OutOfMemory` if memory runs out. If a file with `.part` was made, it is then
 /// removed, if the system allows that, and the file that has this name is as it was.
 pub fn save(rt: &HostRuntime, name: &str, sources: &[&str], bytes: &[u8]) -> Result<(), SaveError> {
     let found = found_by(fs::symlink_metadata(rt, name));

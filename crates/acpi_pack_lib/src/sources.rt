@@ -122,7 +122,7 @@ pub(crate) fn listed_count(files: &[FileBytes<'_>]) -> usize
 
 /// Tests that a file can be read, and has bytes.
 ///
-/// Refuses, in this order, with `Unreadable` and `Empty`.
+/// Fails, in this order, with `Unreadable` and `Empty`.
 fn check_content(index: usize, file: FileBytes<'_>) -> Result<(), Refusal>
     ensures { result ≡ sources.check_content index (content file.entry) }
 {
@@ -135,7 +135,7 @@ fn check_content(index: usize, file: FileBytes<'_>) -> Result<(), Refusal>
 
 /// Tests each file by itself.
 ///
-/// Refuses, files in order, and for each in this order, with `Unreadable` and `Empty`.
+/// Fails, files in order, and for each in this order, with `Unreadable` and `Empty`.
 pub(crate) fn check_contents(files: &[FileBytes<'_>]) -> Result<(), Refusal>
     ensures { result ≡ sources.check_contents 0 (contents files.now) }
 {
@@ -147,7 +147,7 @@ pub(crate) fn check_contents(files: &[FileBytes<'_>]) -> Result<(), Refusal>
 
 /// Tests that bytes have a header, and a length field that is their number.
 ///
-/// Refuses, in this order, with `Short` and `Long`.
+/// Fails, in this order, with `Short` and `Long`.
 #[tactic(auto, unfolding(crate::specs::Sources::check_length))]
 fn check_length(index: usize, bytes: &[u8]) -> Result<(), Refusal>
     ensures { result ≡ sources.check_length index bytes.now }
@@ -164,7 +164,7 @@ fn check_length(index: usize, bytes: &[u8]) -> Result<(), Refusal>
 
 /// Tests a file of tables.
 ///
-/// Refuses, in this order, with `Unreadable`, `Empty`, and unless the file is left out with `Short` and
+/// Fails, in this order, with `Unreadable`, `Empty`, and unless the file is left out with `Short` and
 /// `Long`.
 #[tactic(auto, unfolding(crate::specs::Sources::check_table))]
 fn check_table(index: usize, file: FileBytes<'_>) -> Result<(), Refusal>
@@ -180,7 +180,7 @@ fn check_table(index: usize, file: FileBytes<'_>) -> Result<(), Refusal>
 
 /// Tests each file of tables by itself.
 ///
-/// Refuses, files in order, as `check_table` does.
+/// Fails, files in order, as `check_table` does.
 pub(crate) fn check_tables(files: &[FileBytes<'_>]) -> Result<(), Refusal>
     ensures { result ≡ sources.check_tables 0 (contents files.now) }
 {

@@ -13,7 +13,7 @@ pub trait Storage {
     /// Saves these bytes, which were made of the files of the names in `sources`, under a name, and
     /// answers that they are saved, or the refusal, as the function `save` does.
     ///
-    /// Refuses if memory for the list is refused, and then saves nothing.
+    /// Fails if memory for the list is refused, and then saves nothing.
     fn save(
         &mut self,
         name: &str,
@@ -61,7 +61,7 @@ impl<'r> HostStorage<'r> {
 
 /// Copies of these texts.
 ///
-/// Refuses if it runs out of memory.
+/// Fails if it runs out of memory.
 fn copies_of(alloc: Global, texts: &[&str]) -> Result<Vec<String>, AllocError>
     ensures { IfOk result (λ v. map string_bytes v.items ≡ map (λ t. t.now) texts.now) }
 {

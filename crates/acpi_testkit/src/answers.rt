@@ -4,7 +4,7 @@ use acpi::{AcpiHandler, AcpiResult, AcpiTable, AcpiTables};
 
 /// The physical address of the first valid table of a type, and how many bytes it has.
 ///
-/// Refuses as `AcpiTables::find_table` does.
+/// Fails as `AcpiTables::find_table` does.
 pub fn place_of<T: AcpiTable, H: AcpiHandler>(
     tables: &AcpiTables<'_, H>,
 ) -> AcpiResult<(u64, usize)> {

@@ -239,7 +239,7 @@ impl History {
 
     /// Address and length of the loans that are open at the end, if each notice so far ended one.
     ///
-    /// Refuses with `Full` if there were more events than there is room for, and with `Unmatched` for the
+    /// Fails with `Full` if there were more events than there is room for, and with `Unmatched` for the
     /// first notice that names no open loan.
     pub fn open(&self, shown: Shown<'_>) -> Result<Places, Flaw> {
         Ok(self.loans(shown)?.places())

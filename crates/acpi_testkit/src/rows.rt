@@ -59,7 +59,7 @@ impl Row {
 
     /// A file of memory with the row's regions, as `MemoryImage` reads it.
     ///
-    /// Refuses if memory for it is refused.
+    /// Fails if memory for it is refused.
     pub fn file(&self, alloc: Global) -> Result<Vec<u8>, AllocError> {
         let mut file = Vec::new(alloc);
         for region in &self.regions {
@@ -171,7 +171,7 @@ impl Rows {
 
     /// Takes a line that asks nothing, and answers whether it is understood.
     ///
-    /// Refuses if memory for it is refused.
+    /// Fails if memory for it is refused.
     pub fn take(&mut self, line: &str) -> Result<bool, AllocError> {
         let (first, rest) = line.split_once(' ').unwrap_or((line, ""));
         match first {

@@ -39,7 +39,7 @@ use std::io::Write;
 /// AML of the DSDT and of the SSDTs, the platform, the HPET, the regions of PCI configuration space, the boot
 /// graphic (BGRT) and the serial console (SPCR). A part that is refused is one line that says why.
 ///
-/// Refuses with the refusal of the first write that is refused.
+/// Fails with the error of the first write that is refused.
 pub fn print_parts<H: AcpiHandler, W: Write>(
     alloc: Global,
     tables: &AcpiTables<'_, H>,
@@ -62,7 +62,7 @@ pub fn print_parts<H: AcpiHandler, W: Write>(
 /// Prints a line for each table that a lookup passes over as faulty, with the refusal, for FADT, MADT, MCFG,
 /// HPET, BGRT and SPCR, in this order.
 ///
-/// Refuses with the refusal of the first write that is refused.
+/// Fails with the error of the first write that is refused.
 pub fn print_skipped_tables<H: AcpiHandler, E: Write>(
     tables: &AcpiTables<'_, H>,
     err: &mut E,
@@ -238,7 +238,7 @@ fn print_timers<W: Write>(info: &HpetInfo, out: &mut W) -> io::Result<()>
 /// Prints the lines of the regions of PCI configuration space, or the one line of their refusal. Memory for
 /// them is an allocator's.
 ///
-/// Refuses with the refusal of the first write that is refused.
+/// Fails with the error of the first write that is refused.
 pub fn print_pci<H: AcpiHandler, A: Allocator + Clone, W: Write>(
     alloc: A,
     tables: &AcpiTables<'_, H>,

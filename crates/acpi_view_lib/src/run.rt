@@ -22,7 +22,7 @@ use std::io::{BufWriter, Write};
 const BUFFERED: usize = 32768;
 
 /// Runs the program on the arguments after its name, and on the bytes of the file that the first of
-/// them names, which are `None` if it can't be read. It answers the status: 0 if all is printed, 1 if
+/// them names, which are `None` if it can't be read. It returns the status: 0 if all is printed, 1 if
 /// something is refused, and 2 if the arguments are not a command.
 ///
 /// Faults are found in this order: arguments that are not a command, a file that can't be read, the
@@ -56,7 +56,7 @@ pub fn run<W: Write, E: Write>(
 /// Runs the program, as `run` does, on the way to the root table, or on `None` if the arguments are not a
 /// command. It flushes both outputs, whatever is refused, and answers the status.
 ///
-/// Refuses with the refusal of the first write or flush that is refused.
+/// Fails with the error of the first write or flush that is refused.
 pub fn print_run<W: Write, E: Write>(
     alloc: Global,
     asked: Option<Root>,
@@ -78,10 +78,10 @@ pub fn print_run<W: Write, E: Write>(
 }
 
 /// Runs the program, as `print_run` does, over writers of which 32 KiB each are gathered before they are
-/// written. It answers the status and returns the writers.
+/// written. It returns the status and returns the writers.
 ///
-/// Refuses with the refusal of the first write or flush that is refused, or if memory for gathering is
-/// refused. If a write is refused, an output has a prefix of the text that it would have got.
+/// Fails with the error of the first write or flush that is refused, or if memory for gathering is
+/// refused. If a write fails, an output has a prefix of the text that it would have got.
 pub fn run_gathered<W: Write + Drop, E: Write + Drop>(
     alloc: Global,
     asked: Option<Root>,
@@ -101,7 +101,7 @@ pub fn run_gathered<W: Write + Drop, E: Write + Drop>(
 
 /// The writer under a buffer, once all that is gathered is written.
 ///
-/// Refuses with the refusal of a write.
+/// Fails with the error of a write.
 fn writer_of<W: Write + Drop>(gathered: BufWriter<W>) -> io::Result<W>
     ensures { IfOk result (λ w. Keeps (writer_contents W.contents gathered) (W.contents w)) }
 {
@@ -137,7 +137,7 @@ fn print_all<W: Write, E: Write>(
 
 /// Prints `refused: REFUSAL`, the line of a run that is refused, and answers its status, 1.
 ///
-/// Refuses if the write is refused.
+/// Fails if the write is refused.
 pub fn refuse<D: Display + Drop, E: Write>(refusal: D, err: &mut E) -> io::Result<u8>
     ensures status { IfOk result (λ s. s ≡ 1) }
     ensures line { OnOk result (IfSome (D.output refusal) (λ name.

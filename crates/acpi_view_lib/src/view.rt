@@ -15,7 +15,7 @@ use std::io::Write;
 /// that the first of them names is read, and no other; if they are not, no file is read. It answers the
 /// status, which is that of `run`, and returns the outputs.
 ///
-/// Refuses with the refusal of the first write or flush that is refused, or if memory runs out for
+/// Fails with the error of the first write or flush that is refused, or if memory runs out for
 /// the list of files or for gathering the outputs.
 pub fn view<F: Files, W: Write + Drop, E: Write + Drop>(
     alloc: Global,

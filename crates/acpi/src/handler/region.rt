@@ -51,7 +51,7 @@ impl<'k> MappedRegion<'k> {
 
     /// A handler that lends these bytes, which lie from the physical address `start` on.
     ///
-    /// Refuses with `EndTooLarge` if `start` and the number of bytes add up to more than 2^64 - 1.
+    /// Fails with `EndTooLarge` if `start` and the number of bytes add up to more than 2^64 - 1.
     pub fn new(start: u64, bytes: &'k [u8]) -> Result<Self, RegionError>
         ensures exact { Gives (λ r. region_memory r) result (one_memory start bytes.now) }
     {
@@ -70,7 +70,7 @@ impl AcpiHandler for MappedRegion<'_> {
 
     /// Lends all bytes from a physical address to the end of the region.
     ///
-    /// Refuses with `MapFailed` if the region doesn't have `size` bytes from that address on.
+    /// Fails with `MapFailed` if the region doesn't have `size` bytes from that address on.
     #[tactic(auto, using(acpi_base::proofs::OneRegion::one_region_lends))]
     fn map_physical_region(&self, address: u64, size: usize) -> AcpiResult<&[u8]> {
         if address < self.start {

@@ -26,7 +26,7 @@ impl<'k> MappedRegions<'k> {
     /// at or after the end of the one before it. There is no heap to sort them in: the caller sorts its
     /// list once.
     ///
-    /// Refuses at the first region that fails, and of that one, in this order, with `NotAscending` if it
+    /// Fails at the first region that fails, and of that one, in this order, with `NotAscending` if it
     /// starts below the start of the one before it, and `Overlap` if it starts below that one's end.
     /// Regions that adjoin are accepted.
     #[tactic(auto, using(crate::proofs::Ascending::is_memory))]
@@ -85,7 +85,7 @@ impl AcpiHandler for MappedRegions<'_> {
 
     /// Lends all bytes from a physical address to the end of the region that it lies in.
     ///
-    /// Refuses with `MapFailed` if no region has `size` bytes from that address on.
+    /// Fails with `MapFailed` if no region has `size` bytes from that address on.
     #[tactic(auto, using(crate::proofs::Ascending::at_same, crate::proofs::Ascending::at_none))]
     fn map_physical_region(&self, address: u64, size: usize) -> AcpiResult<&[u8]> {
         match region_for(self.regions, address) {

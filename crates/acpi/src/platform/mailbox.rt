@@ -35,9 +35,9 @@ pub enum MailboxCall {
 /// opened, the writes since then, for each number i the answer of the i-th read from now, and to
 /// which state a call leads from which one. Only `open` can fail.
 ///
-/// The answers of reads are those that the mailbox still has to give, whatever is written to it. Who
-/// implements this over a real mailbox therefore says beforehand what the firmware is going to answer.
-/// No proof shows that a real mailbox answers so, or at all.
+/// The values of reads are those that the mailbox is still going to return, whatever is written to it. Who
+/// implements this over a real mailbox therefore states beforehand what the firmware is going to write.
+/// No proof shows that a real mailbox does so, or reacts at all.
 pub trait Mailbox {
     // What `open` answers at each address.
     ghost open_answer: { Self → ℕ → Result (Unit {0}) AcpiError };
@@ -57,7 +57,7 @@ pub trait Mailbox {
     /// Opens the mailbox at a physical address, the MailBoxAddress of a Multiprocessor Wakeup entry
     /// (section 5.2.12.19). It then has no writes.
     ///
-    /// Refuses with any refusal that its implementor chooses, and then changes nothing.
+    /// Fails with any error that its implementor chooses, and then changes nothing.
     fn open(&mut self, address: u64) -> AcpiResult<()>
         ensures answered { result ≡ open_answer self.old address }
         ensures made { OnOk result (called self.old (MailboxCall.Opened address) self.new) }

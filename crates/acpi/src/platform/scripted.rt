@@ -25,7 +25,7 @@ impl<'a> ScriptedMailbox<'a> {
     ghost use Rattle.acpi.specs.Scripted.{Lists, calls_of, reads_of};
     ghost use Rattle.acpi.specs.declared.platform.mailbox.MailboxCall.{MailboxCall};
 
-    /// A mailbox that answers reads with these numbers, in order, and after these with 1 each time. It
+    /// A mailbox whose reads return these numbers, in order, and after these 1 each time. It
     /// isn't opened yet.
     pub fn new(answers: &'a [u16]) -> ScriptedMailbox<'a>
         ensures answers { (i : ℕ) → ⟦<ScriptedMailbox<'a> as Mailbox>⟧.answer result i

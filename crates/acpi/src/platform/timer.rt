@@ -21,16 +21,16 @@ impl PmTimer {
     /// The Power Management Timer that a FADT describes (sections 4.8.3.3 and 5.2.9), or `None` if it has
     /// none: the block of `Fadt::pm_timer_block`, and TMR_VAL_EXT, bit 8 of the flags.
     ///
-    /// Refuses with `InvalidGenericAddress` if that block is refused.
+    /// Fails with `InvalidGenericAddress` if that block has a reserved code.
     pub fn new(fadt: &Fadt) -> AcpiResult<Option<PmTimer>>
         ensures { result ≡ timer_of fadt.now }
     {
         PmTimer::from_block(fadt.pm_timer_block(), fadt.flags)
     }
 
-    /// What `new` answers, of a FADT that is read where it lies.
+    /// What `new` returns, for a FADT that is read where it lies.
     ///
-    /// Refuses as `new` does.
+    /// Fails as `new` does.
     pub fn of<H: Lender>(fadt: &FadtView<'_, H>) -> AcpiResult<Option<PmTimer>>
         ensures { result ≡ timer_of (viewed fadt.now) }
     {

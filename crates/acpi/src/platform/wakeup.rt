@@ -20,7 +20,7 @@ use acpi_base::{AcpiError, AcpiResult, Lender};
 /// Multiprocessor Wakeup entry of the first valid MADT. It gets Command 0 (Noop), ApicId, WakeupVector and
 /// Command 1 (Wakeup), in this order; then Command is read until it is 0, at most `timeout_loops` times.
 ///
-/// Refuses, in this order, with `TableMissing` if no valid MADT is listed, with what
+/// Fails, in this order, with `TableMissing` if no valid MADT is listed, with what
 /// `get_mpwk_mailbox_addr` refuses, with what the mailbox's `open` refuses, each without a write or
 /// a read, and with `InvalidMadt(WakeupApsTimeout)` if no read is 0.
 pub fn wakeup_aps<H: Lender, M: Mailbox>(
@@ -66,7 +66,7 @@ pub fn wakeup_aps<H: Lender, M: Mailbox>(
 
 /// The address of the mailbox of the first valid MADT.
 ///
-/// Refuses with `TableMissing` if no valid MADT is listed, and then with what
+/// Fails with `TableMissing` if no valid MADT is listed, and then with what
 /// `get_mpwk_mailbox_addr` refuses.
 fn mailbox_address<H: Lender>(tables: &AcpiTables<'_, H>) -> AcpiResult<u64>
     requires { AllowsBelow tables.now (λ m. lookup_ranges m madt_kind) }
@@ -115,7 +115,7 @@ fn wake<M: Mailbox>(
     wait(mailbox, timeout_loops)
 }
 
-/// Reads the command until it is 0, at most `timeout_loops` times. Refuses with
+/// Reads the command until it is 0, at most `timeout_loops` times. Fails with
 /// `InvalidMadt(WakeupApsTimeout)` if no read is 0.
 fn wait<M: Mailbox>(mailbox: &mut M, timeout_loops: u64) -> AcpiResult<()>
     ensures answered { MatchResult result

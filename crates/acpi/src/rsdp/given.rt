@@ -22,7 +22,7 @@ use acpi_base::{AcpiError, AcpiResult, AddressRange, Lender, PhysicalMapping, Ph
 /// 0, if the EBDA isn't given or doesn't begin within 0x400..0xa0000.
 ///
 /// `Rsdp::search_for_on_bios` looks at the EBDA last, so if both areas have a valid RSDP a search in these
-/// areas may answer another one.
+/// areas may return another one.
 pub fn bios_areas(ebda: Option<u64>) -> [AddressRange; 2]
     ensures { result ≡ areas.bios_areas ebda }
 {
@@ -226,7 +226,7 @@ impl Rsdp {
     /// No area is asked for as a whole. A candidate takes at most two requests, and none if the bytes
     /// that were lent for one before it hold its 36 bytes, and these show that it isn't valid.
     ///
-    /// Refuses with `NoValidRsdp` if no candidate is left, also if there are no areas.
+    /// Fails with `NoValidRsdp` if no candidate is left, also if there are no areas.
     pub fn search_in<'h, H: Lender>(
         handler: &'h H,
         areas: &[AddressRange],

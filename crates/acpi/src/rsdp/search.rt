@@ -57,7 +57,7 @@ fn first_candidate<'h, H: Lender>(
 
 /// The least valid candidate of an area, if it has one.
 ///
-/// Refuses with `MapFailed` if the area isn't lent with the 16 bytes after it.
+/// Fails with `MapFailed` if the area isn't lent with the 16 bytes after it.
 #[tactic(auto, unfolding(crate::specs::Search::found_in))]
 fn search_area<'h, H: Lender>(
     handler: &'h H,
@@ -91,7 +91,7 @@ fn area_word<H: Lender>(handler: &H) -> AcpiResult<u16>
 
 /// The least valid candidate of the area that is searched last.
 ///
-/// Refuses with `MapFailed` if the area isn't lent with the 16 bytes after it, and with `NoValidRsdp` if no
+/// Fails with `MapFailed` if the area isn't lent with the 16 bytes after it, and with `NoValidRsdp` if no
 /// candidate is left.
 fn search_last<'h, H: Lender>(
     handler: &'h H,
@@ -151,7 +151,7 @@ impl Rsdp {
     /// each area in one region. It takes at most as many steps as there are candidates times the
     /// length that one claims, as far as that is lent.
     ///
-    /// Refuses with `MapFailed` if the word or an area that is asked for isn't lent, and with
+    /// Fails with `MapFailed` if the word or an area that is asked for isn't lent, and with
     /// `NoValidRsdp` if no candidate is left.
     pub fn search_for_on_bios<'h, H: Lender>(
         handler: &'h H,

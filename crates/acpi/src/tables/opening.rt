@@ -45,7 +45,7 @@ impl<'h, H: Lender> AcpiTables<'h, H> {
     /// The tables below the root table that the RSDP at a physical address leads to: the RSDT if the
     /// RSDP's revision or XSDT address is 0, else the XSDT (sections 5.2.5.3, 5.2.7 and 5.2.8).
     ///
-    /// Refuses first with the refusal of the RSDP, in this order: `MapFailed` if 36 bytes aren't lent,
+    /// Fails first with the error of the RSDP, in this order: `MapFailed` if its 36 bytes don't lie in one region,
     /// `RsdpIncorrectSignature` if it doesn't begin with `RSD PTR `, `RsdpInvalidOemId` if the OEM id is
     /// not valid UTF-8, `RsdpInvalidChecksum` if the first 20 bytes don't sum to 0 modulo 256 or, above
     /// revision 0, the length is under 36, `MapFailed` if that many bytes aren't lent, and
@@ -84,7 +84,7 @@ impl<'h, H: Lender> AcpiTables<'h, H> {
     /// 5.2.5.1): the RSDT if the RSDP's revision or XSDT address is 0, else the XSDT. No later candidate
     /// is tried if the root table is bad.
     ///
-    /// Refuses first as that search does, with `MapFailed` or `NoValidRsdp`, and then as `from_rsdt` does.
+    /// Fails first as that search does, with `MapFailed` or `NoValidRsdp`, and then as `from_rsdt` does.
     #[tactic(auto, using(crate::proofs::Agreed::same_opened_by_search))]
     pub fn search_for_rsdp_bios(handler: &'h H) -> AcpiResult<Self>
         requires { Allows (H.may handler.now) (opened_by_search_ranges (H.memory handler.now)) }
@@ -117,7 +117,7 @@ impl<'h, H: Lender> AcpiTables<'h, H> {
     /// the mapping only the address counts: the fields are read from the handler's memory there, which
     /// passes all checks of the RSDP.
     ///
-    /// Refuses as `from_rsdt` does.
+    /// Fails as `from_rsdt` does.
     #[tactic(auto, using(crate::proofs::Agreed::same_opened_by_rsdp))]
     pub fn from_validated_rsdp(
         handler: &'h H,
@@ -177,7 +177,7 @@ impl<'h, H: Lender> AcpiTables<'h, H> {
     /// The tables below the root table at a physical address: an RSDT, with pointers of four bytes, for
     /// revision 0, else an XSDT, with pointers of eight bytes (sections 5.2.7 and 5.2.8).
     ///
-    /// Refuses, in this order, with `MapFailed` if 36 bytes aren't lent there, `SdtInvalidSignature` if
+    /// Fails, in this order, with `MapFailed` if 36 bytes aren't lent there, `SdtInvalidSignature` if
     /// the signature isn't `RSDT` or `XSDT` by the kind, `SdtInvalidOemId` and `SdtInvalidTableId` if that
     /// id is not valid UTF-8, `SdtInvalidLength` if the length is under 36, `MapFailed` if that many bytes
     /// aren't lent, and `SdtInvalidChecksum` if they don't sum to 0 modulo 256.

@@ -69,7 +69,7 @@ impl<'h, H: Lender> AcpiTables<'h, H> {
 
     /// The members of the root table, in order: the address that each pointer gives, and the header
     /// (section 5.2.6) of the table there if that is valid under the signature that it has, or else the
-    /// first refusal. There is exactly one item for each pointer.
+    /// first error. There is exactly one item for each pointer.
     pub fn members(&self) -> TableMembers<'_, 'h, H>
         requires { AllowsBelow self.now header_ranges }
         ensures items { members_left H.memory result
@@ -103,7 +103,7 @@ impl<'h, H: Lender> AcpiTables<'h, H> {
     /// The first member of the root table that is valid under a signature that is known only at run time
     /// (section 5.2.6), with at least the 36 bytes of a header, mapped as its header.
     ///
-    /// Refuses with `TableMissing`, carrying the signature, if no member is valid so. A member that
+    /// Fails with `TableMissing`, carrying the signature, if no member is valid so. A member that
     /// isn't lent, or fails another check, is passed over.
     pub fn find_sdt(&self, signature: Signature) -> AcpiResult<PhysicalMapping<'h, H, SdtHeader>>
         requires { AllowsBelow self.now (λ m. lookup_ranges m (plain_kind signature)) }
@@ -139,7 +139,7 @@ impl<'h, H: Lender> AcpiTables<'h, H> {
     /// The ranges of physical memory in which the tables lie (sections 5.2.6, 5.2.9 and 5.2.10): the root
     /// table, then each valid member in order, then, if a valid FADT is listed, the DSDT that the first
     /// FADT leads to if that is valid, and the FACS at that FADT's `facs_address` if 36 bytes are lent
-    /// there that begin with `FACS` and give a length of at least 64, and so many bytes are lent. It gives
+    /// there that begin with `FACS` and give a length of at least 64, and that many bytes lie in one region. It gives
     /// at most three more ranges than there are pointers. The FADT, the DSDT and the FACS are looked at by
     /// this call, and each member when its range is asked for.
     ///

@@ -12,7 +12,7 @@ use std::alloc::{AllocError, Allocator};
 
 /// The first distributor of a MADT's bytes, or `None` if it lists none.
 ///
-/// Refuses with `InvalidMadt(InvalidEntryLength)` if the entries end malformed, wherever the distributor
+/// Fails with `InvalidMadt(InvalidEntryLength)` if the entries end malformed, wherever the distributor
 /// stands.
 pub fn distributor_of(table: &[u8]) -> AcpiResult<Option<GicDistributor>>
     ensures { result ≡ distributor_of table.now }

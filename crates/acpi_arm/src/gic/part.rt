@@ -74,7 +74,7 @@ pub struct GicCpuInterface {
 pub struct GicRedistributors {
     /// Discovery Range Base Address: the physical address of the range's first byte.
     pub address: u64,
-    /// Discovery Range Length: how many bytes the range has, as the entry says; it can be 0.
+    /// Discovery Range Length: the range's length in bytes, which can be 0.
     pub length: u32,
 }
 

@@ -19,7 +19,7 @@ pub trait AcpiHandler {
 
     /// Lends the bytes from a physical address on, at least `size` of them, all from one region.
     ///
-    /// Refuses with `MapFailed` exactly if the `size` bytes from that address on don't lie whole inside one
+    /// Fails with `MapFailed` exactly if the `size` bytes from that address on don't all lie inside one
     /// region.
     fn map_physical_region(&self, address: u64, size: usize) -> AcpiResult<&[u8]>
         requires { 0 < size }
@@ -47,7 +47,7 @@ pub trait Lender {
     /// Lends the bytes from a physical address on, at least `size` of them, all from one region, as
     /// `AcpiHandler::map_physical_region` does. It may be asked only for ranges that `may` allows.
     ///
-    /// Refuses with `MapFailed` exactly if the `size` bytes from that address on don't lie whole inside one
+    /// Fails with `MapFailed` exactly if the `size` bytes from that address on don't all lie inside one
     /// region.
     fn lend(&self, address: u64, size: usize) -> AcpiResult<&[u8]>
         requires some { 0 < size }

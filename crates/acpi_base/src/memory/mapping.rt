@@ -54,7 +54,7 @@ impl<'h, H: Lender, T: PhysicalRecord> PhysicalMapping<'h, H, T> {
 
     /// The mapping of the `size` bytes at a physical address, as the handler lends them.
     ///
-    /// Refuses with `MapFailed` if they don't lie whole inside one region.
+    /// Fails with `MapFailed` if they don't lie whole inside one region.
     pub fn map(handler: &'h H, address: u64, size: usize) -> AcpiResult<Self>
         requires some { 0 < size }
         requires asked { H.may handler.now address size ≡ true }

@@ -36,7 +36,7 @@ impl<A: Allocator + Clone> ModelBuilder<A> {
 
     /// A model of no entries yet, with room for exactly as many items as are counted.
     ///
-    /// Refuses with `AllocError` if memory is refused, or a clone of the allocator.
+    /// Fails with `AllocError` if memory is refused, or a clone of the allocator.
     pub(super) fn with_room(madt: &Madt, counts: Counts, allocator: A) -> AcpiResult<Self>
         ensures room { IfOk result (λ d. (items : List MadtItem) → counts_of items ≡ counts
             → HasRoom d items) }
@@ -186,7 +186,7 @@ impl<A: Allocator> ModelBuilder<A> {
 
 /// An empty list with room for exactly so many items.
 ///
-/// Refuses if memory is refused, or the clone of the allocator.
+/// Fails if memory is refused, or the clone of the allocator.
 fn room<T, A: Allocator + Clone>(allocator: &A, count: usize) -> Result<Vec<T, A>, AllocError>
     ensures items { IfOk result (λ v. v.items ≡ []) }
     ensures len { IfOk result (λ v. vec_len v ≡ 0) }

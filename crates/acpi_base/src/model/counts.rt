@@ -29,7 +29,7 @@ pub struct Counts {
 impl Counts {
     /// The counts of the items in a MADT's bytes.
     ///
-    /// Refuses with `InvalidMadt`, carrying the first fault.
+    /// Fails with `InvalidMadt`, carrying the first fault.
     pub(super) fn of_madt(table: &[u8]) -> AcpiResult<Counts>
         ensures { result ≡ model_counts table.now }
     {

@@ -47,7 +47,7 @@ impl LocalApicNmiEntry {
     /// Polarity (bits 0 and 1 of MPS INTI Flags, section 5.2.12.7): the level at which the NMI counts as
     /// raised.
     ///
-    /// Refuses the reserved code 2 with `MpsIntiInvalidPolarity`.
+    /// Fails for the reserved code 2 with `MpsIntiInvalidPolarity`.
     pub fn polarity(&self) -> Result<Polarity, MadtError>
         ensures { result ≡ polarity_of self.now.flags }
     {
@@ -56,7 +56,7 @@ impl LocalApicNmiEntry {
 
     /// Trigger Mode (bits 2 and 3 of MPS INTI Flags, section 5.2.12.7): what raises the NMI.
     ///
-    /// Refuses the reserved code 2 with `MpsIntiInvalidTriggerMode`.
+    /// Fails for the reserved code 2 with `MpsIntiInvalidTriggerMode`.
     pub fn trigger_mode(&self) -> Result<TriggerMode, MadtError>
         ensures { result ≡ trigger_mode_of self.now.flags }
     {
@@ -68,7 +68,7 @@ impl X2ApicNmiEntry {
     /// Polarity (bits 0 and 1 of MPS INTI Flags, section 5.2.12.13): the level at which the NMI counts as
     /// raised.
     ///
-    /// Refuses the reserved code 2 with `MpsIntiInvalidPolarity`.
+    /// Fails for the reserved code 2 with `MpsIntiInvalidPolarity`.
     pub fn polarity(&self) -> Result<Polarity, MadtError>
         ensures { result ≡ polarity_of self.now.flags }
     {
@@ -77,7 +77,7 @@ impl X2ApicNmiEntry {
 
     /// Trigger Mode (bits 2 and 3 of MPS INTI Flags, section 5.2.12.13): what raises the NMI.
     ///
-    /// Refuses the reserved code 2 with `MpsIntiInvalidTriggerMode`.
+    /// Fails for the reserved code 2 with `MpsIntiInvalidTriggerMode`.
     pub fn trigger_mode(&self) -> Result<TriggerMode, MadtError>
         ensures { result ≡ trigger_mode_of self.now.flags }
     {

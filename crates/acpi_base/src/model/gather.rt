@@ -19,7 +19,7 @@ use std::alloc::Allocator;
 
 /// The model of APICs, with room for exactly what is counted.
 ///
-/// Refuses with `AllocError` if memory is refused, or a clone of the allocator.
+/// Fails with `AllocError` if memory is refused, or a clone of the allocator.
 #[tactic(auto, using(crate::proofs::EntryLists::said_items))]
 fn gather<A: Allocator + Clone>(
     madt: &Madt,
@@ -43,7 +43,7 @@ fn gather<A: Allocator + Clone>(
 
 /// The interrupt model and the processors of a MADT, out of its bytes.
 ///
-/// Refuses with `InvalidMadt` for the first fault, and then with `AllocError` if memory for a model of APICs
+/// Fails with `InvalidMadt` for the first fault, and then with `AllocError` if memory for a model of APICs
 /// is refused.
 pub(crate) fn model_in<A: Allocator + Clone>(
     madt: &Madt,

@@ -11,7 +11,7 @@ use std::alloc::Allocator;
 /// (sections 5.2.9 and 5.2.12.5).
 #[derive(Clone, Copy, Debug)]
 pub struct IsaInterrupt {
-    /// Global System Interrupt: its number. `Apic::io_apic_for` says the I/O APIC and the pin.
+    /// Global System Interrupt: its number. `Apic::io_apic_for` returns the I/O APIC and the pin.
     pub global_system_interrupt: u32,
     /// Polarity: the level at which the interrupt counts as raised, `ActiveHigh` or `ActiveLow`.
     pub polarity: Polarity,
@@ -26,7 +26,7 @@ impl<A: Allocator> Apic<A> {
     /// Global System Interrupt of one of the 16 ISA interrupts, by the Interrupt Source Overrides (section
     /// 5.2.12.5).
     ///
-    /// Of the overrides of a source the last one counts. If `irq` has an override, the answer is what that
+    /// Of the overrides of a source the last one counts. If `irq` has an override, the result is what that
     /// says, with ISA's own `ActiveHigh` and `Edge` in place of `SameAsBus`. Otherwise it is the interrupt
     /// of the same number, `ActiveHigh` and `Edge`.
     ///
@@ -50,7 +50,7 @@ impl<A: Allocator> Apic<A> {
     /// that the FADT gives as SCI_INT (`Fadt::sci_interrupt`; section 5.2.9: it may be shared, and is
     /// raised by the low level).
     ///
-    /// Below 16 it is wired as the last Interrupt Source Override of that ISA source says (section
+    /// Below 16 it is wired by the last Interrupt Source Override of that ISA source (section
     /// 5.2.12.5), with `ActiveLow` and `Level` in place of `SameAsBus`. Without an override, and from 16
     /// on, it is the interrupt of that number, `ActiveLow` and `Level`.
     pub fn sci_interrupt(&self, sci: u16) -> IsaInterrupt

@@ -59,7 +59,7 @@ impl IsaOverrides {
         self.leads[source] = leads;
     }
 
-    /// What `Apic::isa_interrupt` answers for an ISA interrupt, if the overrides that were added are all.
+    /// What `Apic::isa_interrupt` returns for an ISA interrupt, if the overrides that were added are all.
     pub fn isa_interrupt(&self, irq: u8) -> Option<IsaInterrupt>
         ensures { (overrides : _) → IsGathered overrides self.now → result ≡ isa_interrupt overrides irq }
     {

@@ -24,7 +24,7 @@ impl<'h, H: Lender> PhysicalMapping<'h, H, Madt> {
     ghost use Rattle.acpi_base.specs.Model.{items_of};
 
     /// What the entries say, in order, for a caller with no heap: `parse_interrupt_model_in` sorts
-    /// the same items into lists. Whether an entry is refused, `model_counts` says first.
+    /// the same items into lists. `model_counts` fails first, if an entry is malformed.
     #[tactic(auto, using(crate::proofs::EntryLists::said_items))]
     pub fn items(&self) -> MadtItems<'_>
         ensures items { items_left result ≡ items_of (bytes_of self.now) }
@@ -37,7 +37,7 @@ impl<'h, H: Lender> PhysicalMapping<'h, H, Madt> {
 
     /// How many items of each sort the entries say, and whether any is of a model of APICs.
     ///
-    /// Refuses as `parse_interrupt_model_in`, with `InvalidMadt` for the first entry that is at fault.
+    /// Fails as `parse_interrupt_model_in`, with `InvalidMadt` for the first entry that is at fault.
     pub fn model_counts(&self) -> AcpiResult<Counts>
         ensures { result ≡ model_counts (bytes_of self.now) }
     {

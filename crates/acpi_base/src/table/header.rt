@@ -71,7 +71,7 @@ impl SdtHeader {
     /// one that is passed, the ids are texts, the length fits, and that many bytes sum to 0 modulo 256.
     /// Bytes after the length don't count.
     ///
-    /// Refuses, in this order, with `SdtInvalidSignature` if the signature is another or is not valid
+    /// Fails, in this order, with `SdtInvalidSignature` if the signature is another or is not valid
     /// UTF-8, `SdtInvalidOemId` and `SdtInvalidTableId` if that id is not valid UTF-8,
     /// `SdtInvalidLength` if the length is under 36 or above the number of bytes, and `SdtInvalidChecksum`
     /// if that many bytes don't sum to 0 modulo 256.

@@ -128,7 +128,7 @@ impl<'h, H: Lender> ValidTable<'h, H> {
 
 /// The bytes of the table at a physical address, if it is valid for `T` (section 5.2.6).
 ///
-/// Refuses as `map_table` does.
+/// Fails as `map_table` does.
 #[inline(always)]
 #[tactic(auto, using(crate::proofs::AllowedRanges::asked_header, crate::proofs::AllowedRanges::asked_whole), unfolding(crate::specs::Table::table_at))]
 pub fn valid_at<'h, H: Lender, T: AcpiTable>(
@@ -151,10 +151,10 @@ pub fn valid_at<'h, H: Lender, T: AcpiTable>(
 
 /// The table at a physical address, if it is valid for `T` (sections 5.2.5 and 5.2.6).
 ///
-/// Refuses, in this order, with `MapFailed` if 36 bytes aren't lent, `SdtInvalidSignature` if the signature
+/// Fails, in this order, with `MapFailed` if 36 bytes aren't lent, `SdtInvalidSignature` if the signature
 /// is another or is not valid UTF-8, `SdtInvalidOemId` and `SdtInvalidTableId` if that id is not valid
 /// UTF-8, `SdtInvalidLength` if the length in the header is under `T::MIN_LENGTH`, `MapFailed` if that many
-/// bytes aren't lent, and with the refusal of `T::validate` for these bytes.
+/// bytes aren't lent, and with the error of `T::validate` for these bytes.
 #[inline(always)]
 pub fn map_table<'h, H: Lender, T: AcpiTable>(
     handler: &'h H,
@@ -205,7 +205,7 @@ fn map_by_header_and_sum<'h, H: Lender>(
 /// The table at a physical address under a signature that is known only at run time, mapped as its header
 /// (section 5.2.6): of least length 36, and with only the checks of `SdtHeader::validate`.
 ///
-/// Refuses as `map_table` does for a type with that signature, the least length 36 and these checks.
+/// Fails as `map_table` does for a type with that signature, the least length 36 and these checks.
 #[inline(always)]
 #[tactic(auto, using(crate::proofs::AllowedRanges::asked_header, crate::proofs::AllowedRanges::asked_whole), unfolding(crate::specs::Table::table_at))]
 pub fn map_sdt<'h, H: Lender>(
@@ -231,7 +231,7 @@ pub fn map_sdt<'h, H: Lender>(
 /// The table at a physical address under the signature that it has itself, whatever that is, mapped as
 /// its header (section 5.2.6).
 ///
-/// Refuses as `map_sdt` does for that signature.
+/// Fails as `map_sdt` does for that signature.
 #[tactic(auto, using(crate::proofs::OwnTable::own_table, crate::proofs::AllowedRanges::asked_own_header, crate::proofs::AllowedRanges::asked_own), unfolding(crate::specs::Table::own_table_at))]
 pub fn map_own_sdt<'h, H: Lender>(
     handler: &'h H,

@@ -44,7 +44,7 @@ pub struct Madt {
     /// Local Interrupt Controller Address: the physical address of each processor's local APIC, unless a
     /// Local APIC Address Override gives another.
     pub local_apic_address: u32,
-    /// Flags: bit 0 PCAT_COMPAT, the machine has a pair of 8259 controllers too. `supports_8259()` says so.
+    /// Flags: bit 0 PCAT_COMPAT, the machine has a pair of 8259 controllers too (`supports_8259()`).
     pub flags: u32,
 }
 
@@ -148,7 +148,7 @@ impl<'h, H: Lender> PhysicalMapping<'h, H, Madt> {
     /// MailBoxAddress: the physical address of the mailbox by which processors are woken, that of the first
     /// Multiprocessor Wakeup entry (section 5.2.12.19).
     ///
-    /// Refuses, if no such entry is found, with `InvalidMadt(InvalidEntryLength)` if the entries end
+    /// Fails, if no such entry is found, with `InvalidMadt(InvalidEntryLength)` if the entries end
     /// malformed, and else with `InvalidMadt(UnexpectedEntry)`. Entries after a malformed one aren't found.
     pub fn get_mpwk_mailbox_addr(&self) -> AcpiResult<u64>
         ensures { result ≡ mailbox_of (bytes_of self.now) }
@@ -160,7 +160,7 @@ impl<'h, H: Lender> PhysicalMapping<'h, H, Madt> {
     /// are any, in memory of an allocator. It is `Unknown`, without processors, if no entry is of APICs; no
     /// memory is then asked for.
     ///
-    /// Refuses with `InvalidMadt` for the first entry that is at fault, with the first of these that holds:
+    /// Fails with `InvalidMadt` for the first entry that is at fault, with the first of these that holds:
     ///
     /// - `InvalidEntryLength` if it is malformed;
     /// - `UnexpectedEntry` for the types of SAPICs and of the GIC (6 to 8, and 0xb to 0xf);
@@ -170,7 +170,7 @@ impl<'h, H: Lender> PhysicalMapping<'h, H, Madt> {
     /// - `MpsIntiInvalidTriggerMode` for one of these two if bits 2 and 3 of its flags are 2;
     /// - `InvalidLocalNmiLine` for a Local APIC NMI or a Local x2APIC NMI whose LINT# is neither 0 nor 1.
     ///
-    /// Then it refuses with `AllocError` if memory is refused, or a clone of the allocator.
+    /// Then it fails with `AllocError` if memory runs out, also for a clone of the allocator.
     pub fn parse_interrupt_model_in<A: Allocator + Clone>(
         &self,
         allocator: A,

@@ -141,7 +141,7 @@ impl Spcr {
     /// Base Address: the generic address (section 5.2.3.2) of the serial port's registers, or `None` if all
     /// twelve bytes are zero: console redirection is then off.
     ///
-    /// The address is refused with `InvalidGenericAddress` if it has a reserved code.
+    /// Fails with `InvalidGenericAddress` if the address has a reserved code.
     pub fn base_address(&self) -> Option<AcpiResult<GenericAddress>>
         ensures { result ≡ base_of self.now }
     {
@@ -306,7 +306,7 @@ impl<'h, H: Lender> PhysicalMapping<'h, H, Spcr> {
     /// NamespaceString: the name of the port's object in the ACPI namespace, or `.` if it has none. It has
     /// NamespaceStringLength bytes, from NamespaceStringOffset on, counted from the table's first byte.
     ///
-    /// Refuses with `InvalidNamespaceString` if these bytes reach past the table's end, or are not valid
+    /// Fails with `InvalidNamespaceString` if these bytes reach past the table's end, or are not valid
     /// UTF-8.
     pub fn namespace_string(&self) -> AcpiResult<&str>
         ensures { Shows result (namespace_of (bytes_of self.now)) }

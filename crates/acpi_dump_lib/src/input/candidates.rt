@@ -91,7 +91,7 @@ fn push_candidates(found: &mut Vec<Candidate>, start: u64, bytes: &[u8]) -> Resu
 
 /// The candidates that a memory has, in ascending order.
 ///
-/// Refuses if memory runs out.
+/// Fails if memory runs out.
 pub(crate) fn candidates(
     alloc: Global,
     image: &MemoryImage<'_>,
@@ -115,7 +115,7 @@ pub(crate) fn ebda_of(lent: &[u8]) -> Option<u64> {
 /// The addresses of the valid candidates that the BIOS areas have, those from 0xe0000 on first, or else
 /// of all valid candidates.
 ///
-/// Refuses if memory runs out.
+/// Fails if memory runs out.
 pub(crate) fn starts(
     alloc: Global,
     found: &[Candidate],

@@ -169,7 +169,7 @@ fn gather_own<S: Sources, E: Write>(
 /// The input that words name, or the machine's own tables if there are no words. It answers `None`, after saying
 /// why, if something isn't there or isn't what it should be.
 ///
-/// Refuses if memory runs out.
+/// Fails if memory runs out.
 pub(crate) fn gather<S: Sources, E: Write>(
     alloc: Global,
     names: &[&str],

@@ -6,7 +6,7 @@ use std::alloc::{AllocError, Global};
 
 /// The image whose one record has these bytes from a physical address on.
 ///
-/// Refuses if memory runs out.
+/// Fails if memory runs out.
 #[tactic(auto, using(crate::proofs::Records::number_spelled))]
 pub(crate) fn image_of(alloc: Global, address: u64, bytes: &[u8]) -> Result<Vec<u8>, AllocError>
     ensures { IfOk result (λ v. v.items

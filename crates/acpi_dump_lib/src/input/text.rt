@@ -179,9 +179,9 @@ impl Reading {
 /// The tables that a text spells, in order. A line outside a table that is neither heading, row nor blank is
 /// passed over.
 ///
-/// Refuses with `Line` at the first line that is wrong: a row outside a table, or in a table a row whose offset
+/// Fails with `Line` at the first line that is wrong: a row outside a table, or in a table a row whose offset
 /// isn't the number of the bytes before it or whose pairs can't be read, or a line that is neither row, heading nor
-/// blank. It refuses with `OutOfMemory` if memory is refused.
+/// blank. It refuses with `OutOfMemory` if memory runs out.
 #[tactic(auto, using(crate::proofs::Lines::lines_end, crate::proofs::Lines::lines_wrong, crate::proofs::Lines::lines_more, crate::proofs::Lines::after_shorter))]
 pub(crate) fn tables_in(alloc: Global, text: &str) -> Result<Vec<SpelledTable>, TextError>
     ensures spelled { IfOk result (λ v. tables_of text.now ≡ Ok (spelled_in v.items)) }

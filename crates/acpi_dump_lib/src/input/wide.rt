@@ -9,7 +9,7 @@ pub(crate) fn is_wide(bytes: &[u8]) -> bool {
 
 /// The text after the mark, with `?` in place of what isn't ASCII.
 ///
-/// Refuses if memory runs out.
+/// Fails if memory runs out.
 pub(crate) fn narrowed(alloc: Global, bytes: &[u8]) -> Result<Vec<u8>, AllocError> {
     let mut text = Vec::new(alloc);
     for unit in bytes.get(2..).unwrap_or(&[]).chunks(2) {

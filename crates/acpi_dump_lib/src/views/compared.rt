@@ -10,7 +10,7 @@ use std::io::Write;
 
 /// Prints what differs between two inputs.
 ///
-/// Refuses if memory runs out.
+/// Fails if memory runs out.
 pub(crate) fn print_compared<W: Write, E: Write>(
     output: Output<'_, '_>,
     first: &Input,

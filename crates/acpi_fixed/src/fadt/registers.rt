@@ -15,7 +15,7 @@ pub(super) use gpe::base_beside;
 
 /// The 64-bit address if it is not 0, else the 32-bit one.
 ///
-/// Refuses with `refusal` if that is 0.
+/// Fails with `refusal` if that is 0.
 pub(crate) fn address_from(refusal: AcpiError, wide: u64, narrow: u32) -> AcpiResult<u64>
     ensures { result ≡ address_or refusal wide narrow }
 {
@@ -100,7 +100,7 @@ impl RegisterBlock {
 
     /// The ports of the first versions, eight bits for each byte.
     ///
-    /// Refuses with `InvalidGenericAddress` if these are 32 bytes or more, more than a width can say.
+    /// Fails with `InvalidGenericAddress` if these are 32 bytes or more, more than a width can say.
     fn ports(&self) -> AcpiResult<GenericAddress>
         ensures { result ≡ ports_at (port_of self.now) self.now.size }
     {
@@ -118,7 +118,7 @@ impl RegisterBlock {
 
     /// The extended block if its address is not 0, else the ports.
     ///
-    /// Refuses with `InvalidGenericAddress` reserved codes in the extended block, and 32 bytes of
+    /// Fails with `InvalidGenericAddress` reserved codes in the extended block, and 32 bytes of
     /// ports and more.
     pub(crate) fn block(&self) -> AcpiResult<GenericAddress>
         ensures { result ≡ block_of self.now }
@@ -132,7 +132,7 @@ impl RegisterBlock {
     /// The extended block if its address is not 0, else the ports, of a block that a machine need not have:
     /// `None` if neither field gives an address.
     ///
-    /// Refuses as `block` does.
+    /// Fails as `block` does.
     pub(crate) fn optional_block(&self) -> AcpiResult<Option<GenericAddress>>
         ensures { result ≡ optional_block_of self.now }
     {

@@ -31,7 +31,7 @@ impl PhysicalRecord for Unread {
 }
 
 /// A Fixed ACPI Description Table in its lent bytes (section 5.2.9), which stay lent until this is dropped. A
-/// call reads what it answers from them, and answers or refuses as the call or the field of that name of
+/// call reads from them, and returns the value or the error of the call or the field of that name of
 /// `Fadt` does.
 #[derive(Drop)]
 pub struct FadtView<'h, H: Lender> {

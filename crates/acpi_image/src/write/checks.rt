@@ -27,7 +27,7 @@ fn is_table(bytes: &[u8]) -> bool
 
 /// Tests the bytes of each table.
 ///
-/// Refuses with `BadTable` for the first whose bytes are not a table.
+/// Fails with `BadTable` for the first whose bytes are not a table.
 fn check_tables(tables: &[PlacedTable<'_>]) -> Result<(), WriteError>
     ensures { result ≡ checks.check_tables 0 (placed tables.now) }
 {
@@ -90,7 +90,7 @@ pub(super) fn root_length(revision: u8, count: usize) -> usize
 
 /// Tests what is to be written.
 ///
-/// Refuses as `write_image` does, but for `OutOfMemory`.
+/// Fails as `write_image` does, but for `OutOfMemory`.
 #[tactic(auto, unfolding(crate::specs::WriteChecks::check_plan))]
 pub(super) fn check_plan<A: Allocator + Clone>(
     alloc: A,

@@ -72,7 +72,7 @@ fn shares_with_listed<A: Allocator>(starts: &BTreeMap<u64, u64, A>, place: Addre
 
 /// Lists a place by its start, which shares no byte with those that are listed.
 ///
-/// Refuses if memory for it is refused.
+/// Fails if memory for it is refused.
 fn add_place<A: Allocator + Clone>(
     starts: &mut BTreeMap<u64, u64, A>,
     place: AddressRange,
@@ -90,7 +90,7 @@ fn add_place<A: Allocator + Clone>(
 /// Whether a table shares a byte with one before it, or with a place that is listed. Up to the first such
 /// table it lists the tables too.
 ///
-/// Refuses if memory for one is refused.
+/// Fails if memory for one is refused.
 fn tables_share<A: Allocator + Clone>(
     starts: &mut BTreeMap<u64, u64, A>,
     tables: &[PlacedTable<'_>],
@@ -111,7 +111,7 @@ fn tables_share<A: Allocator + Clone>(
 
 /// Whether some byte lies in two of the places, by a list of their starts.
 ///
-/// Refuses if memory for the list is refused.
+/// Fails if memory for the list is refused.
 fn some_share_by_starts<A: Allocator + Clone>(
     alloc: A,
     rsdp: AddressRange,
@@ -157,7 +157,7 @@ fn all_fit(tables: &[PlacedTable<'_>]) -> bool
 
 /// Tests the places that the records are to lie at.
 ///
-/// Refuses, in this order, with `EndTooLarge` and `Overlap`.
+/// Fails, in this order, with `EndTooLarge` and `Overlap`.
 #[tactic(auto, unfolding(crate::specs::WriteChecks::check_places))]
 pub(super) fn check_places<A: Allocator + Clone>(
     alloc: A,

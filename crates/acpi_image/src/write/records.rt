@@ -59,7 +59,7 @@ fn rsdp_to(revision: u8, root: u64) -> [u8; 36]
 
 /// Puts bytes after those of a file.
 ///
-/// Refuses with `OutOfMemory` if memory for them is refused.
+/// Fails with `OutOfMemory` if memory for them is refused.
 fn put<A: Allocator>(file: &mut Vec<u8, A>, bytes: &[u8]) -> Result<(), WriteError>
     ensures put { OnOk result (file.new.items ≡ file.old.items ++ bytes.now) }
     ensures refused { IfErr result (λ e. e ≡ OutOfMemory) }
@@ -72,7 +72,7 @@ fn put<A: Allocator>(file: &mut Vec<u8, A>, bytes: &[u8]) -> Result<(), WriteErr
 
 /// Puts the low bytes of a number, the lowest first.
 ///
-/// Refuses with `OutOfMemory`.
+/// Fails with `OutOfMemory`.
 #[tactic(auto, using(crate::proofs::Written::low_bytes))]
 fn put_number<A: Allocator>(
     file: &mut Vec<u8, A>,
@@ -88,7 +88,7 @@ fn put_number<A: Allocator>(
 
 /// Puts the start and the length that a record begins with.
 ///
-/// Refuses with `OutOfMemory`.
+/// Fails with `OutOfMemory`.
 fn put_head<A: Allocator>(file: &mut Vec<u8, A>, start: u64, count: usize) -> Result<(), WriteError>
     ensures put { OnOk result
         (file.new.items ≡ file.old.items ++ spelling 8 start ++ spelling 8 count) }
@@ -101,7 +101,7 @@ fn put_head<A: Allocator>(file: &mut Vec<u8, A>, start: u64, count: usize) -> Re
 /// Puts the record of an RSDP at a physical address (section 5.2.5.3), which leads to the root table at
 /// `root`: an RSDT for revision 0, otherwise an XSDT.
 ///
-/// Refuses with `OutOfMemory` if memory for it is refused.
+/// Fails with `OutOfMemory` if memory for it is refused.
 pub fn put_rsdp<A: Allocator>(
     file: &mut Vec<u8, A>,
     address: u64,
@@ -131,7 +131,7 @@ fn root_header(revision: u8, length: usize) -> [u8; 36]
 
 /// Puts the addresses of tables, in order, as pointers of this width.
 ///
-/// Refuses with `OutOfMemory`.
+/// Fails with `OutOfMemory`.
 fn put_pointers<A: Allocator>(
     file: &mut Vec<u8, A>,
     revision: u8,
@@ -151,7 +151,7 @@ fn put_pointers<A: Allocator>(
 
 /// Puts a root table that lists these tables.
 ///
-/// Refuses with `OutOfMemory`.
+/// Fails with `OutOfMemory`.
 fn put_table_of_pointers<A: Allocator>(
     file: &mut Vec<u8, A>,
     revision: u8,
@@ -174,7 +174,7 @@ fn put_table_of_pointers<A: Allocator>(
 /// Puts the record of the root table at a physical address that lists these tables: an RSDT (section 5.2.7)
 /// for revision 0, otherwise an XSDT (section 5.2.8).
 ///
-/// Refuses with `OutOfMemory` if memory for it is refused.
+/// Fails with `OutOfMemory` if memory for it is refused.
 pub fn put_root_table<A: Allocator>(
     file: &mut Vec<u8, A>,
     address: u64,
@@ -193,7 +193,7 @@ pub fn put_root_table<A: Allocator>(
 
 /// Puts the record of bytes at a physical address, as they are.
 ///
-/// Refuses with `OutOfMemory` if memory for it is refused.
+/// Fails with `OutOfMemory` if memory for it is refused.
 pub fn put_region<A: Allocator>(
     file: &mut Vec<u8, A>,
     address: u64,
@@ -209,7 +209,7 @@ pub fn put_region<A: Allocator>(
 
 /// Puts the record of a table, with Checksum, byte 9, set.
 ///
-/// Refuses with `OutOfMemory`.
+/// Fails with `OutOfMemory`.
 fn put_table<A: Allocator>(file: &mut Vec<u8, A>, table: &PlacedTable<'_>) -> Result<(), WriteError>
     requires { 36 ≤ length table.now.bytes.now }
     ensures put { OnOk result (file.new.items
@@ -225,7 +225,7 @@ fn put_table<A: Allocator>(file: &mut Vec<u8, A>, table: &PlacedTable<'_>) -> Re
 
 /// Puts the records of an image: of the RSDP, of the root table, and of each table in order.
 ///
-/// Refuses with `OutOfMemory`.
+/// Fails with `OutOfMemory`.
 pub(super) fn put_records<A: Allocator>(
     file: &mut Vec<u8, A>,
     rsdp_address: u64,

@@ -68,7 +68,7 @@ impl MemoryAffinities<Global> {
     /// The ranges of the first valid SRAT, in the order of the table, in memory of the global allocator:
     /// those of its enabled Memory Affinity Structures that have at least one byte (section 5.2.16.2).
     ///
-    /// Refuses, in this order, with `Acpi(TableMissing)` if no valid SRAT is listed; with
+    /// Fails, in this order, with `Acpi(TableMissing)` if no valid SRAT is listed; with
     /// `InvalidEntryLength` if the entries end before the table does, since half a map is no map; with
     /// `InvalidMemoryRange` if the base and the length of one add up to more than 2^64 - 1; and with
     /// `Acpi(AllocError)` if memory is refused, and that only if there is a range.
@@ -98,7 +98,7 @@ impl<A: Allocator> MemoryAffinities<A> {
     /// The ranges of the first valid SRAT, in the order of the table, in memory of an allocator: those of
     /// its enabled Memory Affinity Structures that have at least one byte (section 5.2.16.2).
     ///
-    /// Refuses, in this order, with `Acpi(TableMissing)` if no valid SRAT is listed; with
+    /// Fails, in this order, with `Acpi(TableMissing)` if no valid SRAT is listed; with
     /// `InvalidEntryLength` if the entries end before the table does, since half a map is no map; with
     /// `InvalidMemoryRange` if the base and the length of one add up to more than 2^64 - 1; and with
     /// `Acpi(AllocError)` if memory is refused, and that only if there is a range.
@@ -130,7 +130,7 @@ impl<A: Allocator> MemoryAffinities<A> {
     /// its enabled Memory Affinity Structures that have at least one byte (section 5.2.16.2). It needs no
     /// handler.
     ///
-    /// Refuses, in this order, with `InvalidEntryLength` if the entries end before the table does; with
+    /// Fails, in this order, with `InvalidEntryLength` if the entries end before the table does; with
     /// `InvalidMemoryRange` if the base and the length of one add up to more than 2^64 - 1; and with
     /// `Acpi(AllocError)` if memory is refused, and that only if there is a range.
     pub fn over(table: &[u8], allocator: A) -> NumaResult<Self>
@@ -182,7 +182,7 @@ fn domain_at(ranges: &[MemoryRange], address: u64) -> Option<u32>
 
 /// How many ranges of memory a SRAT's bytes put into domains, from the table's first byte on.
 ///
-/// Refuses, in this order, with `InvalidEntryLength` if the entries end before the table does, and with
+/// Fails, in this order, with `InvalidEntryLength` if the entries end before the table does, and with
 /// `InvalidMemoryRange` if one of these ranges ends above 2^64 - 1.
 #[tactic(auto, using(crate::proofs::SratCounts::ranges_few))]
 pub fn counted(table: &[u8]) -> NumaResult<usize>

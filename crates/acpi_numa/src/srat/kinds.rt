@@ -184,7 +184,7 @@ pub struct GenericAffinity {
     pub handle_type: u8,
     /// Proximity Domain: the domain of the device or the port.
     pub domain: u32,
-    /// Device Handle: 16 bytes that name the device, as Device Handle Type says.
+    /// Device Handle: 16 bytes that name the device, in the form of Device Handle Type.
     pub device_handle: [u8; 16],
     /// Flags: bit 0 Enabled, the entry counts. Bit 1 Architectural Transactions, all transactions of the
     /// device are architectural ones.

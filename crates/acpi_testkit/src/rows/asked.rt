@@ -10,20 +10,20 @@ use std::{fs, io};
 pub trait Answers {
     /// The answer to a question about a row. It is empty if there is no such question.
     ///
-    /// Refuses if memory for it is refused.
+    /// Fails if memory for it is refused.
     fn answer(&self, alloc: Global, row: &Row, question: &str) -> Result<String, AllocError>;
 }
 
 /// The text that `Debug` prints of a value.
 ///
-/// Refuses if memory for it is refused.
+/// Fails if memory for it is refused.
 pub fn shown<T: Debug>(alloc: Global, value: &T) -> Result<String, AllocError> {
     format!(in alloc; "{value:?}")
 }
 
 /// The text that `Display` prints of a value.
 ///
-/// Refuses if memory for it is refused.
+/// Fails if memory for it is refused.
 pub fn printed<T: Display>(alloc: Global, value: &T) -> Result<String, AllocError> {
     format!(in alloc; "{value}")
 }
@@ -60,7 +60,7 @@ impl Asked {
 /// Prints each question with another answer than the row has, each line that is not understood,
 /// and at last how many questions there were.
 ///
-/// Refuses if reading or a write is refused, or memory runs out.
+/// Fails if reading or a write fails, or memory runs out.
 pub fn ask_files<A: Answers>(rt: &HostRuntime, answers: &A) -> io::Result<()> {
     let mut asked = Asked {
         count: 0,

@@ -25,7 +25,7 @@ impl Margins {
 
 /// Adds a record of a table at a physical address to a file, with bytes around it.
 ///
-/// Refuses if memory for it is refused.
+/// Fails if memory for it is refused.
 pub fn add_record(
     file: &mut Vec<u8>,
     address: u64,

@@ -14,7 +14,7 @@ pub trait Line {
 
     /// Prints the item's line, with its newline.
     ///
-    /// Refuses if a write is refused.
+    /// Fails if a write fails.
     fn print<W: Write>(&self, out: &mut W) -> io::Result<()>
         ensures { OnOk result (Appends (W.contents out.old) (W.contents out.new)
             (line self.now)) };
@@ -30,7 +30,7 @@ pub trait Walk: Iterator {
 
     /// Prints an item's line, with its newline.
     ///
-    /// Refuses if a write is refused.
+    /// Fails if a write fails.
     fn print_item<W: Write>(item: Self::Item, out: &mut W) -> io::Result<()>
         ensures { OnOk result (Appends (W.contents out.old) (W.contents out.new)
             (item_line item)) };
@@ -43,7 +43,7 @@ pub trait Walk: Iterator {
 
 /// Prints the line of each item, in order.
 ///
-/// Refuses with the refusal of the first write that is refused.
+/// Fails with the error of the first write that is refused.
 pub fn print_walk<I: Walk, W: Write>(items: I, out: &mut W) -> io::Result<()>
     requires can { I.can_next items }
     requires ends { IsFinite (I.remaining items) }
@@ -77,7 +77,7 @@ impl<L: Line> Walk for Iter<'_, L> {
 
 /// Prints the line of each item, in order.
 ///
-/// Refuses with the refusal of the first write that is refused.
+/// Fails with the error of the first write that is refused.
 pub fn print_each<L: Line, W: Write>(items: &[L], out: &mut W) -> io::Result<()>
     ensures { OnOk result (Appends (W.contents out.old) (W.contents out.new)
         (flat_map L.line items.now)) }

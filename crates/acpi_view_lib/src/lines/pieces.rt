@@ -49,7 +49,7 @@ fn write_piece<W: Write>(piece: Piece<'_>, out: &mut W) -> io::Result<()>
 
 /// Writes these pieces in order, and a newline.
 ///
-/// Refuses with the refusal of the first write that is refused.
+/// Fails with the error of the first write that is refused.
 pub fn write_line<W: Write>(pieces: &[Piece<'_>], out: &mut W) -> io::Result<()>
     ensures { OnOk result (Appends (W.contents out.old) (W.contents out.new)
         (line (map piece_text pieces.now))) }

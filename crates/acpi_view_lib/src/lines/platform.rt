@@ -26,7 +26,7 @@ use std::io::Write;
 /// Prints the lines of the platform, as the FADT and the MADT describe it, or the one line of its refusal.
 /// Memory for it is an allocator's.
 ///
-/// Refuses with the refusal of the first write that is refused.
+/// Fails with the error of the first write that is refused.
 pub fn print_platform<H: AcpiHandler, A: Allocator + Clone, W: Write>(
     alloc: A,
     tables: &AcpiTables<'_, H>,

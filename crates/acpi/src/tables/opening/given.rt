@@ -18,7 +18,7 @@ impl<'h, H: Lender> AcpiTables<'h, H> {
     /// 5.2.5.1): the RSDT if the RSDP's revision or XSDT address is 0, else the XSDT. No later candidate
     /// is tried if the root table is bad.
     ///
-    /// Refuses first as that search does, with `NoValidRsdp`, and then as `from_rsdt` does.
+    /// Fails first as that search does, with `NoValidRsdp`, and then as `from_rsdt` does.
     #[tactic(auto, using(crate::proofs::Agreed::same_opened_in_areas))]
     pub fn search_in(handler: &'h H, areas: &[AddressRange]) -> AcpiResult<Self>
         requires { Allows (H.may handler.now)

@@ -57,7 +57,7 @@ impl TryFrom<u16> for MpProtectedModeWakeupCommand {
 
     /// The command of a number, from 0 to 3 (section 5.2.12.19).
     ///
-    /// Refuses every other number, with that number.
+    /// Fails for every other number, with that number.
     fn try_from(number: u16) -> Result<MpProtectedModeWakeupCommand, u16> {
         match number {
             0 => Ok(MpProtectedModeWakeupCommand::Noop),

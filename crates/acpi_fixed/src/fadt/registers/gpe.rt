@@ -86,7 +86,7 @@ impl Fadt {
     }
 
     /// X_GPE1_BLK or GPE1_BLK with GPE1_BLK_LEN: the registers of further general purpose events (sections
-    /// 4.8.4.1 and 5.2.9), found as those of `gpe0`. `gpe1_base()` says which event is their first.
+    /// 4.8.4.1 and 5.2.9), found as those of `gpe0`. `gpe1_base()` is their first event.
     ///
     /// Refuses a reserved address space with `InvalidGenericAddress`.
     pub fn gpe1(&self) -> AcpiResult<Option<GpeBlock>>
