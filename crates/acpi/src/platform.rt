@@ -111,13 +111,8 @@ impl<A: Allocator + Clone> PlatformInfo<A> {
         requires { AllowsBelow tables.now platform_ranges }
         ensures { GivesPlatform tables.now result }
     {
-        match tables.find_fadt_exact() {
-            Ok(fadt) => {
-                let timer = PmTimer::of(&fadt);
-                PlatformInfo::beside(fadt.power_profile(), timer, tables, allocator)
-            }
-            Err(error) => Err(error),
-        }
+        let fadt = tables.find_fadt_exact()?;
+        PlatformInfo::beside(fadt.power_profile(), PmTimer::of(&fadt), tables, allocator)
     }
 
     /// The platform of the first valid MADT, and of what the FADT says: a profile, and a timer or its
@@ -132,18 +127,14 @@ impl<A: Allocator + Clone> PlatformInfo<A> {
         ensures { GivesOrFull (of_tables tables.now ModelAsks) result
             (of_tables tables.now platform_beside power_profile timer) }
     {
-        match found_model(tables, allocator) {
-            Ok((interrupt_model, processor_info)) => match timer {
-                Ok(pm_timer) => Ok(PlatformInfo {
-                    power_profile,
-                    interrupt_model,
-                    processor_info,
-                    pm_timer,
-                }),
-                Err(error) => Err(error),
-            },
-            Err(error) => Err(error),
-        }
+        let (interrupt_model, processor_info) = found_model(tables, allocator)?;
+        let pm_timer = timer?;
+        Ok(PlatformInfo {
+            power_profile,
+            interrupt_model,
+            processor_info,
+            pm_timer,
+        })
     }
 }
 

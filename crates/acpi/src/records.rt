@@ -61,8 +61,6 @@ pub(crate) fn stream_at<H: Lender>(
         (table_ranges (H.memory handler.now) (plain_kind signature) address) }
     ensures { result ≡ stream_at (H.memory handler.now) signature address }
 {
-    match map_sdt(handler, address, signature) {
-        Ok(table) => Ok(aml_behind(&table)),
-        Err(error) => Err(error),
-    }
+    let table = map_sdt(handler, address, signature)?;
+    Ok(aml_behind(&table))
 }

@@ -96,10 +96,8 @@ impl<'h, H: Lender> AcpiTables<'h, H> {
         ensures found { Gives (λ m. (start_of m, bytes_of m)) result
             (of_tables self.now (λ m. lookup m T.kind)) }
     {
-        match self.first_valid::<T>() {
-            Ok(found) => Ok(found.mapping()),
-            Err(error) => Err(error),
-        }
+        let found = self.first_valid::<T>()?;
+        Ok(found.mapping())
     }
 
     /// The first member of the root table that is valid for `T` (sections 5.2.7 and 5.2.8): its address
@@ -161,10 +159,8 @@ impl<'h, H: Lender> AcpiTables<'h, H> {
         ensures found { Gives (λ v. (start_of v.mapping, bytes_of v.mapping)) result
             (of_tables self.now (λ m. lookup m fadt_kind)) }
     {
-        match self.first_valid::<Fadt>() {
-            Ok(found) => Ok(FadtView::new(found)),
-            Err(error) => Err(error),
-        }
+        let found = self.first_valid::<Fadt>()?;
+        Ok(FadtView::new(found))
     }
 
     /// The headers (section 5.2.6) of all members that are valid under the signatures that they have, in
@@ -221,13 +217,9 @@ impl<'h, H: Lender> AcpiTables<'h, H> {
         requires { AllowsBelow self.now dsdt_ranges }
         ensures { result ≡ of_tables self.now dsdt_stream }
     {
-        match self.find_fadt_exact() {
-            Ok(fadt) => match fadt.dsdt_address() {
-                Ok(address) => stream_at(self.root.handler(), Signature::DSDT, address),
-                Err(error) => Err(error),
-            },
-            Err(error) => Err(error),
-        }
+        let fadt = self.find_fadt_exact()?;
+        let address = fadt.dsdt_address()?;
+        stream_at(self.root.handler(), Signature::DSDT, address)
     }
 
     /// Why members were passed over in a lookup of `T`: the address and the error of each member

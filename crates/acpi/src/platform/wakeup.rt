@@ -72,10 +72,7 @@ fn mailbox_address<H: Lender>(tables: &AcpiTables<'_, H>) -> AcpiResult<u64>
     requires { AllowsBelow tables.now (λ m. lookup_ranges m madt_kind) }
     ensures { result ≡ of_tables tables.now mailbox_found }
 {
-    match tables.find_table::<Madt>() {
-        Ok(madt) => madt.get_mpwk_mailbox_addr(),
-        Err(error) => Err(error),
-    }
+    tables.find_table::<Madt>()?.get_mpwk_mailbox_addr()
 }
 
 /// Wakes a processor by the mailbox at an address.

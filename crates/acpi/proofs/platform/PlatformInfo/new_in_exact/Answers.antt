@@ -10,4 +10,4 @@ find_fadt_exact-requires g c =
 pub beside-requires : goal.beside-requires
 beside-requires g c =
     let t = c.args.tables.now in
-    asked_model (may_of t) (memory_of t) (pointers_of t) _ c.requires c.in-Ok.ensures.found
+    asked_model (may_of t) (memory_of t) (pointers_of t) _ c.requires c.in_ok-fadt.ensures.found

@@ -14,5 +14,5 @@ find_fadt_exact-requires g c =
 pub stream_at-requires : goal.stream_at-requires
 stream_at-requires g c =
     let t = c.args.self.now in
-    subst (λ h. Allows (g.H.Lender.may h) (table_ranges (g.H.Lender.memory h) (plain_kind DSDT) c.in-Ok-dsdt_address.address)) (sym c.handler.ensures)
-    (asked_dsdt (may_of t) (memory_of t) (pointers_of t) _ _ c.requires c.in-Ok.ensures.found (sym c.in-Ok-dsdt_address.ensures))
+    subst (λ h. Allows (g.H.Lender.may h) (table_ranges (g.H.Lender.memory h) (plain_kind DSDT) c.in_ok-address.address)) (sym c.handler.ensures)
+    (asked_dsdt (may_of t) (memory_of t) (pointers_of t) _ _ c.requires c.in_ok-fadt.ensures.found (sym c.in_ok-address.ensures))
