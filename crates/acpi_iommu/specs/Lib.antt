@@ -1,0 +1,4 @@
+pub mod Dmar
+pub mod DmarScopes
+pub mod DmarUnits
+pub mod ErrorText

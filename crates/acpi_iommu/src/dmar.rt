@@ -1,0 +1,114 @@
+//! The DMA Remapping Reporting Structure (DMAR, chapter 8): which unit remaps what a device asks of memory, and which
+//! memory is reserved for a device.
+
+mod fields;
+mod reserved;
+mod scope;
+mod structure;
+mod units;
+mod walk;
+
+use acpi_base::bytes::{field_in, has_bit};
+use acpi_base::sdt::SdtHeader;
+use acpi_base::table::sum_refusal;
+use acpi_base::{AcpiResult, AcpiTable, PhysicalRecord, Signature};
+pub use fields::{Andd, Atsr, DmarFields, Drhd, Rhsa, Rmrr, Satc, Sidp};
+pub use reserved::ReservedIter;
+pub use scope::{DeviceScope, DeviceScopeIter, Hop, HopIter};
+pub use structure::DmarStructure;
+pub use units::{DmarCalls, UnitSource, Units};
+pub use walk::DmarStructureIter;
+
+/// The DMA Remapping Reporting Structure (DMAR, section 8.1). Its structures stand after 48 fixed bytes; `Units` reads
+/// them, and `DmarCalls` gives a mapping of it the same calls.
+#[derive(Debug, Drop)]
+pub struct Dmar {
+    /// The header that every table begins with.
+    pub header: SdtHeader,
+    /// Host Address Width: one less than how many bits an address has that a device can reach.
+    pub host_address_width: u8,
+    /// Flags: bit 0 INTR_REMAP, bit 1 X2APIC_OPT_OUT, bit 2 DMA_CTRL_PLATFORM_OPT_IN_FLAG.
+    pub flags: u8,
+}
+
+impl PhysicalRecord for Dmar {
+    ghost use Rattle.acpi_iommu.specs.Dmar.{dmar_at};
+
+    const MIN_LENGTH: usize = 48;
+
+    ghost MIN_LENGTH = { 48 };
+
+    ghost reading = { dmar_at };
+
+    #[tactic(auto, unfolding(crate::specs::Dmar::dmar_at))]
+    fn read(bytes: &[u8]) -> Self {
+        Dmar {
+            header: SdtHeader::read(bytes),
+            host_address_width: field_in(bytes, 36, 1) as u8, // Host Address Width
+            flags: field_in(bytes, 37, 1) as u8, // Flags
+        }
+    }
+}
+
+impl AcpiTable for Dmar {
+    ghost use Rattle.std.proofs.Common.{lit≤, refl};
+    ghost use Rattle.acpi_base.specs.Table.{sdt_kind};
+    ghost use Rattle.acpi_base.specs.declared.table.signature.TheConstants.Signature.{DMAR};
+
+    const SIGNATURE: Signature = Signature::DMAR;
+
+    ghost SIGNATURE = { DMAR };
+
+    ghost kind = { sdt_kind DMAR 48 };
+
+    #[tactic(auto, unfolding(crate::specs::Dmar::dmar_at))]
+    fn header(&self) -> &SdtHeader {
+        &self.header
+    }
+
+    fn validate(&self, bytes: &[u8]) -> AcpiResult<()> {
+        self.header().validate(Self::SIGNATURE, bytes)
+    }
+
+    fn validate_rest(bytes: &[u8]) -> AcpiResult<()> {
+        sum_refusal(Self::SIGNATURE, bytes)
+    }
+
+    ghost least = { lit≤ tt };
+
+    ghost agrees = { (refl, refl) };
+}
+
+impl Dmar {
+    ghost use Rattle.std.specs.Prelude.{◌≡◌, ◌+◌};
+    ghost use Rattle.acpi_base.specs.Bits.{has_bit};
+
+    /// Host Address Width: how many bits an address has that a device can reach, from 1 to 256.
+    pub fn address_bits(&self) -> u16
+        ensures { result ≡ self.now.host_address_width + 1 }
+    {
+        self.host_address_width as u16 + 1
+    }
+
+    /// INTR_REMAP (bit 0 of the flags): whether the platform remaps interrupts.
+    pub fn remaps_interrupts(&self) -> bool
+        ensures { result ≡ has_bit self.now.flags 0 }
+    {
+        has_bit(self.flags as u64, 0) // INTR_REMAP
+    }
+
+    /// X2APIC_OPT_OUT (bit 1 of the flags): whether the firmware asks not to enable the x2APIC mode.
+    pub fn opts_out_of_x2apic(&self) -> bool
+        ensures { result ≡ has_bit self.now.flags 1 }
+    {
+        has_bit(self.flags as u64, 1) // X2APIC_OPT_OUT
+    }
+
+    /// DMA_CTRL_PLATFORM_OPT_IN_FLAG (bit 2 of the flags): whether the firmware says that it let no device reach memory
+    /// that it wasn't given.
+    pub fn controls_dma(&self) -> bool
+        ensures { result ≡ has_bit self.now.flags 2 }
+    {
+        has_bit(self.flags as u64, 2) // DMA_CTRL_PLATFORM_OPT_IN_FLAG
+    }
+}

@@ -1,0 +1,251 @@
+//! Which unit remaps a device (section 8.3), and which memory is reserved for it (section 8.4).
+ghost use Rattle.std.specs.Prelude.{◌≡◌, false};
+ghost use Rattle.std.specs.Option.{option_map};
+ghost use Rattle.acpi_base.specs.Steps.{Gives};
+ghost use Rattle.acpi_iommu.specs.Dmar.{cut_of, drhd_at, has_ended, rest_left, structures_left, structures_of};
+ghost use Rattle.acpi_iommu.specs.DmarUnits.{dmar_bytes, is_whole, reserved_for, reserved_left, source_of};
+ghost use Rattle.acpi_iommu.specs.DmarUnits.{unit_for, unit_of_hpet, unit_of_io_apic, unit_of_others, unit_that_names};
+
+use super::Dmar;
+use super::fields::Drhd;
+use super::reserved::ReservedIter;
+use super::scope::Hop;
+use super::walk::DmarStructureIter;
+use crate::error::{IommuError, IommuResult};
+use acpi_base::{Lender, PhysicalMapping};
+
+/// A unit, and how it knows a device that sends it interrupts (section 8.3.1).
+#[derive(Clone, Copy, Debug, PartialEq, Eq)]
+pub struct UnitSource {
+    /// The unit that remaps the device's interrupts.
+    pub unit: Drhd,
+    /// Start Bus Number of the device's scope.
+    pub bus: u8,
+    /// The last hop of the scope's path, or `None` if the path has none. With one hop, bus and hop are the source id.
+    pub hop: Option<Hop>,
+}
+
+/// The units in a DMAR's bytes (chapter 8). It needs no handler.
+#[derive(Clone, Copy, Debug)]
+pub struct Units<'a> {
+    table: &'a [u8],
+}
+
+impl<'a> Units<'a> {
+    /// The units in a DMAR's bytes (chapter 8), from the table's first byte on. In fewer than 52 bytes there is no
+    /// structure.
+    pub fn over(table: &'a [u8]) -> Self
+        ensures { dmar_bytes result ≡ table.now }
+    {
+        Units { table }
+    }
+
+    /// The structures of the table, in order (section 8.2).
+    pub fn structures(&self) -> DmarStructureIter<'a>
+        ensures items { structures_left result ≡ structures_of (dmar_bytes self.now) }
+        ensures rest { rest_left result ≡ (cut_of (dmar_bytes self.now)).1 }
+        ensures begun { has_ended result ≡ false }
+    {
+        DmarStructureIter::over(self.table)
+    }
+
+    /// Whether the structures take all bytes of the table, and the scopes of each all that are theirs.
+    fn is_whole(&self) -> bool
+        ensures { result ≡ is_whole (dmar_bytes self.now) }
+    {
+        let mut all_whole = true;
+        let mut structures = self.structures();
+        while let Some(structure) = structures.next() {
+            all_whole = all_whole && structure.has_whole_scopes();
+        }
+        !structures.ended_malformed() && all_whole
+    }
+
+    /// The first unit of a segment that names the device.
+    fn unit_that_names(&self, segment: u16, bus: u8, hops: &[Hop]) -> Option<Drhd>
+        ensures { result ≡ option_map drhd_at (unit_that_names (dmar_bytes self.now) segment bus hops.now) }
+    {
+        let mut structures = self.structures();
+        while let Some(structure) = structures.next() {
+            if let Some(unit) = structure.unit_of(segment) {
+                if structure.names(bus, hops) {
+                    return Some(unit);
+                }
+            }
+        }
+        None
+    }
+
+    /// The first unit of a segment with INCLUDE_PCI_ALL.
+    fn unit_of_others(&self, segment: u16) -> Option<Drhd>
+        ensures { result ≡ option_map drhd_at (unit_of_others (dmar_bytes self.now) segment) }
+    {
+        let mut structures = self.structures();
+        while let Some(structure) = structures.next() {
+            if let Some(unit) = structure.unit_of(segment) {
+                if unit.includes_pci_all() {
+                    return Some(unit);
+                }
+            }
+        }
+        None
+    }
+
+    /// The unit that remaps a device (section 8.3), which is named by its segment, its root bus, and the hops from there to
+    /// it: the first DRHD of the segment one of whose scopes names it, else the first of the segment with
+    /// INCLUDE_PCI_ALL, else `None`. A scope of a PCI endpoint names it if its start bus is the bus and its path is the
+    /// hops, and one of a bridge if its path has a hop and the hops begin with it.
+    ///
+    /// Refuses with `InvalidStructureLength` if a structure of the table, or a scope of one, is malformed.
+    pub fn unit_for(&self, segment: u16, bus: u8, hops: &[Hop]) -> IommuResult<Option<Drhd>>
+        ensures { result ≡ unit_for (dmar_bytes self.now) segment bus hops.now }
+    {
+        if !self.is_whole() {
+            return Err(IommuError::InvalidStructureLength);
+        }
+        match self.unit_that_names(segment, bus, hops) {
+            Some(unit) => Ok(Some(unit)),
+            None => Ok(self.unit_of_others(segment)),
+        }
+    }
+
+    /// The unit that remaps the interrupts of the I/O APIC with this id (section 8.3.1): the first DRHD with a scope of
+    /// type 3 and this Enumeration ID, with the bus and the last hop of its first such scope, or `None`.
+    ///
+    /// Refuses with `InvalidStructureLength` if a structure of the table, or a scope of one, is malformed.
+    pub fn unit_of_io_apic(&self, id: u8) -> IommuResult<Option<UnitSource>>
+        ensures { result ≡ unit_of_io_apic (dmar_bytes self.now) id }
+    {
+        self.source_of(3, id)
+    }
+
+    /// The unit that remaps the interrupts of the HPET with this number (section 8.3.1): the first DRHD with a scope of
+    /// type 4 and this Enumeration ID, with the bus and the last hop of its first such scope, or `None`.
+    ///
+    /// Refuses with `InvalidStructureLength` if a structure of the table, or a scope of one, is malformed.
+    pub fn unit_of_hpet(&self, number: u8) -> IommuResult<Option<UnitSource>>
+        ensures { result ≡ unit_of_hpet (dmar_bytes self.now) number }
+    {
+        self.source_of(4, number)
+    }
+
+    /// What the first unit says that has a scope of a type with an Enumeration ID.
+    fn source_of(&self, kind: u8, id: u8) -> IommuResult<Option<UnitSource>>
+        ensures { result ≡ source_of kind (dmar_bytes self.now) id }
+    {
+        if !self.is_whole() {
+            return Err(IommuError::InvalidStructureLength);
+        }
+        let mut structures = self.structures();
+        while let Some(structure) = structures.next() {
+            if let Some(source) = structure.source(kind, id) {
+                return Ok(Some(source));
+            }
+        }
+        Ok(None)
+    }
+
+    /// The ranges of memory that are reserved for a device (section 8.4), which is named as for `unit_for`: each RMRR of
+    /// the segment one of whose scopes names it, in order.
+    ///
+    /// Refuses, in this order, with `InvalidStructureLength` if a structure of the table, or a scope of one, is malformed,
+    /// and with `InvalidMemoryRange` if the last byte of one of these ranges lies before its first.
+    pub fn reserved_for<'b>(
+        &self,
+        segment: u16,
+        bus: u8,
+        hops: &'b [Hop],
+    ) -> IommuResult<ReservedIter<'a, 'b>>
+        ensures { Gives (λ r. reserved_left r) result (reserved_for (dmar_bytes self.now) segment bus hops.now) }
+    {
+        if !self.is_whole() {
+            return Err(IommuError::InvalidStructureLength);
+        }
+        let ranges = ReservedIter::over(self.structures(), segment, bus, hops);
+        let mut rest = ranges;
+        while let Some(range) = rest.next() {
+            if !range.is_range() {
+                return Err(IommuError::InvalidMemoryRange);
+            }
+        }
+        Ok(ranges)
+    }
+}
+
+/// The functions of `Units`, as methods of a mapping of a DMAR (chapter 8).
+pub trait DmarCalls {
+    ghost use Rattle.std.specs.Prelude.{◌≡◌, ℕ, List, false};
+    ghost use Rattle.acpi_base.specs.Steps.{Gives};
+    ghost use Rattle.acpi_iommu.specs.Dmar.{cut_of, has_ended, rest_left, structures_left, structures_of};
+    ghost use Rattle.acpi_iommu.specs.DmarUnits.{dmar_bytes, reserved_for, reserved_left};
+    ghost use Rattle.acpi_iommu.specs.DmarUnits.{unit_for, unit_of_hpet, unit_of_io_apic};
+
+    // The table's bytes.
+    ghost table: { Self → List ℕ };
+
+    /// The units in this DMAR's bytes (chapter 8).
+    fn units(&self) -> Units<'_>
+        ensures { dmar_bytes result ≡ table self.now };
+
+    /// The structures of this DMAR, in order (section 8.2).
+    fn structures(&self) -> DmarStructureIter<'_>
+        ensures items { structures_left result ≡ structures_of (table self.now) }
+        ensures rest { rest_left result ≡ (cut_of (table self.now)).1 }
+        ensures begun { has_ended result ≡ false };
+
+    /// The unit that remaps a device (section 8.3), or the refusal, as `Units::unit_for` says.
+    fn unit_for(&self, segment: u16, bus: u8, hops: &[Hop]) -> IommuResult<Option<Drhd>>
+        ensures { result ≡ unit_for (table self.now) segment bus hops.now };
+
+    /// The unit of the I/O APIC with this id (section 8.3.1), or the refusal, as `Units::unit_of_io_apic` says.
+    fn unit_of_io_apic(&self, id: u8) -> IommuResult<Option<UnitSource>>
+        ensures { result ≡ unit_of_io_apic (table self.now) id };
+
+    /// The unit of the HPET with this number (section 8.3.1), or the refusal, as `Units::unit_of_hpet` says.
+    fn unit_of_hpet(&self, number: u8) -> IommuResult<Option<UnitSource>>
+        ensures { result ≡ unit_of_hpet (table self.now) number };
+
+    /// The ranges of memory that are reserved for a device (section 8.4), or the refusal, as `Units::reserved_for` says.
+    fn reserved_for<'b>(
+        &self,
+        segment: u16,
+        bus: u8,
+        hops: &'b [Hop],
+    ) -> IommuResult<ReservedIter<'_, 'b>>
+        ensures { Gives (λ r. reserved_left r) result (reserved_for (table self.now) segment bus hops.now) };
+}
+
+impl<'h, H: Lender> DmarCalls for PhysicalMapping<'h, H, Dmar> {
+    ghost use Rattle.acpi_base.specs.Mapping.{bytes_of};
+
+    ghost table = { λ m. bytes_of m };
+
+    fn units(&self) -> Units<'_> {
+        Units::over(self.bytes())
+    }
+
+    fn structures(&self) -> DmarStructureIter<'_> {
+        self.units().structures()
+    }
+
+    fn unit_for(&self, segment: u16, bus: u8, hops: &[Hop]) -> IommuResult<Option<Drhd>> {
+        self.units().unit_for(segment, bus, hops)
+    }
+
+    fn unit_of_io_apic(&self, id: u8) -> IommuResult<Option<UnitSource>> {
+        self.units().unit_of_io_apic(id)
+    }
+
+    fn unit_of_hpet(&self, number: u8) -> IommuResult<Option<UnitSource>> {
+        self.units().unit_of_hpet(number)
+    }
+
+    fn reserved_for<'b>(
+        &self,
+        segment: u16,
+        bus: u8,
+        hops: &'b [Hop],
+    ) -> IommuResult<ReservedIter<'_, 'b>> {
+        self.units().reserved_for(segment, bus, hops)
+    }
+}

@@ -1,0 +1,40 @@
+//! Laws of comparisons: each is the contract of a function that compares.
+ghost use Rattle.acpi_base.specs.Equality.{IsEquality};
+
+use crate::dmar::{Drhd, Hop, Rmrr, UnitSource};
+use crate::error::IommuError;
+
+/// Two `IommuError`s compare as equal exactly if they are the same variant.
+pub fn iommu_error_equality(a: &IommuError, b: &IommuError) -> bool
+    ensures { IsEquality result a.now b.now }
+{
+    a == b
+}
+
+/// Two `Hop`s compare as equal exactly if all their fields are equal.
+pub fn hop_equality(a: &Hop, b: &Hop) -> bool
+    ensures { IsEquality result a.now b.now }
+{
+    a == b
+}
+
+/// Two `Drhd`s compare as equal exactly if all their fields are equal.
+pub fn drhd_equality(a: &Drhd, b: &Drhd) -> bool
+    ensures { IsEquality result a.now b.now }
+{
+    a == b
+}
+
+/// Two `Rmrr`s compare as equal exactly if all their fields are equal.
+pub fn rmrr_equality(a: &Rmrr, b: &Rmrr) -> bool
+    ensures { IsEquality result a.now b.now }
+{
+    a == b
+}
+
+/// Two `UnitSource`s compare as equal exactly if all their fields are equal.
+pub fn unit_source_equality(a: &UnitSource, b: &UnitSource) -> bool
+    ensures { IsEquality result a.now b.now }
+{
+    a == b
+}

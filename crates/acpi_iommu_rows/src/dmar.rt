@@ -1,0 +1,203 @@
+//! Questions about a DMAR.
+//!
+//! - `table`: Host Address Width and the flags;
+//! - `structures`: whether they have ended malformed before the first one is asked for, how many there are, and whether
+//!   they have after the last one;
+//! - `structure N`, `flag N`, `name N`, `registers N`, `range N`: of the structure with so many before it what its fields
+//!   are, its flag, its object's name, how many bytes its registers have, and how many its range has;
+//! - `scopes N`: as `structures`, of its scopes, each with Type, Flags, Enumeration ID, Start Bus Number and hops;
+//! - `unit DEVICE`, `io_apic ID`, `hpet NUMBER`, `reserved DEVICE`, where `hops` says what a device is.
+
+use crate::hops::device_of;
+use acpi_base::PhysicalRecord;
+use acpi_iommu::{
+    Dmar, DmarCalls, DmarFields, DmarStructure, DmarStructureIter, Drhd, Hop, IommuResult,
+    UnitSource, Units,
+};
+use acpi_testkit::rows::shown;
+use std::alloc::{AllocError, Global};
+
+/// What a DMAR's bytes answer.
+pub(crate) fn answer(alloc: Global, table: &[u8], question: &str) -> Result<String, AllocError> {
+    let units = Units::over(table);
+    let (word, rest) = question.split_once(' ').unwrap_or((question, ""));
+    match word {
+        "table" => of_table(alloc, table),
+        "structures" => shown(alloc, &walked(units.structures())),
+        "unit" => {
+            let device = device_of(alloc, rest)?;
+            of_unit(
+                alloc,
+                units.unit_for(device.segment, device.bus, &device.hops),
+            )
+        }
+        "io_apic" => of_source(
+            alloc,
+            units.unit_of_io_apic(rest.parse::<u8>().unwrap_or(0)),
+        ),
+        "hpet" => of_source(alloc, units.unit_of_hpet(rest.parse::<u8>().unwrap_or(0))),
+        "reserved" => of_reserved(alloc, &units, rest),
+        _ => of_structure(alloc, units.structures(), word, rest),
+    }
+}
+
+/// What a mapping of a DMAR answers to some of these questions.
+pub(crate) fn of_mapping<T: DmarCalls>(
+    alloc: Global,
+    dmar: &T,
+    question: &str,
+) -> Result<String, AllocError> {
+    let (word, rest) = question.split_once(' ').unwrap_or((question, ""));
+    let number = rest.parse::<u8>().unwrap_or(0);
+    match word {
+        "structures" => shown(alloc, &walked(dmar.structures())),
+        "io_apic" => of_source(alloc, dmar.unit_of_io_apic(number)),
+        "hpet" => of_source(alloc, dmar.unit_of_hpet(number)),
+        _ => {
+            let device = device_of(alloc, rest)?;
+            match word {
+                "unit" => of_unit(
+                    alloc,
+                    dmar.unit_for(device.segment, device.bus, &device.hops),
+                ),
+                _ => match dmar.reserved_for(device.segment, device.bus, &device.hops) {
+                    Ok(ranges) => shown(alloc, &ranges.count()),
+                    Err(refusal) => shown(alloc, &refusal),
+                },
+            }
+        }
+    }
+}
+
+/// The fields of the table.
+fn of_table(alloc: Global, table: &[u8]) -> Result<String, AllocError> {
+    if table.len() < Dmar::MIN_LENGTH {
+        return String::from_str(alloc, "short");
+    }
+    let dmar = Dmar::read(table);
+    shown(
+        alloc,
+        &(
+            dmar.address_bits(),
+            dmar.remaps_interrupts(),
+            dmar.opts_out_of_x2apic(),
+            dmar.controls_dma(),
+        ),
+    )
+}
+
+/// How many structures there are, and whether they have ended malformed before and after.
+fn walked(mut structures: DmarStructureIter<'_>) -> (bool, u32, bool) {
+    let before = structures.ended_malformed();
+    let mut count = 0u32;
+    for _ in structures.by_ref() {
+        count = count.wrapping_add(1);
+    }
+    (before, count, structures.ended_malformed())
+}
+
+/// What is asked of the structure with so many before it.
+fn of_structure(
+    alloc: Global,
+    mut structures: DmarStructureIter<'_>,
+    word: &str,
+    number: &str,
+) -> Result<String, AllocError> {
+    let Some(structure) = structures.nth(number.parse::<usize>().unwrap_or(0)) else {
+        return String::from_str(alloc, "none");
+    };
+    match word {
+        "structure" => shown(alloc, &(structure.kind(), structure.fields())),
+        "name" => shown(alloc, &structure.object_name()),
+        "scopes" => of_scopes(alloc, &structure),
+        _ => of_fields(alloc, structure.fields(), word),
+    }
+}
+
+/// What is asked of a structure's fields.
+fn of_fields(alloc: Global, fields: Option<DmarFields>, word: &str) -> Result<String, AllocError> {
+    match (word, fields) {
+        ("flag", Some(DmarFields::Drhd(unit))) => shown(alloc, &unit.includes_pci_all()),
+        ("flag", Some(DmarFields::Atsr(ports))) => shown(alloc, &ports.has_all_ports()),
+        ("flag", Some(DmarFields::Satc(devices))) => shown(alloc, &devices.requires_cache()),
+        ("registers", Some(DmarFields::Drhd(unit))) => shown(alloc, &unit.register_bytes()),
+        ("range", Some(DmarFields::Rmrr(range))) => shown(alloc, &range.length()),
+        _ => Ok(String::new(alloc)),
+    }
+}
+
+/// The scopes of a structure, and whether they have ended malformed.
+fn of_scopes(alloc: Global, structure: &DmarStructure<'_>) -> Result<String, AllocError> {
+    let mut text = String::new(alloc);
+    let mut scopes = structure.scopes();
+    for scope in scopes.by_ref() {
+        let (kind, flags, id, bus) = (
+            scope.kind(),
+            scope.flags(),
+            scope.enumeration_id(),
+            scope.start_bus(),
+        );
+        write!(text, "({kind} {flags} {id} {bus}")?;
+        for hop in scope.hops() {
+            let Hop { device, function } = hop;
+            write!(text, " {device:x}.{function:x}")?;
+        }
+        text.push_str(")")?;
+    }
+    let end = if scopes.ended_malformed() {
+        "malformed"
+    } else {
+        "whole"
+    };
+    write!(text, " {end}")?;
+    Ok(text)
+}
+
+/// The base of a unit's registers.
+fn of_unit(alloc: Global, unit: IommuResult<Option<Drhd>>) -> Result<String, AllocError> {
+    match unit {
+        Ok(Some(unit)) => format!(in alloc; "{:#x}", unit.register_base),
+        Ok(None) => String::from_str(alloc, "none"),
+        Err(refusal) => format!(in alloc; "{refusal}"),
+    }
+}
+
+/// The base of a unit's registers, and the bus and the hop of a source.
+fn of_source(alloc: Global, source: IommuResult<Option<UnitSource>>) -> Result<String, AllocError> {
+    match source {
+        Ok(Some(source)) => {
+            let base = source.unit.register_base;
+            match source.hop {
+                Some(hop) => format!(in alloc;
+                    "{base:#x} {} {:x}.{:x}",
+                    source.bus, hop.device, hop.function
+                ),
+                None => format!(in alloc; "{base:#x} {}", source.bus),
+            }
+        }
+        Ok(None) => String::from_str(alloc, "none"),
+        Err(refusal) => format!(in alloc; "{refusal}"),
+    }
+}
+
+/// The first and last bytes and the lengths of the ranges that are reserved for a device.
+fn of_reserved(alloc: Global, units: &Units<'_>, device: &str) -> Result<String, AllocError> {
+    let device = device_of(alloc, device)?;
+    let mut text = String::new(alloc);
+    match units.reserved_for(device.segment, device.bus, &device.hops) {
+        Ok(ranges) => {
+            for range in ranges {
+                write!(text, "{:#x} {:#x} ", range.base, range.limit)?;
+                match range.length() {
+                    Some(length) => write!(text, "{length:#x};")?,
+                    None => write!(text, "none;")?,
+                }
+            }
+        }
+        Err(refusal) => write!(text, "{refusal}")?,
+    }
+    if text.is_empty() {
+        text.push_str("none")?;
+    }
+    Ok(text)
+}
