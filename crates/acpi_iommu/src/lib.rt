@@ -1,9 +1,11 @@
 //! The units that remap what devices ask of memory (IOMMUs): those of the DMAR (Intel Virtualization Technology for
-//! Directed I/O 4.0, chapter 8).
+//! Directed I/O 4.0, chapter 8), and those of the IVRS (AMD I/O Virtualization Technology (IOMMU) Specification 3.08,
+//! section 5.2).
 #![tactic(auto)]
 
 pub mod dmar;
 pub mod error;
+pub mod ivrs;
 pub mod laws;
 
 pub use dmar::{
@@ -11,3 +13,7 @@ pub use dmar::{
     DmarStructureIter, Drhd, Hop, HopIter, ReservedIter, Rhsa, Rmrr, Satc, Sidp, UnitSource, Units,
 };
 pub use error::{IommuError, IommuResult};
+pub use ivrs::{
+    BestBlockIter, Blocks, DeviceEntry, DeviceEntryIter, DeviceUnit, Ivhd, Ivmd, Ivrs, IvrsBlock,
+    IvrsBlockIter, IvrsCalls, IvrsFields, MemoryIter, SpecialDevice,
+};

@@ -1,9 +1,9 @@
-//! Questions about the tables in a memory: `dmar QUESTION` of the first valid one, and `faults` of them.
+//! Questions about the tables in a memory: `dmar QUESTION` and `ivrs QUESTION` of the first valid one.
 
-use crate::dmar;
+use crate::{dmar, ivrs};
 use acpi::AcpiTables;
 use acpi_image_reader::MemoryImage;
-use acpi_iommu::Dmar;
+use acpi_iommu::{Dmar, Ivrs};
 use acpi_testkit::rows::{Row, shown};
 use std::alloc::{AllocError, Global};
 
@@ -24,6 +24,9 @@ pub(crate) fn answer(alloc: Global, row: &Row, question: &str) -> Result<String,
             Ok(table) => dmar::of_mapping(alloc, &table, asked),
             Err(refusal) => shown(alloc, &refusal),
         },
-        _ => Ok(String::new(alloc)),
+        _ => match tables.find_table::<Ivrs>() {
+            Ok(table) => ivrs::of_mapping(alloc, &table, asked),
+            Err(refusal) => shown(alloc, &refusal),
+        },
     }
 }

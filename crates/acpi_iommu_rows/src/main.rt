@@ -8,6 +8,7 @@
 mod dmar;
 mod found;
 mod hops;
+mod ivrs;
 
 use acpi_testkit::rows::{Answers, Row, ask_files};
 use std::alloc::{AllocError, Global};
@@ -20,6 +21,7 @@ impl Answers for Library {
     fn answer(&self, alloc: Global, row: &Row, question: &str) -> Result<String, AllocError> {
         match row.kind.as_str() {
             "dmar" => dmar::answer(alloc, row.table(), question),
+            "ivrs" => ivrs::answer(alloc, row.table(), question),
             _ => found::answer(alloc, row, question),
         }
     }

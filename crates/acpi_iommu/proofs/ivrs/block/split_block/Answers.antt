@@ -1,0 +1,13 @@
+use Rattle.std.proofs.Common.{sym}
+use Rattle.acpi_iommu.proofs.Pieces.{block_is, block_front, block_stuck}
+use Rattle.acpi_iommu.proofs.ivrs.block.split_block.Goals as goal
+
+pub returns-in_err-size-clause-none : goal.returns-in_err-size-clause-none
+returns-in_err-size-clause-none c = rw c.from_residual.ensures (block_stuck c.args.bytes.now (sym c.in_err-size.ensures))
+
+pub split_at-requires : goal.split_at-requires
+split_at-requires c = (block_is c.args.bytes.now c.in_ok-size.size (sym c.in_ok-size.ensures)).1
+
+pub returns-clause-found : goal.returns-clause-found
+returns-clause-found c =
+    rw (c.split_at.ensures.front, c.split_at.ensures.back) (block_front c.args.bytes.now c.in_ok-size.size (sym c.in_ok-size.ensures))

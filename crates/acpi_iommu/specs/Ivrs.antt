@@ -1,0 +1,117 @@
+-- The I/O Virtualization Reporting Structure, IVRS (AMD I/O Virtualization Technology (IOMMU) Specification 3.08, section
+-- 5.2), and the blocks that it is made of.
+use Rattle.std.specs.Prelude.{◌≡◌, ℕ, ◌==◌, ◌&&◌, ◌||◌, Bool, nat_le, List, length, drop, Option, None, Some, if◌then◌else◌, []}
+use Rattle.acpi_base.specs.Bytes.{field_of}
+use Rattle.acpi_base.specs.Header.{header_at}
+use Rattle.acpi_iommu.specs.Dmar.{is_left}
+use Rattle.acpi_iommu.specs.Pieces.{pieces}
+use Rattle.acpi_iommu.specs.declared.ivrs.Ivrs.{Ivrs}
+use Rattle.acpi_iommu.specs.declared.ivrs.block.Ivhd.{Ivhd}
+use Rattle.acpi_iommu.specs.declared.ivrs.block.Ivmd.{Ivmd}
+use Rattle.acpi_iommu.specs.declared.ivrs.block.IvrsBlock.{IvrsBlock}
+use Rattle.acpi_iommu.specs.declared.ivrs.block.IvrsBlockIter.{IvrsBlockIter}
+use Rattle.acpi_iommu.specs.declared.ivrs.block.IvrsFields.{IvrsFields}
+use Rattle.acpi_iommu.specs.declared.ivrs.block.IvrsFields.TheVariants as kinds
+
+-- what a table's first bytes mean
+unfoldable pub ivrs_at : List ℕ → Ivrs
+ivrs_at b = record { header = header_at b; info = field_of b 36 4 }  -- IVinfo
+
+-- ---- blocks
+
+-- Type of a block
+abbrev pub block_kind : List ℕ → ℕ
+block_kind b = field_of b 0 1
+
+-- an I/O Virtualization Hardware Definition block, and an I/O Virtualization Memory Definition block
+
+abbrev pub is_ivhd : ℕ → Bool
+is_ivhd kind = (kind == 0x10) || (kind == 0x11) || (kind == 0x40)
+
+abbrev pub is_ivmd : ℕ → Bool
+is_ivmd kind = (kind == 0x20) || (kind == 0x21) || (kind == 0x22)
+
+-- the least length of a block of a type
+abbrev pub least_of : ℕ → ℕ
+least_of kind =
+    if kind == 0x10 then 24
+    else if is_ivhd kind then 40
+    else if is_ivmd kind then 32
+    else 4
+
+-- Length of the block that bytes begin with, at 2, if that is at least the least of its type and the bytes have as many
+abbrev pub block_size : List ℕ → Option ℕ
+block_size b =
+    if nat_le (least_of (block_kind b)) (field_of b 2 2) && nat_le (field_of b 2 2) (length b)
+    then Some (field_of b 2 2) else None
+
+-- the blocks (from 48 on) after a table's 48 fixed bytes, and the rest in which none begins
+abbrev pub blocks_cut : List ℕ → List (List ℕ) × List ℕ
+blocks_cut table = pieces block_size (drop 48 table)
+
+abbrev pub blocks_of : List ℕ → List (List ℕ)
+blocks_of table = (blocks_cut table).0
+
+-- an IVHD; type 0x10 has no image of the extended features
+abbrev pub ivhd_at : List ℕ → Ivhd
+ivhd_at b = record {
+  kind = block_kind b;  -- Type
+  flags = field_of b 1 1;  -- Flags
+  device_id = field_of b 4 2;  -- DeviceID
+  capability_offset = field_of b 6 2;  -- Capability Offset
+  base = field_of b 8 8;  -- IOMMU Base Address
+  segment = field_of b 16 2;  -- PCI Segment Group
+  info = field_of b 18 2;  -- IOMMU Info
+  features = field_of b 20 4;  -- IOMMU Feature Reporting, of types 0x11 and 0x40 IOMMU Attributes
+  extended_features = if block_kind b == 0x10 then None else Some (field_of b 24 8);  -- EFR Register Image
+}
+
+-- an IVMD
+abbrev pub ivmd_at : List ℕ → Ivmd
+ivmd_at b = record {
+  kind = block_kind b;  -- Type
+  flags = field_of b 1 1;  -- Flags
+  device_id = field_of b 4 2;  -- DeviceID
+  auxiliary = field_of b 6 2;  -- Auxiliary Data
+  start = field_of b 16 8;  -- IVMD start address
+  length = field_of b 24 8;  -- IVMD memory block length
+}
+
+-- what a block's fixed bytes say, by its type; nothing of a type that isn't defined
+abbrev pub block_fields : List ℕ → Option IvrsFields
+block_fields b =
+    if is_ivhd (block_kind b) then Some (kinds.Ivhd (ivhd_at b))
+    else if is_ivmd (block_kind b) then Some (kinds.Ivmd (ivmd_at b))
+    else None
+
+-- the device entries of an IVHD stand after its fixed bytes; other blocks have none
+abbrev pub entry_bytes : List ℕ → List ℕ
+entry_bytes b = if is_ivhd (block_kind b) then drop (least_of (block_kind b)) b else []
+
+-- ---- a walk
+
+-- what an item shows: its bytes
+abbrev pub block_bytes : IvrsBlock → List ℕ
+block_bytes b = b.bytes.now
+
+-- the blocks that are still to come
+abbrev pub blocks_left : IvrsBlockIter → List (List ℕ)
+blocks_left s = (pieces block_size s.rest.now).0
+
+-- the rest after them, in which none begins
+abbrev pub rest_left : IvrsBlockIter → List ℕ
+rest_left s = (pieces block_size s.rest.now).1
+
+-- whether it has answered that no block is left
+abbrev pub has_ended : IvrsBlockIter → Bool
+has_ended s = s.ended
+
+-- whether it ended before the table did: what `ended_malformed` returns, which is no until the walk has given None
+abbrev pub is_malformed : IvrsBlockIter → Bool
+is_malformed s = s.ended && is_left s.rest.now
+
+-- a step leaves the rest as it is, and has ended exactly if it gives no block
+abbrev pub EndsAtRest : IvrsBlockIter → Option IvrsBlock → IvrsBlockIter → Type 0
+EndsAtRest s (Some block) t = (rest_left t ≡ rest_left s) × (has_ended t ≡ has_ended s)
+EndsAtRest s None t =
+    (rest_left t ≡ rest_left s) × (is_malformed t ≡ is_left (rest_left s))

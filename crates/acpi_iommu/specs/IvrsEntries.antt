@@ -1,0 +1,135 @@
+-- Which devices a block of an IVRS is for, by its device entries (section 5.2.2).
+use Rattle.std.specs.Prelude.{◌≡◌, ℕ, ◌+◌, ◌==◌, ◌&&◌, ◌||◌, Bool, nat_le, nat_lt, List, length, Option, None, Some, if◌then◌else◌, []}
+use Rattle.acpi_base.specs.Bytes.{field_of, filled_part, part}
+use Rattle.acpi_iommu.specs.Dmar.{is_left}
+use Rattle.acpi_iommu.specs.Ivrs.{entry_bytes}
+use Rattle.acpi_iommu.specs.Pieces.{pieces}
+use Rattle.acpi_iommu.specs.declared.ivrs.entry.DeviceEntry.{DeviceEntry}
+use Rattle.acpi_iommu.specs.declared.ivrs.entry.DeviceEntryIter.{DeviceEntryIter}
+use Rattle.acpi_iommu.specs.declared.ivrs.entry.SpecialDevice.{SpecialDevice}
+
+-- Type of an entry: 1 all, 2 select, 3 start of range, 0x42 alias select, 0x43 alias start of range, 0x46 extended
+-- select, 0x47 extended start of range, 0x48 special device, 0xF0 ACPI HID device
+abbrev pub entry_kind : List ℕ → ℕ
+entry_kind e = field_of e 0 1
+
+-- how many bytes an entry has by itself: of an ACPI HID device 22 and as many as its UID length says, at 21, and of others
+-- by bits 6 and 7 of the type
+abbrev pub own_size : List ℕ → ℕ
+own_size e =
+    if entry_kind e == 0xf0 then 22 + field_of e 21 1
+    else if nat_lt (entry_kind e) 0x40 then 4
+    else if nat_lt (entry_kind e) 0x80 then 8
+    else if nat_lt (entry_kind e) 0xc0 then 16
+    else 32
+
+-- a start of a range, which its end, type 4 with four bytes, has to follow at once
+abbrev pub is_start : List ℕ → Bool
+is_start e = (entry_kind e == 3) || (entry_kind e == 0x43) || (entry_kind e == 0x47)
+
+-- how many bytes the entry has that bytes begin with: with a start its end belongs to it, and no end is by itself
+abbrev pub entry_size : List ℕ → Option ℕ
+entry_size e =
+    if is_start e then
+    (if (field_of e (own_size e) 1 == 4) && nat_le (own_size e + 4) (length e) then Some (own_size e + 4) else None)
+    else if entry_kind e == 4 then None
+    else if nat_le (own_size e) (length e) then Some (own_size e)
+    else None
+
+-- the entries of a block, and the rest in which none begins
+abbrev pub entries_cut : List ℕ → List (List ℕ) × List ℕ
+entries_cut b = pieces entry_size (entry_bytes b)
+
+abbrev pub entries_of : List ℕ → List (List ℕ)
+entries_of b = (entries_cut b).0
+
+-- ---- one entry
+
+abbrev pub first_id : List ℕ → ℕ
+first_id e = field_of e 1 2  -- DeviceID
+
+-- the last one of a range: DeviceID of its end; of others the first
+abbrev pub last_id : List ℕ → ℕ
+last_id e = if is_start e then field_of e (own_size e + 1) 2 else first_id e
+
+abbrev pub settings_of : List ℕ → ℕ
+settings_of e = field_of e 3 1  -- DTE Setting
+
+-- Source DeviceID, at 5, of an alias, type 0x42 or 0x43
+abbrev pub alias_of : List ℕ → Option ℕ
+alias_of e = if (entry_kind e == 0x42) || (entry_kind e == 0x43) then Some (field_of e 5 2) else None
+
+-- Extended DTE Setting, at 4, of types 0x46 and 0x47
+abbrev pub extended_of : List ℕ → Option ℕ
+extended_of e = if (entry_kind e == 0x46) || (entry_kind e == 0x47) then Some (field_of e 4 4) else None
+
+-- a special device, type 0x48
+abbrev pub special_of : List ℕ → Option SpecialDevice
+special_of e =
+    if entry_kind e == 0x48 then Some (record {
+      handle = field_of e 4 1;  -- Handle
+      source = field_of e 5 2;  -- Source DeviceID
+      variety = field_of e 7 1;  -- Variety
+    }) else None
+
+-- of an ACPI HID device, type 0xF0: Hardware ID at 4 and Compatible ID at 12, of 8 bytes each, Unique ID format at 20,
+-- and Unique ID, of as many bytes as its length at 21 says, at 22
+
+abbrev pub hardware_id : List ℕ → Option (List ℕ)
+hardware_id e = if entry_kind e == 0xf0 then Some (filled_part e 4 8) else None
+
+abbrev pub compatible_id : List ℕ → Option (List ℕ)
+compatible_id e = if entry_kind e == 0xf0 then Some (filled_part e 12 8) else None
+
+abbrev pub unique_id_format : List ℕ → Option ℕ
+unique_id_format e = if entry_kind e == 0xf0 then Some (field_of e 20 1) else None
+
+abbrev pub unique_id : List ℕ → List ℕ
+unique_id e = if entry_kind e == 0xf0 then part e 22 (field_of e 21 1) else []
+
+-- ---- which devices
+
+-- an entry of one device: type 2, 0x42, 0x46 or 0xF0
+abbrev pub is_select : List ℕ → Bool
+is_select e = (entry_kind e == 2) || (entry_kind e == 0x42) || (entry_kind e == 0x46) || (entry_kind e == 0xf0)
+
+-- whether an entry covers the device of an id: type 1 every one, a range those from its first to its last, a special
+-- device its source
+abbrev pub covers : ℕ → List ℕ → Bool
+covers id e =
+    (entry_kind e == 1)
+    || ((is_select e || is_start e) && nat_le (first_id e) id && nat_le id (last_id e))
+    || ((entry_kind e == 0x48) && (field_of e 5 2 == id))
+
+-- the id that the unit sees of a device that an entry covers: the alias, or its own
+abbrev pub source_for : ℕ → List ℕ → ℕ
+source_for id e =
+    if (entry_kind e == 0x42) || (entry_kind e == 0x43) then field_of e 5 2 else id
+
+-- ---- a walk
+
+-- what an item shows: its bytes, with those of the end of a range
+abbrev pub bytes_of_entry : DeviceEntry → List ℕ
+bytes_of_entry e = e.bytes.now
+
+-- the entries that are still to come
+abbrev pub entries_left : DeviceEntryIter → List (List ℕ)
+entries_left s = (pieces entry_size s.rest.now).0
+
+-- the rest after them, in which none begins
+abbrev pub rest_left : DeviceEntryIter → List ℕ
+rest_left s = (pieces entry_size s.rest.now).1
+
+-- whether it has answered that no entry is left
+abbrev pub has_ended : DeviceEntryIter → Bool
+has_ended s = s.ended
+
+-- whether it ended before the block did: what `ended_malformed` returns
+abbrev pub is_malformed : DeviceEntryIter → Bool
+is_malformed s = s.ended && is_left s.rest.now
+
+-- a step leaves the rest as it is, and has ended exactly if it gives no entry
+abbrev pub EndsAtRest : DeviceEntryIter → Option DeviceEntry → DeviceEntryIter → Type 0
+EndsAtRest s (Some entry) t = (rest_left t ≡ rest_left s) × (has_ended t ≡ has_ended s)
+EndsAtRest s None t =
+    (rest_left t ≡ rest_left s) × (is_malformed t ≡ is_left (rest_left s))

@@ -1,0 +1,317 @@
+//! The blocks of an IVRS, one at a time (section 5.2.2).
+ghost use Rattle.std.specs.Prelude.{◌≡◌, IfSome, IfNone, Some, None, [], false, if◌then◌else◌};
+ghost use Rattle.acpi_base.specs.Entries.{with_entry};
+ghost use Rattle.acpi_iommu.specs.Ivrs.{block_bytes, block_fields, block_kind, block_size, entry_bytes};
+ghost use Rattle.acpi_iommu.specs.Ivrs.{is_ivhd, is_ivmd, ivhd_at, ivmd_at, least_of};
+ghost use Rattle.acpi_iommu.specs.IvrsUnits.{has_whole_entries, is_memory_for, unit_in};
+ghost use Rattle.acpi_iommu.specs.Pieces.{pieces};
+
+use super::Ivrs;
+use super::blocks::DeviceUnit;
+use super::entry::DeviceEntryIter;
+use acpi_base::PhysicalRecord;
+use acpi_base::bytes::{field, skip};
+
+/// I/O Virtualization Hardware Definition (IVHD, section 5.2.2.1): a unit that remaps.
+#[derive(Clone, Copy, Debug, PartialEq, Eq)]
+pub struct Ivhd {
+    /// Type: 0x10, 0x11 or 0x40.
+    pub kind: u8,
+    /// Flags, which the specification names by the type.
+    pub flags: u8,
+    /// DeviceID: the unit's own bus, device and function.
+    pub device_id: u16,
+    /// Capability Offset: where its capability block stands in its PCI configuration space.
+    pub capability_offset: u16,
+    /// IOMMU Base Address: the physical address of the unit's registers.
+    pub base: u64,
+    /// PCI Segment Group: the PCI segment of the unit and of its devices.
+    pub segment: u16,
+    /// IOMMU Info: in bits 0 to 4 the number of its MSI, in bits 8 to 12 its UnitID.
+    pub info: u16,
+    /// IOMMU Feature Reporting, or of types 0x11 and 0x40 IOMMU Attributes.
+    pub features: u32,
+    /// EFR Register Image: that of the extended features, or `None` of type 0x10, which has none.
+    pub extended_features: Option<u64>,
+}
+
+/// I/O Virtualization Memory Definition (IVMD, section 5.2.2.4): memory that devices reach by its own rules.
+#[derive(Clone, Copy, Debug, PartialEq, Eq)]
+pub struct Ivmd {
+    /// Type: 0x20 for all devices, 0x21 for the one of `device_id`, 0x22 for those from it to `auxiliary`.
+    pub kind: u8,
+    /// Flags: bit 0 Unity, bit 1 IR, bit 2 IW, bit 3 Exclusion Range.
+    pub flags: u8,
+    /// DeviceID: the device, or the first of a range.
+    pub device_id: u16,
+    /// Auxiliary Data: of type 0x22 the last device of the range.
+    pub auxiliary: u16,
+    /// IVMD start address: the physical address of the first byte.
+    pub start: u64,
+    /// IVMD memory block length: how many bytes there are.
+    pub length: u64,
+}
+
+/// What a block of an IVRS says in its fixed bytes, by its type (section 5.2.2).
+#[derive(Clone, Copy, Debug)]
+pub enum IvrsFields {
+    /// Types 0x10, 0x11 and 0x40.
+    Ivhd(Ivhd),
+    /// Types 0x20, 0x21 and 0x22.
+    Ivmd(Ivmd),
+}
+
+/// Type of a block.
+fn kind_of(block: &[u8]) -> u8
+    ensures { result ≡ block_kind block.now }
+{
+    field(block, 0, 1) as u8 // Type
+}
+
+/// Whether a type is one of an IVHD.
+fn is_ivhd(kind: u8) -> bool
+    ensures { result ≡ is_ivhd kind }
+{
+    kind == 0x10 || kind == 0x11 || kind == 0x40
+}
+
+/// Whether a type is one of an IVMD.
+fn is_ivmd(kind: u8) -> bool
+    ensures { result ≡ is_ivmd kind }
+{
+    kind == 0x20 || kind == 0x21 || kind == 0x22
+}
+
+/// The least length of a block of a type.
+fn least_of(kind: u8) -> usize
+    ensures { result ≡ least_of kind }
+{
+    if kind == 0x10 {
+        24
+    } else if is_ivhd(kind) {
+        40
+    } else if is_ivmd(kind) {
+        32
+    } else {
+        4
+    }
+}
+
+impl Ivhd {
+    /// The fields in a block's bytes.
+    fn read(bytes: &[u8]) -> Self
+        ensures { result ≡ ivhd_at bytes.now }
+    {
+        let kind = kind_of(bytes);
+        Ivhd {
+            kind,
+            flags: field(bytes, 1, 1) as u8, // Flags
+            device_id: field(bytes, 4, 2) as u16, // DeviceID
+            capability_offset: field(bytes, 6, 2) as u16, // Capability Offset
+            base: field(bytes, 8, 8), // IOMMU Base Address
+            segment: field(bytes, 16, 2) as u16, // PCI Segment Group
+            info: field(bytes, 18, 2) as u16, // IOMMU Info
+            features: field(bytes, 20, 4) as u32, // IOMMU Feature Reporting, IOMMU Attributes
+            extended_features: if kind == 0x10 {
+                None
+            } else {
+                Some(field(bytes, 24, 8)) // EFR Register Image
+            },
+        }
+    }
+}
+
+impl Ivmd {
+    ghost use Rattle.acpi_iommu.specs.IvrsUnits.{ends_below};
+
+    /// The fields in a block's bytes.
+    fn read(bytes: &[u8]) -> Self
+        ensures { result ≡ ivmd_at bytes.now }
+    {
+        Ivmd {
+            kind: kind_of(bytes),
+            flags: field(bytes, 1, 1) as u8, // Flags
+            device_id: field(bytes, 4, 2) as u16, // DeviceID
+            auxiliary: field(bytes, 6, 2) as u16, // Auxiliary Data
+            start: field(bytes, 16, 8), // IVMD start address
+            length: field(bytes, 24, 8), // IVMD memory block length
+        }
+    }
+
+    /// Whether the memory ends below 2^64.
+    pub(super) fn ends_below(&self) -> bool
+        ensures { result ≡ ends_below self.now }
+    {
+        self.length <= u64::MAX - self.start
+    }
+}
+
+/// A block of an IVRS (section 5.2.2).
+#[derive(Clone, Copy, Debug)]
+pub struct IvrsBlock<'a> {
+    bytes: &'a [u8],
+}
+
+impl<'a> IvrsBlock<'a> {
+    ghost use Rattle.acpi_iommu.specs.IvrsEntries.{entries_cut, entries_left, entries_of, has_ended, rest_left};
+
+    /// Type: 0x10, 0x11 and 0x40 IVHD, 0x20, 0x21 and 0x22 IVMD. Others are kept.
+    pub fn kind(&self) -> u8
+        ensures { result ≡ block_kind (block_bytes self.now) }
+    {
+        kind_of(self.bytes)
+    }
+
+    /// What the fixed bytes say, or `None` if the type is neither one of an IVHD nor one of an IVMD.
+    pub fn fields(&self) -> Option<IvrsFields>
+        ensures { result ≡ block_fields (block_bytes self.now) }
+    {
+        let kind = self.kind();
+        if is_ivhd(kind) {
+            Some(IvrsFields::Ivhd(Ivhd::read(self.bytes)))
+        } else if is_ivmd(kind) {
+            Some(IvrsFields::Ivmd(Ivmd::read(self.bytes)))
+        } else {
+            None
+        }
+    }
+
+    /// The device entries of an IVHD, in order; other blocks have none.
+    pub fn entries(&self) -> DeviceEntryIter<'a>
+        ensures items { entries_left result ≡ entries_of (block_bytes self.now) }
+        ensures rest { rest_left result ≡ (entries_cut (block_bytes self.now)).1 }
+        ensures begun { has_ended result ≡ false }
+    {
+        let kind = self.kind();
+        DeviceEntryIter::over(if is_ivhd(kind) {
+            skip(self.bytes, least_of(kind))
+        } else {
+            &[]
+        })
+    }
+
+    /// Whether the entries take all bytes that are theirs.
+    pub(super) fn has_whole_entries(&self) -> bool
+        ensures { result ≡ has_whole_entries (block_bytes self.now) }
+    {
+        let mut entries = self.entries();
+        while let Some(_entry) = entries.next() {}
+        !entries.ended_malformed()
+    }
+
+    /// What the first entry says that covers a device, if this is a block of a type and a segment that has one.
+    pub(super) fn unit(&self, kind: u8, segment: u16, device_id: u16) -> Option<DeviceUnit>
+        ensures { result ≡ unit_in kind segment device_id (block_bytes self.now) }
+    {
+        let unit = Ivhd::read(self.bytes);
+        if unit.kind != kind || unit.segment != segment {
+            return None;
+        }
+        let mut entries = self.entries();
+        while let Some(entry) = entries.next() {
+            if entry.covers(device_id) {
+                return Some(DeviceUnit {
+                    unit,
+                    settings: entry.settings(),
+                    source: entry.source_for(device_id),
+                });
+            }
+        }
+        None
+    }
+
+    /// The memory, if this block is an IVMD for a device.
+    pub(super) fn memory_for(&self, device_id: u16) -> Option<Ivmd>
+        ensures { result ≡ (if is_memory_for device_id (block_bytes self.now) then Some (ivmd_at (block_bytes self.now)) else None) }
+    {
+        let memory = Ivmd::read(self.bytes);
+        let is_meant = match memory.kind {
+            0x20 => true,
+            0x21 => memory.device_id == device_id,
+            0x22 => memory.device_id <= device_id && device_id <= memory.auxiliary,
+            _ => false,
+        };
+        if is_meant { Some(memory) } else { None }
+    }
+}
+
+/// How many bytes the block has that bytes begin with, or `None` if none begins.
+fn block_size(bytes: &[u8]) -> Option<usize>
+    ensures { result ≡ block_size bytes.now }
+{
+    let size = field(bytes, 2, 2) as usize; // Length
+    if least_of(kind_of(bytes)) <= size && size <= bytes.len() {
+        Some(size)
+    } else {
+        None
+    }
+}
+
+/// The block that bytes begin with, and the bytes after it, or `None` if none begins.
+fn split_block(bytes: &[u8]) -> Option<(&[u8], &[u8])>
+    ensures found { IfSome result (λ x. pieces block_size bytes.now ≡ with_entry x.0.now (pieces block_size x.1.now)) }
+    ensures none { IfNone result (pieces block_size bytes.now ≡ ([], bytes.now)) }
+{
+    let size = block_size(bytes)?;
+    Some(bytes.split_at(size))
+}
+
+/// The blocks of an IVRS, in order (section 5.2.2), those of undefined types too. It ends at the table's end, or where no
+/// block begins: if fewer than 4 bytes are left, or if the length is under the least of its type (24 for 0x10, 40 for 0x11
+/// and 0x40, 32 for 0x20 to 0x22, 4 for others) or past the table's end.
+#[derive(Clone, Copy, Debug)]
+pub struct IvrsBlockIter<'a> {
+    rest: &'a [u8],
+    ended: bool,
+}
+
+impl<'a> IvrsBlockIter<'a> {
+    ghost use Rattle.acpi_iommu.specs.Ivrs.{blocks_cut, blocks_left, blocks_of, has_ended, is_malformed, rest_left};
+
+    /// The blocks of an IVRS' bytes (section 5.2.2): those after its 48 fixed bytes. It needs no handler.
+    pub fn over(table: &'a [u8]) -> Self
+        ensures items { blocks_left result ≡ blocks_of table.now }
+        ensures rest { rest_left result ≡ (blocks_cut table.now).1 }
+        ensures begun { has_ended result ≡ false }
+    {
+        IvrsBlockIter {
+            rest: skip(table, Ivrs::MIN_LENGTH),
+            ended: false,
+        }
+    }
+
+    /// Whether `next` has answered `None` before the table's end, where no block begins (section 5.2.2). As long as `next`
+    /// hasn't answered `None` it is false.
+    pub fn ended_malformed(&self) -> bool
+        ensures { result ≡ is_malformed self.now }
+    {
+        match self.rest {
+            [] => false,
+            _ => self.ended,
+        }
+    }
+}
+
+impl<'a> Iterator for IvrsBlockIter<'a> {
+    ghost use Rattle.std.specs.Iterator.{YieldsFirstBy, item_count};
+    ghost use Rattle.acpi_iommu.specs.Ivrs.{EndsAtRest, blocks_left};
+
+    type Item = IvrsBlock<'a>;
+
+    ghost next_gives = { λ s r t. YieldsFirstBy block_bytes (λ x. blocks_left x) s r t × EndsAtRest s r t };
+
+    ghost remaining = { item_count (λ s. blocks_left s) };
+
+    fn next(&mut self) -> Option<IvrsBlock<'a>> {
+        match split_block(self.rest) {
+            Some((bytes, others)) => {
+                self.rest = others;
+                Some(IvrsBlock { bytes })
+            }
+            None => {
+                self.ended = true;
+                None
+            }
+        }
+    }
+}

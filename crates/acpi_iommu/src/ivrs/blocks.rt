@@ -1,0 +1,260 @@
+//! Which unit remaps a device, and which memory has its own rules for it (section 5.2).
+ghost use Rattle.std.specs.Prelude.{◌≡◌, false};
+ghost use Rattle.acpi_base.specs.Steps.{Gives};
+ghost use Rattle.acpi_iommu.specs.Ivrs.{blocks_cut, blocks_left, blocks_of, has_ended, rest_left};
+ghost use Rattle.std.specs.List.{list_any};
+ghost use Rattle.acpi_iommu.specs.IvrsUnits.{best_kind, best_left, block_for, blocks_of_best_type, is_of_kind, is_whole};
+ghost use Rattle.acpi_iommu.specs.IvrsUnits.{ivrs_bytes, memory_for, memory_in, memory_left, of_kind};
+
+use super::Ivrs;
+use super::block::{Ivhd, Ivmd, IvrsBlock, IvrsBlockIter};
+use crate::error::{IommuError, IommuResult};
+use acpi_base::{Lender, PhysicalMapping};
+
+/// A unit, and how it treats a device.
+#[derive(Clone, Copy, Debug, PartialEq, Eq)]
+pub struct DeviceUnit {
+    /// The unit that remaps the device.
+    pub unit: Ivhd,
+    /// DTE Setting of the entry that covers the device.
+    pub settings: u8,
+    /// The id by which the unit knows the device: that of the entry's alias, or its own.
+    pub source: u16,
+}
+
+/// The blocks of one type, in order.
+#[derive(Clone, Copy, Debug)]
+pub struct BestBlockIter<'a> {
+    blocks: IvrsBlockIter<'a>,
+    kind: u8,
+}
+
+impl<'a> Iterator for BestBlockIter<'a> {
+    ghost use Rattle.std.specs.Iterator.{YieldsFirstBy, item_count};
+    ghost use Rattle.acpi_iommu.specs.Ivrs.{block_bytes};
+
+    type Item = IvrsBlock<'a>;
+
+    ghost next_gives = { YieldsFirstBy block_bytes (λ s. best_left s) };
+
+    ghost remaining = { item_count (λ s. best_left s) };
+
+    fn next(&mut self) -> Option<IvrsBlock<'a>> {
+        while let Some(block) = self.blocks.next() {
+            if block.kind() == self.kind {
+                return Some(block);
+            }
+        }
+        None
+    }
+}
+
+/// The memory with rules for a device, in order (section 5.2.2.4).
+#[derive(Clone, Copy, Debug)]
+pub struct MemoryIter<'a> {
+    blocks: IvrsBlockIter<'a>,
+    device_id: u16,
+}
+
+impl Iterator for MemoryIter<'_> {
+    ghost use Rattle.std.specs.Iterator.{YieldsFirst, item_count};
+
+    type Item = Ivmd;
+
+    ghost next_gives = { YieldsFirst (λ s. memory_left s) };
+
+    ghost remaining = { item_count (λ s. memory_left s) };
+
+    fn next(&mut self) -> Option<Ivmd> {
+        while let Some(block) = self.blocks.next() {
+            if let Some(memory) = block.memory_for(self.device_id) {
+                return Some(memory);
+            }
+        }
+        None
+    }
+}
+
+/// The blocks in an IVRS' bytes (section 5.2). It needs no handler.
+#[derive(Clone, Copy, Debug)]
+pub struct Blocks<'a> {
+    table: &'a [u8],
+}
+
+impl<'a> Blocks<'a> {
+    /// The blocks in an IVRS' bytes (section 5.2), from the table's first byte on. In fewer than 52 bytes there is none.
+    pub fn over(table: &'a [u8]) -> Self
+        ensures { ivrs_bytes result ≡ table.now }
+    {
+        Blocks { table }
+    }
+
+    /// The blocks of the table, in order (section 5.2.2).
+    pub fn blocks(&self) -> IvrsBlockIter<'a>
+        ensures items { blocks_left result ≡ blocks_of (ivrs_bytes self.now) }
+        ensures rest { rest_left result ≡ (blocks_cut (ivrs_bytes self.now)).1 }
+        ensures begun { has_ended result ≡ false }
+    {
+        IvrsBlockIter::over(self.table)
+    }
+
+    /// Whether the blocks take all bytes of the table, and the entries of each all that are theirs.
+    fn is_whole(&self) -> bool
+        ensures { result ≡ is_whole (ivrs_bytes self.now) }
+    {
+        let mut all_whole = true;
+        let mut blocks = self.blocks();
+        while let Some(block) = blocks.next() {
+            all_whole = all_whole && block.has_whole_entries();
+        }
+        !blocks.ended_malformed() && all_whole
+    }
+
+    /// Whether there is a block of a type.
+    fn has_kind(&self, kind: u8) -> bool
+        ensures { result ≡ list_any (is_of_kind kind) (blocks_of (ivrs_bytes self.now)) }
+    {
+        let mut blocks = self.blocks();
+        while let Some(block) = blocks.next() {
+            if block.kind() == kind {
+                return true;
+            }
+        }
+        false
+    }
+
+    /// The greatest type of an IVHD that the table has, or 0x10 if it has none.
+    fn best_kind(&self) -> u8
+        ensures { result ≡ best_kind (ivrs_bytes self.now) }
+    {
+        if self.has_kind(0x40) {
+            0x40
+        } else if self.has_kind(0x11) {
+            0x11
+        } else {
+            0x10
+        }
+    }
+
+    /// The units to believe (section 5.2.2.1): the IVHDs of the greatest of the types 0x10, 0x11 and 0x40 that the table
+    /// has, in order.
+    ///
+    /// Refuses with `InvalidStructureLength` if a block of the table, or a device entry of one, is malformed.
+    pub fn blocks_of_best_type(&self) -> IommuResult<BestBlockIter<'a>>
+        ensures { Gives (λ b. best_left b) result (blocks_of_best_type (ivrs_bytes self.now)) }
+    {
+        if !self.is_whole() {
+            return Err(IommuError::InvalidStructureLength);
+        }
+        Ok(BestBlockIter {
+            blocks: self.blocks(),
+            kind: self.best_kind(),
+        })
+    }
+
+    /// The unit that remaps a device (section 5.2.2), by its segment and its id, which is bus, device and function: of the
+    /// blocks of the best type the first of the segment one of whose entries covers the id, with the settings of its first
+    /// such entry and the id by which the unit knows the device. An entry for all devices covers every id, a special device
+    /// its source, an ACPI HID device its DeviceID, padding none. `None` if there is no such block.
+    ///
+    /// Refuses with `InvalidStructureLength` if a block of the table, or a device entry of one, is malformed.
+    pub fn block_for(&self, segment: u16, device_id: u16) -> IommuResult<Option<DeviceUnit>>
+        ensures { result ≡ block_for (ivrs_bytes self.now) segment device_id }
+    {
+        if !self.is_whole() {
+            return Err(IommuError::InvalidStructureLength);
+        }
+        let kind = self.best_kind();
+        let mut blocks = self.blocks();
+        while let Some(block) = blocks.next() {
+            if let Some(unit) = block.unit(kind, segment, device_id) {
+                return Ok(Some(unit));
+            }
+        }
+        Ok(None)
+    }
+
+    /// The memory that has its own rules for a device (section 5.2.2.4), by its id: each IVMD for all devices, for this one,
+    /// or for a range that it lies in, in order.
+    ///
+    /// Refuses, in this order, with `InvalidStructureLength` if a block of the table, or a device entry of one, is
+    /// malformed, and with `InvalidMemoryRange` if start and length of one of these add up to more than 2^64 - 1.
+    pub fn memory_for(&self, device_id: u16) -> IommuResult<MemoryIter<'a>>
+        ensures { Gives (λ m. memory_left m) result (memory_for (ivrs_bytes self.now) device_id) }
+    {
+        if !self.is_whole() {
+            return Err(IommuError::InvalidStructureLength);
+        }
+        let memory = MemoryIter {
+            blocks: self.blocks(),
+            device_id,
+        };
+        let mut rest = memory;
+        while let Some(range) = rest.next() {
+            if !range.ends_below() {
+                return Err(IommuError::InvalidMemoryRange);
+            }
+        }
+        Ok(memory)
+    }
+}
+
+/// The functions of `Blocks`, as methods of a mapping of an IVRS (section 5.2).
+pub trait IvrsCalls {
+    ghost use Rattle.std.specs.Prelude.{◌≡◌, ℕ, List, false};
+    ghost use Rattle.acpi_base.specs.Steps.{Gives};
+    ghost use Rattle.acpi_iommu.specs.Ivrs.{blocks_cut, blocks_left, blocks_of, has_ended, rest_left};
+    ghost use Rattle.acpi_iommu.specs.IvrsUnits.{best_left, block_for, blocks_of_best_type};
+    ghost use Rattle.acpi_iommu.specs.IvrsUnits.{ivrs_bytes, memory_for, memory_left};
+
+    // The table's bytes.
+    ghost table: { Self → List ℕ };
+
+    /// All blocks of this IVRS, to be asked (section 5.2).
+    fn all_blocks(&self) -> Blocks<'_>
+        ensures { ivrs_bytes result ≡ table self.now };
+
+    /// The blocks of this IVRS, in order (section 5.2.2).
+    fn blocks(&self) -> IvrsBlockIter<'_>
+        ensures items { blocks_left result ≡ blocks_of (table self.now) }
+        ensures rest { rest_left result ≡ (blocks_cut (table self.now)).1 }
+        ensures begun { has_ended result ≡ false };
+
+    /// The units to believe (section 5.2.2.1), or the refusal, as `Blocks::blocks_of_best_type` says.
+    fn blocks_of_best_type(&self) -> IommuResult<BestBlockIter<'_>>
+        ensures { Gives (λ b. best_left b) result (blocks_of_best_type (table self.now)) };
+
+    /// The unit that remaps a device (section 5.2.2), or the refusal, as `Blocks::block_for` says.
+    fn block_for(&self, segment: u16, device_id: u16) -> IommuResult<Option<DeviceUnit>>
+        ensures { result ≡ block_for (table self.now) segment device_id };
+
+    /// The memory that has its own rules for a device (section 5.2.2.4), or the refusal, as `Blocks::memory_for` says.
+    fn memory_for(&self, device_id: u16) -> IommuResult<MemoryIter<'_>>
+        ensures { Gives (λ m. memory_left m) result (memory_for (table self.now) device_id) };
+}
+
+impl<'h, H: Lender> IvrsCalls for PhysicalMapping<'h, H, Ivrs> {
+    ghost use Rattle.acpi_base.specs.Mapping.{bytes_of};
+
+    ghost table = { λ m. bytes_of m };
+
+    fn all_blocks(&self) -> Blocks<'_> {
+        Blocks::over(self.bytes())
+    }
+
+    fn blocks(&self) -> IvrsBlockIter<'_> {
+        self.all_blocks().blocks()
+    }
+
+    fn blocks_of_best_type(&self) -> IommuResult<BestBlockIter<'_>> {
+        self.all_blocks().blocks_of_best_type()
+    }
+
+    fn block_for(&self, segment: u16, device_id: u16) -> IommuResult<Option<DeviceUnit>> {
+        self.all_blocks().block_for(segment, device_id)
+    }
+
+    fn memory_for(&self, device_id: u16) -> IommuResult<MemoryIter<'_>> {
+        self.all_blocks().memory_for(device_id)
+    }
+}

@@ -1,0 +1,279 @@
+//! The device entries of an IVHD, one at a time (section 5.2.2.2).
+ghost use Rattle.std.specs.Prelude.{◌≡◌, ◌<◌, IfSome, IfNone, [], false};
+ghost use Rattle.acpi_base.specs.Entries.{with_entry};
+ghost use Rattle.acpi_iommu.specs.IvrsEntries.{alias_of, bytes_of_entry, compatible_id, covers, entry_kind, entry_size};
+ghost use Rattle.acpi_iommu.specs.IvrsEntries.{extended_of, first_id, hardware_id, is_select, is_start, last_id, own_size};
+ghost use Rattle.acpi_iommu.specs.IvrsEntries.{settings_of, source_for, special_of, unique_id, unique_id_format};
+ghost use Rattle.acpi_iommu.specs.Pieces.{pieces};
+
+use acpi_base::bytes::{field, filled, skip};
+
+/// A special device, type 0x48 (section 5.2.2.2).
+#[derive(Clone, Copy, Debug, PartialEq, Eq)]
+pub struct SpecialDevice {
+    /// Handle: of an I/O APIC its id, of an HPET its number.
+    pub handle: u8,
+    /// Source DeviceID: the id by which the unit knows the device.
+    pub source: u16,
+    /// Variety: 1 an I/O APIC, 2 an HPET.
+    pub variety: u8,
+}
+
+/// A device entry of an IVHD (section 5.2.2.2): devices, and how the unit treats them. The end of a range belongs to its
+/// start.
+#[derive(Clone, Copy, Debug)]
+pub struct DeviceEntry<'a> {
+    bytes: &'a [u8],
+}
+
+impl<'a> DeviceEntry<'a> {
+    /// Type: 1 all devices, 2 one device, 3 a range of devices, 0x42 and 0x43 one and a range with an alias, 0x46 and 0x47
+    /// one and a range with extended settings, 0x48 a special device, 0xF0 a device by its ACPI HID. Others are kept.
+    pub fn kind(&self) -> u8
+        ensures { result ≡ entry_kind (bytes_of_entry self.now) }
+    {
+        kind_of(self.bytes)
+    }
+
+    /// DeviceID: the device, or the first of a range.
+    pub fn first(&self) -> u16
+        ensures { result ≡ first_id (bytes_of_entry self.now) }
+    {
+        field(self.bytes, 1, 2) as u16 // DeviceID
+    }
+
+    /// The last device of a range, DeviceID of its end, or of another entry `first`.
+    pub fn last(&self) -> u16
+        ensures { result ≡ last_id (bytes_of_entry self.now) }
+    {
+        if is_start(self.bytes) {
+            field(self.bytes, own_size(self.bytes) + 1, 2) as u16 // DeviceID of the end
+        } else {
+            self.first()
+        }
+    }
+
+    /// DTE Setting: how the unit treats what the devices send.
+    pub fn settings(&self) -> u8
+        ensures { result ≡ settings_of (bytes_of_entry self.now) }
+    {
+        field(self.bytes, 3, 1) as u8 // DTE Setting
+    }
+
+    /// Source DeviceID of an alias, types 0x42 and 0x43: the id by which the unit knows the devices. `None` of other types.
+    pub fn alias(&self) -> Option<u16>
+        ensures { result ≡ alias_of (bytes_of_entry self.now) }
+    {
+        match self.kind() {
+            0x42 | 0x43 => Some(field(self.bytes, 5, 2) as u16), // Source DeviceID
+            _ => None,
+        }
+    }
+
+    /// Extended DTE Setting of types 0x46 and 0x47, or `None` of others.
+    pub fn extended_settings(&self) -> Option<u32>
+        ensures { result ≡ extended_of (bytes_of_entry self.now) }
+    {
+        match self.kind() {
+            0x46 | 0x47 => Some(field(self.bytes, 4, 4) as u32), // Extended DTE Setting
+            _ => None,
+        }
+    }
+
+    /// The special device of type 0x48, or `None` of other types.
+    pub fn special(&self) -> Option<SpecialDevice>
+        ensures { result ≡ special_of (bytes_of_entry self.now) }
+    {
+        if self.kind() != 0x48 {
+            return None;
+        }
+        Some(SpecialDevice {
+            handle: field(self.bytes, 4, 1) as u8, // Handle
+            source: field(self.bytes, 5, 2) as u16, // Source DeviceID
+            variety: field(self.bytes, 7, 1) as u8, // Variety
+        })
+    }
+
+    /// Hardware ID of type 0xF0: the eight bytes of its text. `None` of other types.
+    pub fn hardware_id(&self) -> Option<[u8; 8]>
+        ensures { result ≡ hardware_id (bytes_of_entry self.now) }
+    {
+        if self.kind() == 0xf0 {
+            Some(filled(self.bytes, 4)) // Hardware ID
+        } else {
+            None
+        }
+    }
+
+    /// Compatible ID of type 0xF0: the eight bytes of its text. `None` of other types.
+    pub fn compatible_id(&self) -> Option<[u8; 8]>
+        ensures { result ≡ compatible_id (bytes_of_entry self.now) }
+    {
+        if self.kind() == 0xf0 {
+            Some(filled(self.bytes, 12)) // Compatible ID
+        } else {
+            None
+        }
+    }
+
+    /// Unique ID format of type 0xF0: 0 there is no unique id, 1 it is a number of eight bytes, 2 a text. `None` of other
+    /// types.
+    pub fn unique_id_format(&self) -> Option<u8>
+        ensures { result ≡ unique_id_format (bytes_of_entry self.now) }
+    {
+        if self.kind() == 0xf0 {
+            Some(field(self.bytes, 20, 1) as u8) // Unique ID format
+        } else {
+            None
+        }
+    }
+
+    /// Unique ID of type 0xF0: its bytes. None of other types.
+    pub fn unique_id(&self) -> &'a [u8]
+        ensures { result.now ≡ unique_id (bytes_of_entry self.now) }
+    {
+        if self.kind() != 0xf0 {
+            return &[];
+        }
+        let rest = skip(self.bytes, 22); // Unique ID
+        let length = field(self.bytes, 21, 1) as usize; // Unique ID length
+        &rest[..length.min(rest.len())]
+    }
+
+    /// Whether the entry covers the device of an id: type 1 covers every one, a range those from its first to its last, and
+    /// a special device its source.
+    pub fn covers(&self, id: u16) -> bool
+        ensures { result ≡ covers id (bytes_of_entry self.now) }
+    {
+        match self.kind() {
+            1 => true,
+            0x48 => field(self.bytes, 5, 2) as u16 == id, // Source DeviceID
+            2 | 3 | 0x42 | 0x43 | 0x46 | 0x47 | 0xf0 => self.first() <= id && id <= self.last(),
+            _ => false,
+        }
+    }
+
+    /// The id by which the unit knows a device that the entry covers: that of the alias, or the device's own.
+    pub(super) fn source_for(&self, id: u16) -> u16
+        ensures { result ≡ source_for id (bytes_of_entry self.now) }
+    {
+        self.alias().unwrap_or(id)
+    }
+}
+
+/// Type of an entry.
+fn kind_of(entry: &[u8]) -> u8
+    ensures { result ≡ entry_kind entry.now }
+{
+    field(entry, 0, 1) as u8 // Type
+}
+
+/// Whether an entry is the start of a range.
+fn is_start(entry: &[u8]) -> bool
+    ensures { result ≡ is_start entry.now }
+{
+    let kind = kind_of(entry);
+    kind == 3 || kind == 0x43 || kind == 0x47
+}
+
+/// How many bytes an entry has by itself.
+fn own_size(entry: &[u8]) -> usize
+    ensures value { result ≡ own_size entry.now }
+    ensures fits { result < 512 }
+{
+    match kind_of(entry) {
+        0xf0 => 22 + field(entry, 21, 1) as usize, // Unique ID length
+        0x00..0x40 => 4,
+        0x40..0x80 => 8,
+        0x80..0xc0 => 16,
+        _ => 32,
+    }
+}
+
+/// How many bytes the entry has that bytes begin with, with those of the end of a range, or `None` if none begins.
+fn entry_size(bytes: &[u8]) -> Option<usize>
+    ensures { result ≡ entry_size bytes.now }
+{
+    let size = own_size(bytes);
+    if is_start(bytes) {
+        // Type of the end.
+        if field(bytes, size, 1) == 4 && size + 4 <= bytes.len() {
+            return Some(size + 4);
+        }
+        return None;
+    }
+    if kind_of(bytes) != 4 && size <= bytes.len() {
+        Some(size)
+    } else {
+        None
+    }
+}
+
+/// The entry that bytes begin with, and the bytes after it, or `None` if none begins.
+fn split_entry(bytes: &[u8]) -> Option<(&[u8], &[u8])>
+    ensures found { IfSome result (λ x. pieces entry_size bytes.now ≡ with_entry x.0.now (pieces entry_size x.1.now)) }
+    ensures none { IfNone result (pieces entry_size bytes.now ≡ ([], bytes.now)) }
+{
+    let size = entry_size(bytes)?;
+    Some(bytes.split_at(size))
+}
+
+/// The device entries of an IVHD, in order (section 5.2.2.2), those of undefined types and padding too. It ends at the
+/// block's end, or where no entry begins: if an entry goes past the block's end, if the end of a range doesn't follow its
+/// start at once, or if an end follows no start.
+#[derive(Clone, Copy, Debug)]
+pub struct DeviceEntryIter<'a> {
+    rest: &'a [u8],
+    ended: bool,
+}
+
+impl<'a> DeviceEntryIter<'a> {
+    ghost use Rattle.acpi_iommu.specs.IvrsEntries.{entries_left, has_ended, is_malformed, rest_left};
+
+    /// The entries that bytes have.
+    pub(super) fn over(bytes: &'a [u8]) -> Self
+        ensures items { entries_left result ≡ (pieces entry_size bytes.now).0 }
+        ensures rest { rest_left result ≡ (pieces entry_size bytes.now).1 }
+        ensures begun { has_ended result ≡ false }
+    {
+        DeviceEntryIter {
+            rest: bytes,
+            ended: false,
+        }
+    }
+
+    /// Whether `next` has answered `None` before the block's end, where no entry begins (section 5.2.2.2). As long as
+    /// `next` hasn't answered `None` it is false.
+    pub fn ended_malformed(&self) -> bool
+        ensures { result ≡ is_malformed self.now }
+    {
+        match self.rest {
+            [] => false,
+            _ => self.ended,
+        }
+    }
+}
+
+impl<'a> Iterator for DeviceEntryIter<'a> {
+    ghost use Rattle.std.specs.Iterator.{YieldsFirstBy, item_count};
+    ghost use Rattle.acpi_iommu.specs.IvrsEntries.{EndsAtRest, entries_left};
+
+    type Item = DeviceEntry<'a>;
+
+    ghost next_gives = { λ s r t. YieldsFirstBy bytes_of_entry (λ x. entries_left x) s r t × EndsAtRest s r t };
+
+    ghost remaining = { item_count (λ s. entries_left s) };
+
+    fn next(&mut self) -> Option<DeviceEntry<'a>> {
+        match split_entry(self.rest) {
+            Some((bytes, others)) => {
+                self.rest = others;
+                Some(DeviceEntry { bytes })
+            }
+            None => {
+                self.ended = true;
+                None
+            }
+        }
+    }
+}
