@@ -1,5 +1,5 @@
--- The DMA Remapping Reporting Structure, DMAR (Intel Virtualization Technology for Directed I/O 4.0, chapter 8), and the
--- structures that it is made of.
+-- The DMA Remapping Reporting Structure, DMAR (Intel Virtualization Technology for Directed I/O 4.0, chapter 8), and
+-- the structures that it is made of.
 use Rattle.std.specs.Prelude.{◌≡◌, ℕ, ◌+◌, ◌-◌, ◌*◌, ◌^◌, ◌==◌, ◌&&◌, ◌||◌, Bool, true, false, not, nat_lt, nat_le, List, [], ◌∷◌, drop, take_while, Option, None, Some, if◌then◌else◌}
 use Rattle.acpi_base.specs.Bits.{bits_of, has_bit}
 use Rattle.acpi_base.specs.Bytes.{field_of}

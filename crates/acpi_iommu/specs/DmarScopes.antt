@@ -70,8 +70,8 @@ is_front (p ∷ path) (h ∷ hops) = is_same_hop p h && is_front path hops
 
 -- ---- naming
 
--- whether a path reaches the device: that of an endpoint, type 1, is the hops to it; that of a sub-hierarchy, type 2, is
--- a front of them, of one hop at least
+-- whether a path reaches the device: that of an endpoint, type 1, is the hops to it; that of a sub-hierarchy, type 2,
+-- is a front of them, of one hop at least
 abbrev pub reaches : ℕ → List Hop → List Hop → Bool
 reaches kind path hops =
     is_front path hops

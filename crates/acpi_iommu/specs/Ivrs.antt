@@ -1,5 +1,5 @@
--- The I/O Virtualization Reporting Structure, IVRS (AMD I/O Virtualization Technology (IOMMU) Specification 3.08, section
--- 5.2), and the blocks that it is made of.
+-- The I/O Virtualization Reporting Structure, IVRS (AMD I/O Virtualization Technology (IOMMU) Specification 3.08,
+-- section 5.2), and the blocks that it is made of.
 use Rattle.std.specs.Prelude.{◌≡◌, ℕ, ◌==◌, ◌&&◌, ◌||◌, Bool, nat_le, List, length, drop, Option, None, Some, if◌then◌else◌, []}
 use Rattle.acpi_base.specs.Bytes.{field_of}
 use Rattle.acpi_base.specs.Header.{header_at}

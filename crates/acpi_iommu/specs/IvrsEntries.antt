@@ -13,8 +13,8 @@ use Rattle.acpi_iommu.specs.declared.ivrs.entry.SpecialDevice.{SpecialDevice}
 abbrev pub entry_kind : List ℕ → ℕ
 entry_kind e = field_of e 0 1
 
--- how many bytes an entry has by itself: of an ACPI HID device 22 and as many as its UID length says, at 21, and of others
--- by bits 6 and 7 of the type
+-- how many bytes an entry has by itself: of an ACPI HID device 22 and as many as its UID length says, at 21, and of
+-- others by bits 6 and 7 of the type
 abbrev pub own_size : List ℕ → ℕ
 own_size e =
     if entry_kind e == 0xf0 then 22 + field_of e 21 1

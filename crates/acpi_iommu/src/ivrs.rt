@@ -1,5 +1,5 @@
-//! The I/O Virtualization Reporting Structure (IVRS, section 5.2): which unit remaps what a device asks of memory, and which
-//! memory has its own rules.
+//! The I/O Virtualization Reporting Structure (IVRS, section 5.2): which unit remaps what a device asks of memory, and
+//! which memory has its own rules.
 
 mod block;
 mod blocks;
@@ -13,8 +13,8 @@ pub use block::{Ivhd, Ivmd, IvrsBlock, IvrsBlockIter, IvrsFields};
 pub use blocks::{BestBlockIter, Blocks, DeviceUnit, IvrsCalls, MemoryIter};
 pub use entry::{DeviceEntry, DeviceEntryIter, SpecialDevice};
 
-/// The I/O Virtualization Reporting Structure (IVRS, section 5.2). Its blocks stand after 48 fixed bytes; `Blocks` reads
-/// them, and `IvrsCalls` gives a mapping of it the same calls.
+/// The I/O Virtualization Reporting Structure (IVRS, section 5.2). Its blocks stand after 48 fixed bytes; `Blocks`
+/// reads them, and `IvrsCalls` gives a mapping of it the same calls.
 #[derive(Debug, Drop)]
 pub struct Ivrs {
     /// The header that every table begins with.

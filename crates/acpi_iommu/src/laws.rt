@@ -3,6 +3,7 @@ ghost use Rattle.acpi_base.specs.Equality.{IsEquality};
 
 use crate::dmar::{Drhd, Hop, Rmrr, UnitSource};
 use crate::error::IommuError;
+use crate::ivrs::{DeviceUnit, Ivhd, Ivmd, SpecialDevice};
 
 /// Two `IommuError`s compare as equal exactly if they are the same variant.
 pub fn iommu_error_equality(a: &IommuError, b: &IommuError) -> bool
@@ -34,6 +35,34 @@ pub fn rmrr_equality(a: &Rmrr, b: &Rmrr) -> bool
 
 /// Two `UnitSource`s compare as equal exactly if all their fields are equal.
 pub fn unit_source_equality(a: &UnitSource, b: &UnitSource) -> bool
+    ensures { IsEquality result a.now b.now }
+{
+    a == b
+}
+
+/// Two `Ivhd`s compare as equal exactly if all their fields are equal.
+pub fn ivhd_equality(a: &Ivhd, b: &Ivhd) -> bool
+    ensures { IsEquality result a.now b.now }
+{
+    a == b
+}
+
+/// Two `Ivmd`s compare as equal exactly if all their fields are equal.
+pub fn ivmd_equality(a: &Ivmd, b: &Ivmd) -> bool
+    ensures { IsEquality result a.now b.now }
+{
+    a == b
+}
+
+/// Two `DeviceUnit`s compare as equal exactly if all their fields are equal.
+pub fn device_unit_equality(a: &DeviceUnit, b: &DeviceUnit) -> bool
+    ensures { IsEquality result a.now b.now }
+{
+    a == b
+}
+
+/// Two `SpecialDevice`s compare as equal exactly if all their fields are equal.
+pub fn special_device_equality(a: &SpecialDevice, b: &SpecialDevice) -> bool
     ensures { IsEquality result a.now b.now }
 {
     a == b

@@ -3,15 +3,15 @@
 //! - `table`: Host Address Width and the flags;
 //! - `structures`: whether they have ended malformed before the first one is asked for, how many there are, and whether
 //!   they have after the last one;
-//! - `structure N`, `flag N`, `name N`, `registers N`, `range N`: of the structure with so many before it what its fields
-//!   are, its flag, its object's name, how many bytes its registers have, and how many its range has;
+//! - `structure N`, `flag N`, `name N`, `registers N`, `range N`: of the structure with so many before it what its
+//!   fields are, its flag, its object's name, how many bytes its registers have, and how many its range has;
 //! - `scopes N`: as `structures`, of its scopes, each with Type, Flags, Enumeration ID, Start Bus Number and hops;
 //! - `unit DEVICE`, `io_apic ID`, `hpet NUMBER`, `reserved DEVICE`, where `hops` says what a device is.
 
 use crate::hops::device_of;
 use acpi_base::PhysicalRecord;
 use acpi_iommu::{
-    Dmar, DmarCalls, DmarFields, DmarStructure, DmarStructureIter, Drhd, Hop, IommuResult,
+    Dmar, DmarCalls, DmarFields, DmarStructure, DmarStructureIter, Drhd, IommuResult, ReservedIter,
     UnitSource, Units,
 };
 use acpi_testkit::rows::shown;
@@ -36,7 +36,13 @@ pub(crate) fn answer(alloc: Global, table: &[u8], question: &str) -> Result<Stri
             units.unit_of_io_apic(rest.parse::<u8>().unwrap_or(0)),
         ),
         "hpet" => of_source(alloc, units.unit_of_hpet(rest.parse::<u8>().unwrap_or(0))),
-        "reserved" => of_reserved(alloc, &units, rest),
+        "reserved" => {
+            let device = device_of(alloc, rest)?;
+            of_reserved(
+                alloc,
+                units.reserved_for(device.segment, device.bus, &device.hops),
+            )
+        }
         _ => of_structure(alloc, units.structures(), word, rest),
     }
 }
@@ -60,10 +66,10 @@ pub(crate) fn of_mapping<T: DmarCalls>(
                     alloc,
                     dmar.unit_for(device.segment, device.bus, &device.hops),
                 ),
-                _ => match dmar.reserved_for(device.segment, device.bus, &device.hops) {
-                    Ok(ranges) => shown(alloc, &ranges.count()),
-                    Err(refusal) => shown(alloc, &refusal),
-                },
+                _ => of_reserved(
+                    alloc,
+                    dmar.reserved_for(device.segment, device.bus, &device.hops),
+                ),
             }
         }
     }
@@ -129,28 +135,34 @@ fn of_fields(alloc: Global, fields: Option<DmarFields>, word: &str) -> Result<St
 /// The scopes of a structure, and whether they have ended malformed.
 fn of_scopes(alloc: Global, structure: &DmarStructure<'_>) -> Result<String, AllocError> {
     let mut text = String::new(alloc);
+    let mut kept = Ok(());
     let mut scopes = structure.scopes();
     for scope in scopes.by_ref() {
-        let (kind, flags, id, bus) = (
-            scope.kind(),
-            scope.flags(),
-            scope.enumeration_id(),
-            scope.start_bus(),
-        );
-        write!(text, "({kind} {flags} {id} {bus}")?;
+        let (kind, flags) = (scope.kind(), scope.flags());
+        let (id, bus) = (scope.enumeration_id(), scope.start_bus());
+        kept = kept.and(write!(text, "({kind} {flags} {id} {bus}"));
         for hop in scope.hops() {
-            let Hop { device, function } = hop;
-            write!(text, " {device:x}.{function:x}")?;
+            kept = kept.and(write!(text, " {:x}.{:x}", hop.device, hop.function));
         }
-        text.push_str(")")?;
+        kept = kept.and(write!(text, ")"));
     }
-    let end = if scopes.ended_malformed() {
-        "malformed"
-    } else {
-        "whole"
-    };
-    write!(text, " {end}")?;
-    Ok(text)
+    let end = end_of(scopes.ended_malformed());
+    kept = kept.and(write!(text, " {end}"));
+    whole(text, kept)
+}
+
+/// The word for an end.
+pub(crate) fn end_of(is_malformed: bool) -> &'static str {
+    if is_malformed { "malformed" } else { "whole" }
+}
+
+/// A text, or `none` if it is empty, or the first refusal of a part of it.
+pub(crate) fn whole(text: String, kept: Result<(), AllocError>) -> Result<String, AllocError> {
+    match kept {
+        Err(refused) => Err(refused),
+        Ok(()) if text.is_empty() => String::from_str(*text.allocator(), "none"),
+        Ok(()) => Ok(text),
+    }
 }
 
 /// The base of a unit's registers.
@@ -181,23 +193,20 @@ fn of_source(alloc: Global, source: IommuResult<Option<UnitSource>>) -> Result<S
 }
 
 /// The first and last bytes and the lengths of the ranges that are reserved for a device.
-fn of_reserved(alloc: Global, units: &Units<'_>, device: &str) -> Result<String, AllocError> {
-    let device = device_of(alloc, device)?;
+fn of_reserved(
+    alloc: Global,
+    ranges: IommuResult<ReservedIter<'_, '_>>,
+) -> Result<String, AllocError> {
     let mut text = String::new(alloc);
-    match units.reserved_for(device.segment, device.bus, &device.hops) {
+    let mut kept = Ok(());
+    match ranges {
         Ok(ranges) => {
             for range in ranges {
-                write!(text, "{:#x} {:#x} ", range.base, range.limit)?;
-                match range.length() {
-                    Some(length) => write!(text, "{length:#x};")?,
-                    None => write!(text, "none;")?,
-                }
+                let (base, limit, length) = (range.base, range.limit, range.length());
+                kept = kept.and(write!(text, "{base:#x} {limit:#x} {length:?};"));
             }
         }
-        Err(refusal) => write!(text, "{refusal}")?,
+        Err(refusal) => kept = write!(text, "{refusal}"),
     }
-    if text.is_empty() {
-        text.push_str("none")?;
-    }
-    Ok(text)
+    whole(text, kept)
 }

@@ -1,4 +1,5 @@
-//! Questions about the tables in a memory: `dmar QUESTION` and `ivrs QUESTION` of the first valid one.
+//! Questions about the tables in a memory: `dmar QUESTION` and `ivrs QUESTION` of the first valid one, and
+//! `faults SIGNATURE`, why the first was passed over that isn't valid.
 
 use crate::{dmar, ivrs};
 use acpi::AcpiTables;
@@ -24,6 +25,8 @@ pub(crate) fn answer(alloc: Global, row: &Row, question: &str) -> Result<String,
             Ok(table) => dmar::of_mapping(alloc, &table, asked),
             Err(refusal) => shown(alloc, &refusal),
         },
+        "faults" if asked == "DMAR" => shown(alloc, &tables.faults::<Dmar>().next()),
+        "faults" => shown(alloc, &tables.faults::<Ivrs>().next()),
         _ => match tables.find_table::<Ivrs>() {
             Ok(table) => ivrs::of_mapping(alloc, &table, asked),
             Err(refusal) => shown(alloc, &refusal),

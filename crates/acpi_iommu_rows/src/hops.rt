@@ -1,5 +1,5 @@
-//! A device in a question: `SEGMENT BUS` and the hops from there to it, as `0 0 1c.0 00.1`. Segments and buses are decimal,
-//! the two numbers of a hop hexadecimal.
+//! A device in a question: `SEGMENT BUS` and the hops from there to it, as `0 0 1c.0 00.1`. Segments and buses are
+//! decimal, the two numbers of a hop hexadecimal.
 
 use acpi_iommu::Hop;
 use std::alloc::{AllocError, Global};

@@ -1,14 +1,16 @@
 //! Questions about an IVRS.
 //!
-//! - `blocks`: whether they have ended malformed before the first one is asked for, how many there are, and whether they
-//!   have after the last one;
-//! - `block N`, `entries N`: of the block with so many before it Type and fields, and each device entry with Type, first and
-//!   last device and settings, and what else its type has;
+//! - `blocks`: whether they have ended malformed before the first one is asked for, how many there are, and whether
+//!   they have after the last one;
+//! - `block N`, `entries N`: of the block with so many before it Type and fields, and each device entry with Type,
+//!   first and last device and settings, and what else its type has;
 //! - `best`: the types and bases of the blocks of the best type;
 //! - `unit SEGMENT ID`, `memory ID`, ids in hexadecimal.
 
+use crate::dmar::{end_of, whole};
 use acpi_iommu::{
-    Blocks, DeviceEntry, DeviceUnit, IommuResult, IvrsBlock, IvrsBlockIter, IvrsCalls, IvrsFields,
+    BestBlockIter, Blocks, DeviceEntry, DeviceUnit, IommuResult, IvrsBlock, IvrsBlockIter,
+    IvrsCalls, IvrsFields, MemoryIter,
 };
 use acpi_testkit::rows::shown;
 use std::alloc::{AllocError, Global};
@@ -19,7 +21,7 @@ pub(crate) fn answer(alloc: Global, table: &[u8], question: &str) -> Result<Stri
     let (word, rest) = question.split_once(' ').unwrap_or((question, ""));
     match word {
         "blocks" => shown(alloc, &walked(all.blocks())),
-        "best" => of_best(alloc, &all),
+        "best" => of_best(alloc, all.blocks_of_best_type()),
         "unit" => {
             let (segment, id) = rest.split_once(' ').unwrap_or((rest, ""));
             of_unit(
@@ -27,7 +29,7 @@ pub(crate) fn answer(alloc: Global, table: &[u8], question: &str) -> Result<Stri
                 all.block_for(segment.parse::<u16>().unwrap_or(0), id_of(id)),
             )
         }
-        "memory" => of_memory(alloc, &all, id_of(rest)),
+        "memory" => of_memory(alloc, all.memory_for(id_of(rest))),
         _ => match all.blocks().nth(rest.parse::<usize>().unwrap_or(0)) {
             Some(block) if word == "block" => shown(alloc, &(block.kind(), block.fields())),
             Some(block) => of_entries(alloc, &block),
@@ -45,15 +47,9 @@ pub(crate) fn of_mapping<T: IvrsCalls>(
     let (word, rest) = question.split_once(' ').unwrap_or((question, ""));
     match word {
         "blocks" => shown(alloc, &walked(ivrs.blocks())),
-        "best" => match ivrs.blocks_of_best_type() {
-            Ok(blocks) => shown(alloc, &blocks.count()),
-            Err(refusal) => shown(alloc, &refusal),
-        },
+        "best" => of_best(alloc, ivrs.blocks_of_best_type()),
         "unit" => of_unit(alloc, ivrs.block_for(0, id_of(rest))),
-        _ => match ivrs.memory_for(id_of(rest)) {
-            Ok(ranges) => shown(alloc, &ranges.count()),
-            Err(refusal) => shown(alloc, &refusal),
-        },
+        _ => of_memory(alloc, ivrs.memory_for(id_of(rest))),
     }
 }
 
@@ -73,68 +69,50 @@ fn walked(mut blocks: IvrsBlockIter<'_>) -> (bool, u32, bool) {
 }
 
 /// The types and bases of the blocks of the best type.
-fn of_best(alloc: Global, all: &Blocks<'_>) -> Result<String, AllocError> {
+fn of_best(alloc: Global, blocks: IommuResult<BestBlockIter<'_>>) -> Result<String, AllocError> {
     let mut text = String::new(alloc);
-    match all.blocks_of_best_type() {
+    let mut kept = Ok(());
+    match blocks {
         Ok(blocks) => {
             for block in blocks {
                 if let Some(IvrsFields::Ivhd(unit)) = block.fields() {
-                    write!(text, "{:#x} {:#x};", unit.kind, unit.base)?;
+                    kept = kept.and(write!(text, "{:#x} {:#x};", unit.kind, unit.base));
                 }
             }
         }
-        Err(refusal) => write!(text, "{refusal}")?,
+        Err(refusal) => kept = write!(text, "{refusal}"),
     }
-    or_none(text)
-}
-
-/// A text, or `none` if it is empty.
-fn or_none(mut text: String) -> Result<String, AllocError> {
-    if text.is_empty() {
-        text.push_str("none")?;
-    }
-    Ok(text)
+    whole(text, kept)
 }
 
 /// The device entries of a block, and whether they have ended malformed.
 fn of_entries(alloc: Global, block: &IvrsBlock<'_>) -> Result<String, AllocError> {
     let mut text = String::new(alloc);
+    let mut kept = Ok(());
     let mut entries = block.entries();
     for entry in entries.by_ref() {
-        let (kind, first, last, settings) = (
-            entry.kind(),
-            entry.first(),
-            entry.last(),
-            entry.settings(),
-        );
-        write!(text, "({kind:x} {first:x} {last:x} {settings:x}")?;
-        text.push_str(more_of(alloc, &entry)?.as_str())?;
-        text.push_str(")")?;
+        let (kind, first) = (entry.kind(), entry.first());
+        let (last, settings) = (entry.last(), entry.settings());
+        kept = kept.and(write!(text, "({kind:x} {first:x} {last:x} {settings:x}"));
+        kept = kept.and(add_more(&mut text, &entry));
+        kept = kept.and(write!(text, ")"));
     }
-    let end = if entries.ended_malformed() {
-        "malformed"
-    } else {
-        "whole"
-    };
-    write!(text, " {end}")?;
-    Ok(text)
+    let end = end_of(entries.ended_malformed());
+    kept = kept.and(write!(text, " {end}"));
+    whole(text, kept)
 }
 
-/// What else the type of an entry has.
-fn more_of(alloc: Global, entry: &DeviceEntry<'_>) -> Result<String, AllocError> {
-    let mut text = String::new(alloc);
+/// Adds what else the type of an entry has.
+fn add_more(text: &mut String, entry: &DeviceEntry<'_>) -> Result<(), AllocError> {
     if let Some(source) = entry.alias() {
-        write!(text, " as {source:x}")?;
+        return write!(text, " as {source:x}");
     }
     if let Some(settings) = entry.extended_settings() {
-        write!(text, " more {settings:x}")?;
+        return write!(text, " more {settings:x}");
     }
     if let Some(device) = entry.special() {
-        write!(
-            text,
-            " handle {} source {:x} variety {}",
-            device.handle, device.source, device.variety
-        )?;
+        let (handle, source, variety) = (device.handle, device.source, device.variety);
+        return write!(text, " handle {handle} source {source:x} variety {variety}");
     }
     if let Some(id) = entry.hardware_id() {
         let ids = (
@@ -143,9 +121,9 @@ fn more_of(alloc: Global, entry: &DeviceEntry<'_>) -> Result<String, AllocError>
             entry.unique_id_format(),
             entry.unique_id(),
         );
-        write!(text, " {ids:?}")?;
+        return write!(text, " {ids:?}");
     }
-    Ok(text)
+    Ok(())
 }
 
 /// The base of a unit's registers, and how it treats a device.
@@ -161,19 +139,17 @@ fn of_unit(alloc: Global, unit: IommuResult<Option<DeviceUnit>>) -> Result<Strin
 }
 
 /// The memory with rules for a device.
-fn of_memory(alloc: Global, all: &Blocks<'_>, device_id: u16) -> Result<String, AllocError> {
+fn of_memory(alloc: Global, ranges: IommuResult<MemoryIter<'_>>) -> Result<String, AllocError> {
     let mut text = String::new(alloc);
-    match all.memory_for(device_id) {
+    let mut kept = Ok(());
+    match ranges {
         Ok(ranges) => {
             for range in ranges {
-                write!(
-                    text,
-                    "{:#x} {:#x} {:#x};",
-                    range.start, range.length, range.flags
-                )?;
+                let (start, length, flags) = (range.start, range.length, range.flags);
+                kept = kept.and(write!(text, "{start:#x} {length:#x} {flags:#x};"));
             }
         }
-        Err(refusal) => write!(text, "{refusal}")?,
+        Err(refusal) => kept = write!(text, "{refusal}"),
     }
-    or_none(text)
+    whole(text, kept)
 }

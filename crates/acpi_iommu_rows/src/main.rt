@@ -1,8 +1,8 @@
 //! Checks what the tables of units answer that remap devices, against the rows of the files that its arguments name,
 //! whose lines `acpi_testkit::rows` describes.
 //!
-//! The bytes of a row are a table by itself, or a memory whose RSDP lies at 0x1000. Expected values are worked out by hand
-//! from the layouts of the tables. Numbers in an answer are decimal, or hexadecimal after `0x`.
+//! The bytes of a row are a table by itself, or a memory whose RSDP lies at 0x1000. Expected values are worked out by
+//! hand from the layouts of the tables. Numbers in an answer are decimal, or hexadecimal after `0x`.
 #![tactic(auto)]
 
 mod dmar;

@@ -1,7 +1,8 @@
 //! What the structures of a DMAR say in their fixed bytes, by their types (sections 8.3 to 8.9).
 ghost use Rattle.std.specs.Prelude.{◌≡◌};
 ghost use Rattle.acpi_iommu.specs.Dmar.{andd_at, atsr_at, drhd_at, fields_of, includes_pci_all, is_range};
-ghost use Rattle.acpi_iommu.specs.Dmar.{kind_of, length_of, register_bytes, rhsa_at, rmrr_at, satc_at, segment_of, sidp_at};
+ghost use Rattle.acpi_iommu.specs.Dmar.{kind_of, length_of, register_bytes, rhsa_at, rmrr_at, satc_at, segment_of};
+ghost use Rattle.acpi_iommu.specs.Dmar.{sidp_at};
 ghost use Rattle.acpi_base.specs.Bits.{has_bit};
 
 use acpi_base::bytes::{bits, field, has_bit};
@@ -19,8 +20,8 @@ pub struct Drhd {
     pub register_base: u64,
 }
 
-/// Reserved Memory Region Reporting (RMRR, section 8.4): memory that devices of firmware reach, and that has to be mapped
-/// for them.
+/// Reserved Memory Region Reporting (RMRR, section 8.4): memory that devices of firmware reach, and that has to be
+/// mapped for them.
 #[derive(Clone, Copy, Debug, PartialEq, Eq)]
 pub struct Rmrr {
     /// Segment Number: the PCI segment of the devices.
@@ -105,7 +106,8 @@ impl Drhd {
         }
     }
 
-    /// INCLUDE_PCI_ALL (bit 0 of the flags): whether the unit remaps all devices of its segment that no other unit names.
+    /// INCLUDE_PCI_ALL (bit 0 of the flags): whether the unit remaps all devices of its segment that no other unit
+    /// names.
     pub fn includes_pci_all(&self) -> bool
         ensures { result ≡ includes_pci_all self.now }
     {

@@ -1,7 +1,8 @@
 //! Device scopes: which devices a structure of a DMAR names (section 8.3.1).
 ghost use Rattle.std.specs.Prelude.{◌≡◌, length, IfSome, IfNone, true, false};
 ghost use Rattle.acpi_iommu.specs.DmarScopes.{hops_left, is_front, is_same_hop, last_hop, path_of};
-ghost use Rattle.acpi_iommu.specs.DmarScopes.{bytes_of_scope, enumeration_id, is_numbered, names, reaches, scope_flags, scope_kind, start_bus};
+ghost use Rattle.acpi_iommu.specs.DmarScopes.{bytes_of_scope, enumeration_id, is_numbered, names, reaches};
+ghost use Rattle.acpi_iommu.specs.DmarScopes.{scope_flags, scope_kind, start_bus};
 
 use acpi_base::bytes::{field, skip};
 use acpi_base::entries::{EntryLayout, Grammar, Place, Width, split_front};
@@ -76,8 +77,8 @@ impl<'a> DeviceScope<'a> {
         field(self.bytes, 2, 1) as u8 // Flags
     }
 
-    /// Enumeration ID: of type 3 the id of the I/O APIC, of type 4 the number of the HPET, of type 5 the ACPI Device Number
-    /// of an ANDD.
+    /// Enumeration ID: of type 3 the id of the I/O APIC, of type 4 the number of the HPET, of type 5 the ACPI Device
+    /// Number of an ANDD.
     pub fn enumeration_id(&self) -> u8
         ensures { result ≡ enumeration_id (bytes_of_scope self.now) }
     {
@@ -146,7 +147,8 @@ fn reaches(kind: u8, path: HopIter<'_>, hops: &[Hop]) -> bool
 
 /// How many hops a path has, if the hops begin with it.
 fn front_length(path: HopIter<'_>, hops: &[Hop]) -> Option<usize>
-    ensures whole { IfSome result (λ n. (is_front (hops_left path.entry) hops.now ≡ true) × (n ≡ length (hops_left path.entry))) }
+    ensures whole { IfSome result (λ n. (is_front (hops_left path.entry) hops.now ≡ true)
+        × (n ≡ length (hops_left path.entry))) }
     ensures other { IfNone result (is_front (hops_left path.entry) hops.now ≡ false) }
 {
     let mut count = 0;
@@ -177,8 +179,8 @@ const SCOPE_GRAMMAR: Grammar<0> = Grammar {
     most: None,
 };
 
-/// The device scopes of a structure, in order (section 8.3.1). It ends at the structure's end, or where no scope begins:
-/// if one byte is left, or if the length is under 6 or past the structure's end.
+/// The device scopes of a structure, in order (section 8.3.1). It ends at the structure's end, or where no scope
+/// begins: if one byte is left, or if the length is under 6 or past the structure's end.
 #[derive(Clone, Copy, Debug)]
 pub struct DeviceScopeIter<'a> {
     rest: &'a [u8],

@@ -47,8 +47,8 @@ impl<'a> DmarStructure<'a> {
         DeviceScopeIter::over(scope_bytes(self.bytes))
     }
 
-    /// ACPI Object Name of an ANDD: the text from byte 8 on, up to the first zero or the structure's end. It is `None` if
-    /// that isn't valid UTF-8. Of other types it is empty.
+    /// ACPI Object Name of an ANDD: the text from byte 8 on, up to the first zero or the structure's end. It is `None`
+    /// if that isn't valid UTF-8. Of other types it is empty.
     pub fn object_name(&self) -> Option<&'a str>
         ensures { IsTextOf result (name_of (structure_bytes self.now)) }
     {
@@ -83,7 +83,8 @@ impl<'a> DmarStructure<'a> {
 
     /// The unit, if it is one of a segment.
     pub(super) fn unit_of(&self, segment: u16) -> Option<Drhd>
-        ensures { result ≡ (if is_unit_of segment (structure_bytes self.now) then Some (drhd_at (structure_bytes self.now)) else None) }
+        ensures { result ≡ (if is_unit_of segment (structure_bytes self.now)
+            then Some (drhd_at (structure_bytes self.now)) else None) }
     {
         if self.kind() == 0 && segment_of(self.bytes) == segment {
             Some(Drhd::read(self.bytes))
@@ -114,7 +115,8 @@ impl<'a> DmarStructure<'a> {
 
     /// The range, if it is one of a segment for the device that these hops reach from a bus.
     pub(super) fn reserved_for(&self, segment: u16, bus: u8, hops: &[Hop]) -> Option<Rmrr>
-        ensures { result ≡ (if is_reserved_for segment bus hops.now (structure_bytes self.now) then Some (rmrr_at (structure_bytes self.now)) else None) }
+        ensures { result ≡ (if is_reserved_for segment bus hops.now (structure_bytes self.now)
+            then Some (rmrr_at (structure_bytes self.now)) else None) }
     {
         if self.kind() == 1 && segment_of(self.bytes) == segment && self.names(bus, hops) {
             Some(Rmrr::read(self.bytes))

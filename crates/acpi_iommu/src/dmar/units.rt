@@ -91,8 +91,8 @@ impl<'a> Units<'a> {
         None
     }
 
-    /// The unit that remaps a device (section 8.3), which is named by its segment, its root bus, and the hops from there to
-    /// it: the first DRHD of the segment one of whose scopes names it, else the first of the segment with
+    /// The unit that remaps a device (section 8.3), which is named by its segment, its root bus, and the hops from
+    /// there to it: the first DRHD of the segment one of whose scopes names it, else the first of the segment with
     /// INCLUDE_PCI_ALL, else `None`. A scope of a PCI endpoint names it if its start bus is the bus and its path is the
     /// hops, and one of a bridge if its path has a hop and the hops begin with it.
     ///
@@ -145,11 +145,11 @@ impl<'a> Units<'a> {
         Ok(None)
     }
 
-    /// The ranges of memory that are reserved for a device (section 8.4), which is named as for `unit_for`: each RMRR of
-    /// the segment one of whose scopes names it, in order.
+    /// The ranges of memory that are reserved for a device (section 8.4), which is named as for `unit_for`: each RMRR
+    /// of the segment one of whose scopes names it, in order.
     ///
-    /// Refuses, in this order, with `InvalidStructureLength` if a structure of the table, or a scope of one, is malformed,
-    /// and with `InvalidMemoryRange` if the last byte of one of these ranges lies before its first.
+    /// Refuses, in this order, with `InvalidStructureLength` if a structure of the table, or a scope of one, is
+    /// malformed, and with `InvalidMemoryRange` if the last byte of one of these ranges lies before its first.
     pub fn reserved_for<'b>(
         &self,
         segment: u16,
@@ -205,7 +205,8 @@ pub trait DmarCalls {
     fn unit_of_hpet(&self, number: u8) -> IommuResult<Option<UnitSource>>
         ensures { result ≡ unit_of_hpet (table self.now) number };
 
-    /// The ranges of memory that are reserved for a device (section 8.4), or the refusal, as `Units::reserved_for` says.
+    /// The ranges of memory that are reserved for a device (section 8.4), or the refusal, as `Units::reserved_for`
+    /// says.
     fn reserved_for<'b>(
         &self,
         segment: u16,

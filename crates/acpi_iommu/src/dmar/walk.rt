@@ -6,8 +6,8 @@ use acpi_base::PhysicalRecord;
 use acpi_base::bytes::skip;
 use acpi_base::entries::{EntryLayout, Grammar, Place, Width, split_front};
 
-/// How the bytes of a DMAR are cut into structures (section 8.2): Type and Length have two bytes each, types 0 to 6 have at
-/// least 16, 24, 8, 20, 8, 8 and 8 bytes, and others at least 4.
+/// How the bytes of a DMAR are cut into structures (section 8.2): Type and Length have two bytes each, types 0 to 6
+/// have at least 16, 24, 8, 20, 8, 8 and 8 bytes, and others at least 4.
 const STRUCTURE_GRAMMAR: Grammar<7> = Grammar {
     layout: EntryLayout {
         kind_place: Place {
@@ -24,9 +24,9 @@ const STRUCTURE_GRAMMAR: Grammar<7> = Grammar {
     most: None,
 };
 
-/// The structures of a DMAR, in order (section 8.2), those of undefined types too. It ends at the table's end, or where no
-/// structure begins: if fewer than 4 bytes are left, or if the length is under the least of its type (16, 24, 8, 20, 8, 8
-/// and 8 for types 0 to 6, 4 for others) or past the table's end.
+/// The structures of a DMAR, in order (section 8.2), those of undefined types too. It ends at the table's end, or where
+/// no structure begins: if fewer than 4 bytes are left, or if the length is under the least of its type (16, 24, 8, 20,
+/// 8, 8 and 8 for types 0 to 6, 4 for others) or past the table's end.
 #[derive(Clone, Copy, Debug)]
 pub struct DmarStructureIter<'a> {
     rest: &'a [u8],

@@ -222,7 +222,8 @@ impl<'a> IvrsBlock<'a> {
 
     /// The memory, if this block is an IVMD for a device.
     pub(super) fn memory_for(&self, device_id: u16) -> Option<Ivmd>
-        ensures { result ≡ (if is_memory_for device_id (block_bytes self.now) then Some (ivmd_at (block_bytes self.now)) else None) }
+        ensures { result ≡ (if is_memory_for device_id (block_bytes self.now)
+            then Some (ivmd_at (block_bytes self.now)) else None) }
     {
         let memory = Ivmd::read(self.bytes);
         let is_meant = match memory.kind {
@@ -256,9 +257,9 @@ fn split_block(bytes: &[u8]) -> Option<(&[u8], &[u8])>
     Some(bytes.split_at(size))
 }
 
-/// The blocks of an IVRS, in order (section 5.2.2), those of undefined types too. It ends at the table's end, or where no
-/// block begins: if fewer than 4 bytes are left, or if the length is under the least of its type (24 for 0x10, 40 for 0x11
-/// and 0x40, 32 for 0x20 to 0x22, 4 for others) or past the table's end.
+/// The blocks of an IVRS, in order (section 5.2.2), those of undefined types too. It ends at the table's end, or where
+/// no block begins: if fewer than 4 bytes are left, or if the length is under the least of its type (24 for 0x10, 40
+/// for 0x11 and 0x40, 32 for 0x20 to 0x22, 4 for others) or past the table's end.
 #[derive(Clone, Copy, Debug)]
 pub struct IvrsBlockIter<'a> {
     rest: &'a [u8],
@@ -280,8 +281,8 @@ impl<'a> IvrsBlockIter<'a> {
         }
     }
 
-    /// Whether `next` has answered `None` before the table's end, where no block begins (section 5.2.2). As long as `next`
-    /// hasn't answered `None` it is false.
+    /// Whether `next` has answered `None` before the table's end, where no block begins (section 5.2.2). As long as
+    /// `next` hasn't answered `None` it is false.
     pub fn ended_malformed(&self) -> bool
         ensures { result ≡ is_malformed self.now }
     {

@@ -3,7 +3,8 @@ ghost use Rattle.std.specs.Prelude.{◌≡◌, false};
 ghost use Rattle.acpi_base.specs.Steps.{Gives};
 ghost use Rattle.acpi_iommu.specs.Ivrs.{blocks_cut, blocks_left, blocks_of, has_ended, rest_left};
 ghost use Rattle.std.specs.List.{list_any};
-ghost use Rattle.acpi_iommu.specs.IvrsUnits.{best_kind, best_left, block_for, blocks_of_best_type, is_of_kind, is_whole};
+ghost use Rattle.acpi_iommu.specs.IvrsUnits.{best_kind, best_left, block_for, blocks_of_best_type, is_of_kind};
+ghost use Rattle.acpi_iommu.specs.IvrsUnits.{is_whole};
 ghost use Rattle.acpi_iommu.specs.IvrsUnits.{ivrs_bytes, memory_for, memory_in, memory_left, of_kind};
 
 use super::Ivrs;
@@ -82,7 +83,8 @@ pub struct Blocks<'a> {
 }
 
 impl<'a> Blocks<'a> {
-    /// The blocks in an IVRS' bytes (section 5.2), from the table's first byte on. In fewer than 52 bytes there is none.
+    /// The blocks in an IVRS' bytes (section 5.2), from the table's first byte on. In fewer than 52 bytes there is
+    /// none.
     pub fn over(table: &'a [u8]) -> Self
         ensures { ivrs_bytes result ≡ table.now }
     {
@@ -136,8 +138,8 @@ impl<'a> Blocks<'a> {
         }
     }
 
-    /// The units to believe (section 5.2.2.1): the IVHDs of the greatest of the types 0x10, 0x11 and 0x40 that the table
-    /// has, in order.
+    /// The units to believe (section 5.2.2.1): the IVHDs of the greatest of the types 0x10, 0x11 and 0x40 that the
+    /// table has, in order.
     ///
     /// Refuses with `InvalidStructureLength` if a block of the table, or a device entry of one, is malformed.
     pub fn blocks_of_best_type(&self) -> IommuResult<BestBlockIter<'a>>
@@ -152,10 +154,10 @@ impl<'a> Blocks<'a> {
         })
     }
 
-    /// The unit that remaps a device (section 5.2.2), by its segment and its id, which is bus, device and function: of the
-    /// blocks of the best type the first of the segment one of whose entries covers the id, with the settings of its first
-    /// such entry and the id by which the unit knows the device. An entry for all devices covers every id, a special device
-    /// its source, an ACPI HID device its DeviceID, padding none. `None` if there is no such block.
+    /// The unit that remaps a device (section 5.2.2), by its segment and its id, which is bus, device and function: of
+    /// the blocks of the best type the first of the segment one of whose entries covers the id, with the settings of
+    /// its first such entry and the id by which the unit knows the device. An entry for all devices covers every id, a
+    /// special device its source, an ACPI HID device its DeviceID, padding none. `None` if there is no such block.
     ///
     /// Refuses with `InvalidStructureLength` if a block of the table, or a device entry of one, is malformed.
     pub fn block_for(&self, segment: u16, device_id: u16) -> IommuResult<Option<DeviceUnit>>
@@ -174,8 +176,8 @@ impl<'a> Blocks<'a> {
         Ok(None)
     }
 
-    /// The memory that has its own rules for a device (section 5.2.2.4), by its id: each IVMD for all devices, for this one,
-    /// or for a range that it lies in, in order.
+    /// The memory that has its own rules for a device (section 5.2.2.4), by its id: each IVMD for all devices, for this
+    /// one, or for a range that it lies in, in order.
     ///
     /// Refuses, in this order, with `InvalidStructureLength` if a block of the table, or a device entry of one, is
     /// malformed, and with `InvalidMemoryRange` if start and length of one of these add up to more than 2^64 - 1.

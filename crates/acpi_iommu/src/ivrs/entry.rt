@@ -1,8 +1,10 @@
 //! The device entries of an IVHD, one at a time (section 5.2.2.2).
 ghost use Rattle.std.specs.Prelude.{◌≡◌, ◌<◌, IfSome, IfNone, [], false};
 ghost use Rattle.acpi_base.specs.Entries.{with_entry};
-ghost use Rattle.acpi_iommu.specs.IvrsEntries.{alias_of, bytes_of_entry, compatible_id, covers, entry_kind, entry_size};
-ghost use Rattle.acpi_iommu.specs.IvrsEntries.{extended_of, first_id, hardware_id, is_select, is_start, last_id, own_size};
+ghost use Rattle.acpi_iommu.specs.IvrsEntries.{alias_of, bytes_of_entry, compatible_id, covers, entry_kind};
+ghost use Rattle.acpi_iommu.specs.IvrsEntries.{entry_size};
+ghost use Rattle.acpi_iommu.specs.IvrsEntries.{extended_of, first_id, hardware_id, is_select, is_start, last_id};
+ghost use Rattle.acpi_iommu.specs.IvrsEntries.{own_size};
 ghost use Rattle.acpi_iommu.specs.IvrsEntries.{settings_of, source_for, special_of, unique_id, unique_id_format};
 ghost use Rattle.acpi_iommu.specs.Pieces.{pieces};
 
@@ -19,16 +21,17 @@ pub struct SpecialDevice {
     pub variety: u8,
 }
 
-/// A device entry of an IVHD (section 5.2.2.2): devices, and how the unit treats them. The end of a range belongs to its
-/// start.
+/// A device entry of an IVHD (section 5.2.2.2): devices, and how the unit treats them. The end of a range belongs to
+/// its start.
 #[derive(Clone, Copy, Debug)]
 pub struct DeviceEntry<'a> {
     bytes: &'a [u8],
 }
 
 impl<'a> DeviceEntry<'a> {
-    /// Type: 1 all devices, 2 one device, 3 a range of devices, 0x42 and 0x43 one and a range with an alias, 0x46 and 0x47
-    /// one and a range with extended settings, 0x48 a special device, 0xF0 a device by its ACPI HID. Others are kept.
+    /// Type: 1 all devices, 2 one device, 3 a range of devices, 0x42 and 0x43 one and a range with an alias, 0x46 and
+    /// 0x47 one and a range with extended settings, 0x48 a special device, 0xF0 a device by its ACPI HID. Others are
+    /// kept.
     pub fn kind(&self) -> u8
         ensures { result ≡ entry_kind (bytes_of_entry self.now) }
     {
@@ -60,7 +63,8 @@ impl<'a> DeviceEntry<'a> {
         field(self.bytes, 3, 1) as u8 // DTE Setting
     }
 
-    /// Source DeviceID of an alias, types 0x42 and 0x43: the id by which the unit knows the devices. `None` of other types.
+    /// Source DeviceID of an alias, types 0x42 and 0x43: the id by which the unit knows the devices. `None` of other
+    /// types.
     pub fn alias(&self) -> Option<u16>
         ensures { result ≡ alias_of (bytes_of_entry self.now) }
     {
@@ -116,8 +120,8 @@ impl<'a> DeviceEntry<'a> {
         }
     }
 
-    /// Unique ID format of type 0xF0: 0 there is no unique id, 1 it is a number of eight bytes, 2 a text. `None` of other
-    /// types.
+    /// Unique ID format of type 0xF0: 0 there is no unique id, 1 it is a number of eight bytes, 2 a text. `None` of
+    /// other types.
     pub fn unique_id_format(&self) -> Option<u8>
         ensures { result ≡ unique_id_format (bytes_of_entry self.now) }
     {
@@ -140,8 +144,8 @@ impl<'a> DeviceEntry<'a> {
         &rest[..length.min(rest.len())]
     }
 
-    /// Whether the entry covers the device of an id: type 1 covers every one, a range those from its first to its last, and
-    /// a special device its source.
+    /// Whether the entry covers the device of an id: type 1 covers every one, a range those from its first to its last,
+    /// and a special device its source.
     pub fn covers(&self, id: u16) -> bool
         ensures { result ≡ covers id (bytes_of_entry self.now) }
     {
@@ -219,8 +223,8 @@ fn split_entry(bytes: &[u8]) -> Option<(&[u8], &[u8])>
 }
 
 /// The device entries of an IVHD, in order (section 5.2.2.2), those of undefined types and padding too. It ends at the
-/// block's end, or where no entry begins: if an entry goes past the block's end, if the end of a range doesn't follow its
-/// start at once, or if an end follows no start.
+/// block's end, or where no entry begins: if an entry goes past the block's end, if the end of a range doesn't follow
+/// its start at once, or if an end follows no start.
 #[derive(Clone, Copy, Debug)]
 pub struct DeviceEntryIter<'a> {
     rest: &'a [u8],
