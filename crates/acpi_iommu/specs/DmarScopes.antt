@@ -1,5 +1,5 @@
 -- Which devices a structure of a DMAR names, by its device scopes (section 8.3.1).
-use Rattle.std.specs.Prelude.{◌≡◌, ℕ, ◌==◌, ◌&&◌, Bool, true, false, nat_lt, List, [], ◌∷◌, length, drop, Option, None, Some, if◌then◌else◌}
+use Rattle.std.specs.Prelude.{◌≡◌, ◌↔◌, ℕ, ◌==◌, ◌++◌, ◌&&◌, Bool, true, false, nat_lt, List, [], ◌∷◌, length, drop, Option, None, Some, if◌then◌else◌}
 use Rattle.std.specs.List.{last_or, list_any}
 use Rattle.acpi_base.specs.Bytes.{field_of}
 use Rattle.acpi_base.specs.Entries.{cut}
@@ -67,6 +67,11 @@ abbrev pub is_front : List Hop → List Hop → Bool
 is_front [] hops = true
 is_front (p ∷ path) [] = false
 is_front (p ∷ path) (h ∷ hops) = is_same_hop p h && is_front path hops
+
+-- a path is a front of hops exactly if these are the path and others after it
+abbrev pub FrontIsFront : Type 0
+FrontIsFront =
+    (path hops : List Hop) → (is_front path hops ≡ true) ↔ ((rest : List Hop) × (hops ≡ path ++ rest))
 
 -- ---- naming
 

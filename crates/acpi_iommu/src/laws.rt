@@ -1,5 +1,6 @@
-//! Laws of comparisons: each is the contract of a function that compares.
+//! Laws of comparisons and of paths: each is the contract of a function.
 ghost use Rattle.acpi_base.specs.Equality.{IsEquality};
+ghost use Rattle.acpi_iommu.specs.DmarScopes.{FrontIsFront};
 
 use crate::dmar::{Drhd, Hop, Rmrr, UnitSource};
 use crate::error::IommuError;
@@ -67,3 +68,8 @@ pub fn special_device_equality(a: &SpecialDevice, b: &SpecialDevice) -> bool
 {
     a == b
 }
+
+/// A path is a front of hops exactly if these are the path and others after it.
+pub fn front_is_front()
+    ensures { FrontIsFront }
+{}
