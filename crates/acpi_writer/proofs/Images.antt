@@ -1,0 +1,125 @@
+-- What a reader finds in an image that has a table that was written.
+use Rattle.std.proofs.Common.{◌≡◌, ℕ, ◌+◌, ◌≤◌, List, length, Option, Result, Ok, Err, refl, sym, ap, ◌∙◌, lit≤, arith, length-append}
+use Rattle.acpi_base.proofs.Steps.{bind_ok}
+use Rattle.acpi_base.specs.Bytes.{spelling}
+use Rattle.acpi_base.specs.Mcfg.{mcfg_entries_of}
+use Rattle.acpi_base.specs.Header.{check_table}
+use Rattle.acpi_base.specs.Model.{Model, model_of}
+use Rattle.acpi_base.specs.Steps.{◌>>=◌}
+use Rattle.acpi_base.specs.Table.{kind}
+use Rattle.acpi_base.specs.declared.error.AcpiError.{AcpiError}
+use Rattle.acpi_base.specs.declared.table.signature.Signature.{Signature}
+use Rattle.acpi_base.specs.declared.table.signature.TheConstants.Signature.{HPET, MADT, MCFG}
+use Rattle.acpi_base.specs.declared.tables.mcfg.McfgEntry.{McfgEntry}
+use Rattle.acpi_fixed.specs.Fadt.{fadt_at, profile_of}
+use Rattle.acpi_fixed.specs.declared.fadt.PowerProfile.{PowerProfile}
+use Rattle.acpi.specs.Hpet.{hpet_at, hpet_kind, info_of}
+use Rattle.acpi.specs.Lists.{fadt_kind}
+use Rattle.acpi.specs.Lookup.{lookup}
+use Rattle.acpi.specs.Pci.{mcfg_kind}
+use Rattle.acpi.specs.Platform.{madt_kind, model_found, model_in}
+use Rattle.acpi.specs.Relocation.{bytes_found}
+use Rattle.acpi.specs.Timer.{timer_of}
+use Rattle.acpi.specs.declared.hpet.HpetInfo.{HpetInfo}
+use Rattle.acpi.specs.declared.platform.PlatformInfo.{PlatformInfo}
+use Rattle.acpi.specs.declared.platform.timer.PmTimer.{PmTimer}
+use Rattle.acpi_image.specs.Written.{Plan, pointers_of, records_of, with_sum}
+use Rattle.acpi_writer.specs.HpetBytes.{hpet_body}
+use Rattle.acpi_writer.specs.ImageLaws.{HasFirst, HasPlatform, HpetInImage, MadtInImage, McfgInImage, PlatformInImage}
+use Rattle.acpi_writer.specs.MadtBytes.{madt_body, madt_entries, madt_fixed}
+use Rattle.acpi_writer.specs.MadtLaws.{model_read}
+use Rattle.acpi_writer.specs.McfgBytes.{mcfg_body}
+use Rattle.acpi_writer.specs.Table.{IsTableOf, table_bytes, unsummed}
+use Rattle.acpi_writer.specs.declared.ids.TableIds.{TableIds}
+use Rattle.acpi_writer.specs.declared.madt.MadtContents.{MadtContents}
+use Rattle.acpi_writer.proofs.Found.{found_in_image, with_sum_again}
+use Rattle.acpi_writer.proofs.HpetRead.{hpet_name, hpet_read}
+use Rattle.acpi_writer.proofs.MadtRead.{fixed_long, madt_name, madt_read}
+use Rattle.acpi_writer.proofs.McfgRead.{mcfg_name, mcfg_read}
+use Rattle.acpi_writer.proofs.Tables as table
+
+again : (s : Signature) (revision : ℕ) (ids : TableIds) (body t : List ℕ) → IsTableOf s revision ids body t → with_sum 9 t ≡ t
+unfolding table_bytes
+again s revision ids body t is = ap (with_sum 9) is.bytes ∙ with_sum_again 9 (unsummed s revision ids body) ∙ sym is.bytes
+
+abbrev fine : List ℕ → Result (List ℕ) AcpiError
+fine x = Ok x
+
+-- the first table of its signature is found as it was written
+first_found : (s : Signature) (name : table.IsName s) (least revision : ℕ) (ids : TableIds) (body t : List ℕ) (p : Plan) → IsTableOf s revision ids body t → HasFirst s p t → 36 ≤ least → least ≤ 36 + length body
+    → bytes_found (lookup (records_of p) (kind s least (check_table s)) (pointers_of p)) ≡ Ok t
+first_found s name least revision ids body t p is first enough long =
+    found_in_image s least p t first (table.named s name revision ids body t is) enough (omega (arith, long, table.long s name revision ids body t is)) ∙ ap fine (again s revision ids body t is)
+
+same_found : (x y : List ℕ) → fine x ≡ fine y → x ≡ y
+same_found x y e = cc
+
+-- ---- the MADT
+
+model_by_bytes : {A : Type 0} (r : Result (ℕ × List ℕ) AcpiError) (b : List ℕ) → bytes_found r ≡ Ok b → model_found {A = A} r ≡ model_of b
+model_by_bytes (Ok found) b e = ap model_of (same_found found.1 b e)
+model_by_bytes (Err d) b e = absurd cc
+
+pub madt_in_image : {A : Type 0} → MadtInImage A
+madt_in_image {A = A} p t ids c is first =
+    let size = length-append (madt_fixed c.local_apic_address c.also_has_legacy_pics) (madt_entries c) in
+    let found = first_found MADT madt_name 44 5 ids (madt_body c) t p is.written first (lit≤ tt) (omega (arith, size, fixed_long c.local_apic_address c.also_has_legacy_pics)) in
+    model_by_bytes {A = A} (lookup (records_of p) madt_kind (pointers_of p)) t found ∙ madt_read {A = A} ids c t is
+
+abbrev plat : {A : Type 0} → PlatformInfo A → Result (PlatformInfo A) AcpiError
+plat x = Ok x
+
+same_platform : {A : Type 0} (x y : PlatformInfo A) → plat x ≡ plat y → x ≡ y
+same_platform x y e = cc
+
+abbrev says : {A : Type 0} → Model A → Result (Model A) AcpiError
+says x = Ok x
+
+same_model : {A : Type 0} (x y : Model A) → says x ≡ says y → x ≡ y
+same_model x y e = cc
+
+timed : {A : Type 0} (c : MadtContents) (profile : PowerProfile) (q : PlatformInfo A) (said : Result (Model A) AcpiError) (timer : Result (Option PmTimer) AcpiError) → said ≡ Ok (model_read c)
+    → (said >>= λ s. timer >>= λ found. plat (record { power_profile = profile; interrupt_model = s.0; processor_info = s.1; pm_timer = found })) ≡ Ok q → HasPlatform c q
+timed c profile q (Err e) timer same is = absurd cc
+timed c profile q (Ok s) (Err e) same is = absurd cc
+timed c profile q (Ok s) (Ok found) same is =
+    let s_is : s ≡ model_read c = same_model s (model_read c) same in
+    let q_is = same_platform _ q is in
+    record {
+      interrupt_model = sym (ap (λ z. z.interrupt_model) q_is) ∙ ap (λ z. z.0) s_is;
+      processor_info = sym (ap (λ z. z.processor_info) q_is) ∙ ap (λ z. z.1) s_is;
+    }
+
+pub platform_in_image : {A : Type 0} → PlatformInImage A
+platform_in_image {A = A} p t ids c q is first answered =
+    let parts = bind_ok (lookup (records_of p) fadt_kind (pointers_of p)) _ q answered in
+    timed c (profile_of (fadt_at parts.0.1)) q (model_in (records_of p) (pointers_of p)) (timer_of (fadt_at parts.0.1)) (madt_in_image p t ids c is first) parts.2
+
+-- ---- the MCFG
+
+abbrev regions : List McfgEntry → Result (List McfgEntry) AcpiError
+regions x = Ok x
+
+regions_by : (r : Result (ℕ × List ℕ) AcpiError) (b : List ℕ) → bytes_found r ≡ Ok b → (r >>= λ found. regions (mcfg_entries_of found.1)) ≡ regions (mcfg_entries_of b)
+regions_by (Ok found) b e = ap (λ z. regions (mcfg_entries_of z)) (same_found found.1 b e)
+regions_by (Err d) b e = absurd cc
+
+pub mcfg_in_image : McfgInImage
+mcfg_in_image p t ids es is first =
+    let found = first_found MCFG mcfg_name 44 1 ids (mcfg_body es) t p is.written first (lit≤ tt) (omega arith) in
+    regions_by (lookup (records_of p) mcfg_kind (pointers_of p)) t found ∙ ap regions (mcfg_read ids es t is)
+
+-- ---- the HPET
+
+hpet_long : (i : HpetInfo) → length (hpet_body i) ≡ 20
+unfolding hpet_body spelling
+hpet_long i = refl
+
+hpet_by : (r : Result (ℕ × List ℕ) AcpiError) (b : List ℕ) → bytes_found r ≡ Ok b → (r >>= λ found. info_of (hpet_at found.1)) ≡ info_of (hpet_at b)
+hpet_by (Ok found) b e = ap (λ z. info_of (hpet_at z)) (same_found found.1 b e)
+hpet_by (Err d) b e = absurd cc
+
+pub hpet_in_image : HpetInImage
+hpet_in_image p t ids i is first =
+    let found = first_found HPET hpet_name 56 1 ids (hpet_body i) t p is.written first (lit≤ tt) (omega (arith, hpet_long i)) in
+    hpet_by (lookup (records_of p) hpet_kind (pointers_of p)) t found ∙ hpet_read ids i t is

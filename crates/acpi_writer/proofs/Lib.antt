@@ -1,0 +1,11 @@
+pub mod LittleEndian
+pub mod Parts
+pub mod Tables
+pub mod Speaks
+pub mod Says
+pub mod MadtRead
+pub mod MadtWritten
+pub mod McfgRead
+pub mod HpetRead
+pub mod Found
+pub mod Images

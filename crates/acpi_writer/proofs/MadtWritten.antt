@@ -1,0 +1,38 @@
+-- Which MADT is written, and when none is.
+use Rattle.std.proofs.Common.{◌≡◌, ℕ, ◌<◌, ◌≤◌, true, false, List, [], ◌∷◌, length, take, Result, Ok, Err, refl, arith}
+use Rattle.std.specs.Prelude.{IfOk}
+use Rattle.std.specs.List.{list_all}
+use Rattle.acpi_base.specs.declared.table.signature.TheConstants.Signature.{MADT}
+use Rattle.acpi_writer.specs.declared.error.WriterError.{WriterError}
+use Rattle.acpi_writer.specs.declared.error.WriterError.TheVariants.{NoProcessor, UidOfAll}
+use Rattle.acpi_writer.specs.declared.ids.TableIds.{TableIds}
+use Rattle.acpi_writer.specs.declared.madt.MadtContents.{MadtContents}
+use Rattle.acpi_writer.specs.declared.madt.MadtProcessor.{MadtProcessor}
+use Rattle.acpi_writer.specs.MadtBytes.{is_empty, madt_body, madt_written, names_one}
+use Rattle.acpi_writer.specs.MadtLaws.{AreFit, IsMadt}
+use Rattle.acpi_writer.specs.Table.{IsTableOf, table_written}
+
+empty_is : (ps : List MadtProcessor) → length ps < 1 → is_empty ps ≡ true
+empty_is [] less = refl
+empty_is (p ∷ ps) less = absurd (omega (arith, less))
+
+pub some_is : (ps : List MadtProcessor) → 1 ≤ length ps → is_empty ps ≡ false
+some_is [] more = absurd (omega (arith, more))
+some_is (p ∷ ps) more = refl
+
+pub written_none : (room : ℕ) (ids : TableIds) (c : MadtContents) → length c.processors.now < 1 → madt_written room ids c ≡ Err NoProcessor
+unfolding madt_written
+written_none room ids c less = rw (empty_is c.processors.now less) refl
+
+pub written_of_all : (room : ℕ) (ids : TableIds) (c : MadtContents) → 1 ≤ length c.processors.now → list_all (λ x. names_one x.processor) c.local_apic_nmi_lines.now ≡ false → madt_written room ids c ≡ Err UidOfAll
+unfolding madt_written
+written_of_all room ids c some all = rw (some_is c.processors.now some, all) refl
+
+pub written_is : (room : ℕ) (ids : TableIds) (c : MadtContents) → 1 ≤ length c.processors.now → list_all (λ x. names_one x.processor) c.local_apic_nmi_lines.now ≡ true → madt_written room ids c ≡ table_written room MADT 5 ids (madt_body c)
+unfolding madt_written
+written_is room ids c some all = rw (some_is c.processors.now some, all) refl
+
+pub answer_is : (r : Result ℕ WriterError) (ids : TableIds) (c : MadtContents) (new : List ℕ) → 1 ≤ length c.processors.now → list_all (λ x. names_one x.processor) c.local_apic_nmi_lines.now ≡ true
+    → IfOk r (λ n. IsTableOf MADT 5 ids (madt_body c) (take n new)) → IfOk r (λ n. AreFit c) → IfOk r (λ n. IsMadt ids c (take n new))
+answer_is (Ok n) ids c new some lines written fit = record { written = written; fit = fit; some = some_is c.processors.now some; lines = lines }
+answer_is (Err e) ids c new some lines written fit = tt

@@ -1,0 +1,187 @@
+-- What every table that is written has, and that it is valid.
+use Rattle.std.proofs.Common.{◌≡◌, ℕ, ◌+◌, ◌^◌, ◌<◌, ◌≤◌, true, false, List, [], ◌∷◌, ◌++◌, length, take, drop, Ok, Err, refl, sym, ap, ◌∙◌, arith, lit≤, lit<, eq-eqb, append_assoc, length-append}
+use Rattle.std.specs.Str.{bytes_eq, is_utf8}
+use Rattle.std.proofs.lemmas.Bool.{and_from, and_parts, le-leb, le-ltb, lt-leb, lt-ltb}
+use Rattle.std.proofs.lemmas.List.{drop_at, drop-drop, drop-set-lt, take_all, take_at}
+use Rattle.acpi_base.proofs.Spelling.{length-spelling, number-spelling}
+use Rattle.acpi_base.specs.Bytes.{field_of, number, part, spelling, sum_of}
+use Rattle.acpi_base.specs.Header.{check_names, check_table, header_at}
+use Rattle.acpi_base.specs.Text.{letters_of}
+use Rattle.acpi_base.specs.declared.table.signature.Signature.{Signature}
+use Rattle.acpi_image.proofs.Summed.{part_before, part_behind, part_front, sum_is_set}
+use Rattle.acpi_image.proofs.Written.{length-with_sum}
+use Rattle.acpi_image.proofs.WrittenTables.{IsTable}
+use Rattle.acpi_image.specs.WriteChecks.{is_table}
+use Rattle.acpi_image.specs.Written.{sum_byte, with_sum}
+use Rattle.acpi_writer.specs.ImageLaws.{is_named}
+use Rattle.acpi_writer.specs.Table.{AreIds, IsTableOf, IsValid, are_texts, table_bytes, table_head, table_written, unsummed}
+use Rattle.acpi_writer.specs.declared.error.WriterError.TheVariants.{BadName, NoRoom, TooLong}
+use Rattle.acpi_writer.specs.declared.ids.TableIds.{TableIds}
+
+-- ---- whether it is written
+
+pub bad_name : (room : ℕ) (s : Signature) (revision : ℕ) (ids : TableIds) (body : List ℕ) → are_texts ids ≡ false → table_written room s revision ids body ≡ Err BadName
+unfolding table_written
+bad_name room s revision ids body bad = rw bad refl
+
+pub no_room : (room : ℕ) (s : Signature) (revision : ℕ) (ids : TableIds) (body : List ℕ) → are_texts ids ≡ true → room < 36 + length body → table_written room s revision ids body ≡ Err NoRoom
+unfolding table_written
+no_room room s revision ids body texts less = rw (texts, lt-leb (36 + length body) room less) refl
+
+pub too_long : (room : ℕ) (s : Signature) (revision : ℕ) (ids : TableIds) (body : List ℕ) → are_texts ids ≡ true → 36 + length body ≤ room → 2 ^ 32 ≤ 36 + length body → table_written room s revision ids body ≡ Err TooLong
+unfolding table_written
+too_long room s revision ids body texts within long = rw (texts, le-leb (36 + length body) room within, le-ltb (36 + length body) (2 ^ 32) long) refl
+
+pub it_fits : (room : ℕ) (s : Signature) (revision : ℕ) (ids : TableIds) (body : List ℕ) → are_texts ids ≡ true → 36 + length body ≤ room → 36 + length body < 2 ^ 32 → table_written room s revision ids body ≡ Ok (table_bytes s revision ids body)
+unfolding table_written
+it_fits room s revision ids body texts within short = rw (texts, le-leb (36 + length body) room within, lt-ltb (36 + length body) (2 ^ 32) short) refl
+
+-- ---- its parts
+
+-- a signature of four letters, which are a text
+pub record IsName (s : Signature) : Type 0 where
+  pub a : ℕ
+  pub b : ℕ
+  pub c : ℕ
+  pub d : ℕ
+  pub letters : letters_of s ≡ a ∷ b ∷ c ∷ d ∷ []
+  pub text : is_utf8 (a ∷ b ∷ c ∷ d ∷ []) ≡ true
+  pub same : bytes_eq (a ∷ b ∷ c ∷ d ∷ []) (letters_of s) ≡ true
+
+abbrev makers : TableIds → List ℕ
+makers ids = spelling 4 ids.oem_revision ++ (ids.creator_id ++ spelling 4 ids.creator_revision)
+
+-- a table field by field
+abbrev fields : ℕ → ℕ → ℕ → ℕ → ℕ → ℕ → TableIds → List ℕ → List ℕ
+fields a b c d n revision ids body =
+    a ∷ b ∷ c ∷ d ∷ (spelling 4 n ++ (revision ∷ 0 ∷ (ids.oem_id ++ (ids.oem_table_id ++ (makers ids ++ body)))))
+
+module _ (s : Signature) (name : IsName s) (revision : ℕ) (ids : TableIds) (are : AreIds ids) (body : List ℕ) where
+  pub raw_is : unsummed s revision ids body ≡ fields name.a name.b name.c name.d (36 + length body) revision ids body
+  unfolding table_head spelling
+  raw_is = rw (name.letters, append_assoc ids.oem_id (ids.oem_table_id ++ makers ids) body, append_assoc ids.oem_table_id (makers ids) body) refl
+
+  pub head_long : (n : ℕ) → length (table_head s revision ids n) ≡ 36
+  unfolding table_head
+  head_long n =
+      let named = ids.oem_id ++ (ids.oem_table_id ++ makers ids) in
+      omega (
+        arith,
+        length-append (letters_of s) (spelling 4 n ++ (revision ∷ 0 ∷ named)),
+        ap length name.letters,
+        length-append (spelling 4 n) (revision ∷ 0 ∷ named),
+        length-spelling 4 n,
+        length-append ids.oem_id (ids.oem_table_id ++ makers ids),
+        are.oem_id,
+        length-append ids.oem_table_id (makers ids),
+        are.oem_table_id,
+        length-append (spelling 4 ids.oem_revision) (ids.creator_id ++ spelling 4 ids.creator_revision),
+        length-spelling 4 ids.oem_revision,
+        length-append ids.creator_id (spelling 4 ids.creator_revision),
+        are.creator_id,
+        length-spelling 4 ids.creator_revision,
+      )
+
+  pub raw_long : length (unsummed s revision ids body) ≡ 36 + length body
+  raw_long = omega (arith, length-append (table_head s revision ids (36 + length body)) body, head_long (36 + length body))
+
+  pub table_long : length (table_bytes s revision ids body) ≡ 36 + length body
+  unfolding table_bytes
+  table_long = length-with_sum 9 (unsummed s revision ids body) ∙ raw_long
+
+  -- the bytes after the header are not touched
+  pub after_head : drop 36 (table_bytes s revision ids body) ≡ body
+  unfolding table_bytes with_sum
+  after_head =
+      drop-set-lt 36 (unsummed s revision ids body) 9 (sum_byte 9 (unsummed s revision ids body)) (lit< tt)
+      ∙ drop_at (table_head s revision ids (36 + length body)) body 36 (head_long (36 + length body))
+
+  pub part_after : (k n : ℕ) → part (table_bytes s revision ids body) (36 + k) n ≡ part body k n
+  part_after k n = ap (take n) (sym (drop-drop k 36 (table_bytes s revision ids body)) ∙ ap (drop k) after_head)
+
+  pub field_after : (k n : ℕ) → field_of (table_bytes s revision ids body) (36 + k) n ≡ field_of body k n
+  unfolding field_of
+  field_after k n = ap number (part_after k n)
+
+  -- ---- it is valid
+
+  raw_says : 36 + length body < 2 ^ 32 → field_of (unsummed s revision ids body) 4 4 ≡ 36 + length body
+  unfolding spelling field_of
+  raw_says short = ap (λ b. number (part b 4 4)) raw_is ∙ number-spelling 4 (36 + length body) (omega (arith, short))
+
+  raw_named : part (unsummed s revision ids body) 0 4 ≡ name.a ∷ name.b ∷ name.c ∷ name.d ∷ []
+  raw_named = ap (λ b. part b 0 4) raw_is
+
+  raw_id : part (unsummed s revision ids body) 10 6 ≡ ids.oem_id
+  unfolding spelling
+  raw_id = ap (λ b. part b 10 6) raw_is ∙ take_at ids.oem_id (ids.oem_table_id ++ (makers ids ++ body)) 6 are.oem_id
+
+  raw_table_id : part (unsummed s revision ids body) 16 8 ≡ ids.oem_table_id
+  unfolding spelling
+  raw_table_id =
+      ap (λ b. part b 16 8) raw_is ∙ ap (take 8) (drop_at ids.oem_id (ids.oem_table_id ++ (makers ids ++ body)) 6 are.oem_id) ∙ take_at ids.oem_table_id (makers ids ++ body) 8 are.oem_table_id
+
+  raw_is_table : are_texts ids ≡ true → 36 + length body < 2 ^ 32 → IsTable (unsummed s revision ids body)
+  raw_is_table texts short =
+      let p = and_parts _ _ texts in
+      let q = and_parts _ _ p.1 in
+      record {
+        long = omega (arith, raw_long);
+        whole = raw_says short ∙ sym raw_long;
+        signature = ap is_utf8 raw_named ∙ name.text;
+        id = ap is_utf8 raw_id ∙ p.0;
+        table_id = ap is_utf8 raw_table_id ∙ q.0;
+      }
+
+  raw_is_named : is_named s (unsummed s revision ids body) ≡ true
+  raw_is_named = ap (λ p. bytes_eq p (letters_of s)) raw_named ∙ name.same
+
+-- a table stays one if byte 9 is set: as in acpi_image's proofs/WrittenTables.antt, where it is private
+still : (b : List ℕ) → IsTable b → IsTable (with_sum 9 b)
+unfolding with_sum field_of
+still b is = record {
+  long = omega (arith, is.long, length-with_sum 9 b);
+  whole = ap number (part_before b 9 (sum_byte 9 b) 4 4 (lit≤ tt)) ∙ is.whole ∙ sym (length-with_sum 9 b);
+  signature = rw (part_front b 9 (sum_byte 9 b) 4 (lit≤ tt)) is.signature;
+  id = rw (part_behind b 9 (sum_byte 9 b) 10 6 (lit< tt)) is.id;
+  table_id = rw (part_behind b 9 (sum_byte 9 b) 16 8 (lit< tt)) is.table_id;
+}
+
+named_still : (s : Signature) (b : List ℕ) → is_named s b ≡ true → is_named s (with_sum 9 b) ≡ true
+unfolding with_sum
+named_still s b named = rw (part_front b 9 (sum_byte 9 b) 4 (lit≤ tt)) named
+
+is_taken : (b : List ℕ) → IsTable b → is_table b ≡ true
+unfolding is_table
+is_taken b is =
+    and_from _ _ (le-leb 36 (length b) is.long) (and_from _ _ (eq-eqb (field_of b 4 4) (length b) is.whole) (and_from _ _ is.signature (and_from _ _ is.id is.table_id)))
+
+is_checked : (s : Signature) (b : List ℕ) → IsTable b → is_named s b ≡ true → sum_of b ≡ 0 → check_table s b ≡ Ok tt
+unfolding check_table check_names header_at
+is_checked s b is named sum =
+    let all : take (length b) b ≡ b = take_all (length b) b (omega arith) in
+    rw (named, is.signature, is.id, is.table_id, is.whole, le-leb 36 (length b) is.long, le-leb (length b) (length b) (omega arith), all, sum) refl
+
+module _ (s : Signature) (name : IsName s) (revision : ℕ) (ids : TableIds) (body table : List ℕ) (is : IsTableOf s revision ids body table) where
+  pub named : is_named s table ≡ true
+  unfolding table_bytes
+  named = ap (is_named s) is.bytes ∙ named_still s (unsummed s revision ids body) (raw_is_named s name revision ids is.ids_fit body)
+
+  pub valid : IsValid s table
+  unfolding table_bytes
+  valid =
+      let raw = raw_is_table s name revision ids is.ids_fit body is.texts is.short in
+      let both : IsValid s (table_bytes s revision ids body) = record {
+        checked = is_checked s (table_bytes s revision ids body) (still (unsummed s revision ids body) raw) (named_still s (unsummed s revision ids body) (raw_is_named s name revision ids is.ids_fit body)) (sum_is_set 9 (unsummed s revision ids body) (omega (arith, raw.long)));
+        taken = is_taken (table_bytes s revision ids body) (still (unsummed s revision ids body) raw);
+      } in
+      record { checked = ap (check_table s) is.bytes ∙ both.checked; taken = ap is_table is.bytes ∙ both.taken }
+
+  pub long : length table ≡ 36 + length body
+  long = ap length is.bytes ∙ table_long s name revision ids is.ids_fit body
+
+  pub rest : drop 36 table ≡ body
+  rest = ap (drop 36) is.bytes ∙ after_head s name revision ids is.ids_fit body
+
+  pub field : (k n : ℕ) → field_of table (36 + k) n ≡ field_of body k n
+  field k n = ap (λ b. field_of b (36 + k) n) is.bytes ∙ field_after s name revision ids is.ids_fit body k n

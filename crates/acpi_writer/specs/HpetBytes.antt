@@ -1,0 +1,28 @@
+-- The bytes of an HPET that says what is given. The layout is that of the IA-PC HPET Specification 1.0a, section 3.2.4.
+use Rattle.std.specs.Prelude.{ℕ, List, [], ◌∷◌, ◌++◌, Result}
+use Rattle.acpi_base.specs.Bytes.{spelling}
+use Rattle.acpi_base.specs.declared.table.signature.TheConstants.Signature.{HPET}
+use Rattle.acpi.specs.declared.hpet.HpetInfo.{HpetInfo}
+use Rattle.acpi.specs.declared.hpet.PageProtection.{PageProtection}
+use Rattle.acpi.specs.declared.hpet.PageProtection.TheVariants as protections
+use Rattle.acpi_writer.specs.Table.{table_written}
+use Rattle.acpi_writer.specs.declared.error.WriterError.{WriterError}
+use Rattle.acpi_writer.specs.declared.ids.TableIds.{TableIds}
+
+-- Page Protection: the code of each; of those that are reserved the first
+abbrev pub protection_code : PageProtection → ℕ
+protection_code protections.None = 0
+protection_code protections.Protected4K = 1
+protection_code protections.Protected64K = 2
+protection_code protections.Other = 3
+
+-- after the header: at 36 Event Timer Block ID; at 40 BASE_ADDRESS, an address in memory; at 52 HPET Number; at 53
+-- Main Counter Minimum Clock_tick in Periodic Mode; at 55 Page Protection And OEM Attribute
+unfoldable pub hpet_body : HpetInfo → List ℕ
+hpet_body i =
+    spelling 4 i.event_timer_block_id ++ (0 ∷ 0 ∷ 0 ∷ 0 ∷ (spelling 8 i.base_address
+    ++ (i.hpet_number ∷ (spelling 2 i.clock_tick_unit ++ (protection_code i.page_protection ∷ [])))))
+
+-- the table, of revision 1, in so much room, or the error
+abbrev pub hpet_written : ℕ → TableIds → HpetInfo → Result (List ℕ) WriterError
+hpet_written room ids i = table_written room HPET 1 ids (hpet_body i)

@@ -1,0 +1,9 @@
+pub mod Table
+pub mod Spelled
+pub mod MadtBytes
+pub mod MadtLaws
+pub mod McfgBytes
+pub mod McfgLaws
+pub mod HpetBytes
+pub mod HpetLaws
+pub mod ImageLaws

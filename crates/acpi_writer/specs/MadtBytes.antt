@@ -1,0 +1,143 @@
+-- The bytes of a MADT that says what is given (ACPI 6.4, section 5.2.12).
+use Rattle.std.specs.Prelude.{ℕ, ◌+◌, ◌*◌, ◌^◌, ◌&&◌, Bool, true, false, not, if◌then◌else◌}
+use Rattle.std.specs.Prelude.{List, [], ◌∷◌, ◌++◌, flat_map, nat_lt, Option, Some, None, Result}
+use Rattle.std.specs.List.{list_all}
+use Rattle.acpi_base.specs.Bytes.{spelling}
+use Rattle.acpi_base.specs.Interrupts.{line_code, polarity_code, trigger_code}
+use Rattle.acpi_base.specs.Steps.{◌>>=◌, holds}
+use Rattle.acpi_base.specs.declared.table.signature.TheConstants.Signature.{MADT}
+use Rattle.acpi_base.specs.declared.model.interrupt.InterruptSourceOverride.{InterruptSourceOverride}
+use Rattle.acpi_base.specs.declared.model.interrupt.IoApic.{IoApic}
+use Rattle.acpi_base.specs.declared.model.interrupt.NmiLine.{NmiLine}
+use Rattle.acpi_base.specs.declared.model.interrupt.NmiProcessor.{NmiProcessor}
+use Rattle.acpi_base.specs.declared.model.interrupt.NmiProcessor.TheVariants as nmi
+use Rattle.acpi_base.specs.declared.model.interrupt.NmiSource.{NmiSource}
+use Rattle.acpi_base.specs.declared.model.interrupt.Polarity.{Polarity}
+use Rattle.acpi_base.specs.declared.model.interrupt.TriggerMode.{TriggerMode}
+use Rattle.acpi_writer.specs.Table.{bit_of, table_written}
+use Rattle.acpi_writer.specs.declared.error.WriterError.{WriterError}
+use Rattle.acpi_writer.specs.declared.error.WriterError.TheVariants.{NoProcessor, UidOfAll}
+use Rattle.acpi_writer.specs.declared.ids.TableIds.{TableIds}
+use Rattle.acpi_writer.specs.declared.madt.MadtContents.{MadtContents}
+use Rattle.acpi_writer.specs.declared.madt.MadtProcessor.{MadtProcessor}
+
+-- ---- entries
+
+-- Local APIC Flags: bit 0 is Enabled, bit 1 Online Capable
+abbrev pub processor_flags : MadtProcessor → ℕ
+processor_flags p = bit_of p.is_enabled + 2 * bit_of p.is_online_capable
+
+-- Processor Local APIC (section 5.2.12.2): Type, Length, ACPI Processor UID, APIC ID, Flags
+unfoldable pub local_apic_entry : MadtProcessor → List ℕ
+local_apic_entry p = 0 ∷ 8 ∷ p.processor_uid ∷ p.local_apic_id ∷ processor_flags p ∷ 0 ∷ 0 ∷ 0 ∷ []
+
+-- Processor Local x2APIC (section 5.2.12.12): Type, Length, Reserved, X2APIC ID, Flags, ACPI Processor UID
+unfoldable pub local_x2apic_entry : MadtProcessor → List ℕ
+local_x2apic_entry p =
+    9 ∷ 16 ∷ 0 ∷ 0 ∷ (spelling 4 p.local_apic_id
+    ++ (processor_flags p ∷ 0 ∷ 0 ∷ 0 ∷ spelling 4 p.processor_uid))
+
+-- the ids have a place in the first, in which 255 stands for all
+abbrev pub is_small : MadtProcessor → Bool
+is_small p = nat_lt p.processor_uid 255 && nat_lt p.local_apic_id 255
+
+unfoldable pub processor_entry : MadtProcessor → List ℕ
+processor_entry p = if is_small p then local_apic_entry p else local_x2apic_entry p
+
+-- Local APIC Address Override (section 5.2.12.8): Type, Length, Reserved, Local APIC Address
+unfoldable pub address_entry : ℕ → List ℕ
+address_entry a = 5 ∷ 12 ∷ 0 ∷ 0 ∷ spelling 8 a
+
+-- only if the table's own field has no place for the address
+unfoldable pub address_entries : ℕ → List ℕ
+address_entries a = if nat_lt a (2 ^ 32) then [] else address_entry a
+
+-- I/O APIC (section 5.2.12.3): Type, Length, I/O APIC ID, Reserved, I/O APIC Address, Global System Interrupt Base
+unfoldable pub io_apic_entry : IoApic → List ℕ
+io_apic_entry x = 1 ∷ 12 ∷ x.id ∷ 0 ∷ (spelling 4 x.address ++ spelling 4 x.global_system_interrupt_base)
+
+-- MPS INTI Flags: the lower byte; the higher one is 0
+abbrev pub inti_flags : Polarity → TriggerMode → ℕ
+inti_flags p t = polarity_code p + 4 * trigger_code t
+
+-- Interrupt Source Override (section 5.2.12.5): Type, Length, Bus, Source, Global System Interrupt, Flags
+unfoldable pub override_entry : InterruptSourceOverride → List ℕ
+override_entry x =
+    2 ∷ 10 ∷ 0 ∷ x.isa_source ∷ (spelling 4 x.global_system_interrupt
+    ++ (inti_flags x.polarity x.trigger_mode ∷ 0 ∷ []))
+
+-- NMI Source (section 5.2.12.6): Type, Length, Flags, Global System Interrupt
+unfoldable pub nmi_source_entry : NmiSource → List ℕ
+nmi_source_entry x = 3 ∷ 8 ∷ inti_flags x.polarity x.trigger_mode ∷ 0 ∷ spelling 4 x.global_system_interrupt
+
+-- Local APIC NMI (section 5.2.12.7): Type, Length, ACPI Processor UID, Flags, Local APIC LINT#
+unfoldable pub apic_nmi_entry : ℕ → ℕ → List ℕ
+apic_nmi_entry uid line = 4 ∷ 6 ∷ uid ∷ 0 ∷ 0 ∷ line ∷ []
+
+-- Local x2APIC NMI (section 5.2.12.13): Type, Length, Flags, ACPI Processor UID, Local x2APIC LINT#, Reserved
+unfoldable pub x2apic_nmi_entry : ℕ → ℕ → List ℕ
+x2apic_nmi_entry uid line = 10 ∷ 12 ∷ 0 ∷ 0 ∷ (spelling 4 uid ++ (line ∷ 0 ∷ 0 ∷ 0 ∷ []))
+
+-- the uid in the first, in which 255 stands for all, if it has a place there
+abbrev pub short_uid : NmiProcessor → Option ℕ
+short_uid nmi.All = Some 255
+short_uid (nmi.ProcessorUid uid) = if nat_lt uid 255 then Some uid else None
+
+-- the uid in the second, in which 2^32 - 1 stands for all
+abbrev pub long_uid : NmiProcessor → ℕ
+long_uid nmi.All = 0xffffffff
+long_uid (nmi.ProcessorUid uid) = uid
+
+abbrev pub nmi_entry : Option ℕ → ℕ → ℕ → List ℕ
+nmi_entry (Some uid) long line = apic_nmi_entry uid line
+nmi_entry None long line = x2apic_nmi_entry long line
+
+unfoldable pub nmi_line_entry : NmiLine → List ℕ
+nmi_line_entry x = nmi_entry (short_uid x.processor) (long_uid x.processor) (line_code x.line)
+
+-- Multiprocessor Wakeup (section 5.2.12.19): Type, Length, MailBoxVersion, Reserved, MailBoxAddress
+unfoldable pub wakeup_entry : ℕ → List ℕ
+wakeup_entry a = 16 ∷ 16 ∷ 0 ∷ 0 ∷ 0 ∷ 0 ∷ 0 ∷ 0 ∷ spelling 8 a
+
+unfoldable pub wakeup_entries : Option ℕ → List ℕ
+wakeup_entries (Some a) = wakeup_entry a
+wakeup_entries None = []
+
+-- ---- the table
+
+-- all entries, sort by sort
+abbrev pub madt_entries : MadtContents → List ℕ
+madt_entries c =
+    flat_map processor_entry c.processors.now
+    ++ (address_entries c.local_apic_address
+    ++ (flat_map io_apic_entry c.io_apics.now
+    ++ (flat_map override_entry c.interrupt_source_overrides.now
+    ++ (flat_map nmi_source_entry c.nmi_sources.now
+    ++ (flat_map nmi_line_entry c.local_apic_nmi_lines.now
+    ++ wakeup_entries c.wakeup_mailbox)))))
+
+-- at 36 Local Interrupt Controller Address, 0 if it has no place; at 40 Flags, of which bit 0 is PCAT_COMPAT
+unfoldable pub madt_fixed : ℕ → Bool → List ℕ
+madt_fixed a pics = spelling 4 (if nat_lt a (2 ^ 32) then a else 0) ++ (bit_of pics ∷ 0 ∷ 0 ∷ 0 ∷ [])
+
+-- after the header
+abbrev pub madt_body : MadtContents → List ℕ
+madt_body c = madt_fixed c.local_apic_address c.also_has_legacy_pics ++ madt_entries c
+
+-- ---- errors
+
+abbrev pub is_empty : {A : Type 0} → List A → Bool
+is_empty [] = true
+is_empty (x ∷ xs) = false
+
+-- the uid isn't the one that stands for all
+abbrev pub names_one : NmiProcessor → Bool
+names_one nmi.All = true
+names_one (nmi.ProcessorUid uid) = nat_lt uid 0xffffffff
+
+-- the table, of revision 5, in so much room, or the first error
+unfoldable pub madt_written : ℕ → TableIds → MadtContents → Result (List ℕ) WriterError
+madt_written room ids c = do
+  _ ← holds (not (is_empty c.processors.now)) NoProcessor
+  _ ← holds (list_all (λ x. names_one x.processor) c.local_apic_nmi_lines.now) UidOfAll
+  table_written room MADT 5 ids (madt_body c)

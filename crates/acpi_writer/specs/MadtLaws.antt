@@ -1,0 +1,106 @@
+-- What holds of a MADT that is written: what was given is what is read.
+use Rattle.std.specs.Prelude.{◌≡◌, ℕ, ◌^◌, ◌<◌, Bool, true, false, List, [], ◌∷◌, map, Option, Some, None, Ok}
+use Rattle.std.specs.List.{All, list_all}
+use Rattle.acpi_base.specs.Madt.{mailbox_of}
+use Rattle.acpi_base.specs.Model.{Model, model_of, state_of}
+use Rattle.acpi_base.specs.declared.table.signature.TheConstants.Signature.{MADT}
+use Rattle.acpi_base.specs.declared.model.interrupt.Apic.{Apic}
+use Rattle.acpi_base.specs.declared.model.interrupt.InterruptModel.TheVariants as model
+use Rattle.acpi_base.specs.declared.model.interrupt.InterruptSourceOverride.{InterruptSourceOverride}
+use Rattle.acpi_base.specs.declared.model.interrupt.IoApic.{IoApic}
+use Rattle.acpi_base.specs.declared.model.interrupt.NmiSource.{NmiSource}
+use Rattle.acpi_base.specs.declared.model.processor.Processor.{Processor}
+use Rattle.acpi_base.specs.declared.model.processor.ProcessorInfo.{ProcessorInfo}
+use Rattle.acpi_writer.specs.MadtBytes.{is_empty, madt_body, names_one}
+use Rattle.acpi_writer.specs.Table.{IsTableOf, IsValid}
+use Rattle.acpi_writer.specs.declared.ids.TableIds.{TableIds}
+use Rattle.acpi_writer.specs.declared.madt.MadtContents.{MadtContents}
+use Rattle.acpi_writer.specs.declared.madt.MadtProcessor.{MadtProcessor}
+
+-- ---- which numbers have a place in an entry
+
+pub record FitsProcessor (p : MadtProcessor) : Type 0 where
+  pub uid : p.processor_uid < 2 ^ 32
+  pub id : p.local_apic_id < 2 ^ 32
+
+abbrev pub FitsAddress : ℕ → Type 0
+FitsAddress a = a < 2 ^ 64
+
+pub record FitsIoApic (x : IoApic) : Type 0 where
+  pub address : x.address < 2 ^ 32
+  pub base : x.global_system_interrupt_base < 2 ^ 32
+
+abbrev pub FitsOverride : InterruptSourceOverride → Type 0
+FitsOverride x = x.global_system_interrupt < 2 ^ 32
+
+abbrev pub FitsNmiSource : NmiSource → Type 0
+FitsNmiSource x = x.global_system_interrupt < 2 ^ 32
+
+abbrev pub FitsMailbox : Option ℕ → Type 0
+FitsMailbox (Some a) = a < 2 ^ 64
+FitsMailbox None = Unit {0}
+
+pub record AreFit (c : MadtContents) : Type 0 where
+  pub local_apic_address : FitsAddress c.local_apic_address
+  pub processors : All FitsProcessor c.processors.now
+  pub io_apics : All FitsIoApic c.io_apics.now
+  pub overrides : All FitsOverride c.interrupt_source_overrides.now
+  pub nmi_sources : All FitsNmiSource c.nmi_sources.now
+  pub wakeup : FitsMailbox c.wakeup_mailbox
+
+-- the bytes are the table of contents whose numbers have a place, with a processor among them, and no NMI line of the
+-- uid that stands for all
+pub record IsMadt (ids : TableIds) (c : MadtContents) (table : List ℕ) : Type 0 where
+  pub written : IsTableOf MADT 5 ids (madt_body c) table
+  pub fit : AreFit c
+  pub some : is_empty c.processors.now ≡ false
+  pub lines : list_all (λ x. names_one x.processor) c.local_apic_nmi_lines.now ≡ true
+
+-- ---- what is to be read
+
+-- a processor as a summary has it
+abbrev pub processor_read : Bool → MadtProcessor → Processor
+processor_read is_ap p = record {
+  processor_uid = p.processor_uid;
+  local_apic_id = p.local_apic_id;
+  state = state_of is_ap p.is_enabled;
+  is_ap = is_ap;
+}
+
+-- the first one is the boot processor
+abbrev pub processors_read : {A : Type 0} → List MadtProcessor → Option (ProcessorInfo A)
+processors_read [] = None
+processors_read (p ∷ ps) = Some (record {
+  boot_processor = processor_read false p;
+  application_processors = map (processor_read true) ps;
+})
+
+-- the model that is to be read: exactly what was given
+abbrev pub apic_read : {A : Type 0} → MadtContents → Apic A
+apic_read c = record {
+  local_apic_address = c.local_apic_address;
+  io_apics = c.io_apics.now;
+  local_apic_nmi_lines = c.local_apic_nmi_lines.now;
+  interrupt_source_overrides = c.interrupt_source_overrides.now;
+  nmi_sources = c.nmi_sources.now;
+  also_has_legacy_pics = c.also_has_legacy_pics;
+}
+
+abbrev pub model_read : {A : Type 0} → MadtContents → Model A
+model_read c = (model.Apic (apic_read c), processors_read c.processors.now)
+
+-- ---- laws
+
+-- such a table is valid
+abbrev pub MadtIsValid : Type 0
+MadtIsValid = (ids : TableIds) (c : MadtContents) (table : List ℕ) → IsMadt ids c table → IsValid MADT table
+
+-- its interrupt model, and its processors, are exactly those that were given, in order
+abbrev pub MadtIsRead : Type 0 → Type 0
+MadtIsRead A = (ids : TableIds) (c : MadtContents) (table : List ℕ) → IsMadt ids c table
+    → model_of {A = A} table ≡ Ok (model_read c)
+
+-- and so is its mailbox
+abbrev pub MailboxIsRead : Type 0
+MailboxIsRead = (ids : TableIds) (c : MadtContents) (table : List ℕ) (a : ℕ) → IsMadt ids c table
+    → c.wakeup_mailbox ≡ Some a → mailbox_of table ≡ Ok a

@@ -1,0 +1,25 @@
+-- The bytes of an MCFG that says what is given. The layout is that of the PCI Firmware Specification, section 4.1.2.
+use Rattle.std.specs.Prelude.{ℕ, List, [], ◌∷◌, ◌++◌, flat_map, replicate, Result}
+use Rattle.acpi_base.specs.Bytes.{spelling}
+use Rattle.acpi_base.specs.declared.table.signature.TheConstants.Signature.{MCFG}
+use Rattle.acpi_base.specs.declared.tables.mcfg.McfgEntry.{McfgEntry}
+use Rattle.acpi_writer.specs.Table.{table_written}
+use Rattle.acpi_writer.specs.declared.error.WriterError.{WriterError}
+use Rattle.acpi_writer.specs.declared.ids.TableIds.{TableIds}
+
+-- Base Address, PCI Segment Group Number, Start Bus Number, End Bus Number, and four bytes that are Reserved
+unfoldable pub mcfg_entry : McfgEntry → List ℕ
+mcfg_entry e = spelling 8 e.base_address ++ (spelling 2 e.pci_segment_group
+    ++ (e.bus_number_start ∷ e.bus_number_end ∷ 0 ∷ 0 ∷ 0 ∷ 0 ∷ []))
+
+-- after the header: eight bytes that are Reserved
+abbrev pub mcfg_reserved : List ℕ
+mcfg_reserved = replicate 8 0
+
+-- and from 44 on the regions, in order
+abbrev pub mcfg_body : List McfgEntry → List ℕ
+mcfg_body es = mcfg_reserved ++ flat_map mcfg_entry es
+
+-- the table, of revision 1, in so much room, or the first error
+abbrev pub mcfg_written : ℕ → TableIds → List McfgEntry → Result (List ℕ) WriterError
+mcfg_written room ids es = table_written room MCFG 1 ids (mcfg_body es)

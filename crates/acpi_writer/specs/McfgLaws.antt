@@ -1,0 +1,27 @@
+-- What holds of an MCFG that is written: what was given is what is read.
+use Rattle.std.specs.Prelude.{◌≡◌, ℕ, ◌^◌, ◌<◌, List}
+use Rattle.std.specs.List.{All}
+use Rattle.acpi_base.specs.Mcfg.{mcfg_entries_of}
+use Rattle.acpi_base.specs.declared.table.signature.TheConstants.Signature.{MCFG}
+use Rattle.acpi_base.specs.declared.tables.mcfg.McfgEntry.{McfgEntry}
+use Rattle.acpi_writer.specs.McfgBytes.{mcfg_body}
+use Rattle.acpi_writer.specs.Table.{IsTableOf, IsValid}
+use Rattle.acpi_writer.specs.declared.ids.TableIds.{TableIds}
+
+-- the numbers have a place
+pub record FitsMcfg (e : McfgEntry) : Type 0 where
+  pub base : e.base_address < 2 ^ 64
+  pub segment : e.pci_segment_group < 2 ^ 16
+
+-- the bytes are the table of regions whose numbers have a place
+pub record IsMcfg (ids : TableIds) (es : List McfgEntry) (table : List ℕ) : Type 0 where
+  pub written : IsTableOf MCFG 1 ids (mcfg_body es) table
+  pub fit : All FitsMcfg es
+
+-- such a table is valid
+abbrev pub McfgIsValid : Type 0
+McfgIsValid = (ids : TableIds) (es : List McfgEntry) (table : List ℕ) → IsMcfg ids es table → IsValid MCFG table
+
+-- and its regions are exactly those that were given, in order
+abbrev pub McfgIsRead : Type 0
+McfgIsRead = (ids : TableIds) (es : List McfgEntry) (table : List ℕ) → IsMcfg ids es table → mcfg_entries_of table ≡ es

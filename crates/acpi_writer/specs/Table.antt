@@ -1,0 +1,71 @@
+-- What every table that is written has: a header (ACPI 6.4, section 5.2.6), a length that fits, and room.
+use Rattle.std.specs.Prelude.{◌≡◌, ℕ, ◌+◌, ◌^◌, ◌≤◌, ◌<◌, ◌&&◌, Bool, true, if◌then◌else◌}
+use Rattle.std.specs.Prelude.{List, ◌∷◌, ◌++◌, length, drop, nat_le, nat_lt, Result, Ok, Err}
+use Rattle.std.specs.Str.{is_utf8}
+use Rattle.acpi_base.specs.Bytes.{spelling}
+use Rattle.acpi_base.specs.Header.{check_table}
+use Rattle.acpi_base.specs.Steps.{◌>>=◌, holds}
+use Rattle.acpi_base.specs.Text.{letters_of}
+use Rattle.acpi_base.specs.declared.table.signature.Signature.{Signature}
+use Rattle.acpi_image.specs.WriteChecks.{is_table}
+use Rattle.acpi_image.specs.Written.{with_sum}
+use Rattle.acpi_writer.specs.declared.error.WriterError.{WriterError}
+use Rattle.acpi_writer.specs.declared.error.WriterError.TheVariants.{BadName, NoRoom, TooLong}
+use Rattle.acpi_writer.specs.declared.ids.TableIds.{TableIds}
+
+-- yes and no, as a bit
+abbrev pub bit_of : Bool → ℕ
+bit_of b = if b then 1 else 0
+
+-- Signature, Length, Revision, a Checksum of 0, OEMID, OEM Table ID, OEM Revision, Creator ID, Creator Revision
+unfoldable pub table_head : Signature → ℕ → TableIds → ℕ → List ℕ
+table_head s revision ids n =
+    letters_of s ++ (spelling 4 n ++ (revision ∷ 0 ∷ (ids.oem_id ++ (ids.oem_table_id
+    ++ (spelling 4 ids.oem_revision ++ (ids.creator_id ++ spelling 4 ids.creator_revision))))))
+
+-- a table with these bytes after its header, before Checksum is set
+abbrev pub unsummed : Signature → ℕ → TableIds → List ℕ → List ℕ
+unsummed s revision ids body = table_head s revision ids (36 + length body) ++ body
+
+-- Checksum, byte 9, makes it sum to 0
+unfoldable pub table_bytes : Signature → ℕ → TableIds → List ℕ → List ℕ
+table_bytes s revision ids body = with_sum 9 (unsummed s revision ids body)
+
+-- each name is a text
+abbrev pub are_texts : TableIds → Bool
+are_texts ids = is_utf8 ids.oem_id && (is_utf8 ids.oem_table_id && is_utf8 ids.creator_id)
+
+-- the table in so much room, or the first error
+unfoldable pub table_written : ℕ → Signature → ℕ → TableIds → List ℕ → Result (List ℕ) WriterError
+table_written room s revision ids body = do
+  _ ← holds (are_texts ids) BadName
+  _ ← holds (nat_le (36 + length body) room) NoRoom
+  _ ← holds (nat_lt (36 + length body) (2 ^ 32)) TooLong
+  Ok (table_bytes s revision ids body)
+
+-- what is left of a slice: after a table that was written what stood after it, and after an error all
+abbrev pub Keeps : Result ℕ WriterError → List ℕ → List ℕ → Type 0
+Keeps (Ok n) old new = (n ≤ length old) × (drop n new ≡ drop n old) × (length new ≡ length old)
+Keeps (Err e) old new = new ≡ old
+
+-- ---- what holds of every table that is written
+
+-- the names and numbers have a place in a header
+pub record AreIds (ids : TableIds) : Type 0 where
+  pub oem_id : length ids.oem_id ≡ 6
+  pub oem_table_id : length ids.oem_table_id ≡ 8
+  pub creator_id : length ids.creator_id ≡ 4
+  pub oem_revision : ids.oem_revision < 2 ^ 32
+  pub creator_revision : ids.creator_revision < 2 ^ 32
+
+-- the bytes are the table with these bytes after its header, and its names are texts
+pub record IsTableOf (s : Signature) (revision : ℕ) (ids : TableIds) (body table : List ℕ) : Type 0 where
+  pub ids_fit : AreIds ids
+  pub texts : are_texts ids ≡ true
+  pub short : 36 + length body < 2 ^ 32
+  pub bytes : table ≡ table_bytes s revision ids body
+
+-- such a table passes each check of a reader, and a writer of images takes it
+pub record IsValid (s : Signature) (table : List ℕ) : Type 0 where
+  pub checked : check_table s table ≡ Ok tt
+  pub taken : is_table table ≡ true

@@ -1,0 +1,16 @@
+//! Why a table is not written.
+
+/// Why a table is not written.
+#[derive(Clone, Copy, Debug, PartialEq, Eq)]
+pub enum WriterError {
+    /// A MADT without any processor.
+    NoProcessor,
+    /// An NMI line of the processor whose uid is 0xffffffff, the number that stands for all processors.
+    UidOfAll,
+    /// OEMID, OEM Table ID or Creator ID is not valid UTF-8.
+    BadName,
+    /// The slice ends before the table does.
+    NoRoom,
+    /// The table has 2^32 bytes or more, which its field Length can't say.
+    TooLong,
+}

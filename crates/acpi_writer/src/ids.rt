@@ -1,0 +1,41 @@
+//! Who made a table, as its header says (section 5.2.6).
+ghost use Rattle.std.specs.Prelude.{◌≡◌};
+ghost use Rattle.acpi_writer.specs.Table.{AreIds, are_texts};
+
+use acpi_base::bytes::is_text;
+
+/// The fields of a table's header by which its makers are known (section 5.2.6). The names are filled up with spaces
+/// or zeros, and have to be valid UTF-8.
+#[derive(Clone, Copy, Debug)]
+pub struct TableIds {
+    /// OEMID: the OEM's name.
+    pub oem_id: [u8; 6],
+    /// OEM Table ID: the OEM's name for this table.
+    pub oem_table_id: [u8; 8],
+    /// OEM Revision: the OEM's revision of this table.
+    pub oem_revision: u32,
+    /// Creator ID: the name of the program that made the table.
+    pub creator_id: [u8; 4],
+    /// Creator Revision: the revision of that program.
+    pub creator_revision: u32,
+}
+
+impl TableIds {
+    /// Whether each name is valid UTF-8.
+    pub fn are_texts(&self) -> bool
+        ensures { result ≡ are_texts self.now }
+    {
+        is_text(&self.oem_id) && is_text(&self.oem_table_id) && is_text(&self.creator_id)
+    }
+
+    /// The names and numbers are as long as their types say.
+    pub(crate) fn fit(&self)
+        ensures { AreIds self.now }
+    {
+        let _oem_id = self.oem_id;
+        let _oem_table_id = self.oem_table_id;
+        let _oem_revision = self.oem_revision;
+        let _creator_id = self.creator_id;
+        let _creator_revision = self.creator_revision;
+    }
+}

@@ -1,0 +1,62 @@
+//! Laws of the tables that are written: each is the contract of a function that does nothing.
+ghost use Rattle.acpi_writer.specs.HpetLaws.{HpetIsRead, HpetIsValid};
+ghost use Rattle.acpi_writer.specs.ImageLaws.{HpetInImage, MadtInImage, McfgInImage, PlatformInImage};
+ghost use Rattle.acpi_writer.specs.MadtLaws.{MadtIsRead, MadtIsValid, MailboxIsRead};
+ghost use Rattle.acpi_writer.specs.McfgLaws.{McfgIsRead, McfgIsValid};
+
+use std::alloc::Allocator;
+
+/// The interrupt model of a MADT that is written, and its processors, are exactly those that were given, in order.
+pub fn madt_is_read<A: Allocator>()
+    ensures { MadtIsRead A }
+{}
+
+/// And so is its mailbox, if one was given.
+pub fn mailbox_is_read()
+    ensures { MailboxIsRead }
+{}
+
+/// The interrupt model of an image by `write_image` that has such a MADT, as its first, is exactly that too.
+pub fn madt_in_image<A: Allocator>()
+    ensures { MadtInImage A }
+{}
+
+/// And so is what `platform_info` returns there, if it returns a platform.
+pub fn platform_in_image<A: Allocator>()
+    ensures { PlatformInImage A }
+{}
+
+/// The regions of an MCFG that is written are exactly those that were given, in order.
+pub fn mcfg_is_read()
+    ensures { McfgIsRead }
+{}
+
+/// The regions of an image by `write_image` that has such an MCFG, as its first, are exactly these too.
+pub fn mcfg_in_image()
+    ensures { McfgInImage }
+{}
+
+/// An HPET that is written says exactly what was given.
+pub fn hpet_is_read()
+    ensures { HpetIsRead }
+{}
+
+/// And so does an image by `write_image` that has such an HPET, as its first.
+pub fn hpet_in_image()
+    ensures { HpetInImage }
+{}
+
+/// A MADT that is written passes each check of a table, and `write_image` takes it.
+pub fn madt_is_valid()
+    ensures { MadtIsValid }
+{}
+
+/// An MCFG that is written passes each check of a table, and `write_image` takes it.
+pub fn mcfg_is_valid()
+    ensures { McfgIsValid }
+{}
+
+/// An HPET that is written passes each check of a table, and `write_image` takes it.
+pub fn hpet_is_valid()
+    ensures { HpetIsValid }
+{}

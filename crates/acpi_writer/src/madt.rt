@@ -1,0 +1,138 @@
+//! The Multiple APIC Description Table (MADT, section 5.2.12), from lists of processors and interrupt controllers.
+ghost use Rattle.std.specs.Prelude.{◌≡◌, length, take, IfOk};
+ghost use Rattle.std.specs.List.{list_all};
+ghost use Rattle.acpi_base.specs.Steps.{Gives};
+ghost use Rattle.acpi_writer.specs.MadtBytes as bytes;
+ghost use Rattle.acpi_base.specs.declared.table.signature.TheConstants.Signature.{MADT};
+ghost use Rattle.acpi_writer.specs.MadtLaws.{AreFit, IsMadt};
+ghost use Rattle.acpi_writer.specs.Table.{IsTableOf, Keeps, table_written};
+
+mod entries;
+
+use crate::error::WriterError;
+use crate::ids::TableIds;
+use crate::spelled::{Each, Then};
+use crate::table::write_table;
+use acpi_base::Signature;
+use acpi_base::model::{InterruptSourceOverride, IoApic, NmiLine, NmiProcessor, NmiSource};
+use entries::{AddressOverride, Fixed, Wakeup};
+
+/// A processor that a MADT is to list (sections 5.2.12.2 and 5.2.12.12).
+#[derive(Clone, Copy, Debug)]
+pub struct MadtProcessor {
+    /// ACPI Processor UID.
+    pub processor_uid: u32,
+    /// APIC ID or X2APIC ID.
+    pub local_apic_id: u32,
+    /// Enabled, bit 0 of the flags: whether the processor can be used.
+    pub is_enabled: bool,
+    /// Online Capable, bit 1 of the flags: whether a processor that is not enabled can be enabled later. The
+    /// specification wants it clear if Enabled is set.
+    pub is_online_capable: bool,
+}
+
+/// What a MADT is to say, in the words of `InterruptModel` and `ProcessorInfo`, as which it is read.
+#[derive(Clone, Copy)]
+pub struct MadtContents<'a> {
+    /// The physical address of each processor's local APIC.
+    pub local_apic_address: u64,
+    /// PCAT_COMPAT: the machine has a pair of 8259 controllers too.
+    pub also_has_legacy_pics: bool,
+    /// The processors, of which the first is the boot processor.
+    pub processors: &'a [MadtProcessor],
+    /// I/O APICs.
+    pub io_apics: &'a [IoApic],
+    /// Interrupt Source Overrides.
+    pub interrupt_source_overrides: &'a [InterruptSourceOverride],
+    /// NMI Sources.
+    pub nmi_sources: &'a [NmiSource],
+    /// Local APIC NMIs and Local x2APIC NMIs.
+    pub local_apic_nmi_lines: &'a [NmiLine],
+    /// MailBoxAddress: the physical address of the mailbox by which the firmware's processors are woken, if they are
+    /// woken so (section 5.2.12.19).
+    pub wakeup_mailbox: Option<u64>,
+}
+
+/// Whether this isn't the uid that stands for all processors.
+fn names_one(processor: NmiProcessor) -> bool
+    ensures { result ≡ bytes.names_one processor }
+{
+    match processor {
+        NmiProcessor::All => true,
+        NmiProcessor::ProcessorUid(uid) => uid < 0xffffffff,
+    }
+}
+
+/// Whether no line is of the uid that stands for all processors.
+fn lines_fit(lines: &[NmiLine]) -> bool
+    ensures { result ≡ list_all (λ x. bytes.names_one x.processor) lines.now }
+{
+    for line in lines {
+        if !names_one(line.processor) {
+            return false;
+        }
+    }
+    true
+}
+
+/// Writes a MADT whose contents may be written.
+///
+/// Returns, in this order, `BadName`, `NoRoom` and `TooLong`.
+fn write_contents(
+    out: &mut [u8],
+    ids: &TableIds,
+    contents: &MadtContents<'_>,
+) -> Result<usize, WriterError>
+    ensures exact { Gives (λ n. take n out.new) result
+        (table_written (length out.old) MADT 5 ids.now (bytes.madt_body contents.now)) }
+    ensures keeps { Keeps result out.old out.new }
+    ensures table { IfOk result (λ n.
+        IsTableOf MADT 5 ids.now (bytes.madt_body contents.now) (take n out.new)) }
+    ensures fits { IfOk result (λ n. AreFit contents.now) }
+{
+    let fixed = Fixed {
+        local_apic_address: contents.local_apic_address,
+        also_has_legacy_pics: contents.also_has_legacy_pics,
+    };
+    let wakeup = Wakeup(contents.wakeup_mailbox);
+    let nmis = Then(
+        Each(contents.nmi_sources),
+        Then(Each(contents.local_apic_nmi_lines), wakeup),
+    );
+    let wirings = Then(Each(contents.interrupt_source_overrides), nmis);
+    let controllers = Then(Each(contents.io_apics), wirings);
+    let address = AddressOverride(contents.local_apic_address);
+    let entries = Then(Each(contents.processors), Then(address, controllers));
+    write_table(out, Signature::MADT, 5, ids, &Then(fixed, entries))
+}
+
+/// Writes a MADT of revision 5 to the front of a slice, and returns how many bytes it has. Its entries stand sort by
+/// sort, in the order of the fields: a processor is a Processor Local APIC if both its ids are below 255, otherwise a
+/// Processor Local x2APIC; an NMI line is a Local x2APIC NMI if its uid is 255 or above. An address of the local APICs
+/// of 2^32 or above has an entry of its own, a Local APIC Address Override, after the processors. Two processors of one
+/// uid are written as they are.
+///
+/// Returns, in this order, `NoProcessor` if there is no processor, `UidOfAll` if an NMI line is of the processor
+/// 0xffffffff, `BadName` if a name of the ids is not valid UTF-8, `NoRoom` if the slice is shorter than the table, and
+/// `TooLong` if the table has 2^32 bytes or more.
+pub fn write_madt(
+    out: &mut [u8],
+    ids: &TableIds,
+    contents: &MadtContents<'_>,
+) -> Result<usize, WriterError>
+    // The bytes, or the first error, are those that are defined.
+    ensures exact { Gives (λ n. take n out.new) result
+        (bytes.madt_written (length out.old) ids.now contents.now) }
+    // What stands after the table is unchanged, and after an error the whole slice is.
+    ensures keeps { Keeps result out.old out.new }
+    // The numbers that were given fit, so that what was given is what is read (`madt_is_read`).
+    ensures fits { IfOk result (λ n. IsMadt ids.now contents.now (take n out.new)) }
+{
+    if contents.processors.len() < 1 {
+        return Err(WriterError::NoProcessor);
+    }
+    if !lines_fit(contents.local_apic_nmi_lines) {
+        return Err(WriterError::UidOfAll);
+    }
+    write_contents(out, ids, contents)
+}

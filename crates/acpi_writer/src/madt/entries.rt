@@ -1,0 +1,291 @@
+//! The parts of a MADT, each with its bytes (section 5.2.12).
+ghost use Rattle.std.specs.Prelude.{◌≡◌, ◌≤◌};
+ghost use Rattle.acpi_base.specs.Interrupts as interrupts;
+ghost use Rattle.acpi_writer.specs.MadtBytes as bytes;
+ghost use Rattle.acpi_writer.specs.MadtLaws as laws;
+
+use super::MadtProcessor;
+use crate::numbers::{bit_of, dword, qword};
+use crate::spelled::Spelled;
+use acpi_base::model::{
+    InterruptSourceOverride, IoApic, LocalInterruptLine, NmiLine, NmiProcessor, NmiSource,
+    Polarity, TriggerMode,
+};
+
+/// The fields between the header and the entries.
+#[derive(Clone, Copy)]
+pub(super) struct Fixed {
+    pub(super) local_apic_address: u64,
+    pub(super) also_has_legacy_pics: bool,
+}
+
+impl Spelled for Fixed {
+    ghost spelled = { λ f. bytes.madt_fixed f.local_apic_address f.also_has_legacy_pics };
+
+    ghost fits = { λ _. Unit {0} };
+
+    #[tactic(auto, unfolding(crate::specs::MadtBytes::madt_fixed, acpi_base::specs::Bytes::spelling))]
+    fn measure(&self, room: usize) -> Option<usize> {
+        if room < 8 { None } else { Some(8) }
+    }
+
+    #[tactic(auto, unfolding(crate::specs::MadtBytes::madt_fixed, acpi_base::specs::Bytes::spelling))]
+    fn put(&self, out: &mut [u8]) {
+        let address = if self.local_apic_address < 0x100000000 {
+            self.local_apic_address as u32
+        } else {
+            0
+        };
+        let [a, b, c, d] = dword(address);
+        let flags = bit_of(self.also_has_legacy_pics);
+        out.copy_from_slice(&[a, b, c, d, flags, 0, 0, 0]);
+    }
+}
+
+/// The flags of a processor.
+fn processor_flags(p: &MadtProcessor) -> u8
+    ensures { result ≡ bytes.processor_flags p.now }
+{
+    bit_of(p.is_enabled) + 2 * bit_of(p.is_online_capable)
+}
+
+/// Whether the processor's ids have a place in a Processor Local APIC.
+fn is_small(p: &MadtProcessor) -> bool
+    ensures { result ≡ bytes.is_small p.now }
+{
+    p.processor_uid < 255 && p.local_apic_id < 255
+}
+
+impl Spelled for MadtProcessor {
+    ghost spelled = { bytes.processor_entry };
+
+    ghost fits = { laws.FitsProcessor };
+
+    #[tactic(auto, unfolding(crate::specs::MadtBytes::processor_entry, crate::specs::MadtBytes::local_apic_entry, crate::specs::MadtBytes::local_x2apic_entry, acpi_base::specs::Bytes::spelling))]
+    fn measure(&self, room: usize) -> Option<usize> {
+        let size = if is_small(self) { 8 } else { 16 };
+        let _uid = self.processor_uid;
+        let _id = self.local_apic_id;
+        if room < size { None } else { Some(size) }
+    }
+
+    #[tactic(auto, unfolding(crate::specs::MadtBytes::processor_entry, crate::specs::MadtBytes::local_apic_entry, crate::specs::MadtBytes::local_x2apic_entry, acpi_base::specs::Bytes::spelling))]
+    fn put(&self, out: &mut [u8]) {
+        let flags = processor_flags(self);
+        if is_small(self) {
+            let uid = self.processor_uid as u8;
+            let id = self.local_apic_id as u8;
+            out.copy_from_slice(&[0, 8, uid, id, flags, 0, 0, 0]);
+        } else {
+            let [i, j, k, l] = dword(self.local_apic_id);
+            let [u, v, w, x] = dword(self.processor_uid);
+            out.copy_from_slice(&[9, 16, 0, 0, i, j, k, l, flags, 0, 0, 0, u, v, w, x]);
+        }
+    }
+}
+
+/// The address of the local APICs, as an entry if the fixed fields have no place for it.
+#[derive(Clone, Copy)]
+pub(super) struct AddressOverride(pub(super) u64);
+
+impl Spelled for AddressOverride {
+    ghost spelled = { λ a. bytes.address_entries a.0 };
+
+    ghost fits = { λ a. laws.FitsAddress a.0 };
+
+    #[tactic(auto, unfolding(crate::specs::MadtBytes::address_entries, crate::specs::MadtBytes::address_entry, acpi_base::specs::Bytes::spelling))]
+    fn measure(&self, room: usize) -> Option<usize> {
+        let size = if self.0 < 0x100000000 { 0 } else { 12 };
+        if room < size { None } else { Some(size) }
+    }
+
+    #[tactic(auto, unfolding(crate::specs::MadtBytes::address_entries, crate::specs::MadtBytes::address_entry, acpi_base::specs::Bytes::spelling))]
+    fn put(&self, out: &mut [u8]) {
+        if self.0 >= 0x100000000 {
+            let [a, b, c, d, e, f, g, h] = qword(self.0);
+            out.copy_from_slice(&[5, 12, 0, 0, a, b, c, d, e, f, g, h]);
+        }
+    }
+}
+
+impl Spelled for IoApic {
+    ghost spelled = { bytes.io_apic_entry };
+
+    ghost fits = { laws.FitsIoApic };
+
+    #[tactic(auto, unfolding(crate::specs::MadtBytes::io_apic_entry, acpi_base::specs::Bytes::spelling))]
+    fn measure(&self, room: usize) -> Option<usize> {
+        let _address = self.address;
+        let _base = self.global_system_interrupt_base;
+        if room < 12 { None } else { Some(12) }
+    }
+
+    #[tactic(auto, unfolding(crate::specs::MadtBytes::io_apic_entry, acpi_base::specs::Bytes::spelling))]
+    fn put(&self, out: &mut [u8]) {
+        let [i, j, k, l] = dword(self.address);
+        let [u, v, w, x] = dword(self.global_system_interrupt_base);
+        out.copy_from_slice(&[1, 12, self.id, 0, i, j, k, l, u, v, w, x]);
+    }
+}
+
+/// The number of a polarity.
+fn polarity_code(polarity: Polarity) -> u8
+    ensures value { result ≡ interrupts.polarity_code polarity }
+    ensures small { result ≤ 3 }
+{
+    match polarity {
+        Polarity::SameAsBus => 0,
+        Polarity::ActiveHigh => 1,
+        Polarity::ActiveLow => 3,
+    }
+}
+
+/// The number of a trigger mode.
+fn trigger_code(trigger_mode: TriggerMode) -> u8
+    ensures value { result ≡ interrupts.trigger_code trigger_mode }
+    ensures small { result ≤ 3 }
+{
+    match trigger_mode {
+        TriggerMode::SameAsBus => 0,
+        TriggerMode::Edge => 1,
+        TriggerMode::Level => 3,
+    }
+}
+
+/// The lower byte of MPS INTI Flags.
+fn inti_flags(polarity: Polarity, trigger_mode: TriggerMode) -> u8
+    ensures { result ≡ bytes.inti_flags polarity trigger_mode }
+{
+    polarity_code(polarity) + 4 * trigger_code(trigger_mode)
+}
+
+impl Spelled for InterruptSourceOverride {
+    ghost spelled = { bytes.override_entry };
+
+    ghost fits = { laws.FitsOverride };
+
+    #[tactic(auto, unfolding(crate::specs::MadtBytes::override_entry, acpi_base::specs::Bytes::spelling))]
+    fn measure(&self, room: usize) -> Option<usize> {
+        let _gsi = self.global_system_interrupt;
+        if room < 10 { None } else { Some(10) }
+    }
+
+    #[tactic(auto, unfolding(crate::specs::MadtBytes::override_entry, acpi_base::specs::Bytes::spelling))]
+    fn put(&self, out: &mut [u8]) {
+        let [i, j, k, l] = dword(self.global_system_interrupt);
+        let flags = inti_flags(self.polarity, self.trigger_mode);
+        out.copy_from_slice(&[2, 10, 0, self.isa_source, i, j, k, l, flags, 0]);
+    }
+}
+
+impl Spelled for NmiSource {
+    ghost spelled = { bytes.nmi_source_entry };
+
+    ghost fits = { laws.FitsNmiSource };
+
+    #[tactic(auto, unfolding(crate::specs::MadtBytes::nmi_source_entry, acpi_base::specs::Bytes::spelling))]
+    fn measure(&self, room: usize) -> Option<usize> {
+        let _gsi = self.global_system_interrupt;
+        if room < 8 { None } else { Some(8) }
+    }
+
+    #[tactic(auto, unfolding(crate::specs::MadtBytes::nmi_source_entry, acpi_base::specs::Bytes::spelling))]
+    fn put(&self, out: &mut [u8]) {
+        let [i, j, k, l] = dword(self.global_system_interrupt);
+        let flags = inti_flags(self.polarity, self.trigger_mode);
+        out.copy_from_slice(&[3, 8, flags, 0, i, j, k, l]);
+    }
+}
+
+/// The number of a LINT pin.
+fn line_code(line: LocalInterruptLine) -> u8
+    ensures { result ≡ interrupts.line_code line }
+{
+    match line {
+        LocalInterruptLine::Lint0 => 0,
+        LocalInterruptLine::Lint1 => 1,
+    }
+}
+
+/// The uid in a Local APIC NMI, of which 255 stands for all processors, or `None` if it has no place there.
+fn short_uid(processor: NmiProcessor) -> Option<u8>
+    ensures { result ≡ bytes.short_uid processor }
+{
+    match processor {
+        NmiProcessor::All => Some(255),
+        NmiProcessor::ProcessorUid(uid) => { if uid < 255 { Some(uid as u8) } else { None } }
+    }
+}
+
+/// The uid in a Local x2APIC NMI, of which 2^32 - 1 stands for all processors.
+fn long_uid(processor: NmiProcessor) -> u32
+    ensures { result ≡ bytes.long_uid processor }
+{
+    match processor {
+        NmiProcessor::All => 0xffffffff,
+        NmiProcessor::ProcessorUid(uid) => uid,
+    }
+}
+
+impl Spelled for NmiLine {
+    ghost spelled = { bytes.nmi_line_entry };
+
+    ghost fits = { λ _. Unit {0} };
+
+    #[tactic(auto, unfolding(crate::specs::MadtBytes::nmi_line_entry, crate::specs::MadtBytes::apic_nmi_entry, crate::specs::MadtBytes::x2apic_nmi_entry, acpi_base::specs::Bytes::spelling))]
+    fn measure(&self, room: usize) -> Option<usize> {
+        let size = match short_uid(self.processor) {
+            Some(_) => 6,
+            None => 12,
+        };
+        if room < size { None } else { Some(size) }
+    }
+
+    #[tactic(auto, unfolding(crate::specs::MadtBytes::nmi_line_entry, crate::specs::MadtBytes::apic_nmi_entry, crate::specs::MadtBytes::x2apic_nmi_entry, acpi_base::specs::Bytes::spelling))]
+    fn put(&self, out: &mut [u8]) {
+        let line = line_code(self.line);
+        match short_uid(self.processor) {
+            Some(uid) => out.copy_from_slice(&[4, 6, uid, 0, 0, line]),
+            None => {
+                let [i, j, k, l] = dword(long_uid(self.processor));
+                out.copy_from_slice(&[10, 12, 0, 0, i, j, k, l, line, 0, 0, 0]);
+            }
+        }
+    }
+}
+
+/// An address has a place in eight bytes.
+fn fits_address(address: u64)
+    ensures { laws.FitsAddress address }
+{
+    let _in_range = address;
+}
+
+/// A mailbox, if processors are woken by one.
+#[derive(Clone, Copy)]
+pub(super) struct Wakeup(pub(super) Option<u64>);
+
+impl Spelled for Wakeup {
+    ghost spelled = { λ w. bytes.wakeup_entries w.0 };
+
+    ghost fits = { λ w. laws.FitsMailbox w.0 };
+
+    #[tactic(auto, unfolding(crate::specs::MadtBytes::wakeup_entries, crate::specs::MadtBytes::wakeup_entry, acpi_base::specs::Bytes::spelling))]
+    fn measure(&self, room: usize) -> Option<usize> {
+        match self.0 {
+            Some(address) => {
+                fits_address(address);
+                if room < 16 { None } else { Some(16) }
+            }
+            None => Some(0),
+        }
+    }
+
+    #[tactic(auto, unfolding(crate::specs::MadtBytes::wakeup_entries, crate::specs::MadtBytes::wakeup_entry, acpi_base::specs::Bytes::spelling))]
+    fn put(&self, out: &mut [u8]) {
+        if let Some(address) = self.0 {
+            let [a, b, c, d, e, f, g, h] = qword(address);
+            out.copy_from_slice(&[16, 16, 0, 0, 0, 0, 0, 0, a, b, c, d, e, f, g, h]);
+        }
+    }
+}

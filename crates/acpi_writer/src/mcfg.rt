@@ -1,0 +1,74 @@
+//! The PCI Express memory mapped configuration space table (MCFG), from its regions.
+ghost use Rattle.std.specs.Prelude.{◌≡◌, length, take, IfOk};
+ghost use Rattle.acpi_base.specs.Steps.{Gives};
+ghost use Rattle.acpi_writer.specs.McfgBytes as bytes;
+ghost use Rattle.acpi_writer.specs.McfgLaws.{FitsMcfg, IsMcfg};
+ghost use Rattle.acpi_writer.specs.Table.{Keeps};
+
+use crate::error::WriterError;
+use crate::ids::TableIds;
+use crate::numbers::{qword, word};
+use crate::spelled::{Each, Spelled, Then};
+use crate::table::write_table;
+use acpi_base::Signature;
+use acpi_base::mcfg::McfgEntry;
+
+impl Spelled for McfgEntry {
+    ghost spelled = { bytes.mcfg_entry };
+
+    ghost fits = { FitsMcfg };
+
+    #[tactic(auto, unfolding(crate::specs::McfgBytes::mcfg_entry, acpi_base::specs::Bytes::spelling))]
+    fn measure(&self, room: usize) -> Option<usize> {
+        let _base = self.base_address;
+        let _segment = self.pci_segment_group;
+        if room < 16 { None } else { Some(16) }
+    }
+
+    #[tactic(auto, unfolding(crate::specs::McfgBytes::mcfg_entry, acpi_base::specs::Bytes::spelling))]
+    fn put(&self, out: &mut [u8]) {
+        let [a, b, c, d, e, f, g, h] = qword(self.base_address);
+        let [i, j] = word(self.pci_segment_group);
+        let start = self.bus_number_start;
+        let end = self.bus_number_end;
+        out.copy_from_slice(&[a, b, c, d, e, f, g, h, i, j, start, end, 0, 0, 0, 0]);
+    }
+}
+
+/// The eight bytes of an MCFG that are Reserved.
+#[derive(Clone, Copy)]
+struct Reserved;
+
+impl Spelled for Reserved {
+    ghost spelled = { λ _. bytes.mcfg_reserved };
+
+    ghost fits = { λ _. Unit {0} };
+
+    fn measure(&self, room: usize) -> Option<usize> {
+        if room < 8 { None } else { Some(8) }
+    }
+
+    fn put(&self, out: &mut [u8]) {
+        out.copy_from_slice(&[0; 8]);
+    }
+}
+
+/// Writes an MCFG of revision 1 to the front of a slice, and returns how many bytes it has: 44, and 16 for each region.
+///
+/// Returns, in this order, `BadName` if a name of the ids is not valid UTF-8, `NoRoom` if the slice is shorter than
+/// the table, and `TooLong` if the table has 2^32 bytes or more.
+pub fn write_mcfg(
+    out: &mut [u8],
+    ids: &TableIds,
+    regions: &[McfgEntry],
+) -> Result<usize, WriterError>
+    // The bytes, or the first error, are those that are defined.
+    ensures exact { Gives (λ n. take n out.new) result
+        (bytes.mcfg_written (length out.old) ids.now regions.now) }
+    // What stands after the table is unchanged, and after an error the whole slice is.
+    ensures keeps { Keeps result out.old out.new }
+    // The numbers that were given fit, so that what was given is what is read (`mcfg_is_read`).
+    ensures fits { IfOk result (λ n. IsMcfg ids.now regions.now (take n out.new)) }
+{
+    write_table(out, Signature::MCFG, 1, ids, &Then(Reserved, Each(regions)))
+}

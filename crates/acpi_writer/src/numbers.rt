@@ -1,0 +1,35 @@
+//! The bytes of numbers, the lowest first, and of yes and no.
+ghost use Rattle.std.specs.Prelude.{◌≡◌};
+ghost use Rattle.acpi_base.specs.Bytes.{spelling};
+ghost use Rattle.acpi_writer.specs.Table.{bit_of};
+
+/// The two bytes of a number, the lowest first.
+#[tactic(auto, using(crate::proofs::LittleEndian::two_bytes))]
+pub(crate) fn word(number: u16) -> [u8; 2]
+    ensures { result ≡ spelling 2 number }
+{
+    number.to_le_bytes()
+}
+
+/// The four bytes of a number, the lowest first.
+#[tactic(auto, using(crate::proofs::LittleEndian::four_bytes))]
+pub(crate) fn dword(number: u32) -> [u8; 4]
+    ensures { result ≡ spelling 4 number }
+{
+    number.to_le_bytes()
+}
+
+/// The eight bytes of a number, the lowest first.
+#[tactic(auto, using(crate::proofs::LittleEndian::eight_bytes))]
+pub(crate) fn qword(number: u64) -> [u8; 8]
+    ensures { result ≡ spelling 8 number }
+{
+    number.to_le_bytes()
+}
+
+/// 1 for yes, 0 for no.
+pub(crate) fn bit_of(b: bool) -> u8
+    ensures { result ≡ bit_of b }
+{
+    if b { 1 } else { 0 }
+}

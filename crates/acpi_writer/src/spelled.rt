@@ -1,0 +1,88 @@
+//! What has bytes in a table: an entry, entries in a row, and one part after another.
+ghost use Rattle.std.specs.Prelude.{◌≡◌, ℕ, List, ◌++◌, length, flat_map};
+ghost use Rattle.std.specs.List.{All};
+ghost use Rattle.acpi_writer.specs.Spelled.{Measures};
+
+/// Something that has bytes in a table.
+pub(crate) trait Spelled {
+    // Its bytes.
+    ghost spelled: { Self → List ℕ };
+
+    // Each of its numbers has a place there.
+    ghost fits: { Self → Type 0 };
+
+    /// How many bytes it has, or `None` if these are more than there is room for.
+    fn measure(&self, room: usize) -> Option<usize>
+        ensures { Measures result room (spelled self.now) (fits self.now) };
+
+    /// Puts its bytes in place of all those of a slice that is as long.
+    fn put(&self, out: &mut [u8])
+        requires { length out.old ≡ length (spelled self.now) }
+        ensures { out.new ≡ spelled self.now };
+}
+
+/// The things of a list, one after the other.
+#[derive(Clone, Copy)]
+pub(crate) struct Each<'a, T>(pub(crate) &'a [T]);
+
+impl<'a, T: Spelled> Spelled for Each<'a, T> {
+    ghost spelled = { λ s. flat_map T.spelled s.0.now };
+
+    ghost fits = { λ s. All T.fits s.0.now };
+
+    fn measure(&self, room: usize) -> Option<usize> {
+        let xs = self.0;
+        let mut size = 0;
+        for x in xs {
+            match x.measure(room - size) {
+                Some(more) => size += more,
+                None => return None,
+            }
+        }
+        Some(size)
+    }
+
+    fn put(&self, out: &mut [u8]) {
+        let xs = self.0;
+        let mut at = 0;
+        for x in xs {
+            match x.measure(out.len() - at) {
+                Some(size) => {
+                    x.put(&mut out[at..at + size]);
+                    at += size;
+                }
+                None => return,
+            }
+        }
+    }
+}
+
+/// One thing, and after it another.
+#[derive(Clone, Copy)]
+pub(crate) struct Then<A, B>(pub(crate) A, pub(crate) B);
+
+impl<A: Spelled, B: Spelled> Spelled for Then<A, B> {
+    ghost spelled = { λ s. A.spelled s.0 ++ B.spelled s.1 };
+
+    ghost fits = { λ s. A.fits s.0 × B.fits s.1 };
+
+    fn measure(&self, room: usize) -> Option<usize> {
+        match self.0.measure(room) {
+            Some(first) => match self.1.measure(room - first) {
+                Some(second) => Some(first + second),
+                None => None,
+            },
+            None => None,
+        }
+    }
+
+    fn put(&self, out: &mut [u8]) {
+        match self.0.measure(out.len()) {
+            Some(first) => {
+                self.0.put(&mut out[..first]);
+                self.1.put(&mut out[first..]);
+            }
+            None => {}
+        }
+    }
+}

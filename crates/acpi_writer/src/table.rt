@@ -1,0 +1,101 @@
+//! A table from its header's fields and the bytes after its header (section 5.2.6).
+ghost use Rattle.std.specs.Prelude.{◌≡◌, ◌+◌, ◌^◌, ◌<◌, ◌≤◌, ◌++◌, drop, length, take, IfOk};
+ghost use Rattle.acpi_base.specs.Steps.{Gives};
+ghost use Rattle.acpi_image.specs.Written.{with_sum};
+ghost use Rattle.acpi_writer.specs.Table.{IsTableOf, Keeps, table_bytes, table_head, table_written};
+
+use crate::error::WriterError;
+use crate::ids::TableIds;
+use crate::numbers::dword;
+use crate::spelled::Spelled;
+use acpi_base::Signature;
+use acpi_base::bytes::byte_sum;
+
+/// Sets the byte at an offset so that all sum to 0 modulo 256.
+#[tactic(auto, unfolding(acpi_image::specs::Written::with_sum, acpi_image::specs::Written::sum_byte))]
+fn set_sum(bytes: &mut [u8], offset: usize)
+    requires { offset < length bytes.old }
+    ensures { bytes.new ≡ with_sum offset bytes.old }
+{
+    bytes[offset] = 0;
+    bytes[offset] = 0u8.wrapping_sub(byte_sum(bytes));
+}
+
+/// The header of a table of a length, with a Checksum of 0.
+#[tactic(auto, unfolding(crate::specs::Table::table_head))]
+fn table_head(signature: Signature, revision: u8, ids: &TableIds, count: u32) -> [u8; 36]
+    ensures bytes { result ≡ table_head signature revision ids.now count }
+    ensures length { length result ≡ 36 }
+{
+    let mut head = [0; 36];
+    head[32..].copy_from_slice(&dword(ids.creator_revision)); // Creator Revision
+    head[28..32].copy_from_slice(&ids.creator_id); // Creator ID
+    head[24..28].copy_from_slice(&dword(ids.oem_revision)); // OEM Revision
+    head[16..24].copy_from_slice(&ids.oem_table_id); // OEM Table ID
+    head[10..16].copy_from_slice(&ids.oem_id); // OEMID
+    head[8] = revision; // Revision
+    head[4..8].copy_from_slice(&dword(count)); // Length
+    head[..4].copy_from_slice(&signature.to_bytes()); // Signature
+    head
+}
+
+/// Puts the header of a table before the bytes after it, and sets Checksum, byte 9.
+fn seal(table: &mut [u8], head: &[u8])
+    requires within { 36 ≤ length table.old }
+    requires head { length head.now ≡ 36 }
+    ensures bytes { table.new ≡ with_sum 9 (head.now ++ drop 36 table.old) }
+    ensures length { length table.new ≡ length table.old }
+{
+    table[..36].copy_from_slice(head);
+    set_sum(table, 9); // Checksum
+}
+
+/// Fills a slice with a table.
+fn fill<B: Spelled>(table: &mut [u8], signature: Signature, revision: u8, ids: &TableIds, body: &B)
+    requires whole { length table.old ≡ 36 + length (B.spelled body.now) }
+    requires short { length table.old < 2 ^ 32 }
+    ensures bytes { table.new ≡ table_bytes signature revision ids.now (B.spelled body.now) }
+    ensures length { length table.new ≡ length table.old }
+{
+    let head = table_head(signature, revision, ids, table.len() as u32);
+    body.put(&mut table[36..]);
+    seal(table, &head);
+}
+
+/// Writes a table to the front of a slice, and returns how many bytes it has.
+///
+/// Returns, in this order, `BadName` if a name of the ids is not valid UTF-8, `NoRoom` if the slice is shorter than
+/// the table, and `TooLong` if the table has 2^32 bytes or more.
+pub(crate) fn write_table<B: Spelled>(
+    out: &mut [u8],
+    signature: Signature,
+    revision: u8,
+    ids: &TableIds,
+    body: &B,
+) -> Result<usize, WriterError>
+    ensures exact { Gives (λ n. take n out.new) result
+        (table_written (length out.old) signature revision ids.now (B.spelled body.now)) }
+    ensures keeps { Keeps result out.old out.new }
+    ensures table { IfOk result (λ n.
+        IsTableOf signature revision ids.now (B.spelled body.now) (take n out.new)) }
+    ensures fits { IfOk result (λ n. B.fits body.now) }
+{
+    if !ids.are_texts() {
+        return Err(WriterError::BadName);
+    }
+    if out.len() < 36 {
+        return Err(WriterError::NoRoom);
+    }
+    match body.measure(out.len() - 36) {
+        Some(size) => {
+            let end = 36 + size;
+            if end > u32::MAX as usize {
+                return Err(WriterError::TooLong);
+            }
+            ids.fit();
+            fill(&mut out[..end], signature, revision, ids, body);
+            Ok(end)
+        }
+        None => Err(WriterError::NoRoom),
+    }
+}

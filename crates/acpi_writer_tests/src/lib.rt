@@ -1,0 +1,11 @@
+//! Tests of the tables that are written: their bytes, and what is refused, worked out by hand from the layouts.
+#![tactic(auto)]
+
+#[cfg(test)]
+mod madt;
+#[cfg(test)]
+mod refused;
+#[cfg(test)]
+mod samples;
+#[cfg(test)]
+mod tables;

@@ -1,0 +1,116 @@
+//! What the tests write.
+
+use acpi::HpetInfo;
+use acpi::hpet::PageProtection;
+use acpi_base::mcfg::McfgEntry;
+use acpi_base::model::{
+    InterruptSourceOverride, IoApic, LocalInterruptLine, NmiLine, NmiProcessor, NmiSource,
+    Polarity, TriggerMode,
+};
+use acpi_writer::{MadtContents, MadtProcessor, TableIds, WriterError};
+use std::process::Abort;
+
+pub(crate) const IDS: TableIds = TableIds {
+    oem_id: *b"GUEST ",
+    oem_table_id: *b"MACHINE ",
+    oem_revision: 0x01020304,
+    creator_id: *b"ZUGZ",
+    creator_revision: 0x05060708,
+};
+
+/// The second one's ids are too large for a Processor Local APIC.
+pub(crate) const PROCESSORS: [MadtProcessor; 2] = [
+    MadtProcessor {
+        processor_uid: 7,
+        local_apic_id: 2,
+        is_enabled: true,
+        is_online_capable: false,
+    },
+    MadtProcessor {
+        processor_uid: 255,
+        local_apic_id: 0x1234,
+        is_enabled: false,
+        is_online_capable: true,
+    },
+];
+
+pub(crate) const IO_APICS: [IoApic; 1] = [IoApic {
+    id: 3,
+    address: 0xfec00000,
+    global_system_interrupt_base: 24,
+}];
+
+pub(crate) const OVERRIDES: [InterruptSourceOverride; 1] = [InterruptSourceOverride {
+    isa_source: 9,
+    global_system_interrupt: 20,
+    polarity: Polarity::ActiveLow,
+    trigger_mode: TriggerMode::Level,
+}];
+
+pub(crate) const NMI_SOURCES: [NmiSource; 1] = [NmiSource {
+    global_system_interrupt: 21,
+    polarity: Polarity::ActiveHigh,
+    trigger_mode: TriggerMode::Edge,
+}];
+
+pub(crate) const LINES: [NmiLine; 2] = [
+    NmiLine {
+        processor: NmiProcessor::All,
+        line: LocalInterruptLine::Lint1,
+    },
+    NmiLine {
+        processor: NmiProcessor::ProcessorUid(255),
+        line: LocalInterruptLine::Lint0,
+    },
+];
+
+/// A MADT with an entry of each kind.
+pub(crate) const MADT: MadtContents<'static> = MadtContents {
+    local_apic_address: 0x1_fee00000,
+    also_has_legacy_pics: true,
+    processors: &PROCESSORS,
+    io_apics: &IO_APICS,
+    interrupt_source_overrides: &OVERRIDES,
+    nmi_sources: &NMI_SOURCES,
+    local_apic_nmi_lines: &LINES,
+    wakeup_mailbox: Some(0x7000),
+};
+
+pub(crate) const REGIONS: [McfgEntry; 2] = [
+    McfgEntry {
+        base_address: 0xb0000000,
+        pci_segment_group: 0,
+        bus_number_start: 0,
+        bus_number_end: 255,
+    },
+    McfgEntry {
+        base_address: 0x20_00000000,
+        pci_segment_group: 0x102,
+        bus_number_start: 16,
+        bus_number_end: 31,
+    },
+];
+
+pub(crate) const HPET: HpetInfo = HpetInfo {
+    event_timer_block_id: 0x8086a201,
+    base_address: 0xfed00000,
+    hpet_number: 1,
+    clock_tick_unit: 0x80,
+    page_protection: PageProtection::Protected4K,
+};
+
+/// Checks what a call returned, and that the slice after it is this.
+pub(crate) fn check(
+    rt: &impl Abort,
+    name: &str,
+    found: Result<usize, WriterError>,
+    wanted: Result<usize, WriterError>,
+    out: &[u8],
+    left: &[u8],
+) {
+    assert!(rt; found == wanted, "{name}: {found:?}, but {wanted:?} is wanted");
+    for (at, (byte, want)) in out.iter().zip(left).enumerate() {
+        assert!(rt; *byte == *want, "{name}: byte {at} is {byte}, but {want} is wanted");
+    }
+    assert!(rt; out.len() == left.len(), "{name}: the lengths differ");
+}

@@ -1,0 +1,77 @@
+//! Tables that are written, byte by byte, with what stands after them, and the least room that each needs.
+
+use crate::madt::MADT_BYTES;
+use crate::samples::{HPET, IDS, MADT, REGIONS, check};
+use acpi_writer::{WriterError, write_hpet, write_madt, write_mcfg};
+
+/// An MCFG of `samples::REGIONS` (PCI Firmware Specification, section 4.1.2).
+#[rattlefmt::skip]
+const MCFG_BYTES: [u8; 76] = [
+    b'M', b'C', b'F', b'G', 76, 0, 0, 0, 1, 0x64, // Signature, Length, Revision, Checksum
+    b'G', b'U', b'E', b'S', b'T', b' ', // OEMID
+    b'M', b'A', b'C', b'H', b'I', b'N', b'E', b' ', // OEM Table ID
+    4, 3, 2, 1, b'Z', b'U', b'G', b'Z', 8, 7, 6, 5, // OEM Revision, Creator ID, Creator Revision
+    0, 0, 0, 0, 0, 0, 0, 0, // Reserved
+    0, 0, 0, 0xb0, 0, 0, 0, 0, 0, 0, 0, 255, 0, 0, 0, 0, // segment 0, buses 0 to 255
+    0, 0, 0, 0, 0x20, 0, 0, 0, 2, 1, 16, 31, 0, 0, 0, 0, // segment 0x102, buses 16 to 31
+];
+
+/// An HPET of `samples::HPET` (IA-PC HPET Specification 1.0a, section 3.2.4).
+#[rattlefmt::skip]
+const HPET_BYTES: [u8; 56] = [
+    b'H', b'P', b'E', b'T', 56, 0, 0, 0, 1, 0x6c, // Signature, Length, Revision, Checksum
+    b'G', b'U', b'E', b'S', b'T', b' ', // OEMID
+    b'M', b'A', b'C', b'H', b'I', b'N', b'E', b' ', // OEM Table ID
+    4, 3, 2, 1, b'Z', b'U', b'G', b'Z', 8, 7, 6, 5, // OEM Revision, Creator ID, Creator Revision
+    1, 0xa2, 0x86, 0x80, // Event Timer Block ID
+    0, 0, 0, 0, 0, 0, 0xd0, 0xfe, 0, 0, 0, 0, // BASE_ADDRESS: an address in memory
+    1, 0x80, 0, 1, // HPET Number, Main Counter Minimum Clock_tick, Page Protection
+];
+
+/// What a slice of sevens is after a table: the table, and sevens.
+fn before_sevens(table: &[u8]) -> [u8; 200] {
+    let mut left = [7; 200];
+    for (byte, there) in left.iter_mut().zip(table) {
+        *byte = *there;
+    }
+    left
+}
+
+#[test]
+fn tables_stand_at_the_front(rt: HostRuntime) {
+    let mut out = [7; 200];
+    let found = write_madt(&mut out, &IDS, &MADT);
+    check(&rt, "MADT", found, Ok(144), &out, &before_sevens(&MADT_BYTES));
+    let mut out = [7; 200];
+    let found = write_mcfg(&mut out, &IDS, &REGIONS);
+    check(&rt, "MCFG", found, Ok(76), &out, &before_sevens(&MCFG_BYTES));
+    let mut out = [7; 200];
+    let found = write_hpet(&mut out, &IDS, &HPET);
+    check(&rt, "HPET", found, Ok(56), &out, &before_sevens(&HPET_BYTES));
+}
+
+#[test]
+fn tables_fill_their_room(rt: HostRuntime) {
+    let mut out = [7; 144];
+    let found = write_madt(&mut out, &IDS, &MADT);
+    check(&rt, "MADT", found, Ok(144), &out, &MADT_BYTES);
+    let mut out = [7; 76];
+    let found = write_mcfg(&mut out, &IDS, &REGIONS);
+    check(&rt, "MCFG", found, Ok(76), &out, &MCFG_BYTES);
+    let mut out = [7; 56];
+    let found = write_hpet(&mut out, &IDS, &HPET);
+    check(&rt, "HPET", found, Ok(56), &out, &HPET_BYTES);
+}
+
+#[test]
+fn one_byte_less_is_refused(rt: HostRuntime) {
+    let mut out = [7; 143];
+    let found = write_madt(&mut out, &IDS, &MADT);
+    check(&rt, "MADT", found, Err(WriterError::NoRoom), &out, &[7; 143]);
+    let mut out = [7; 75];
+    let found = write_mcfg(&mut out, &IDS, &REGIONS);
+    check(&rt, "MCFG", found, Err(WriterError::NoRoom), &out, &[7; 75]);
+    let mut out = [7; 55];
+    let found = write_hpet(&mut out, &IDS, &HPET);
+    check(&rt, "HPET", found, Err(WriterError::NoRoom), &out, &[7; 55]);
+}
