@@ -9,3 +9,4 @@ pub mod McfgRead
 pub mod HpetRead
 pub mod Found
 pub mod Images
+pub mod Plain

@@ -7,3 +7,5 @@ pub mod McfgLaws
 pub mod HpetBytes
 pub mod HpetLaws
 pub mod ImageLaws
+pub mod Root
+pub mod Aml

@@ -1,8 +1,10 @@
 //! Laws of the tables that are written: each is the contract of a function that does nothing.
+ghost use Rattle.acpi_writer.specs.Aml.{DsdtIsRead, SsdtIsRead};
 ghost use Rattle.acpi_writer.specs.HpetLaws.{HpetIsRead, HpetIsValid};
 ghost use Rattle.acpi_writer.specs.ImageLaws.{HpetInImage, MadtInImage, McfgInImage, PlatformInImage};
 ghost use Rattle.acpi_writer.specs.MadtLaws.{MadtIsRead, MadtIsValid, MailboxIsRead};
 ghost use Rattle.acpi_writer.specs.McfgLaws.{McfgIsRead, McfgIsValid};
+ghost use Rattle.acpi_writer.specs.Root.{RootIsRead, RootIsValid};
 
 use std::alloc::Allocator;
 
@@ -59,4 +61,24 @@ pub fn mcfg_is_valid()
 /// An HPET that is written passes each check of a table, and `write_image` takes it.
 pub fn hpet_is_valid()
     ensures { HpetIsValid }
+{}
+
+/// The pointers of a root table that is written are exactly the addresses that were given, in order.
+pub fn root_is_read()
+    ensures { RootIsRead }
+{}
+
+/// A root table that is written passes each check of a table.
+pub fn root_is_valid()
+    ensures { RootIsValid }
+{}
+
+/// A DSDT that is written is valid, and its AML is what was given.
+pub fn dsdt_is_read()
+    ensures { DsdtIsRead }
+{}
+
+/// And so it is of an SSDT.
+pub fn ssdt_is_read()
+    ensures { SsdtIsRead }
 {}

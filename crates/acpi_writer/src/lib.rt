@@ -3,6 +3,7 @@
 //! Section numbers are those of the ACPI Specification, version 6.4.
 #![tactic(auto)]
 
+pub mod aml;
 pub mod error;
 pub mod hpet;
 pub mod ids;
@@ -10,11 +11,14 @@ pub mod laws;
 pub mod madt;
 pub mod mcfg;
 mod numbers;
+pub mod root;
 mod spelled;
 mod table;
 
+pub use aml::{write_dsdt, write_ssdt};
 pub use error::WriterError;
 pub use hpet::write_hpet;
 pub use ids::TableIds;
 pub use madt::{MadtContents, MadtProcessor, write_madt};
 pub use mcfg::write_mcfg;
+pub use root::{write_rsdt, write_xsdt};

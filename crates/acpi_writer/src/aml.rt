@@ -1,0 +1,75 @@
+//! Tables of AML: the DSDT (section 5.2.11.1) and SSDTs (section 5.2.11.2), from AML bytes, which are taken as they are.
+ghost use Rattle.std.specs.Prelude.{◌≡◌, length, take, IfOk};
+ghost use Rattle.acpi_base.specs.Steps.{Gives};
+ghost use Rattle.acpi_base.specs.declared.table.signature.TheConstants.Signature.{DSDT, SSDT};
+ghost use Rattle.acpi_writer.specs.Table.{IsTableOf, Keeps, table_written};
+
+use crate::error::WriterError;
+use crate::ids::TableIds;
+use crate::spelled::Spelled;
+use crate::table::write_table;
+use acpi_base::Signature;
+
+/// Bytes, as they are.
+#[derive(Clone, Copy)]
+struct Bytes<'a>(&'a [u8]);
+
+impl<'a> Spelled for Bytes<'a> {
+    ghost spelled = { λ s. s.0.now };
+
+    ghost fits = { λ _. Unit {0} };
+
+    fn measure(&self, room: usize) -> Option<usize> {
+        if room < self.0.len() {
+            None
+        } else {
+            Some(self.0.len())
+        }
+    }
+
+    fn put(&self, out: &mut [u8]) {
+        out.copy_from_slice(self.0);
+    }
+}
+
+/// Writes a DSDT to the front of a slice, and returns how many bytes it has: 36, and the AML bytes. By a revision of 1
+/// AML's integers have 32 bits, by one of 2 they have 64.
+///
+/// Returns, in this order, `BadName` if a name of the ids is not valid UTF-8, `NoRoom` if the slice is shorter than
+/// the table, and `TooLong` if the table has 2^32 bytes or more.
+pub fn write_dsdt(
+    out: &mut [u8],
+    ids: &TableIds,
+    revision: u8,
+    aml: &[u8],
+) -> Result<usize, WriterError>
+    // The bytes, or the first error, are those that are defined.
+    ensures exact { Gives (λ n. take n out.new) result
+        (table_written (length out.old) DSDT revision ids.now aml.now) }
+    // What stands after the table is unchanged, and after an error the whole slice is.
+    ensures keeps { Keeps result out.old out.new }
+    // The bytes are such a table, so that it is valid and its AML is what was given (`aml_is_read`).
+    ensures table { IfOk result (λ n. IsTableOf DSDT revision ids.now aml.now (take n out.new)) }
+{
+    write_table(out, Signature::DSDT, revision, ids, &Bytes(aml))
+}
+
+/// Writes an SSDT to the front of a slice, as `write_dsdt` writes a DSDT.
+///
+/// Returns, in this order, `BadName`, `NoRoom` and `TooLong`, as `write_dsdt` does.
+pub fn write_ssdt(
+    out: &mut [u8],
+    ids: &TableIds,
+    revision: u8,
+    aml: &[u8],
+) -> Result<usize, WriterError>
+    // The bytes, or the first error, are those that are defined.
+    ensures exact { Gives (λ n. take n out.new) result
+        (table_written (length out.old) SSDT revision ids.now aml.now) }
+    // What stands after the table is unchanged, and after an error the whole slice is.
+    ensures keeps { Keeps result out.old out.new }
+    // The bytes are such a table, so that it is valid and its AML is what was given (`aml_is_read`).
+    ensures table { IfOk result (λ n. IsTableOf SSDT revision ids.now aml.now (take n out.new)) }
+{
+    write_table(out, Signature::SSDT, revision, ids, &Bytes(aml))
+}

@@ -1,0 +1,82 @@
+//! The root tables: the RSDT (section 5.2.7) and the XSDT (section 5.2.8), from the addresses of the tables.
+ghost use Rattle.std.specs.Prelude.{◌≡◌, ◌^◌, ◌<◌, length, take, IfOk};
+ghost use Rattle.acpi.specs.declared.root.RootKind.TheVariants.{Rsdt, Xsdt};
+ghost use Rattle.acpi_base.specs.Bytes.{spelling};
+ghost use Rattle.acpi_base.specs.Steps.{Gives};
+ghost use Rattle.acpi_writer.specs.Root.{IsRoot, root_written};
+ghost use Rattle.acpi_writer.specs.Table.{Keeps};
+
+use crate::error::WriterError;
+use crate::ids::TableIds;
+use crate::numbers::{dword, qword};
+use crate::spelled::{Each, Spelled};
+use crate::table::write_table;
+use acpi_base::Signature;
+
+impl Spelled for u32 {
+    ghost spelled = { λ n. spelling 4 n };
+
+    ghost fits = { λ n. n < 256 ^ 4 };
+
+    #[tactic(auto, unfolding(acpi_base::specs::Bytes::spelling))]
+    fn measure(&self, room: usize) -> Option<usize> {
+        let _in_range = *self;
+        if room < 4 { None } else { Some(4) }
+    }
+
+    #[tactic(auto, unfolding(acpi_base::specs::Bytes::spelling))]
+    fn put(&self, out: &mut [u8]) {
+        let [a, b, c, d] = dword(*self);
+        out.copy_from_slice(&[a, b, c, d]);
+    }
+}
+
+impl Spelled for u64 {
+    ghost spelled = { λ n. spelling 8 n };
+
+    ghost fits = { λ n. n < 256 ^ 8 };
+
+    #[tactic(auto, unfolding(acpi_base::specs::Bytes::spelling))]
+    fn measure(&self, room: usize) -> Option<usize> {
+        let _in_range = *self;
+        if room < 8 { None } else { Some(8) }
+    }
+
+    #[tactic(auto, unfolding(acpi_base::specs::Bytes::spelling))]
+    fn put(&self, out: &mut [u8]) {
+        let [a, b, c, d, e, f, g, h] = qword(*self);
+        out.copy_from_slice(&[a, b, c, d, e, f, g, h]);
+    }
+}
+
+/// Writes an RSDT of revision 1 to the front of a slice, and returns how many bytes it has: 36, and 4 for each address.
+///
+/// Returns, in this order, `BadName` if a name of the ids is not valid UTF-8, `NoRoom` if the slice is shorter than
+/// the table, and `TooLong` if the table has 2^32 bytes or more.
+pub fn write_rsdt(out: &mut [u8], ids: &TableIds, addresses: &[u32]) -> Result<usize, WriterError>
+    // The bytes, or the first error, are those that are defined.
+    ensures exact { Gives (λ n. take n out.new) result
+        (root_written Rsdt (length out.old) ids.now addresses.now) }
+    // What stands after the table is unchanged, and after an error the whole slice is.
+    ensures keeps { Keeps result out.old out.new }
+    // The numbers that were given fit, so that the addresses are the table's pointers (`root_is_read`).
+    ensures fits { IfOk result (λ n. IsRoot Rsdt ids.now addresses.now (take n out.new)) }
+{
+    write_table(out, Signature::RSDT, 1, ids, &Each(addresses))
+}
+
+/// Writes an XSDT of revision 1 to the front of a slice, and returns how many bytes it has: 36, and 8 for each address.
+///
+/// Returns, in this order, `BadName` if a name of the ids is not valid UTF-8, `NoRoom` if the slice is shorter than
+/// the table, and `TooLong` if the table has 2^32 bytes or more.
+pub fn write_xsdt(out: &mut [u8], ids: &TableIds, addresses: &[u64]) -> Result<usize, WriterError>
+    // The bytes, or the first error, are those that are defined.
+    ensures exact { Gives (λ n. take n out.new) result
+        (root_written Xsdt (length out.old) ids.now addresses.now) }
+    // What stands after the table is unchanged, and after an error the whole slice is.
+    ensures keeps { Keeps result out.old out.new }
+    // The numbers that were given fit, so that the addresses are the table's pointers (`root_is_read`).
+    ensures fits { IfOk result (λ n. IsRoot Xsdt ids.now addresses.now (take n out.new)) }
+{
+    write_table(out, Signature::XSDT, 1, ids, &Each(addresses))
+}
