@@ -10,3 +10,4 @@ pub mod HpetRead
 pub mod Found
 pub mod Images
 pub mod Plain
+pub mod RsdpRead

@@ -9,3 +9,4 @@ pub mod HpetLaws
 pub mod ImageLaws
 pub mod Root
 pub mod Aml
+pub mod Rsdp

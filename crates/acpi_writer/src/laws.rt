@@ -5,6 +5,7 @@ ghost use Rattle.acpi_writer.specs.ImageLaws.{HpetInImage, MadtInImage, McfgInIm
 ghost use Rattle.acpi_writer.specs.MadtLaws.{MadtIsRead, MadtIsValid, MailboxIsRead};
 ghost use Rattle.acpi_writer.specs.McfgLaws.{McfgIsRead, McfgIsValid};
 ghost use Rattle.acpi_writer.specs.Root.{RootIsRead, RootIsValid};
+ghost use Rattle.acpi_writer.specs.Rsdp.{RsdpIsRead};
 
 use std::alloc::Allocator;
 
@@ -81,4 +82,9 @@ pub fn dsdt_is_read()
 /// And so it is of an SSDT.
 pub fn ssdt_is_read()
     ensures { SsdtIsRead }
+{}
+
+/// An RSDP that is written passes each check of an RSDP, and leads to the XSDT whose address was given.
+pub fn rsdp_is_read()
+    ensures { RsdpIsRead }
 {}

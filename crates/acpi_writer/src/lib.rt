@@ -12,6 +12,7 @@ pub mod madt;
 pub mod mcfg;
 mod numbers;
 pub mod root;
+pub mod rsdp;
 mod spelled;
 mod table;
 
@@ -22,3 +23,4 @@ pub use ids::TableIds;
 pub use madt::{MadtContents, MadtProcessor, write_madt};
 pub use mcfg::write_mcfg;
 pub use root::{write_rsdt, write_xsdt};
+pub use rsdp::write_rsdp;

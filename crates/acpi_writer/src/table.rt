@@ -13,7 +13,7 @@ use acpi_base::bytes::byte_sum;
 
 /// Sets the byte at an offset so that all sum to 0 modulo 256.
 #[tactic(auto, unfolding(acpi_image::specs::Written::with_sum, acpi_image::specs::Written::sum_byte))]
-fn set_sum(bytes: &mut [u8], offset: usize)
+pub(crate) fn set_sum(bytes: &mut [u8], offset: usize)
     requires { offset < length bytes.old }
     ensures { bytes.new ≡ with_sum offset bytes.old }
 {

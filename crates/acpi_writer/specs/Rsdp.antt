@@ -1,0 +1,47 @@
+-- The RSDP that is written (ACPI 6.4, section 5.2.5.3).
+use Rattle.std.specs.Prelude.{◌≡◌, ℕ, ◌^◌, ◌<◌, ◌==◌, false, true, not, List, ◌∷◌, ◌++◌, nat_le, replicate, Result, Ok}
+use Rattle.acpi.specs.Root.{root_pointer}
+use Rattle.acpi.specs.Rsdp.{check_rsdp, root_of_rsdp, rsd_ptr}
+use Rattle.acpi.specs.declared.root.RootKind.TheVariants.{Xsdt}
+use Rattle.acpi_base.specs.Bytes.{spelling}
+use Rattle.acpi_base.specs.Steps.{◌>>=◌, holds}
+use Rattle.acpi_image.specs.Written.{with_first_sum, with_sum}
+use Rattle.acpi_writer.specs.Table.{AreIds, are_texts}
+use Rattle.acpi_writer.specs.declared.error.WriterError.{WriterError}
+use Rattle.acpi_writer.specs.declared.error.WriterError.TheVariants.{BadName, NoAddress, NoRoom}
+use Rattle.acpi_writer.specs.declared.ids.TableIds.{TableIds}
+
+-- Signature, a Checksum of 0, OEMID, a Revision of 2, a RsdtAddress of 0, a Length of 36, XsdtAddress, an Extended
+-- Checksum of 0 and three bytes that are Reserved
+unfoldable pub rsdp_unsummed : List ℕ → ℕ → List ℕ
+rsdp_unsummed oem_id xsdt =
+    rsd_ptr ++ (0 ∷ (oem_id ++ (2 ∷ (spelling 4 0 ++ (spelling 4 36 ++ (spelling 8 xsdt ++ replicate 4 0))))))
+
+-- Checksum, byte 8, makes the first 20 bytes sum to 0, and Extended Checksum, byte 32, all 36
+unfoldable pub rsdp_bytes : List ℕ → ℕ → List ℕ
+rsdp_bytes oem_id xsdt = with_sum 32 (with_first_sum (rsdp_unsummed oem_id xsdt))
+
+-- the RSDP in so much room, or the first error
+unfoldable pub rsdp_written : ℕ → TableIds → ℕ → Result (List ℕ) WriterError
+rsdp_written room ids xsdt = do
+  _ ← holds (not (xsdt == 0)) NoAddress
+  _ ← holds (are_texts ids) BadName
+  _ ← holds (nat_le 36 room) NoRoom
+  Ok (rsdp_bytes ids.oem_id xsdt)
+
+-- the bytes are the RSDP of an address that has a place and isn't 0
+pub record IsRsdp (ids : TableIds) (xsdt : ℕ) (rsdp : List ℕ) : Type 0 where
+  pub ids_fit : AreIds ids
+  pub texts : are_texts ids ≡ true
+  pub some : (xsdt == 0) ≡ false
+  pub small : xsdt < 2 ^ 64
+  pub bytes : rsdp ≡ rsdp_bytes ids.oem_id xsdt
+
+-- the bytes pass each check of a reader, and lead to the XSDT at the address
+pub record Leads (xsdt : ℕ) (rsdp : List ℕ) : Type 0 where
+  pub checked : check_rsdp rsdp ≡ Ok tt
+  pub leads : root_of_rsdp rsdp ≡ root_pointer 2 Xsdt xsdt
+
+-- and so do those of such an RSDP
+abbrev pub RsdpIsRead : Type 0
+RsdpIsRead = (ids : TableIds) (xsdt : ℕ) (rsdp : List ℕ) → IsRsdp ids xsdt rsdp → Leads xsdt rsdp

@@ -1,0 +1,71 @@
+//! The Root System Description Pointer (RSDP, section 5.2.5.3), from the address of an XSDT.
+ghost use Rattle.std.specs.Prelude.{◌≡◌, ◌+◌, ◌<◌, length, take, drop, ◌++◌, IfOk};
+ghost use Rattle.acpi_base.specs.Steps.{Gives};
+ghost use Rattle.acpi_writer.specs.Rsdp as rsdp;
+ghost use Rattle.acpi_writer.specs.Table.{Keeps};
+
+use crate::error::WriterError;
+use crate::ids::TableIds;
+use crate::numbers::{dword, qword};
+use crate::table::set_sum;
+
+/// An RSDP of revision 2 whose checksums are 0.
+#[tactic(auto, unfolding(crate::specs::Rsdp::rsdp_unsummed, acpi_base::specs::Bytes::spelling))]
+fn rsdp_unsummed(ids: &TableIds, xsdt: u64) -> [u8; 36]
+    ensures { result ≡ rsdp.rsdp_unsummed ids.now.oem_id xsdt }
+{
+    let mut rsdp = [0; 36];
+    rsdp[24..32].copy_from_slice(&qword(xsdt)); // XsdtAddress
+    rsdp[20..24].copy_from_slice(&dword(36)); // Length
+    rsdp[15] = 2; // Revision
+    rsdp[9..15].copy_from_slice(&ids.oem_id); // OEMID
+    rsdp[..8].copy_from_slice(b"RSD PTR "); // Signature
+    rsdp
+}
+
+/// An RSDP of revision 2.
+#[tactic(auto, unfolding(crate::specs::Rsdp::rsdp_bytes, acpi_image::specs::Written::with_first_sum))]
+fn rsdp_bytes(ids: &TableIds, xsdt: u64) -> [u8; 36]
+    ensures { result ≡ rsdp.rsdp_bytes ids.now.oem_id xsdt }
+{
+    let mut rsdp = rsdp_unsummed(ids, xsdt);
+    set_sum(&mut rsdp[..20], 8); // Checksum
+    set_sum(&mut rsdp, 32); // Extended Checksum
+    rsdp
+}
+
+/// Writes an RSDP of revision 2 that leads to an XSDT at a physical address to the front of a slice, and returns how
+/// many bytes it has, 36. Of the ids it has the first, OEMID.
+///
+/// Returns, in this order, `NoAddress` if the address is 0, `BadName` if a name of the ids is not valid UTF-8, and
+/// `NoRoom` if the slice is shorter than the RSDP.
+pub fn write_rsdp(out: &mut [u8], ids: &TableIds, xsdt: u64) -> Result<usize, WriterError>
+    // The bytes, or the first error, are those that are defined.
+    ensures exact { Gives (λ n. take n out.new) result
+        (rsdp.rsdp_written (length out.old) ids.now xsdt) }
+    // What stands after the RSDP is unchanged, and after an error the whole slice is.
+    ensures keeps { Keeps result out.old out.new }
+    // The address fits, so that the RSDP is valid and leads there (`rsdp_is_read`).
+    ensures fits { IfOk result (λ n. rsdp.IsRsdp ids.now xsdt (take n out.new)) }
+{
+    if xsdt == 0 {
+        return Err(WriterError::NoAddress);
+    }
+    if !ids.are_texts() {
+        return Err(WriterError::BadName);
+    }
+    if out.len() < 36 {
+        return Err(WriterError::NoRoom);
+    }
+    ids.fit();
+    put_front(out, &rsdp_bytes(ids, xsdt));
+    Ok(36)
+}
+
+/// Puts bytes to the front of a slice.
+fn put_front(out: &mut [u8], bytes: &[u8])
+    requires { length bytes.now < length out.old + 1 }
+    ensures { out.new ≡ bytes.now ++ drop (length bytes.now) out.old }
+{
+    out[..bytes.len()].copy_from_slice(bytes);
+}
