@@ -10,7 +10,8 @@ pub record IsDsdtOf (aml table : List ℕ) : Type 0 where
   pub aml_is : drop 36 table ≡ aml
 
 abbrev pub DsdtIsRead : Type 0
-DsdtIsRead = (revision : ℕ) (ids : TableIds) (aml table : List ℕ) → IsTableOf DSDT revision ids aml table → IsDsdtOf aml table
+DsdtIsRead = (revision : ℕ) (ids : TableIds) (aml table : List ℕ)
+    → IsTableOf DSDT revision ids aml table → IsDsdtOf aml table
 
 -- and so is such an SSDT
 pub record IsSsdtOf (aml table : List ℕ) : Type 0 where
@@ -18,4 +19,5 @@ pub record IsSsdtOf (aml table : List ℕ) : Type 0 where
   pub aml_is : drop 36 table ≡ aml
 
 abbrev pub SsdtIsRead : Type 0
-SsdtIsRead = (revision : ℕ) (ids : TableIds) (aml table : List ℕ) → IsTableOf SSDT revision ids aml table → IsSsdtOf aml table
+SsdtIsRead = (revision : ℕ) (ids : TableIds) (aml table : List ℕ)
+    → IsTableOf SSDT revision ids aml table → IsSsdtOf aml table

@@ -1,4 +1,4 @@
-//! Tables of AML: the DSDT (section 5.2.11.1) and SSDTs (section 5.2.11.2), from AML bytes, which are taken as they are.
+//! Tables of AML: the DSDT (section 5.2.11.1) and SSDTs (section 5.2.11.2), from AML bytes, taken as they are.
 ghost use Rattle.std.specs.Prelude.{◌≡◌, length, take, IfOk};
 ghost use Rattle.acpi_base.specs.Steps.{Gives};
 ghost use Rattle.acpi_base.specs.declared.table.signature.TheConstants.Signature.{DSDT, SSDT};

@@ -6,6 +6,8 @@ mod madt;
 #[cfg(test)]
 mod refused;
 #[cfg(test)]
+mod roots;
+#[cfg(test)]
 mod samples;
 #[cfg(test)]
 mod tables;
