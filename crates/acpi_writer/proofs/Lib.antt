@@ -11,3 +11,4 @@ pub mod Found
 pub mod Images
 pub mod Plain
 pub mod RsdpRead
+pub mod IdsRead

@@ -1,11 +1,12 @@
 -- What every table that is written has: a header (ACPI 6.4, section 5.2.6), a length that fits, and room.
 use Rattle.std.specs.Prelude.{◌≡◌, ℕ, ◌+◌, ◌^◌, ◌≤◌, ◌<◌, ◌&&◌, Bool, true, if◌then◌else◌}
-use Rattle.std.specs.Prelude.{List, ◌∷◌, ◌++◌, length, drop, nat_le, nat_lt, Result, Ok, Err}
+use Rattle.std.specs.Prelude.{List, [], ◌∷◌, ◌++◌, length, drop, nat_le, nat_lt, Result, Ok, Err}
 use Rattle.std.specs.Str.{is_utf8}
-use Rattle.acpi_base.specs.Bytes.{spelling}
-use Rattle.acpi_base.specs.Header.{check_table}
+use Rattle.acpi_base.specs.Bytes.{number, spelling}
+use Rattle.acpi_base.specs.Header.{check_table, header_at}
 use Rattle.acpi_base.specs.Steps.{◌>>=◌, holds}
 use Rattle.acpi_base.specs.Text.{letters_of}
+use Rattle.acpi_base.specs.declared.table.header.SdtHeader.{SdtHeader}
 use Rattle.acpi_base.specs.declared.table.signature.Signature.{Signature}
 use Rattle.acpi_image.specs.WriteChecks.{is_table}
 use Rattle.acpi_image.specs.Written.{with_sum}
@@ -69,3 +70,17 @@ pub record IsTableOf (s : Signature) (revision : ℕ) (ids : TableIds) (body tab
 pub record IsValid (s : Signature) (table : List ℕ) : Type 0 where
   pub checked : check_table s table ≡ Ok tt
   pub taken : is_table table ≡ true
+
+-- a header says who made the table; Creator ID is a number there
+pub record HasIds (ids : TableIds) (h : SdtHeader) : Type 0 where
+  pub oem_id : h.oem_id ≡ ids.oem_id
+  pub oem_table_id : h.oem_table_id ≡ ids.oem_table_id
+  pub oem_revision : h.oem_revision ≡ ids.oem_revision
+  pub creator_id : h.creator_id ≡ number ids.creator_id
+  pub creator_revision : h.creator_revision ≡ ids.creator_revision
+
+-- and so does that of such a table, whose signature has four letters
+abbrev pub IdsAreRead : Type 0
+IdsAreRead = (s : Signature) (a b c d revision : ℕ) (ids : TableIds) (body table : List ℕ)
+    → letters_of s ≡ a ∷ b ∷ c ∷ d ∷ [] → IsTableOf s revision ids body table
+    → HasIds ids (header_at table)

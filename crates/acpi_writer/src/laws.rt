@@ -6,6 +6,7 @@ ghost use Rattle.acpi_writer.specs.MadtLaws.{MadtIsRead, MadtIsValid, MailboxIsR
 ghost use Rattle.acpi_writer.specs.McfgLaws.{McfgIsRead, McfgIsValid};
 ghost use Rattle.acpi_writer.specs.Root.{RootIsRead, RootIsValid};
 ghost use Rattle.acpi_writer.specs.Rsdp.{RsdpIsRead};
+ghost use Rattle.acpi_writer.specs.Table.{IdsAreRead};
 
 use std::alloc::Allocator;
 
@@ -87,4 +88,9 @@ pub fn ssdt_is_read()
 /// An RSDP that is written passes each check of an RSDP, and leads to the XSDT whose address was given.
 pub fn rsdp_is_read()
     ensures { RsdpIsRead }
+{}
+
+/// The header of a table that is written has the ids that were given.
+pub fn ids_are_read()
+    ensures { IdsAreRead }
 {}

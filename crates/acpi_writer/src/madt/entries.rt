@@ -61,15 +61,7 @@ impl Spelled for MadtProcessor {
 
     ghost fits = { laws.FitsProcessor };
 
-    #[tactic(
-        auto,
-        unfolding(
-            crate::specs::MadtBytes::processor_entry,
-            crate::specs::MadtBytes::local_apic_entry,
-            crate::specs::MadtBytes::local_x2apic_entry,
-            acpi_base::specs::Bytes::spelling,
-        )
-    )]
+    #[tactic(auto, unfolding(crate::specs::MadtBytes::processor_entry, crate::specs::MadtBytes::local_apic_entry, crate::specs::MadtBytes::local_x2apic_entry, acpi_base::specs::Bytes::spelling))]
     fn measure(&self, room: usize) -> Option<usize> {
         let size = if is_small(self) { 8 } else { 16 };
         let _uid = self.processor_uid;
@@ -77,15 +69,7 @@ impl Spelled for MadtProcessor {
         if room < size { None } else { Some(size) }
     }
 
-    #[tactic(
-        auto,
-        unfolding(
-            crate::specs::MadtBytes::processor_entry,
-            crate::specs::MadtBytes::local_apic_entry,
-            crate::specs::MadtBytes::local_x2apic_entry,
-            acpi_base::specs::Bytes::spelling,
-        )
-    )]
+    #[tactic(auto, unfolding(crate::specs::MadtBytes::processor_entry, crate::specs::MadtBytes::local_apic_entry, crate::specs::MadtBytes::local_x2apic_entry, acpi_base::specs::Bytes::spelling))]
     fn put(&self, out: &mut [u8]) {
         let flags = processor_flags(self);
         if is_small(self) {
@@ -109,27 +93,13 @@ impl Spelled for AddressOverride {
 
     ghost fits = { λ a. laws.FitsAddress a.0 };
 
-    #[tactic(
-        auto,
-        unfolding(
-            crate::specs::MadtBytes::address_entries,
-            crate::specs::MadtBytes::address_entry,
-            acpi_base::specs::Bytes::spelling,
-        )
-    )]
+    #[tactic(auto, unfolding(crate::specs::MadtBytes::address_entries, crate::specs::MadtBytes::address_entry, acpi_base::specs::Bytes::spelling))]
     fn measure(&self, room: usize) -> Option<usize> {
         let size = if self.0 < 0x100000000 { 0 } else { 12 };
         if room < size { None } else { Some(size) }
     }
 
-    #[tactic(
-        auto,
-        unfolding(
-            crate::specs::MadtBytes::address_entries,
-            crate::specs::MadtBytes::address_entry,
-            acpi_base::specs::Bytes::spelling,
-        )
-    )]
+    #[tactic(auto, unfolding(crate::specs::MadtBytes::address_entries, crate::specs::MadtBytes::address_entry, acpi_base::specs::Bytes::spelling))]
     fn put(&self, out: &mut [u8]) {
         if self.0 >= 0x100000000 {
             let [a, b, c, d, e, f, g, h] = qword(self.0);
@@ -262,15 +232,7 @@ impl Spelled for NmiLine {
 
     ghost fits = { λ _. Unit {0} };
 
-    #[tactic(
-        auto,
-        unfolding(
-            crate::specs::MadtBytes::nmi_line_entry,
-            crate::specs::MadtBytes::apic_nmi_entry,
-            crate::specs::MadtBytes::x2apic_nmi_entry,
-            acpi_base::specs::Bytes::spelling,
-        )
-    )]
+    #[tactic(auto, unfolding(crate::specs::MadtBytes::nmi_line_entry, crate::specs::MadtBytes::apic_nmi_entry, crate::specs::MadtBytes::x2apic_nmi_entry, acpi_base::specs::Bytes::spelling))]
     fn measure(&self, room: usize) -> Option<usize> {
         let size = match short_uid(self.processor) {
             Some(_) => 6,
@@ -279,15 +241,7 @@ impl Spelled for NmiLine {
         if room < size { None } else { Some(size) }
     }
 
-    #[tactic(
-        auto,
-        unfolding(
-            crate::specs::MadtBytes::nmi_line_entry,
-            crate::specs::MadtBytes::apic_nmi_entry,
-            crate::specs::MadtBytes::x2apic_nmi_entry,
-            acpi_base::specs::Bytes::spelling,
-        )
-    )]
+    #[tactic(auto, unfolding(crate::specs::MadtBytes::nmi_line_entry, crate::specs::MadtBytes::apic_nmi_entry, crate::specs::MadtBytes::x2apic_nmi_entry, acpi_base::specs::Bytes::spelling))]
     fn put(&self, out: &mut [u8]) {
         let line = line_code(self.line);
         match short_uid(self.processor) {
@@ -316,14 +270,7 @@ impl Spelled for Wakeup {
 
     ghost fits = { λ w. laws.FitsMailbox w.0 };
 
-    #[tactic(
-        auto,
-        unfolding(
-            crate::specs::MadtBytes::wakeup_entries,
-            crate::specs::MadtBytes::wakeup_entry,
-            acpi_base::specs::Bytes::spelling,
-        )
-    )]
+    #[tactic(auto, unfolding(crate::specs::MadtBytes::wakeup_entries, crate::specs::MadtBytes::wakeup_entry, acpi_base::specs::Bytes::spelling))]
     fn measure(&self, room: usize) -> Option<usize> {
         match self.0 {
             Some(address) => {
@@ -334,14 +281,7 @@ impl Spelled for Wakeup {
         }
     }
 
-    #[tactic(
-        auto,
-        unfolding(
-            crate::specs::MadtBytes::wakeup_entries,
-            crate::specs::MadtBytes::wakeup_entry,
-            acpi_base::specs::Bytes::spelling,
-        )
-    )]
+    #[tactic(auto, unfolding(crate::specs::MadtBytes::wakeup_entries, crate::specs::MadtBytes::wakeup_entry, acpi_base::specs::Bytes::spelling))]
     fn put(&self, out: &mut [u8]) {
         if let Some(address) = self.0 {
             let [a, b, c, d, e, f, g, h] = qword(address);
