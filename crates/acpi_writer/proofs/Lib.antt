@@ -12,3 +12,4 @@ pub mod Images
 pub mod Plain
 pub mod RsdpRead
 pub mod IdsRead
+pub mod SlitRead

@@ -1,5 +1,5 @@
 -- What a reader finds in root tables and in tables of AML that are written.
-use Rattle.std.proofs.Common.{◌≡◌, ℕ, ◌^◌, ◌<◌, true, List, ◌++◌, length, drop, refl, sym, ap, ◌∙◌, lit<}
+use Rattle.std.proofs.Common.{◌≡◌, ℕ, ◌^◌, ◌<◌, List, length, drop, refl, sym, ap, ◌∙◌, lit<}
 use Rattle.std.specs.Prelude.{flat_map}
 use Rattle.std.specs.Str.{chars, is_utf8}
 use Rattle.std.proofs.lemmas.List.{drop_at, drop-set-lt}
@@ -8,7 +8,7 @@ use Rattle.acpi.specs.Root.{pointers, signature_of, width_of}
 use Rattle.acpi.specs.declared.root.RootKind.{RootKind}
 use Rattle.acpi.specs.declared.root.RootKind.TheVariants.{Rsdt, Xsdt}
 use Rattle.acpi_base.specs.Bytes.{spelling}
-use Rattle.acpi_base.specs.declared.table.signature.TheConstants.Signature.{DSDT, RSDT, SSDT, XSDT}
+use Rattle.acpi_base.specs.declared.table.signature.TheConstants.Signature.{DSDT, SSDT}
 use Rattle.acpi_image.proofs.Written.{length-root_header}
 use Rattle.acpi_image.proofs.WrittenRoot.{pointers_are}
 use Rattle.acpi_image.specs.Written.{root_header, root_length, root_to, root_unsummed, sum_byte, with_sum}

@@ -1,18 +1,17 @@
 -- What a reader finds in an RSDP that is written.
-use Rattle.std.proofs.Common.{◌≡◌, ℕ, ◌^◌, ◌<◌, ◌≤◌, true, false, List, [], ◌∷◌, ◌++◌, length, take, Result, Ok, Err, refl, sym, ap, subst, ◌∙◌, arith, lit<, length-append}
-use Rattle.std.specs.Prelude.{◌==◌, nat_le, replicate}
+use Rattle.std.proofs.Common.{◌≡◌, ℕ, ◌^◌, ◌<◌, ◌≤◌, true, false, List, [], ◌∷◌, ◌++◌, length, take, Ok, Err, refl, sym, ap, subst, ◌∙◌, arith, length-append}
+use Rattle.std.specs.Prelude.{◌==◌, replicate}
 use Rattle.std.specs.Str.{is_utf8}
 use Rattle.std.proofs.lemmas.Bool.{and_parts, le-leb, lt-leb}
 use Rattle.acpi_base.proofs.Spelling.{number-spelling}
-use Rattle.acpi_base.specs.Bytes.{field_of, number, part, spelling, sum_of}
-use Rattle.acpi_base.specs.Steps.{◌>>=◌, holds}
+use Rattle.acpi_base.specs.Bytes.{field_of, spelling, sum_of}
 use Rattle.acpi.specs.Root.{root_pointer}
 use Rattle.acpi.specs.Rsdp.{check_first, check_rsdp, check_sum, length_of, root_of_rsdp, rsd_ptr, rsdp_of}
 use Rattle.acpi.specs.declared.root.RootKind.TheVariants.{Xsdt}
 use Rattle.acpi_image.proofs.Summed.{sum_is_set}
 use Rattle.acpi_image.proofs.Written.{length-with_first_sum, length-with_sum}
 use Rattle.acpi_image.specs.Written.{sum_byte, with_first_sum, with_sum}
-use Rattle.acpi_writer.specs.Rsdp.{IsRsdp, Leads, RsdpIsRead, rsdp_bytes, rsdp_unsummed, rsdp_written}
+use Rattle.acpi_writer.specs.Rsdp.{Leads, RsdpIsRead, rsdp_bytes, rsdp_unsummed, rsdp_written}
 use Rattle.acpi_writer.specs.Table.{are_texts}
 use Rattle.acpi_writer.specs.declared.error.WriterError.TheVariants.{BadName, NoAddress, NoRoom}
 use Rattle.acpi_writer.specs.declared.ids.TableIds.{TableIds}

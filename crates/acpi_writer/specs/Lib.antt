@@ -10,3 +10,4 @@ pub mod ImageLaws
 pub mod Root
 pub mod Aml
 pub mod Rsdp
+pub mod Slit

@@ -6,31 +6,9 @@ ghost use Rattle.acpi_writer.specs.Table.{IsTableOf, Keeps, table_written};
 
 use crate::error::WriterError;
 use crate::ids::TableIds;
-use crate::spelled::Spelled;
+use crate::spelled::Bytes;
 use crate::table::write_table;
 use acpi_base::Signature;
-
-/// Bytes, as they are.
-#[derive(Clone, Copy)]
-struct Bytes<'a>(&'a [u8]);
-
-impl<'a> Spelled for Bytes<'a> {
-    ghost spelled = { λ s. s.0.now };
-
-    ghost fits = { λ _. Unit {0} };
-
-    fn measure(&self, room: usize) -> Option<usize> {
-        if room < self.0.len() {
-            None
-        } else {
-            Some(self.0.len())
-        }
-    }
-
-    fn put(&self, out: &mut [u8]) {
-        out.copy_from_slice(self.0);
-    }
-}
 
 /// Writes a DSDT to the front of a slice, and returns how many bytes it has: 36, and the AML bytes. By a revision of 1
 /// AML's integers have 32 bits, by one of 2 they have 64.

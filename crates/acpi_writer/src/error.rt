@@ -7,6 +7,8 @@ pub enum WriterError {
     NoProcessor,
     /// An NMI line of the processor whose uid is 0xffffffff, the number that stands for all processors.
     UidOfAll,
+    /// A SLIT without a distance for each pair of localities.
+    BadMatrix,
     /// An RSDP that leads to address 0.
     NoAddress,
     /// OEMID, OEM Table ID or Creator ID is not valid UTF-8.

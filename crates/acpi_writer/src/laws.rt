@@ -6,6 +6,7 @@ ghost use Rattle.acpi_writer.specs.MadtLaws.{MadtIsRead, MadtIsValid, MailboxIsR
 ghost use Rattle.acpi_writer.specs.McfgLaws.{McfgIsRead, McfgIsValid};
 ghost use Rattle.acpi_writer.specs.Root.{RootIsRead, RootIsValid};
 ghost use Rattle.acpi_writer.specs.Rsdp.{RsdpIsRead};
+ghost use Rattle.acpi_writer.specs.Slit.{SlitIsRead, SlitIsValid};
 ghost use Rattle.acpi_writer.specs.Table.{IdsAreRead};
 
 use std::alloc::Allocator;
@@ -93,4 +94,14 @@ pub fn rsdp_is_read()
 /// The header of a table that is written has the ids that were given.
 pub fn ids_are_read()
     ensures { IdsAreRead }
+{}
+
+/// The distance between two localities by a SLIT that is written is the one that was given for them.
+pub fn slit_is_read()
+    ensures { SlitIsRead }
+{}
+
+/// A SLIT that is written passes each check of a table, and `write_image` takes it.
+pub fn slit_is_valid()
+    ensures { SlitIsValid }
 {}

@@ -13,6 +13,7 @@ pub mod mcfg;
 mod numbers;
 pub mod root;
 pub mod rsdp;
+pub mod slit;
 mod spelled;
 mod table;
 
@@ -24,3 +25,4 @@ pub use madt::{MadtContents, MadtProcessor, write_madt};
 pub use mcfg::write_mcfg;
 pub use root::{write_rsdt, write_xsdt};
 pub use rsdp::write_rsdp;
+pub use slit::write_slit;

@@ -86,3 +86,25 @@ impl<A: Spelled, B: Spelled> Spelled for Then<A, B> {
         }
     }
 }
+
+/// Bytes, as they are.
+#[derive(Clone, Copy)]
+pub(crate) struct Bytes<'a>(pub(crate) &'a [u8]);
+
+impl<'a> Spelled for Bytes<'a> {
+    ghost spelled = { λ s. s.0.now };
+
+    ghost fits = { λ _. Unit {0} };
+
+    fn measure(&self, room: usize) -> Option<usize> {
+        if room < self.0.len() {
+            None
+        } else {
+            Some(self.0.len())
+        }
+    }
+
+    fn put(&self, out: &mut [u8]) {
+        out.copy_from_slice(self.0);
+    }
+}

@@ -27,9 +27,23 @@ fn contents_come_before_names_and_names_before_room(rt: HostRuntime) {
         ..of_all
     };
     let found = write_madt(&mut out, &BAD, &empty);
-    check(&rt, "empty", found, Err(WriterError::NoProcessor), &out, &[7; 8]);
+    check(
+        &rt,
+        "empty",
+        found,
+        Err(WriterError::NoProcessor),
+        &out,
+        &[7; 8],
+    );
     let found = write_madt(&mut out, &BAD, &of_all);
-    check(&rt, "uid of all", found, Err(WriterError::UidOfAll), &out, &[7; 8]);
+    check(
+        &rt,
+        "uid of all",
+        found,
+        Err(WriterError::UidOfAll),
+        &out,
+        &[7; 8],
+    );
     let found = write_madt(&mut out, &BAD, &MADT);
     check(&rt, "MADT", found, Err(WriterError::BadName), &out, &[7; 8]);
     let found = write_mcfg(&mut out, &BAD, &REGIONS);

@@ -1,8 +1,10 @@
-//! The RSDP, root tables and tables of AML, byte by byte, in their room and in a byte less (ACPI 6.4, sections 5.2.5.3,
-//! 5.2.7, 5.2.8 and 5.2.11).
+//! The RSDP, root tables, tables of AML and distances, byte by byte, in their room and in a byte less (ACPI 6.4,
+//! sections 5.2.5.3, 5.2.7, 5.2.8, 5.2.11 and 5.2.17).
 
 use crate::samples::{IDS, check};
-use acpi_writer::{WriterError, write_dsdt, write_rsdp, write_rsdt, write_ssdt, write_xsdt};
+use acpi_writer::{
+    WriterError, write_dsdt, write_rsdp, write_rsdt, write_slit, write_ssdt, write_xsdt,
+};
 
 /// An RSDP that leads to an XSDT at 0x1_00001000.
 #[rattlefmt::skip]
@@ -46,6 +48,17 @@ const DSDT_BYTES: [u8; 42] = [
     0x10, 5, b'_', b'S', b'B', b'_', // Definition Block
 ];
 
+/// A SLIT of two localities, at 21 and 22 from each other.
+#[rattlefmt::skip]
+const SLIT_BYTES: [u8; 48] = [
+    b'S', b'L', b'I', b'T', 48, 0, 0, 0, 1, 0x21, // Signature, Length, Revision, Checksum
+    b'G', b'U', b'E', b'S', b'T', b' ', // OEMID
+    b'M', b'A', b'C', b'H', b'I', b'N', b'E', b' ', // OEM Table ID
+    4, 3, 2, 1, b'Z', b'U', b'G', b'Z', 8, 7, 6, 5, // OEM Revision, Creator ID, Creator Revision
+    2, 0, 0, 0, 0, 0, 0, 0, // Number of System Localities
+    10, 21, 22, 10, // Entry[0][0], Entry[0][1], Entry[1][0], Entry[1][1]
+];
+
 #[test]
 fn roots_fill_their_room(rt: HostRuntime) {
     let mut out = [7; 36];
@@ -60,6 +73,9 @@ fn roots_fill_their_room(rt: HostRuntime) {
     let mut out = [7; 42];
     let found = write_dsdt(&mut out, &IDS, 2, &AML);
     check(&rt, "DSDT", found, Ok(42), &out, &DSDT_BYTES);
+    let mut out = [7; 48];
+    let found = write_slit(&mut out, &IDS, 2, &[10, 21, 22, 10]);
+    check(&rt, "SLIT", found, Ok(48), &out, &SLIT_BYTES);
 }
 
 #[test]
@@ -68,7 +84,14 @@ fn roots_need_their_room(rt: HostRuntime) {
     let found = write_rsdp(&mut out, &IDS, 0x1000);
     check(&rt, "RSDP", found, Err(WriterError::NoRoom), &out, &[7; 35]);
     let found = write_rsdp(&mut out, &IDS, 0);
-    check(&rt, "address 0", found, Err(WriterError::NoAddress), &out, &[7; 35]);
+    check(
+        &rt,
+        "address 0",
+        found,
+        Err(WriterError::NoAddress),
+        &out,
+        &[7; 35],
+    );
     let mut out = [7; 51];
     let found = write_xsdt(&mut out, &IDS, &[0x2000, 0x3000]);
     check(&rt, "XSDT", found, Err(WriterError::NoRoom), &out, &[7; 51]);
@@ -80,4 +103,25 @@ fn roots_need_their_room(rt: HostRuntime) {
     check(&rt, "DSDT", found, Err(WriterError::NoRoom), &out, &[7; 41]);
     let found = write_ssdt(&mut out, &IDS, 2, &AML);
     check(&rt, "SSDT", found, Err(WriterError::NoRoom), &out, &[7; 41]);
+    let mut out = [7; 47];
+    let found = write_slit(&mut out, &IDS, 2, &[10, 21, 22, 10]);
+    check(&rt, "SLIT", found, Err(WriterError::NoRoom), &out, &[7; 47]);
+    let found = write_slit(&mut out, &IDS, 2, &[10, 21, 22]);
+    check(
+        &rt,
+        "no square",
+        found,
+        Err(WriterError::BadMatrix),
+        &out,
+        &[7; 47],
+    );
+    let found = write_slit(&mut out, &IDS, 0x1_00000000, &[]);
+    check(
+        &rt,
+        "2^64 pairs",
+        found,
+        Err(WriterError::BadMatrix),
+        &out,
+        &[7; 47],
+    );
 }

@@ -108,9 +108,15 @@ pub(crate) fn check(
     out: &[u8],
     left: &[u8],
 ) {
-    assert!(rt; found == wanted, "{name}: {found:?}, but {wanted:?} is wanted");
+    assert!(rt;
+        found == wanted,
+        "{name}: {found:?}, but {wanted:?} is wanted"
+    );
     for (at, (byte, want)) in out.iter().zip(left).enumerate() {
-        assert!(rt; *byte == *want, "{name}: byte {at} is {byte}, but {want} is wanted");
+        assert!(rt;
+            *byte == *want,
+            "{name}: byte {at} is {byte}, but {want} is wanted"
+        );
     }
     assert!(rt; out.len() == left.len(), "{name}: the lengths differ");
 }

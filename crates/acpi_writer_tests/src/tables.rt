@@ -41,13 +41,34 @@ fn before_sevens(table: &[u8]) -> [u8; 200] {
 fn tables_stand_at_the_front(rt: HostRuntime) {
     let mut out = [7; 200];
     let found = write_madt(&mut out, &IDS, &MADT);
-    check(&rt, "MADT", found, Ok(144), &out, &before_sevens(&MADT_BYTES));
+    check(
+        &rt,
+        "MADT",
+        found,
+        Ok(144),
+        &out,
+        &before_sevens(&MADT_BYTES),
+    );
     let mut out = [7; 200];
     let found = write_mcfg(&mut out, &IDS, &REGIONS);
-    check(&rt, "MCFG", found, Ok(76), &out, &before_sevens(&MCFG_BYTES));
+    check(
+        &rt,
+        "MCFG",
+        found,
+        Ok(76),
+        &out,
+        &before_sevens(&MCFG_BYTES),
+    );
     let mut out = [7; 200];
     let found = write_hpet(&mut out, &IDS, &HPET);
-    check(&rt, "HPET", found, Ok(56), &out, &before_sevens(&HPET_BYTES));
+    check(
+        &rt,
+        "HPET",
+        found,
+        Ok(56),
+        &out,
+        &before_sevens(&HPET_BYTES),
+    );
 }
 
 #[test]
@@ -67,7 +88,14 @@ fn tables_fill_their_room(rt: HostRuntime) {
 fn one_byte_less_is_refused(rt: HostRuntime) {
     let mut out = [7; 143];
     let found = write_madt(&mut out, &IDS, &MADT);
-    check(&rt, "MADT", found, Err(WriterError::NoRoom), &out, &[7; 143]);
+    check(
+        &rt,
+        "MADT",
+        found,
+        Err(WriterError::NoRoom),
+        &out,
+        &[7; 143],
+    );
     let mut out = [7; 75];
     let found = write_mcfg(&mut out, &IDS, &REGIONS);
     check(&rt, "MCFG", found, Err(WriterError::NoRoom), &out, &[7; 75]);

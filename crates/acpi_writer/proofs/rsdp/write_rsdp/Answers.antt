@@ -1,4 +1,4 @@
-use Rattle.std.proofs.Common.{◌≡◌, Ok, drop, length, take, sym, ap, ◌∙◌, arith, eq-eqb, length-append, length-drop}
+use Rattle.std.proofs.Common.{Ok, drop, length, take, sym, ap, ◌∙◌, arith, eq-eqb, length-append, length-drop}
 use Rattle.std.proofs.lemmas.Bool.{ne_eqb}
 use Rattle.std.proofs.lemmas.List.{drop_at, take_at}
 use Rattle.acpi_writer.proofs.RsdpRead.{bad_name, it_fits, no_address, no_room, rsdp_long}

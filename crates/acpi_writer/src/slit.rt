@@ -1,0 +1,53 @@
+//! The System Locality Information Table (SLIT, section 5.2.17), from the distances between localities.
+ghost use Rattle.std.specs.Prelude.{◌≡◌, ◌*◌, ◌==◌, length, take, IfOk};
+ghost use Rattle.acpi_base.specs.Steps.{Gives};
+ghost use Rattle.acpi_writer.specs.Slit.{IsSlit, slit_written};
+ghost use Rattle.acpi_writer.specs.Table.{Keeps};
+
+use crate::error::WriterError;
+use crate::ids::TableIds;
+use crate::spelled::{Bytes, Then};
+use crate::table::write_table;
+use acpi_base::Signature;
+
+/// Whether there are as many distances as pairs of localities.
+fn is_square(localities: u64, distances: &[u8]) -> bool
+    ensures { result ≡ (localities * localities == length distances.now) }
+{
+    match localities.checked_mul(localities) {
+        Some(pairs) => pairs == distances.len() as u64,
+        None => false,
+    }
+}
+
+/// Writes a SLIT of revision 1 to the front of a slice, and returns how many bytes it has: 44, and one for each distance.
+/// The distances from the first locality come first, in order. Whether each locality is at 10 from itself isn't asked.
+///
+/// Returns, in this order, `BadMatrix` if there isn't a distance for each pair of localities, `BadName` if a name of the
+/// ids is not valid UTF-8, `NoRoom` if the slice is shorter than the table, and `TooLong` if the table has 2^32 bytes
+/// or more.
+pub fn write_slit(
+    out: &mut [u8],
+    ids: &TableIds,
+    localities: u64,
+    distances: &[u8],
+) -> Result<usize, WriterError>
+    // The bytes, or the first error, are those that are defined.
+    ensures exact { Gives (λ n. take n out.new) result
+        (slit_written (length out.old) ids.now localities distances.now) }
+    // What stands after the table is unchanged, and after an error the whole slice is.
+    ensures keeps { Keeps result out.old out.new }
+    // The numbers that were given fit, so that the distances are those that are read (`slit_is_read`).
+    ensures fits { IfOk result (λ n. IsSlit ids.now localities distances.now (take n out.new)) }
+{
+    if !is_square(localities, distances) {
+        return Err(WriterError::BadMatrix);
+    }
+    write_table(
+        out,
+        Signature::SLIT,
+        1,
+        ids,
+        &Then(localities, Bytes(distances)),
+    )
+}
