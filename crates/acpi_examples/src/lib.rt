@@ -7,7 +7,6 @@
 
 pub mod caller;
 pub mod guarded;
-pub mod machine;
 pub mod processors;
 pub mod reserved;
 pub mod resolved;

@@ -1,6 +1,8 @@
-//! Tests of the tables that are written: their bytes, and what is refused, worked out by hand from the layouts.
+//! Tests of the tables that are written: their bytes, and what is refused, worked out by hand from the layouts; and a
+//! caller that writes one, proved (`machine`), which the documents show.
 #![tactic(auto)]
 
+pub mod machine;
 #[cfg(test)]
 mod madt;
 #[cfg(test)]
