@@ -38,6 +38,16 @@ const RSDT_BYTES: [u8; 44] = [
 /// Scope (_SB_) {}
 const AML: [u8; 6] = [0x10, 5, b'_', b'S', b'B', b'_'];
 
+/// An SSDT of revision 2 with it.
+#[rattlefmt::skip]
+const SSDT_BYTES: [u8; 42] = [
+    b'S', b'S', b'D', b'T', 42, 0, 0, 0, 2, 0xfd, // Signature, Length, Revision, Checksum
+    b'G', b'U', b'E', b'S', b'T', b' ', // OEMID
+    b'M', b'A', b'C', b'H', b'I', b'N', b'E', b' ', // OEM Table ID
+    4, 3, 2, 1, b'Z', b'U', b'G', b'Z', 8, 7, 6, 5, // OEM Revision, Creator ID, Creator Revision
+    0x10, 5, b'_', b'S', b'B', b'_', // Definition Block
+];
+
 /// A DSDT of revision 2 with it.
 #[rattlefmt::skip]
 const DSDT_BYTES: [u8; 42] = [
@@ -73,6 +83,9 @@ fn roots_fill_their_room(rt: HostRuntime) {
     let mut out = [7; 42];
     let found = write_dsdt(&mut out, &IDS, 2, &AML);
     check(&rt, "DSDT", found, Ok(42), &out, &DSDT_BYTES);
+    let mut out = [7; 42];
+    let found = write_ssdt(&mut out, &IDS, 2, &AML);
+    check(&rt, "SSDT", found, Ok(42), &out, &SSDT_BYTES);
     let mut out = [7; 48];
     let found = write_slit(&mut out, &IDS, 2, &[10, 21, 22, 10]);
     check(&rt, "SLIT", found, Ok(48), &out, &SLIT_BYTES);
@@ -106,6 +119,11 @@ fn roots_need_their_room(rt: HostRuntime) {
     let mut out = [7; 47];
     let found = write_slit(&mut out, &IDS, 2, &[10, 21, 22, 10]);
     check(&rt, "SLIT", found, Err(WriterError::NoRoom), &out, &[7; 47]);
+}
+
+#[test]
+fn distances_are_of_pairs(rt: HostRuntime) {
+    let mut out = [7; 47];
     let found = write_slit(&mut out, &IDS, 2, &[10, 21, 22]);
     check(
         &rt,

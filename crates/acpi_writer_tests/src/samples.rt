@@ -76,6 +76,78 @@ pub(crate) const MADT: MadtContents<'static> = MadtContents {
     wakeup_mailbox: Some(0x7000),
 };
 
+/// Ids at the edges of what a Processor Local APIC holds: 255 stands for all there.
+pub(crate) const EDGE_PROCESSORS: [MadtProcessor; 3] = [
+    MadtProcessor {
+        processor_uid: 254,
+        local_apic_id: 254,
+        is_enabled: true,
+        is_online_capable: false,
+    },
+    MadtProcessor {
+        processor_uid: 254,
+        local_apic_id: 255,
+        is_enabled: true,
+        is_online_capable: false,
+    },
+    MadtProcessor {
+        processor_uid: 255,
+        local_apic_id: 254,
+        is_enabled: true,
+        is_online_capable: true,
+    },
+];
+
+pub(crate) const EDGE_IO_APICS: [IoApic; 1] = [IoApic {
+    id: 0,
+    address: 0xfe020304,
+    global_system_interrupt_base: 0x05060708,
+}];
+
+pub(crate) const EDGE_OVERRIDES: [InterruptSourceOverride; 2] = [
+    InterruptSourceOverride {
+        isa_source: 0,
+        global_system_interrupt: 0x01020304,
+        polarity: Polarity::ActiveHigh,
+        trigger_mode: TriggerMode::SameAsBus,
+    },
+    InterruptSourceOverride {
+        isa_source: 1,
+        global_system_interrupt: 5,
+        polarity: Polarity::SameAsBus,
+        trigger_mode: TriggerMode::Level,
+    },
+];
+
+pub(crate) const EDGE_SOURCES: [NmiSource; 1] = [NmiSource {
+    global_system_interrupt: 0x01020304,
+    polarity: Polarity::SameAsBus,
+    trigger_mode: TriggerMode::SameAsBus,
+}];
+
+pub(crate) const EDGE_LINES: [NmiLine; 2] = [
+    NmiLine {
+        processor: NmiProcessor::ProcessorUid(254),
+        line: LocalInterruptLine::Lint0,
+    },
+    NmiLine {
+        processor: NmiProcessor::ProcessorUid(0xfffffffe),
+        line: LocalInterruptLine::Lint1,
+    },
+];
+
+/// A MADT without 8259s, mailbox or address override.
+pub(crate) const EDGES: MadtContents<'static> = MadtContents {
+    local_apic_address: 0xfee00000,
+    also_has_legacy_pics: false,
+    processors: &EDGE_PROCESSORS,
+    io_apics: &EDGE_IO_APICS,
+    interrupt_source_overrides: &EDGE_OVERRIDES,
+    nmi_sources: &EDGE_SOURCES,
+    local_apic_nmi_lines: &EDGE_LINES,
+    wakeup_mailbox: None,
+};
+
 pub(crate) const REGIONS: [McfgEntry; 2] = [
     McfgEntry {
         base_address: 0xb0000000,
@@ -94,7 +166,7 @@ pub(crate) const REGIONS: [McfgEntry; 2] = [
 pub(crate) const HPET: HpetInfo = HpetInfo {
     event_timer_block_id: 0x8086a201,
     base_address: 0xfed00000,
-    hpet_number: 1,
+    hpet_number: 2,
     clock_tick_unit: 0x80,
     page_protection: PageProtection::Protected4K,
 };
