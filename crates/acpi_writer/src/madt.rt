@@ -108,9 +108,10 @@ fn write_contents(
 
 /// Writes a MADT of revision 5 to the front of a slice, and returns how many bytes it has. Its entries stand sort by
 /// sort, in the order of the fields: a processor is a Processor Local APIC if both its ids are below 255, otherwise a
-/// Processor Local x2APIC; an NMI line is a Local x2APIC NMI if its uid is 255 or above. An address of the local APICs
-/// of 2^32 or above has an entry of its own, a Local APIC Address Override, after the processors. Two processors of one
-/// uid are written as they are.
+/// Processor Local x2APIC. An NMI line is a Local x2APIC NMI if its uid is 255 or above, whatever the id of that
+/// processor is (section 5.2.12.13 goes by the id); one of all processors is a Local APIC NMI of uid 255. An address of
+/// the local APICs of 2^32 or above has an entry of its own, a Local APIC Address Override, after the processors. Two
+/// processors of one uid, and one with both flags set, are written as they are.
 ///
 /// Returns, in this order, `NoProcessor` if there is no processor, `UidOfAll` if an NMI line is of the processor
 /// 0xffffffff, `BadName` if a name of the ids is not valid UTF-8, `NoRoom` if the slice is shorter than the table, and

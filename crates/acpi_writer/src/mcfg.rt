@@ -54,6 +54,7 @@ impl Spelled for Reserved {
 }
 
 /// Writes an MCFG of revision 1 to the front of a slice, and returns how many bytes it has: 44, and 16 for each region.
+/// No region, and one whose last bus is below its first, are written as they are.
 ///
 /// Returns, in this order, `BadName` if a name of the ids is not valid UTF-8, `NoRoom` if the slice is shorter than
 /// the table, and `TooLong` if the table has 2^32 bytes or more.

@@ -50,6 +50,7 @@ impl Spelled for u64 {
 }
 
 /// Writes an RSDT of revision 1 to the front of a slice, and returns how many bytes it has: 36, and 4 for each address.
+/// No address, and one of 0, are written as they are.
 ///
 /// Returns, in this order, `BadName` if a name of the ids is not valid UTF-8, `NoRoom` if the slice is shorter than
 /// the table, and `TooLong` if the table has 2^32 bytes or more.
@@ -66,6 +67,7 @@ pub fn write_rsdt(out: &mut [u8], ids: &TableIds, addresses: &[u32]) -> Result<u
 }
 
 /// Writes an XSDT of revision 1 to the front of a slice, and returns how many bytes it has: 36, and 8 for each address.
+/// No address, and one of 0, are written as they are.
 ///
 /// Returns, in this order, `BadName` if a name of the ids is not valid UTF-8, `NoRoom` if the slice is shorter than
 /// the table, and `TooLong` if the table has 2^32 bytes or more.

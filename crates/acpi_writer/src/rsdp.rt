@@ -35,10 +35,10 @@ fn rsdp_bytes(ids: &TableIds, xsdt: u64) -> [u8; 36]
 }
 
 /// Writes an RSDP of revision 2 that leads to an XSDT at a physical address to the front of a slice, and returns how
-/// many bytes it has, 36. Of the ids it has the first, OEMID.
+/// many bytes it has, 36. Of the ids it has OEMID alone. No RSDP that leads to an RSDT is written yet.
 ///
-/// Returns, in this order, `NoAddress` if the address is 0, `BadName` if a name of the ids is not valid UTF-8, and
-/// `NoRoom` if the slice is shorter than the RSDP.
+/// Returns, in this order, `NoAddress` if the address is 0, `BadName` if a name of the ids, even one that the RSDP
+/// hasn't, is not valid UTF-8, and `NoRoom` if the slice is shorter than the RSDP.
 pub fn write_rsdp(out: &mut [u8], ids: &TableIds, xsdt: u64) -> Result<usize, WriterError>
     // The bytes, or the first error, are those that are defined.
     ensures exact { Gives (λ n. take n out.new) result

@@ -20,12 +20,13 @@ fn is_square(localities: u64, distances: &[u8]) -> bool
     }
 }
 
-/// Writes a SLIT of revision 1 to the front of a slice, and returns how many bytes it has: 44, and one for each distance.
-/// The distances from the first locality come first, in order. Whether each locality is at 10 from itself isn't asked.
+/// Writes a SLIT of revision 1 to the front of a slice, and returns how many bytes it has: 44, and one for each
+/// distance. The distances from the first locality come first, in order. Whether there is a locality, and whether each
+/// is at 10 from itself, isn't asked.
 ///
-/// Returns, in this order, `BadMatrix` if there isn't a distance for each pair of localities, `BadName` if a name of the
-/// ids is not valid UTF-8, `NoRoom` if the slice is shorter than the table, and `TooLong` if the table has 2^32 bytes
-/// or more.
+/// Returns, in this order, `BadMatrix` if there isn't a distance for each pair of localities, `BadName` if a name of
+/// the ids is not valid UTF-8, `NoRoom` if the slice is shorter than the table, and `TooLong` if the table has 2^32
+/// bytes or more.
 pub fn write_slit(
     out: &mut [u8],
     ids: &TableIds,
