@@ -27,11 +27,12 @@ use Rattle.acpi_writer.specs.declared.madt.MadtProcessor.{MadtProcessor}
 abbrev pub processor_flags : MadtProcessor → ℕ
 processor_flags p = bit_of p.is_enabled + 2 * bit_of p.is_online_capable
 
--- Processor Local APIC (section 5.2.12.2): Type, Length, ACPI Processor UID, APIC ID, Flags
+-- Processor Local APIC (section 5.2.12.2): at 0 Type, 1 Length, 2 ACPI Processor UID, 3 APIC ID, 4 Flags
 unfoldable pub local_apic_entry : MadtProcessor → List ℕ
 local_apic_entry p = 0 ∷ 8 ∷ p.processor_uid ∷ p.local_apic_id ∷ processor_flags p ∷ 0 ∷ 0 ∷ 0 ∷ []
 
--- Processor Local x2APIC (section 5.2.12.12): Type, Length, Reserved, X2APIC ID, Flags, ACPI Processor UID
+-- Processor Local x2APIC (section 5.2.12.12): at 0 Type, 1 Length, 2 Reserved, 4 X2APIC ID, 8 Flags, 12 ACPI Processor
+-- UID
 unfoldable pub local_x2apic_entry : MadtProcessor → List ℕ
 local_x2apic_entry p =
     9 ∷ 16 ∷ 0 ∷ 0 ∷ (spelling 4 p.local_apic_id
@@ -44,7 +45,7 @@ is_small p = nat_lt p.processor_uid 255 && nat_lt p.local_apic_id 255
 unfoldable pub processor_entry : MadtProcessor → List ℕ
 processor_entry p = if is_small p then local_apic_entry p else local_x2apic_entry p
 
--- Local APIC Address Override (section 5.2.12.8): Type, Length, Reserved, Local APIC Address
+-- Local APIC Address Override (section 5.2.12.8): at 0 Type, 1 Length, 2 Reserved, 4 Local APIC Address
 unfoldable pub address_entry : ℕ → List ℕ
 address_entry a = 5 ∷ 12 ∷ 0 ∷ 0 ∷ spelling 8 a
 
@@ -52,7 +53,8 @@ address_entry a = 5 ∷ 12 ∷ 0 ∷ 0 ∷ spelling 8 a
 unfoldable pub address_entries : ℕ → List ℕ
 address_entries a = if nat_lt a (2 ^ 32) then [] else address_entry a
 
--- I/O APIC (section 5.2.12.3): Type, Length, I/O APIC ID, Reserved, I/O APIC Address, Global System Interrupt Base
+-- I/O APIC (section 5.2.12.3): at 0 Type, 1 Length, 2 I/O APIC ID, 3 Reserved, 4 I/O APIC Address, 8 Global System
+-- Interrupt Base
 unfoldable pub io_apic_entry : IoApic → List ℕ
 io_apic_entry x = 1 ∷ 12 ∷ x.id ∷ 0 ∷ (spelling 4 x.address ++ spelling 4 x.global_system_interrupt_base)
 
@@ -60,21 +62,23 @@ io_apic_entry x = 1 ∷ 12 ∷ x.id ∷ 0 ∷ (spelling 4 x.address ++ spelling 
 abbrev pub inti_flags : Polarity → TriggerMode → ℕ
 inti_flags p t = polarity_code p + 4 * trigger_code t
 
--- Interrupt Source Override (section 5.2.12.5): Type, Length, Bus, Source, Global System Interrupt, Flags
+-- Interrupt Source Override (section 5.2.12.5): at 0 Type, 1 Length, 2 Bus, 3 Source, 4 Global System Interrupt, 8
+-- Flags
 unfoldable pub override_entry : InterruptSourceOverride → List ℕ
 override_entry x =
     2 ∷ 10 ∷ 0 ∷ x.isa_source ∷ (spelling 4 x.global_system_interrupt
     ++ (inti_flags x.polarity x.trigger_mode ∷ 0 ∷ []))
 
--- NMI Source (section 5.2.12.6): Type, Length, Flags, Global System Interrupt
+-- NMI Source (section 5.2.12.6): at 0 Type, 1 Length, 2 Flags, 4 Global System Interrupt
 unfoldable pub nmi_source_entry : NmiSource → List ℕ
 nmi_source_entry x = 3 ∷ 8 ∷ inti_flags x.polarity x.trigger_mode ∷ 0 ∷ spelling 4 x.global_system_interrupt
 
--- Local APIC NMI (section 5.2.12.7): Type, Length, ACPI Processor UID, Flags, Local APIC LINT#
+-- Local APIC NMI (section 5.2.12.7): at 0 Type, 1 Length, 2 ACPI Processor UID, 3 Flags, 5 Local APIC LINT#
 unfoldable pub apic_nmi_entry : ℕ → ℕ → List ℕ
 apic_nmi_entry uid line = 4 ∷ 6 ∷ uid ∷ 0 ∷ 0 ∷ line ∷ []
 
--- Local x2APIC NMI (section 5.2.12.13): Type, Length, Flags, ACPI Processor UID, Local x2APIC LINT#, Reserved
+-- Local x2APIC NMI (section 5.2.12.13): at 0 Type, 1 Length, 2 Flags, 4 ACPI Processor UID, 8 Local x2APIC
+-- LINT#, 9 Reserved
 unfoldable pub x2apic_nmi_entry : ℕ → ℕ → List ℕ
 x2apic_nmi_entry uid line = 10 ∷ 12 ∷ 0 ∷ 0 ∷ (spelling 4 uid ++ (line ∷ 0 ∷ 0 ∷ 0 ∷ []))
 
@@ -95,7 +99,7 @@ nmi_entry None long line = x2apic_nmi_entry long line
 unfoldable pub nmi_line_entry : NmiLine → List ℕ
 nmi_line_entry x = nmi_entry (short_uid x.processor) (long_uid x.processor) (line_code x.line)
 
--- Multiprocessor Wakeup (section 5.2.12.19): Type, Length, MailBoxVersion, Reserved, MailBoxAddress
+-- Multiprocessor Wakeup (section 5.2.12.19): at 0 Type, 1 Length, 2 MailBoxVersion, 4 Reserved, 8 MailBoxAddress
 unfoldable pub wakeup_entry : ℕ → List ℕ
 wakeup_entry a = 16 ∷ 16 ∷ 0 ∷ 0 ∷ 0 ∷ 0 ∷ 0 ∷ 0 ∷ spelling 8 a
 

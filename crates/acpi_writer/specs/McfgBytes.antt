@@ -7,12 +7,12 @@ use Rattle.acpi_writer.specs.Table.{table_written}
 use Rattle.acpi_writer.specs.declared.error.WriterError.{WriterError}
 use Rattle.acpi_writer.specs.declared.ids.TableIds.{TableIds}
 
--- Base Address, PCI Segment Group Number, Start Bus Number, End Bus Number, and four bytes that are Reserved
+-- at 0 Base Address, 8 PCI Segment Group Number, 10 Start Bus Number, 11 End Bus Number, 12 Reserved
 unfoldable pub mcfg_entry : McfgEntry → List ℕ
 mcfg_entry e = spelling 8 e.base_address ++ (spelling 2 e.pci_segment_group
     ++ (e.bus_number_start ∷ e.bus_number_end ∷ 0 ∷ 0 ∷ 0 ∷ 0 ∷ []))
 
--- after the header: eight bytes that are Reserved
+-- after the header: at 36 Reserved
 abbrev pub mcfg_reserved : List ℕ
 mcfg_reserved = replicate 8 0
 

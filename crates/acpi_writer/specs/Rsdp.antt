@@ -11,8 +11,8 @@ use Rattle.acpi_writer.specs.declared.error.WriterError.{WriterError}
 use Rattle.acpi_writer.specs.declared.error.WriterError.TheVariants.{BadName, NoAddress, NoRoom}
 use Rattle.acpi_writer.specs.declared.ids.TableIds.{TableIds}
 
--- Signature, a Checksum of 0, OEMID, a Revision of 2, a RsdtAddress of 0, a Length of 36, XsdtAddress, an Extended
--- Checksum of 0 and three bytes that are Reserved
+-- at 0 Signature, 8 a Checksum of 0, 9 OEMID, 15 a Revision of 2, 16 a RsdtAddress of 0, 20 a Length of 36, 24
+-- XsdtAddress, 32 an Extended Checksum of 0, 33 Reserved
 unfoldable pub rsdp_unsummed : List ℕ → ℕ → List ℕ
 rsdp_unsummed oem_id xsdt =
     rsd_ptr ++ (0 ∷ (oem_id ++ (2 ∷ (spelling 4 0 ++ (spelling 4 36 ++ (spelling 8 xsdt ++ replicate 4 0))))))

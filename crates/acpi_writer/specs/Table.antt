@@ -18,7 +18,8 @@ use Rattle.acpi_writer.specs.declared.ids.TableIds.{TableIds}
 abbrev pub bit_of : Bool → ℕ
 bit_of b = if b then 1 else 0
 
--- Signature, Length, Revision, a Checksum of 0, OEMID, OEM Table ID, OEM Revision, Creator ID, Creator Revision
+-- at 0 Signature, 4 Length, 8 Revision, 9 a Checksum of 0, 10 OEMID, 16 OEM Table ID, 24 OEM Revision, 28 Creator ID,
+-- 32 Creator Revision
 unfoldable pub table_head : Signature → ℕ → TableIds → ℕ → List ℕ
 table_head s revision ids n =
     letters_of s ++ (spelling 4 n ++ (revision ∷ 0 ∷ (ids.oem_id ++ (ids.oem_table_id
