@@ -4,11 +4,11 @@ use Rattle.std.specs.Prelude.{IfOk}
 use Rattle.std.specs.List.{list_all}
 use Rattle.acpi_base.specs.declared.table.signature.TheConstants.Signature.{MADT}
 use Rattle.acpi_writer.specs.declared.error.WriterError.{WriterError}
-use Rattle.acpi_writer.specs.declared.error.WriterError.TheVariants.{NoProcessor, UidOfAll}
+use Rattle.acpi_writer.specs.declared.error.WriterError.TheVariants.{IdOfAll, NoProcessor, UidOfAll}
 use Rattle.acpi_writer.specs.declared.ids.TableIds.{TableIds}
 use Rattle.acpi_writer.specs.declared.madt.MadtContents.{MadtContents}
 use Rattle.acpi_writer.specs.declared.madt.MadtProcessor.{MadtProcessor}
-use Rattle.acpi_writer.specs.MadtBytes.{is_empty, madt_body, madt_written, names_one}
+use Rattle.acpi_writer.specs.MadtBytes.{is_empty, is_single, madt_body, madt_written, names_one}
 use Rattle.acpi_writer.specs.MadtLaws.{AreFit, IsMadt}
 use Rattle.acpi_writer.specs.Table.{IsTableOf, table_written}
 
@@ -24,13 +24,17 @@ pub written_none : (room : ℕ) (ids : TableIds) (c : MadtContents) → length c
 unfolding madt_written
 written_none room ids c less = rw (empty_is c.processors.now less) refl
 
-pub written_of_all : (room : ℕ) (ids : TableIds) (c : MadtContents) → 1 ≤ length c.processors.now → list_all (λ x. names_one x.processor) c.local_apic_nmi_lines.now ≡ false → madt_written room ids c ≡ Err UidOfAll
+pub written_of_id : (room : ℕ) (ids : TableIds) (c : MadtContents) → 1 ≤ length c.processors.now → list_all is_single c.processors.now ≡ false → madt_written room ids c ≡ Err IdOfAll
 unfolding madt_written
-written_of_all room ids c some all = rw (some_is c.processors.now some, all) refl
+written_of_id room ids c some all = rw (some_is c.processors.now some, all) refl
 
-pub written_is : (room : ℕ) (ids : TableIds) (c : MadtContents) → 1 ≤ length c.processors.now → list_all (λ x. names_one x.processor) c.local_apic_nmi_lines.now ≡ true → madt_written room ids c ≡ table_written room MADT 5 ids (madt_body c)
+pub written_of_all : (room : ℕ) (ids : TableIds) (c : MadtContents) → 1 ≤ length c.processors.now → list_all is_single c.processors.now ≡ true → list_all (λ x. names_one x.processor) c.local_apic_nmi_lines.now ≡ false → madt_written room ids c ≡ Err UidOfAll
 unfolding madt_written
-written_is room ids c some all = rw (some_is c.processors.now some, all) refl
+written_of_all room ids c some single all = rw (some_is c.processors.now some, single, all) refl
+
+pub written_is : (room : ℕ) (ids : TableIds) (c : MadtContents) → 1 ≤ length c.processors.now → list_all is_single c.processors.now ≡ true → list_all (λ x. names_one x.processor) c.local_apic_nmi_lines.now ≡ true → madt_written room ids c ≡ table_written room MADT 5 ids (madt_body c)
+unfolding madt_written
+written_is room ids c some single all = rw (some_is c.processors.now some, single, all) refl
 
 pub answer_is : (r : Result ℕ WriterError) (ids : TableIds) (c : MadtContents) (new : List ℕ) → 1 ≤ length c.processors.now → list_all (λ x. names_one x.processor) c.local_apic_nmi_lines.now ≡ true
     → IfOk r (λ n. IsTableOf MADT 5 ids (madt_body c) (take n new)) → IfOk r (λ n. AreFit c) → IfOk r (λ n. IsMadt ids c (take n new))

@@ -16,7 +16,7 @@ use Rattle.acpi_base.specs.declared.model.interrupt.Polarity.{Polarity}
 use Rattle.acpi_base.specs.declared.model.interrupt.TriggerMode.{TriggerMode}
 use Rattle.acpi_writer.specs.Table.{bit_of, table_written}
 use Rattle.acpi_writer.specs.declared.error.WriterError.{WriterError}
-use Rattle.acpi_writer.specs.declared.error.WriterError.TheVariants.{NoProcessor, UidOfAll}
+use Rattle.acpi_writer.specs.declared.error.WriterError.TheVariants.{IdOfAll, NoProcessor, UidOfAll}
 use Rattle.acpi_writer.specs.declared.ids.TableIds.{TableIds}
 use Rattle.acpi_writer.specs.declared.madt.MadtContents.{MadtContents}
 use Rattle.acpi_writer.specs.declared.madt.MadtProcessor.{MadtProcessor}
@@ -134,7 +134,11 @@ abbrev pub is_empty : {A : Type 0} → List A → Bool
 is_empty [] = true
 is_empty (x ∷ xs) = false
 
--- the uid isn't the one that stands for all
+-- neither the uid nor the id is the one that stands for all
+abbrev pub is_single : MadtProcessor → Bool
+is_single p = nat_lt p.processor_uid 0xffffffff && nat_lt p.local_apic_id 0xffffffff
+
+-- and so it is of an NMI line's uid
 abbrev pub names_one : NmiProcessor → Bool
 names_one nmi.All = true
 names_one (nmi.ProcessorUid uid) = nat_lt uid 0xffffffff
@@ -143,5 +147,6 @@ names_one (nmi.ProcessorUid uid) = nat_lt uid 0xffffffff
 unfoldable pub madt_written : ℕ → TableIds → MadtContents → Result (List ℕ) WriterError
 madt_written room ids c = do
   _ ← holds (not (is_empty c.processors.now)) NoProcessor
+  _ ← holds (list_all is_single c.processors.now) IdOfAll
   _ ← holds (list_all (λ x. names_one x.processor) c.local_apic_nmi_lines.now) UidOfAll
   table_written room MADT 5 ids (madt_body c)

@@ -5,6 +5,8 @@
 pub enum WriterError {
     /// A MADT without any processor.
     NoProcessor,
+    /// A processor whose uid or id is 0xffffffff, the number that stands for all processors.
+    IdOfAll,
     /// An NMI line of the processor whose uid is 0xffffffff, the number that stands for all processors.
     UidOfAll,
     /// A SLIT without a distance for each pair of localities.

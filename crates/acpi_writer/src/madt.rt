@@ -53,6 +53,25 @@ pub struct MadtContents<'a> {
     pub wakeup_mailbox: Option<u64>,
 }
 
+/// Whether neither the uid nor the id is the one that stands for all processors.
+fn is_single(processor: MadtProcessor) -> bool
+    ensures { result ≡ bytes.is_single processor }
+{
+    processor.processor_uid < 0xffffffff && processor.local_apic_id < 0xffffffff
+}
+
+/// Whether no processor has a number that stands for all.
+fn processors_fit(processors: &[MadtProcessor]) -> bool
+    ensures { result ≡ list_all bytes.is_single processors.now }
+{
+    for processor in processors {
+        if !is_single(*processor) {
+            return false;
+        }
+    }
+    true
+}
+
 /// Whether this isn't the uid that stands for all processors.
 fn names_one(processor: NmiProcessor) -> bool
     ensures { result ≡ bytes.names_one processor }
@@ -113,9 +132,9 @@ fn write_contents(
 /// the local APICs of 2^32 or above has an entry of its own, a Local APIC Address Override, after the processors. Two
 /// processors of one uid, and one with both flags set, are written as they are.
 ///
-/// Returns, in this order, `NoProcessor` if there is no processor, `UidOfAll` if an NMI line is of the processor
-/// 0xffffffff, `BadName` if a name of the ids is not valid UTF-8, `NoRoom` if the slice is shorter than the table, and
-/// `TooLong` if the table has 2^32 bytes or more.
+/// Returns, in this order, `NoProcessor` if there is no processor, `IdOfAll` if a processor's uid or id is 0xffffffff,
+/// `UidOfAll` if an NMI line is of the processor 0xffffffff, `BadName` if a name of the ids is not valid UTF-8, `NoRoom`
+/// if the slice is shorter than the table, and `TooLong` if the table has 2^32 bytes or more.
 pub fn write_madt(
     out: &mut [u8],
     ids: &TableIds,
@@ -131,6 +150,9 @@ pub fn write_madt(
 {
     if contents.processors.len() < 1 {
         return Err(WriterError::NoProcessor);
+    }
+    if !processors_fit(contents.processors) {
+        return Err(WriterError::IdOfAll);
     }
     if !lines_fit(contents.local_apic_nmi_lines) {
         return Err(WriterError::UidOfAll);

@@ -1,10 +1,10 @@
 //! What is refused for other reasons than room, in order. `TooLong` isn't tried: it needs a slice of 4 GiB.
 
-use crate::samples::{HPET, IDS, MADT, REGIONS, check};
+use crate::samples::{HPET, IDS, MADT, PROCESSORS, REGIONS, check};
 use acpi_base::model::{LocalInterruptLine, NmiLine, NmiProcessor};
 use acpi_writer::{
-    MadtContents, TableIds, WriterError, write_dsdt, write_hpet, write_madt, write_mcfg,
-    write_rsdp, write_rsdt, write_slit, write_ssdt, write_xsdt,
+    MadtContents, MadtProcessor, TableIds, WriterError, write_dsdt, write_hpet, write_madt,
+    write_mcfg, write_rsdp, write_rsdt, write_slit, write_ssdt, write_xsdt,
 };
 use std::process::Abort;
 
@@ -29,6 +29,33 @@ const OF_ALL: [NmiLine; 1] = [NmiLine {
     line: LocalInterruptLine::Lint0,
 }];
 
+/// Processors of the id and of the uid that stand for all.
+const ALL_PROCESSORS: [MadtProcessor; 2] = [
+    MadtProcessor {
+        processor_uid: 1,
+        local_apic_id: 0xffffffff,
+        is_enabled: true,
+        is_online_capable: false,
+    },
+    MadtProcessor {
+        processor_uid: 0xffffffff,
+        local_apic_id: 1,
+        is_enabled: true,
+        is_online_capable: false,
+    },
+];
+
+/// Checks that a call was refused by this error, and left a slice of sevens as it was.
+fn left_alone(
+    rt: &impl Abort,
+    name: &str,
+    found: Result<usize, WriterError>,
+    error: WriterError,
+    out: &[u8],
+) {
+    check(rt, name, found, Err(error), out, &[7; 8]);
+}
+
 #[test]
 fn contents_come_before_names_and_names_before_room(rt: HostRuntime) {
     let mut out = [7; 8];
@@ -41,42 +68,23 @@ fn contents_come_before_names_and_names_before_room(rt: HostRuntime) {
         ..of_all
     };
     let found = write_madt(&mut out, &BAD, &empty);
-    check(
-        &rt,
-        "empty",
-        found,
-        Err(WriterError::NoProcessor),
-        &out,
-        &[7; 8],
-    );
+    left_alone(&rt, "empty", found, WriterError::NoProcessor, &out);
+    for bad in &ALL_PROCESSORS {
+        let bad_processor = MadtContents {
+            processors: &[PROCESSORS[0], *bad],
+            ..of_all
+        };
+        let found = write_madt(&mut out, &BAD, &bad_processor);
+        left_alone(&rt, "id of all", found, WriterError::IdOfAll, &out);
+    }
     let found = write_madt(&mut out, &BAD, &of_all);
-    check(
-        &rt,
-        "uid of all",
-        found,
-        Err(WriterError::UidOfAll),
-        &out,
-        &[7; 8],
-    );
-    let found = write_madt(&mut out, &BAD, &MADT);
-    check(&rt, "MADT", found, Err(WriterError::BadName), &out, &[7; 8]);
-    let found = write_mcfg(&mut out, &BAD, &REGIONS);
-    check(&rt, "MCFG", found, Err(WriterError::BadName), &out, &[7; 8]);
-    let found = write_hpet(&mut out, &BAD, &HPET);
-    check(&rt, "HPET", found, Err(WriterError::BadName), &out, &[7; 8]);
+    left_alone(&rt, "uid of all", found, WriterError::UidOfAll, &out);
+    let bad = WriterError::BadName;
+    left_alone(&rt, "MADT", write_madt(&mut out, &BAD, &MADT), bad, &out);
+    left_alone(&rt, "MCFG", write_mcfg(&mut out, &BAD, &REGIONS), bad, &out);
+    left_alone(&rt, "HPET", write_hpet(&mut out, &BAD, &HPET), bad, &out);
     let found = write_hpet(&mut out, &IDS, &HPET);
-    check(&rt, "room", found, Err(WriterError::NoRoom), &out, &[7; 8]);
-}
-
-/// Checks that a call was refused by this error, and left a slice of sevens as it was.
-fn left_alone(
-    rt: &impl Abort,
-    name: &str,
-    found: Result<usize, WriterError>,
-    error: WriterError,
-    out: &[u8],
-) {
-    check(rt, name, found, Err(error), out, &[7; 8]);
+    left_alone(&rt, "room", found, WriterError::NoRoom, &out);
 }
 
 #[test]
