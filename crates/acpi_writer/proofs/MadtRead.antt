@@ -14,6 +14,7 @@ use Rattle.acpi_base.specs.Madt.{cut_of, madt_at, no_mailbox}
 use Rattle.acpi_base.specs.Model as read
 use Rattle.acpi_base.specs.declared.error.AcpiError.{AcpiError}
 use Rattle.acpi_base.specs.declared.error.AcpiError.TheVariants.{InvalidMadt}
+use Rattle.acpi_base.specs.declared.error.MadtError.TheVariants.{UnexpectedEntry}
 use Rattle.acpi_base.specs.declared.model.interrupt.Apic.{Apic}
 use Rattle.acpi_base.specs.declared.model.interrupt.InterruptModel.TheVariants as model
 use Rattle.acpi_base.specs.declared.model.interrupt.InterruptSourceOverride.{InterruptSourceOverride}
@@ -31,7 +32,7 @@ use Rattle.acpi_writer.specs.declared.madt.MadtProcessor.{MadtProcessor}
 use Rattle.acpi_writer.specs.MadtBytes.{io_apic_entry, is_empty, madt_body, madt_entries, madt_fixed, names_one, nmi_line_entry, nmi_source_entry, override_entry, processor_entry}
 use Rattle.acpi_writer.specs.MadtLaws.{AreFit, FitsIoApic, FitsNmiSource, FitsOverride, FitsProcessor, IsMadt, MadtIsRead, MadtIsValid, MailboxIsRead, apic_read, processor_read, processors_read}
 use Rattle.acpi_writer.proofs.Says.{address_items, address_says, boxes_read, io_apic_says, nmi_line_says, nmi_source_says, override_says, processor_item, processor_says, wakeup_items, wakeup_says}
-use Rattle.acpi_writer.proofs.Speaks.{Speaks, speaks_all, speaks_both, spoken_mailbox, spoken_model}
+use Rattle.acpi_writer.proofs.Speaks.{Speaks, speaks_all, speaks_both, spoken_cut, spoken_mailbox, spoken_model}
 use Rattle.acpi_writer.proofs.Tables as table
 
 -- ---- sorts of items
@@ -217,13 +218,15 @@ madt_read {A = A} ids c t is =
     spoken_model t (madt_items c) (boxes_read c.wakeup_mailbox) (speaks ids c t is) {A = A}
     ∙ from_gathered (list_any read.is_of_apic (madt_items c)) _ _ (apic_read c) (processors_read c.processors.now) (some_apic c c.processors.now refl is.some) (apic_is {A = A} ids c t is) (processors_of_are {A = A} (madt_items c) c.processors.now (processors_are c))
 
-abbrev found : ℕ → Result ℕ AcpiError
-found a = Ok a
+one_boxed : (o : Option ℕ) → ok_or (slice_get (boxes_read o) 0) (InvalidMadt (no_mailbox [])) ≡ ok_or o (InvalidMadt UnexpectedEntry)
+one_boxed (Some a) = refl
+one_boxed None = refl
 
 pub mailbox_read : MailboxIsRead
-mailbox_read ids c t a is same =
+mailbox_read ids c t is =
     spoken_mailbox t (madt_items c) (boxes_read c.wakeup_mailbox) (speaks ids c t is)
-    ∙ ap (λ o. ok_or (slice_get (boxes_read o) 0) (InvalidMadt (no_mailbox (cut_of t).1))) same
+    ∙ ap (λ rest. ok_or (slice_get (boxes_read c.wakeup_mailbox) 0) (InvalidMadt (no_mailbox rest))) (spoken_cut (drop 44 t) (madt_items c) (boxes_read c.wakeup_mailbox) (speaks ids c t is)).1
+    ∙ one_boxed c.wakeup_mailbox
 
 pub madt_valid : MadtIsValid
 madt_valid ids c t is = table.valid MADT madt_name 5 ids (madt_body c) t is.written

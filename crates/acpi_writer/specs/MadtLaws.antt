@@ -1,8 +1,11 @@
 -- What holds of a MADT that is written: what was given is what is read.
 use Rattle.std.specs.Prelude.{◌≡◌, ℕ, ◌^◌, ◌<◌, Bool, true, false, List, [], ◌∷◌, map, Option, Some, None, Ok}
 use Rattle.std.specs.List.{All, list_all}
+use Rattle.std.specs.Option.{ok_or}
 use Rattle.acpi_base.specs.Madt.{mailbox_of}
 use Rattle.acpi_base.specs.Model.{Model, model_of, state_of}
+use Rattle.acpi_base.specs.declared.error.AcpiError.TheVariants.{InvalidMadt}
+use Rattle.acpi_base.specs.declared.error.MadtError.TheVariants.{UnexpectedEntry}
 use Rattle.acpi_base.specs.declared.table.signature.TheConstants.Signature.{MADT}
 use Rattle.acpi_base.specs.declared.model.interrupt.Apic.{Apic}
 use Rattle.acpi_base.specs.declared.model.interrupt.InterruptModel.TheVariants as model
@@ -100,7 +103,7 @@ abbrev pub MadtIsRead : Type 0 → Type 0
 MadtIsRead A = (ids : TableIds) (c : MadtContents) (table : List ℕ) → IsMadt ids c table
     → model_of {A = A} table ≡ Ok (model_read c)
 
--- and so is its mailbox
+-- and so is its mailbox, or that there is none
 abbrev pub MailboxIsRead : Type 0
-MailboxIsRead = (ids : TableIds) (c : MadtContents) (table : List ℕ) (a : ℕ) → IsMadt ids c table
-    → c.wakeup_mailbox ≡ Some a → mailbox_of table ≡ Ok a
+MailboxIsRead = (ids : TableIds) (c : MadtContents) (table : List ℕ) → IsMadt ids c table
+    → mailbox_of table ≡ ok_or c.wakeup_mailbox (InvalidMadt UnexpectedEntry)

@@ -16,7 +16,7 @@ pub fn madt_is_read<A: Allocator>()
     ensures { MadtIsRead A }
 {}
 
-/// And so is its mailbox, if one was given.
+/// And so is its mailbox, or that there is none.
 pub fn mailbox_is_read()
     ensures { MailboxIsRead }
 {}
