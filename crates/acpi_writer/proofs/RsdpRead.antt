@@ -116,12 +116,12 @@ module _ (a b c d e f xsdt : ℕ) where
   leads : xsdt < 2 ^ 64 → (xsdt == 0) ≡ false → root_of_rsdp (shape first second) ≡ root_pointer 2 Xsdt xsdt
   leads small some = rw (revision_is first second, xsdt_is first second small, some) refl
 
-  six_read : is_utf8 id ≡ true → xsdt < 2 ^ 64 → (xsdt == 0) ≡ false → Leads xsdt (rsdp_bytes id xsdt)
-  six_read text small some = record { checked = ap check_rsdp bytes_are ∙ checked text; leads = ap root_of_rsdp bytes_are ∙ leads small some }
+  six_read : is_utf8 id ≡ true → xsdt < 2 ^ 64 → (xsdt == 0) ≡ false → Leads id xsdt (rsdp_bytes id xsdt)
+  six_read text small some = record { checked = ap check_rsdp bytes_are ∙ checked text; oem_id_is = ap (λ r. (rsdp_of r).oem_id) bytes_are ∙ id_is first second; leads = ap root_of_rsdp bytes_are ∙ leads small some }
 
 -- ---- any OEMID
 
-read_by : (oem_id : List ℕ) (xsdt : ℕ) → length oem_id ≡ 6 → is_utf8 oem_id ≡ true → xsdt < 2 ^ 64 → (xsdt == 0) ≡ false → Leads xsdt (rsdp_bytes oem_id xsdt)
+read_by : (oem_id : List ℕ) (xsdt : ℕ) → length oem_id ≡ 6 → is_utf8 oem_id ≡ true → xsdt < 2 ^ 64 → (xsdt == 0) ≡ false → Leads oem_id xsdt (rsdp_bytes oem_id xsdt)
 read_by [] xsdt long = absurd (omega (arith, long))
 read_by (a ∷ []) xsdt long = absurd (omega (arith, long))
 read_by (a ∷ b ∷ []) xsdt long = absurd (omega (arith, long))
@@ -134,4 +134,4 @@ read_by (a ∷ b ∷ c ∷ d ∷ e ∷ f ∷ g ∷ more) xsdt long = absurd (ome
 pub rsdp_read : RsdpIsRead
 rsdp_read ids xsdt rsdp is =
     let p = and_parts _ _ is.texts in
-    subst (Leads xsdt) (sym is.bytes) (read_by ids.oem_id xsdt is.ids_fit.oem_id p.0 is.small is.some)
+    subst (Leads ids.oem_id xsdt) (sym is.bytes) (read_by ids.oem_id xsdt is.ids_fit.oem_id p.0 is.small is.some)

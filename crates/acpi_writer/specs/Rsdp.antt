@@ -1,7 +1,7 @@
 -- The RSDP that is written (ACPI 6.4, section 5.2.5.3).
 use Rattle.std.specs.Prelude.{◌≡◌, ℕ, ◌^◌, ◌<◌, ◌==◌, false, true, not, List, ◌∷◌, ◌++◌, nat_le, replicate, Result, Ok}
 use Rattle.acpi.specs.Root.{root_pointer}
-use Rattle.acpi.specs.Rsdp.{check_rsdp, root_of_rsdp, rsd_ptr}
+use Rattle.acpi.specs.Rsdp.{check_rsdp, root_of_rsdp, rsd_ptr, rsdp_of}
 use Rattle.acpi.specs.declared.root.RootKind.TheVariants.{Xsdt}
 use Rattle.acpi_base.specs.Bytes.{spelling}
 use Rattle.acpi_base.specs.Steps.{◌>>=◌, holds}
@@ -37,11 +37,12 @@ pub record IsRsdp (ids : TableIds) (xsdt : ℕ) (rsdp : List ℕ) : Type 0 where
   pub small : xsdt < 2 ^ 64
   pub bytes : rsdp ≡ rsdp_bytes ids.oem_id xsdt
 
--- the bytes pass each check of a reader, and lead to the XSDT at the address
-pub record Leads (xsdt : ℕ) (rsdp : List ℕ) : Type 0 where
+-- the bytes pass each check of a reader, have the OEMID, and lead to the XSDT at the address
+pub record Leads (oem_id : List ℕ) (xsdt : ℕ) (rsdp : List ℕ) : Type 0 where
   pub checked : check_rsdp rsdp ≡ Ok tt
+  pub oem_id_is : (rsdp_of rsdp).oem_id ≡ oem_id
   pub leads : root_of_rsdp rsdp ≡ root_pointer 2 Xsdt xsdt
 
 -- and so do those of such an RSDP
 abbrev pub RsdpIsRead : Type 0
-RsdpIsRead = (ids : TableIds) (xsdt : ℕ) (rsdp : List ℕ) → IsRsdp ids xsdt rsdp → Leads xsdt rsdp
+RsdpIsRead = (ids : TableIds) (xsdt : ℕ) (rsdp : List ℕ) → IsRsdp ids xsdt rsdp → Leads ids.oem_id xsdt rsdp

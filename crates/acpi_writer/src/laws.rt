@@ -86,7 +86,8 @@ pub fn ssdt_is_read()
     ensures { SsdtIsRead }
 {}
 
-/// An RSDP that is written passes each check of an RSDP, and leads to the XSDT whose address was given.
+/// An RSDP that is written passes each check of an RSDP, has the OEMID that was given, and leads to the XSDT whose
+/// address was given.
 pub fn rsdp_is_read()
     ensures { RsdpIsRead }
 {}
