@@ -1,12 +1,12 @@
 -- What the header of a table that is written says of its makers.
-use Rattle.std.proofs.Common.{◌≡◌, ℕ, ◌<◌, List, [], ◌∷◌, ◌++◌, take, drop, refl, sym, ap, subst, ◌∙◌, arith, lit<, append_assoc}
+use Rattle.std.proofs.Common.{◌≡◌, ℕ, ◌<◌, List, [], ◌∷◌, ◌++◌, take, drop, refl, sym, ap, subst, ◌∙◌, arith, lit≤, lit<, append_assoc}
 use Rattle.std.proofs.lemmas.List.{drop_at, drop-drop, take_at}
 use Rattle.acpi_base.proofs.Spelling.{number-spelling}
 use Rattle.acpi_base.specs.Bytes.{field_of, number, part, spelling}
 use Rattle.acpi_base.specs.Header.{header_at}
 use Rattle.acpi_base.specs.Text.{letters_of}
 use Rattle.acpi_base.specs.declared.table.signature.Signature.{Signature}
-use Rattle.acpi_image.proofs.Summed.{part_behind}
+use Rattle.acpi_image.proofs.Summed.{part_before, part_behind}
 use Rattle.acpi_image.specs.Written.{sum_byte, with_sum}
 use Rattle.acpi_writer.specs.Table.{AreIds, HasIds, IdsAreRead, table_bytes, table_head, unsummed}
 use Rattle.acpi_writer.specs.declared.ids.TableIds.{TableIds}
@@ -59,9 +59,21 @@ module _ (s : Signature) (a b c d revision : ℕ) (ids : TableIds) (body : List 
   unfolding table_bytes with_sum
   same o n less = part_behind raw 9 (sum_byte 9 raw) o n less
 
-  ids_read : HasIds ids (header_at (table_bytes s revision ids body))
+  raw_revision : part raw 8 1 ≡ revision ∷ []
+  unfolding table_head spelling
+  raw_revision = rw letters refl
+
+  same_revision : part (table_bytes s revision ids body) 8 1 ≡ part raw 8 1
+  unfolding table_bytes with_sum
+  same_revision = part_before raw 9 (sum_byte 9 raw) 8 1 (lit≤ tt)
+
+  one : number (revision ∷ []) ≡ revision
+  one = omega arith
+
+  ids_read : HasIds revision ids (header_at (table_bytes s revision ids body))
   unfolding header_at field_of
   ids_read = record {
+    revision_is = ap number (same_revision ∙ raw_revision) ∙ one;
     oem_id = same 10 6 (lit< tt) ∙ ap (take 6) from_ids ∙ take_at ids.oem_id (ids.oem_table_id ++ makers ids body) 6 are.oem_id;
     oem_table_id = same 16 8 (lit< tt) ∙ ap (take 8) from_table_id ∙ take_at ids.oem_table_id (makers ids body) 8 are.oem_table_id;
     oem_revision = ap number (same 24 4 (lit< tt) ∙ ap (take 4) from_makers ∙ four_of) ∙ number-spelling 4 ids.oem_revision (omega (arith, are.oem_revision));
@@ -71,4 +83,4 @@ module _ (s : Signature) (a b c d revision : ℕ) (ids : TableIds) (body : List 
 
 pub ids_are_read : IdsAreRead
 ids_are_read s a b c d revision ids body table letters is =
-    subst (λ (t : List ℕ). HasIds ids (header_at t)) (sym is.bytes) (ids_read s a b c d revision ids body letters is.ids_fit)
+    subst (λ (t : List ℕ). HasIds revision ids (header_at t)) (sym is.bytes) (ids_read s a b c d revision ids body letters is.ids_fit)

@@ -72,8 +72,9 @@ pub record IsValid (s : Signature) (table : List ℕ) : Type 0 where
   pub checked : check_table s table ≡ Ok tt
   pub taken : is_table table ≡ true
 
--- a header says who made the table; Creator ID is a number there
-pub record HasIds (ids : TableIds) (h : SdtHeader) : Type 0 where
+-- a header has the revision, and says who made the table; Creator ID is a number there
+pub record HasIds (revision : ℕ) (ids : TableIds) (h : SdtHeader) : Type 0 where
+  pub revision_is : h.revision ≡ revision
   pub oem_id : h.oem_id ≡ ids.oem_id
   pub oem_table_id : h.oem_table_id ≡ ids.oem_table_id
   pub oem_revision : h.oem_revision ≡ ids.oem_revision
@@ -84,4 +85,4 @@ pub record HasIds (ids : TableIds) (h : SdtHeader) : Type 0 where
 abbrev pub IdsAreRead : Type 0
 IdsAreRead = (s : Signature) (a b c d revision : ℕ) (ids : TableIds) (body table : List ℕ)
     → letters_of s ≡ a ∷ b ∷ c ∷ d ∷ [] → IsTableOf s revision ids body table
-    → HasIds ids (header_at table)
+    → HasIds revision ids (header_at table)

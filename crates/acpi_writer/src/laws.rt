@@ -92,7 +92,7 @@ pub fn rsdp_is_read()
     ensures { RsdpIsRead }
 {}
 
-/// The header of a table that is written has the ids that were given.
+/// The header of a table that is written has the revision and the ids that were given.
 pub fn ids_are_read()
     ensures { IdsAreRead }
 {}
