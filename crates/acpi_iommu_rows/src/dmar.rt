@@ -137,6 +137,7 @@ fn of_scopes(alloc: Global, structure: &DmarStructure<'_>) -> Result<String, All
     let mut text = String::new(alloc);
     let mut kept = Ok(());
     let mut scopes = structure.scopes();
+    let before = scopes.ended_malformed();
     for scope in scopes.by_ref() {
         let (kind, flags) = (scope.kind(), scope.flags());
         let (id, bus) = (scope.enumeration_id(), scope.start_bus());
@@ -146,14 +147,18 @@ fn of_scopes(alloc: Global, structure: &DmarStructure<'_>) -> Result<String, All
         }
         kept = kept.and(write!(text, ")"));
     }
-    let end = end_of(scopes.ended_malformed());
+    let end = end_of(before, scopes.ended_malformed());
     kept = kept.and(write!(text, " {end}"));
     whole(text, kept)
 }
 
-/// The word for an end.
-pub(crate) fn end_of(is_malformed: bool) -> &'static str {
-    if is_malformed { "malformed" } else { "whole" }
+/// The words for an end, by whether a walk has ended malformed before its first step and after its last.
+pub(crate) fn end_of(before: bool, after: bool) -> &'static str {
+    match (before, after) {
+        (true, _) => "malformed before it began",
+        (false, true) => "malformed",
+        (false, false) => "whole",
+    }
 }
 
 /// A text, or `none` if it is empty, or the first refusal of a part of it.

@@ -1,5 +1,6 @@
 //! Questions about an IVRS.
 //!
+//! - `table`: IVinfo;
 //! - `blocks`: whether they have ended malformed before the first one is asked for, how many there are, and whether
 //!   they have after the last one;
 //! - `block N`, `entries N`: of the block with so many before it Type and fields, and each device entry with Type,
@@ -8,8 +9,9 @@
 //! - `unit SEGMENT ID`, `memory ID`, ids in hexadecimal.
 
 use crate::dmar::{end_of, whole};
+use acpi_base::PhysicalRecord;
 use acpi_iommu::{
-    BestBlockIter, Blocks, DeviceEntry, DeviceUnit, IommuResult, IvrsBlock, IvrsBlockIter,
+    BestBlockIter, Blocks, DeviceEntry, DeviceUnit, IommuResult, Ivrs, IvrsBlock, IvrsBlockIter,
     IvrsCalls, IvrsFields, MemoryIter,
 };
 use acpi_testkit::rows::shown;
@@ -20,6 +22,7 @@ pub(crate) fn answer(alloc: Global, table: &[u8], question: &str) -> Result<Stri
     let all = Blocks::over(table);
     let (word, rest) = question.split_once(' ').unwrap_or((question, ""));
     match word {
+        "table" => of_table(alloc, table),
         "blocks" => shown(alloc, &walked(all.blocks())),
         "best" => of_best(alloc, all.blocks_of_best_type()),
         "unit" => {
@@ -58,6 +61,14 @@ fn id_of(text: &str) -> u16 {
     u16::from_str_radix(text, 16).unwrap_or(0)
 }
 
+/// IVinfo of the table.
+fn of_table(alloc: Global, table: &[u8]) -> Result<String, AllocError> {
+    if table.len() < Ivrs::MIN_LENGTH {
+        return String::from_str(alloc, "short");
+    }
+    shown(alloc, &Ivrs::read(table).info)
+}
+
 /// How many blocks there are, and whether they have ended malformed before and after.
 fn walked(mut blocks: IvrsBlockIter<'_>) -> (bool, u32, bool) {
     let before = blocks.ended_malformed();
@@ -90,6 +101,7 @@ fn of_entries(alloc: Global, block: &IvrsBlock<'_>) -> Result<String, AllocError
     let mut text = String::new(alloc);
     let mut kept = Ok(());
     let mut entries = block.entries();
+    let before = entries.ended_malformed();
     for entry in entries.by_ref() {
         let (kind, first) = (entry.kind(), entry.first());
         let (last, settings) = (entry.last(), entry.settings());
@@ -97,7 +109,7 @@ fn of_entries(alloc: Global, block: &IvrsBlock<'_>) -> Result<String, AllocError
         kept = kept.and(add_more(&mut text, &entry));
         kept = kept.and(write!(text, ")"));
     }
-    let end = end_of(entries.ended_malformed());
+    let end = end_of(before, entries.ended_malformed());
     kept = kept.and(write!(text, " {end}"));
     whole(text, kept)
 }
