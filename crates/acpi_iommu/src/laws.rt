@@ -2,7 +2,7 @@
 ghost use Rattle.acpi_base.specs.Equality.{IsEquality};
 ghost use Rattle.acpi_iommu.specs.DmarScopes.{FrontIsFront};
 
-use crate::dmar::{Drhd, Hop, Rmrr, UnitSource};
+use crate::dmar::{Andd, Atsr, Drhd, Hop, Rhsa, Rmrr, Satc, Sidp, UnitSource};
 use crate::error::IommuError;
 use crate::ivrs::{DeviceUnit, Ivhd, Ivmd, SpecialDevice};
 
@@ -29,6 +29,41 @@ pub fn drhd_equality(a: &Drhd, b: &Drhd) -> bool
 
 /// Two `Rmrr`s compare as equal exactly if all their fields are equal.
 pub fn rmrr_equality(a: &Rmrr, b: &Rmrr) -> bool
+    ensures { IsEquality result a.now b.now }
+{
+    a == b
+}
+
+/// Two `Atsr`s compare as equal exactly if all their fields are equal.
+pub fn atsr_equality(a: &Atsr, b: &Atsr) -> bool
+    ensures { IsEquality result a.now b.now }
+{
+    a == b
+}
+
+/// Two `Rhsa`s compare as equal exactly if all their fields are equal.
+pub fn rhsa_equality(a: &Rhsa, b: &Rhsa) -> bool
+    ensures { IsEquality result a.now b.now }
+{
+    a == b
+}
+
+/// Two `Andd`s compare as equal exactly if their field is equal.
+pub fn andd_equality(a: &Andd, b: &Andd) -> bool
+    ensures { IsEquality result a.now b.now }
+{
+    a == b
+}
+
+/// Two `Satc`s compare as equal exactly if all their fields are equal.
+pub fn satc_equality(a: &Satc, b: &Satc) -> bool
+    ensures { IsEquality result a.now b.now }
+{
+    a == b
+}
+
+/// Two `Sidp`s compare as equal exactly if their field is equal.
+pub fn sidp_equality(a: &Sidp, b: &Sidp) -> bool
     ensures { IsEquality result a.now b.now }
 {
     a == b

@@ -33,7 +33,7 @@ pub struct Rmrr {
 }
 
 /// Root Port ATS Capability Reporting (ATSR, section 8.5): the root ports that support address translation services.
-#[derive(Clone, Copy, Debug)]
+#[derive(Clone, Copy, Debug, PartialEq, Eq)]
 pub struct Atsr {
     /// Flags: bit 0 ALL_PORTS.
     pub flags: u8,
@@ -42,7 +42,7 @@ pub struct Atsr {
 }
 
 /// Remapping Hardware Static Affinity (RHSA, section 8.6): the proximity domain of a unit.
-#[derive(Clone, Copy, Debug)]
+#[derive(Clone, Copy, Debug, PartialEq, Eq)]
 pub struct Rhsa {
     /// Register Base Address: that of the unit's DRHD.
     pub register_base: u64,
@@ -52,14 +52,14 @@ pub struct Rhsa {
 
 /// ACPI Name-space Device Declaration (ANDD, section 8.7): a device that the ACPI namespace names;
 /// `DmarStructure::object_name` has the name.
-#[derive(Clone, Copy, Debug)]
+#[derive(Clone, Copy, Debug, PartialEq, Eq)]
 pub struct Andd {
     /// ACPI Device Number: the Enumeration ID by which device scopes of type 5 name the device.
     pub device_number: u8,
 }
 
 /// SoC Integrated Address Translation Cache (SATC, section 8.8): integrated devices that cache translations.
-#[derive(Clone, Copy, Debug)]
+#[derive(Clone, Copy, Debug, PartialEq, Eq)]
 pub struct Satc {
     /// Flags: bit 0 ATC_REQUIRED.
     pub flags: u8,
@@ -68,7 +68,7 @@ pub struct Satc {
 }
 
 /// SoC Integrated Device Property (SIDP, section 8.9): integrated devices with properties.
-#[derive(Clone, Copy, Debug)]
+#[derive(Clone, Copy, Debug, PartialEq, Eq)]
 pub struct Sidp {
     /// Segment Number: the PCI segment of the devices.
     pub segment: u16,
