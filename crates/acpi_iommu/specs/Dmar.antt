@@ -1,10 +1,11 @@
 -- The DMA Remapping Reporting Structure, DMAR (Intel Virtualization Technology for Directed I/O 4.0, chapter 8), and
 -- the structures that it is made of.
-use Rattle.std.specs.Prelude.{◌≡◌, ℕ, ◌+◌, ◌-◌, ◌*◌, ◌^◌, ◌==◌, ◌&&◌, ◌||◌, Bool, true, false, not, nat_lt, nat_le, List, [], ◌∷◌, drop, take_while, Option, None, Some, if◌then◌else◌}
+use Rattle.std.specs.Prelude.{◌≡◌, ℕ, ◌+◌, ◌-◌, ◌*◌, ◌^◌, ◌==◌, ◌&&◌, ◌||◌, Bool, not, nat_lt, nat_le, List, [], ◌∷◌, drop, take_while, Option, None, Some, if◌then◌else◌}
 use Rattle.acpi_base.specs.Bits.{bits_of, has_bit}
 use Rattle.acpi_base.specs.Bytes.{field_of}
 use Rattle.acpi_base.specs.Header.{header_at}
 use Rattle.acpi_base.specs.Entries.{cut}
+use Rattle.acpi_base.specs.MadtWalk.{is_left}
 use Rattle.acpi_base.specs.declared.entries.EntryLayout.{EntryLayout}
 use Rattle.acpi_base.specs.declared.entries.Grammar.{Grammar}
 use Rattle.acpi_base.specs.declared.entries.Width.TheVariants.{Two}
@@ -44,7 +45,7 @@ structure_layout = record {
 abbrev pub structure_grammar : Grammar 7
 structure_grammar = record { layout = structure_layout; most = None }
 
--- the structures (Remapping Structures[], from 48 on) after a table's 48 fixed bytes, and the rest in which none begins
+-- the structures of a table (Remapping Structures[], from 48 on), and the rest in which none begins
 abbrev pub cut_of : List ℕ → List (List ℕ) × List ℕ
 cut_of table = cut structure_grammar (drop 48 table)
 
@@ -93,7 +94,7 @@ abbrev pub length_of : Rmrr → Option ℕ
 length_of r =
     if is_range r && nat_lt (r.limit - r.base + 1) (2 ^ 64) then Some (r.limit - r.base + 1) else None
 
--- Root Port ATS Capability Reporting (section 8.5)
+-- Root Port ATS Capability Reporting (section 8.5): Flags at 4
 abbrev pub atsr_at : List ℕ → Atsr
 atsr_at e = record { flags = field_of e 4 1; segment = segment_of e }
 
@@ -105,7 +106,7 @@ rhsa_at e = record { register_base = field_of e 8 8; domain = field_of e 16 4 }
 abbrev pub andd_at : List ℕ → Andd
 andd_at e = record { device_number = field_of e 7 1 }
 
--- SoC Integrated Address Translation Cache (section 8.8)
+-- SoC Integrated Address Translation Cache (section 8.8): Flags at 4
 abbrev pub satc_at : List ℕ → Satc
 satc_at e = record { flags = field_of e 4 1; segment = segment_of e }
 
@@ -154,11 +155,6 @@ rest_left s = (cut structure_grammar s.rest.now).1
 -- whether it has answered that no structure is left
 abbrev pub has_ended : DmarStructureIter → Bool
 has_ended s = s.ended
-
--- whether bytes are left
-abbrev pub is_left : List ℕ → Bool
-is_left [] = false
-is_left (b ∷ rest) = true
 
 -- whether it ended before the table did: what `ended_malformed` returns, which is no until the walk has given None
 abbrev pub is_malformed : DmarStructureIter → Bool

@@ -6,7 +6,8 @@ use Rattle.acpi_base.specs.Entries.{cut}
 use Rattle.acpi_base.specs.declared.entries.EntryLayout.{EntryLayout}
 use Rattle.acpi_base.specs.declared.entries.Grammar.{Grammar}
 use Rattle.acpi_base.specs.declared.entries.Width.TheVariants.{One}
-use Rattle.acpi_iommu.specs.Dmar.{is_left, scope_bytes}
+use Rattle.acpi_base.specs.MadtWalk.{is_left}
+use Rattle.acpi_iommu.specs.Dmar.{scope_bytes}
 use Rattle.acpi_iommu.specs.declared.dmar.scope.DeviceScope.{DeviceScope}
 use Rattle.acpi_iommu.specs.declared.dmar.scope.DeviceScopeIter.{DeviceScopeIter}
 use Rattle.acpi_iommu.specs.declared.dmar.scope.Hop.{Hop}

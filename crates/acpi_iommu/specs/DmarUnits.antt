@@ -3,14 +3,15 @@ use Rattle.std.specs.Prelude.{ℕ, ◌==◌, ◌&&◌, Bool, not, find, filter, 
 use Rattle.std.specs.List.{filter_map, list_all}
 use Rattle.std.specs.Option.{option_map, option_or}
 use Rattle.acpi_base.specs.Steps.{◌>>=◌, holds}
-use Rattle.acpi_iommu.specs.Dmar.{cut_of, drhd_at, includes_pci_all, is_left, is_range, kind_of, rmrr_at, segment_of, structures_left, structures_of}
+use Rattle.acpi_base.specs.MadtWalk.{is_left}
+use Rattle.acpi_iommu.specs.Dmar.{cut_of, drhd_at, includes_pci_all, is_range, kind_of, rmrr_at, segment_of, structures_left, structures_of}
 use Rattle.acpi_iommu.specs.DmarScopes.{is_numbered, last_hop, names_device, scopes_of, scopes_rest, start_bus}
 use Rattle.acpi_iommu.specs.declared.dmar.fields.Drhd.{Drhd}
 use Rattle.acpi_iommu.specs.declared.dmar.fields.Rmrr.{Rmrr}
 use Rattle.acpi_iommu.specs.declared.dmar.reserved.ReservedIter.{ReservedIter}
 use Rattle.acpi_iommu.specs.declared.dmar.scope.Hop.{Hop}
 use Rattle.acpi_iommu.specs.declared.dmar.units.UnitSource.{UnitSource}
-use Rattle.acpi_iommu.specs.declared.dmar.units.Units.{Units}
+use Rattle.acpi_iommu.specs.declared.dmar.units.DmarUnits.{DmarUnits}
 use Rattle.acpi_iommu.specs.declared.error.IommuError.{IommuError}
 use Rattle.acpi_iommu.specs.declared.error.IommuError.TheVariants.{InvalidMemoryRange, InvalidStructureLength}
 
@@ -93,5 +94,5 @@ abbrev pub reserved_left : ReservedIter → List Rmrr
 reserved_left s = reserved_in s.segment s.bus s.hops.now (structures_left s.structures)
 
 -- the table that is asked
-abbrev pub dmar_bytes : Units → List ℕ
+abbrev pub dmar_bytes : DmarUnits → List ℕ
 dmar_bytes u = u.table.now

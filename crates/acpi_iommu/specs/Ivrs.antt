@@ -3,7 +3,7 @@
 use Rattle.std.specs.Prelude.{◌≡◌, ℕ, ◌==◌, ◌&&◌, ◌||◌, Bool, nat_le, List, length, drop, Option, None, Some, if◌then◌else◌, []}
 use Rattle.acpi_base.specs.Bytes.{field_of}
 use Rattle.acpi_base.specs.Header.{header_at}
-use Rattle.acpi_iommu.specs.Dmar.{is_left}
+use Rattle.acpi_base.specs.MadtWalk.{is_left}
 use Rattle.acpi_iommu.specs.Pieces.{pieces}
 use Rattle.acpi_iommu.specs.declared.ivrs.Ivrs.{Ivrs}
 use Rattle.acpi_iommu.specs.declared.ivrs.block.Ivhd.{Ivhd}
@@ -45,7 +45,7 @@ block_size b =
     if nat_le (least_of (block_kind b)) (field_of b 2 2) && nat_le (field_of b 2 2) (length b)
     then Some (field_of b 2 2) else None
 
--- the blocks (from 48 on) after a table's 48 fixed bytes, and the rest in which none begins
+-- the blocks of a table, from 48 on, and the rest in which none begins
 abbrev pub blocks_cut : List ℕ → List (List ℕ) × List ℕ
 blocks_cut table = pieces block_size (drop 48 table)
 

@@ -1,7 +1,8 @@
--- Which devices a block of an IVRS is for, by its device entries (section 5.2.2).
+-- Which devices a block of an IVRS is for, by its device entries (section 5.2).
 use Rattle.std.specs.Prelude.{◌≡◌, ℕ, ◌+◌, ◌==◌, ◌&&◌, ◌||◌, Bool, nat_le, nat_lt, List, length, Option, None, Some, if◌then◌else◌, []}
+use Rattle.std.specs.Option.{unwrap_or}
 use Rattle.acpi_base.specs.Bytes.{field_of, filled_part, part}
-use Rattle.acpi_iommu.specs.Dmar.{is_left}
+use Rattle.acpi_base.specs.MadtWalk.{is_left}
 use Rattle.acpi_iommu.specs.Ivrs.{entry_bytes}
 use Rattle.acpi_iommu.specs.Pieces.{pieces}
 use Rattle.acpi_iommu.specs.declared.ivrs.entry.DeviceEntry.{DeviceEntry}
@@ -55,9 +56,12 @@ last_id e = if is_start e then field_of e (own_size e + 1) 2 else first_id e
 abbrev pub settings_of : List ℕ → ℕ
 settings_of e = field_of e 3 1  -- DTE Setting
 
--- Source DeviceID, at 5, of an alias, type 0x42 or 0x43
+abbrev pub source_id : List ℕ → ℕ
+source_id e = field_of e 5 2  -- Source DeviceID
+
+-- that of an alias, type 0x42 or 0x43
 abbrev pub alias_of : List ℕ → Option ℕ
-alias_of e = if (entry_kind e == 0x42) || (entry_kind e == 0x43) then Some (field_of e 5 2) else None
+alias_of e = if (entry_kind e == 0x42) || (entry_kind e == 0x43) then Some (source_id e) else None
 
 -- Extended DTE Setting, at 4, of types 0x46 and 0x47
 abbrev pub extended_of : List ℕ → Option ℕ
@@ -68,7 +72,7 @@ abbrev pub special_of : List ℕ → Option SpecialDevice
 special_of e =
     if entry_kind e == 0x48 then Some (record {
       handle = field_of e 4 1;  -- Handle
-      source = field_of e 5 2;  -- Source DeviceID
+      source = source_id e;
       variety = field_of e 7 1;  -- Variety
     }) else None
 
@@ -99,12 +103,11 @@ abbrev pub covers : ℕ → List ℕ → Bool
 covers id e =
     (entry_kind e == 1)
     || ((is_select e || is_start e) && nat_le (first_id e) id && nat_le id (last_id e))
-    || ((entry_kind e == 0x48) && (field_of e 5 2 == id))
+    || ((entry_kind e == 0x48) && (source_id e == id))
 
 -- the id that the unit sees of a device that an entry covers: the alias, or its own
 abbrev pub source_for : ℕ → List ℕ → ℕ
-source_for id e =
-    if (entry_kind e == 0x42) || (entry_kind e == 0x43) then field_of e 5 2 else id
+source_for id e = unwrap_or (alias_of e) id
 
 -- ---- a walk
 

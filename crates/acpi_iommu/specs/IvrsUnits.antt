@@ -3,14 +3,14 @@ use Rattle.std.specs.Prelude.{ℕ, ◌+◌, ◌^◌, ◌==◌, ◌&&◌, ◌||�
 use Rattle.std.specs.List.{filter_map, list_all, list_any}
 use Rattle.std.specs.Option.{option_map}
 use Rattle.acpi_base.specs.Steps.{◌>>=◌, holds}
-use Rattle.acpi_iommu.specs.Dmar.{is_left}
+use Rattle.acpi_base.specs.MadtWalk.{is_left}
 use Rattle.acpi_iommu.specs.Ivrs.{block_kind, blocks_cut, blocks_left, blocks_of, ivhd_at, ivmd_at}
 use Rattle.acpi_iommu.specs.IvrsEntries.{covers, entries_cut, entries_of, settings_of, source_for}
 use Rattle.acpi_iommu.specs.declared.error.IommuError.{IommuError}
 use Rattle.acpi_iommu.specs.declared.error.IommuError.TheVariants.{InvalidMemoryRange, InvalidStructureLength}
 use Rattle.acpi_iommu.specs.declared.ivrs.block.Ivmd.{Ivmd}
 use Rattle.acpi_iommu.specs.declared.ivrs.blocks.BestBlockIter.{BestBlockIter}
-use Rattle.acpi_iommu.specs.declared.ivrs.blocks.Blocks.{Blocks}
+use Rattle.acpi_iommu.specs.declared.ivrs.blocks.IvrsBlocks.{IvrsBlocks}
 use Rattle.acpi_iommu.specs.declared.ivrs.blocks.DeviceUnit.{DeviceUnit}
 use Rattle.acpi_iommu.specs.declared.ivrs.blocks.MemoryIter.{MemoryIter}
 
@@ -97,5 +97,5 @@ abbrev pub memory_left : MemoryIter → List Ivmd
 memory_left s = memory_in s.device_id (blocks_left s.blocks)
 
 -- the table that is asked
-abbrev pub ivrs_bytes : Blocks → List ℕ
+abbrev pub ivrs_bytes : IvrsBlocks → List ℕ
 ivrs_bytes b = b.table.now

@@ -16,11 +16,11 @@ pub use fields::{Andd, Atsr, DmarFields, Drhd, Rhsa, Rmrr, Satc, Sidp};
 pub use reserved::ReservedIter;
 pub use scope::{DeviceScope, DeviceScopeIter, Hop, HopIter};
 pub use structure::DmarStructure;
-pub use units::{DmarCalls, UnitSource, Units};
+pub use units::{DmarCalls, DmarUnits, UnitSource};
 pub use walk::DmarStructureIter;
 
-/// The DMA Remapping Reporting Structure (DMAR, section 8.1). Its structures stand after 48 fixed bytes; `Units` reads
-/// them, and `DmarCalls` gives a mapping of it the same calls.
+/// The DMA Remapping Reporting Structure (DMAR, section 8.1). Its structures stand after 48 fixed bytes; `DmarUnits`
+/// reads them, and `DmarCalls` gives a mapping of it the same calls.
 #[derive(Debug, Drop)]
 pub struct Dmar {
     /// The header that every table begins with.
@@ -104,9 +104,9 @@ impl Dmar {
         has_bit(self.flags as u64, 1) // X2APIC_OPT_OUT
     }
 
-    /// DMA_CTRL_PLATFORM_OPT_IN_FLAG (bit 2 of the flags): whether the firmware says that it let no device reach memory
-    /// that it wasn't given.
-    pub fn controls_dma(&self) -> bool
+    /// DMA_CTRL_PLATFORM_OPT_IN_FLAG (bit 2 of the flags): whether the firmware says that, when it hands the
+    /// machine over, DMA that it began reaches only the ranges of RMRRs.
+    pub fn opts_into_dma_control(&self) -> bool
         ensures { result ≡ has_bit self.now.flags 2 }
     {
         has_bit(self.flags as u64, 2) // DMA_CTRL_PLATFORM_OPT_IN_FLAG

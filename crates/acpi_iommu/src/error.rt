@@ -8,10 +8,11 @@ pub type IommuResult<T> = Result<T, IommuError>;
 /// Why a call of this crate refuses.
 #[derive(Clone, Copy, Debug, PartialEq, Eq)]
 pub enum IommuError {
-    /// The structures of a table end before its bytes do, or parts of a structure end before it does: bytes are left
-    /// in which none begins, since the length there is less than the least of its type or goes past the end.
+    /// The structures of a table (of an IVRS: its blocks) end before its bytes do, or the device scopes or entries of
+    /// one end before it does: bytes are left in which none begins. The length there is less than the least of its type
+    /// or goes past the end, the end of a range of entries doesn't follow its start at once, or it follows none.
     InvalidStructureLength,
-    /// The last byte of a reserved range of memory lies before its first.
+    /// The last byte of an RMRR lies before its first, or start and length of an IVMD add up to more than 2^64 - 1.
     InvalidMemoryRange,
 }
 

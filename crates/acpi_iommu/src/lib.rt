@@ -10,10 +10,11 @@ pub mod laws;
 
 pub use dmar::{
     Andd, Atsr, DeviceScope, DeviceScopeIter, Dmar, DmarCalls, DmarFields, DmarStructure,
-    DmarStructureIter, Drhd, Hop, HopIter, ReservedIter, Rhsa, Rmrr, Satc, Sidp, UnitSource, Units,
+    DmarStructureIter, DmarUnits, Drhd, Hop, HopIter, ReservedIter, Rhsa, Rmrr, Satc, Sidp,
+    UnitSource,
 };
 pub use error::{IommuError, IommuResult};
 pub use ivrs::{
-    BestBlockIter, Blocks, DeviceEntry, DeviceEntryIter, DeviceUnit, Ivhd, Ivmd, Ivrs, IvrsBlock,
-    IvrsBlockIter, IvrsCalls, IvrsFields, MemoryIter, SpecialDevice,
+    BestBlockIter, DeviceEntry, DeviceEntryIter, DeviceUnit, Ivhd, Ivmd, Ivrs, IvrsBlock,
+    IvrsBlockIter, IvrsBlocks, IvrsCalls, IvrsFields, MemoryIter, SpecialDevice,
 };

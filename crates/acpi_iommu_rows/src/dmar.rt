@@ -11,15 +11,15 @@
 use crate::hops::device_of;
 use acpi_base::PhysicalRecord;
 use acpi_iommu::{
-    Dmar, DmarCalls, DmarFields, DmarStructure, DmarStructureIter, Drhd, IommuResult, ReservedIter,
-    UnitSource, Units,
+    Dmar, DmarCalls, DmarFields, DmarStructure, DmarStructureIter, DmarUnits, Drhd, IommuResult,
+    ReservedIter, UnitSource,
 };
 use acpi_testkit::rows::shown;
 use std::alloc::{AllocError, Global};
 
 /// What a DMAR's bytes answer.
 pub(crate) fn answer(alloc: Global, table: &[u8], question: &str) -> Result<String, AllocError> {
-    let units = Units::over(table);
+    let units = DmarUnits::over(table);
     let (word, rest) = question.split_once(' ').unwrap_or((question, ""));
     match word {
         "table" => of_table(alloc, table),
@@ -87,7 +87,7 @@ fn of_table(alloc: Global, table: &[u8]) -> Result<String, AllocError> {
             dmar.address_bits(),
             dmar.remaps_interrupts(),
             dmar.opts_out_of_x2apic(),
-            dmar.controls_dma(),
+            dmar.opts_into_dma_control(),
         ),
     )
 }

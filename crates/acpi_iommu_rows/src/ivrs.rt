@@ -11,15 +11,15 @@
 use crate::dmar::{end_of, whole};
 use acpi_base::PhysicalRecord;
 use acpi_iommu::{
-    BestBlockIter, Blocks, DeviceEntry, DeviceUnit, IommuResult, Ivrs, IvrsBlock, IvrsBlockIter,
-    IvrsCalls, IvrsFields, MemoryIter,
+    BestBlockIter, DeviceEntry, DeviceUnit, IommuResult, Ivrs, IvrsBlock, IvrsBlockIter,
+    IvrsBlocks, IvrsCalls, IvrsFields, MemoryIter,
 };
 use acpi_testkit::rows::shown;
 use std::alloc::{AllocError, Global};
 
 /// What an IVRS' bytes answer.
 pub(crate) fn answer(alloc: Global, table: &[u8], question: &str) -> Result<String, AllocError> {
-    let all = Blocks::over(table);
+    let all = IvrsBlocks::over(table);
     let (word, rest) = question.split_once(' ').unwrap_or((question, ""));
     match word {
         "table" => of_table(alloc, table),

@@ -70,7 +70,7 @@ impl<'a> DeviceScope<'a> {
         field(self.bytes, 0, 1) as u8 // Type
     }
 
-    /// Flags.
+    /// Flags, whatever structure the scope is in.
     pub fn flags(&self) -> u8
         ensures { result ≡ scope_flags (bytes_of_scope self.now) }
     {

@@ -27,17 +27,17 @@ pub struct UnitSource {
 
 /// The units in a DMAR's bytes (chapter 8). It needs no handler.
 #[derive(Clone, Copy, Debug)]
-pub struct Units<'a> {
+pub struct DmarUnits<'a> {
     table: &'a [u8],
 }
 
-impl<'a> Units<'a> {
+impl<'a> DmarUnits<'a> {
     /// The units in a DMAR's bytes (chapter 8), from the table's first byte on. In fewer than 52 bytes there is no
     /// structure.
     pub fn over(table: &'a [u8]) -> Self
         ensures { dmar_bytes result ≡ table.now }
     {
-        Units { table }
+        DmarUnits { table }
     }
 
     /// The structures of the table, in order (section 8.2).
@@ -172,7 +172,7 @@ impl<'a> Units<'a> {
     }
 }
 
-/// The functions of `Units`, as methods of a mapping of a DMAR (chapter 8).
+/// The functions of `DmarUnits`, as methods of a mapping of a DMAR (chapter 8).
 pub trait DmarCalls {
     ghost use Rattle.std.specs.Prelude.{◌≡◌, ℕ, List, false};
     ghost use Rattle.acpi_base.specs.Steps.{Gives};
@@ -184,7 +184,7 @@ pub trait DmarCalls {
     ghost table: { Self → List ℕ };
 
     /// The units in this DMAR's bytes (chapter 8).
-    fn units(&self) -> Units<'_>
+    fn dmar_units(&self) -> DmarUnits<'_>
         ensures { dmar_bytes result ≡ table self.now };
 
     /// The structures of this DMAR, in order (section 8.2).
@@ -193,19 +193,19 @@ pub trait DmarCalls {
         ensures rest { rest_left result ≡ (cut_of (table self.now)).1 }
         ensures begun { has_ended result ≡ false };
 
-    /// The unit that remaps a device (section 8.3), or the refusal, as `Units::unit_for` says.
+    /// The unit that remaps a device (section 8.3), or the refusal, as `DmarUnits::unit_for` says.
     fn unit_for(&self, segment: u16, bus: u8, hops: &[Hop]) -> IommuResult<Option<Drhd>>
         ensures { result ≡ unit_for (table self.now) segment bus hops.now };
 
-    /// The unit of the I/O APIC with this id (section 8.3.1), or the refusal, as `Units::unit_of_io_apic` says.
+    /// The unit of the I/O APIC with this id (section 8.3.1), or the refusal, as `DmarUnits::unit_of_io_apic` says.
     fn unit_of_io_apic(&self, id: u8) -> IommuResult<Option<UnitSource>>
         ensures { result ≡ unit_of_io_apic (table self.now) id };
 
-    /// The unit of the HPET with this number (section 8.3.1), or the refusal, as `Units::unit_of_hpet` says.
+    /// The unit of the HPET with this number (section 8.3.1), or the refusal, as `DmarUnits::unit_of_hpet` says.
     fn unit_of_hpet(&self, number: u8) -> IommuResult<Option<UnitSource>>
         ensures { result ≡ unit_of_hpet (table self.now) number };
 
-    /// The ranges of memory that are reserved for a device (section 8.4), or the refusal, as `Units::reserved_for`
+    /// The ranges of memory that are reserved for a device (section 8.4), or the refusal, as `DmarUnits::reserved_for`
     /// says.
     fn reserved_for<'b>(
         &self,
@@ -221,24 +221,24 @@ impl<'h, H: Lender> DmarCalls for PhysicalMapping<'h, H, Dmar> {
 
     ghost table = { λ m. bytes_of m };
 
-    fn units(&self) -> Units<'_> {
-        Units::over(self.bytes())
+    fn dmar_units(&self) -> DmarUnits<'_> {
+        DmarUnits::over(self.bytes())
     }
 
     fn structures(&self) -> DmarStructureIter<'_> {
-        self.units().structures()
+        self.dmar_units().structures()
     }
 
     fn unit_for(&self, segment: u16, bus: u8, hops: &[Hop]) -> IommuResult<Option<Drhd>> {
-        self.units().unit_for(segment, bus, hops)
+        self.dmar_units().unit_for(segment, bus, hops)
     }
 
     fn unit_of_io_apic(&self, id: u8) -> IommuResult<Option<UnitSource>> {
-        self.units().unit_of_io_apic(id)
+        self.dmar_units().unit_of_io_apic(id)
     }
 
     fn unit_of_hpet(&self, number: u8) -> IommuResult<Option<UnitSource>> {
-        self.units().unit_of_hpet(number)
+        self.dmar_units().unit_of_hpet(number)
     }
 
     fn reserved_for<'b>(
@@ -247,6 +247,6 @@ impl<'h, H: Lender> DmarCalls for PhysicalMapping<'h, H, Dmar> {
         bus: u8,
         hops: &'b [Hop],
     ) -> IommuResult<ReservedIter<'_, 'b>> {
-        self.units().reserved_for(segment, bus, hops)
+        self.dmar_units().reserved_for(segment, bus, hops)
     }
 }

@@ -1,4 +1,4 @@
-//! The blocks of an IVRS, one at a time (section 5.2.2).
+//! The blocks of an IVRS, one at a time (section 5.2).
 ghost use Rattle.std.specs.Prelude.{◌≡◌, IfSome, IfNone, Some, None, [], false, if◌then◌else◌};
 ghost use Rattle.acpi_base.specs.Entries.{with_entry};
 ghost use Rattle.acpi_iommu.specs.Ivrs.{block_bytes, block_fields, block_kind, block_size, entry_bytes};
@@ -12,7 +12,7 @@ use super::entry::DeviceEntryIter;
 use acpi_base::PhysicalRecord;
 use acpi_base::bytes::{field, skip};
 
-/// I/O Virtualization Hardware Definition (IVHD, section 5.2.2.1): a unit that remaps.
+/// I/O Virtualization Hardware Definition (IVHD, section 5.2): a unit that remaps.
 #[derive(Clone, Copy, Debug, PartialEq, Eq)]
 pub struct Ivhd {
     /// Type: 0x10, 0x11 or 0x40.
@@ -35,7 +35,7 @@ pub struct Ivhd {
     pub extended_features: Option<u64>,
 }
 
-/// I/O Virtualization Memory Definition (IVMD, section 5.2.2.4): memory that devices reach by its own rules.
+/// I/O Virtualization Memory Definition (IVMD, section 5.2): memory that devices reach by its own rules.
 #[derive(Clone, Copy, Debug, PartialEq, Eq)]
 pub struct Ivmd {
     /// Type: 0x20 for all devices, 0x21 for the one of `device_id`, 0x22 for those from it to `auxiliary`.
@@ -52,7 +52,7 @@ pub struct Ivmd {
     pub length: u64,
 }
 
-/// What a block of an IVRS says in its fixed bytes, by its type (section 5.2.2).
+/// What a block of an IVRS says in its fixed bytes, by its type (section 5.2).
 #[derive(Clone, Copy, Debug)]
 pub enum IvrsFields {
     /// Types 0x10, 0x11 and 0x40.
@@ -146,7 +146,7 @@ impl Ivmd {
     }
 }
 
-/// A block of an IVRS (section 5.2.2).
+/// A block of an IVRS (section 5.2).
 #[derive(Clone, Copy, Debug)]
 pub struct IvrsBlock<'a> {
     bytes: &'a [u8],
@@ -257,7 +257,7 @@ fn split_block(bytes: &[u8]) -> Option<(&[u8], &[u8])>
     Some(bytes.split_at(size))
 }
 
-/// The blocks of an IVRS, in order (section 5.2.2), those of undefined types too. It ends at the table's end, or where
+/// The blocks of an IVRS, in order (section 5.2), those of undefined types too. It ends at the table's end, or where
 /// no block begins: if fewer than 4 bytes are left, or if the length is under the least of its type (24 for 0x10, 40
 /// for 0x11 and 0x40, 32 for 0x20 to 0x22, 4 for others) or past the table's end.
 #[derive(Clone, Copy, Debug)]
@@ -269,7 +269,7 @@ pub struct IvrsBlockIter<'a> {
 impl<'a> IvrsBlockIter<'a> {
     ghost use Rattle.acpi_iommu.specs.Ivrs.{blocks_cut, blocks_left, blocks_of, has_ended, is_malformed, rest_left};
 
-    /// The blocks of an IVRS' bytes (section 5.2.2): those after its 48 fixed bytes. It needs no handler.
+    /// The blocks of an IVRS' bytes (section 5.2): those after its 48 fixed bytes. It needs no handler.
     pub fn over(table: &'a [u8]) -> Self
         ensures items { blocks_left result ≡ blocks_of table.now }
         ensures rest { rest_left result ≡ (blocks_cut table.now).1 }
@@ -281,7 +281,7 @@ impl<'a> IvrsBlockIter<'a> {
         }
     }
 
-    /// Whether `next` has answered `None` before the table's end, where no block begins (section 5.2.2). As long as
+    /// Whether `next` has answered `None` before the table's end, where no block begins (section 5.2). As long as
     /// `next` hasn't answered `None` it is false.
     pub fn ended_malformed(&self) -> bool
         ensures { result ≡ is_malformed self.now }

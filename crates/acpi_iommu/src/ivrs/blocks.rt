@@ -50,7 +50,7 @@ impl<'a> Iterator for BestBlockIter<'a> {
     }
 }
 
-/// The memory with rules for a device, in order (section 5.2.2.4).
+/// The memory with rules for a device, in order (section 5.2).
 #[derive(Clone, Copy, Debug)]
 pub struct MemoryIter<'a> {
     blocks: IvrsBlockIter<'a>,
@@ -78,20 +78,20 @@ impl Iterator for MemoryIter<'_> {
 
 /// The blocks in an IVRS' bytes (section 5.2). It needs no handler.
 #[derive(Clone, Copy, Debug)]
-pub struct Blocks<'a> {
+pub struct IvrsBlocks<'a> {
     table: &'a [u8],
 }
 
-impl<'a> Blocks<'a> {
+impl<'a> IvrsBlocks<'a> {
     /// The blocks in an IVRS' bytes (section 5.2), from the table's first byte on. In fewer than 52 bytes there is
     /// none.
     pub fn over(table: &'a [u8]) -> Self
         ensures { ivrs_bytes result ≡ table.now }
     {
-        Blocks { table }
+        IvrsBlocks { table }
     }
 
-    /// The blocks of the table, in order (section 5.2.2).
+    /// The blocks of the table, in order (section 5.2).
     pub fn blocks(&self) -> IvrsBlockIter<'a>
         ensures items { blocks_left result ≡ blocks_of (ivrs_bytes self.now) }
         ensures rest { rest_left result ≡ (blocks_cut (ivrs_bytes self.now)).1 }
@@ -138,7 +138,7 @@ impl<'a> Blocks<'a> {
         }
     }
 
-    /// The units to believe (section 5.2.2.1): the IVHDs of the greatest of the types 0x10, 0x11 and 0x40 that the
+    /// The units to believe (section 5.2): the IVHDs of the greatest of the types 0x10, 0x11 and 0x40 that the
     /// table has, in order.
     ///
     /// Refuses with `InvalidStructureLength` if a block of the table, or a device entry of one, is malformed.
@@ -154,10 +154,11 @@ impl<'a> Blocks<'a> {
         })
     }
 
-    /// The unit that remaps a device (section 5.2.2), by its segment and its id, which is bus, device and function: of
+    /// The unit that remaps a device (section 5.2), by its segment and its id, which is bus, device and function: of
     /// the blocks of the best type the first of the segment one of whose entries covers the id, with the settings of
-    /// its first such entry and the id by which the unit knows the device. An entry for all devices covers every id, a
-    /// special device its source, an ACPI HID device its DeviceID, padding none. `None` if there is no such block.
+    /// its first such entry and the id by which the unit knows the device; entries after it don't count. An entry for
+    /// all devices covers every id, a special device its source, an ACPI HID device its DeviceID, padding none. `None`
+    /// if there is no such block.
     ///
     /// Refuses with `InvalidStructureLength` if a block of the table, or a device entry of one, is malformed.
     pub fn block_for(&self, segment: u16, device_id: u16) -> IommuResult<Option<DeviceUnit>>
@@ -176,8 +177,8 @@ impl<'a> Blocks<'a> {
         Ok(None)
     }
 
-    /// The memory that has its own rules for a device (section 5.2.2.4), by its id: each IVMD for all devices, for this
-    /// one, or for a range that it lies in, in order.
+    /// The memory that has its own rules for a device (section 5.2), by its id: each IVMD for all devices, for this
+    /// one, or for a range that it lies in, in order, whatever the device's segment.
     ///
     /// Refuses, in this order, with `InvalidStructureLength` if a block of the table, or a device entry of one, is
     /// malformed, and with `InvalidMemoryRange` if start and length of one of these add up to more than 2^64 - 1.
@@ -201,7 +202,7 @@ impl<'a> Blocks<'a> {
     }
 }
 
-/// The functions of `Blocks`, as methods of a mapping of an IVRS (section 5.2).
+/// The functions of `IvrsBlocks`, as methods of a mapping of an IVRS (section 5.2).
 pub trait IvrsCalls {
     ghost use Rattle.std.specs.Prelude.{◌≡◌, ℕ, List, false};
     ghost use Rattle.acpi_base.specs.Steps.{Gives};
@@ -213,24 +214,24 @@ pub trait IvrsCalls {
     ghost table: { Self → List ℕ };
 
     /// All blocks of this IVRS, to be asked (section 5.2).
-    fn all_blocks(&self) -> Blocks<'_>
+    fn ivrs_blocks(&self) -> IvrsBlocks<'_>
         ensures { ivrs_bytes result ≡ table self.now };
 
-    /// The blocks of this IVRS, in order (section 5.2.2).
+    /// The blocks of this IVRS, in order (section 5.2).
     fn blocks(&self) -> IvrsBlockIter<'_>
         ensures items { blocks_left result ≡ blocks_of (table self.now) }
         ensures rest { rest_left result ≡ (blocks_cut (table self.now)).1 }
         ensures begun { has_ended result ≡ false };
 
-    /// The units to believe (section 5.2.2.1), or the refusal, as `Blocks::blocks_of_best_type` says.
+    /// The units to believe (section 5.2), or the refusal, as `IvrsBlocks::blocks_of_best_type` says.
     fn blocks_of_best_type(&self) -> IommuResult<BestBlockIter<'_>>
         ensures { Gives (λ b. best_left b) result (blocks_of_best_type (table self.now)) };
 
-    /// The unit that remaps a device (section 5.2.2), or the refusal, as `Blocks::block_for` says.
+    /// The unit that remaps a device (section 5.2), or the refusal, as `IvrsBlocks::block_for` says.
     fn block_for(&self, segment: u16, device_id: u16) -> IommuResult<Option<DeviceUnit>>
         ensures { result ≡ block_for (table self.now) segment device_id };
 
-    /// The memory that has its own rules for a device (section 5.2.2.4), or the refusal, as `Blocks::memory_for` says.
+    /// The memory that has its own rules for a device (section 5.2), or the refusal, as `IvrsBlocks::memory_for` says.
     fn memory_for(&self, device_id: u16) -> IommuResult<MemoryIter<'_>>
         ensures { Gives (λ m. memory_left m) result (memory_for (table self.now) device_id) };
 }
@@ -240,23 +241,23 @@ impl<'h, H: Lender> IvrsCalls for PhysicalMapping<'h, H, Ivrs> {
 
     ghost table = { λ m. bytes_of m };
 
-    fn all_blocks(&self) -> Blocks<'_> {
-        Blocks::over(self.bytes())
+    fn ivrs_blocks(&self) -> IvrsBlocks<'_> {
+        IvrsBlocks::over(self.bytes())
     }
 
     fn blocks(&self) -> IvrsBlockIter<'_> {
-        self.all_blocks().blocks()
+        self.ivrs_blocks().blocks()
     }
 
     fn blocks_of_best_type(&self) -> IommuResult<BestBlockIter<'_>> {
-        self.all_blocks().blocks_of_best_type()
+        self.ivrs_blocks().blocks_of_best_type()
     }
 
     fn block_for(&self, segment: u16, device_id: u16) -> IommuResult<Option<DeviceUnit>> {
-        self.all_blocks().block_for(segment, device_id)
+        self.ivrs_blocks().block_for(segment, device_id)
     }
 
     fn memory_for(&self, device_id: u16) -> IommuResult<MemoryIter<'_>> {
-        self.all_blocks().memory_for(device_id)
+        self.ivrs_blocks().memory_for(device_id)
     }
 }

@@ -1,4 +1,4 @@
-//! The device entries of an IVHD, one at a time (section 5.2.2.2).
+//! The device entries of an IVHD, one at a time (section 5.2).
 ghost use Rattle.std.specs.Prelude.{◌≡◌, ◌<◌, IfSome, IfNone, [], false};
 ghost use Rattle.acpi_base.specs.Entries.{with_entry};
 ghost use Rattle.acpi_iommu.specs.IvrsEntries.{alias_of, bytes_of_entry, compatible_id, covers, entry_kind};
@@ -10,7 +10,7 @@ ghost use Rattle.acpi_iommu.specs.Pieces.{pieces};
 
 use acpi_base::bytes::{field, filled, skip};
 
-/// A special device, type 0x48 (section 5.2.2.2).
+/// A special device, type 0x48 (section 5.2).
 #[derive(Clone, Copy, Debug, PartialEq, Eq)]
 pub struct SpecialDevice {
     /// Handle: of an I/O APIC its id, of an HPET its number.
@@ -21,7 +21,7 @@ pub struct SpecialDevice {
     pub variety: u8,
 }
 
-/// A device entry of an IVHD (section 5.2.2.2): devices, and how the unit treats them. The end of a range belongs to
+/// A device entry of an IVHD (section 5.2): devices, and how the unit treats them. The end of a range belongs to
 /// its start.
 #[derive(Clone, Copy, Debug)]
 pub struct DeviceEntry<'a> {
@@ -132,7 +132,7 @@ impl<'a> DeviceEntry<'a> {
         }
     }
 
-    /// Unique ID of type 0xF0: its bytes. None of other types.
+    /// Unique ID of type 0xF0: its bytes. Other types have no bytes.
     pub fn unique_id(&self) -> &'a [u8]
         ensures { result.now ≡ unique_id (bytes_of_entry self.now) }
     {
@@ -222,7 +222,7 @@ fn split_entry(bytes: &[u8]) -> Option<(&[u8], &[u8])>
     Some(bytes.split_at(size))
 }
 
-/// The device entries of an IVHD, in order (section 5.2.2.2), those of undefined types and padding too. It ends at the
+/// The device entries of an IVHD, in order (section 5.2), those of undefined types and padding too. It ends at the
 /// block's end, or where no entry begins: if an entry goes past the block's end, if the end of a range doesn't follow
 /// its start at once, or if an end follows no start.
 #[derive(Clone, Copy, Debug)]
@@ -246,7 +246,7 @@ impl<'a> DeviceEntryIter<'a> {
         }
     }
 
-    /// Whether `next` has answered `None` before the block's end, where no entry begins (section 5.2.2.2). As long as
+    /// Whether `next` has answered `None` before the block's end, where no entry begins (section 5.2). As long as
     /// `next` hasn't answered `None` it is false.
     pub fn ended_malformed(&self) -> bool
         ensures { result ≡ is_malformed self.now }

@@ -2,7 +2,7 @@ use Rattle.std.proofs.Common.{◌≡◌, length}
 use Rattle.std.specs.Prelude.{◌&&◌, find}
 use Rattle.acpi_iommu.specs.Dmar.{drhd_at, includes_pci_all, structures_left}
 use Rattle.acpi_iommu.specs.DmarUnits.{dmar_bytes, is_unit_of, unit_of_others}
-use Rattle.acpi_iommu.proofs.dmar.units.Units.unit_of_others.Given as goal
+use Rattle.acpi_iommu.proofs.dmar.units.DmarUnits.unit_of_others.Given as goal
 
 -- no unit that was passed over has INCLUDE_PCI_ALL
 abbrev pub invariant-loop-structure : goal.invariant-loop-structure

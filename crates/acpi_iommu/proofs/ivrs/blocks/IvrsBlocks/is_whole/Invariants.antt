@@ -3,7 +3,7 @@ use Rattle.std.specs.Prelude.{◌&&◌}
 use Rattle.std.specs.List.{list_all}
 use Rattle.acpi_iommu.specs.Ivrs.{blocks_cut, blocks_left, blocks_of, rest_left}
 use Rattle.acpi_iommu.specs.IvrsUnits.{has_whole_entries, ivrs_bytes}
-use Rattle.acpi_iommu.proofs.ivrs.blocks.Blocks.is_whole.Given as goal
+use Rattle.acpi_iommu.proofs.ivrs.blocks.IvrsBlocks.is_whole.Given as goal
 
 -- what is tested and what is left to test are the whole, and the rest is the same
 abbrev pub invariant-loop-block : goal.invariant-loop-block

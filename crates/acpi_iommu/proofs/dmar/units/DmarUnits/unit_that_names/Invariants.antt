@@ -3,7 +3,7 @@ use Rattle.std.specs.Prelude.{◌&&◌, find}
 use Rattle.acpi_iommu.specs.Dmar.{structures_left}
 use Rattle.acpi_iommu.specs.DmarScopes.{names_device}
 use Rattle.acpi_iommu.specs.DmarUnits.{dmar_bytes, is_unit_of, unit_that_names}
-use Rattle.acpi_iommu.proofs.dmar.units.Units.unit_that_names.Given as goal
+use Rattle.acpi_iommu.proofs.dmar.units.DmarUnits.unit_that_names.Given as goal
 
 -- no unit that was passed over names the device
 abbrev pub invariant-loop-structure : goal.invariant-loop-structure

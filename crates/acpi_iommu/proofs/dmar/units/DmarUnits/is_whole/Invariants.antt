@@ -3,7 +3,7 @@ use Rattle.std.specs.Prelude.{◌&&◌}
 use Rattle.std.specs.List.{list_all}
 use Rattle.acpi_iommu.specs.Dmar.{cut_of, rest_left, structures_left, structures_of}
 use Rattle.acpi_iommu.specs.DmarUnits.{dmar_bytes, has_whole_scopes}
-use Rattle.acpi_iommu.proofs.dmar.units.Units.is_whole.Given as goal
+use Rattle.acpi_iommu.proofs.dmar.units.DmarUnits.is_whole.Given as goal
 
 -- what is tested and what is left to test are the whole, and the rest is the same
 abbrev pub invariant-loop-structure : goal.invariant-loop-structure

@@ -1,7 +1,7 @@
 use Rattle.std.proofs.Common.{◌≡◌}
 use Rattle.std.specs.List.{list_all}
 use Rattle.acpi_iommu.specs.IvrsUnits.{ends_below, memory_left}
-use Rattle.acpi_iommu.proofs.ivrs.blocks.Blocks.memory_for.Given as goal
+use Rattle.acpi_iommu.proofs.ivrs.blocks.IvrsBlocks.memory_for.Given as goal
 
 -- those passed over end below 2^64
 abbrev pub invariant-loop-range : goal.invariant-loop-range
