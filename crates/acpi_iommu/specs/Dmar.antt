@@ -1,6 +1,6 @@
 -- The DMA Remapping Reporting Structure, DMAR (Intel Virtualization Technology for Directed I/O 4.0, chapter 8), and
 -- the structures that it is made of.
-use Rattle.std.specs.Prelude.{◌≡◌, ℕ, ◌+◌, ◌-◌, ◌*◌, ◌^◌, ◌==◌, ◌&&◌, ◌||◌, Bool, not, nat_lt, nat_le, List, [], ◌∷◌, drop, take_while, Option, None, Some, if◌then◌else◌}
+use Rattle.std.specs.Prelude.{◌≡◌, ℕ, ◌+◌, ◌-◌, ◌*◌, ◌^◌, ◌==◌, ◌&&◌, ◌||◌, Bool, not, nat_lt, nat_le, List, [], ◌∷◌, drop, Option, None, Some, if◌then◌else◌}
 use Rattle.acpi_base.specs.Bits.{bits_of, has_bit}
 use Rattle.acpi_base.specs.Bytes.{field_of}
 use Rattle.acpi_base.specs.Header.{header_at}
@@ -9,6 +9,7 @@ use Rattle.acpi_base.specs.MadtWalk.{is_left}
 use Rattle.acpi_base.specs.declared.entries.EntryLayout.{EntryLayout}
 use Rattle.acpi_base.specs.declared.entries.Grammar.{Grammar}
 use Rattle.acpi_base.specs.declared.entries.Width.TheVariants.{Two}
+use Rattle.acpi_iommu.specs.Texts.{up_to_zero}
 use Rattle.acpi_iommu.specs.declared.dmar.Dmar.{Dmar}
 use Rattle.acpi_iommu.specs.declared.dmar.structure.DmarStructure.{DmarStructure}
 use Rattle.acpi_iommu.specs.declared.dmar.fields.Andd.{Andd}
@@ -128,7 +129,7 @@ fields_of e =
 
 -- ACPI Object Name of an ANDD, type 4: from byte 8 on, up to the first zero or the structure's end; others have none
 abbrev pub name_of : List ℕ → List ℕ
-name_of e = if kind_of e == 4 then take_while (λ b. not (b == 0)) (drop 8 e) else []
+name_of e = if kind_of e == 4 then up_to_zero (drop 8 e) else []
 
 -- the bytes of a structure's device scopes: those after its fixed ones; other types have none
 abbrev pub scope_bytes : List ℕ → List ℕ

@@ -1,10 +1,11 @@
 -- Which devices a block of an IVRS is for, by its device entries (section 5.2).
 use Rattle.std.specs.Prelude.{◌≡◌, ℕ, ◌+◌, ◌==◌, ◌&&◌, ◌||◌, Bool, nat_le, nat_lt, List, length, Option, None, Some, if◌then◌else◌, []}
 use Rattle.std.specs.Option.{unwrap_or}
-use Rattle.acpi_base.specs.Bytes.{field_of, filled_part, part}
+use Rattle.acpi_base.specs.Bytes.{field_of, part}
 use Rattle.acpi_base.specs.MadtWalk.{is_left}
 use Rattle.acpi_iommu.specs.Ivrs.{entry_bytes}
 use Rattle.acpi_iommu.specs.Pieces.{pieces}
+use Rattle.acpi_iommu.specs.Texts.{up_to_zero}
 use Rattle.acpi_iommu.specs.declared.ivrs.entry.DeviceEntry.{DeviceEntry}
 use Rattle.acpi_iommu.specs.declared.ivrs.entry.DeviceEntryIter.{DeviceEntryIter}
 use Rattle.acpi_iommu.specs.declared.ivrs.entry.SpecialDevice.{SpecialDevice}
@@ -76,14 +77,14 @@ special_of e =
       variety = field_of e 7 1;  -- Variety
     }) else None
 
--- of an ACPI HID device, type 0xF0: Hardware ID at 4 and Compatible ID at 12, of 8 bytes each, Unique ID format at 20,
--- and Unique ID, of as many bytes as its length at 21 says, at 22
+-- of an ACPI HID device, type 0xF0: the texts Hardware ID at 4 and Compatible ID at 12, up to the first zero of 8 bytes
+-- each, Unique ID format at 20, and Unique ID, of as many bytes as its length at 21 says, at 22
 
-abbrev pub hardware_id : List ℕ → Option (List ℕ)
-hardware_id e = if entry_kind e == 0xf0 then Some (filled_part e 4 8) else None
+abbrev pub hardware_id : List ℕ → List ℕ
+hardware_id e = if entry_kind e == 0xf0 then up_to_zero (part e 4 8) else []
 
-abbrev pub compatible_id : List ℕ → Option (List ℕ)
-compatible_id e = if entry_kind e == 0xf0 then Some (filled_part e 12 8) else None
+abbrev pub compatible_id : List ℕ → List ℕ
+compatible_id e = if entry_kind e == 0xf0 then up_to_zero (part e 12 8) else []
 
 abbrev pub unique_id_format : List ℕ → Option ℕ
 unique_id_format e = if entry_kind e == 0xf0 then Some (field_of e 20 1) else None

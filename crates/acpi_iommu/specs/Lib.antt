@@ -6,3 +6,4 @@ pub mod Ivrs
 pub mod IvrsEntries
 pub mod IvrsUnits
 pub mod Pieces
+pub mod Texts

@@ -7,6 +7,7 @@ pub mod dmar;
 pub mod error;
 pub mod ivrs;
 pub mod laws;
+mod texts;
 
 pub use dmar::{
     Andd, Atsr, DeviceScope, DeviceScopeIter, Dmar, DmarCalls, DmarFields, DmarStructure,

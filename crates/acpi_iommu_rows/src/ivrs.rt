@@ -126,9 +126,9 @@ fn add_more(text: &mut String, entry: &DeviceEntry<'_>) -> Result<(), AllocError
         let (handle, source, variety) = (device.handle, device.source, device.variety);
         return write!(text, " handle {handle} source {source:x} variety {variety}");
     }
-    if let Some(id) = entry.hardware_id() {
+    if entry.kind() == 0xf0 {
         let ids = (
-            id,
+            entry.hardware_id(),
             entry.compatible_id(),
             entry.unique_id_format(),
             entry.unique_id(),

@@ -1,5 +1,5 @@
 //! One structure of a DMAR (section 8.2).
-ghost use Rattle.std.specs.Prelude.{◌≡◌, ◌==◌, false, not, take_while, Some, None, if◌then◌else◌};
+ghost use Rattle.std.specs.Prelude.{◌≡◌, false, Some, None, if◌then◌else◌};
 ghost use Rattle.acpi_base.specs.Text.{IsTextOf};
 ghost use Rattle.acpi_iommu.specs.Dmar.{drhd_at, fields_of, kind_of, name_of, rmrr_at, scope_bytes, structure_bytes};
 ghost use Rattle.acpi_iommu.specs.DmarScopes.{has_ended, names_device, rest_left, scopes_left, scopes_of, scopes_rest};
@@ -8,6 +8,7 @@ ghost use Rattle.acpi_iommu.specs.DmarUnits.{has_whole_scopes, is_reserved_for, 
 use super::fields::{DmarFields, Drhd, Rmrr, fields_of, kind_of, segment_of};
 use super::scope::{DeviceScopeIter, Hop};
 use super::units::UnitSource;
+use crate::texts::up_to_zero;
 use acpi_base::bytes::{skip, text_of};
 
 /// A structure of a DMAR (section 8.2).
@@ -136,16 +137,4 @@ fn scope_bytes(structure: &[u8]) -> &[u8]
         2 | 5 | 6 => skip(structure, 8),
         _ => &[],
     }
-}
-
-/// The bytes before the first zero, or all.
-fn up_to_zero(bytes: &[u8]) -> &[u8]
-    ensures { result.now ≡ take_while (λ b. not (b == 0)) bytes.now }
-{
-    for at in 0..bytes.len() {
-        if bytes[at] == 0 {
-            return &bytes[..at];
-        }
-    }
-    bytes
 }

@@ -1,6 +1,8 @@
 //! The device entries of an IVHD, one at a time (section 5.2).
 ghost use Rattle.std.specs.Prelude.{◌≡◌, ◌<◌, IfSome, IfNone, [], false};
+ghost use Rattle.acpi_base.specs.Bytes.{part};
 ghost use Rattle.acpi_base.specs.Entries.{with_entry};
+ghost use Rattle.acpi_base.specs.Text.{IsTextOf};
 ghost use Rattle.acpi_iommu.specs.IvrsEntries.{alias_of, bytes_of_entry, compatible_id, covers, entry_kind};
 ghost use Rattle.acpi_iommu.specs.IvrsEntries.{entry_size};
 ghost use Rattle.acpi_iommu.specs.IvrsEntries.{extended_of, first_id, hardware_id, is_select, is_start, last_id};
@@ -8,7 +10,8 @@ ghost use Rattle.acpi_iommu.specs.IvrsEntries.{own_size};
 ghost use Rattle.acpi_iommu.specs.IvrsEntries.{settings_of, source_for, special_of, unique_id, unique_id_format};
 ghost use Rattle.acpi_iommu.specs.Pieces.{pieces};
 
-use acpi_base::bytes::{field, filled, skip};
+use crate::texts::up_to_zero;
+use acpi_base::bytes::{field, skip, text_of};
 
 /// A special device, type 0x48 (section 5.2).
 #[derive(Clone, Copy, Debug, PartialEq, Eq)]
@@ -98,25 +101,27 @@ impl<'a> DeviceEntry<'a> {
         })
     }
 
-    /// Hardware ID of type 0xF0: the eight bytes of its text. `None` of other types.
-    pub fn hardware_id(&self) -> Option<[u8; 8]>
-        ensures { result ≡ hardware_id (bytes_of_entry self.now) }
+    /// Hardware ID of type 0xF0: the text in eight bytes, up to the first zero. It is `None` if that isn't valid UTF-8.
+    /// Of other types it is empty.
+    pub fn hardware_id(&self) -> Option<&'a str>
+        ensures { IsTextOf result (hardware_id (bytes_of_entry self.now)) }
     {
         if self.kind() == 0xf0 {
-            Some(filled(self.bytes, 4)) // Hardware ID
+            text_of(up_to_zero(part(self.bytes, 4, 8))) // Hardware ID
         } else {
-            None
+            Some("")
         }
     }
 
-    /// Compatible ID of type 0xF0: the eight bytes of its text. `None` of other types.
-    pub fn compatible_id(&self) -> Option<[u8; 8]>
-        ensures { result ≡ compatible_id (bytes_of_entry self.now) }
+    /// Compatible ID of type 0xF0: the text in eight bytes, up to the first zero. It is `None` if that isn't valid
+    /// UTF-8. Of other types it is empty.
+    pub fn compatible_id(&self) -> Option<&'a str>
+        ensures { IsTextOf result (compatible_id (bytes_of_entry self.now)) }
     {
         if self.kind() == 0xf0 {
-            Some(filled(self.bytes, 12)) // Compatible ID
+            text_of(up_to_zero(part(self.bytes, 12, 8))) // Compatible ID
         } else {
-            None
+            Some("")
         }
     }
 
@@ -139,9 +144,8 @@ impl<'a> DeviceEntry<'a> {
         if self.kind() != 0xf0 {
             return &[];
         }
-        let rest = skip(self.bytes, 22); // Unique ID
         let length = field(self.bytes, 21, 1) as usize; // Unique ID length
-        &rest[..length.min(rest.len())]
+        part(self.bytes, 22, length) // Unique ID
     }
 
     /// Whether the entry covers the device of an id: type 1 covers every one, a range those from its first to its last,
@@ -163,6 +167,14 @@ impl<'a> DeviceEntry<'a> {
     {
         self.alias().unwrap_or(id)
     }
+}
+
+/// As many bytes from an offset on, or those that there are.
+fn part(bytes: &[u8], offset: usize, count: usize) -> &[u8]
+    ensures { result.now ≡ part bytes.now offset count }
+{
+    let rest = skip(bytes, offset);
+    &rest[..count.min(rest.len())]
 }
 
 /// Type of an entry.

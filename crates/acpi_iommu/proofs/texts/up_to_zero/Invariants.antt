@@ -1,6 +1,6 @@
 use Rattle.std.proofs.Common.{◌≡◌, ◌++◌, drop, take}
 use Rattle.std.specs.Prelude.{◌==◌, not, take_while}
-use Rattle.acpi_iommu.proofs.dmar.structure.up_to_zero.Given as goal
+use Rattle.acpi_iommu.proofs.texts.up_to_zero.Given as goal
 
 -- there is no zero so far
 abbrev pub invariant-loop-at : goal.invariant-loop-at
