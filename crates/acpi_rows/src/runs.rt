@@ -1,4 +1,4 @@
-//! What the program prints, and what it does if a write is refused or memory runs out.
+//! What the program prints, and what it does if a write fails or memory runs out.
 //!
 //! `ASKED|ASKED of run|WORD|WORD` asks for lines of a run with these words. The row's bytes are its
 //! file (`file`), or the table that its file is an image of (`written-REVISION`); the file of a row of

@@ -96,7 +96,7 @@ impl<'a> DmarUnits<'a> {
     /// INCLUDE_PCI_ALL, else `None`. A scope of a PCI endpoint names it if its start bus is the bus and its path is the
     /// hops, and one of a bridge if its path has a hop and the hops begin with it.
     ///
-    /// Refuses with `InvalidStructureLength` if a structure of the table, or a scope of one, is malformed.
+    /// Fails with `InvalidStructureLength` if a structure of the table, or a scope of one, is malformed.
     pub fn unit_for(&self, segment: u16, bus: u8, hops: &[Hop]) -> IommuResult<Option<Drhd>>
         ensures { result ≡ unit_for (dmar_bytes self.now) segment bus hops.now }
     {
@@ -112,7 +112,7 @@ impl<'a> DmarUnits<'a> {
     /// The unit that remaps the interrupts of the I/O APIC with this id (section 8.3.1): the first DRHD with a scope of
     /// type 3 and this Enumeration ID, with the bus and the last hop of its first such scope, or `None`.
     ///
-    /// Refuses with `InvalidStructureLength` if a structure of the table, or a scope of one, is malformed.
+    /// Fails with `InvalidStructureLength` if a structure of the table, or a scope of one, is malformed.
     pub fn unit_of_io_apic(&self, id: u8) -> IommuResult<Option<UnitSource>>
         ensures { result ≡ unit_of_io_apic (dmar_bytes self.now) id }
     {
@@ -122,7 +122,7 @@ impl<'a> DmarUnits<'a> {
     /// The unit that remaps the interrupts of the HPET with this number (section 8.3.1): the first DRHD with a scope of
     /// type 4 and this Enumeration ID, with the bus and the last hop of its first such scope, or `None`.
     ///
-    /// Refuses with `InvalidStructureLength` if a structure of the table, or a scope of one, is malformed.
+    /// Fails with `InvalidStructureLength` if a structure of the table, or a scope of one, is malformed.
     pub fn unit_of_hpet(&self, number: u8) -> IommuResult<Option<UnitSource>>
         ensures { result ≡ unit_of_hpet (dmar_bytes self.now) number }
     {
@@ -148,7 +148,7 @@ impl<'a> DmarUnits<'a> {
     /// The ranges of memory that are reserved for a device (section 8.4), which is named as for `unit_for`: each RMRR
     /// of the segment one of whose scopes names it, in order.
     ///
-    /// Refuses, in this order, with `InvalidStructureLength` if a structure of the table, or a scope of one, is
+    /// Fails, in this order, with `InvalidStructureLength` if a structure of the table, or a scope of one, is
     /// malformed, and with `InvalidMemoryRange` if the last byte of one of these ranges lies before its first.
     pub fn reserved_for<'b>(
         &self,

@@ -141,7 +141,7 @@ impl<'a> IvrsBlocks<'a> {
     /// The units to believe (section 5.2): the IVHDs of the greatest of the types 0x10, 0x11 and 0x40 that the
     /// table has, in order.
     ///
-    /// Refuses with `InvalidStructureLength` if a block of the table, or a device entry of one, is malformed.
+    /// Fails with `InvalidStructureLength` if a block of the table, or a device entry of one, is malformed.
     pub fn blocks_of_best_type(&self) -> IommuResult<BestBlockIter<'a>>
         ensures { Gives (λ b. best_left b) result (blocks_of_best_type (ivrs_bytes self.now)) }
     {
@@ -160,7 +160,7 @@ impl<'a> IvrsBlocks<'a> {
     /// all devices covers every id, a special device its source, an ACPI HID device its DeviceID, padding none. `None`
     /// if there is no such block.
     ///
-    /// Refuses with `InvalidStructureLength` if a block of the table, or a device entry of one, is malformed.
+    /// Fails with `InvalidStructureLength` if a block of the table, or a device entry of one, is malformed.
     pub fn block_for(&self, segment: u16, device_id: u16) -> IommuResult<Option<DeviceUnit>>
         ensures { result ≡ block_for (ivrs_bytes self.now) segment device_id }
     {
@@ -180,7 +180,7 @@ impl<'a> IvrsBlocks<'a> {
     /// The memory that has its own rules for a device (section 5.2), by its id: each IVMD for all devices, for this
     /// one, or for a range that it lies in, in order, whatever the device's segment.
     ///
-    /// Refuses, in this order, with `InvalidStructureLength` if a block of the table, or a device entry of one, is
+    /// Fails, in this order, with `InvalidStructureLength` if a block of the table, or a device entry of one, is
     /// malformed, and with `InvalidMemoryRange` if start and length of one of these add up to more than 2^64 - 1.
     pub fn memory_for(&self, device_id: u16) -> IommuResult<MemoryIter<'a>>
         ensures { Gives (λ m. memory_left m) result (memory_for (ivrs_bytes self.now) device_id) }
