@@ -8,7 +8,7 @@ use Rattle.std.proofs.lemmas.List.{append-nil, map-append}
 use Rattle.std.proofs.lemmas.List.Elements.{filter_map-append}
 use Rattle.std.proofs.lemmas.List.Folds.{concat-append}
 use Rattle.acpi_base.proofs.Cuts.{cut_is_cut, one_cut}
-use Rattle.acpi_base.proofs.MadtItems.{said_faults, said_items}
+use Rattle.acpi_base.proofs.EntryLists.{said_faults, said_items}
 use Rattle.acpi_base.specs.Entries.{IsCut, IsEntry, cut}
 use Rattle.acpi_base.specs.Items.{said_of}
 use Rattle.acpi_base.specs.Madt.{cut_of, entries_of, entry_of, madt_at, madt_grammar, madt_layout, mailbox_in, mailbox_of, no_mailbox}
