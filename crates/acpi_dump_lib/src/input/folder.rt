@@ -21,7 +21,7 @@ fn path_of(alloc: Global, folder: &str, name: &str) -> Result<String, AllocError
     Ok(path)
 }
 
-/// Adds the tables of a file in a folder. A folder is passed over, and so is a file that is no table, which is said.
+/// Adds the tables of a file in a folder. A folder in it is skipped, and so is a file without tables, with a message.
 fn add_within<S: Sources, E: Write>(
     alloc: Global,
     tables: &mut Vec<TableFile>,

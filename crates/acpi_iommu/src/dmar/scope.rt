@@ -55,15 +55,15 @@ impl Iterator for HopIter<'_> {
     }
 }
 
-/// A device scope: a device, or several behind a bridge, by the way from a bus to it (section 8.3.1).
+/// A device scope: a device, or a bridge and all devices below it, with the path to it from a bus (section 8.3.1).
 #[derive(Clone, Copy, Debug)]
 pub struct DeviceScope<'a> {
     bytes: &'a [u8],
 }
 
 impl<'a> DeviceScope<'a> {
-    /// Type: 1 a PCI endpoint, 2 a bridge with all behind it, 3 an I/O APIC, 4 an HPET that sends MSIs, 5 a device that
-    /// the ACPI namespace names. Others are kept.
+    /// Type: 1 a PCI endpoint, 2 a bridge and all devices below it, 3 an I/O APIC, 4 an HPET that sends MSIs, 5 a
+    /// device that the ACPI namespace names. Others are kept.
     pub fn kind(&self) -> u8
         ensures { result ≡ scope_kind (bytes_of_scope self.now) }
     {
@@ -203,8 +203,8 @@ impl<'a> DeviceScopeIter<'a> {
         }
     }
 
-    /// Whether `next` has answered `None` before the structure's end, where no scope begins (section 8.3.1). As long as
-    /// `next` hasn't answered `None` it is false.
+    /// Whether `next` has returned `None` before the structure's end, where no scope begins (section 8.3.1). As long as
+    /// `next` hasn't returned `None` it is false.
     pub fn ended_malformed(&self) -> bool
         ensures { result ≡ is_malformed self.now }
     {

@@ -49,8 +49,8 @@ impl<'a> DmarStructureIter<'a> {
         }
     }
 
-    /// Whether `next` has answered `None` before the table's end, where no structure begins (section 8.2). As long as
-    /// `next` hasn't answered `None` it is false.
+    /// Whether `next` has returned `None` before the table's end, where no structure begins (section 8.2). As long as
+    /// `next` hasn't returned `None` it is false.
     pub fn ended_malformed(&self) -> bool
         ensures { result ≡ is_malformed self.now }
     {
