@@ -13,6 +13,7 @@ mod gic;
 mod gtdt;
 mod hex_text;
 mod interrupts;
+mod iommu;
 mod loans;
 mod madt;
 mod mcfg;
@@ -30,6 +31,7 @@ mod sums;
 mod texts;
 
 use acpi_testkit::rows::{Answers, Row, ask_files};
+use iommu::{dmar, ivrs};
 use loans::{Scenes, validity};
 use std::alloc::{AllocError, Global};
 use std::io;
@@ -49,9 +51,11 @@ impl Answers for Library {
             "bgrt" => bgrt::answer(alloc, table, question),
             "bytes" => sums::answer(alloc, table, question),
             "command" => codes::of_command(alloc, table, question),
+            "dmar" => dmar::answer(alloc, table, question),
             "fadt" => fadt::answer(alloc, table, question),
             "gtdt" => gtdt::answer(alloc, table, question),
             "header" => validity(alloc, table, question),
+            "ivrs" => ivrs::answer(alloc, table, question),
             "loans" => self.scenes.answer(alloc, row, question),
             "madt" => madt::answer(alloc, table, question),
             "mcfg" => mcfg::answer(alloc, table, question),

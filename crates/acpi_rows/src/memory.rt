@@ -16,6 +16,7 @@ mod arm;
 mod changes;
 mod devices;
 mod heaps;
+mod iommu;
 mod numa;
 mod places;
 mod tables;

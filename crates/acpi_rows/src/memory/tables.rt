@@ -5,7 +5,7 @@
 //! Questions with ` then ` between them are asked of the same tables, one after the other.
 
 use super::ways::open;
-use super::{arm, devices, heaps, numa, places, types};
+use super::{arm, devices, heaps, iommu, numa, places, types};
 use crate::hex_text::in_hex;
 use crate::platforms::{of_answer, platform};
 use crate::texts::{Parts, listed};
@@ -65,12 +65,13 @@ enum Subject {
     Processor,
     Model,
     Nodes,
+    Units,
     Mapped,
     Alone,
 }
 
 /// What a question is about, by its first word.
-const SUBJECTS: [(&str, Subject); 23] = [
+const SUBJECTS: [(&str, Subject); 25] = [
     ("headers", Subject::Headers),
     ("whole", Subject::Headers),
     ("ssdts", Subject::Headers),
@@ -86,6 +87,8 @@ const SUBJECTS: [(&str, Subject); 23] = [
     ("from", Subject::Nodes),
     ("slit", Subject::Nodes),
     ("srat", Subject::Nodes),
+    ("dmar", Subject::Units),
+    ("ivrs", Subject::Units),
     ("mapped", Subject::Mapped),
     ("revision", Subject::Alone),
     ("dsdt", Subject::Alone),
@@ -130,6 +133,7 @@ fn about<H: AcpiHandler>(
         Subject::Processor => of_answer(alloc, tables.platform_info(alloc), asked),
         Subject::Model => heaps::model(alloc, tables, alloc),
         Subject::Nodes => numa::answer(alloc, tables, word, name),
+        Subject::Units => iommu::answer(alloc, tables, word, name),
         Subject::Mapped => arm::mapped(alloc, tables, name),
         Subject::Alone => alone(alloc, tables, asked),
     }

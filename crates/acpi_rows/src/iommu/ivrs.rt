@@ -8,7 +8,7 @@
 //! - `best`: the types and bases of the blocks of the best type;
 //! - `unit SEGMENT ID`, `memory ID`, ids in hexadecimal.
 
-use crate::dmar::{end_of, whole};
+use super::dmar::{end_of, whole};
 use acpi_base::PhysicalRecord;
 use acpi_iommu::{
     BestBlockIter, DeviceEntry, DeviceUnit, IommuResult, Ivrs, IvrsBlock, IvrsBlockIter,

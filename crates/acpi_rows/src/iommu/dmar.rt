@@ -8,7 +8,7 @@
 //! - `scopes N`: as `structures`, of its scopes, each with Type, Flags, Enumeration ID, Start Bus Number and hops;
 //! - `unit DEVICE`, `io_apic ID`, `hpet NUMBER`, `reserved DEVICE`, where `hops` says what a device is.
 
-use crate::hops::device_of;
+use super::hops::device_of;
 use acpi_base::PhysicalRecord;
 use acpi_iommu::{
     Dmar, DmarCalls, DmarFields, DmarStructure, DmarStructureIter, DmarUnits, Drhd, IommuResult,
