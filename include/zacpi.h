@@ -3,10 +3,10 @@
  * or SCI_INT, are those of the document that lays the table out.
  *
  * No call keeps a state, takes memory or calls back, so any number may run at once, each with
- * outputs of its own. All but zacpi_clip_ranges are passed the regions of memory that the caller
- * has mapped, and check them; zacpi_locate and zacpi_list_entries are passed the regions alone, and
- * all others a struct zacpi_source, whose tables they open anew. Each can be called with any
- * numbers in its arguments and over any bytes.
+ * outputs of its own. All but zacpi_clip_ranges and zacpi_write_... are passed the regions of
+ * memory that the caller has mapped, and check them; zacpi_locate and zacpi_list_entries are passed
+ * the regions alone, and all others a struct zacpi_source, whose tables they open anew. Each can be
+ * called with any numbers in its arguments and over any bytes.
  *
  * What the caller keeps: no pointer is null, each is aligned for its type and points to as many
  * items as the length beside it says, all initialised; an output shares no byte with an input or
@@ -18,9 +18,9 @@
  * pointer on x86-64.
  *
  * A call returns ZACPI_OK, with all its outputs written, or the number of the first error, with
- * nothing written but `named`, which zacpi_clip_ranges and zacpi_locate don't have: if the error
- * carries a signature (8 to 13 of enum zacpi_refusal), that is written there. In every other case
- * `named` is as it was.
+ * nothing written but `named`, which zacpi_clip_ranges, zacpi_locate and zacpi_write_... don't
+ * have: if the error carries a signature (8 to 13 of enum zacpi_refusal), that is written there. In
+ * every other case `named` is as it was.
  *
  * A list (zacpi_list_... but for zacpi_list_isa_interrupts, and zacpi_clip_ranges) has `out` and
  * `room`, and writes the first `room` items there, and into `count` how many there are in all,
@@ -176,8 +176,18 @@ enum zacpi_refusal {
                                            * domain */
     ZACPI_NO_DISTANCE = 36,               /* the SLIT has no distance of these two localities
                                            * (section 5.2.17) */
-    ZACPI_UNKNOWN_WIDTH = 37              /* Type and Length of an entry have one byte or two each,
+    ZACPI_UNKNOWN_WIDTH = 37,             /* Type and Length of an entry have one byte or two each,
                                            * and no other number */
+    /* From 38 on: why a table isn't written. */
+    ZACPI_UNKNOWN_CODE = 38,  /* a polarity, trigger mode or LINT pin by a number that isn't one */
+    ZACPI_NO_PROCESSOR = 39,  /* a MADT without a processor */
+    ZACPI_ID_OF_ALL = 40,     /* a processor whose uid or id is 0xffffffff, which stands for all */
+    ZACPI_UID_OF_ALL = 41,    /* an NMI line of the processor whose uid is 0xffffffff */
+    ZACPI_BAD_MATRIX = 42,    /* a SLIT without a distance for each pair of localities */
+    ZACPI_NO_ADDRESS = 43,    /* an RSDP that leads to address 0 */
+    ZACPI_BAD_NAME = 44,      /* OEMID, OEM Table ID or Creator ID isn't UTF-8 */
+    ZACPI_NO_ROOM = 45,       /* the buffer is shorter than the table */
+    ZACPI_TOO_LONG = 46       /* the table has 2^32 bytes or more, which Length can't say */
 };
 
 /* The name of a status, as acpi_view prints it: "MapFailed". "Unknown" for any other number. */
@@ -191,7 +201,8 @@ static inline const char *zacpi_status_name(zacpi_status status) {
         "InvalidMadt InterruptOverrideEntryHasInvalidBus", "InvalidMadt InvalidLocalNmiLine",
         "InvalidMadt MpsIntiInvalidPolarity", "InvalidMadt MpsIntiInvalidTriggerMode", "InvalidMadt WakeupApsTimeout",
         "InvalidMadt InvalidEntryLength", "InvalidSrat InvalidEntryLength", "InvalidSrat InvalidMemoryRange", "NoGic",
-        "NoDomain", "NoDistance", "UnknownWidth"};
+        "NoDomain", "NoDistance", "UnknownWidth", "UnknownCode", "NoProcessor", "IdOfAll", "UidOfAll", "BadMatrix",
+        "NoAddress", "BadName", "NoRoom", "TooLong"};
     return status < sizeof names / sizeof *names ? names[status] : "Unknown";
 }
 
@@ -892,6 +903,81 @@ zacpi_status zacpi_localities(const struct zacpi_source *source, struct zacpi_lo
  * Localities, or if the table ends before the byte of the pair. */
 zacpi_status zacpi_distance(const struct zacpi_source *source, uint64_t from, uint64_t to,
                             uint8_t *out, struct zacpi_signature *named);
+
+/* ---- Tables that are written ----------------------------------------------------------------- */
+
+/* Each call writes one table, from what it is to say, to the front of `out`, which has `room`
+ * bytes, and its length into `length`; the rest of `out` is as it was. The calls above then read
+ * what was passed. The last errors of each are ZACPI_BAD_NAME, ZACPI_NO_ROOM and ZACPI_TOO_LONG, in
+ * this order; those before them stand at the call. */
+
+struct zacpi_table_ids { /* who made the table, as its header says (section 5.2.6). Each name is
+                          * filled up with spaces or zeros */
+    uint8_t oem_id[6];         /* OEMID */
+    uint8_t oem_table_id[8];   /* OEM Table ID */
+    uint32_t oem_revision;     /* OEM Revision */
+    uint8_t creator_id[4];     /* Creator ID */
+    uint32_t creator_revision; /* Creator Revision */
+};
+struct zacpi_madt_contents {
+    const struct zacpi_processor *processors; /* the first is the boot processor: is_boot isn't
+                                               * looked at. Enabled is set unless the state is
+                                               * ZACPI_PROCESSOR_DISABLED, and Online Capable is
+                                               * clear */
+    size_t processors_length;
+    const struct zacpi_io_apic *io_apics;
+    size_t io_apics_length;
+    const struct zacpi_interrupt_source_override *overrides;
+    size_t overrides_length;
+    const struct zacpi_nmi_source *nmi_sources;
+    size_t nmi_sources_length;
+    const struct zacpi_nmi_line *nmi_lines; /* processor_uid isn't looked at if of_all isn't 0 */
+    size_t nmi_lines_length;
+    uint64_t local_apic_address; /* of 2^32 or above it has an entry of its own */
+    uint64_t wakeup_mailbox;     /* MailBoxAddress (section 5.2.12.19); isn't looked at unless
+                                  * has_wakeup_mailbox */
+    uint8_t also_has_8259;       /* PCAT_COMPAT */
+    uint8_t has_wakeup_mailbox;
+};
+
+/* An RSDP of revision 2 that leads to an XSDT (section 5.2.5.3): 36 bytes. Of `ids` it has OEMID
+ * alone. Error before the last ones: ZACPI_NO_ADDRESS if `xsdt` is 0. */
+zacpi_status zacpi_write_rsdp(const struct zacpi_table_ids *ids, uint64_t xsdt, uint8_t *out,
+                              size_t room, size_t *length);
+/* An RSDT, and an XSDT, of these addresses, in order (sections 5.2.7 and 5.2.8). One of 0 is
+ * written too. */
+zacpi_status zacpi_write_rsdt(const struct zacpi_table_ids *ids, const uint32_t *addresses,
+                              size_t addresses_length, uint8_t *out, size_t room, size_t *length);
+zacpi_status zacpi_write_xsdt(const struct zacpi_table_ids *ids, const uint64_t *addresses,
+                              size_t addresses_length, uint8_t *out, size_t room, size_t *length);
+/* A DSDT, and an SSDT, of these bytes of AML (section 5.2.11). By a revision of 1 AML's integers
+ * have 32 bits, by 2 they have 64. */
+zacpi_status zacpi_write_dsdt(const struct zacpi_table_ids *ids, uint8_t revision,
+                              const uint8_t *aml, size_t aml_length, uint8_t *out, size_t room,
+                              size_t *length);
+zacpi_status zacpi_write_ssdt(const struct zacpi_table_ids *ids, uint8_t revision,
+                              const uint8_t *aml, size_t aml_length, uint8_t *out, size_t room,
+                              size_t *length);
+/* A MADT of revision 5 (section 5.2.12). A processor whose uid and id are below 255 is a Processor
+ * Local APIC, any other a Processor Local x2APIC; a line of a uid of 255 or above is a Local x2APIC
+ * NMI, any other a Local APIC NMI. Errors before the last ones: ZACPI_UNKNOWN_CODE,
+ * ZACPI_NO_PROCESSOR, ZACPI_ID_OF_ALL, ZACPI_UID_OF_ALL. */
+zacpi_status zacpi_write_madt(const struct zacpi_table_ids *ids,
+                              const struct zacpi_madt_contents *contents, uint8_t *out,
+                              size_t room, size_t *length);
+/* An MCFG of these regions, in order (PCI Firmware Specification, section 4.1.2). */
+zacpi_status zacpi_write_mcfg(const struct zacpi_table_ids *ids,
+                              const struct zacpi_pci_region *regions, size_t regions_length,
+                              uint8_t *out, size_t room, size_t *length);
+/* An HPET of revision 1 (IA-PC HPET Specification). A page protection above 3 is written as 3. */
+zacpi_status zacpi_write_hpet(const struct zacpi_table_ids *ids,
+                              const struct zacpi_hpet_info *info, uint8_t *out, size_t room,
+                              size_t *length);
+/* A SLIT (section 5.2.17): of `localities` times `localities` distances, those from locality 0
+ * first. Error before the last ones: ZACPI_BAD_MATRIX if there are more or fewer. */
+zacpi_status zacpi_write_slit(const struct zacpi_table_ids *ids, uint64_t localities,
+                              const uint8_t *distances, size_t distances_length, uint8_t *out,
+                              size_t room, size_t *length);
 
 #ifdef __cplusplus
 }

@@ -35,7 +35,7 @@ file == 1 && shown && listed {
     }
     if (/};/) listed = 0
 }
-file == 2 && match($0, /(Refusal|AcpiError|MadtError)::[A-Za-z]+(\(_\))? => [0-9]+/) {
+file == 2 && match($0, /(Refusal|AcpiError|MadtError|WriterError)::[A-Za-z]+(\(_\))? => [0-9]+/) {
     text = substr($0, RSTART, RLENGTH)
     sub(/InvalidSrat/, "Invalid", text); sub(/^MadtError::/, "Madt", text)
     sub(/^.*::/, "", text); sub(/\(_\)/, "", text)
@@ -48,8 +48,9 @@ file == 3 && match($0, /^ +[0-9]+ => [A-Za-z]+/) {
     has($1, text)
 }
 END {
-    # The bindings don't know those that no call answers them: 17, 18 and 30, and 20 as their starts are all known.
-    split("17 18 20 30", n, " ")
+    # The bindings don't know those that no call answers them: 17, 18 and 30, 20 as their starts are all known, and
+    # those of tables that are written.
+    split("17 18 20 30 38 39 40 41 42 43 44 45 46", n, " ")
     for (i in n) unknown[n[i]] = 1
     for (i = 1; i <= most; i++) {
         here = name_of[1, i]

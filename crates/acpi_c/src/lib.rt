@@ -16,3 +16,4 @@ mod missing;
 mod numa;
 mod pci;
 mod tables;
+mod writing;

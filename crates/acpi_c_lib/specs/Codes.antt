@@ -7,6 +7,8 @@ use Rattle.acpi_base.specs.declared.error.MadtError.TheVariants as madt
 use Rattle.acpi_base.specs.declared.table.signature.Signature.{Signature}
 use Rattle.acpi_c_lib.specs.declared.refusal.Refusal.{Refusal}
 use Rattle.acpi_c_lib.specs.declared.refusal.Refusal.TheVariants as refusal
+use Rattle.acpi_writer.specs.declared.error.WriterError.{WriterError}
+use Rattle.acpi_writer.specs.declared.error.WriterError.TheVariants as writer
 
 -- why the entries of a MADT are refused (section 5.2.12)
 abbrev pub madt_code : MadtError → ℕ
@@ -37,6 +39,17 @@ acpi_code acpi.InvalidNamespaceString = 17
 acpi_code acpi.AllocError = 18
 acpi_code (acpi.InvalidMadt e) = madt_code e
 
+-- why a table is not written
+abbrev pub writer_code : WriterError → ℕ
+writer_code writer.NoProcessor = 39
+writer_code writer.IdOfAll = 40
+writer_code writer.UidOfAll = 41
+writer_code writer.BadMatrix = 42
+writer_code writer.NoAddress = 43
+writer_code writer.BadName = 44
+writer_code writer.NoRoom = 45
+writer_code writer.TooLong = 46
+
 -- each is above 0, which stands for success
 abbrev pub code_of : Refusal → ℕ
 code_of refusal.RegionsNotAscending = 1
@@ -53,6 +66,8 @@ code_of refusal.NoGic = 34
 code_of refusal.NoDomain = 35
 code_of refusal.NoDistance = 36
 code_of refusal.UnknownWidth = 37
+code_of refusal.UnknownCode = 38
+code_of (refusal.Writer e) = writer_code e
 code_of (refusal.Acpi e) = acpi_code e
 
 -- ---- the signatures that refusals carry

@@ -20,3 +20,4 @@ pub mod Regions
 pub mod Routes
 pub mod Shown
 pub mod Walked
+pub mod Writing

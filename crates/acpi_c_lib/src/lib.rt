@@ -36,3 +36,5 @@ pub mod regions;
 pub mod routes;
 pub mod tables;
 pub mod walks;
+pub mod writing;
+pub mod written_records;

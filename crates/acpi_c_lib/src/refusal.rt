@@ -4,6 +4,7 @@ ghost use Rattle.acpi_c_lib.specs.Codes as codes;
 
 use acpi::sdt::Signature;
 use acpi::{AcpiError, MadtError};
+use acpi_writer::WriterError;
 
 /// Why a call refuses.
 #[derive(Clone, Copy)]
@@ -36,6 +37,10 @@ pub enum Refusal {
     NoDistance,
     /// The numbers at an entry's front don't have one or two bytes each.
     UnknownWidth,
+    /// A polarity, trigger mode or LINT pin of a record has a number that stands for none.
+    UnknownCode,
+    /// The error is one of a table that is written.
+    Writer(WriterError),
     /// The refusal is one of the crate `acpi`: of memory, an RSDP, a table, a register or the MADT's entries.
     Acpi(AcpiError),
 }
@@ -47,6 +52,16 @@ impl From<AcpiError> for Refusal {
 
     fn from(error: AcpiError) -> Refusal {
         Refusal::Acpi(error)
+    }
+}
+
+impl From<WriterError> for Refusal {
+    ghost use Rattle.acpi_c_lib.specs.declared.refusal.Refusal.TheVariants.{Writer};
+
+    ghost from_gives = { λ error e. e ≡ Writer error };
+
+    fn from(error: WriterError) -> Refusal {
+        Refusal::Writer(error)
     }
 }
 
@@ -70,6 +85,8 @@ impl Refusal {
             Refusal::NoDomain => 35,
             Refusal::NoDistance => 36,
             Refusal::UnknownWidth => 37,
+            Refusal::UnknownCode => 38,
+            Refusal::Writer(error) => writer_code(error),
             Refusal::Acpi(error) => acpi_code(error),
         }
     }
@@ -107,6 +124,22 @@ pub(crate) fn acpi_code(error: AcpiError) -> u32
         AcpiError::InvalidNamespaceString => 17,
         AcpiError::AllocError => 18,
         AcpiError::InvalidMadt(error) => madt_code(error),
+    }
+}
+
+/// The number of an error of a table that is written.
+fn writer_code(error: WriterError) -> u32
+    ensures { result ≡ codes.writer_code error }
+{
+    match error {
+        WriterError::NoProcessor => 39,
+        WriterError::IdOfAll => 40,
+        WriterError::UidOfAll => 41,
+        WriterError::BadMatrix => 42,
+        WriterError::NoAddress => 43,
+        WriterError::BadName => 44,
+        WriterError::NoRoom => 45,
+        WriterError::TooLong => 46,
     }
 }
 

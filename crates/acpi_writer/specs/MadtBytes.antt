@@ -109,24 +109,43 @@ wakeup_entries None = []
 
 -- ---- the table
 
--- all entries, sort by sort
+-- the bytes of the entries of a MADT, sort by sort
+pub record MadtSorts : Type 0 where
+  pub processors : List ℕ
+  pub io_apics : List ℕ
+  pub overrides : List ℕ
+  pub nmi_sources : List ℕ
+  pub nmi_lines : List ℕ
+
+-- all entries, with the address of the local APICs after the processors, and the mailbox last
+abbrev pub madt_entries_of : ℕ → Option ℕ → MadtSorts → List ℕ
+madt_entries_of address mailbox s =
+    s.processors
+    ++ (address_entries address
+    ++ (s.io_apics ++ (s.overrides ++ (s.nmi_sources ++ (s.nmi_lines ++ wakeup_entries mailbox)))))
+
+abbrev pub madt_sorts : MadtContents → MadtSorts
+madt_sorts c = record {
+  processors = flat_map processor_entry c.processors.now;
+  io_apics = flat_map io_apic_entry c.io_apics.now;
+  overrides = flat_map override_entry c.interrupt_source_overrides.now;
+  nmi_sources = flat_map nmi_source_entry c.nmi_sources.now;
+  nmi_lines = flat_map nmi_line_entry c.local_apic_nmi_lines.now;
+}
+
 abbrev pub madt_entries : MadtContents → List ℕ
-madt_entries c =
-    flat_map processor_entry c.processors.now
-    ++ (address_entries c.local_apic_address
-    ++ (flat_map io_apic_entry c.io_apics.now
-    ++ (flat_map override_entry c.interrupt_source_overrides.now
-    ++ (flat_map nmi_source_entry c.nmi_sources.now
-    ++ (flat_map nmi_line_entry c.local_apic_nmi_lines.now
-    ++ wakeup_entries c.wakeup_mailbox)))))
+madt_entries c = madt_entries_of c.local_apic_address c.wakeup_mailbox (madt_sorts c)
 
 -- at 36 Local Interrupt Controller Address, 0 if it has no place; at 40 Flags, of which bit 0 is PCAT_COMPAT
 unfoldable pub madt_fixed : ℕ → Bool → List ℕ
 madt_fixed a pics = spelling 4 (if nat_lt a (2 ^ 32) then a else 0) ++ (bit_of pics ∷ 0 ∷ 0 ∷ 0 ∷ [])
 
 -- after the header
+abbrev pub madt_body_of : ℕ → Bool → Option ℕ → MadtSorts → List ℕ
+madt_body_of address pics mailbox s = madt_fixed address pics ++ madt_entries_of address mailbox s
+
 abbrev pub madt_body : MadtContents → List ℕ
-madt_body c = madt_fixed c.local_apic_address c.also_has_legacy_pics ++ madt_entries c
+madt_body c = madt_body_of c.local_apic_address c.also_has_legacy_pics c.wakeup_mailbox (madt_sorts c)
 
 -- ---- errors
 

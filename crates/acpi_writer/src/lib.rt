@@ -14,7 +14,7 @@ mod numbers;
 pub mod root;
 pub mod rsdp;
 pub mod slit;
-mod spelled;
+pub mod spelled;
 mod table;
 
 pub use aml::{write_dsdt, write_ssdt};

@@ -1,17 +1,17 @@
 //! The Multiple APIC Description Table (MADT, section 5.2.12), from lists of processors and interrupt controllers.
-ghost use Rattle.std.specs.Prelude.{◌≡◌, length, take, IfOk};
-ghost use Rattle.std.specs.List.{list_all};
+ghost use Rattle.std.specs.Prelude.{◌≡◌, flat_map, length, take, IfOk};
+ghost use Rattle.std.specs.List.{All, list_all};
 ghost use Rattle.acpi_base.specs.Steps.{Gives};
 ghost use Rattle.acpi_writer.specs.MadtBytes as bytes;
 ghost use Rattle.acpi_base.specs.declared.table.signature.TheConstants.Signature.{MADT};
-ghost use Rattle.acpi_writer.specs.MadtLaws.{AreFit, IsMadt};
+ghost use Rattle.acpi_writer.specs.MadtLaws.{AreFit, FitsAddress, FitsMailbox, IsMadt};
 ghost use Rattle.acpi_writer.specs.Table.{IsTableOf, Keeps, table_written};
 
 mod entries;
 
 use crate::error::WriterError;
 use crate::ids::TableIds;
-use crate::spelled::{Each, Then};
+use crate::spelled::{Each, Spelled, Then};
 use crate::table::write_table;
 use acpi_base::Signature;
 use acpi_base::model::{InterruptSourceOverride, IoApic, NmiLine, NmiProcessor, NmiSource};
@@ -94,6 +94,67 @@ fn lines_fit(lines: &[NmiLine]) -> bool
     true
 }
 
+/// What a MADT is to say, as in `MadtContents`, by anything that is spelled as its entries.
+#[derive(Clone, Copy)]
+pub struct MadtLists<'a, P, I, O, S, L> {
+    /// The physical address of each processor's local APIC.
+    pub local_apic_address: u64,
+    /// PCAT_COMPAT: the machine has a pair of 8259 controllers too.
+    pub also_has_legacy_pics: bool,
+    /// The processors.
+    pub processors: &'a [P],
+    /// I/O APICs.
+    pub io_apics: &'a [I],
+    /// Interrupt Source Overrides.
+    pub interrupt_source_overrides: &'a [O],
+    /// NMI Sources.
+    pub nmi_sources: &'a [S],
+    /// Local APIC NMIs and Local x2APIC NMIs.
+    pub local_apic_nmi_lines: &'a [L],
+    /// MailBoxAddress, if there is a mailbox.
+    pub wakeup_mailbox: Option<u64>,
+}
+
+/// Writes a MADT of revision 5 of these entries, whatever they say.
+///
+/// Returns, in this order, `BadName`, `NoRoom` and `TooLong`, as `write_madt` does.
+pub fn write_madt_of<P: Spelled, I: Spelled, O: Spelled, S: Spelled, L: Spelled>(
+    out: &mut [u8],
+    ids: &TableIds,
+    lists: &MadtLists<'_, P, I, O, S, L>,
+) -> Result<usize, WriterError>
+    ensures exact { let body = bytes.madt_body_of lists.now.local_apic_address
+            lists.now.also_has_legacy_pics lists.now.wakeup_mailbox (record {
+                processors = flat_map P.spelled lists.now.processors.now;
+                io_apics = flat_map I.spelled lists.now.io_apics.now;
+                overrides = flat_map O.spelled lists.now.interrupt_source_overrides.now;
+                nmi_sources = flat_map S.spelled lists.now.nmi_sources.now;
+                nmi_lines = flat_map L.spelled lists.now.local_apic_nmi_lines.now;
+            }) in
+        Gives (λ n. take n out.new) result (table_written (length out.old) MADT 5 ids.now body)
+        × IfOk result (λ n. IsTableOf MADT 5 ids.now body (take n out.new)) }
+    ensures keeps { Keeps result out.old out.new }
+    ensures fits { IfOk result (λ n. FitsAddress lists.now.local_apic_address
+        × All P.fits lists.now.processors.now × All I.fits lists.now.io_apics.now
+        × All O.fits lists.now.interrupt_source_overrides.now × All S.fits lists.now.nmi_sources.now
+        × FitsMailbox lists.now.wakeup_mailbox) }
+{
+    let fixed = Fixed {
+        local_apic_address: lists.local_apic_address,
+        also_has_legacy_pics: lists.also_has_legacy_pics,
+    };
+    let wakeup = Wakeup(lists.wakeup_mailbox);
+    let nmis = Then(
+        Each(lists.nmi_sources),
+        Then(Each(lists.local_apic_nmi_lines), wakeup),
+    );
+    let wirings = Then(Each(lists.interrupt_source_overrides), nmis);
+    let controllers = Then(Each(lists.io_apics), wirings);
+    let address = AddressOverride(lists.local_apic_address);
+    let entries = Then(Each(lists.processors), Then(address, controllers));
+    write_table(out, Signature::MADT, 5, ids, &Then(fixed, entries))
+}
+
 /// Writes a MADT whose contents may be written.
 ///
 /// Returns, in this order, `BadName`, `NoRoom` and `TooLong`.
@@ -109,20 +170,17 @@ fn write_contents(
         IsTableOf MADT 5 ids.now (bytes.madt_body contents.now) (take n out.new)) }
     ensures fits { IfOk result (λ n. AreFit contents.now) }
 {
-    let fixed = Fixed {
+    let lists = MadtLists {
         local_apic_address: contents.local_apic_address,
         also_has_legacy_pics: contents.also_has_legacy_pics,
+        processors: contents.processors,
+        io_apics: contents.io_apics,
+        interrupt_source_overrides: contents.interrupt_source_overrides,
+        nmi_sources: contents.nmi_sources,
+        local_apic_nmi_lines: contents.local_apic_nmi_lines,
+        wakeup_mailbox: contents.wakeup_mailbox,
     };
-    let wakeup = Wakeup(contents.wakeup_mailbox);
-    let nmis = Then(
-        Each(contents.nmi_sources),
-        Then(Each(contents.local_apic_nmi_lines), wakeup),
-    );
-    let wirings = Then(Each(contents.interrupt_source_overrides), nmis);
-    let controllers = Then(Each(contents.io_apics), wirings);
-    let address = AddressOverride(contents.local_apic_address);
-    let entries = Then(Each(contents.processors), Then(address, controllers));
-    write_table(out, Signature::MADT, 5, ids, &Then(fixed, entries))
+    write_madt_of(out, ids, &lists)
 }
 
 /// Writes a MADT of revision 5 to the front of a slice, and returns how many bytes it has. Its entries stand sort by

@@ -1,9 +1,11 @@
 //! The PCI Express memory mapped configuration space table (MCFG), from its regions.
-ghost use Rattle.std.specs.Prelude.{◌≡◌, length, take, IfOk};
+ghost use Rattle.std.specs.Prelude.{◌≡◌, ◌++◌, flat_map, length, take, IfOk};
+ghost use Rattle.std.specs.List.{All};
 ghost use Rattle.acpi_base.specs.Steps.{Gives};
 ghost use Rattle.acpi_writer.specs.McfgBytes as bytes;
 ghost use Rattle.acpi_writer.specs.McfgLaws.{FitsMcfg, IsMcfg};
-ghost use Rattle.acpi_writer.specs.Table.{Keeps};
+ghost use Rattle.acpi_base.specs.declared.table.signature.TheConstants.Signature.{MCFG};
+ghost use Rattle.acpi_writer.specs.Table.{IsTableOf, Keeps};
 
 use crate::error::WriterError;
 use crate::ids::TableIds;
@@ -53,6 +55,22 @@ impl Spelled for Reserved {
     }
 }
 
+/// Writes an MCFG, as `write_mcfg` does, whose regions are anything that is spelled as one.
+pub fn write_mcfg_of<E: Spelled>(
+    out: &mut [u8],
+    ids: &TableIds,
+    regions: &[E],
+) -> Result<usize, WriterError>
+    ensures exact { Gives (λ n. take n out.new) result
+        (bytes.mcfg_written_of (length out.old) ids.now (flat_map E.spelled regions.now)) }
+    ensures keeps { Keeps result out.old out.new }
+    ensures table { IfOk result (λ n.
+        IsTableOf MCFG 1 ids.now (bytes.mcfg_reserved ++ flat_map E.spelled regions.now) (take n out.new)) }
+    ensures fits { IfOk result (λ n. All E.fits regions.now) }
+{
+    write_table(out, Signature::MCFG, 1, ids, &Then(Reserved, Each(regions)))
+}
+
 /// Writes an MCFG of revision 1 to the front of a slice, and returns how many bytes it has: 44, and 16 for each region.
 /// No region, and one whose last bus is below its first, are written as they are.
 ///
@@ -71,5 +89,5 @@ pub fn write_mcfg(
     // The numbers that were given fit, so that what was given is what is read (`mcfg_is_read`).
     ensures fits { IfOk result (λ n. IsMcfg ids.now regions.now (take n out.new)) }
 {
-    write_table(out, Signature::MCFG, 1, ids, &Then(Reserved, Each(regions)))
+    write_mcfg_of(out, ids, regions)
 }

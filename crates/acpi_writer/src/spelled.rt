@@ -4,7 +4,7 @@ ghost use Rattle.std.specs.List.{All};
 ghost use Rattle.acpi_writer.specs.Spelled.{Measures};
 
 /// Something that has bytes in a table.
-pub(crate) trait Spelled {
+pub trait Spelled {
     // Its bytes.
     ghost spelled: { Self → List ℕ };
 
@@ -23,7 +23,7 @@ pub(crate) trait Spelled {
 
 /// The things of a list, one after the other.
 #[derive(Clone, Copy)]
-pub(crate) struct Each<'a, T>(pub(crate) &'a [T]);
+pub struct Each<'a, T>(pub &'a [T]);
 
 impl<'a, T: Spelled> Spelled for Each<'a, T> {
     ghost spelled = { λ s. flat_map T.spelled s.0.now };
@@ -59,7 +59,7 @@ impl<'a, T: Spelled> Spelled for Each<'a, T> {
 
 /// One thing, and after it another.
 #[derive(Clone, Copy)]
-pub(crate) struct Then<A, B>(pub(crate) A, pub(crate) B);
+pub struct Then<A, B>(pub A, pub B);
 
 impl<A: Spelled, B: Spelled> Spelled for Then<A, B> {
     ghost spelled = { λ s. A.spelled s.0 ++ B.spelled s.1 };
@@ -89,7 +89,7 @@ impl<A: Spelled, B: Spelled> Spelled for Then<A, B> {
 
 /// Bytes, as they are.
 #[derive(Clone, Copy)]
-pub(crate) struct Bytes<'a>(pub(crate) &'a [u8]);
+pub struct Bytes<'a>(pub &'a [u8]);
 
 impl<'a> Spelled for Bytes<'a> {
     ghost spelled = { λ s. s.0.now };

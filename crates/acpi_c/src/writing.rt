@@ -1,0 +1,146 @@
+//! Tables that are written, from what they are to say, into a buffer of the caller's.
+ghost use Rattle.std.specs.Prelude.{◌≡◌, length};
+ghost use Rattle.acpi.specs.declared.root.RootKind.TheVariants.{Rsdt, Xsdt};
+ghost use Rattle.acpi_base.specs.declared.table.signature.TheConstants.Signature.{DSDT, SSDT};
+ghost use Rattle.acpi_c_lib.specs.Writing.{WritesTable, hpet_info_of, ids_of, madt_said, regions_written, writer_refused};
+ghost use Rattle.acpi_writer.specs.HpetBytes.{hpet_written};
+ghost use Rattle.acpi_writer.specs.Root.{root_written};
+ghost use Rattle.acpi_writer.specs.Rsdp.{rsdp_written};
+ghost use Rattle.acpi_writer.specs.Slit.{slit_written};
+ghost use Rattle.acpi_writer.specs.Table.{table_written};
+
+use acpi_c_lib::records::{HpetInfo, PciRegion};
+use acpi_c_lib::writing::{
+    write_dsdt, write_hpet, write_madt, write_regions, write_rsdp, write_rsdt, write_slit,
+    write_ssdt, write_xsdt, written, written_or_not,
+};
+use acpi_c_lib::written_records::{MadtContents, TableIds};
+
+/// An RSDP of revision 2 that leads to an XSDT (section 5.2.5.3).
+#[unsafe(no_mangle)]
+pub extern "C" fn zacpi_write_rsdp(
+    ids: &TableIds,
+    xsdt: u64,
+    out: &mut [u8],
+    count: &mut usize,
+) -> u32
+    ensures { WritesTable result out.old out.new count.old count.new
+        (writer_refused (rsdp_written (length out.old) (ids_of ids.now) xsdt)) }
+{
+    written(write_rsdp(out, &ids.ids(), xsdt), count)
+}
+
+/// An RSDT (section 5.2.7).
+#[unsafe(no_mangle)]
+pub extern "C" fn zacpi_write_rsdt(
+    ids: &TableIds,
+    addresses: &[u32],
+    out: &mut [u8],
+    count: &mut usize,
+) -> u32
+    ensures { WritesTable result out.old out.new count.old count.new
+        (writer_refused (root_written Rsdt (length out.old) (ids_of ids.now) addresses.now)) }
+{
+    written(write_rsdt(out, &ids.ids(), addresses), count)
+}
+
+/// An XSDT (section 5.2.8).
+#[unsafe(no_mangle)]
+pub extern "C" fn zacpi_write_xsdt(
+    ids: &TableIds,
+    addresses: &[u64],
+    out: &mut [u8],
+    count: &mut usize,
+) -> u32
+    ensures { WritesTable result out.old out.new count.old count.new
+        (writer_refused (root_written Xsdt (length out.old) (ids_of ids.now) addresses.now)) }
+{
+    written(write_xsdt(out, &ids.ids(), addresses), count)
+}
+
+/// A DSDT of AML bytes (section 5.2.11.1).
+#[unsafe(no_mangle)]
+pub extern "C" fn zacpi_write_dsdt(
+    ids: &TableIds,
+    revision: u8,
+    aml: &[u8],
+    out: &mut [u8],
+    count: &mut usize,
+) -> u32
+    ensures { WritesTable result out.old out.new count.old count.new
+        (writer_refused (table_written (length out.old) DSDT revision (ids_of ids.now) aml.now)) }
+{
+    written(write_dsdt(out, &ids.ids(), revision, aml), count)
+}
+
+/// An SSDT of AML bytes (section 5.2.11.2).
+#[unsafe(no_mangle)]
+pub extern "C" fn zacpi_write_ssdt(
+    ids: &TableIds,
+    revision: u8,
+    aml: &[u8],
+    out: &mut [u8],
+    count: &mut usize,
+) -> u32
+    ensures { WritesTable result out.old out.new count.old count.new
+        (writer_refused (table_written (length out.old) SSDT revision (ids_of ids.now) aml.now)) }
+{
+    written(write_ssdt(out, &ids.ids(), revision, aml), count)
+}
+
+/// An HPET (IA-PC HPET Specification).
+#[unsafe(no_mangle)]
+pub extern "C" fn zacpi_write_hpet(
+    ids: &TableIds,
+    info: &HpetInfo,
+    out: &mut [u8],
+    count: &mut usize,
+) -> u32
+    ensures { WritesTable result out.old out.new count.old count.new
+        (writer_refused (hpet_written (length out.old) (ids_of ids.now) (hpet_info_of info.now))) }
+{
+    written(write_hpet(out, &ids.ids(), &info.info()), count)
+}
+
+/// An MCFG of regions of PCI configuration space (PCI Firmware Specification, section 4.1.2).
+#[unsafe(no_mangle)]
+pub extern "C" fn zacpi_write_mcfg(
+    ids: &TableIds,
+    regions: &[PciRegion],
+    out: &mut [u8],
+    count: &mut usize,
+) -> u32
+    ensures { WritesTable result out.old out.new count.old count.new
+        (writer_refused (regions_written (length out.old) ids.now regions.now)) }
+{
+    written(write_regions(out, ids, regions), count)
+}
+
+/// A SLIT of the distances between localities (section 5.2.17).
+#[unsafe(no_mangle)]
+pub extern "C" fn zacpi_write_slit(
+    ids: &TableIds,
+    localities: u64,
+    distances: &[u8],
+    out: &mut [u8],
+    count: &mut usize,
+) -> u32
+    ensures { WritesTable result out.old out.new count.old count.new
+        (writer_refused (slit_written (length out.old) (ids_of ids.now) localities distances.now)) }
+{
+    written(write_slit(out, &ids.ids(), localities, distances), count)
+}
+
+/// A MADT of processors and interrupt controllers (section 5.2.12).
+#[unsafe(no_mangle)]
+pub extern "C" fn zacpi_write_madt(
+    ids: &TableIds,
+    contents: &MadtContents<'_>,
+    out: &mut [u8],
+    count: &mut usize,
+) -> u32
+    ensures { WritesTable result out.old out.new count.old count.new
+        (madt_said (length out.old) ids.now contents.now) }
+{
+    written_or_not(write_madt(out, ids, contents), count)
+}

@@ -1,0 +1,182 @@
+-- Tables that are written for C.
+use Rattle.std.specs.Prelude.{◌≡◌, ℕ, ◌≤◌, ◌&&◌, ◌||◌, ◌==◌, Bool, false, not, nat_le, nat_lt, List, flat_map, length, take, drop, Option, Some, None, Result, Ok, Err, if◌then◌else◌}
+use Rattle.std.specs.List.{list_all}
+use Rattle.acpi_base.specs.Steps.{◌>>=◌, holds}
+use Rattle.acpi_base.specs.declared.model.interrupt.InterruptSourceOverride.{InterruptSourceOverride}
+use Rattle.acpi_base.specs.declared.model.interrupt.IoApic.{IoApic}
+use Rattle.acpi_base.specs.declared.model.interrupt.LocalInterruptLine.TheVariants.{Lint0, Lint1}
+use Rattle.acpi_base.specs.declared.model.interrupt.NmiLine.{NmiLine}
+use Rattle.acpi_base.specs.declared.model.interrupt.NmiProcessor.TheVariants as nmi
+use Rattle.acpi_base.specs.declared.model.interrupt.NmiSource.{NmiSource}
+use Rattle.acpi_base.specs.declared.model.interrupt.Polarity.{Polarity}
+use Rattle.acpi_base.specs.declared.model.interrupt.Polarity.TheVariants as polarity
+use Rattle.acpi_base.specs.declared.model.interrupt.TriggerMode.{TriggerMode}
+use Rattle.acpi_base.specs.declared.model.interrupt.TriggerMode.TheVariants as trigger
+use Rattle.acpi_base.specs.declared.table.signature.TheConstants.Signature.{MADT}
+use Rattle.acpi_base.specs.declared.tables.mcfg.McfgEntry.{McfgEntry}
+use Rattle.acpi.specs.declared.hpet.HpetInfo.{HpetInfo}
+use Rattle.acpi.specs.declared.hpet.PageProtection.{PageProtection}
+use Rattle.acpi.specs.declared.hpet.PageProtection.TheVariants as protection
+use Rattle.acpi_c_lib.specs.Codes.{code_of}
+use Rattle.acpi_c_lib.specs.Records as records
+use Rattle.acpi_c_lib.specs.declared.records.PciRegion.{PciRegion}
+use Rattle.acpi_c_lib.specs.declared.refusal.Refusal.{Refusal}
+use Rattle.acpi_c_lib.specs.declared.refusal.Refusal.TheVariants.{UnknownCode, Writer}
+use Rattle.acpi_c_lib.specs.declared.written_records.MadtContents.{MadtContents}
+use Rattle.acpi_c_lib.specs.declared.written_records.TableIds as ids
+use Rattle.acpi_writer.specs.MadtBytes.{MadtSorts, io_apic_entry, is_single, madt_body_of, names_one, nmi_line_entry, nmi_source_entry, override_entry, processor_entry}
+use Rattle.acpi_writer.specs.McfgBytes.{mcfg_entry, mcfg_written_of}
+use Rattle.acpi_writer.specs.Table.{table_written}
+use Rattle.acpi_writer.specs.declared.error.WriterError.{WriterError}
+use Rattle.acpi_writer.specs.declared.error.WriterError.TheVariants.{IdOfAll, NoProcessor, UidOfAll}
+use Rattle.acpi_writer.specs.declared.ids.TableIds.{TableIds}
+use Rattle.acpi_writer.specs.declared.madt.MadtProcessor.{MadtProcessor}
+
+-- an error of the writer's is one of the call's
+abbrev pub writer_refused : {A : Type 0} → Result A WriterError → Result A Refusal
+writer_refused (Ok x) = Ok x
+writer_refused (Err e) = Err (Writer e)
+
+-- 0, with the length that was said; or the error's number, and nothing written
+abbrev pub SaysLength : ℕ → ℕ → ℕ → Result ℕ Refusal → Type 0
+SaysLength status old new (Ok n) = (status ≡ 0) × (new ≡ n)
+SaysLength status old new (Err e) = (status ≡ code_of e) × (new ≡ old)
+
+-- the buffer from its first n bytes on is as it was
+abbrev pub IsKept : ℕ → List ℕ → List ℕ → Type 0
+IsKept n old new = (n ≤ length old) × (drop n new ≡ drop n old) × (length new ≡ length old)
+
+-- after an error the whole buffer is
+abbrev pub IsKeptOr : Result ℕ Refusal → List ℕ → List ℕ → Type 0
+IsKeptOr (Ok n) old new = IsKept n old new
+IsKeptOr (Err e) old new = new ≡ old
+
+-- 0, with the table at the front of the buffer, its length, and the rest of the buffer unchanged; or the error's number,
+-- and nothing written
+abbrev pub WritesTable : ℕ → List ℕ → List ℕ → ℕ → ℕ → Result (List ℕ) Refusal → Type 0
+WritesTable status old new old_length new_length (Ok table) =
+    (status ≡ 0) × (take new_length new ≡ table) × IsKept new_length old new
+WritesTable status old new old_length new_length (Err e) =
+    (status ≡ code_of e) × (new_length ≡ old_length) × (new ≡ old)
+
+-- ---- records, as the writer has them
+
+abbrev pub ids_of : ids.TableIds → TableIds
+ids_of i = record {
+  oem_id = i.oem_id;
+  oem_table_id = i.oem_table_id;
+  oem_revision = i.oem_revision;
+  creator_id = i.creator_id;
+  creator_revision = i.creator_revision;
+}
+
+abbrev pub protection_of : ℕ → PageProtection
+protection_of code =
+    if code == 0 then protection.None
+    else if code == 1 then protection.Protected4K
+    else if code == 2 then protection.Protected64K
+    else protection.Other
+
+abbrev pub hpet_info_of : records.HpetInfo → HpetInfo
+hpet_info_of i = record {
+  event_timer_block_id = i.event_timer_block_id;
+  base_address = i.base_address;
+  hpet_number = i.number;
+  clock_tick_unit = i.clock_tick_unit;
+  page_protection = protection_of i.page_protection;
+}
+
+abbrev pub region_of : PciRegion → McfgEntry
+region_of r = record {
+  base_address = r.base_address;
+  pci_segment_group = r.segment_group;
+  bus_number_start = r.first_bus;
+  bus_number_end = r.last_bus;
+}
+
+-- the MCFG of regions
+abbrev pub regions_written : ℕ → ids.TableIds → List PciRegion → Result (List ℕ) WriterError
+regions_written room i rs = mcfg_written_of room (ids_of i) (flat_map (λ r. mcfg_entry (region_of r)) rs)
+
+-- ---- the MADT (section 5.2.12)
+
+-- Enabled is set unless the state is 0, and Online Capable is clear
+abbrev pub processor_of : records.Processor → MadtProcessor
+processor_of p = record {
+  processor_uid = p.uid;
+  local_apic_id = p.local_apic_id;
+  is_enabled = not (p.state == 0);
+  is_online_capable = false;
+}
+
+abbrev pub io_apic_of : records.IoApic → IoApic
+io_apic_of x = record {
+  id = x.id;
+  address = x.address;
+  global_system_interrupt_base = x.global_system_interrupt_base;
+}
+
+-- Polarity and Trigger Mode: 0 as the bus has it, 1 and 3
+abbrev pub is_wiring : ℕ → Bool
+is_wiring code = code == 0 || (code == 1 || code == 3)
+
+abbrev pub polarity_of : ℕ → Polarity
+polarity_of code = if code == 1 then polarity.ActiveHigh else if code == 3 then polarity.ActiveLow else polarity.SameAsBus
+
+abbrev pub trigger_of : ℕ → TriggerMode
+trigger_of code = if code == 1 then trigger.Edge else if code == 3 then trigger.Level else trigger.SameAsBus
+
+abbrev pub override_of : records.InterruptSourceOverride → InterruptSourceOverride
+override_of x = record {
+  isa_source = x.isa_source;
+  global_system_interrupt = x.global_system_interrupt;
+  polarity = polarity_of x.polarity;
+  trigger_mode = trigger_of x.trigger;
+}
+
+abbrev pub nmi_source_of : records.NmiSource → NmiSource
+nmi_source_of x = record {
+  global_system_interrupt = x.global_system_interrupt;
+  polarity = polarity_of x.polarity;
+  trigger_mode = trigger_of x.trigger;
+}
+
+abbrev pub nmi_line_of : records.NmiLine → NmiLine
+nmi_line_of x = record {
+  processor = if x.of_all == 0 then nmi.ProcessorUid x.processor_uid else nmi.All;
+  line = if x.lint == 0 then Lint0 else Lint1;
+}
+
+-- each polarity, trigger mode and LINT pin is one that there is
+abbrev pub has_codes : MadtContents → Bool
+has_codes c =
+    list_all (λ x. is_wiring x.polarity && is_wiring x.trigger) c.overrides.now
+    && (list_all (λ x. is_wiring x.polarity && is_wiring x.trigger) c.nmi_sources.now
+    && list_all (λ x. nat_le x.lint 1) c.nmi_lines.now)
+
+abbrev pub sorts_of : MadtContents → MadtSorts
+sorts_of c = record {
+  processors = flat_map (λ p. processor_entry (processor_of p)) c.processors.now;
+  io_apics = flat_map (λ x. io_apic_entry (io_apic_of x)) c.io_apics.now;
+  overrides = flat_map (λ x. override_entry (override_of x)) c.overrides.now;
+  nmi_sources = flat_map (λ x. nmi_source_entry (nmi_source_of x)) c.nmi_sources.now;
+  nmi_lines = flat_map (λ x. nmi_line_entry (nmi_line_of x)) c.nmi_lines.now;
+}
+
+abbrev pub mailbox_of : MadtContents → Option ℕ
+mailbox_of c = if c.has_wakeup_mailbox == 0 then None else Some c.wakeup_mailbox
+
+-- the checks of what a MADT is to say
+unfoldable pub check_madt : MadtContents → Result (Unit {0}) Refusal
+check_madt c = do
+  _ ← holds (has_codes c) UnknownCode
+  _ ← holds (nat_lt 0 (length c.processors.now)) (Writer NoProcessor)
+  _ ← holds (list_all (λ p. is_single (processor_of p)) c.processors.now) (Writer IdOfAll)
+  holds (list_all (λ x. names_one (nmi_line_of x).processor) c.nmi_lines.now) (Writer UidOfAll)
+
+-- the MADT of records, in so much room, or the first error
+abbrev pub madt_said : ℕ → ids.TableIds → MadtContents → Result (List ℕ) Refusal
+madt_said room i c = do
+  _ ← check_madt c
+  writer_refused (table_written room MADT 5 (ids_of i)
+      (madt_body_of c.local_apic_address (not (c.also_has_8259 == 0)) (mailbox_of c) (sorts_of c)))

@@ -1,0 +1,124 @@
+//! Tables that are written for C, from its records, as `acpi_writer` writes them.
+ghost use Rattle.std.specs.Prelude.{◌≡◌, length, take};
+ghost use Rattle.acpi_base.specs.Steps.{Gives};
+ghost use Rattle.acpi_c_lib.specs.Writing as writing;
+ghost use Rattle.acpi_writer.specs.Table.{Keeps};
+
+mod madt;
+
+use crate::records::{self, PciRegion};
+use crate::refusal::Refusal;
+use crate::written_records;
+use acpi::HpetInfo;
+use acpi::hpet::PageProtection;
+use acpi_base::mcfg::McfgEntry;
+use acpi_writer::mcfg::write_mcfg_of;
+use acpi_writer::spelled::Spelled;
+use acpi_writer::{TableIds, WriterError};
+pub use acpi_writer::{
+    write_dsdt, write_hpet, write_rsdp, write_rsdt, write_slit, write_ssdt, write_xsdt,
+};
+pub use madt::write_madt;
+
+impl written_records::TableIds {
+    /// The ids, as the writer has them.
+    pub fn ids(&self) -> TableIds
+        ensures { result ≡ writing.ids_of self.now }
+    {
+        TableIds {
+            oem_id: self.oem_id,
+            oem_table_id: self.oem_table_id,
+            oem_revision: self.oem_revision,
+            creator_id: self.creator_id,
+            creator_revision: self.creator_revision,
+        }
+    }
+}
+
+/// The number that C gets: 0, with the length of the table, or that of the error.
+pub fn written(said: Result<usize, WriterError>, length: &mut usize) -> u32
+    ensures { writing.SaysLength result length.old length.new (writing.writer_refused said) }
+{
+    match said {
+        Ok(count) => written_or_not(Ok(count), length),
+        Err(error) => written_or_not(Err(Refusal::Writer(error)), length),
+    }
+}
+
+/// The number that C gets: 0, with the length of the table, or that of the error.
+pub fn written_or_not(said: Result<usize, Refusal>, length: &mut usize) -> u32
+    ensures { writing.SaysLength result length.old length.new said }
+{
+    match said {
+        Ok(count) => {
+            *length = count;
+            0
+        }
+        Err(refusal) => refusal.code(),
+    }
+}
+
+impl records::HpetInfo {
+    /// The block of event timers, as the writer has it. A protection of 3 and above is a reserved one.
+    pub fn info(&self) -> HpetInfo
+        ensures { result ≡ writing.hpet_info_of self.now }
+    {
+        HpetInfo {
+            event_timer_block_id: self.event_timer_block_id,
+            base_address: self.base_address,
+            hpet_number: self.number,
+            clock_tick_unit: self.clock_tick_unit,
+            page_protection: match self.page_protection {
+                0 => PageProtection::None,
+                1 => PageProtection::Protected4K,
+                2 => PageProtection::Protected64K,
+                _ => PageProtection::Other,
+            },
+        }
+    }
+}
+
+impl PciRegion {
+    /// The region, as the writer has it.
+    fn region(&self) -> McfgEntry
+        ensures { result ≡ writing.region_of self.now }
+    {
+        McfgEntry {
+            base_address: self.base_address,
+            pci_segment_group: self.segment_group,
+            bus_number_start: self.first_bus,
+            bus_number_end: self.last_bus,
+        }
+    }
+}
+
+impl Spelled for PciRegion {
+    ghost use Rattle.acpi_c_lib.specs.Writing.{region_of};
+    ghost use Rattle.acpi_writer.specs.McfgBytes.{mcfg_entry};
+    ghost use Rattle.acpi_writer.specs.McfgLaws.{FitsMcfg};
+
+    ghost spelled = { λ r. mcfg_entry (region_of r) };
+
+    ghost fits = { λ r. FitsMcfg (region_of r) };
+
+    fn measure(&self, room: usize) -> Option<usize> {
+        self.region().measure(room)
+    }
+
+    fn put(&self, out: &mut [u8]) {
+        self.region().put(out);
+    }
+}
+
+/// Writes an MCFG of regions of PCI configuration space.
+pub fn write_regions(
+    out: &mut [u8],
+    ids: &written_records::TableIds,
+    regions: &[PciRegion],
+) -> Result<usize, WriterError>
+    ensures exact { Gives (λ n. take n out.new) result
+        (writing.regions_written (length out.old) ids.now regions.now) }
+    ensures keeps { Keeps result out.old out.new }
+{
+    write_mcfg_of(out, &ids.ids(), regions)
+}

@@ -1,0 +1,305 @@
+//! The MADT that is written for C (section 5.2.12), from its records of processors and interrupt controllers.
+ghost use Rattle.std.specs.Prelude.{◌≡◌, ◌&&◌, nat_le, length, take};
+ghost use Rattle.std.specs.List.{list_all};
+ghost use Rattle.acpi_base.specs.Steps.{Gives};
+ghost use Rattle.acpi_c_lib.specs.Writing as writing;
+ghost use Rattle.acpi_c_lib.specs.Writing.{IsKeptOr};
+ghost use Rattle.acpi_writer.specs.MadtBytes.{is_single, names_one};
+
+use crate::interrupt_records::{InterruptSourceOverride, IoApic, NmiLine, NmiSource, Processor};
+use crate::refusal::Refusal;
+use crate::written_records::{MadtContents, TableIds};
+use acpi_base::model;
+use acpi_base::model::{LocalInterruptLine, NmiProcessor, Polarity, TriggerMode};
+use acpi_writer::madt::{MadtLists, write_madt_of};
+use acpi_writer::spelled::Spelled;
+use acpi_writer::{MadtProcessor, WriterError};
+
+/// Whether a number is one of a polarity, and of a trigger mode.
+fn is_wiring(code: u8) -> bool
+    ensures { result ≡ writing.is_wiring code }
+{
+    code == 0 || code == 1 || code == 3
+}
+
+fn polarity(code: u8) -> Polarity
+    ensures { result ≡ writing.polarity_of code }
+{
+    match code {
+        1 => Polarity::ActiveHigh,
+        3 => Polarity::ActiveLow,
+        _ => Polarity::SameAsBus,
+    }
+}
+
+fn trigger(code: u8) -> TriggerMode
+    ensures { result ≡ writing.trigger_of code }
+{
+    match code {
+        1 => TriggerMode::Edge,
+        3 => TriggerMode::Level,
+        _ => TriggerMode::SameAsBus,
+    }
+}
+
+impl Processor {
+    /// The processor, as the writer has it.
+    fn listed(&self) -> MadtProcessor
+        ensures { result ≡ writing.processor_of self.now }
+    {
+        MadtProcessor {
+            processor_uid: self.uid,
+            local_apic_id: self.local_apic_id,
+            is_enabled: self.state != 0,
+            is_online_capable: false,
+        }
+    }
+}
+
+impl IoApic {
+    /// The I/O APIC, as the writer has it.
+    fn listed(&self) -> model::IoApic
+        ensures { result ≡ writing.io_apic_of self.now }
+    {
+        model::IoApic {
+            id: self.id,
+            address: self.address,
+            global_system_interrupt_base: self.global_system_interrupt_base,
+        }
+    }
+}
+
+impl InterruptSourceOverride {
+    /// The override, as the writer has it.
+    fn listed(&self) -> model::InterruptSourceOverride
+        ensures { result ≡ writing.override_of self.now }
+    {
+        model::InterruptSourceOverride {
+            isa_source: self.isa_source,
+            global_system_interrupt: self.global_system_interrupt,
+            polarity: polarity(self.polarity),
+            trigger_mode: trigger(self.trigger),
+        }
+    }
+}
+
+impl NmiSource {
+    /// The source, as the writer has it.
+    fn listed(&self) -> model::NmiSource
+        ensures { result ≡ writing.nmi_source_of self.now }
+    {
+        model::NmiSource {
+            global_system_interrupt: self.global_system_interrupt,
+            polarity: polarity(self.polarity),
+            trigger_mode: trigger(self.trigger),
+        }
+    }
+}
+
+impl NmiLine {
+    /// The line, as the writer has it.
+    fn listed(&self) -> model::NmiLine
+        ensures { result ≡ writing.nmi_line_of self.now }
+    {
+        model::NmiLine {
+            processor: if self.of_all == 0 {
+                NmiProcessor::ProcessorUid(self.processor_uid)
+            } else {
+                NmiProcessor::All
+            },
+            line: if self.lint == 0 {
+                LocalInterruptLine::Lint0
+            } else {
+                LocalInterruptLine::Lint1
+            },
+        }
+    }
+}
+
+impl Spelled for Processor {
+    ghost use Rattle.acpi_c_lib.specs.Writing.{processor_of};
+    ghost use Rattle.acpi_writer.specs.MadtBytes.{processor_entry};
+    ghost use Rattle.acpi_writer.specs.MadtLaws.{FitsProcessor};
+
+    ghost spelled = { λ p. processor_entry (processor_of p) };
+
+    ghost fits = { λ p. FitsProcessor (processor_of p) };
+
+    fn measure(&self, room: usize) -> Option<usize> {
+        self.listed().measure(room)
+    }
+
+    fn put(&self, out: &mut [u8]) {
+        self.listed().put(out);
+    }
+}
+
+impl Spelled for IoApic {
+    ghost use Rattle.acpi_c_lib.specs.Writing.{io_apic_of};
+    ghost use Rattle.acpi_writer.specs.MadtBytes.{io_apic_entry};
+    ghost use Rattle.acpi_writer.specs.MadtLaws.{FitsIoApic};
+
+    ghost spelled = { λ x. io_apic_entry (io_apic_of x) };
+
+    ghost fits = { λ x. FitsIoApic (io_apic_of x) };
+
+    fn measure(&self, room: usize) -> Option<usize> {
+        self.listed().measure(room)
+    }
+
+    fn put(&self, out: &mut [u8]) {
+        self.listed().put(out);
+    }
+}
+
+impl Spelled for InterruptSourceOverride {
+    ghost use Rattle.acpi_c_lib.specs.Writing.{override_of};
+    ghost use Rattle.acpi_writer.specs.MadtBytes.{override_entry};
+    ghost use Rattle.acpi_writer.specs.MadtLaws.{FitsOverride};
+
+    ghost spelled = { λ x. override_entry (override_of x) };
+
+    ghost fits = { λ x. FitsOverride (override_of x) };
+
+    fn measure(&self, room: usize) -> Option<usize> {
+        self.listed().measure(room)
+    }
+
+    fn put(&self, out: &mut [u8]) {
+        self.listed().put(out);
+    }
+}
+
+impl Spelled for NmiSource {
+    ghost use Rattle.acpi_c_lib.specs.Writing.{nmi_source_of};
+    ghost use Rattle.acpi_writer.specs.MadtBytes.{nmi_source_entry};
+    ghost use Rattle.acpi_writer.specs.MadtLaws.{FitsNmiSource};
+
+    ghost spelled = { λ x. nmi_source_entry (nmi_source_of x) };
+
+    ghost fits = { λ x. FitsNmiSource (nmi_source_of x) };
+
+    fn measure(&self, room: usize) -> Option<usize> {
+        self.listed().measure(room)
+    }
+
+    fn put(&self, out: &mut [u8]) {
+        self.listed().put(out);
+    }
+}
+
+impl Spelled for NmiLine {
+    ghost use Rattle.acpi_c_lib.specs.Writing.{nmi_line_of};
+    ghost use Rattle.acpi_writer.specs.MadtBytes.{nmi_line_entry};
+
+    ghost spelled = { λ x. nmi_line_entry (nmi_line_of x) };
+
+    ghost fits = { λ _. Unit {0} };
+
+    fn measure(&self, room: usize) -> Option<usize> {
+        self.listed().measure(room)
+    }
+
+    fn put(&self, out: &mut [u8]) {
+        self.listed().put(out);
+    }
+}
+
+fn overrides_have_codes(overrides: &[InterruptSourceOverride]) -> bool
+    ensures { result ≡ list_all (λ x. writing.is_wiring x.polarity && writing.is_wiring x.trigger) overrides.now }
+{
+    overrides
+        .iter()
+        .all(|x| is_wiring(x.polarity) && is_wiring(x.trigger))
+}
+
+fn sources_have_codes(sources: &[NmiSource]) -> bool
+    ensures { result ≡ list_all (λ x. writing.is_wiring x.polarity && writing.is_wiring x.trigger) sources.now }
+{
+    sources
+        .iter()
+        .all(|x| is_wiring(x.polarity) && is_wiring(x.trigger))
+}
+
+fn lines_have_codes(lines: &[NmiLine]) -> bool
+    ensures { result ≡ list_all (λ x. nat_le x.lint 1) lines.now }
+{
+    lines.iter().all(|x| x.lint <= 1)
+}
+
+/// Whether each polarity, trigger mode and LINT pin is one that there is.
+fn has_codes(contents: &MadtContents<'_>) -> bool
+    ensures { result ≡ writing.has_codes contents.now }
+{
+    overrides_have_codes(contents.overrides)
+        && sources_have_codes(contents.nmi_sources)
+        && lines_have_codes(contents.nmi_lines)
+}
+
+/// Whether no processor has a number that stands for all.
+fn are_single(processors: &[Processor]) -> bool
+    ensures { result ≡ list_all (λ p. is_single (writing.processor_of p)) processors.now }
+{
+    processors
+        .iter()
+        .all(|p| p.uid < 0xffffffff && p.local_apic_id < 0xffffffff)
+}
+
+/// Whether no line is of the uid that stands for all processors.
+fn name_one(lines: &[NmiLine]) -> bool
+    ensures { result ≡ list_all (λ x. names_one (writing.nmi_line_of x).processor) lines.now }
+{
+    lines
+        .iter()
+        .all(|x| x.of_all != 0 || x.processor_uid < 0xffffffff)
+}
+
+/// Checks what a MADT is to say: the first error of `madt_said` but those of any table.
+#[tactic(auto, unfolding(crate::specs::Writing::check_madt))]
+fn check(contents: &MadtContents<'_>) -> Result<(), Refusal>
+    ensures { result ≡ writing.check_madt contents.now }
+{
+    if !has_codes(contents) {
+        return Err(Refusal::UnknownCode);
+    }
+    if contents.processors.is_empty() {
+        return Err(Refusal::Writer(WriterError::NoProcessor));
+    }
+    if !are_single(contents.processors) {
+        return Err(Refusal::Writer(WriterError::IdOfAll));
+    }
+    if !name_one(contents.nmi_lines) {
+        return Err(Refusal::Writer(WriterError::UidOfAll));
+    }
+    Ok(())
+}
+
+/// Writes a MADT of records.
+///
+/// Returns `UnknownCode`, and then the errors of `acpi_writer::write_madt`, in its order.
+pub fn write_madt(
+    out: &mut [u8],
+    ids: &TableIds,
+    contents: &MadtContents<'_>,
+) -> Result<usize, Refusal>
+    ensures exact { Gives (λ n. take n out.new) result
+        (writing.madt_said (length out.old) ids.now contents.now) }
+    ensures keeps { IsKeptOr result out.old out.new }
+{
+    check(contents)?;
+    let lists = MadtLists {
+        local_apic_address: contents.local_apic_address,
+        also_has_legacy_pics: contents.also_has_8259 != 0,
+        processors: contents.processors,
+        io_apics: contents.io_apics,
+        interrupt_source_overrides: contents.overrides,
+        nmi_sources: contents.nmi_sources,
+        local_apic_nmi_lines: contents.nmi_lines,
+        wakeup_mailbox: if contents.has_wakeup_mailbox == 0 {
+            None
+        } else {
+            Some(contents.wakeup_mailbox)
+        },
+    };
+    Ok(write_madt_of(out, &ids.ids(), &lists)?)
+}

@@ -1,0 +1,197 @@
+/* Rows of the calls that write a table, with each byte that they have to write, worked out by hand from the layouts.
+ * For rows.c. */
+#ifndef ROWS_WRITTEN_H
+#define ROWS_WRITTEN_H
+
+static const struct zacpi_table_ids makers = {{'G', 'U', 'E', 'S', 'T', ' '}, {'M', 'A', 'C', 'H', 'I', 'N', 'E', ' '},
+                                              0x01020304, {'Z', 'U', 'G', 'Z'}, 0x05060708};
+/* The names are made of bytes that aren't UTF-8, one after the other. */
+static const struct zacpi_table_ids no_oem = {{'G', 'U', 'E', 'S', 'T', 0xff}, {'M'}, 0, {'Z'}, 0};
+static const struct zacpi_table_ids no_table_id = {{'G'}, {0x80}, 0, {'Z'}, 0};
+static const struct zacpi_table_ids no_creator = {{'G'}, {'M'}, 0, {'Z', 0xc3, 'Z', 'Z'}, 0};
+static const struct zacpi_table_ids *ids = &makers;
+
+/* Signature, Length, Revision, Checksum; OEMID, OEM Table ID; OEM Revision, Creator ID, Creator Revision. */
+#define HEAD(a, b, c, d, length, revision, checksum) a, b, c, d, length, 0, 0, 0, revision, checksum, \
+    'G', 'U', 'E', 'S', 'T', ' ', 'M', 'A', 'C', 'H', 'I', 'N', 'E', ' ', \
+    4, 3, 2, 1, 'Z', 'U', 'G', 'Z', 8, 7, 6, 5
+
+/* ---- What is passed ------------------------------------------------------------------------------------- */
+
+static const uint32_t addresses_32[] = {0x7fe01000, 0};
+static const uint64_t addresses_64[] = {0x7fe01000, 0x0102030405060708};
+static const uint8_t code[] = {0xa4, 0x01, 0x02};
+static const uint8_t distances[] = {10, 20, 21, 10};
+static const struct zacpi_pci_region buses[] = {{0xb0000000, 0, 0, 255}, {0x2000000000, 0x102, 16, 31}};
+static const struct zacpi_hpet_info timers_block = {0x1fed00000, 0x8086a201, 0x1234, 2, 1};
+static const struct zacpi_hpet_info reserved_protection = {0xfed00000, 0x8086a201, 0x80, 2, 9};
+/* The second one's ids are too large for a Processor Local APIC; the third one's uid alone, and the fourth one's id. */
+static const struct zacpi_processor listed[] = {{7, 2, ZACPI_PROCESSOR_RUNNING, 1},
+                                                {255, 0x1234, ZACPI_PROCESSOR_DISABLED, 0},
+                                                {255, 254, ZACPI_PROCESSOR_WAITING, 0},
+                                                {254, 255, ZACPI_PROCESSOR_WAITING, 0},
+                                                {254, 254, ZACPI_PROCESSOR_WAITING, 1}};
+static const struct zacpi_io_apic controllers[] = {{0xfec00000, 24, 3}};
+static const struct zacpi_interrupt_source_override wirings[] = {
+    {20, 9, ZACPI_POLARITY_LOW, ZACPI_TRIGGER_LEVEL}, {0x01020304, 0, ZACPI_POLARITY_HIGH, ZACPI_TRIGGER_BUS}};
+static const struct zacpi_nmi_source sources_of_nmis[] = {{21, ZACPI_POLARITY_HIGH, ZACPI_TRIGGER_EDGE}};
+static const struct zacpi_nmi_line lines_of_nmis[] = {{9, 1, 1}, {255, 0, 0}, {254, 0, 1}};
+static const struct zacpi_processor of_all_uids[] = {{0xffffffff, 0, ZACPI_PROCESSOR_RUNNING, 1}};
+static const struct zacpi_processor of_all_ids[] = {{0, 0xffffffff, ZACPI_PROCESSOR_RUNNING, 1}};
+static const struct zacpi_interrupt_source_override no_polarity[] = {{20, 9, 2, ZACPI_TRIGGER_LEVEL}};
+static const struct zacpi_interrupt_source_override no_trigger[] = {{20, 9, ZACPI_POLARITY_LOW, 4}};
+static const struct zacpi_nmi_source no_source_trigger[] = {{21, ZACPI_POLARITY_LOW, 2}};
+static const struct zacpi_nmi_source no_source_polarity[] = {{21, 4, ZACPI_TRIGGER_BUS}};
+static const struct zacpi_nmi_line no_lint[] = {{9, 0, 2}};
+static const struct zacpi_nmi_line line_of_all[] = {{0xffffffff, 0, 1}};
+
+#define LISTED(items) items, sizeof(items) / sizeof *(items)
+#define NONE(items) items, 0
+#define MADT(name, processors, io_apics, overrides, sources, lines, ...) \
+    static const struct zacpi_madt_contents name = {processors, io_apics, overrides, sources, lines, __VA_ARGS__};
+MADT(whole_madt, LISTED(listed), LISTED(controllers), LISTED(wirings), LISTED(sources_of_nmis), LISTED(lines_of_nmis),
+     0x1fee00000, 0x7000, 1, 1)
+MADT(small_madt, listed, 1, NONE(controllers), NONE(wirings), NONE(sources_of_nmis), NONE(lines_of_nmis), 0xfee00000,
+     0x7000, 0, 0)
+MADT(no_madt_processor, NONE(listed), NONE(controllers), NONE(wirings), NONE(sources_of_nmis), NONE(lines_of_nmis),
+     0xfee00000, 0, 0, 0)
+MADT(madt_of_uid, LISTED(of_all_uids), NONE(controllers), NONE(wirings), NONE(sources_of_nmis), LISTED(line_of_all),
+     0xfee00000, 0, 0, 0)
+MADT(madt_of_id, LISTED(of_all_ids), NONE(controllers), NONE(wirings), NONE(sources_of_nmis), NONE(lines_of_nmis),
+     0xfee00000, 0, 0, 0)
+MADT(madt_of_line, listed, 1, NONE(controllers), NONE(wirings), NONE(sources_of_nmis), LISTED(line_of_all),
+     0xfee00000, 0, 0, 0)
+MADT(madt_no_polarity, NONE(listed), NONE(controllers), LISTED(no_polarity), NONE(sources_of_nmis),
+     NONE(lines_of_nmis), 0xfee00000, 0, 0, 0)
+MADT(madt_no_trigger, listed, 1, NONE(controllers), LISTED(no_trigger), NONE(sources_of_nmis), NONE(lines_of_nmis),
+     0xfee00000, 0, 0, 0)
+MADT(madt_no_source_trigger, listed, 1, NONE(controllers), NONE(wirings), LISTED(no_source_trigger),
+     NONE(lines_of_nmis), 0xfee00000, 0, 0, 0)
+MADT(madt_no_source_polarity, listed, 1, NONE(controllers), NONE(wirings), LISTED(no_source_polarity),
+     NONE(lines_of_nmis), 0xfee00000, 0, 0, 0)
+MADT(madt_no_lint, listed, 1, NONE(controllers), NONE(wirings), NONE(sources_of_nmis), LISTED(no_lint),
+     0xfee00000, 0, 0, 0)
+
+/* ---- What is written ------------------------------------------------------------------------------------ */
+
+/* Checksum: the first 20 bytes sum to 0; Extended Checksum: all 36 do. */
+static const uint8_t rsdp_bytes[] = {'R', 'S', 'D', ' ', 'P', 'T', 'R', ' ', 0x37, 'G', 'U', 'E', 'S', 'T', ' ', 2,
+    0, 0, 0, 0, 36, 0, 0, 0, /* RsdtAddress, Length */
+    8, 7, 6, 5, 4, 3, 2, 1, 0xb8, 0, 0, 0}; /* XsdtAddress, Extended Checksum */
+static const uint8_t rsdt_bytes[] = {HEAD('R', 'S', 'D', 'T', 44, 1, 0xf6), 0, 0x10, 0xe0, 0x7f, 0, 0, 0, 0};
+static const uint8_t xsdt_bytes[] = {HEAD('X', 'S', 'D', 'T', 52, 1, 0xc4), 0, 0x10, 0xe0, 0x7f, 0, 0, 0, 0,
+    8, 7, 6, 5, 4, 3, 2, 1};
+static const uint8_t dsdt_bytes[] = {HEAD('D', 'S', 'D', 'T', 39, 2, 0xd0), 0xa4, 1, 2};
+static const uint8_t ssdt_bytes[] = {HEAD('S', 'S', 'D', 'T', 36, 1, 0x6c)};
+static const uint8_t mcfg_bytes[] = {HEAD('M', 'C', 'F', 'G', 76, 1, 0x64), 0, 0, 0, 0, 0, 0, 0, 0,
+    0, 0, 0, 0xb0, 0, 0, 0, 0, 0, 0, 0, 255, 0, 0, 0, 0, 0, 0, 0, 0, 0x20, 0, 0, 0, 2, 1, 16, 31, 0, 0, 0, 0};
+static const uint8_t no_region_bytes[] = {HEAD('M', 'C', 'F', 'G', 44, 1, 0x85), 0, 0, 0, 0, 0, 0, 0, 0};
+/* Event Timer Block ID; BASE_ADDRESS; HPET Number, Main Counter Minimum Clock_tick, Page Protection. */
+static const uint8_t hpet_bytes[] = {HEAD('H', 'P', 'E', 'T', 56, 1, 0xa4), 1, 0xa2, 0x86, 0x80,
+    0, 0, 0, 0, 0, 0, 0xd0, 0xfe, 1, 0, 0, 0, 2, 0x34, 0x12, 1};
+static const uint8_t reserved_hpet_bytes[] = {HEAD('H', 'P', 'E', 'T', 56, 1, 0x69), 1, 0xa2, 0x86, 0x80,
+    0, 0, 0, 0, 0, 0, 0xd0, 0xfe, 0, 0, 0, 0, 2, 0x80, 0, 3};
+static const uint8_t slit_bytes[] = {HEAD('S', 'L', 'I', 'T', 48, 1, 0x23), 2, 0, 0, 0, 0, 0, 0, 0, 10, 20, 21, 10};
+static const uint8_t madt_bytes[] = {HEAD('A', 'P', 'I', 'C', 200, 5, 0x3f), 0, 0, 0, 0, 1, 0, 0, 0,
+    0, 8, 7, 2, 1, 0, 0, 0,                                  /* Processor Local APIC: uid 7, id 2 */
+    9, 16, 0, 0, 0x34, 0x12, 0, 0, 0, 0, 0, 0, 255, 0, 0, 0, /* Processor Local x2APIC: disabled */
+    9, 16, 0, 0, 254, 0, 0, 0, 1, 0, 0, 0, 255, 0, 0, 0,
+    9, 16, 0, 0, 255, 0, 0, 0, 1, 0, 0, 0, 254, 0, 0, 0,
+    0, 8, 254, 254, 1, 0, 0, 0,
+    5, 12, 0, 0, 0, 0, 0xe0, 0xfe, 1, 0, 0, 0,               /* Local APIC Address Override */
+    1, 12, 3, 0, 0, 0, 0xc0, 0xfe, 24, 0, 0, 0,              /* I/O APIC */
+    2, 10, 0, 9, 20, 0, 0, 0, 15, 0,                         /* Interrupt Source Override: active low, level */
+    2, 10, 0, 0, 4, 3, 2, 1, 1, 0,                           /* active high, as the bus */
+    3, 8, 5, 0, 21, 0, 0, 0,                                 /* NMI Source: active high, edge */
+    4, 6, 255, 0, 0, 1,                                      /* Local APIC NMI: all processors, LINT1 */
+    10, 12, 0, 0, 255, 0, 0, 0, 0, 0, 0, 0,                  /* Local x2APIC NMI: uid 255, LINT0 */
+    4, 6, 254, 0, 0, 1,                                      /* Local APIC NMI: uid 254, LINT1 */
+    16, 16, 0, 0, 0, 0, 0, 0, 0, 0x70, 0, 0, 0, 0, 0, 0};    /* Multiprocessor Wakeup */
+static const uint8_t small_madt_bytes[] = {HEAD('A', 'P', 'I', 'C', 52, 5, 0x89), 0, 0, 0xe0, 0xfe, 0, 0, 0, 0,
+    0, 8, 7, 2, 1, 0, 0, 0};
+
+/* ---- Rows ----------------------------------------------------------------------------------------------- */
+
+#define WRITE(verb, call, ...) \
+    static zacpi_status verb(uint8_t *to, size_t room, size_t *length) \
+    { return zacpi_write_##call(ids, __VA_ARGS__, to, room, length); }
+WRITE(an_rsdp, rsdp, 0x0102030405060708)
+WRITE(an_rsdp_to_0, rsdp, 0)
+WRITE(an_rsdt, rsdt, LISTED(addresses_32))
+WRITE(an_xsdt, xsdt, LISTED(addresses_64))
+WRITE(a_dsdt, dsdt, 2, LISTED(code))
+WRITE(an_ssdt, ssdt, 1, NONE(code))
+WRITE(an_mcfg, mcfg, LISTED(buses))
+WRITE(an_mcfg_of_none, mcfg, NONE(buses))
+WRITE(an_hpet, hpet, &timers_block)
+WRITE(a_reserved_hpet, hpet, &reserved_protection)
+WRITE(a_slit, slit, 2, LISTED(distances))
+WRITE(a_slit_of_3, slit, 3, LISTED(distances))
+WRITE(a_slit_of_many, slit, 0x8000000000000002, LISTED(distances))
+WRITE(a_madt, madt, &whole_madt)
+WRITE(a_small_madt, madt, &small_madt)
+WRITE(no_processor, madt, &no_madt_processor)
+WRITE(all_uids, madt, &madt_of_uid)
+WRITE(all_ids, madt, &madt_of_id)
+WRITE(all_lines, madt, &madt_of_line)
+WRITE(bad_polarity, madt, &madt_no_polarity)
+WRITE(bad_trigger, madt, &madt_no_trigger)
+WRITE(bad_source_trigger, madt, &madt_no_source_trigger)
+WRITE(bad_source_polarity, madt, &madt_no_source_polarity)
+WRITE(bad_lint, madt, &madt_no_lint)
+
+/* What is written, or the error, whatever room there is, also if a name isn't UTF-8: it comes before those of a
+ * table. */
+static const struct written_row {
+    const char *name;
+    zacpi_status (*run)(uint8_t *to, size_t room, size_t *length);
+    const uint8_t *bytes;
+    size_t length;
+    zacpi_status status;
+} written[] = {
+#define WRITTEN(verb, bytes) {#verb, verb, bytes, sizeof bytes, ZACPI_OK}
+#define NOT_WRITTEN(verb, status) {#verb, verb, NULL, 0, status}
+    WRITTEN(an_rsdp, rsdp_bytes), WRITTEN(an_rsdt, rsdt_bytes), WRITTEN(an_xsdt, xsdt_bytes),
+    WRITTEN(a_dsdt, dsdt_bytes), WRITTEN(an_ssdt, ssdt_bytes), WRITTEN(an_mcfg, mcfg_bytes),
+    WRITTEN(an_mcfg_of_none, no_region_bytes), WRITTEN(an_hpet, hpet_bytes),
+    WRITTEN(a_reserved_hpet, reserved_hpet_bytes), WRITTEN(a_slit, slit_bytes), WRITTEN(a_madt, madt_bytes),
+    WRITTEN(a_small_madt, small_madt_bytes),
+    NOT_WRITTEN(an_rsdp_to_0, ZACPI_NO_ADDRESS), NOT_WRITTEN(a_slit_of_3, ZACPI_BAD_MATRIX),
+    NOT_WRITTEN(a_slit_of_many, ZACPI_BAD_MATRIX), /* 2^63 + 2, whose square is 4 modulo 2^64 */
+    NOT_WRITTEN(no_processor, ZACPI_NO_PROCESSOR), NOT_WRITTEN(all_uids, ZACPI_ID_OF_ALL),
+    NOT_WRITTEN(all_ids, ZACPI_ID_OF_ALL), NOT_WRITTEN(all_lines, ZACPI_UID_OF_ALL),
+    NOT_WRITTEN(bad_polarity, ZACPI_UNKNOWN_CODE), NOT_WRITTEN(bad_trigger, ZACPI_UNKNOWN_CODE),
+    NOT_WRITTEN(bad_source_trigger, ZACPI_UNKNOWN_CODE), NOT_WRITTEN(bad_source_polarity, ZACPI_UNKNOWN_CODE),
+    NOT_WRITTEN(bad_lint, ZACPI_UNKNOWN_CODE)};
+
+static void check_written(const struct written_row *row, size_t room, zacpi_status status) {
+    size_t length = UNCOUNTED, i, size = status ? 0 : row->length;
+    zacpi_status got;
+    int holds;
+    memset(out.bytes, PAINT, sizeof out.bytes);
+    got = row->run(out.bytes, room, &length);
+    holds = got == status && length == (status ? UNCOUNTED : row->length)
+        && (!size || !memcmp(out.bytes, row->bytes, size));
+    for (i = size; i < sizeof out.bytes; i++) holds = holds && out.bytes[i] == PAINT;
+    result(holds, row->name, (int)(row - written), room, got);
+}
+
+/* With no room, one byte less than a table needs, just enough, and room to spare; then with each name made of bytes
+ * that aren't UTF-8. */
+static void check_all_written(void) {
+    static const struct zacpi_table_ids *const not_texts[] = {&no_oem, &no_table_id, &no_creator};
+    size_t i, k;
+    for (i = 0; i < sizeof written / sizeof *written; i++) {
+        const struct written_row *row = written + i;
+        const size_t rooms[] = {0, row->length ? row->length - 1 : 35, row->length, row->length + 40};
+        for (k = 0; k < 4; k++)
+            check_written(row, rooms[k], row->status ? row->status : k < 2 ? (zacpi_status)ZACPI_NO_ROOM : ZACPI_OK);
+        for (k = 0; k < 3; k++) {
+            ids = not_texts[k];
+            check_written(row, row->length, row->status ? row->status : (zacpi_status)ZACPI_BAD_NAME);
+            check_written(row, 0, row->status ? row->status : (zacpi_status)ZACPI_BAD_NAME);
+            ids = &makers;
+        }
+    }
+}
+#endif
