@@ -13,3 +13,4 @@ pub mod Plain
 pub mod RsdpRead
 pub mod IdsRead
 pub mod SlitRead
+pub mod SratRead

@@ -11,3 +11,5 @@ pub mod Root
 pub mod Aml
 pub mod Rsdp
 pub mod Slit
+pub mod Srat
+pub mod SratLaws

@@ -19,4 +19,6 @@ pub enum WriterError {
     NoRoom,
     /// The table has 2^32 bytes or more, which its field Length can't say.
     TooLong,
+    /// A range of memory that has no byte, or ends above 2^64 - 1.
+    BadRange,
 }

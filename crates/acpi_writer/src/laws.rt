@@ -7,6 +7,7 @@ ghost use Rattle.acpi_writer.specs.McfgLaws.{McfgIsRead, McfgIsValid};
 ghost use Rattle.acpi_writer.specs.Root.{RootIsRead, RootIsValid};
 ghost use Rattle.acpi_writer.specs.Rsdp.{RsdpIsRead};
 ghost use Rattle.acpi_writer.specs.Slit.{SlitIsRead, SlitIsValid};
+ghost use Rattle.acpi_writer.specs.SratLaws.{SratIsRead, SratIsValid};
 ghost use Rattle.acpi_writer.specs.Table.{IdsAreRead};
 
 use std::alloc::Allocator;
@@ -105,4 +106,15 @@ pub fn slit_is_read()
 /// A SLIT that is written passes each check of a table, and `write_image` takes it.
 pub fn slit_is_valid()
     ensures { SlitIsValid }
+{}
+
+/// The ranges of memory by a SRAT that is written are exactly those that were given, in order, and a processor is in the
+/// domain that was given for its id or uid, in the last one of several, and in none if none was given.
+pub fn srat_is_read()
+    ensures { SratIsRead }
+{}
+
+/// A SRAT that is written passes each check of a table, and `write_image` takes it.
+pub fn srat_is_valid()
+    ensures { SratIsValid }
 {}

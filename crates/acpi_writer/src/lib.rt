@@ -15,6 +15,7 @@ pub mod root;
 pub mod rsdp;
 pub mod slit;
 pub mod spelled;
+pub mod srat;
 mod table;
 
 pub use aml::{write_dsdt, write_ssdt};
@@ -26,3 +27,4 @@ pub use mcfg::write_mcfg;
 pub use root::{write_rsdt, write_xsdt};
 pub use rsdp::write_rsdp;
 pub use slit::write_slit;
+pub use srat::{ApicDomain, GiccDomain, SratContents, write_srat};

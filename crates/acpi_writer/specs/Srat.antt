@@ -1,0 +1,92 @@
+-- The bytes of a SRAT that says what is given (ACPI 6.4, section 5.2.16).
+use Rattle.std.specs.Prelude.{ℕ, ◌+◌, ◌*◌, ◌/◌, ◌%◌, ◌==◌, ◌&&◌, Bool, not, if◌then◌else◌}
+use Rattle.std.specs.Prelude.{List, [], ◌∷◌, ◌++◌, flat_map, nat_lt, Result}
+use Rattle.std.specs.List.{list_all}
+use Rattle.acpi_base.specs.Bytes.{spelling}
+use Rattle.acpi_base.specs.Steps.{◌>>=◌, holds}
+use Rattle.acpi_base.specs.declared.table.signature.TheConstants.Signature.{SRAT}
+use Rattle.acpi_numa.specs.Affinities.{ends_below}
+use Rattle.acpi_numa.specs.declared.srat.affinities.MemoryRange.{MemoryRange}
+use Rattle.acpi_writer.specs.Table.{bit_of, table_written}
+use Rattle.acpi_writer.specs.declared.error.WriterError.{WriterError}
+use Rattle.acpi_writer.specs.declared.error.WriterError.TheVariants.{BadRange, IdOfAll}
+use Rattle.acpi_writer.specs.declared.ids.TableIds.{TableIds}
+use Rattle.acpi_writer.specs.declared.srat.ApicDomain.{ApicDomain}
+use Rattle.acpi_writer.specs.declared.srat.GiccDomain.{GiccDomain}
+use Rattle.acpi_writer.specs.declared.srat.SratContents.{SratContents}
+
+-- ---- entries, each of which has bit 0 of Flags set: Enabled
+
+-- Processor Local APIC/SAPIC Affinity (section 5.2.16.1): at 0 Type, 1 Length, 2 Proximity Domain [7:0], 3 APIC ID, 4
+-- Flags, 8 Local SAPIC EID, 9 Proximity Domain [31:8], 12 Clock Domain
+unfoldable pub local_apic_entry : ApicDomain → List ℕ
+local_apic_entry p =
+    0 ∷ 16 ∷ p.domain % 256 ∷ p.local_apic_id ∷ 1 ∷ 0 ∷ 0 ∷ 0 ∷ 0
+    ∷ (spelling 3 (p.domain / 256) ++ (0 ∷ 0 ∷ 0 ∷ 0 ∷ []))
+
+-- Processor Local x2APIC Affinity (section 5.2.16.3): at 0 Type, 1 Length, 2 Reserved, 4 Proximity Domain, 8 X2APIC ID,
+-- 12 Flags, 16 Clock Domain, 20 Reserved
+unfoldable pub local_x2apic_entry : ApicDomain → List ℕ
+local_x2apic_entry p =
+    2 ∷ 24 ∷ 0 ∷ 0 ∷ (spelling 4 p.domain ++ (spelling 4 p.local_apic_id
+    ++ (1 ∷ 0 ∷ 0 ∷ 0 ∷ 0 ∷ 0 ∷ 0 ∷ 0 ∷ 0 ∷ 0 ∷ 0 ∷ 0 ∷ [])))
+
+-- the id has a place in the first, in which 255 stands for all
+abbrev pub is_small : ApicDomain → Bool
+is_small p = nat_lt p.local_apic_id 255
+
+unfoldable pub apic_entry : ApicDomain → List ℕ
+apic_entry p = if is_small p then local_apic_entry p else local_x2apic_entry p
+
+-- GICC Affinity (section 5.2.16.4): at 0 Type, 1 Length, 2 Proximity Domain, 6 ACPI Processor UID, 10 Flags, 14 Clock
+-- Domain
+unfoldable pub gicc_entry : GiccDomain → List ℕ
+gicc_entry p =
+    3 ∷ 18 ∷ (spelling 4 p.domain ++ (spelling 4 p.processor_uid ++ (1 ∷ 0 ∷ 0 ∷ 0 ∷ 0 ∷ 0 ∷ 0 ∷ 0 ∷ [])))
+
+-- Flags: bit 0 is Enabled, bit 1 Hot Pluggable, bit 2 NonVolatile
+abbrev pub range_flags : MemoryRange → ℕ
+range_flags r = 1 + (2 * bit_of r.is_hot_pluggable + 4 * bit_of r.is_non_volatile)
+
+-- Memory Affinity (section 5.2.16.2): at 0 Type, 1 Length, 2 Proximity Domain, 6 Reserved, 8 Base Address Low and High,
+-- 16 Length Low and High, 24 Reserved, 28 Flags, 32 Reserved
+unfoldable pub memory_entry : MemoryRange → List ℕ
+memory_entry r =
+    1 ∷ 40 ∷ (spelling 4 r.domain ++ (0 ∷ 0 ∷ (spelling 8 r.base ++ (spelling 8 r.length
+    ++ (0 ∷ 0 ∷ 0 ∷ 0 ∷ range_flags r ∷ 0 ∷ 0 ∷ 0 ∷ 0 ∷ 0 ∷ 0 ∷ 0 ∷ 0 ∷ 0 ∷ 0 ∷ 0 ∷ [])))))
+
+-- ---- the table
+
+-- at 36 Reserved, which is 1, and at 40 Reserved
+abbrev pub srat_reserved : List ℕ
+srat_reserved = 1 ∷ 0 ∷ 0 ∷ 0 ∷ 0 ∷ 0 ∷ 0 ∷ 0 ∷ 0 ∷ 0 ∷ 0 ∷ 0 ∷ []
+
+-- all entries, sort by sort
+abbrev pub srat_entries : SratContents → List ℕ
+srat_entries c =
+    flat_map apic_entry c.apics.now ++ (flat_map gicc_entry c.giccs.now ++ flat_map memory_entry c.ranges.now)
+
+-- after the header
+abbrev pub srat_body : SratContents → List ℕ
+srat_body c = srat_reserved ++ srat_entries c
+
+-- ---- errors
+
+-- the id, or the uid, isn't the one that stands for all
+abbrev pub is_one_apic : ApicDomain → Bool
+is_one_apic p = not (p.local_apic_id == 0xffffffff)
+
+abbrev pub is_one_gicc : GiccDomain → Bool
+is_one_gicc p = not (p.processor_uid == 0xffffffff)
+
+-- the range has a byte, and ends below 2^64
+abbrev pub is_range : MemoryRange → Bool
+is_range r = nat_lt 0 r.length && ends_below r
+
+-- the table, of revision 3, in so much room, or the first error
+unfoldable pub srat_written : ℕ → TableIds → SratContents → Result (List ℕ) WriterError
+srat_written room ids c = do
+  _ ← holds (list_all is_one_apic c.apics.now) IdOfAll
+  _ ← holds (list_all is_one_gicc c.giccs.now) IdOfAll
+  _ ← holds (list_all is_range c.ranges.now) BadRange
+  table_written room SRAT 3 ids (srat_body c)

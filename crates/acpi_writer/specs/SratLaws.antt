@@ -1,0 +1,65 @@
+-- What holds of a SRAT that is written: what was given is what is read.
+use Rattle.std.specs.Prelude.{◌≡◌, ℕ, ◌^◌, ◌<◌, ◌==◌, true, List, Option, None, Some, Ok, if◌then◌else◌}
+use Rattle.std.specs.List.{All, filter_map, last_or, list_all}
+use Rattle.acpi_base.specs.declared.table.signature.TheConstants.Signature.{SRAT}
+use Rattle.acpi_numa.specs.Affinities.{affinities_of}
+use Rattle.acpi_numa.specs.Srat.{domain_of_apic, domain_of_processor}
+use Rattle.acpi_numa.specs.declared.srat.affinities.MemoryRange.{MemoryRange}
+use Rattle.acpi_writer.specs.Srat.{is_range, srat_body}
+use Rattle.acpi_writer.specs.Table.{IsTableOf, IsValid}
+use Rattle.acpi_writer.specs.declared.ids.TableIds.{TableIds}
+use Rattle.acpi_writer.specs.declared.srat.ApicDomain.{ApicDomain}
+use Rattle.acpi_writer.specs.declared.srat.GiccDomain.{GiccDomain}
+use Rattle.acpi_writer.specs.declared.srat.SratContents.{SratContents}
+
+-- ---- which numbers have a place in an entry
+
+pub record FitsApic (p : ApicDomain) : Type 0 where
+  pub id : p.local_apic_id < 2 ^ 32
+  pub domain : p.domain < 2 ^ 32
+
+pub record FitsGicc (p : GiccDomain) : Type 0 where
+  pub uid : p.processor_uid < 2 ^ 32
+  pub domain : p.domain < 2 ^ 32
+
+pub record FitsRange (r : MemoryRange) : Type 0 where
+  pub domain : r.domain < 2 ^ 32
+  pub base : r.base < 2 ^ 64
+  pub length : r.length < 2 ^ 64
+
+pub record AreFit (c : SratContents) : Type 0 where
+  pub apics : All FitsApic c.apics.now
+  pub giccs : All FitsGicc c.giccs.now
+  pub ranges : All FitsRange c.ranges.now
+
+-- the bytes are the table of contents whose numbers have a place, and whose ranges are some
+pub record IsSrat (ids : TableIds) (c : SratContents) (table : List ℕ) : Type 0 where
+  pub written : IsTableOf SRAT 3 ids (srat_body c) table
+  pub fit : AreFit c
+  pub ranges : list_all is_range c.ranges.now ≡ true
+
+-- ---- what is to be read
+
+-- the domain that is given last for a processor with this id, or with this uid
+abbrev pub apic_given : List ApicDomain → ℕ → Option ℕ
+apic_given ps id = last_or None (filter_map (λ p. if p.local_apic_id == id then Some p.domain else None) ps)
+
+abbrev pub gicc_given : List GiccDomain → ℕ → Option ℕ
+gicc_given ps uid = last_or None (filter_map (λ p. if p.processor_uid == uid then Some p.domain else None) ps)
+
+-- the table's ranges are exactly those that were given, in order, and a processor is in the domain that was given for
+-- it, or in none if none was
+pub record SaysDomains (c : SratContents) (table : List ℕ) : Type 0 where
+  pub ranges : affinities_of table ≡ Ok c.ranges.now
+  pub apics : (id : ℕ) → domain_of_apic table id ≡ apic_given c.apics.now id
+  pub giccs : (uid : ℕ) → domain_of_processor table uid ≡ gicc_given c.giccs.now uid
+
+-- ---- laws
+
+-- such a table is valid
+abbrev pub SratIsValid : Type 0
+SratIsValid = (ids : TableIds) (c : SratContents) (table : List ℕ) → IsSrat ids c table → IsValid SRAT table
+
+-- and says exactly what was given
+abbrev pub SratIsRead : Type 0
+SratIsRead = (ids : TableIds) (c : SratContents) (table : List ℕ) → IsSrat ids c table → SaysDomains c table

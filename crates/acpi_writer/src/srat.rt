@@ -1,0 +1,248 @@
+//! The System Resource Affinity Table (SRAT, section 5.2.16), from the domains of processors and of ranges of memory.
+ghost use Rattle.std.specs.Prelude.{◌≡◌, length, take, IfOk};
+ghost use Rattle.std.specs.List.{list_all};
+ghost use Rattle.acpi_base.specs.Steps.{Gives};
+ghost use Rattle.acpi_base.specs.declared.table.signature.TheConstants.Signature.{SRAT};
+ghost use Rattle.acpi_writer.specs.Srat as srat;
+ghost use Rattle.acpi_writer.specs.SratLaws as laws;
+ghost use Rattle.acpi_writer.specs.Table.{IsTableOf, Keeps, table_written};
+
+use crate::error::WriterError;
+use crate::ids::TableIds;
+use crate::numbers::{bit_of, dword, qword};
+use crate::spelled::{Each, Spelled, Then};
+use crate::table::write_table;
+use acpi_base::Signature;
+use acpi_numa::MemoryRange;
+
+/// A processor with a local APIC, and the proximity domain that it is in (sections 5.2.16.1 and 5.2.16.3).
+#[derive(Clone, Copy, Debug)]
+pub struct ApicDomain {
+    /// APIC ID or X2APIC ID.
+    pub local_apic_id: u32,
+    /// Proximity Domain.
+    pub domain: u32,
+}
+
+/// A processor with an interface to the GIC, and the proximity domain that it is in (section 5.2.16.4).
+#[derive(Clone, Copy, Debug)]
+pub struct GiccDomain {
+    /// ACPI Processor UID.
+    pub processor_uid: u32,
+    /// Proximity Domain.
+    pub domain: u32,
+}
+
+/// What a SRAT is to say, in the words of `Domains` and `MemoryAffinities`, as which it is read.
+#[derive(Clone, Copy)]
+pub struct SratContents<'a> {
+    /// The domains of processors with a local APIC.
+    pub apics: &'a [ApicDomain],
+    /// The domains of processors with an interface to the GIC.
+    pub giccs: &'a [GiccDomain],
+    /// The ranges of memory, with their domains.
+    pub ranges: &'a [MemoryRange],
+}
+
+/// Whether the id has a place in a Processor Local APIC/SAPIC Affinity.
+fn is_small(apic: &ApicDomain) -> bool
+    ensures { result ≡ srat.is_small apic.now }
+{
+    apic.local_apic_id < 255
+}
+
+impl Spelled for ApicDomain {
+    ghost spelled = { srat.apic_entry };
+
+    ghost fits = { laws.FitsApic };
+
+    #[tactic(auto, unfolding(crate::specs::Srat::apic_entry, crate::specs::Srat::local_apic_entry, crate::specs::Srat::local_x2apic_entry, acpi_base::specs::Bytes::spelling))]
+    fn measure(&self, room: usize) -> Option<usize> {
+        let size = if is_small(self) { 16 } else { 24 };
+        let _id = self.local_apic_id;
+        let _domain = self.domain;
+        if room < size { None } else { Some(size) }
+    }
+
+    #[tactic(auto, unfolding(crate::specs::Srat::apic_entry, crate::specs::Srat::local_apic_entry, crate::specs::Srat::local_x2apic_entry, acpi_base::specs::Bytes::spelling))]
+    fn put(&self, out: &mut [u8]) {
+        let [a, b, c, d] = dword(self.domain);
+        if is_small(self) {
+            let id = self.local_apic_id as u8;
+            out.copy_from_slice(&[0, 16, a, id, 1, 0, 0, 0, 0, b, c, d, 0, 0, 0, 0]);
+        } else {
+            let [i, j, k, l] = dword(self.local_apic_id);
+            out.copy_from_slice(&[
+                2, 24, 0, 0, a, b, c, d, i, j, k, l, 1, 0, 0, 0, 0, 0, 0, 0, 0, 0, 0, 0,
+            ]);
+        }
+    }
+}
+
+impl Spelled for GiccDomain {
+    ghost spelled = { srat.gicc_entry };
+
+    ghost fits = { laws.FitsGicc };
+
+    #[tactic(auto, unfolding(crate::specs::Srat::gicc_entry, acpi_base::specs::Bytes::spelling))]
+    fn measure(&self, room: usize) -> Option<usize> {
+        let _uid = self.processor_uid;
+        let _domain = self.domain;
+        if room < 18 { None } else { Some(18) }
+    }
+
+    #[tactic(auto, unfolding(crate::specs::Srat::gicc_entry, acpi_base::specs::Bytes::spelling))]
+    fn put(&self, out: &mut [u8]) {
+        let [a, b, c, d] = dword(self.domain);
+        let [i, j, k, l] = dword(self.processor_uid);
+        out.copy_from_slice(&[3, 18, a, b, c, d, i, j, k, l, 1, 0, 0, 0, 0, 0, 0, 0]);
+    }
+}
+
+/// The flags of a range.
+fn range_flags(range: &MemoryRange) -> u8
+    ensures { result ≡ srat.range_flags range.now }
+{
+    1 + (2 * bit_of(range.is_hot_pluggable) + 4 * bit_of(range.is_non_volatile))
+}
+
+impl Spelled for MemoryRange {
+    ghost spelled = { srat.memory_entry };
+
+    ghost fits = { laws.FitsRange };
+
+    #[tactic(auto, unfolding(crate::specs::Srat::memory_entry, acpi_base::specs::Bytes::spelling))]
+    fn measure(&self, room: usize) -> Option<usize> {
+        let _domain = self.domain;
+        let _base = self.base;
+        let _length = self.length;
+        if room < 40 { None } else { Some(40) }
+    }
+
+    #[tactic(auto, unfolding(crate::specs::Srat::memory_entry, acpi_base::specs::Bytes::spelling))]
+    fn put(&self, out: &mut [u8]) {
+        let [u, v, w, x] = dword(self.domain);
+        let [a, b, c, d, e, f, g, h] = qword(self.base);
+        let [i, j, k, l, m, n, o, p] = qword(self.length);
+        let flags = range_flags(self);
+        out.copy_from_slice(&[
+            1, 40, u, v, w, x, 0, 0, a, b, c, d, e, f, g, h, i, j, k, l, m, n, o, p, 0, 0, 0, 0,
+            flags, 0, 0, 0, 0, 0, 0, 0, 0, 0, 0, 0,
+        ]);
+    }
+}
+
+/// The twelve bytes of a SRAT between its header and its entries.
+#[derive(Clone, Copy)]
+struct Reserved;
+
+impl Spelled for Reserved {
+    ghost spelled = { λ _. srat.srat_reserved };
+
+    ghost fits = { λ _. Unit {0} };
+
+    fn measure(&self, room: usize) -> Option<usize> {
+        if room < 12 { None } else { Some(12) }
+    }
+
+    fn put(&self, out: &mut [u8]) {
+        out.copy_from_slice(&[1, 0, 0, 0, 0, 0, 0, 0, 0, 0, 0, 0]);
+    }
+}
+
+/// Whether no processor has the id that stands for all.
+fn apics_fit(apics: &[ApicDomain]) -> bool
+    ensures { result ≡ list_all srat.is_one_apic apics.now }
+{
+    for apic in apics {
+        if apic.local_apic_id == 0xffffffff {
+            return false;
+        }
+    }
+    true
+}
+
+/// Whether no processor has the uid that stands for all.
+fn giccs_fit(giccs: &[GiccDomain]) -> bool
+    ensures { result ≡ list_all srat.is_one_gicc giccs.now }
+{
+    for gicc in giccs {
+        if gicc.processor_uid == 0xffffffff {
+            return false;
+        }
+    }
+    true
+}
+
+/// Whether a range has a byte, and ends below 2^64.
+fn is_range(range: &MemoryRange) -> bool
+    ensures { result ≡ srat.is_range range.now }
+{
+    range.length > 0 && range.length <= u64::MAX - range.base
+}
+
+/// Whether each range does.
+fn ranges_fit(ranges: &[MemoryRange]) -> bool
+    ensures { result ≡ list_all srat.is_range ranges.now }
+{
+    for range in ranges {
+        if !is_range(range) {
+            return false;
+        }
+    }
+    true
+}
+
+/// Writes a SRAT whose contents may be written.
+///
+/// Returns, in this order, `BadName`, `NoRoom` and `TooLong`.
+fn write_contents(
+    out: &mut [u8],
+    ids: &TableIds,
+    contents: &SratContents<'_>,
+) -> Result<usize, WriterError>
+    ensures exact { Gives (λ n. take n out.new) result
+        (table_written (length out.old) SRAT 3 ids.now (srat.srat_body contents.now)) }
+    ensures keeps { Keeps result out.old out.new }
+    ensures table { IfOk result (λ n.
+        IsTableOf SRAT 3 ids.now (srat.srat_body contents.now) (take n out.new)) }
+    ensures fits { IfOk result (λ n. laws.AreFit contents.now) }
+{
+    let others = Then(Each(contents.giccs), Each(contents.ranges));
+    let entries = Then(Each(contents.apics), others);
+    write_table(out, Signature::SRAT, 3, ids, &Then(Reserved, entries))
+}
+
+/// Writes a SRAT of revision 3 to the front of a slice, and returns how many bytes it has: 48, and those of its entries,
+/// which stand sort by sort, in the order of the fields, and are all enabled. A processor with a local APIC has 16 if its
+/// id is below 255, as a Processor Local APIC/SAPIC Affinity, otherwise 24, as a Processor Local x2APIC Affinity; one
+/// with an interface to the GIC has 18, and a range of memory 40. Each Clock Domain is 0. Of two entries of one processor
+/// the later one is the one that is read; ranges may overlap.
+///
+/// Returns, in this order, `IdOfAll` if a processor's id or uid is 0xffffffff, `BadRange` if a range has no byte or ends
+/// above 2^64 - 1, `BadName` if a name of the ids is not valid UTF-8, `NoRoom` if the slice is shorter than the table,
+/// and `TooLong` if the table has 2^32 bytes or more.
+pub fn write_srat(
+    out: &mut [u8],
+    ids: &TableIds,
+    contents: &SratContents<'_>,
+) -> Result<usize, WriterError>
+    // The bytes, or the first error, are those that are defined.
+    ensures exact { Gives (λ n. take n out.new) result
+        (srat.srat_written (length out.old) ids.now contents.now) }
+    // What stands after the table is unchanged, and after an error the whole slice is.
+    ensures keeps { Keeps result out.old out.new }
+    // The numbers that were given fit, so that what was given is what is read (`srat_is_read`).
+    ensures fits { IfOk result (λ n. laws.IsSrat ids.now contents.now (take n out.new)) }
+{
+    if !apics_fit(contents.apics) {
+        return Err(WriterError::IdOfAll);
+    }
+    if !giccs_fit(contents.giccs) {
+        return Err(WriterError::IdOfAll);
+    }
+    if !ranges_fit(contents.ranges) {
+        return Err(WriterError::BadRange);
+    }
+    write_contents(out, ids, contents)
+}
