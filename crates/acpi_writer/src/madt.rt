@@ -64,12 +64,7 @@ fn is_single(processor: MadtProcessor) -> bool
 fn processors_fit(processors: &[MadtProcessor]) -> bool
     ensures { result ≡ list_all bytes.is_single processors.now }
 {
-    for processor in processors {
-        if !is_single(*processor) {
-            return false;
-        }
-    }
-    true
+    processors.iter().all(|processor| is_single(*processor))
 }
 
 /// Whether this isn't the uid that stands for all processors.
@@ -86,12 +81,7 @@ fn names_one(processor: NmiProcessor) -> bool
 fn lines_fit(lines: &[NmiLine]) -> bool
     ensures { result ≡ list_all (λ x. bytes.names_one x.processor) lines.now }
 {
-    for line in lines {
-        if !names_one(line.processor) {
-            return false;
-        }
-    }
-    true
+    lines.iter().all(|line| names_one(line.processor))
 }
 
 /// What a MADT is to say, as in `MadtContents`, by anything that is spelled as its entries.

@@ -154,24 +154,14 @@ impl Spelled for Reserved {
 fn apics_fit(apics: &[ApicDomain]) -> bool
     ensures { result ≡ list_all srat.is_one_apic apics.now }
 {
-    for apic in apics {
-        if apic.local_apic_id == 0xffffffff {
-            return false;
-        }
-    }
-    true
+    apics.iter().all(|apic| apic.local_apic_id != 0xffffffff)
 }
 
 /// Whether no processor has the uid that stands for all.
 fn giccs_fit(giccs: &[GiccDomain]) -> bool
     ensures { result ≡ list_all srat.is_one_gicc giccs.now }
 {
-    for gicc in giccs {
-        if gicc.processor_uid == 0xffffffff {
-            return false;
-        }
-    }
-    true
+    giccs.iter().all(|gicc| gicc.processor_uid != 0xffffffff)
 }
 
 /// Whether a range has a byte, and ends below 2^64.
@@ -185,12 +175,7 @@ fn is_range(range: &MemoryRange) -> bool
 fn ranges_fit(ranges: &[MemoryRange]) -> bool
     ensures { result ≡ list_all srat.is_range ranges.now }
 {
-    for range in ranges {
-        if !is_range(range) {
-            return false;
-        }
-    }
-    true
+    ranges.iter().all(|range| is_range(range))
 }
 
 /// Writes a SRAT whose contents may be written.
