@@ -14,3 +14,5 @@ pub mod RsdpRead
 pub mod IdsRead
 pub mod SlitRead
 pub mod SratRead
+pub mod BgrtRead
+pub mod SpcrRead

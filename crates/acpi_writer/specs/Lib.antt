@@ -13,3 +13,7 @@ pub mod Rsdp
 pub mod Slit
 pub mod Srat
 pub mod SratLaws
+pub mod Bgrt
+pub mod Address
+pub mod Spcr
+pub mod SpcrLaws

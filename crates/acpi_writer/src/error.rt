@@ -11,7 +11,7 @@ pub enum WriterError {
     UidOfAll,
     /// A SLIT without a distance for each pair of localities.
     BadMatrix,
-    /// An RSDP that leads to address 0.
+    /// An RSDP that leads to address 0, or a serial port at address 0.
     NoAddress,
     /// OEMID, OEM Table ID or Creator ID is not valid UTF-8.
     BadName,
@@ -21,4 +21,8 @@ pub enum WriterError {
     TooLong,
     /// A range of memory that has no byte, or ends above 2^64 - 1.
     BadRange,
+    /// An interface or an address space with the code of another one, or with a reserved code.
+    BadCode,
+    /// A name in the namespace of 65535 bytes or more, whose length its field can't say.
+    LongName,
 }

@@ -1,5 +1,6 @@
 //! Laws of the tables that are written: each is the contract of a function that does nothing.
 ghost use Rattle.acpi_writer.specs.Aml.{DsdtIsRead, SsdtIsRead};
+ghost use Rattle.acpi_writer.specs.Bgrt.{BgrtIsRead, BgrtIsValid};
 ghost use Rattle.acpi_writer.specs.HpetLaws.{HpetIsRead, HpetIsValid};
 ghost use Rattle.acpi_writer.specs.ImageLaws.{HpetInImage, MadtInImage, McfgInImage, PlatformInImage};
 ghost use Rattle.acpi_writer.specs.MadtLaws.{MadtIsRead, MadtIsValid, MailboxIsRead};
@@ -7,6 +8,7 @@ ghost use Rattle.acpi_writer.specs.McfgLaws.{McfgIsRead, McfgIsValid};
 ghost use Rattle.acpi_writer.specs.Root.{RootIsRead, RootIsValid};
 ghost use Rattle.acpi_writer.specs.Rsdp.{RsdpIsRead};
 ghost use Rattle.acpi_writer.specs.Slit.{SlitIsRead, SlitIsValid};
+ghost use Rattle.acpi_writer.specs.SpcrLaws.{SpcrIsRead, SpcrIsValid};
 ghost use Rattle.acpi_writer.specs.SratLaws.{SratIsRead, SratIsValid};
 ghost use Rattle.acpi_writer.specs.Table.{IdsAreRead};
 
@@ -117,4 +119,24 @@ pub fn srat_is_read()
 /// A SRAT that is written passes each check of a table, and `write_image` takes it.
 pub fn srat_is_valid()
     ensures { SratIsValid }
+{}
+
+/// The image of a BGRT that is written is exactly the one that was given.
+pub fn bgrt_is_read()
+    ensures { BgrtIsRead }
+{}
+
+/// A BGRT that is written passes each check of a table, and `write_image` takes it.
+pub fn bgrt_is_valid()
+    ensures { BgrtIsValid }
+{}
+
+/// The serial port of an SPCR that is written is exactly the one that was given, and its name has a zero at its end.
+pub fn spcr_is_read()
+    ensures { SpcrIsRead }
+{}
+
+/// An SPCR that is written passes each check of a table, and `write_image` takes it.
+pub fn spcr_is_valid()
+    ensures { SpcrIsValid }
 {}

@@ -3,7 +3,9 @@
 //! Section numbers are those of the ACPI Specification, version 6.4.
 #![tactic(auto)]
 
+mod address;
 pub mod aml;
+pub mod bgrt;
 pub mod error;
 pub mod hpet;
 pub mod ids;
@@ -14,11 +16,13 @@ mod numbers;
 pub mod root;
 pub mod rsdp;
 pub mod slit;
+pub mod spcr;
 pub mod spelled;
 pub mod srat;
 mod table;
 
 pub use aml::{write_dsdt, write_ssdt};
+pub use bgrt::{BgrtContents, BgrtOrientation, write_bgrt};
 pub use error::WriterError;
 pub use hpet::write_hpet;
 pub use ids::TableIds;
@@ -27,4 +31,5 @@ pub use mcfg::write_mcfg;
 pub use root::{write_rsdt, write_xsdt};
 pub use rsdp::write_rsdp;
 pub use slit::write_slit;
+pub use spcr::{SpcrContents, SpcrPciDevice, write_spcr};
 pub use srat::{ApicDomain, GiccDomain, SratContents, write_srat};

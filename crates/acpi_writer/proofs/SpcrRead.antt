@@ -1,0 +1,322 @@
+-- What a reader finds in an SPCR that is written, and when one is.
+use Rattle.std.proofs.Common.{◌≡◌, ℕ, ◌+◌, ◌-◌, ◌^◌, ◌<◌, ◌≤◌, Bool, true, false, List, [], ◌∷◌, ◌++◌, length, take, drop, Option, Some, None, Result, Ok, Err, refl, sym, ap, ◌∙◌, arith, length-append}
+use Rattle.std.specs.Prelude.{◌==◌, ◌&&◌, ◌||◌, IfOk, IsUtf8, if◌then◌else◌, nat_le, nat_lt, not, replicate}
+use Rattle.std.specs.Option.{option_map, option_or}
+use Rattle.std.specs.Str.{bytes_eq, chars, is_utf8}
+use Rattle.std.proofs.lemmas.Bool.{and_parts, eqb-true, le-leb, le-ltb, lt-ltb, ltb-true}
+use Rattle.std.proofs.lemmas.List.{drop-drop, get_or_past, take_all}
+use Rattle.std.proofs.lemmas.Slice.Eq.{bytes_eq-Decides}
+use Rattle.std.proofs.lemmas.Str.{IsUtf8-append, IsUtf8-from_is_utf8, is_utf8-from_IsUtf8}
+use Rattle.acpi_base.proofs.Spelling.{number-spelling}
+use Rattle.acpi_base.specs.Address.{access_size_of, generic_address_of, size_code, space_code, space_of}
+use Rattle.acpi_base.specs.Bytes.{field_of, filled_part, number, part, spelling}
+use Rattle.acpi_base.specs.Header.{header_at}
+use Rattle.acpi_base.specs.Spcr.{configured_baud, interface_of, interfaces, namespace_of, spcr_at, unless}
+use Rattle.acpi_base.specs.SpcrFlags.{flow_bits, interrupt_bits, terminal_bits}
+use Rattle.acpi_base.specs.declared.address.AccessSize.{AccessSize}
+use Rattle.acpi_base.specs.declared.address.AccessSize.TheVariants as sizes
+use Rattle.acpi_base.specs.declared.address.AddressSpace.{AddressSpace}
+use Rattle.acpi_base.specs.declared.address.AddressSpace.TheVariants as spaces
+use Rattle.acpi_base.specs.declared.address.GenericAddress.{GenericAddress}
+use Rattle.acpi_base.specs.declared.error.AcpiError.{AcpiError}
+use Rattle.acpi_base.specs.declared.table.signature.TheConstants.Signature.{SPCR}
+use Rattle.acpi_base.specs.declared.tables.spcr.interface.SpcrInterfaceType.{SpcrInterfaceType}
+use Rattle.acpi_base.specs.declared.tables.spcr.interface.SpcrInterfaceType.TheVariants as interface
+use Rattle.acpi_writer.specs.Address.{address_bytes, has_own_code}
+use Rattle.acpi_writer.specs.Spcr.{base_written, baud_code, console_fields, device_written, interface_code, is_base, is_interface, is_somewhere, port_fields, spcr_body, spcr_written}
+use Rattle.acpi_writer.specs.SpcrLaws.{FitsSpcr, IsSpcr, SaysConsole, SaysDevice, SaysPort, SpcrIsRead, SpcrIsValid, readable}
+use Rattle.acpi_writer.specs.Table.{IsTableOf, table_written}
+use Rattle.acpi_writer.specs.declared.error.WriterError.{WriterError}
+use Rattle.acpi_writer.specs.declared.error.WriterError.TheVariants.{BadCode, LongName, NoAddress}
+use Rattle.acpi_writer.specs.declared.ids.TableIds.{TableIds}
+use Rattle.acpi_writer.specs.declared.spcr.SpcrContents.{SpcrContents}
+use Rattle.acpi_writer.proofs.IdsRead.{ids_are_read}
+use Rattle.acpi_writer.proofs.Tables as table
+
+one : (n : ℕ) → number (n ∷ []) ≡ n
+one n = omega arith
+
+-- ---- codes
+
+unknown_by : (code : ℕ) (seven : Bool) → (code == 7) ≡ seven → (seven || nat_lt 0x15 code) ≡ true → interface_of code ≡ interface.Unknown code
+unknown_by code true e h = rw (eqb-true code 7 e) refl
+unknown_by code false e h = get_or_past interfaces code (interface.Unknown code) (omega (arith, ltb-true 0x15 code h))
+
+each_interface : (i : SpcrInterfaceType) → is_interface i ≡ true → interface_of (interface_code i) ≡ i
+each_interface interface.Full16550 h = refl
+each_interface interface.Full16450 h = refl
+each_interface interface.MAX311xE h = refl
+each_interface interface.ArmPL011 h = refl
+each_interface interface.MSM8x60 h = refl
+each_interface interface.Nvidia16550 h = refl
+each_interface interface.TiOmap h = refl
+each_interface interface.APM88xxxx h = refl
+each_interface interface.Msm8974 h = refl
+each_interface interface.Sam5250 h = refl
+each_interface interface.IntelUSIF h = refl
+each_interface interface.Imx6 h = refl
+each_interface interface.ArmSBSAGeneric32bit h = refl
+each_interface interface.ArmSBSAGeneric h = refl
+each_interface interface.ArmDCC h = refl
+each_interface interface.Bcm2835 h = refl
+each_interface interface.Sdm845_18432 h = refl
+each_interface interface.Generic16550 h = refl
+each_interface interface.Sdm845_7372 h = refl
+each_interface interface.IntelLPSS h = refl
+each_interface interface.RiscVSbi h = refl
+each_interface (interface.Unknown code) h = unknown_by code (code == 7) refl h
+
+each_space : (s : AddressSpace) → has_own_code s ≡ true → space_of (space_code s) ≡ Ok s
+each_space spaces.SystemMemory h = refl
+each_space spaces.SystemIo h = refl
+each_space spaces.PciConfigSpace h = refl
+each_space spaces.EmbeddedController h = refl
+each_space spaces.SMBus h = refl
+each_space spaces.SystemCmos h = refl
+each_space spaces.PciBarTarget h = refl
+each_space spaces.Ipmi h = refl
+each_space spaces.GeneralIo h = refl
+each_space spaces.GenericSerialBus h = refl
+each_space spaces.PlatformCommunicationsChannel h = refl
+each_space spaces.FunctionalFixedHardware h = refl
+each_space (spaces.OemDefined code) h = rw h refl
+
+each_size : (s : AccessSize) → access_size_of (size_code s) ≡ Ok s
+each_size sizes.Undefined = refl
+each_size sizes.ByteAccess = refl
+each_size sizes.WordAccess = refl
+each_size sizes.DWordAccess = refl
+each_size sizes.QWordAccess = refl
+
+baud_by : (rate : ℕ) (none : Bool) → (rate == 0) ≡ none → option_or (unless 0 rate) (configured_baud (baud_code rate)) ≡ unless 0 rate
+baud_by rate true e = rw (eqb-true rate 0 e) refl
+baud_by rate false e = rw e refl
+
+-- ---- the base address
+
+generic_by : (raw : List ℕ) (a : GenericAddress) → field_of raw 0 1 ≡ space_code a.address_space → field_of raw 1 1 ≡ a.bit_width → field_of raw 2 1 ≡ a.bit_offset → field_of raw 3 1 ≡ size_code a.access_size → field_of raw 4 8 ≡ a.address
+    → has_own_code a.address_space ≡ true → generic_address_of raw ≡ Ok a
+unfolding generic_address_of
+generic_by raw a s w o z n own = rw (s, each_space a.address_space own, z, each_size a.access_size, w, o, n) refl
+
+address_in : (a : GenericAddress) → a.address < 2 ^ 64 → field_of (address_bytes a) 4 8 ≡ a.address
+unfolding address_bytes spelling field_of
+address_in a h = number-spelling 8 a.address (omega (arith, h))
+
+address_read : (a : GenericAddress) → a.address < 2 ^ 64 → has_own_code a.address_space ≡ true → generic_address_of (address_bytes a) ≡ Ok a
+unfolding address_bytes field_of
+address_read a h own =
+    generic_by (address_bytes a) a (one (space_code a.address_space)) (one a.bit_width) (one a.bit_offset) (one (size_code a.access_size)) (address_in a h) own
+
+all_zeros : field_of (replicate 12 0) 4 8 ≡ 0
+unfolding field_of
+all_zeros = refl
+
+some_base : (zeros : Bool) (a : GenericAddress) → bytes_eq (address_bytes a) (replicate 12 0) ≡ zeros → a.address < 2 ^ 64 → (a.address == 0) ≡ false → zeros ≡ false
+some_base false a e h somewhere = refl
+some_base true a e h somewhere =
+    let same : address_bytes a ≡ replicate 12 0 = (bytes_eq-Decides (address_bytes a) (replicate 12 0)).0 e in
+    let zero : a.address ≡ 0 = sym (address_in a h) ∙ ap (λ b. field_of b 4 8) same ∙ all_zeros in
+    let is : (a.address == 0) ≡ true = ap (λ n. n == 0) zero in
+    cc
+
+abbrev base_found : List ℕ → Option (Result GenericAddress AcpiError)
+base_found raw = if bytes_eq raw (replicate 12 0) then None else Some (generic_address_of raw)
+
+unnot : (b : Bool) → not b ≡ true → b ≡ false
+unnot true e = absurd cc
+unnot false e = refl
+
+no_base : base_found (address_bytes (base_written None)) ≡ None
+unfolding address_bytes spelling
+no_base = refl
+
+base_by : (o : Option GenericAddress) → (base_written o).address < 2 ^ 64 → is_base o ≡ true → is_somewhere o ≡ true → base_found (address_bytes (base_written o)) ≡ option_map readable o
+base_by None h own somewhere = no_base
+base_by (Some a) h own somewhere =
+    rw (some_base (bytes_eq (address_bytes a) (replicate 12 0)) a refl h (unnot (a.address == 0) somewhere), address_read a h own) refl
+
+filled : (a : GenericAddress) → address_bytes a ++ replicate (12 - length (address_bytes a)) 0 ≡ address_bytes a
+unfolding address_bytes spelling
+filled a = refl
+
+-- ---- the table
+
+spcr_name : table.IsName SPCR
+unfolding is_utf8 chars lib.Utf8.encode
+spcr_name = record { a = _; b = _; c = _; d = _; letters = refl; text = refl; same = refl }
+
+-- one byte in the fixed fields, and a number there
+module _ (c : SpcrContents) where
+  bytes_of_port :
+      (field_of (spcr_body c) 0 1 ≡ interface_code c.interface_type) × (field_of (spcr_body c) 16 1 ≡ interrupt_bits c.interrupt_type) × (field_of (spcr_body c) 17 1 ≡ c.irq)
+      × (field_of (spcr_body c) 22 1 ≡ baud_code c.baud_rate) × (field_of (spcr_body c) 23 1 ≡ c.parity) × (field_of (spcr_body c) 24 1 ≡ c.stop_bits)
+      × (field_of (spcr_body c) 25 1 ≡ flow_bits c.flow_control) × (field_of (spcr_body c) 26 1 ≡ terminal_bits c.terminal_type) × (field_of (spcr_body c) 27 1 ≡ c.language)
+  unfolding port_fields address_bytes spelling field_of
+  bytes_of_port = (
+    one (interface_code c.interface_type),
+    one (interrupt_bits c.interrupt_type),
+    one c.irq,
+    one (baud_code c.baud_rate),
+    one c.parity,
+    one c.stop_bits,
+    one (flow_bits c.flow_control),
+    one (terminal_bits c.terminal_type),
+    one c.language,
+  )
+
+  base_in : part (spcr_body c) 4 12 ≡ address_bytes (base_written c.base_address)
+  unfolding port_fields address_bytes spelling
+  base_in = refl
+
+  after_fields : drop 52 (spcr_body c) ≡ c.namespace_string.now ++ (0 ∷ [])
+  unfolding port_fields console_fields address_bytes spelling
+  after_fields = refl
+
+  bytes_of_device : let d = device_written c.pci_device in (field_of (spcr_body c) 32 1 ≡ d.bus) × (field_of (spcr_body c) 33 1 ≡ d.device) × (field_of (spcr_body c) 34 1 ≡ d.function) × (field_of (spcr_body c) 39 1 ≡ d.segment)
+  unfolding port_fields console_fields address_bytes spelling field_of
+  bytes_of_device =
+      let d = device_written c.pci_device in
+      (one d.bus, one d.device, one d.function, one d.segment)
+
+  module _ (f : FitsSpcr c) where
+    interrupt_in : field_of (spcr_body c) 18 4 ≡ c.global_system_interrupt
+    unfolding port_fields address_bytes spelling field_of
+    interrupt_in = number-spelling 4 c.global_system_interrupt (omega (arith, f.port.interrupt))
+
+    device_id_in : field_of (spcr_body c) 28 2 ≡ (device_written c.pci_device).device_id
+    unfolding port_fields console_fields address_bytes spelling field_of
+    device_id_in = number-spelling 2 (device_written c.pci_device).device_id (omega (arith, f.console.device_id))
+
+    vendor_id_in : field_of (spcr_body c) 30 2 ≡ (device_written c.pci_device).vendor_id
+    unfolding port_fields console_fields address_bytes spelling field_of
+    vendor_id_in = number-spelling 2 (device_written c.pci_device).vendor_id (omega (arith, f.console.vendor_id))
+
+    flags_in : field_of (spcr_body c) 35 4 ≡ (device_written c.pci_device).flags
+    unfolding port_fields console_fields address_bytes spelling field_of
+    flags_in = number-spelling 4 (device_written c.pci_device).flags (omega (arith, f.console.flags))
+
+    clock_in : field_of (spcr_body c) 40 4 ≡ c.uart_clock_frequency
+    unfolding port_fields console_fields address_bytes spelling field_of
+    clock_in = number-spelling 4 c.uart_clock_frequency (omega (arith, f.console.clock))
+
+    rate_in : field_of (spcr_body c) 44 4 ≡ c.baud_rate
+    unfolding port_fields console_fields address_bytes spelling field_of
+    rate_in = number-spelling 4 c.baud_rate (omega (arith, f.console.rate))
+
+    count_in : length c.namespace_string.now < 0xffff → field_of (spcr_body c) 48 2 ≡ length c.namespace_string.now + 1
+    unfolding port_fields console_fields address_bytes spelling field_of
+    count_in short = number-spelling 2 (length c.namespace_string.now + 1) (omega (arith, short))
+
+    offset_in : field_of (spcr_body c) 50 2 ≡ 88
+    unfolding port_fields console_fields address_bytes spelling field_of
+    offset_in = refl
+
+  body_long : length (spcr_body c) ≡ 53 + length c.namespace_string.now
+  unfolding port_fields console_fields address_bytes spelling
+  body_long = omega (arith, length-append c.namespace_string.now (0 ∷ []))
+
+zero_ends : is_utf8 (0 ∷ []) ≡ true
+unfolding is_utf8 chars lib.Utf8.encode
+zero_ends = refl
+
+module _ (ids : TableIds) (c : SpcrContents) (t : List ℕ) (is : IsSpcr ids c t) where
+  field : (k n : ℕ) → field_of t (36 + k) n ≡ field_of (spcr_body c) k n
+  field = table.field SPCR spcr_name 4 ids (spcr_body c) t is.written
+
+  rest : drop 36 t ≡ spcr_body c
+  rest = table.rest SPCR spcr_name 4 ids (spcr_body c) t is.written
+
+  revision : (header_at t).revision ≡ 4
+  revision = (ids_are_read SPCR _ _ _ _ 4 ids (spcr_body c) t spcr_name.letters is.written).revision_is
+
+  raw : filled_part t 40 12 ≡ address_bytes (base_written c.base_address)
+  raw =
+      let found : part t 40 12 ≡ address_bytes (base_written c.base_address) = ap (take 12) (sym (drop-drop 4 36 t) ∙ ap (drop 4) rest) ∙ base_in c in
+      ap (λ p. p ++ replicate (12 - length p) 0) found ∙ filled (base_written c.base_address)
+
+  port : SaysPort c (spcr_at t)
+  unfolding spcr_at
+  port =
+      let b = bytes_of_port c in
+      let kind = field 16 1 ∙ b.1 in
+      record {
+        interface_type = ap interface_of (field 0 1 ∙ b.0) ∙ each_interface c.interface_type is.interface;
+        base_address = ap base_found raw ∙ base_by c.base_address is.fit.port.address is.base is.somewhere;
+        interrupt_type = kind;
+        irq = rw (kind, field 17 1 ∙ b.2) refl;
+        global_system_interrupt = rw (kind, field 18 4 ∙ interrupt_in c is.fit) refl;
+        baud_rate = rw (field 44 4 ∙ rate_in c is.fit, field 22 1 ∙ b.3) (baud_by c.baud_rate (c.baud_rate == 0) refl);
+        parity = field 23 1 ∙ b.4;
+        stop_bits = field 24 1 ∙ b.5;
+        flow_control = field 25 1 ∙ b.6;
+        terminal_type = field 26 1 ∙ b.7;
+        language = field 27 1 ∙ b.8;
+        uart_clock_frequency = rw (revision, field 40 4 ∙ clock_in c is.fit) refl;
+      }
+
+  device : SaysDevice (device_written c.pci_device) (spcr_at t)
+  unfolding spcr_at
+  device =
+      let b = bytes_of_device c in
+      record {
+        device_id = ap (unless 0xffff) (field 28 2 ∙ device_id_in c is.fit);
+        vendor_id = ap (unless 0xffff) (field 30 2 ∙ vendor_id_in c is.fit);
+        bus = ap (unless 0) (field 32 1 ∙ b.0);
+        device = ap (unless 0) (field 33 1 ∙ b.1);
+        function = ap (unless 0) (field 34 1 ∙ b.2);
+        flags = field 35 4 ∙ flags_in c is.fit;
+        segment = field 39 1 ∙ b.3;
+      }
+
+  abbrev name : List ℕ
+  name = c.namespace_string.now ++ (0 ∷ [])
+
+  name_text : is_utf8 name ≡ true
+  name_text = is_utf8-from_IsUtf8 name (IsUtf8-append c.namespace_string.now (0 ∷ []) is.text (IsUtf8-from_is_utf8 (0 ∷ []) zero_ends))
+
+  name_in : part t 88 (length c.namespace_string.now + 1) ≡ name
+  name_in =
+      ap (take (length c.namespace_string.now + 1)) (sym (drop-drop 52 36 t) ∙ ap (drop 52) rest ∙ after_fields c)
+      ∙ take_all (length c.namespace_string.now + 1) name (omega (arith, length-append c.namespace_string.now (0 ∷ [])))
+
+  within : nat_le (88 + (length c.namespace_string.now + 1)) (length t) ≡ true
+  within = le-leb _ _ (omega (arith, table.long SPCR spcr_name 4 ids (spcr_body c) t is.written, body_long c))
+
+  named : namespace_of t ≡ Ok name
+  unfolding spcr_at
+  named = rw (field 50 2 ∙ offset_in c is.fit, field 48 2 ∙ count_in c is.fit is.short, within, name_in, name_text) refl
+
+  says : SaysConsole c t
+  says = record { port = port; device = device; name = named }
+
+pub spcr_read : SpcrIsRead
+spcr_read ids c t is = says ids c t is
+
+pub spcr_valid : SpcrIsValid
+spcr_valid ids c t is = table.valid SPCR spcr_name 4 ids (spcr_body c) t is.written
+
+-- ---- whether it is written
+
+pub written_bad : (room : ℕ) (ids : TableIds) (c : SpcrContents) → (is_interface c.interface_type && is_base c.base_address) ≡ false → spcr_written room ids c ≡ Err BadCode
+unfolding spcr_written
+written_bad room ids c bad = rw bad refl
+
+pub written_nowhere : (room : ℕ) (ids : TableIds) (c : SpcrContents) → (is_interface c.interface_type && is_base c.base_address) ≡ true → is_somewhere c.base_address ≡ false → spcr_written room ids c ≡ Err NoAddress
+unfolding spcr_written
+written_nowhere room ids c codes nowhere = rw (codes, nowhere) refl
+
+pub written_long : (room : ℕ) (ids : TableIds) (c : SpcrContents) → (is_interface c.interface_type && is_base c.base_address) ≡ true → is_somewhere c.base_address ≡ true → 0xffff ≤ length c.namespace_string.now → spcr_written room ids c ≡ Err LongName
+unfolding spcr_written
+written_long room ids c codes somewhere long = rw (codes, somewhere, le-ltb (length c.namespace_string.now) 0xffff long) refl
+
+pub written_is : (room : ℕ) (ids : TableIds) (c : SpcrContents) → (is_interface c.interface_type && is_base c.base_address) ≡ true → is_somewhere c.base_address ≡ true → length c.namespace_string.now < 0xffff → spcr_written room ids c ≡ table_written room SPCR 4 ids (spcr_body c)
+unfolding spcr_written
+written_is room ids c codes somewhere short = rw (codes, somewhere, lt-ltb (length c.namespace_string.now) 0xffff short) refl
+
+pub answer_is : (r : Result ℕ WriterError) (ids : TableIds) (c : SpcrContents) (new : List ℕ) → (is_interface c.interface_type && is_base c.base_address) ≡ true → is_somewhere c.base_address ≡ true → length c.namespace_string.now < 0xffff → IsUtf8 c.namespace_string.now
+    → IfOk r (λ n. IsTableOf SPCR 4 ids (spcr_body c) (take n new)) → IfOk r (λ n. FitsSpcr c) → IfOk r (λ n. IsSpcr ids c (take n new))
+answer_is (Ok n) ids c new codes somewhere short text written fit =
+    let p = and_parts (is_interface c.interface_type) (is_base c.base_address) codes in
+    record { written = written; fit = fit; interface = p.0; base = p.1; somewhere = somewhere; short = short; text = text }
+answer_is (Err e) ids c new codes somewhere short text written fit = tt

@@ -1,0 +1,126 @@
+-- The bytes of an SPCR that says what is given (ACPI 6.4, section 5.2.6). The layout is Microsoft's.
+use Rattle.std.specs.Prelude.{ℕ, ◌+◌, ◌==◌, ◌&&◌, ◌||◌, Bool, true, not, if◌then◌else◌}
+use Rattle.std.specs.Prelude.{List, [], ◌∷◌, ◌++◌, length, nat_lt, Option, Some, None, Result}
+use Rattle.acpi_base.specs.Bytes.{spelling}
+use Rattle.acpi_base.specs.SpcrFlags.{flow_bits, interrupt_bits, terminal_bits}
+use Rattle.acpi_base.specs.Steps.{◌>>=◌, holds}
+use Rattle.acpi_base.specs.declared.address.AccessSize.TheVariants.{Undefined}
+use Rattle.acpi_base.specs.declared.address.AddressSpace.TheVariants.{SystemMemory}
+use Rattle.acpi_base.specs.declared.address.GenericAddress.{GenericAddress}
+use Rattle.acpi_base.specs.declared.table.signature.TheConstants.Signature.{SPCR}
+use Rattle.acpi_base.specs.declared.tables.spcr.interface.SpcrInterfaceType.{SpcrInterfaceType}
+use Rattle.acpi_base.specs.declared.tables.spcr.interface.SpcrInterfaceType.TheVariants as interface
+use Rattle.acpi_writer.specs.Address.{address_bytes, has_own_code}
+use Rattle.acpi_writer.specs.Table.{table_written}
+use Rattle.acpi_writer.specs.declared.error.WriterError.{WriterError}
+use Rattle.acpi_writer.specs.declared.error.WriterError.TheVariants.{BadCode, LongName, NoAddress}
+use Rattle.acpi_writer.specs.declared.ids.TableIds.{TableIds}
+use Rattle.acpi_writer.specs.declared.spcr.SpcrContents.{SpcrContents}
+use Rattle.acpi_writer.specs.declared.spcr.SpcrPciDevice.{SpcrPciDevice}
+
+-- Interface Type: the code of each
+abbrev pub interface_code : SpcrInterfaceType → ℕ
+interface_code interface.Full16550 = 0x00
+interface_code interface.Full16450 = 0x01
+interface_code interface.MAX311xE = 0x02
+interface_code interface.ArmPL011 = 0x03
+interface_code interface.MSM8x60 = 0x04
+interface_code interface.Nvidia16550 = 0x05
+interface_code interface.TiOmap = 0x06
+interface_code interface.APM88xxxx = 0x08
+interface_code interface.Msm8974 = 0x09
+interface_code interface.Sam5250 = 0x0a
+interface_code interface.IntelUSIF = 0x0b
+interface_code interface.Imx6 = 0x0c
+interface_code interface.ArmSBSAGeneric32bit = 0x0d
+interface_code interface.ArmSBSAGeneric = 0x0e
+interface_code interface.ArmDCC = 0x0f
+interface_code interface.Bcm2835 = 0x10
+interface_code interface.Sdm845_18432 = 0x11
+interface_code interface.Generic16550 = 0x12
+interface_code interface.Sdm845_7372 = 0x13
+interface_code interface.IntelLPSS = 0x14
+interface_code interface.RiscVSbi = 0x15
+interface_code (interface.Unknown code) = code
+
+-- Base Address: if there is none, its bytes are zeros
+abbrev pub base_written : Option GenericAddress → GenericAddress
+base_written (Some a) = a
+base_written None = record {
+  address_space = SystemMemory;
+  bit_width = 0;
+  bit_offset = 0;
+  access_size = Undefined;
+  address = 0;
+}
+
+-- the PCI device: if there is none, its ids are 0xffff, and its other numbers 0
+abbrev pub device_written : Option SpcrPciDevice → SpcrPciDevice
+device_written (Some d) = d
+device_written None = record {
+  device_id = 0xffff;
+  vendor_id = 0xffff;
+  bus = 0;
+  device = 0;
+  function = 0;
+  flags = 0;
+  segment = 0;
+}
+
+-- Configured Baud Rate: the code of a rate; 0 leaves it as it is
+abbrev pub baud_code : ℕ → ℕ
+baud_code rate =
+    if rate == 9600 then 3
+    else if rate == 19200 then 4
+    else if rate == 57600 then 6
+    else if rate == 115200 then 7
+    else 0
+
+-- at 36 Interface Type, 37 Reserved, 40 Base Address, 52 Interrupt Type, 53 IRQ, 54 Global System Interrupt, 58
+-- Configured Baud Rate, 59 Parity, 60 Stop Bits, 61 Flow Control, 62 Terminal Type, 63 Language
+unfoldable pub port_fields : SpcrContents → List ℕ
+port_fields c =
+    interface_code c.interface_type ∷ 0 ∷ 0 ∷ 0 ∷ (address_bytes (base_written c.base_address)
+    ++ (interrupt_bits c.interrupt_type ∷ c.irq ∷ (spelling 4 c.global_system_interrupt
+    ++ (baud_code c.baud_rate ∷ c.parity ∷ c.stop_bits ∷ flow_bits c.flow_control ∷ terminal_bits c.terminal_type
+    ∷ c.language ∷ []))))
+
+-- at 64 PCI Device ID, 66 PCI Vendor ID, 68 PCI Bus Number, 69 PCI Device Number, 70 PCI Function Number, 71 PCI Flags,
+-- 75 PCI Segment, 76 UART Clock Frequency, 80 Precise Baud Rate, 84 NamespaceStringLength, 86 NamespaceStringOffset,
+-- which is 88
+unfoldable pub console_fields : SpcrPciDevice → ℕ → ℕ → ℕ → List ℕ
+console_fields d clock rate name_length =
+    spelling 2 d.device_id ++ (spelling 2 d.vendor_id ++ (d.bus ∷ d.device ∷ d.function ∷ (spelling 4 d.flags
+    ++ (d.segment ∷ (spelling 4 clock ++ (spelling 4 rate ++ (spelling 2 name_length ++ (88 ∷ 0 ∷ []))))))))
+
+-- after the header: the fields, and from 88 on NamespaceString, which a zero ends
+abbrev pub spcr_body : SpcrContents → List ℕ
+spcr_body c =
+    port_fields c
+    ++ (console_fields (device_written c.pci_device) c.uart_clock_frequency c.baud_rate (length c.namespace_string.now + 1)
+    ++ (c.namespace_string.now ++ (0 ∷ [])))
+
+-- ---- errors
+
+-- the code of an interface is no other's: 7 and those above 0x15 have no name
+abbrev pub is_interface : SpcrInterfaceType → Bool
+is_interface (interface.Unknown code) = code == 7 || nat_lt 0x15 code
+is_interface _ = true
+
+-- and so is that of the base address's space, if there is one
+abbrev pub is_base : Option GenericAddress → Bool
+is_base (Some a) = has_own_code a.address_space
+is_base None = true
+
+-- and it isn't 0
+abbrev pub is_somewhere : Option GenericAddress → Bool
+is_somewhere (Some a) = not (a.address == 0)
+is_somewhere None = true
+
+-- the table, of revision 4, in so much room, or the first error
+unfoldable pub spcr_written : ℕ → TableIds → SpcrContents → Result (List ℕ) WriterError
+spcr_written room ids c = do
+  _ ← holds (is_interface c.interface_type && is_base c.base_address) BadCode
+  _ ← holds (is_somewhere c.base_address) NoAddress
+  _ ← holds (nat_lt (length c.namespace_string.now) 0xffff) LongName
+  table_written room SPCR 4 ids (spcr_body c)

@@ -1,0 +1,105 @@
+//! The Boot Graphics Resource Table (BGRT, section 5.2.22), from what it says of an image.
+ghost use Rattle.std.specs.Prelude.{◌≡◌, ◌≤◌, length, take, IfOk};
+ghost use Rattle.acpi_base.specs.Steps.{Gives};
+ghost use Rattle.acpi_writer.specs.Bgrt as bgrt;
+ghost use Rattle.acpi_writer.specs.Table.{Keeps};
+
+use crate::error::WriterError;
+use crate::ids::TableIds;
+use crate::numbers::{bit_of, dword, qword};
+use crate::spelled::Spelled;
+use crate::table::write_table;
+use acpi_base::Signature;
+
+/// Orientation Offset: by how many degrees an image was turned clockwise before it was drawn (section 5.2.22).
+#[derive(Clone, Copy, Debug, PartialEq, Eq)]
+pub enum BgrtOrientation {
+    /// Not at all.
+    Degrees0,
+    /// By a quarter.
+    Degrees90,
+    /// By a half.
+    Degrees180,
+    /// By three quarters.
+    Degrees270,
+}
+
+/// What a BGRT is to say, in the words of `Bgrt`, as which it is read.
+#[derive(Clone, Copy, Debug)]
+pub struct BgrtContents {
+    /// Displayed: whether the image is on the screen.
+    pub was_displayed: bool,
+    /// Orientation Offset: by how many degrees it was turned.
+    pub orientation_offset: BgrtOrientation,
+    /// Image Address: the physical address of the bitmap's first byte.
+    pub image_address: u64,
+    /// Image Offset X and Image Offset Y: how far right and how far down of the screen's upper left corner the image's
+    /// upper left corner is, in pixels.
+    pub image_offset: (u32, u32),
+}
+
+/// The number of an orientation.
+fn orientation_code(orientation: BgrtOrientation) -> u8
+    ensures value { result ≡ bgrt.orientation_code orientation }
+    ensures small { result ≤ 3 }
+{
+    match orientation {
+        BgrtOrientation::Degrees0 => 0,
+        BgrtOrientation::Degrees90 => 1,
+        BgrtOrientation::Degrees180 => 2,
+        BgrtOrientation::Degrees270 => 3,
+    }
+}
+
+/// The byte Status.
+fn status_of(contents: &BgrtContents) -> u8
+    ensures { result ≡ bgrt.status_written contents.now }
+{
+    bit_of(contents.was_displayed) + 2 * orientation_code(contents.orientation_offset)
+}
+
+impl Spelled for BgrtContents {
+    ghost spelled = { bgrt.bgrt_body };
+
+    ghost fits = { bgrt.FitsBgrt };
+
+    #[tactic(auto, unfolding(crate::specs::Bgrt::bgrt_body, acpi_base::specs::Bytes::spelling))]
+    fn measure(&self, room: usize) -> Option<usize> {
+        let _address = self.image_address;
+        let (_x, _y) = self.image_offset;
+        if room < 20 { None } else { Some(20) }
+    }
+
+    #[tactic(auto, unfolding(crate::specs::Bgrt::bgrt_body, acpi_base::specs::Bytes::spelling))]
+    fn put(&self, out: &mut [u8]) {
+        let status = status_of(self);
+        let [a, b, c, d, e, f, g, h] = qword(self.image_address);
+        let (x, y) = self.image_offset;
+        let [i, j, k, l] = dword(x);
+        let [m, n, o, p] = dword(y);
+        out.copy_from_slice(&[
+            1, 0, status, 0, a, b, c, d, e, f, g, h, i, j, k, l, m, n, o, p,
+        ]);
+    }
+}
+
+/// Writes a BGRT of revision 1, whose Version is 1 and whose image is a bitmap, to the front of a slice, and returns how
+/// many bytes it has, 56. Whether there is an image at its address isn't asked.
+///
+/// Returns, in this order, `BadName` if a name of the ids is not valid UTF-8, and `NoRoom` if the slice is shorter
+/// than the table.
+pub fn write_bgrt(
+    out: &mut [u8],
+    ids: &TableIds,
+    contents: &BgrtContents,
+) -> Result<usize, WriterError>
+    // The bytes, or the error, are those that are defined.
+    ensures exact { Gives (λ n. take n out.new) result
+        (bgrt.bgrt_written (length out.old) ids.now contents.now) }
+    // What stands after the table is unchanged, and after an error the whole slice is.
+    ensures keeps { Keeps result out.old out.new }
+    // The numbers that were given fit, so that what was given is what is read (`bgrt_is_read`).
+    ensures fits { IfOk result (λ n. bgrt.IsBgrt ids.now contents.now (take n out.new)) }
+{
+    write_table(out, Signature::BGRT, 1, ids, contents)
+}

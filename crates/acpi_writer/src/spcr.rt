@@ -1,0 +1,189 @@
+//! The Serial Port Console Redirection Table (SPCR, section 5.2.6), from what it says of a serial port. Its layout is
+//! Microsoft's.
+ghost use Rattle.std.specs.Prelude.{◌≡◌, ◌<◌, ◌&&◌, [], ◌∷◌, length, take, IfOk, IsUtf8};
+ghost use Rattle.acpi_base.specs.Steps.{Gives};
+ghost use Rattle.acpi_base.specs.declared.table.signature.TheConstants.Signature.{SPCR};
+ghost use Rattle.acpi_writer.specs.Spcr as spcr;
+ghost use Rattle.acpi_writer.specs.SpcrLaws as laws;
+ghost use Rattle.acpi_writer.specs.Table.{IsTableOf, Keeps, table_written};
+
+mod fields;
+
+use crate::address::has_own_code;
+use crate::error::WriterError;
+use crate::ids::TableIds;
+use crate::spelled::{Bytes, Spelled, Then};
+use crate::table::write_table;
+use acpi_base::Signature;
+use acpi_base::address::GenericAddress;
+use acpi_base::spcr::{SpcrFlowControl, SpcrInterfaceType, SpcrInterruptType, SpcrTerminalType};
+use fields::{Console, Port, device_of};
+
+/// The PCI device that a serial port is, as an SPCR has it.
+#[derive(Clone, Copy, Debug)]
+pub struct SpcrPciDevice {
+    /// PCI Device ID, which 0xffff stands for none of.
+    pub device_id: u16,
+    /// PCI Vendor ID, which 0xffff stands for none of.
+    pub vendor_id: u16,
+    /// PCI Bus Number.
+    pub bus: u8,
+    /// PCI Device Number.
+    pub device: u8,
+    /// PCI Function Number.
+    pub function: u8,
+    /// PCI Flags: bit 0 set means that the operating system must neither suppress the device's enumeration nor disable
+    /// its power management.
+    pub flags: u32,
+    /// PCI Segment: the PCI segment group of the device.
+    pub segment: u8,
+}
+
+/// What an SPCR is to say, in the words of `Spcr`, as which it is read.
+#[derive(Clone, Copy)]
+pub struct SpcrContents<'a> {
+    /// Interface Type: the interface of the port's registers.
+    pub interface_type: SpcrInterfaceType,
+    /// Base Address: where the registers lie, or `None` if console redirection is off.
+    pub base_address: Option<GenericAddress>,
+    /// Interrupt Type: the controllers that the port's interrupt comes to.
+    pub interrupt_type: SpcrInterruptType,
+    /// IRQ: the interrupt on the 8259s. It counts if Interrupt Type has them.
+    pub irq: u8,
+    /// Global System Interrupt. It counts if Interrupt Type has another controller than the 8259s.
+    pub global_system_interrupt: u32,
+    /// Precise Baud Rate: the rate in bits per second, or 0 if it is to stay as it is. Configured Baud Rate has its code
+    /// too, if it has one.
+    pub baud_rate: u32,
+    /// Parity: 0 is no parity, and other codes are reserved.
+    pub parity: u8,
+    /// Stop Bits: 1 is one stop bit, and other codes are reserved.
+    pub stop_bits: u8,
+    /// Flow Control: the ways in which the flow of bytes is controlled.
+    pub flow_control: SpcrFlowControl,
+    /// Terminal Type: the terminals that the firmware spoke to.
+    pub terminal_type: SpcrTerminalType,
+    /// Language: 0 by the layout.
+    pub language: u8,
+    /// The PCI device that the port is, if it is one.
+    pub pci_device: Option<SpcrPciDevice>,
+    /// UART Clock Frequency: the clock of the port in Hz, or 0 if nothing is said of it.
+    pub uart_clock_frequency: u32,
+    /// NamespaceString without the zero that ends it: the path of the port's object in the namespace, or `.` if it has
+    /// none.
+    pub namespace_string: &'a str,
+}
+
+/// Whether an interface's code is one of its own: `Unknown` has one that no other has.
+fn is_interface(interface: SpcrInterfaceType) -> bool
+    ensures { result ≡ spcr.is_interface interface }
+{
+    match interface {
+        SpcrInterfaceType::Unknown(code) => code == 7 || code > 0x15,
+        _ => true,
+    }
+}
+
+/// Whether the space of an address, if there is one, has a code of its own.
+fn is_base(address: Option<GenericAddress>) -> bool
+    ensures { result ≡ spcr.is_base address }
+{
+    match address {
+        Some(base) => has_own_code(base.address_space),
+        None => true,
+    }
+}
+
+/// Whether the interface and the base address have codes of their own.
+fn has_codes(contents: &SpcrContents<'_>) -> bool
+    ensures { result ≡ (spcr.is_interface contents.now.interface_type && spcr.is_base contents.now.base_address) }
+{
+    is_interface(contents.interface_type) && is_base(contents.base_address)
+}
+
+/// Whether an address, if there is one, isn't 0.
+fn is_somewhere(address: Option<GenericAddress>) -> bool
+    ensures { result ≡ spcr.is_somewhere address }
+{
+    match address {
+        Some(base) => base.address != 0,
+        None => true,
+    }
+}
+
+/// The zero that ends a string.
+#[derive(Clone, Copy)]
+struct End;
+
+impl Spelled for End {
+    ghost spelled = { λ _. 0 ∷ [] };
+
+    ghost fits = { λ _. Unit {0} };
+
+    fn measure(&self, room: usize) -> Option<usize> {
+        if room < 1 { None } else { Some(1) }
+    }
+
+    fn put(&self, out: &mut [u8]) {
+        out.copy_from_slice(&[0]);
+    }
+}
+
+/// Writes an SPCR whose contents may be written.
+///
+/// Returns, in this order, `BadName`, `NoRoom` and `TooLong`.
+fn write_contents(
+    out: &mut [u8],
+    ids: &TableIds,
+    contents: &SpcrContents<'_>,
+) -> Result<usize, WriterError>
+    requires { length contents.now.namespace_string.now < 0xffff }
+    ensures exact { Gives (λ n. take n out.new) result
+        (table_written (length out.old) SPCR 4 ids.now (spcr.spcr_body contents.now)) }
+    ensures keeps { Keeps result out.old out.new }
+    ensures table { IfOk result (λ n.
+        IsTableOf SPCR 4 ids.now (spcr.spcr_body contents.now) (take n out.new)) }
+    ensures fits { IfOk result (λ n. laws.FitsSpcr contents.now) }
+    ensures text { IsUtf8 contents.now.namespace_string.now }
+{
+    let name = contents.namespace_string.as_bytes();
+    let console = Console {
+        device: device_of(contents.pci_device),
+        uart_clock_frequency: contents.uart_clock_frequency,
+        baud_rate: contents.baud_rate,
+        name_length: name.len() as u16 + 1,
+    };
+    let body = Then(Port(*contents), Then(console, Then(Bytes(name), End)));
+    write_table(out, Signature::SPCR, 4, ids, &body)
+}
+
+/// Writes an SPCR of revision 4 to the front of a slice, and returns how many bytes it has: 88, and those of its name
+/// with the zero that ends it. Whether the name is a path isn't asked.
+///
+/// Returns, in this order, `BadCode` if the interface type or the base address's space has the code of another one or a
+/// reserved code, `NoAddress` if the base address is 0, `LongName` if the name has 65535 bytes or more, `BadName` if a
+/// name of the ids is not valid UTF-8, and `NoRoom` if the slice is shorter than the table.
+pub fn write_spcr(
+    out: &mut [u8],
+    ids: &TableIds,
+    contents: &SpcrContents<'_>,
+) -> Result<usize, WriterError>
+    // The bytes, or the first error, are those that are defined.
+    ensures exact { Gives (λ n. take n out.new) result
+        (spcr.spcr_written (length out.old) ids.now contents.now) }
+    // What stands after the table is unchanged, and after an error the whole slice is.
+    ensures keeps { Keeps result out.old out.new }
+    // The numbers that were given fit, so that what was given is what is read (`spcr_is_read`).
+    ensures fits { IfOk result (λ n. laws.IsSpcr ids.now contents.now (take n out.new)) }
+{
+    if !has_codes(contents) {
+        return Err(WriterError::BadCode);
+    }
+    if !is_somewhere(contents.base_address) {
+        return Err(WriterError::NoAddress);
+    }
+    if contents.namespace_string.len() >= 0xffff {
+        return Err(WriterError::LongName);
+    }
+    write_contents(out, ids, contents)
+}
