@@ -16,3 +16,9 @@ pub mod SlitRead
 pub mod SratRead
 pub mod BgrtRead
 pub mod SpcrRead
+pub mod FlagNumbers
+pub mod RegisterRead
+pub mod FadtParts
+pub mod FadtFeatures
+pub mod FadtWritten
+pub mod FadtRead

@@ -17,3 +17,7 @@ pub mod Bgrt
 pub mod Address
 pub mod Spcr
 pub mod SpcrLaws
+pub mod Flags
+pub mod Generic
+pub mod FadtBytes
+pub mod FadtLaws

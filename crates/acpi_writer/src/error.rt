@@ -11,8 +11,12 @@ pub enum WriterError {
     UidOfAll,
     /// A SLIT without a distance for each pair of localities.
     BadMatrix,
-    /// An RSDP that leads to address 0, or a serial port at address 0.
+    /// An RSDP, or a FADT, that leads to address 0, or a serial port at address 0.
     NoAddress,
+    /// A FADT with a `Reserved` profile whose code is that of one that has a name.
+    BadProfile,
+    /// A register at address 0 or in an `OemDefined` space below 0xc0, or a block of events without bytes.
+    BadRegister,
     /// OEMID, OEM Table ID or Creator ID is not valid UTF-8.
     BadName,
     /// The slice ends before the table does.

@@ -1,6 +1,7 @@
 //! Laws of the tables that are written: each is the contract of a function that does nothing.
 ghost use Rattle.acpi_writer.specs.Aml.{DsdtIsRead, SsdtIsRead};
 ghost use Rattle.acpi_writer.specs.Bgrt.{BgrtIsRead, BgrtIsValid};
+ghost use Rattle.acpi_writer.specs.FadtLaws.{FadtIsRead, FadtIsValid};
 ghost use Rattle.acpi_writer.specs.HpetLaws.{HpetIsRead, HpetIsValid};
 ghost use Rattle.acpi_writer.specs.ImageLaws.{HpetInImage, MadtInImage, McfgInImage, PlatformInImage};
 ghost use Rattle.acpi_writer.specs.MadtLaws.{MadtIsRead, MadtIsValid, MailboxIsRead};
@@ -139,4 +140,14 @@ pub fn spcr_is_read()
 /// An SPCR that is written passes each check of a table, and `write_image` takes it.
 pub fn spcr_is_valid()
     ensures { SpcrIsValid }
+{}
+
+/// A FADT that is written passes each check of a table, and `write_image` takes it.
+pub fn fadt_is_valid()
+    ensures { FadtIsValid }
+{}
+
+/// What calls of `Fadt` return of a FADT that is written is exactly what was given.
+pub fn fadt_is_read()
+    ensures { FadtIsRead }
 {}

@@ -1,0 +1,259 @@
+-- The bytes of a FADT that says what is given (ACPI 6.4, section 5.2.9).
+use Rattle.std.specs.Prelude.{ℕ, ◌*◌, ◌/◌, ◌^◌, ◌==◌, ◌&&◌, Bool, true, false, not, if◌then◌else◌}
+use Rattle.std.specs.Prelude.{List, [], ◌∷◌, ◌++◌, flat_map, nat_lt, Option, Some, None, Result}
+use Rattle.acpi_base.specs.Bytes.{spelling}
+use Rattle.acpi_base.specs.Steps.{◌>>=◌, holds}
+use Rattle.acpi_base.specs.declared.address.AccessSize.TheVariants.{Undefined}
+use Rattle.acpi_base.specs.declared.address.AddressSpace.{AddressSpace}
+use Rattle.acpi_base.specs.declared.address.AddressSpace.TheVariants.{SystemIo}
+use Rattle.acpi_base.specs.declared.address.GenericAddress.{GenericAddress}
+use Rattle.acpi_base.specs.declared.table.signature.TheConstants.Signature.{FADT}
+use Rattle.acpi_fixed.specs.declared.fadt.PowerProfile.{PowerProfile}
+use Rattle.acpi_fixed.specs.declared.fadt.PowerProfile.TheVariants as profiles
+use Rattle.acpi_fixed.specs.declared.fadt.registers.gpe.GpeBlock.{GpeBlock}
+use Rattle.acpi_writer.specs.Flags.{flag_number}
+use Rattle.acpi_writer.specs.Generic.{is_register, register_bytes, register_or_zeros}
+use Rattle.acpi_writer.specs.Table.{table_written}
+use Rattle.acpi_writer.specs.declared.error.WriterError.{WriterError}
+use Rattle.acpi_writer.specs.declared.error.WriterError.TheVariants.{BadProfile, BadRegister, NoAddress}
+use Rattle.acpi_writer.specs.declared.fadt.contents.FadtContents.{FadtContents}
+use Rattle.acpi_writer.specs.declared.fadt.contents.FadtHardware.{FadtHardware}
+use Rattle.acpi_writer.specs.declared.fadt.contents.FadtHardware.TheVariants.{Fixed, Reduced}
+use Rattle.acpi_writer.specs.declared.fadt.contents.FixedHardware.{FixedHardware}
+use Rattle.acpi_writer.specs.declared.fadt.features.ArmBootFeatures.{ArmBootFeatures}
+use Rattle.acpi_writer.specs.declared.fadt.features.FixedFeatures.{FixedFeatures}
+use Rattle.acpi_writer.specs.declared.fadt.features.PcBootFeatures.{PcBootFeatures}
+use Rattle.acpi_writer.specs.declared.ids.TableIds.{TableIds}
+
+-- ---- the values of fields
+
+-- Preferred_PM_Profile: the code of each profile
+abbrev pub profile_code : PowerProfile → ℕ
+profile_code profiles.Unspecified = 0
+profile_code profiles.Desktop = 1
+profile_code profiles.Mobile = 2
+profile_code profiles.Workstation = 3
+profile_code profiles.EnterpriseServer = 4
+profile_code profiles.SohoServer = 5
+profile_code profiles.AppliancePc = 6
+profile_code profiles.PerformanceServer = 7
+profile_code profiles.Tablet = 8
+profile_code (profiles.Reserved code) = code
+
+-- the fixed hardware, with zeros throughout if there is none
+abbrev pub fixed_of : FadtHardware → FixedHardware
+fixed_of (Fixed h) = h
+fixed_of Reduced = record {
+  smi_cmd_port = 0;
+  acpi_enable = 0;
+  acpi_disable = 0;
+  s4bios_req = 0;
+  pstate_control = 0;
+  c_state_control = 0;
+  pm1a_event = register_or_zeros None;
+  pm1b_event = None;
+  pm1a_control = register_or_zeros None;
+  pm1b_control = None;
+  pm2_control = None;
+  pm_timer = None;
+  gpe0 = None;
+  gpe1 = None;
+  gpe1_base = 0;
+}
+
+abbrev pub is_reduced : FadtHardware → Bool
+is_reduced Reduced = true
+is_reduced (Fixed h) = false
+
+abbrev pub is_given : {A : Type 0} → Option A → Bool
+is_given (Some x) = true
+is_given None = false
+
+-- a block of general purpose events as a register, eight bits for each byte as far as a width can say
+abbrev pub gpe_register : Option GpeBlock → Option GenericAddress
+gpe_register (Some b) = Some (record {
+  address_space = b.space;
+  bit_width = if nat_lt b.byte_length 32 then 8 * b.byte_length else 255;
+  bit_offset = 0;
+  access_size = Undefined;
+  address = b.address;
+})
+gpe_register None = None
+
+abbrev pub gpe_length : Option GpeBlock → ℕ
+gpe_length (Some b) = b.byte_length
+gpe_length None = 0
+
+-- the whole bytes of a register
+abbrev pub bytes_wide : Option GenericAddress → ℕ
+bytes_wide o = (register_or_zeros o).bit_width / 8
+
+-- an address, if a field of 32 bits has a place for it, else 0
+abbrev pub narrow : ℕ → ℕ
+narrow a = if nat_lt a (2 ^ 32) then a else 0
+
+-- an address of the processor's ports, in the same way
+abbrev pub port_in : AddressSpace → ℕ → ℕ
+port_in SystemIo a = narrow a
+port_in _ a = 0
+
+abbrev pub port_of : Option GenericAddress → ℕ
+port_of (Some g) = port_in g.address_space g.address
+port_of None = 0
+
+abbrev pub address_or_zero : Option ℕ → ℕ
+address_or_zero (Some a) = a
+address_or_zero None = 0
+
+-- ---- flags, bit 0 first
+
+-- Flags (Fixed Feature Flags)
+abbrev pub flags_with : FixedFeatures → Bool → Bool → List Bool
+flags_with f reset reduced =
+    f.supports_equivalent_to_wbinvd  -- WBINVD
+    ∷ f.wbinvd_flushes_all_caches  -- WBINVD_FLUSH
+    ∷ f.all_procs_support_c1_power_state  -- PROC_C1
+    ∷ f.c2_configured_for_mp_system  -- P_LVL2_UP
+    ∷ f.power_button_is_control_method  -- PWR_BUTTON
+    ∷ f.sleep_button_is_control_method  -- SLP_BUTTON
+    ∷ f.no_rtc_wake_in_fixed_register_space  -- FIX_RTC
+    ∷ f.rtc_wakes_system_from_s4  -- RTC_S4
+    ∷ f.pm_timer_is_32_bit  -- TMR_VAL_EXT
+    ∷ f.supports_docking  -- DCK_CAP
+    ∷ reset  -- RESET_REG_SUP
+    ∷ f.case_is_sealed  -- SEALED_CASE
+    ∷ f.system_is_headless  -- HEADLESS
+    ∷ f.use_instr_after_write_to_slp_typx  -- CPU_SW_SLP
+    ∷ f.supports_pciexp_wake_in_pm1  -- PCI_EXP_WAK
+    ∷ f.use_pm_or_hpet_for_monotonically_decreasing_timers  -- USE_PLATFORM_CLOCK
+    ∷ f.rtc_sts_is_valid_after_wakeup_from_s4  -- S4_RTC_STS_VALID
+    ∷ f.ospm_may_leave_gpe_wake_events_armed_before_s5  -- REMOTE_POWER_ON_CAPABLE
+    ∷ f.lapics_must_use_cluster_model_for_logical_mode  -- FORCE_APIC_CLUSTER_MODEL
+    ∷ f.local_xapics_must_use_physical_destination_mode  -- FORCE_APIC_PHYSICAL_DESTINATION_MODE
+    ∷ reduced  -- HW_REDUCED_ACPI
+    ∷ f.no_benefit_to_s3  -- LOW_POWER_S0_IDLE_CAPABLE
+    ∷ []
+
+abbrev pub feature_flags : FadtContents → List Bool
+feature_flags c = flags_with c.features (is_given c.reset_register) (is_reduced c.hardware)
+
+-- IAPC_BOOT_ARCH
+abbrev pub pc_flags : PcBootFeatures → List Bool
+pc_flags p =
+    p.legacy_devices_are_accessible  -- LEGACY_DEVICES
+    ∷ p.motherboard_implements_8042  -- 8042
+    ∷ p.dont_probe_vga  -- VGA Not Present
+    ∷ p.dont_enable_msi  -- MSI Not Supported
+    ∷ p.dont_enable_pcie_aspm  -- PCIe ASPM Controls
+    ∷ p.use_time_and_alarm_namespace_for_rtc  -- CMOS RTC Not Present
+    ∷ []
+
+-- ARM_BOOT_ARCH
+abbrev pub arm_flags : ArmBootFeatures → List Bool
+arm_flags a = a.implements_psci ∷ a.use_hvc_as_psci_conduit ∷ []  -- PSCI_COMPLIANT, PSCI_USE_HVC
+
+-- ---- the parts after the header, each from an offset in the table on
+
+-- at 36 FIRMWARE_CTRL, 40 DSDT, 44 Reserved, 45 Preferred_PM_Profile, 46 SCI_INT, 48 SMI_CMD, 52 ACPI_ENABLE, 53
+-- ACPI_DISABLE, 54 S4BIOS_REQ, 55 PSTATE_CNT
+unfoldable pub fadt_head : FadtContents → FixedHardware → List ℕ
+fadt_head c h =
+    spelling 4 (narrow (address_or_zero c.facs)) ++ (spelling 4 (narrow c.dsdt)
+    ++ (0 ∷ profile_code c.power_profile ∷ (spelling 2 c.sci_interrupt ++ (spelling 4 h.smi_cmd_port
+    ++ (h.acpi_enable ∷ h.acpi_disable ∷ h.s4bios_req ∷ h.pstate_control ∷ [])))))
+
+-- at 56 PM1a_EVT_BLK, 60 PM1b_EVT_BLK, 64 PM1a_CNT_BLK, 68 PM1b_CNT_BLK
+unfoldable pub pm1_ports : FixedHardware → List ℕ
+pm1_ports h =
+    spelling 4 (port_of (Some h.pm1a_event)) ++ (spelling 4 (port_of h.pm1b_event)
+    ++ (spelling 4 (port_of (Some h.pm1a_control)) ++ spelling 4 (port_of h.pm1b_control)))
+
+-- at 72 PM2_CNT_BLK, 76 PM_TMR_BLK, 80 GPE0_BLK, 84 GPE1_BLK
+unfoldable pub other_ports : FixedHardware → List ℕ
+other_ports h =
+    spelling 4 (port_of h.pm2_control) ++ (spelling 4 (port_of h.pm_timer)
+    ++ (spelling 4 (port_of (gpe_register h.gpe0)) ++ spelling 4 (port_of (gpe_register h.gpe1))))
+
+-- at 88 PM1_EVT_LEN, 89 PM1_CNT_LEN, 90 PM2_CNT_LEN, 91 PM_TMR_LEN, 92 GPE0_BLK_LEN, 93 GPE1_BLK_LEN, 94 GPE1_BASE, 95
+-- CST_CNT
+unfoldable pub block_lengths : FixedHardware → List ℕ
+block_lengths h =
+    bytes_wide (Some h.pm1a_event) ∷ bytes_wide (Some h.pm1a_control) ∷ bytes_wide h.pm2_control
+    ∷ (if is_given h.pm_timer then 4 else 0) ∷ gpe_length h.gpe0 ∷ gpe_length h.gpe1
+    ∷ h.gpe1_base ∷ h.c_state_control ∷ []
+
+-- at 96 P_LVL2_LAT, 98 P_LVL3_LAT, 100 FLUSH_SIZE, 102 FLUSH_STRIDE, 104 DUTY_OFFSET, 105 DUTY_WIDTH, 106 DAY_ALRM, 107
+-- MON_ALRM, 108 CENTURY, 109 IAPC_BOOT_ARCH, 111 Reserved, 112 Flags
+unfoldable pub fadt_features : FadtContents → List ℕ
+fadt_features c =
+    let l = c.legacy in
+    spelling 2 l.worst_c2_latency ++ (spelling 2 l.worst_c3_latency ++ (spelling 2 l.flush_size
+    ++ (spelling 2 l.flush_stride
+    ++ (l.duty_offset ∷ l.duty_width ∷ l.day_alarm ∷ l.month_alarm ∷ l.century
+    ∷ (spelling 2 (flag_number (pc_flags c.pc_boot)) ++ (0 ∷ spelling 4 (flag_number (feature_flags c))))))))
+
+-- at 128 RESET_VALUE, 129 ARM_BOOT_ARCH, 131 a FADT Minor Version of 4, 132 X_FIRMWARE_CTRL, 140 X_DSDT
+unfoldable pub fadt_wide : FadtContents → List ℕ
+fadt_wide c =
+    c.reset_value ∷ (spelling 2 (flag_number (arm_flags c.arm_boot))
+    ++ (4 ∷ (spelling 8 (address_or_zero c.facs) ++ spelling 8 c.dsdt)))
+
+-- at 148 X_PM1a_EVT_BLK, 160 X_PM1b_EVT_BLK, 172 X_PM1a_CNT_BLK, 184 X_PM1b_CNT_BLK, 196 X_PM2_CNT_BLK, 208
+-- X_PM_TMR_BLK, 220 X_GPE0_BLK, 232 X_GPE1_BLK, 244 SLEEP_CONTROL_REG, 256 SLEEP_STATUS_REG
+abbrev pub registers : FadtContents → FixedHardware → List (Option GenericAddress)
+registers c h =
+    Some h.pm1a_event ∷ h.pm1b_event ∷ Some h.pm1a_control ∷ h.pm1b_control ∷ h.pm2_control ∷ h.pm_timer
+    ∷ gpe_register h.gpe0 ∷ gpe_register h.gpe1 ∷ c.sleep_control ∷ c.sleep_status ∷ []
+
+-- all of it: RESET_REG stands at 116, Hypervisor Vendor Identity at 268
+abbrev pub body_with : FadtContents → FixedHardware → List ℕ
+body_with c h =
+    fadt_head c h ++ (pm1_ports h ++ (other_ports h ++ (block_lengths h ++ (fadt_features c
+    ++ (register_bytes c.reset_register ++ (fadt_wide c
+    ++ (flat_map register_bytes (registers c h) ++ spelling 8 0)))))))
+
+abbrev pub fadt_body : FadtContents → List ℕ
+fadt_body c = body_with c (fixed_of c.hardware)
+
+-- ---- errors
+
+-- the DSDT, and the FACS if there is one, are at an address other than 0
+abbrev pub has_address : Option ℕ → Bool
+has_address (Some a) = not (a == 0)
+has_address None = true
+
+abbrev pub are_placed : FadtContents → Bool
+are_placed c = not (c.dsdt == 0) && has_address c.facs
+
+-- a code that is reserved
+abbrev pub is_profile : PowerProfile → Bool
+is_profile (profiles.Reserved code) = nat_lt 8 code
+is_profile _ = true
+
+-- a block of events has bytes
+abbrev pub has_length : Option GpeBlock → Bool
+has_length (Some b) = not (b.byte_length == 0)
+has_length None = true
+
+-- the blocks of the fixed hardware
+abbrev pub are_blocks : FadtHardware → Bool
+are_blocks Reduced = true
+are_blocks (Fixed h) =
+    is_register (Some h.pm1a_event) && (is_register h.pm1b_event && (is_register (Some h.pm1a_control)
+    && (is_register h.pm1b_control && (is_register h.pm2_control && (is_register h.pm_timer
+    && (is_register (gpe_register h.gpe0) && (has_length h.gpe0
+    && (is_register (gpe_register h.gpe1) && has_length h.gpe1))))))))
+
+-- and of the registers that any hardware may have
+abbrev pub are_registers : FadtContents → Bool
+are_registers c =
+    are_blocks c.hardware && (is_register c.reset_register
+    && (is_register c.sleep_control && is_register c.sleep_status))
+
+-- the table, of revision 6, in so much room, or the first error
+unfoldable pub fadt_written : ℕ → TableIds → FadtContents → Result (List ℕ) WriterError
+fadt_written room ids c = do
+  _ ← holds (are_placed c) NoAddress
+  _ ← holds (is_profile c.power_profile) BadProfile
+  _ ← holds (are_registers c) BadRegister
+  table_written room FADT 6 ids (fadt_body c)

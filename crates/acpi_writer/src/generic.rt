@@ -1,0 +1,109 @@
+//! Generic addresses (GAS, section 5.2.3.2): registers, as tables give them.
+ghost use Rattle.std.specs.Prelude.{◌≡◌};
+ghost use Rattle.acpi_base.specs.Address.{size_code, space_code};
+ghost use Rattle.acpi_writer.specs.Generic as bytes;
+
+use crate::numbers::qword;
+use crate::spelled::Spelled;
+use acpi_base::address::{AccessSize, AddressSpace, GenericAddress};
+
+/// The code of an address space.
+fn space_code(space: AddressSpace) -> u8
+    ensures { result ≡ space_code space }
+{
+    match space {
+        AddressSpace::SystemMemory => 0x00,
+        AddressSpace::SystemIo => 0x01,
+        AddressSpace::PciConfigSpace => 0x02,
+        AddressSpace::EmbeddedController => 0x03,
+        AddressSpace::SMBus => 0x04,
+        AddressSpace::SystemCmos => 0x05,
+        AddressSpace::PciBarTarget => 0x06,
+        AddressSpace::Ipmi => 0x07,
+        AddressSpace::GeneralIo => 0x08,
+        AddressSpace::GenericSerialBus => 0x09,
+        AddressSpace::PlatformCommunicationsChannel => 0x0a,
+        AddressSpace::FunctionalFixedHardware => 0x7f,
+        AddressSpace::OemDefined(code) => code,
+    }
+}
+
+/// The code of an access size.
+fn size_code(size: AccessSize) -> u8
+    ensures { result ≡ size_code size }
+{
+    match size {
+        AccessSize::Undefined => 0,
+        AccessSize::ByteAccess => 1,
+        AccessSize::WordAccess => 2,
+        AccessSize::DWordAccess => 3,
+        AccessSize::QWordAccess => 4,
+    }
+}
+
+/// A register, or one of zeros if there is none.
+pub(crate) fn register_or_zeros(register: Option<GenericAddress>) -> GenericAddress
+    ensures { result ≡ bytes.register_or_zeros register }
+{
+    match register {
+        Some(given) => given,
+        None => GenericAddress {
+            address_space: AddressSpace::SystemMemory,
+            bit_width: 0,
+            bit_offset: 0,
+            access_size: AccessSize::Undefined,
+            address: 0,
+        },
+    }
+}
+
+/// Whether a register, if there is one, is at an address other than 0 of a space that its code names.
+pub(crate) fn is_register(register: Option<GenericAddress>) -> bool
+    ensures { result ≡ bytes.is_register register }
+{
+    match register {
+        Some(given) => {
+            let is_named = match given.address_space {
+                AddressSpace::OemDefined(code) => code >= 0xc0,
+                _ => true,
+            };
+            given.address != 0 && is_named
+        }
+        None => true,
+    }
+}
+
+impl Spelled for Option<GenericAddress> {
+    ghost spelled = { bytes.register_bytes };
+
+    ghost fits = { bytes.FitsRegister };
+
+    #[tactic(auto, unfolding(crate::specs::Generic::register_bytes, acpi_base::specs::Bytes::spelling))]
+    fn measure(&self, room: usize) -> Option<usize> {
+        let register = register_or_zeros(*self);
+        let _address = register.address;
+        if room < 12 { None } else { Some(12) }
+    }
+
+    #[tactic(auto, unfolding(crate::specs::Generic::register_bytes, acpi_base::specs::Bytes::spelling))]
+    fn put(&self, out: &mut [u8]) {
+        let register = register_or_zeros(*self);
+        let space = space_code(register.address_space);
+        let size = size_code(register.access_size);
+        let [a, b, c, d, e, f, g, h] = qword(register.address);
+        out.copy_from_slice(&[
+            space,
+            register.bit_width,
+            register.bit_offset,
+            size,
+            a,
+            b,
+            c,
+            d,
+            e,
+            f,
+            g,
+            h,
+        ]);
+    }
+}
