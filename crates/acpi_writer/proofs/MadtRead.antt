@@ -10,7 +10,7 @@ use Rattle.std.specs.Str.{chars, is_utf8}
 use Rattle.acpi_base.proofs.Spelling.{number-spelling}
 use Rattle.acpi_base.specs.Bits.{has_bit}
 use Rattle.acpi_base.specs.Bytes.{field_of, number, part, spelling}
-use Rattle.acpi_base.specs.Madt.{cut_of, madt_at, no_mailbox}
+use Rattle.acpi_base.specs.Madt.{madt_at, no_mailbox}
 use Rattle.acpi_base.specs.Model as read
 use Rattle.acpi_base.specs.declared.error.AcpiError.{AcpiError}
 use Rattle.acpi_base.specs.declared.error.AcpiError.TheVariants.{InvalidMadt}

@@ -65,11 +65,11 @@ size_field : (g : GenericAddress) → field_of (generic_bytes g) 3 1 ≡ size_co
 unfolding field_of spelling
 size_field g = one (size_code g.access_size)
 
-address_field : (g : GenericAddress) → g.address < 2 ^ 64 → field_of (generic_bytes g) 4 8 ≡ g.address
+pub address_field : (g : GenericAddress) → g.address < 2 ^ 64 → field_of (generic_bytes g) 4 8 ≡ g.address
 unfolding field_of spelling
 address_field g fits = number-spelling 8 g.address (omega (arith, fits))
 
-generic_read : (g : GenericAddress) → g.address < 2 ^ 64 → is_named_space g.address_space ≡ true → generic_address_of (generic_bytes g) ≡ Ok g
+pub generic_read : (g : GenericAddress) → g.address < 2 ^ 64 → is_named_space g.address_space ≡ true → generic_address_of (generic_bytes g) ≡ Ok g
 unfolding generic_address_of
 generic_read g fits named =
     rw (space_field g, size_field g, width_field g, offset_field g, address_field g fits, each_space g.address_space named, each_size g.access_size) refl

@@ -1,6 +1,6 @@
 -- What a reader finds in an SPCR that is written, and when one is.
 use Rattle.std.proofs.Common.{◌≡◌, ℕ, ◌+◌, ◌-◌, ◌^◌, ◌<◌, ◌≤◌, Bool, true, false, List, [], ◌∷◌, ◌++◌, length, take, drop, Option, Some, None, Result, Ok, Err, refl, sym, ap, ◌∙◌, arith, length-append}
-use Rattle.std.specs.Prelude.{◌==◌, ◌&&◌, ◌||◌, IfOk, IsUtf8, if◌then◌else◌, nat_le, nat_lt, not, replicate}
+use Rattle.std.specs.Prelude.{◌==◌, ◌&&◌, ◌||◌, IfOk, IsUtf8, if◌then◌else◌, nat_le, nat_lt, replicate}
 use Rattle.std.specs.Option.{option_map, option_or}
 use Rattle.std.specs.Str.{bytes_eq, chars, is_utf8}
 use Rattle.std.proofs.lemmas.Bool.{and_parts, eqb-true, le-leb, le-ltb, lt-ltb, ltb-true}
@@ -8,21 +8,17 @@ use Rattle.std.proofs.lemmas.List.{drop-drop, get_or_past, take_all}
 use Rattle.std.proofs.lemmas.Slice.Eq.{bytes_eq-Decides}
 use Rattle.std.proofs.lemmas.Str.{IsUtf8-append, IsUtf8-from_is_utf8, is_utf8-from_IsUtf8}
 use Rattle.acpi_base.proofs.Spelling.{number-spelling}
-use Rattle.acpi_base.specs.Address.{access_size_of, generic_address_of, size_code, space_code, space_of}
-use Rattle.acpi_base.specs.Bytes.{field_of, filled_part, number, part, spelling}
+use Rattle.acpi_base.specs.Address.{generic_address_of}
+use Rattle.acpi_base.specs.Bytes.{field_of, filled_part, part, spelling}
 use Rattle.acpi_base.specs.Header.{header_at}
 use Rattle.acpi_base.specs.Spcr.{configured_baud, interface_of, interfaces, namespace_of, spcr_at, unless}
 use Rattle.acpi_base.specs.SpcrFlags.{flow_bits, interrupt_bits, terminal_bits}
-use Rattle.acpi_base.specs.declared.address.AccessSize.{AccessSize}
-use Rattle.acpi_base.specs.declared.address.AccessSize.TheVariants as sizes
-use Rattle.acpi_base.specs.declared.address.AddressSpace.{AddressSpace}
-use Rattle.acpi_base.specs.declared.address.AddressSpace.TheVariants as spaces
 use Rattle.acpi_base.specs.declared.address.GenericAddress.{GenericAddress}
 use Rattle.acpi_base.specs.declared.error.AcpiError.{AcpiError}
 use Rattle.acpi_base.specs.declared.table.signature.TheConstants.Signature.{SPCR}
 use Rattle.acpi_base.specs.declared.tables.spcr.interface.SpcrInterfaceType.{SpcrInterfaceType}
 use Rattle.acpi_base.specs.declared.tables.spcr.interface.SpcrInterfaceType.TheVariants as interface
-use Rattle.acpi_writer.specs.Address.{address_bytes, has_own_code}
+use Rattle.acpi_writer.specs.Generic.{address_bytes, is_named_space}
 use Rattle.acpi_writer.specs.Spcr.{base_written, baud_code, console_fields, device_written, interface_code, is_base, is_interface, is_somewhere, port_fields, spcr_body, spcr_written}
 use Rattle.acpi_writer.specs.SpcrLaws.{FitsSpcr, IsSpcr, SaysConsole, SaysDevice, SaysPort, SpcrIsRead, SpcrIsValid, readable}
 use Rattle.acpi_writer.specs.Table.{IsTableOf, table_written}
@@ -31,10 +27,8 @@ use Rattle.acpi_writer.specs.declared.error.WriterError.TheVariants.{BadCode, Lo
 use Rattle.acpi_writer.specs.declared.ids.TableIds.{TableIds}
 use Rattle.acpi_writer.specs.declared.spcr.SpcrContents.{SpcrContents}
 use Rattle.acpi_writer.proofs.IdsRead.{ids_are_read}
+use Rattle.acpi_writer.proofs.RegisterRead.{address_field, generic_read, is_off, one}
 use Rattle.acpi_writer.proofs.Tables as table
-
-one : (n : ℕ) → number (n ∷ []) ≡ n
-one n = omega arith
 
 -- ---- codes
 
@@ -66,47 +60,19 @@ each_interface interface.IntelLPSS h = refl
 each_interface interface.RiscVSbi h = refl
 each_interface (interface.Unknown code) h = unknown_by code (code == 7) refl h
 
-each_space : (s : AddressSpace) → has_own_code s ≡ true → space_of (space_code s) ≡ Ok s
-each_space spaces.SystemMemory h = refl
-each_space spaces.SystemIo h = refl
-each_space spaces.PciConfigSpace h = refl
-each_space spaces.EmbeddedController h = refl
-each_space spaces.SMBus h = refl
-each_space spaces.SystemCmos h = refl
-each_space spaces.PciBarTarget h = refl
-each_space spaces.Ipmi h = refl
-each_space spaces.GeneralIo h = refl
-each_space spaces.GenericSerialBus h = refl
-each_space spaces.PlatformCommunicationsChannel h = refl
-each_space spaces.FunctionalFixedHardware h = refl
-each_space (spaces.OemDefined code) h = rw h refl
-
-each_size : (s : AccessSize) → access_size_of (size_code s) ≡ Ok s
-each_size sizes.Undefined = refl
-each_size sizes.ByteAccess = refl
-each_size sizes.WordAccess = refl
-each_size sizes.DWordAccess = refl
-each_size sizes.QWordAccess = refl
-
 baud_by : (rate : ℕ) (none : Bool) → (rate == 0) ≡ none → option_or (unless 0 rate) (configured_baud (baud_code rate)) ≡ unless 0 rate
 baud_by rate true e = rw (eqb-true rate 0 e) refl
 baud_by rate false e = rw e refl
 
 -- ---- the base address
 
-generic_by : (raw : List ℕ) (a : GenericAddress) → field_of raw 0 1 ≡ space_code a.address_space → field_of raw 1 1 ≡ a.bit_width → field_of raw 2 1 ≡ a.bit_offset → field_of raw 3 1 ≡ size_code a.access_size → field_of raw 4 8 ≡ a.address
-    → has_own_code a.address_space ≡ true → generic_address_of raw ≡ Ok a
-unfolding generic_address_of
-generic_by raw a s w o z n own = rw (s, each_space a.address_space own, z, each_size a.access_size, w, o, n) refl
-
 address_in : (a : GenericAddress) → a.address < 2 ^ 64 → field_of (address_bytes a) 4 8 ≡ a.address
-unfolding address_bytes spelling field_of
-address_in a h = number-spelling 8 a.address (omega (arith, h))
+unfolding address_bytes
+address_in a h = address_field a h
 
-address_read : (a : GenericAddress) → a.address < 2 ^ 64 → has_own_code a.address_space ≡ true → generic_address_of (address_bytes a) ≡ Ok a
-unfolding address_bytes field_of
-address_read a h own =
-    generic_by (address_bytes a) a (one (space_code a.address_space)) (one a.bit_width) (one a.bit_offset) (one (size_code a.access_size)) (address_in a h) own
+address_read : (a : GenericAddress) → a.address < 2 ^ 64 → is_named_space a.address_space ≡ true → generic_address_of (address_bytes a) ≡ Ok a
+unfolding address_bytes
+address_read a h own = generic_read a h own
 
 all_zeros : field_of (replicate 12 0) 4 8 ≡ 0
 unfolding field_of
@@ -123,10 +89,6 @@ some_base true a e h somewhere =
 abbrev base_found : List ℕ → Option (Result GenericAddress AcpiError)
 base_found raw = if bytes_eq raw (replicate 12 0) then None else Some (generic_address_of raw)
 
-unnot : (b : Bool) → not b ≡ true → b ≡ false
-unnot true e = absurd cc
-unnot false e = refl
-
 no_base : base_found (address_bytes (base_written None)) ≡ None
 unfolding address_bytes spelling
 no_base = refl
@@ -134,7 +96,7 @@ no_base = refl
 base_by : (o : Option GenericAddress) → (base_written o).address < 2 ^ 64 → is_base o ≡ true → is_somewhere o ≡ true → base_found (address_bytes (base_written o)) ≡ option_map readable o
 base_by None h own somewhere = no_base
 base_by (Some a) h own somewhere =
-    rw (some_base (bytes_eq (address_bytes a) (replicate 12 0)) a refl h (unnot (a.address == 0) somewhere), address_read a h own) refl
+    rw (some_base (bytes_eq (address_bytes a) (replicate 12 0)) a refl h (is_off (a.address == 0) somewhere), address_read a h own) refl
 
 filled : (a : GenericAddress) → address_bytes a ++ replicate (12 - length (address_bytes a)) 0 ≡ address_bytes a
 unfolding address_bytes spelling

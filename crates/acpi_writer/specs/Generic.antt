@@ -23,6 +23,10 @@ abbrev pub generic_bytes : GenericAddress → List ℕ
 generic_bytes g =
     space_code g.address_space ∷ g.bit_width ∷ g.bit_offset ∷ size_code g.access_size ∷ spelling 8 g.address
 
+-- the same, for proofs that don't look into them
+unfoldable pub address_bytes : GenericAddress → List ℕ
+address_bytes g = generic_bytes g
+
 -- twelve zeros if there is none
 unfoldable pub register_bytes : Option GenericAddress → List ℕ
 register_bytes o = generic_bytes (register_or_zeros o)

@@ -14,7 +14,6 @@ pub mod Slit
 pub mod Srat
 pub mod SratLaws
 pub mod Bgrt
-pub mod Address
 pub mod Spcr
 pub mod SpcrLaws
 pub mod Flags

@@ -10,7 +10,7 @@ use Rattle.acpi_base.specs.declared.address.GenericAddress.{GenericAddress}
 use Rattle.acpi_base.specs.declared.table.signature.TheConstants.Signature.{SPCR}
 use Rattle.acpi_base.specs.declared.tables.spcr.interface.SpcrInterfaceType.{SpcrInterfaceType}
 use Rattle.acpi_base.specs.declared.tables.spcr.interface.SpcrInterfaceType.TheVariants as interface
-use Rattle.acpi_writer.specs.Address.{address_bytes, has_own_code}
+use Rattle.acpi_writer.specs.Generic.{address_bytes, is_named_space}
 use Rattle.acpi_writer.specs.Table.{table_written}
 use Rattle.acpi_writer.specs.declared.error.WriterError.{WriterError}
 use Rattle.acpi_writer.specs.declared.error.WriterError.TheVariants.{BadCode, LongName, NoAddress}
@@ -109,7 +109,7 @@ is_interface _ = true
 
 -- and so is that of the base address's space, if there is one
 abbrev pub is_base : Option GenericAddress → Bool
-is_base (Some a) = has_own_code a.address_space
+is_base (Some a) = is_named_space a.address_space
 is_base None = true
 
 -- and it isn't 0

@@ -57,18 +57,34 @@ pub(crate) fn register_or_zeros(register: Option<GenericAddress>) -> GenericAddr
     }
 }
 
+/// Whether the code of a space is one of its own: that of an OEM's is 0xc0 or above.
+pub(crate) fn is_named_space(space: AddressSpace) -> bool
+    ensures { result ≡ bytes.is_named_space space }
+{
+    match space {
+        AddressSpace::OemDefined(code) => code >= 0xc0,
+        _ => true,
+    }
+}
+
+/// The twelve bytes of a generic address.
+#[tactic(auto, unfolding(crate::specs::Generic::address_bytes, acpi_base::specs::Bytes::spelling))]
+pub(crate) fn address_bytes(address: GenericAddress) -> [u8; 12]
+    ensures { result ≡ bytes.address_bytes address }
+{
+    let space = space_code(address.address_space);
+    let size = size_code(address.access_size);
+    let [a, b, c, d, e, f, g, h] = qword(address.address);
+    let (width, offset) = (address.bit_width, address.bit_offset);
+    [space, width, offset, size, a, b, c, d, e, f, g, h]
+}
+
 /// Whether a register, if there is one, is at an address other than 0 of a space that its code names.
 pub(crate) fn is_register(register: Option<GenericAddress>) -> bool
     ensures { result ≡ bytes.is_register register }
 {
     match register {
-        Some(given) => {
-            let is_named = match given.address_space {
-                AddressSpace::OemDefined(code) => code >= 0xc0,
-                _ => true,
-            };
-            given.address != 0 && is_named
-        }
+        Some(given) => given.address != 0 && is_named_space(given.address_space),
         None => true,
     }
 }
@@ -85,25 +101,8 @@ impl Spelled for Option<GenericAddress> {
         if room < 12 { None } else { Some(12) }
     }
 
-    #[tactic(auto, unfolding(crate::specs::Generic::register_bytes, acpi_base::specs::Bytes::spelling))]
+    #[tactic(auto, unfolding(crate::specs::Generic::register_bytes, crate::specs::Generic::address_bytes))]
     fn put(&self, out: &mut [u8]) {
-        let register = register_or_zeros(*self);
-        let space = space_code(register.address_space);
-        let size = size_code(register.access_size);
-        let [a, b, c, d, e, f, g, h] = qword(register.address);
-        out.copy_from_slice(&[
-            space,
-            register.bit_width,
-            register.bit_offset,
-            size,
-            a,
-            b,
-            c,
-            d,
-            e,
-            f,
-            g,
-            h,
-        ]);
+        out.copy_from_slice(&address_bytes(register_or_zeros(*self)));
     }
 }

@@ -3,7 +3,6 @@
 //! Section numbers are those of the ACPI Specification, version 6.4.
 #![tactic(auto)]
 
-mod address;
 pub mod aml;
 pub mod bgrt;
 pub mod error;

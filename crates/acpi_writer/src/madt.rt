@@ -114,13 +114,13 @@ pub fn write_madt_of<P: Spelled, I: Spelled, O: Spelled, S: Spelled, L: Spelled>
     lists: &MadtLists<'_, P, I, O, S, L>,
 ) -> Result<usize, WriterError>
     ensures exact { let body = bytes.madt_body_of lists.now.local_apic_address
-            lists.now.also_has_legacy_pics lists.now.wakeup_mailbox (record {
-                processors = flat_map P.spelled lists.now.processors.now;
-                io_apics = flat_map I.spelled lists.now.io_apics.now;
-                overrides = flat_map O.spelled lists.now.interrupt_source_overrides.now;
-                nmi_sources = flat_map S.spelled lists.now.nmi_sources.now;
-                nmi_lines = flat_map L.spelled lists.now.local_apic_nmi_lines.now;
-            }) in
+        lists.now.also_has_legacy_pics lists.now.wakeup_mailbox (record {
+          processors = flat_map P.spelled lists.now.processors.now;
+          io_apics = flat_map I.spelled lists.now.io_apics.now;
+          overrides = flat_map O.spelled lists.now.interrupt_source_overrides.now;
+          nmi_sources = flat_map S.spelled lists.now.nmi_sources.now;
+          nmi_lines = flat_map L.spelled lists.now.local_apic_nmi_lines.now;
+        }) in
         Gives (λ n. take n out.new) result (table_written (length out.old) MADT 5 ids.now body)
         × IfOk result (λ n. IsTableOf MADT 5 ids.now body (take n out.new)) }
     ensures keeps { Keeps result out.old out.new }

@@ -9,8 +9,8 @@ ghost use Rattle.acpi_writer.specs.Table.{IsTableOf, Keeps, table_written};
 
 mod fields;
 
-use crate::address::has_own_code;
 use crate::error::WriterError;
+use crate::generic::is_named_space;
 use crate::ids::TableIds;
 use crate::spelled::{Bytes, Spelled, Then};
 use crate::table::write_table;
@@ -89,7 +89,7 @@ fn is_base(address: Option<GenericAddress>) -> bool
     ensures { result ≡ spcr.is_base address }
 {
     match address {
-        Some(base) => has_own_code(base.address_space),
+        Some(base) => is_named_space(base.address_space),
         None => true,
     }
 }

@@ -5,7 +5,7 @@ ghost use Rattle.acpi_writer.specs.Spcr as spcr;
 ghost use Rattle.acpi_writer.specs.SpcrLaws as laws;
 
 use super::{SpcrContents, SpcrPciDevice};
-use crate::address::address_bytes;
+use crate::generic::address_bytes;
 use crate::numbers::{dword, word};
 use crate::spelled::Spelled;
 use acpi_base::address::{AccessSize, AddressSpace, GenericAddress};
@@ -123,7 +123,7 @@ impl<'a> Spelled for Port<'a> {
 
     ghost fits = { λ p. laws.FitsPort p.0 };
 
-    #[tactic(auto, unfolding(crate::specs::Spcr::port_fields, crate::specs::Address::address_bytes, acpi_base::specs::Bytes::spelling))]
+    #[tactic(auto, unfolding(crate::specs::Spcr::port_fields, crate::specs::Generic::address_bytes, acpi_base::specs::Bytes::spelling))]
     fn measure(&self, room: usize) -> Option<usize> {
         let base = base_of(self.0.base_address);
         let _address = base.address;
@@ -131,7 +131,7 @@ impl<'a> Spelled for Port<'a> {
         if room < 28 { None } else { Some(28) }
     }
 
-    #[tactic(auto, unfolding(crate::specs::Spcr::port_fields, crate::specs::Address::address_bytes, acpi_base::specs::Bytes::spelling))]
+    #[tactic(auto, unfolding(crate::specs::Spcr::port_fields, crate::specs::Generic::address_bytes, acpi_base::specs::Bytes::spelling))]
     fn put(&self, out: &mut [u8]) {
         let c = self.0;
         let interface = interface_code(c.interface_type);
