@@ -2,6 +2,10 @@
 //! caller that writes one, proved (`machine`), which the documents show.
 #![tactic(auto)]
 
+#[cfg(test)]
+mod affinities;
+#[cfg(test)]
+mod devices;
 pub mod machine;
 #[cfg(test)]
 mod madt;

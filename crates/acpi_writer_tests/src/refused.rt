@@ -9,7 +9,7 @@ use acpi_writer::{
 use std::process::Abort;
 
 /// A byte that begins no text.
-const BAD: TableIds = TableIds {
+pub(crate) const BAD: TableIds = TableIds {
     creator_id: [b'Z', 0xff, b'G', b'Z'],
     ..IDS
 };

@@ -1,0 +1,140 @@
+//! A SRAT with an entry of each kind, byte by byte, and what isn't written (ACPI 6.4, section 5.2.16).
+
+use crate::refused::BAD;
+use crate::samples::{IDS, check};
+use acpi_numa::MemoryRange;
+use acpi_writer::{ApicDomain, GiccDomain, SratContents, WriterError, write_srat};
+
+/// Ids at the edge of what a Processor Local APIC/SAPIC Affinity holds: 255 stands for all there.
+const APICS: [ApicDomain; 2] = [
+    ApicDomain {
+        local_apic_id: 254,
+        domain: 0x01020304,
+    },
+    ApicDomain {
+        local_apic_id: 255,
+        domain: 5,
+    },
+];
+
+const GICCS: [GiccDomain; 1] = [GiccDomain {
+    processor_uid: 0x0708,
+    domain: 6,
+}];
+
+const LOW: MemoryRange = MemoryRange {
+    domain: 0,
+    base: 0,
+    length: 0xa0000,
+    is_hot_pluggable: true,
+    is_non_volatile: false,
+};
+
+/// The last byte of all isn't in it.
+const HIGH: MemoryRange = MemoryRange {
+    domain: 0x01020304,
+    base: 0xffff_ffff_ffff_f000,
+    length: 0xfff,
+    is_hot_pluggable: false,
+    is_non_volatile: true,
+};
+
+const SRAT: SratContents<'static> = SratContents {
+    apics: &APICS,
+    giccs: &GICCS,
+    ranges: &[LOW, HIGH],
+};
+
+#[rattlefmt::skip]
+const SRAT_BYTES: [u8; 186] = [
+    b'S', b'R', b'A', b'T', 186, 0, 0, 0, 3, 0x0e, // Signature, Length, Revision, Checksum
+    b'G', b'U', b'E', b'S', b'T', b' ', // OEMID
+    b'M', b'A', b'C', b'H', b'I', b'N', b'E', b' ', // OEM Table ID
+    4, 3, 2, 1, b'Z', b'U', b'G', b'Z', 8, 7, 6, 5, // OEM Revision, Creator ID, Creator Revision
+    1, 0, 0, 0, 0, 0, 0, 0, 0, 0, 0, 0, // Reserved
+    0, 16, 4, 254, 1, 0, 0, 0, 0, 3, 2, 1, 0, 0, 0, 0, // Processor Local APIC/SAPIC Affinity: domain 0x01020304
+    2, 24, 0, 0, 5, 0, 0, 0, 255, 0, 0, 0, 1, 0, 0, 0, 0, 0, 0, 0, 0, 0, 0, 0, // Processor Local x2APIC Affinity
+    3, 18, 6, 0, 0, 0, 8, 7, 0, 0, 1, 0, 0, 0, 0, 0, 0, 0, // GICC Affinity
+    1, 40, 0, 0, 0, 0, 0, 0, // Memory Affinity: domain 0
+    0, 0, 0, 0, 0, 0, 0, 0, 0, 0, 0x0a, 0, 0, 0, 0, 0, // Base Address, Length
+    0, 0, 0, 0, 3, 0, 0, 0, 0, 0, 0, 0, 0, 0, 0, 0, // Flags: Enabled, Hot Pluggable
+    1, 40, 4, 3, 2, 1, 0, 0, // Memory Affinity: domain 0x01020304
+    0, 0xf0, 255, 255, 255, 255, 255, 255, 0xff, 0x0f, 0, 0, 0, 0, 0, 0, // Base Address, Length
+    0, 0, 0, 0, 5, 0, 0, 0, 0, 0, 0, 0, 0, 0, 0, 0, // Flags: Enabled, NonVolatile
+];
+
+#[test]
+fn affinities_fill_their_room(rt: HostRuntime) {
+    let mut out = [7; 186];
+    let found = write_srat(&mut out, &IDS, &SRAT);
+    check(&rt, "SRAT", found, Ok(186), &out, &SRAT_BYTES);
+    let mut out = [7; 185];
+    let found = write_srat(&mut out, &IDS, &SRAT);
+    check(
+        &rt,
+        "less",
+        found,
+        Err(WriterError::NoRoom),
+        &out,
+        &[7; 185],
+    );
+}
+
+#[test]
+fn affinities_are_of_one_processor_and_of_bytes(rt: HostRuntime) {
+    let empty = MemoryRange { length: 0, ..LOW };
+    let past_end = MemoryRange {
+        length: 0x1000,
+        ..HIGH
+    };
+    let mut out = [7; 185];
+    for range in &[empty, past_end] {
+        let bad_range = SratContents {
+            ranges: &[LOW, *range],
+            ..SRAT
+        };
+        let found = write_srat(&mut out, &BAD, &bad_range);
+        check(
+            &rt,
+            "range",
+            found,
+            Err(WriterError::BadRange),
+            &out,
+            &[7; 185],
+        );
+        let bad_apic = SratContents {
+            apics: &[ApicDomain {
+                local_apic_id: 0xffffffff,
+                domain: 0,
+            }],
+            ..bad_range
+        };
+        let found = write_srat(&mut out, &BAD, &bad_apic);
+        check(&rt, "id", found, Err(WriterError::IdOfAll), &out, &[7; 185]);
+        let bad_gicc = SratContents {
+            giccs: &[GiccDomain {
+                processor_uid: 0xffffffff,
+                domain: 0,
+            }],
+            ..bad_range
+        };
+        let found = write_srat(&mut out, &BAD, &bad_gicc);
+        check(
+            &rt,
+            "uid",
+            found,
+            Err(WriterError::IdOfAll),
+            &out,
+            &[7; 185],
+        );
+    }
+    let found = write_srat(&mut out, &BAD, &SRAT);
+    check(
+        &rt,
+        "name",
+        found,
+        Err(WriterError::BadName),
+        &out,
+        &[7; 185],
+    );
+}

@@ -1,0 +1,201 @@
+//! An SPCR and a BGRT, byte by byte, and what isn't written (ACPI 6.4, section 5.2.22; the SPCR's layout is Microsoft's).
+
+use crate::refused::BAD;
+use crate::samples::{IDS, check};
+use acpi_base::address::{AccessSize, AddressSpace, GenericAddress};
+use acpi_base::spcr::{SpcrFlowControl, SpcrInterfaceType, SpcrInterruptType, SpcrTerminalType};
+use acpi_writer::{
+    BgrtContents, BgrtOrientation, SpcrContents, SpcrPciDevice, WriterError, write_bgrt, write_spcr,
+};
+use bitflags::Flags;
+
+const COM: GenericAddress = GenericAddress {
+    address_space: AddressSpace::SystemIo,
+    bit_width: 8,
+    bit_offset: 0,
+    access_size: AccessSize::ByteAccess,
+    address: 0x3f8,
+};
+
+/// A PCI device that is a 16550 on the 8259s and an I/O APIC.
+fn port() -> SpcrContents<'static> {
+    SpcrContents {
+        interface_type: SpcrInterfaceType::Generic16550,
+        base_address: Some(COM),
+        interrupt_type: SpcrInterruptType::from_bits_retain(3),
+        irq: 4,
+        global_system_interrupt: 0x08070605,
+        baud_rate: 115200,
+        parity: 0,
+        stop_bits: 1,
+        flow_control: SpcrFlowControl::RTS_CTS,
+        terminal_type: SpcrTerminalType::ANSI,
+        language: 0,
+        pci_device: Some(SpcrPciDevice {
+            device_id: 0x1234,
+            vendor_id: 0x8086,
+            bus: 1,
+            device: 2,
+            function: 3,
+            flags: 0x01020304,
+            segment: 5,
+        }),
+        uart_clock_frequency: 1_843_200,
+        namespace_string: "\\_SB.COM0",
+    }
+}
+
+#[rattlefmt::skip]
+const SPCR_BYTES: [u8; 98] = [
+    b'S', b'P', b'C', b'R', 98, 0, 0, 0, 4, 0x98, // Signature, Length, Revision, Checksum
+    b'G', b'U', b'E', b'S', b'T', b' ', // OEMID
+    b'M', b'A', b'C', b'H', b'I', b'N', b'E', b' ', // OEM Table ID
+    4, 3, 2, 1, b'Z', b'U', b'G', b'Z', 8, 7, 6, 5, // OEM Revision, Creator ID, Creator Revision
+    0x12, 0, 0, 0, 1, 8, 0, 1, 0xf8, 3, 0, 0, 0, 0, 0, 0, // Interface Type, Reserved, Base Address
+    3, 4, 5, 6, 7, 8, // Interrupt Type, IRQ, Global System Interrupt
+    7, 0, 1, 2, 8, 0, // Configured Baud Rate, Parity, Stop Bits, Flow Control, Terminal Type, Language
+    0x34, 0x12, 0x86, 0x80, 1, 2, 3, 4, 3, 2, 1, 5, // PCI: ids, bus, device, function, flags, segment
+    0, 0x20, 0x1c, 0, 0, 0xc2, 1, 0, 10, 0, 88, 0, // UART Clock Frequency, Precise Baud Rate, length and offset
+    b'\\', b'_', b'S', b'B', b'.', b'C', b'O', b'M', b'0', 0, // NamespaceString
+];
+
+/// No console, of an interface without a name.
+fn none() -> SpcrContents<'static> {
+    SpcrContents {
+        interface_type: SpcrInterfaceType::Unknown(0x16),
+        base_address: None,
+        interrupt_type: SpcrInterruptType::empty(),
+        irq: 0,
+        global_system_interrupt: 0,
+        baud_rate: 0,
+        parity: 0,
+        stop_bits: 0,
+        flow_control: SpcrFlowControl::empty(),
+        terminal_type: SpcrTerminalType::empty(),
+        language: 0,
+        pci_device: None,
+        uart_clock_frequency: 0,
+        namespace_string: ".",
+    }
+}
+
+#[rattlefmt::skip]
+const NONE_BYTES: [u8; 90] = [
+    b'S', b'P', b'C', b'R', 90, 0, 0, 0, 4, 0x9f, // Signature, Length, Revision, Checksum
+    b'G', b'U', b'E', b'S', b'T', b' ', // OEMID
+    b'M', b'A', b'C', b'H', b'I', b'N', b'E', b' ', // OEM Table ID
+    4, 3, 2, 1, b'Z', b'U', b'G', b'Z', 8, 7, 6, 5, // OEM Revision, Creator ID, Creator Revision
+    0x16, 0, 0, 0, 0, 0, 0, 0, 0, 0, 0, 0, 0, 0, 0, 0, // Interface Type, Reserved, Base Address
+    0, 0, 0, 0, 0, 0, // Interrupt Type, IRQ, Global System Interrupt
+    0, 0, 0, 0, 0, 0, // Configured Baud Rate, Parity, Stop Bits, Flow Control, Terminal Type, Language
+    255, 255, 255, 255, 0, 0, 0, 0, 0, 0, 0, 0, // PCI: ids, bus, device, function, flags, segment
+    0, 0, 0, 0, 0, 0, 0, 0, 2, 0, 88, 0, // UART Clock Frequency, Precise Baud Rate, length and offset
+    b'.', 0, // NamespaceString
+];
+
+/// An image that is on the screen, turned by three quarters.
+const IMAGE: BgrtContents = BgrtContents {
+    was_displayed: true,
+    orientation_offset: BgrtOrientation::Degrees270,
+    image_address: 0x1_00200000,
+    image_offset: (0x0102, 0x030405),
+};
+
+#[rattlefmt::skip]
+const BGRT_BYTES: [u8; 56] = [
+    b'B', b'G', b'R', b'T', 56, 0, 0, 0, 1, 0x2f, // Signature, Length, Revision, Checksum
+    b'G', b'U', b'E', b'S', b'T', b' ', // OEMID
+    b'M', b'A', b'C', b'H', b'I', b'N', b'E', b' ', // OEM Table ID
+    4, 3, 2, 1, b'Z', b'U', b'G', b'Z', 8, 7, 6, 5, // OEM Revision, Creator ID, Creator Revision
+    1, 0, 7, 0, 0, 0, 0x20, 0, 1, 0, 0, 0, // Version, Status, Image Type, Image Address
+    2, 1, 0, 0, 5, 4, 3, 0, // Image Offset X, Image Offset Y
+];
+
+#[test]
+fn devices_fill_their_room(rt: HostRuntime) {
+    let mut out = [7; 98];
+    let found = write_spcr(&mut out, &IDS, &port());
+    check(&rt, "SPCR", found, Ok(98), &out, &SPCR_BYTES);
+    let mut out = [7; 90];
+    let found = write_spcr(&mut out, &IDS, &none());
+    check(&rt, "none", found, Ok(90), &out, &NONE_BYTES);
+    let mut out = [7; 56];
+    let found = write_bgrt(&mut out, &IDS, &IMAGE);
+    check(&rt, "BGRT", found, Ok(56), &out, &BGRT_BYTES);
+}
+
+#[test]
+fn devices_need_their_room(rt: HostRuntime) {
+    let no_room = Err(WriterError::NoRoom);
+    let mut out = [7; 97];
+    let found = write_spcr(&mut out, &IDS, &port());
+    check(&rt, "SPCR", found, no_room, &out, &[7; 97]);
+    let mut out = [7; 55];
+    let found = write_bgrt(&mut out, &IDS, &IMAGE);
+    check(&rt, "BGRT", found, no_room, &out, &[7; 55]);
+    let found = write_bgrt(&mut out, &BAD, &IMAGE);
+    check(
+        &rt,
+        "name",
+        found,
+        Err(WriterError::BadName),
+        &out,
+        &[7; 55],
+    );
+}
+
+#[test]
+fn ports_have_codes_and_an_address(rt: HostRuntime) {
+    let mut out = [7; 98];
+    let nowhere = SpcrContents {
+        base_address: Some(GenericAddress { address: 0, ..COM }),
+        ..port()
+    };
+    let found = write_spcr(&mut out, &BAD, &nowhere);
+    check(
+        &rt,
+        "address 0",
+        found,
+        Err(WriterError::NoAddress),
+        &out,
+        &[7; 98],
+    );
+    let named = SpcrContents {
+        interface_type: SpcrInterfaceType::Unknown(0x15),
+        ..nowhere
+    };
+    let found = write_spcr(&mut out, &BAD, &named);
+    check(
+        &rt,
+        "interface",
+        found,
+        Err(WriterError::BadCode),
+        &out,
+        &[7; 98],
+    );
+    let reserved = SpcrContents {
+        base_address: Some(GenericAddress {
+            address_space: AddressSpace::OemDefined(0xbf),
+            ..COM
+        }),
+        ..port()
+    };
+    let found = write_spcr(&mut out, &BAD, &reserved);
+    check(
+        &rt,
+        "space",
+        found,
+        Err(WriterError::BadCode),
+        &out,
+        &[7; 98],
+    );
+    let found = write_spcr(&mut out, &BAD, &port());
+    check(
+        &rt,
+        "name",
+        found,
+        Err(WriterError::BadName),
+        &out,
+        &[7; 98],
+    );
+}
