@@ -1,6 +1,6 @@
 //! The Serial Port Console Redirection Table (SPCR, section 5.2.6), from what it says of a serial port. Its layout is
 //! Microsoft's.
-ghost use Rattle.std.specs.Prelude.{◌≡◌, ◌<◌, ◌&&◌, [], ◌∷◌, length, take, IfOk, IsUtf8};
+ghost use Rattle.std.specs.Prelude.{◌≡◌, ◌<◌, ◌&&◌, length, take, IfOk, IsUtf8};
 ghost use Rattle.acpi_base.specs.Steps.{Gives};
 ghost use Rattle.acpi_base.specs.declared.table.signature.TheConstants.Signature.{SPCR};
 ghost use Rattle.acpi_writer.specs.Spcr as spcr;
@@ -12,7 +12,7 @@ mod fields;
 use crate::error::WriterError;
 use crate::generic::is_named_space;
 use crate::ids::TableIds;
-use crate::spelled::{Bytes, Spelled, Then};
+use crate::spelled::{Bytes, Then};
 use crate::table::write_table;
 use acpi_base::Signature;
 use acpi_base::address::GenericAddress;
@@ -111,24 +111,6 @@ fn is_somewhere(address: Option<GenericAddress>) -> bool
     }
 }
 
-/// The zero that ends a string.
-#[derive(Clone, Copy)]
-struct End;
-
-impl Spelled for End {
-    ghost spelled = { λ _. 0 ∷ [] };
-
-    ghost fits = { λ _. Unit {0} };
-
-    fn measure(&self, room: usize) -> Option<usize> {
-        if room < 1 { None } else { Some(1) }
-    }
-
-    fn put(&self, out: &mut [u8]) {
-        out.copy_from_slice(&[0]);
-    }
-}
-
 /// Writes an SPCR whose contents may be written.
 ///
 /// Returns, in this order, `BadName`, `NoRoom` and `TooLong`.
@@ -153,7 +135,9 @@ fn write_contents(
         baud_rate: contents.baud_rate,
         name_length: name.len() as u16 + 1,
     };
-    let body = Then(Port(*contents), Then(console, Then(Bytes(name), End)));
+    // A zero ends the name.
+    let text = Then(Bytes(name), Bytes(&[0]));
+    let body = Then(Port(*contents), Then(console, text));
     write_table(out, Signature::SPCR, 4, ids, &body)
 }
 

@@ -10,7 +10,7 @@ ghost use Rattle.acpi_writer.specs.Table.{IsTableOf, Keeps, table_written};
 use crate::error::WriterError;
 use crate::ids::TableIds;
 use crate::numbers::{bit_of, dword, qword};
-use crate::spelled::{Each, Spelled, Then};
+use crate::spelled::{Bytes, Each, Spelled, Then};
 use crate::table::write_table;
 use acpi_base::Signature;
 use acpi_numa::MemoryRange;
@@ -132,24 +132,6 @@ impl Spelled for MemoryRange {
     }
 }
 
-/// The twelve bytes of a SRAT between its header and its entries.
-#[derive(Clone, Copy)]
-struct Reserved;
-
-impl Spelled for Reserved {
-    ghost spelled = { λ _. srat.srat_reserved };
-
-    ghost fits = { λ _. Unit {0} };
-
-    fn measure(&self, room: usize) -> Option<usize> {
-        if room < 12 { None } else { Some(12) }
-    }
-
-    fn put(&self, out: &mut [u8]) {
-        out.copy_from_slice(&[1, 0, 0, 0, 0, 0, 0, 0, 0, 0, 0, 0]);
-    }
-}
-
 /// Whether no processor has the id that stands for all.
 fn apics_fit(apics: &[ApicDomain]) -> bool
     ensures { result ≡ list_all srat.is_one_apic apics.now }
@@ -195,7 +177,9 @@ fn write_contents(
 {
     let others = Then(Each(contents.giccs), Each(contents.ranges));
     let entries = Then(Each(contents.apics), others);
-    write_table(out, Signature::SRAT, 3, ids, &Then(Reserved, entries))
+    // Reserved, of which the first is 1.
+    let reserved = Bytes(&[1, 0, 0, 0, 0, 0, 0, 0, 0, 0, 0, 0]);
+    write_table(out, Signature::SRAT, 3, ids, &Then(reserved, entries))
 }
 
 /// Writes a SRAT of revision 3 to the front of a slice, and returns how many bytes it has: 48, and those of its entries,
