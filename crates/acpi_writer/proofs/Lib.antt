@@ -22,3 +22,4 @@ pub mod FadtParts
 pub mod FadtFeatures
 pub mod FadtWritten
 pub mod FadtRead
+pub mod FacsRead

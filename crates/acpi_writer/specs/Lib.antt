@@ -20,3 +20,4 @@ pub mod Flags
 pub mod Generic
 pub mod FadtBytes
 pub mod FadtLaws
+pub mod Facs

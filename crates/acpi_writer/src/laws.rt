@@ -1,6 +1,7 @@
 //! Laws of the tables that are written: each is the contract of a function that does nothing.
 ghost use Rattle.acpi_writer.specs.Aml.{DsdtIsRead, SsdtIsRead};
 ghost use Rattle.acpi_writer.specs.Bgrt.{BgrtIsRead, BgrtIsValid};
+ghost use Rattle.acpi_writer.specs.Facs.{FacsIsRead};
 ghost use Rattle.acpi_writer.specs.FadtLaws.{FadtIsRead, FadtIsValid};
 ghost use Rattle.acpi_writer.specs.HpetLaws.{HpetIsRead, HpetIsValid};
 ghost use Rattle.acpi_writer.specs.ImageLaws.{HpetInImage, MadtInImage, McfgInImage, PlatformInImage};
@@ -150,4 +151,9 @@ pub fn fadt_is_valid()
 /// What calls of `Fadt` return of a FADT that is written is exactly what was given.
 pub fn fadt_is_read()
     ensures { FadtIsRead }
+{}
+
+/// A reader finds a FACS that is written where a memory has it, and its fields have what was given.
+pub fn facs_is_read()
+    ensures { FacsIsRead }
 {}

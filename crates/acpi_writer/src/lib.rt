@@ -6,6 +6,7 @@
 pub mod aml;
 pub mod bgrt;
 pub mod error;
+pub mod facs;
 pub mod fadt;
 mod flags;
 mod generic;
@@ -26,6 +27,7 @@ mod table;
 pub use aml::{write_dsdt, write_ssdt};
 pub use bgrt::{BgrtContents, BgrtOrientation, write_bgrt};
 pub use error::WriterError;
+pub use facs::{FacsContents, write_facs};
 pub use fadt::{FadtContents, FadtHardware, write_fadt};
 pub use hpet::write_hpet;
 pub use ids::TableIds;

@@ -63,7 +63,7 @@ pub fn write_rsdp(out: &mut [u8], ids: &TableIds, xsdt: u64) -> Result<usize, Wr
 }
 
 /// Puts bytes to the front of a slice.
-fn put_front(out: &mut [u8], bytes: &[u8])
+pub(crate) fn put_front(out: &mut [u8], bytes: &[u8])
     requires { length bytes.now < length out.old + 1 }
     ensures { out.new ≡ bytes.now ++ drop (length bytes.now) out.old }
 {

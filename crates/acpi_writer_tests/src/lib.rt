@@ -6,6 +6,8 @@
 mod affinities;
 #[cfg(test)]
 mod devices;
+#[cfg(test)]
+mod fadt;
 pub mod machine;
 #[cfg(test)]
 mod madt;
