@@ -1,6 +1,8 @@
 pub mod LittleEndian
 pub mod Parts
 pub mod Tables
+pub mod Rows
+pub mod Bits
 pub mod Speaks
 pub mod Says
 pub mod MadtRead
@@ -23,3 +25,4 @@ pub mod FadtFeatures
 pub mod FadtWritten
 pub mod FadtRead
 pub mod FacsRead
+pub mod GicRead

@@ -5,7 +5,7 @@ use Rattle.std.specs.List.{AllByRecursion, filter_map, list_all, list_any}
 use Rattle.std.specs.Option.{ok_or}
 use Rattle.std.proofs.lemmas.Bool.{and_parts, ltb-true}
 use Rattle.std.proofs.lemmas.List.{append-nil, drop_at, drop-drop}
-use Rattle.std.proofs.lemmas.List.Elements.{filter_map-append, recursion_from_All}
+use Rattle.std.proofs.lemmas.List.Elements.{recursion_from_All}
 use Rattle.std.specs.Str.{chars, is_utf8}
 use Rattle.acpi_base.proofs.Spelling.{number-spelling}
 use Rattle.acpi_base.specs.Bits.{has_bit}
@@ -31,26 +31,12 @@ use Rattle.acpi_writer.specs.declared.madt.MadtContents.{MadtContents}
 use Rattle.acpi_writer.specs.declared.madt.MadtProcessor.{MadtProcessor}
 use Rattle.acpi_writer.specs.MadtBytes.{io_apic_entry, is_empty, madt_body, madt_entries, madt_fixed, names_one, nmi_line_entry, nmi_source_entry, override_entry, processor_entry}
 use Rattle.acpi_writer.specs.MadtLaws.{AreFit, FitsIoApic, FitsNmiSource, FitsOverride, FitsProcessor, IsMadt, MadtIsRead, MadtIsValid, MailboxIsRead, apic_read, processor_read, processors_read}
+use Rattle.acpi_writer.proofs.Rows.{all_of, both, each_of, none_of}
 use Rattle.acpi_writer.proofs.Says.{address_items, address_says, boxes_read, io_apic_says, nmi_line_says, nmi_source_says, override_says, processor_item, processor_says, wakeup_items, wakeup_says}
 use Rattle.acpi_writer.proofs.Speaks.{Speaks, speaks_all, speaks_both, spoken_cut, spoken_mailbox, spoken_model}
 use Rattle.acpi_writer.proofs.Tables as table
 
 -- ---- sorts of items
-
-none_of : {X Y : Type 0} (h : MadtItem → Option Y) (g : X → MadtItem) → ((x : X) → h (g x) ≡ None) → (xs : List X) → filter_map h (map g xs) ≡ []
-none_of h g e [] = refl
-none_of h g e (x ∷ xs) = rw (e x) (none_of h g e xs)
-
-each_of : {X Y : Type 0} (h : MadtItem → Option Y) (g : X → MadtItem) (k : X → Y) → ((x : X) → h (g x) ≡ Some (k x)) → (xs : List X) → filter_map h (map g xs) ≡ map k xs
-each_of h g k e [] = refl
-each_of h g k e (x ∷ xs) = rw (e x) (ap (λ ys. k x ∷ ys) (each_of h g k e xs))
-
-all_of : {X : Type 0} (h : MadtItem → Option X) (g : X → MadtItem) → ((x : X) → h (g x) ≡ Some x) → (xs : List X) → filter_map h (map g xs) ≡ xs
-all_of h g e [] = refl
-all_of h g e (x ∷ xs) = rw (e x) (ap (λ ys. x ∷ ys) (all_of h g e xs))
-
-both : {X : Type 0} (h : MadtItem → Option X) (a b : List MadtItem) (x y : List X) → filter_map h a ≡ x → filter_map h b ≡ y → filter_map h (a ++ b) ≡ x ++ y
-both h a b x y e f = filter_map-append h a b ∙ ap (λ z. z ++ filter_map h b) e ∙ ap (λ z. x ++ z) f
 
 seven : {X : Type 0} (h : MadtItem → Option X) (a b c d e f g : List MadtItem) (t u v w x y z : List X)
     → filter_map h a ≡ t → filter_map h b ≡ u → filter_map h c ≡ v → filter_map h d ≡ w → filter_map h e ≡ x → filter_map h f ≡ y → filter_map h g ≡ z

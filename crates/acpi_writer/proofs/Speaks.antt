@@ -1,15 +1,13 @@
 -- Bytes that are entries of a MADT, what they say, and which mailboxes they have.
-use Rattle.std.proofs.Common.{◌≡◌, ℕ, List, [], ◌∷◌, ◌++◌, length, map, drop, Option, Some, None, Result, Ok, Err, refl, sym, ap, ◌∙◌, arith, length-append}
+use Rattle.std.proofs.Common.{◌≡◌, ℕ, List, [], ◌∷◌, ◌++◌, length, map, drop, Option, Some, None, Result, Ok, Err, refl, sym, ap, ◌∙◌}
 use Rattle.std.specs.Prelude.{flat_map, option_and_then, slice_get}
-use Rattle.std.specs.List.{AllByRecursion, concat, cons_option, filter_map}
+use Rattle.std.specs.List.{AllByRecursion, cons_option, filter_map}
 use Rattle.std.specs.Option.{ok_or}
 use Rattle.std.specs.Result.{result_err, result_ok}
-use Rattle.std.proofs.lemmas.List.{append-nil, map-append}
+use Rattle.std.proofs.lemmas.List.{map-append}
 use Rattle.std.proofs.lemmas.List.Elements.{filter_map-append}
-use Rattle.std.proofs.lemmas.List.Folds.{concat-append}
-use Rattle.acpi_base.proofs.Cuts.{cut_is_cut, one_cut}
 use Rattle.acpi_base.proofs.EntryLists.{said_faults, said_items}
-use Rattle.acpi_base.specs.Entries.{IsCut, IsEntry, cut}
+use Rattle.acpi_base.specs.Entries.{IsEntry, cut}
 use Rattle.acpi_base.specs.Items.{said_of}
 use Rattle.acpi_base.specs.Madt.{cut_of, entries_of, entry_of, madt_at, madt_grammar, madt_layout, mailbox_in, mailbox_of, no_mailbox}
 use Rattle.acpi_base.specs.Model.{Model, fault_in, fault_of, first_fault, items_of, model_from, model_of}
@@ -19,6 +17,7 @@ use Rattle.acpi_base.specs.declared.error.MadtError.{MadtError}
 use Rattle.acpi_base.specs.declared.tables.madt.Madt.{Madt}
 use Rattle.acpi_base.specs.declared.tables.madt.entry.MadtEntry.{MadtEntry}
 use Rattle.acpi_base.specs.declared.model.item.MadtItem.{MadtItem}
+use Rattle.acpi_writer.proofs.Rows.{AreRows, both_rows, no_rows, one_row, rows_are_cut}
 
 abbrev pub fine : MadtItem → Result MadtItem MadtError
 fine x = Ok x
@@ -30,13 +29,12 @@ box_of e = option_and_then mailbox_in (entry_of e)
 -- the bytes are entries, one after the other, which say these items, and have these mailboxes
 pub record Speaks (bytes : List ℕ) (items : List MadtItem) (boxes : List ℕ) : Type 0 where
   pub entries : List (List ℕ)
-  pub whole : concat entries ≡ bytes
-  pub each : AllByRecursion (IsEntry madt_layout) entries
+  pub are : AreRows madt_layout bytes entries
   pub said : filter_map said_of entries ≡ map fine items
   pub boxed : filter_map box_of entries ≡ boxes
 
 pub speaks_nothing : Speaks [] [] []
-speaks_nothing = record { entries = []; whole = refl; each = tt; said = refl; boxed = refl }
+speaks_nothing = record { entries = []; are = no_rows madt_layout; said = refl; boxed = refl }
 
 said_one : (e : List ℕ) (x : MadtItem) → said_of e ≡ Some (fine x) → filter_map said_of (e ∷ []) ≡ map fine (x ∷ [])
 said_one e x said = rw said refl
@@ -48,20 +46,15 @@ one_box : (e : List ℕ) (a : ℕ) → box_of e ≡ Some a → filter_map box_of
 one_box e a some = rw some refl
 
 pub speaks_one : (e : List ℕ) (x : MadtItem) → IsEntry madt_layout e → said_of e ≡ Some (fine x) → box_of e ≡ None → Speaks e (x ∷ []) []
-speaks_one e x is said none = record { entries = e ∷ []; whole = append-nil e; each = (is, tt); said = said_one e x said; boxed = no_box e none }
+speaks_one e x is said none = record { entries = e ∷ []; are = one_row madt_layout e is; said = said_one e x said; boxed = no_box e none }
 
 pub speaks_box : (e : List ℕ) (x : MadtItem) (a : ℕ) → IsEntry madt_layout e → said_of e ≡ Some (fine x) → box_of e ≡ Some a → Speaks e (x ∷ []) (a ∷ [])
-speaks_box e x a is said some = record { entries = e ∷ []; whole = append-nil e; each = (is, tt); said = said_one e x said; boxed = one_box e a some }
-
-all_both : (es fs : List (List ℕ)) → AllByRecursion (IsEntry madt_layout) es → AllByRecursion (IsEntry madt_layout) fs → AllByRecursion (IsEntry madt_layout) (es ++ fs)
-all_both [] fs a b = b
-all_both (e ∷ es) fs a b = (a.0, all_both es fs a.1 b)
+speaks_box e x a is said some = record { entries = e ∷ []; are = one_row madt_layout e is; said = said_one e x said; boxed = one_box e a some }
 
 pub speaks_both : (a b : List ℕ) (xs ys : List MadtItem) (us vs : List ℕ) → Speaks a xs us → Speaks b ys vs → Speaks (a ++ b) (xs ++ ys) (us ++ vs)
 speaks_both a b xs ys us vs p q = record {
   entries = p.entries ++ q.entries;
-  whole = concat-append p.entries q.entries ∙ ap (λ z. z ++ concat q.entries) p.whole ∙ ap (λ z. a ++ z) q.whole;
-  each = all_both p.entries q.entries p.each q.each;
+  are = both_rows madt_layout a b p.entries q.entries p.are q.are;
   said = filter_map-append said_of p.entries q.entries ∙ ap (λ z. z ++ filter_map said_of q.entries) p.said ∙ ap (λ z. map fine xs ++ z) q.said ∙ sym (map-append fine xs ys);
   boxed = filter_map-append box_of p.entries q.entries ∙ ap (λ z. z ++ filter_map box_of q.entries) p.boxed ∙ ap (λ z. us ++ z) q.boxed;
 }
@@ -72,19 +65,8 @@ speaks_all P f g each (x ∷ xs) all = speaks_both (f x) (flat_map f xs) (g x �
 
 -- ---- what a reader finds in them
 
-no_more : (e more : List ℕ) → [] ≡ e ++ more → IsEntry madt_layout e → ⊥
-no_more e more w i = omega (arith, i.header, ap length w, length-append e more)
-
-cut_whole : (bytes : List ℕ) (items : List MadtItem) (boxes : List ℕ) (s : Speaks bytes items boxes) → IsCut madt_grammar bytes s.entries []
-cut_whole bytes items boxes s = record {
-  whole = sym s.whole ∙ sym (append-nil (concat s.entries));
-  entries = s.each;
-  few = λ bound same. cc;
-  ends = λ e more w i. absurd (no_more e more w i);
-}
-
 pub spoken_cut : (bytes : List ℕ) (items : List MadtItem) (boxes : List ℕ) (s : Speaks bytes items boxes) → ((cut madt_grammar bytes).0 ≡ s.entries) × ((cut madt_grammar bytes).1 ≡ [])
-spoken_cut bytes items boxes s = one_cut 17 madt_grammar bytes (cut madt_grammar bytes).0 s.entries (cut madt_grammar bytes).1 [] (cut_is_cut 17 madt_grammar bytes) (cut_whole bytes items boxes s)
+spoken_cut bytes items boxes s = rows_are_cut madt_grammar bytes s.entries (λ bound same. cc) s.are
 
 oks : (items : List MadtItem) → filter_map result_ok (map fine items) ≡ items
 oks [] = refl

@@ -21,3 +21,6 @@ pub mod Generic
 pub mod FadtBytes
 pub mod FadtLaws
 pub mod Facs
+pub mod Arm
+pub mod Checked
+pub mod GicMadt

@@ -11,7 +11,8 @@ pub enum WriterError {
     UidOfAll,
     /// A SLIT without a distance for each pair of localities.
     BadMatrix,
-    /// An RSDP, or a FADT, that leads to address 0, or a serial port at address 0.
+    /// An address that stands for none: of 0 in an RSDP, a FADT or of a serial port, and of all ones as a base address
+    /// in a GTDT.
     NoAddress,
     /// A FADT with a `Reserved` profile whose code is that of one that has a name.
     BadProfile,
@@ -29,4 +30,8 @@ pub enum WriterError {
     BadCode,
     /// A name in the namespace of 65535 bytes or more, whose length its field can't say.
     LongName,
+    /// A trigger mode or a polarity of an Arm machine that is that of a bus.
+    SameAsBus,
+    /// A GT Block with more than 1637 frames, whose bytes its field Length can't say.
+    TooManyFrames,
 }

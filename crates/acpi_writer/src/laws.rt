@@ -3,6 +3,7 @@ ghost use Rattle.acpi_writer.specs.Aml.{DsdtIsRead, SsdtIsRead};
 ghost use Rattle.acpi_writer.specs.Bgrt.{BgrtIsRead, BgrtIsValid};
 ghost use Rattle.acpi_writer.specs.Facs.{FacsIsRead};
 ghost use Rattle.acpi_writer.specs.FadtLaws.{FadtIsRead, FadtIsValid};
+ghost use Rattle.acpi_writer.specs.GicMadt.{GicMadtIsRead, GicMadtIsValid};
 ghost use Rattle.acpi_writer.specs.HpetLaws.{HpetIsRead, HpetIsValid};
 ghost use Rattle.acpi_writer.specs.ImageLaws.{HpetInImage, MadtInImage, McfgInImage, PlatformInImage};
 ghost use Rattle.acpi_writer.specs.MadtLaws.{MadtIsRead, MadtIsValid, MailboxIsRead};
@@ -156,4 +157,14 @@ pub fn fadt_is_read()
 /// A reader finds a FACS that is written where a memory has it, and its fields have what was given.
 pub fn facs_is_read()
     ensures { FacsIsRead }
+{}
+
+/// The GIC of a MADT of an Arm machine that is written is exactly the one that was given, each list in order.
+pub fn gic_madt_is_read<A: Allocator>()
+    ensures { GicMadtIsRead A }
+{}
+
+/// A MADT of an Arm machine that is written passes each check of a table, and `write_image` takes it.
+pub fn gic_madt_is_valid()
+    ensures { GicMadtIsValid }
 {}

@@ -4,7 +4,9 @@
 #![tactic(auto)]
 
 pub mod aml;
+mod arm;
 pub mod bgrt;
+mod checked;
 pub mod error;
 pub mod facs;
 pub mod fadt;
@@ -31,6 +33,7 @@ pub use facs::{FacsContents, write_facs};
 pub use fadt::{FadtContents, FadtHardware, write_fadt};
 pub use hpet::write_hpet;
 pub use ids::TableIds;
+pub use madt::gic::{GicContents, write_gic_madt};
 pub use madt::{MadtContents, MadtProcessor, write_madt};
 pub use mcfg::write_mcfg;
 pub use root::{write_rsdt, write_xsdt};

@@ -8,6 +8,7 @@ ghost use Rattle.acpi_writer.specs.MadtLaws.{AreFit, FitsAddress, FitsMailbox, I
 ghost use Rattle.acpi_writer.specs.Table.{IsTableOf, Keeps, table_written};
 
 mod entries;
+pub mod gic;
 
 use crate::error::WriterError;
 use crate::ids::TableIds;

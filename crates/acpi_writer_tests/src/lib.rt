@@ -8,6 +8,8 @@ mod affinities;
 mod devices;
 #[cfg(test)]
 mod fadt;
+#[cfg(test)]
+mod gic;
 pub mod machine;
 #[cfg(test)]
 mod madt;

@@ -1,0 +1,37 @@
+//! What has to be asked of each thing in a list before a table is written.
+ghost use Rattle.std.specs.Prelude.{◌≡◌, Result};
+ghost use Rattle.acpi_base.specs.Steps as steps;
+ghost use Rattle.acpi_writer.specs.Checked.{all_checked};
+ghost use Rattle.acpi_writer.specs.declared.error.WriterError.{WriterError};
+
+use crate::error::WriterError;
+
+/// Something that a table may have no place for.
+pub(crate) trait Checked {
+    // The error, if a table has none.
+    ghost checked: { Self → Result (Unit {0}) WriterError };
+
+    /// Returns an error if a table has no place for it.
+    fn check(&self) -> Result<(), WriterError>
+        ensures { result ≡ checked self.now };
+}
+
+/// Returns the first error.
+pub(crate) fn check_all<T: Checked>(xs: &[T]) -> Result<(), WriterError>
+    ensures { result ≡ all_checked T.checked xs.now }
+{
+    for x in xs {
+        match x.check() {
+            Ok(()) => {}
+            Err(error) => return Err(error),
+        }
+    }
+    Ok(())
+}
+
+/// Returns an error if something doesn't hold.
+pub(crate) fn require(holds: bool, error: WriterError) -> Result<(), WriterError>
+    ensures { result ≡ steps.holds holds error }
+{
+    if holds { Ok(()) } else { Err(error) }
+}

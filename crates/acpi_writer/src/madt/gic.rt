@@ -1,0 +1,94 @@
+//! The MADT of an Arm machine, from its Generic Interrupt Controller (GIC, sections 5.2.12.14 to 5.2.12.18).
+ghost use Rattle.std.specs.Prelude.{◌≡◌, length, take, IfOk};
+ghost use Rattle.std.specs.List.{list_all};
+ghost use Rattle.acpi_base.specs.Steps.{Gives};
+ghost use Rattle.acpi_base.specs.declared.table.signature.TheConstants.Signature.{MADT};
+ghost use Rattle.acpi_writer.specs.GicMadt.{AreGicFit, IsGicMadt, gic_body, gic_written};
+ghost use Rattle.acpi_writer.specs.Table.{IsTableOf, Keeps, table_written};
+
+mod entries;
+
+use super::entries::Fixed;
+use crate::checked::check_all;
+use crate::error::WriterError;
+use crate::ids::TableIds;
+use crate::spelled::{Each, Then};
+use crate::table::write_table;
+use acpi_arm::gic::{
+    GicCpuInterface, GicDistributor, GicMsiFrame, GicRedistributors, GicTranslationService,
+};
+use acpi_base::Signature;
+
+/// What the MADT of an Arm machine is to say, in the fields of `GicModel`, as which it is read.
+#[derive(Clone, Copy)]
+pub struct GicContents<'a> {
+    /// GIC Distributor (GICD).
+    pub distributor: GicDistributor,
+    /// GIC CPU Interfaces (GICC): the processors, of which the first is the boot processor.
+    pub cpu_interfaces: &'a [GicCpuInterface],
+    /// GIC Redistributors (GICR).
+    pub redistributors: &'a [GicRedistributors],
+    /// GIC Interrupt Translation Services (ITS).
+    pub translation_services: &'a [GicTranslationService],
+    /// GIC MSI Frames.
+    pub msi_frames: &'a [GicMsiFrame],
+}
+
+/// Writes a MADT whose contents may be written.
+///
+/// Returns, in this order, `BadName`, `NoRoom` and `TooLong`.
+fn write_contents(
+    out: &mut [u8],
+    ids: &TableIds,
+    contents: &GicContents<'_>,
+) -> Result<usize, WriterError>
+    ensures exact { Gives (λ n. take n out.new) result
+        (table_written (length out.old) MADT 6 ids.now (gic_body contents.now)) }
+    ensures keeps { Keeps result out.old out.new }
+    ensures table { IfOk result (λ n.
+        IsTableOf MADT 6 ids.now (gic_body contents.now) (take n out.new)) }
+    ensures fits { IfOk result (λ n. AreGicFit contents.now) }
+{
+    let fixed = Fixed {
+        local_apic_address: 0,
+        also_has_legacy_pics: false,
+    };
+    let messages = Then(
+        Each(contents.translation_services),
+        Each(contents.msi_frames),
+    );
+    let redistributors = Then(Each(contents.redistributors), messages);
+    let entries = Then(
+        contents.distributor,
+        Then(Each(contents.cpu_interfaces), redistributors),
+    );
+    write_table(out, Signature::MADT, 6, ids, &Then(fixed, entries))
+}
+
+/// Writes the MADT of an Arm machine, of revision 6, to the front of a slice, and returns how many bytes it has. Its
+/// entries stand in the order of the fields. A GICC has 80 bytes if its `trace_buffer_interrupt` is `None`, and
+/// otherwise 82, as since ACPI 6.5. Local Interrupt Controller Address and Flags, which are those of APICs, are 0. Two
+/// processors of one uid are written as they are.
+///
+/// Returns, in this order, `NoProcessor` if there is no processor, `SameAsBus` if a trigger mode is that of a bus,
+/// `BadName` if a name of the ids is not valid UTF-8, `NoRoom` if the slice is shorter than the table, and `TooLong` if
+/// the table has 2^32 bytes or more.
+pub fn write_gic_madt(
+    out: &mut [u8],
+    ids: &TableIds,
+    contents: &GicContents<'_>,
+) -> Result<usize, WriterError>
+    // The bytes, or the first error, are those that are defined.
+    ensures exact { Gives (λ n. take n out.new) result
+        (gic_written (length out.old) ids.now contents.now) }
+    // What stands after the table is unchanged, and after an error the whole slice is.
+    ensures keeps { Keeps result out.old out.new }
+    // The numbers that were given fit, so that what was given is what is read (`gic_madt_is_read`).
+    ensures fits { IfOk result (λ n. IsGicMadt ids.now contents.now (take n out.new)) }
+{
+    if contents.cpu_interfaces.len() < 1 {
+        return Err(WriterError::NoProcessor);
+    }
+    check_all(contents.cpu_interfaces)?;
+    write_contents(out, ids, contents)
+}
