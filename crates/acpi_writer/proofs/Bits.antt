@@ -1,4 +1,4 @@
--- Flags, trigger modes and single bytes as they are read, equal functions of equal values, and checks that were passed.
+-- Flags, trigger modes, polarities and single bytes as they are read, equal functions of equal values, and checks that were passed.
 use Rattle.std.proofs.Common.{◌≡◌, ℕ, Bool, true, false, List, [], ◌∷◌, Result, Ok, Err, refl, sym, ap, ◌∙◌, arith}
 use Rattle.std.specs.Prelude.{if◌then◌else◌}
 use Rattle.std.specs.List.{AllByRecursion}
@@ -6,9 +6,11 @@ use Rattle.std.specs.Result.{IsErrAnd}
 use Rattle.acpi_base.specs.Bits.{has_bit}
 use Rattle.acpi_base.specs.Bytes.{number}
 use Rattle.acpi_base.specs.Steps.{Gives, ◌>>=◌, holds}
+use Rattle.acpi_base.specs.declared.model.interrupt.Polarity.{Polarity}
+use Rattle.acpi_base.specs.declared.model.interrupt.Polarity.TheVariants as polarity
 use Rattle.acpi_base.specs.declared.model.interrupt.TriggerMode.{TriggerMode}
 use Rattle.acpi_base.specs.declared.model.interrupt.TriggerMode.TheVariants.{Edge, Level, SameAsBus}
-use Rattle.acpi_writer.specs.Arm.{flags_of, has_trigger, is_edge}
+use Rattle.acpi_writer.specs.Arm.{flags_of, has_polarity, has_trigger, is_edge, is_low}
 use Rattle.acpi_writer.specs.Checked.{all_checked}
 
 pub one : (n : ℕ) → number (n ∷ []) ≡ n
@@ -50,20 +52,28 @@ mode_is Edge has = refl
 mode_is Level has = refl
 mode_is SameAsBus has = absurd cc
 
+abbrev pub way : Bool → Polarity
+way low = if low then polarity.ActiveLow else polarity.ActiveHigh
+
+pub way_is : (p : Polarity) → has_polarity p ≡ true → way (is_low p) ≡ p
+way_is polarity.ActiveLow has = refl
+way_is polarity.ActiveHigh has = refl
+way_is polarity.SameAsBus has = absurd cc
+
 -- ---- checks
 
 pub was_true : {E : Type 0} (b : Bool) (e : E) → holds b e ≡ Ok tt → b ≡ true
 was_true true e good = refl
 was_true false e good = absurd cc
 
-first_good : {X E : Type 0} (f : X → Result (Unit {0}) E) (r : Result (Unit {0}) E) (xs : List X) → (r >>= λ _. all_checked f xs) ≡ Ok tt → (r ≡ Ok tt) × (all_checked f xs ≡ Ok tt)
-first_good f (Ok tt) xs good = (refl, good)
-first_good f (Err e) xs good = absurd cc
+pub first_good : {E : Type 0} (r : Result (Unit {0}) E) (f : Unit {0} → Result (Unit {0}) E) → (r >>= f) ≡ Ok tt → (r ≡ Ok tt) × (f tt ≡ Ok tt)
+first_good (Ok tt) f good = (refl, good)
+first_good (Err e) f good = absurd cc
 
 pub each_good : {X E : Type 0} (f : X → Result (Unit {0}) E) (xs : List X) → all_checked f xs ≡ Ok tt → AllByRecursion (λ x. f x ≡ Ok tt) xs
 each_good f [] good = tt
 each_good f (x ∷ xs) good =
-    let p = first_good f (f x) xs good in
+    let p = first_good (f x) (λ _. all_checked f xs) good in
     (p.0, each_good f xs p.1)
 
 abbrev failed : {Y E : Type 0} → E → Result Y E

@@ -26,3 +26,4 @@ pub mod FadtWritten
 pub mod FadtRead
 pub mod FacsRead
 pub mod GicRead
+pub mod GtdtRead

@@ -2,7 +2,7 @@
 use Rattle.std.proofs.Common.{◌≡◌, ℕ, ◌≤◌, List, [], ◌∷◌, ◌++◌, length, map, Option, Some, None, refl, sym, ap, ◌∙◌, arith, lit≤, length-append}
 use Rattle.std.specs.Prelude.{flat_map}
 use Rattle.std.specs.List.{AllByRecursion, concat, filter_map}
-use Rattle.std.proofs.lemmas.List.{append-nil}
+use Rattle.std.proofs.lemmas.List.{append-nil, map-id}
 use Rattle.std.proofs.lemmas.List.Elements.{filter_map-append}
 use Rattle.std.proofs.lemmas.List.Folds.{concat-append}
 use Rattle.acpi_base.proofs.Cuts.{cut_is_cut, one_cut}
@@ -35,9 +35,16 @@ both_rows l a b es fs p q = record {
   each = all_both l es fs p.each q.each;
 }
 
+pub each_row_known : {n : ℕ} {X : Type 0} (l : EntryLayout n) (P : X → Type 0) (f : X → List ℕ) → ((x : X) → P x → IsEntry l (f x)) → (xs : List X) → AllByRecursion P xs → AreRows l (flat_map f xs) (map f xs)
+each_row_known l P f is [] all = no_rows l
+each_row_known l P f is (x ∷ xs) all = both_rows l (f x) (flat_map f xs) (f x ∷ []) (map f xs) (one_row l (f x) (is x all.0)) (each_row_known l P f is xs all.1)
+
+always : {X : Type 0} (xs : List X) → AllByRecursion (λ x. Unit {0}) xs
+always [] = tt
+always (x ∷ xs) = (tt, always xs)
+
 pub each_row : {n : ℕ} {X : Type 0} (l : EntryLayout n) (f : X → List ℕ) → ((x : X) → IsEntry l (f x)) → (xs : List X) → AreRows l (flat_map f xs) (map f xs)
-each_row l f is [] = no_rows l
-each_row l f is (x ∷ xs) = both_rows l (f x) (flat_map f xs) (f x ∷ []) (map f xs) (one_row l (f x) (is x)) (each_row l f is xs)
+each_row l f is xs = each_row_known l (λ x. Unit {0}) f (λ x known. is x) xs (always xs)
 
 wide : (w : Width) → 1 ≤ width_of w
 wide One = lit≤ tt
@@ -64,18 +71,16 @@ pub none_of : {I X Y : Type 0} (h : I → Option Y) (g : X → I) → ((x : X) �
 none_of h g e [] = refl
 none_of h g e (x ∷ xs) = rw (e x) (none_of h g e xs)
 
-pub each_of : {I X Y : Type 0} (h : I → Option Y) (g : X → I) (k : X → Y) → ((x : X) → h (g x) ≡ Some (k x)) → (xs : List X) → filter_map h (map g xs) ≡ map k xs
-each_of h g k e [] = refl
-each_of h g k e (x ∷ xs) = rw (e x) (ap (λ ys. k x ∷ ys) (each_of h g k e xs))
-
 -- those of which something is known
-pub all_known : {I X : Type 0} (P : X → Type 0) (h : I → Option X) (g : X → I) → ((x : X) → P x → h (g x) ≡ Some x) → (xs : List X) → AllByRecursion P xs → filter_map h (map g xs) ≡ xs
-all_known P h g e [] all = refl
-all_known P h g e (x ∷ xs) all = rw (e x all.0) (ap (λ ys. x ∷ ys) (all_known P h g e xs all.1))
+pub each_known : {I X Y : Type 0} (P : X → Type 0) (h : I → Option Y) (g : X → I) (k : X → Y) → ((x : X) → P x → h (g x) ≡ Some (k x)) → (xs : List X) → AllByRecursion P xs → filter_map h (map g xs) ≡ map k xs
+each_known P h g k e [] all = refl
+each_known P h g k e (x ∷ xs) all = rw (e x all.0) (ap (λ ys. k x ∷ ys) (each_known P h g k e xs all.1))
 
-always : {X : Type 0} (xs : List X) → AllByRecursion (λ x. Unit {0}) xs
-always [] = tt
-always (x ∷ xs) = (tt, always xs)
+pub each_of : {I X Y : Type 0} (h : I → Option Y) (g : X → I) (k : X → Y) → ((x : X) → h (g x) ≡ Some (k x)) → (xs : List X) → filter_map h (map g xs) ≡ map k xs
+each_of h g k e xs = each_known (λ x. Unit {0}) h g k (λ x known. e x) xs (always xs)
+
+pub all_known : {I X : Type 0} (P : X → Type 0) (h : I → Option X) (g : X → I) → ((x : X) → P x → h (g x) ≡ Some x) → (xs : List X) → AllByRecursion P xs → filter_map h (map g xs) ≡ xs
+all_known P h g e xs all = each_known P h g (λ x. x) e xs all ∙ map-id xs
 
 pub all_of : {I X : Type 0} (h : I → Option X) (g : X → I) → ((x : X) → h (g x) ≡ Some x) → (xs : List X) → filter_map h (map g xs) ≡ xs
 all_of h g e xs = all_known (λ x. Unit {0}) h g (λ x known. e x) xs (always xs)

@@ -185,3 +185,6 @@ module _ (s : Signature) (name : IsName s) (revision : ℕ) (ids : TableIds) (bo
 
   pub field : (k n : ℕ) → field_of table (36 + k) n ≡ field_of body k n
   field k n = ap (λ b. field_of b (36 + k) n) is.bytes ∙ field_after s name revision ids is.ids_fit body k n
+
+  pub part_of : (k n : ℕ) → part table (36 + k) n ≡ part body k n
+  part_of k n = ap (λ b. part b (36 + k) n) is.bytes ∙ part_after s name revision ids is.ids_fit body k n

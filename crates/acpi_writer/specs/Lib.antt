@@ -24,3 +24,4 @@ pub mod Facs
 pub mod Arm
 pub mod Checked
 pub mod GicMadt
+pub mod Gtdt

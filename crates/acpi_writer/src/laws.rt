@@ -4,6 +4,7 @@ ghost use Rattle.acpi_writer.specs.Bgrt.{BgrtIsRead, BgrtIsValid};
 ghost use Rattle.acpi_writer.specs.Facs.{FacsIsRead};
 ghost use Rattle.acpi_writer.specs.FadtLaws.{FadtIsRead, FadtIsValid};
 ghost use Rattle.acpi_writer.specs.GicMadt.{GicMadtIsRead, GicMadtIsValid};
+ghost use Rattle.acpi_writer.specs.Gtdt.{GtdtIsRead, GtdtIsValid};
 ghost use Rattle.acpi_writer.specs.HpetLaws.{HpetIsRead, HpetIsValid};
 ghost use Rattle.acpi_writer.specs.ImageLaws.{HpetInImage, MadtInImage, McfgInImage, PlatformInImage};
 ghost use Rattle.acpi_writer.specs.MadtLaws.{MadtIsRead, MadtIsValid, MailboxIsRead};
@@ -167,4 +168,14 @@ pub fn gic_madt_is_read<A: Allocator>()
 /// A MADT of an Arm machine that is written passes each check of a table, and `write_image` takes it.
 pub fn gic_madt_is_valid()
     ensures { GicMadtIsValid }
+{}
+
+/// A GTDT that is written says exactly what was given, the timers of the platform in order.
+pub fn gtdt_is_read()
+    ensures { GtdtIsRead }
+{}
+
+/// A GTDT that is written passes each check of a table, and `write_image` takes it.
+pub fn gtdt_is_valid()
+    ensures { GtdtIsValid }
 {}

@@ -10,6 +10,8 @@ mod devices;
 mod fadt;
 #[cfg(test)]
 mod gic;
+#[cfg(test)]
+mod gtdt;
 pub mod machine;
 #[cfg(test)]
 mod madt;

@@ -1,0 +1,136 @@
+//! The Generic Timer Description Table (GTDT, section 5.2.24), from the timers of an Arm machine.
+ghost use Rattle.std.specs.Prelude.{◌≡◌, length, take, IfOk};
+ghost use Rattle.acpi_base.specs.Steps.{Gives};
+ghost use Rattle.acpi_base.specs.declared.table.signature.TheConstants.Signature.{GTDT};
+ghost use Rattle.acpi_writer.specs.Gtdt.{AreTimersFit, IsGtdt, gtdt_body, gtdt_checked, gtdt_written};
+ghost use Rattle.acpi_writer.specs.Table.{IsTableOf, Keeps, table_written};
+
+mod structures;
+
+use crate::arm::check_base;
+use crate::checked::{Checked, check_all};
+use crate::error::WriterError;
+use crate::ids::TableIds;
+use crate::spelled::Then;
+use crate::table::write_table;
+use acpi_arm::gtdt::{ArmTimer, GtFrame, SbsaWatchdog};
+use acpi_base::Signature;
+use structures::{Array, Base, Reserved, Structures};
+
+/// A GT Block (section 5.2.24.1.1), in the words of `GtBlock`, as which it is read.
+#[derive(Clone, Copy)]
+pub struct GtBlockContents<'a> {
+    /// GT Block Physical address: that of the block's control frame.
+    pub address: u64,
+    /// The block's frames, of which the specification allows 8.
+    pub frames: &'a [GtFrame],
+}
+
+/// A timer of the platform (section 5.2.24.1), in the words of `PlatformTimer`, as which it is read.
+#[derive(Clone, Copy)]
+pub enum PlatformTimerContents<'a> {
+    /// GT Block.
+    GtBlock(GtBlockContents<'a>),
+    /// Arm Generic Watchdog.
+    SbsaWatchdog(SbsaWatchdog),
+}
+
+/// What a GTDT is to say, in the words of `Gtdt`, as which it is read.
+#[derive(Clone, Copy)]
+pub struct GtdtContents<'a> {
+    /// CntControlBase Physical Address, if there is one.
+    pub counter_control_base: Option<u64>,
+    /// Secure EL1 Timer GSIV and Flags.
+    pub secure_el1_timer: ArmTimer,
+    /// Non-Secure EL1 Timer GSIV and Flags.
+    pub non_secure_el1_timer: ArmTimer,
+    /// Virtual EL1 Timer GSIV and Flags.
+    pub virtual_el1_timer: ArmTimer,
+    /// EL2 Timer GSIV and Flags.
+    pub el2_timer: ArmTimer,
+    /// CntReadBase Physical Address, if there is one.
+    pub counter_read_base: Option<u64>,
+    /// Virtual EL2 Timer GSIV and Flags.
+    pub virtual_el2_timer: ArmTimer,
+    /// Platform Timer Structures.
+    pub platform_timers: &'a [PlatformTimerContents<'a>],
+}
+
+/// Returns the first error of the contents.
+fn check(contents: &GtdtContents<'_>) -> Result<(), WriterError>
+    ensures { result ≡ gtdt_checked contents.now }
+{
+    check_base(contents.counter_control_base)?;
+    contents.secure_el1_timer.check()?;
+    contents.non_secure_el1_timer.check()?;
+    contents.virtual_el1_timer.check()?;
+    contents.el2_timer.check()?;
+    check_base(contents.counter_read_base)?;
+    contents.virtual_el2_timer.check()?;
+    check_all(contents.platform_timers)
+}
+
+/// Writes a GTDT whose contents may be written.
+///
+/// Returns, in this order, `BadName`, `NoRoom` and `TooLong`.
+fn write_contents(
+    out: &mut [u8],
+    ids: &TableIds,
+    contents: &GtdtContents<'_>,
+) -> Result<usize, WriterError>
+    ensures exact { Gives (λ n. take n out.new) result
+        (table_written (length out.old) GTDT 3 ids.now (gtdt_body contents.now)) }
+    ensures keeps { Keeps result out.old out.new }
+    ensures table { IfOk result (λ n.
+        IsTableOf GTDT 3 ids.now (gtdt_body contents.now) (take n out.new)) }
+    ensures fits { IfOk result (λ n. AreTimersFit contents.now) }
+{
+    let platform = Then(
+        Array(contents.platform_timers.len()),
+        Then(
+            contents.virtual_el2_timer,
+            Structures(contents.platform_timers),
+        ),
+    );
+    let el2 = Then(
+        contents.el2_timer,
+        Then(Base(contents.counter_read_base), platform),
+    );
+    let el1 = Then(
+        contents.non_secure_el1_timer,
+        Then(contents.virtual_el1_timer, el2),
+    );
+    let timers = Then(Reserved, Then(contents.secure_el1_timer, el1));
+    write_table(
+        out,
+        Signature::GTDT,
+        3,
+        ids,
+        &Then(Base(contents.counter_control_base), timers),
+    )
+}
+
+/// Writes a GTDT of revision 3 to the front of a slice, and returns how many bytes it has: 104, and 28 for each
+/// watchdog, 20 for each GT Block, and 40 for each frame of it. An address that is `None` is written as all ones.
+///
+/// Returns the first error in the order of the fields: `NoAddress` if a base address is `Some` of all ones, and
+/// `SameAsBus` if a trigger mode or a polarity is that of a bus. Of a GT Block it returns first `TooManyFrames` if it
+/// has more than 1637, and then the first error of a frame, of which CntEL0BaseX comes before the timers. Then it
+/// returns, in this order, `BadName` if a name of the ids is not valid UTF-8, `NoRoom` if the slice is shorter than the
+/// table, and `TooLong` if the table has 2^32 bytes or more.
+pub fn write_gtdt(
+    out: &mut [u8],
+    ids: &TableIds,
+    contents: &GtdtContents<'_>,
+) -> Result<usize, WriterError>
+    // The bytes, or the first error, are those that are defined.
+    ensures exact { Gives (λ n. take n out.new) result
+        (gtdt_written (length out.old) ids.now contents.now) }
+    // What stands after the table is unchanged, and after an error the whole slice is.
+    ensures keeps { Keeps result out.old out.new }
+    // The numbers that were given fit, so that what was given is what is read (`gtdt_is_read`).
+    ensures fits { IfOk result (λ n. IsGtdt ids.now contents.now (take n out.new)) }
+{
+    check(contents)?;
+    write_contents(out, ids, contents)
+}

@@ -1,0 +1,164 @@
+//! The GTDT of an Arm machine, byte by byte, in its room and in a byte less (ACPI 6.4, section 5.2.24).
+
+use crate::samples::{IDS, check};
+use acpi_arm::gtdt::{ArmTimer, GtFrame, SbsaWatchdog, TimerInterrupt};
+use acpi_base::model::{Polarity, TriggerMode};
+use acpi_writer::{GtBlockContents, GtdtContents, PlatformTimerContents, WriterError, write_gtdt};
+use std::process::Abort;
+
+/// A frame that EL0 doesn't see, of secure software.
+const SECURE: GtFrame = GtFrame {
+    number: 2,
+    base: 0x2a850000,
+    el0_base: None,
+    physical_timer: TimerInterrupt {
+        interrupt: 315,
+        trigger_mode: TriggerMode::Edge,
+        polarity: Polarity::ActiveLow,
+    },
+    virtual_timer: TimerInterrupt {
+        interrupt: 572,
+        trigger_mode: TriggerMode::Level,
+        polarity: Polarity::ActiveHigh,
+    },
+    is_secure: true,
+    is_always_on: false,
+};
+
+const FRAMES: [GtFrame; 2] = [
+    GtFrame {
+        number: 1,
+        base: 0x2a830000,
+        el0_base: Some(0x2a840000),
+        physical_timer: TimerInterrupt {
+            interrupt: 313,
+            trigger_mode: TriggerMode::Edge,
+            polarity: Polarity::ActiveHigh,
+        },
+        virtual_timer: TimerInterrupt {
+            interrupt: 570,
+            trigger_mode: TriggerMode::Level,
+            polarity: Polarity::ActiveLow,
+        },
+        is_secure: false,
+        is_always_on: true,
+    },
+    SECURE,
+];
+
+const TIMERS: [PlatformTimerContents<'static>; 2] = [
+    PlatformTimerContents::GtBlock(GtBlockContents {
+        address: 0x2a810000,
+        frames: &FRAMES,
+    }),
+    PlatformTimerContents::SbsaWatchdog(SbsaWatchdog {
+        refresh_frame: 0x2a450000,
+        control_frame: 0x1_2a440000,
+        interrupt: 829,
+        trigger_mode: TriggerMode::Level,
+        polarity: Polarity::ActiveLow,
+        is_secure: true,
+    }),
+];
+
+const LEVEL: ArmTimer = ArmTimer {
+    interrupt: 1308,
+    trigger_mode: TriggerMode::Level,
+    polarity: Polarity::ActiveHigh,
+    always_on: false,
+};
+
+/// Each flag of a timer set by itself, all of them, and none.
+const GTDT: GtdtContents<'static> = GtdtContents {
+    counter_control_base: None,
+    secure_el1_timer: ArmTimer {
+        interrupt: 285,
+        trigger_mode: TriggerMode::Edge,
+        ..LEVEL
+    },
+    non_secure_el1_timer: ArmTimer {
+        interrupt: 542,
+        polarity: Polarity::ActiveLow,
+        ..LEVEL
+    },
+    virtual_el1_timer: ArmTimer {
+        interrupt: 795,
+        always_on: true,
+        ..LEVEL
+    },
+    el2_timer: ArmTimer {
+        interrupt: 1050,
+        trigger_mode: TriggerMode::Edge,
+        polarity: Polarity::ActiveLow,
+        always_on: true,
+    },
+    counter_read_base: Some(0x01020304_05060708),
+    virtual_el2_timer: LEVEL,
+    platform_timers: &TIMERS,
+};
+
+/// The GTDT that `GTDT` has. All but Checksum sum to 0xe2 modulo 256.
+#[rattlefmt::skip]
+const GTDT_BYTES: [u8; 232] = [
+    b'G', b'T', b'D', b'T', 232, 0, 0, 0, 3, 0x1e, // Signature, Length, Revision, Checksum
+    b'G', b'U', b'E', b'S', b'T', b' ', // OEMID
+    b'M', b'A', b'C', b'H', b'I', b'N', b'E', b' ', // OEM Table ID
+    4, 3, 2, 1, b'Z', b'U', b'G', b'Z', 8, 7, 6, 5, // OEM Revision, Creator ID, Creator Revision
+    255, 255, 255, 255, 255, 255, 255, 255, 0, 0, 0, 0, // CntControlBase Physical Address: there is none
+    29, 1, 0, 0, 1, 0, 0, 0, 30, 2, 0, 0, 2, 0, 0, 0, // Secure EL1 Timer, Non-Secure EL1 Timer: GSIV, Flags
+    27, 3, 0, 0, 4, 0, 0, 0, 26, 4, 0, 0, 7, 0, 0, 0, // Virtual EL1 Timer, EL2 Timer: GSIV, Flags
+    8, 7, 6, 5, 4, 3, 2, 1, 2, 0, 0, 0, 104, 0, 0, 0, // CntReadBase Physical Address, Platform Timer Count and Offset
+    28, 5, 0, 0, 0, 0, 0, 0, // Virtual EL2 Timer: GSIV, Flags
+    0, 100, 0, 0, 0, 0, 0x81, 0x2a, 0, 0, 0, 0, 2, 0, 0, 0, 20, 0, 0, 0, // GT Block: its address, GT Block Timer Count and Offset
+    1, 0, 0, 0, 0, 0, 0x83, 0x2a, 0, 0, 0, 0, 0, 0, 0x84, 0x2a, 0, 0, 0, 0, // GTx: GT Frame Number, CntBaseX, CntEL0BaseX
+    57, 1, 0, 0, 1, 0, 0, 0, 58, 2, 0, 0, 2, 0, 0, 0, 2, 0, 0, 0, // its physical and its virtual timer, GTx Common Flags
+    2, 0, 0, 0, 0, 0, 0x85, 0x2a, 0, 0, 0, 0, 255, 255, 255, 255, 255, 255, 255, 255, // GTx: there is no CntEL0BaseX
+    59, 1, 0, 0, 3, 0, 0, 0, 60, 2, 0, 0, 0, 0, 0, 0, 1, 0, 0, 0, // its physical and its virtual timer, GTx Common Flags
+    1, 28, 0, 0, 0, 0, 0x45, 0x2a, 0, 0, 0, 0, 0, 0, 0x44, 0x2a, 1, 0, 0, 0, 61, 3, 0, 0, 6, 0, 0, 0, // Arm Generic Watchdog
+];
+
+#[test]
+fn timers_fill_their_room(rt: HostRuntime) {
+    let mut out = [7; 232];
+    let found = write_gtdt(&mut out, &IDS, &GTDT);
+    check(&rt, "GTDT", found, Ok(232), &out, &GTDT_BYTES);
+    let mut out = [7; 231];
+    let found = write_gtdt(&mut out, &IDS, &GTDT);
+    check(
+        &rt,
+        "GTDT",
+        found,
+        Err(WriterError::NoRoom),
+        &out,
+        &[7; 231],
+    );
+}
+
+/// Checks that a GTDT of one block of these frames isn't written.
+fn refused(rt: &impl Abort, name: &str, frames: &[GtFrame], error: WriterError) {
+    let mut out = [7; 8];
+    let timers = [PlatformTimerContents::GtBlock(GtBlockContents {
+        address: 0x2a810000,
+        frames,
+    })];
+    let contents = GtdtContents {
+        platform_timers: &timers,
+        ..GTDT
+    };
+    let found = write_gtdt(&mut out, &IDS, &contents);
+    check(rt, name, found, Err(error), &out, &[7; 8]);
+}
+
+#[test]
+fn timers_need_their_modes_and_bases(rt: HostRuntime) {
+    let ones = GtFrame {
+        el0_base: Some(u64::MAX),
+        ..SECURE
+    };
+    refused(&rt, "all ones", &[SECURE, ones], WriterError::NoAddress);
+    let mut bus = SECURE;
+    bus.virtual_timer.polarity = Polarity::SameAsBus;
+    refused(&rt, "bus", &[SECURE, bus], WriterError::SameAsBus);
+    refused(&rt, "1637", &[SECURE; 1637], WriterError::NoRoom);
+    refused(&rt, "1638", &[SECURE; 1638], WriterError::TooManyFrames);
+}
