@@ -27,34 +27,12 @@ rsdp_of b = record {
   ext_checksum = field_of b 32 1;  -- Extended Checksum
 }
 
--- what every revision has
-abbrev pub signature_of : Rsdp → List ℕ
-signature_of r = r.signature
-
-abbrev pub checksum_of : Rsdp → ℕ
-checksum_of r = r.checksum
-
-abbrev pub oem_id_of : Rsdp → List ℕ
-oem_id_of r = r.oem_id
-
-abbrev pub revision_of : Rsdp → ℕ
-revision_of r = r.revision
-
-abbrev pub rsdt_address_of : Rsdp → ℕ
-rsdt_address_of r = r.rsdt_address
-
--- what revision 0 does not have
+-- a field that revision 0 does not have
 abbrev pub unless_first : {A : Type 0} → Rsdp → A → Option A
-unless_first r x = if r.revision == 0 then None else Some x
+unless_first r field = if r.revision == 0 then None else Some field
 
 abbrev pub extended_length_of : Rsdp → Option ℕ
 extended_length_of r = unless_first r r.length
-
-abbrev pub xsdt_address_of : Rsdp → Option ℕ
-xsdt_address_of r = unless_first r r.xsdt_address
-
-abbrev pub ext_checksum_of : Rsdp → Option ℕ
-ext_checksum_of r = unless_first r r.ext_checksum
 
 -- the root table that an RSDP leads to: the RSDT if its Revision or its XsdtAddress is 0, else the XSDT. So an RSDP of
 -- any revision may lead to an RSDT, whose pointers have four bytes

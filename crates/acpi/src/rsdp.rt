@@ -65,14 +65,12 @@ impl Rsdp {
     ghost use Rattle.std.specs.Prelude.{◌≤◌, ℕ, length, IfSome, IsOk, Some};
     ghost use Rattle.acpi_base.specs.Memory.{Memory, at};
     ghost use Rattle.acpi_base.specs.Text.{IsTextOf};
-    ghost use Rattle.acpi.specs.Rsdp.{signature_of, checksum_of, oem_id_of, revision_of};
-    ghost use Rattle.acpi.specs.Rsdp.{rsdt_address_of, xsdt_address_of, extended_length_of};
-    ghost use Rattle.acpi.specs.Rsdp.{ext_checksum_of, unless_first, rsdp_of, root_of};
-    ghost use Rattle.acpi.specs.Rsdp.{check_first, length_of, check_rsdp};
+    ghost use Rattle.acpi.specs.Rsdp.{check_first, check_rsdp, extended_length_of, length_of};
+    ghost use Rattle.acpi.specs.Rsdp.{root_of, rsdp_of, unless_first};
 
     /// Signature: `RSD PTR ` if the RSDP is valid (section 5.2.5.3).
     pub fn signature(&self) -> [u8; 8]
-        ensures { result ≡ signature_of self.now }
+        ensures { result ≡ self.now.signature }
     {
         self.signature
     }
@@ -80,28 +78,28 @@ impl Rsdp {
     /// Checksum: the byte by which the first 20 bytes of a valid RSDP sum to 0 modulo 256 (section
     /// 5.2.5.3).
     pub fn checksum(&self) -> u8
-        ensures { result ≡ checksum_of self.now }
+        ensures { result ≡ self.now.checksum }
     {
         self.checksum
     }
 
     /// OEMID: the OEM's name, or `None` if it is not valid UTF-8 (section 5.2.5.3).
     pub fn oem_id(&self) -> Option<&str>
-        ensures { IsTextOf result (oem_id_of self.now) }
+        ensures { IsTextOf result self.now.oem_id }
     {
         text_of(&self.oem_id)
     }
 
     /// Revision: the revision of the RSDP, 0 in ACPI 1.0 and 2 since (section 5.2.5.3).
     pub fn revision(&self) -> u8
-        ensures { result ≡ revision_of self.now }
+        ensures { result ≡ self.now.revision }
     {
         self.revision
     }
 
     /// RsdtAddress: the physical address of the RSDT (section 5.2.5.3).
     pub fn rsdt_address(&self) -> u32
-        ensures { result ≡ rsdt_address_of self.now }
+        ensures { result ≡ self.now.rsdt_address }
     {
         self.rsdt_address
     }
@@ -115,7 +113,7 @@ impl Rsdp {
 
     /// XsdtAddress: the physical address of the XSDT, or `None` for revision 0 (section 5.2.5.3).
     pub fn xsdt_address(&self) -> Option<u64>
-        ensures { result ≡ xsdt_address_of self.now }
+        ensures { result ≡ unless_first self.now self.now.xsdt_address }
     {
         self.unless_first(self.xsdt_address)
     }
@@ -123,7 +121,7 @@ impl Rsdp {
     /// Extended Checksum: the byte by which all bytes of a valid RSDP sum to 0 modulo 256, or `None` for
     /// revision 0 (section 5.2.5.3).
     pub fn ext_checksum(&self) -> Option<u8>
-        ensures { result ≡ ext_checksum_of self.now }
+        ensures { result ≡ unless_first self.now self.now.ext_checksum }
     {
         self.unless_first(self.ext_checksum)
     }

@@ -4,7 +4,7 @@ ghost use Rattle.std.specs.Result.{is_ok};
 ghost use Rattle.std.specs.Str.{bytes_eq};
 ghost use Rattle.acpi_base.specs.Steps.{lent};
 ghost use Rattle.acpi.specs.OpenedRanges.{length_ranges};
-ghost use Rattle.acpi.specs.Rsdp.{rsd_ptr, rsdp_at, rsdp_of, signature_of};
+ghost use Rattle.acpi.specs.Rsdp.{rsd_ptr, rsdp_at, rsdp_of};
 ghost use Rattle.acpi.specs.Search.{word_in};
 ghost use Rattle.acpi_c_lib.specs.Answers.{Writes, put_from};
 ghost use Rattle.acpi_c_lib.specs.Missing as missing;
@@ -201,7 +201,7 @@ fn hole_by(error: AcpiError, address: u64, length: Option<u32>) -> Option<Range>
 
 /// Whether the signature of an RSDP is right.
 fn is_signed(rsdp: &Rsdp) -> bool
-    ensures { result ≡ bytes_eq (signature_of rsdp.now) rsd_ptr }
+    ensures { result ≡ bytes_eq rsdp.now.signature rsd_ptr }
 {
     rsdp.signature() == *b"RSD PTR "
 }
