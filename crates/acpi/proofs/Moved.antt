@@ -21,7 +21,7 @@ use Rattle.acpi.specs.Hpet.{hpet_at, info_of}
 use Rattle.acpi.specs.Later.{or_later}
 use Rattle.acpi.specs.Lists.{fadt_kind, own_header_at, valid_headers, valid_tables}
 use Rattle.acpi.specs.Lookup.{lookup}
-use Rattle.acpi.specs.Platform.{madt_kind, model_found, platform_of}
+use Rattle.acpi.specs.Platform.{madt_kind, model_in, platform_of}
 use Rattle.acpi.specs.Relocation.{FollowsTables, HeadersFollow, HpetFollows, LookupFollows, PlatformFollows, RegionsFollow, Relocation, bytes_found}
 use Rattle.acpi.specs.Root.{pointers, root_at, width_of}
 use Rattle.acpi.specs.Tables.{memory_of, pointers_of}
@@ -101,21 +101,17 @@ hpet_follows = said_follows HPET 56 (λ b. info_of (hpet_at b)) (lit≤ tt)
 pub regions_follow : RegionsFollow
 regions_follow = said_follows MCFG 44 (λ b. Ok (mcfg_entries_of b)) (lit≤ tt)
 
-model_of_bytes : {A : Type 0} → Result (List ℕ) AcpiError → Result (model.Model A) AcpiError
-model_of_bytes (Ok b) = model.model_of b
-model_of_bytes (Err e) = Ok (Unknown, None)
-
-model_is : {A : Type 0} (r : Result (ℕ × List ℕ) AcpiError) → model_found {A = A} r ≡ model_of_bytes {A = A} (bytes_found r)
-unfolding model_of_bytes
-model_is (Ok found) = refl
-model_is (Err e) = refl
+later_by_bytes : {B : Type 0} (r : Result (ℕ × List ℕ) AcpiError) (said : List ℕ → B) (later : B) → or_later (λ f. said f.1) r later ≡ or_later said (bytes_found r) later
+later_by_bytes (Ok found) said later = refl
+later_by_bytes (Err e) said later = refl
 
 pub platform_follows : {A : Type 0} → PlatformFollows A
 platform_follows {A = A} m n ps qs same =
     let fadts = lookup_follows FADT 116 (lit≤ tt) m n ps qs same in
     let madts = lookup_follows MADT 44 (lit≤ tt) m n ps qs same in
-    let models : model_found {A = A} (lookup n madt_kind qs) ≡ model_found {A = A} (lookup m madt_kind ps) =
-    model_is (lookup n madt_kind qs) ∙ ap model_of_bytes madts ∙ sym (model_is (lookup m madt_kind ps)) in
+    let unknown : Result (model.Model A) AcpiError = Ok (Unknown, None) in
+    let models : model_in {A = A} n qs ≡ model_in {A = A} m ps =
+    later_by_bytes (lookup n madt_kind qs) model.model_of unknown ∙ ap (λ r. or_later model.model_of r unknown) madts ∙ sym (later_by_bytes (lookup m madt_kind ps) model.model_of unknown) in
     by_bytes (lookup n fadt_kind qs) _ ∙ rw (fadts, models) refl ∙ sym (by_bytes (lookup m fadt_kind ps) _)
 
 -- ---- from a root table

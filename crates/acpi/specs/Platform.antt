@@ -1,5 +1,5 @@
 -- What the FADT and the MADT say together.
-use Rattle.std.specs.Prelude.{ℕ, List, Option, None, Result, Ok, Err, IsOk}
+use Rattle.std.specs.Prelude.{ℕ, List, None, Result, Ok, Err, IsOk}
 use Rattle.acpi_base.specs.Memory.{Memory}
 use Rattle.acpi_base.specs.Model as model
 use Rattle.acpi_base.specs.Steps.{◌>>=◌}
@@ -8,44 +8,33 @@ use Rattle.acpi_base.specs.declared.error.AcpiError.{AcpiError}
 use Rattle.acpi_base.specs.declared.model.interrupt.InterruptModel.TheVariants.{Unknown}
 use Rattle.acpi_base.specs.declared.table.signature.TheConstants.Signature.{MADT}
 use Rattle.acpi_fixed.specs.Fadt.{fadt_at, profile_of}
-use Rattle.acpi_fixed.specs.declared.fadt.PowerProfile.{PowerProfile}
+use Rattle.acpi.specs.Later.{or_later}
 use Rattle.acpi.specs.Lists.{fadt_kind}
 use Rattle.acpi.specs.Lookup.{lookup}
 use Rattle.acpi.specs.Timer.{timer_of}
 use Rattle.acpi.specs.declared.platform.PlatformInfo.{PlatformInfo}
-use Rattle.acpi.specs.declared.platform.timer.PmTimer.{PmTimer}
 
 abbrev pub madt_kind : Kind
 madt_kind = sdt_kind MADT 44
 
--- the model of the table found; nothing is known if none was
-abbrev pub model_found : {A : Type 0} → Result (ℕ × List ℕ) AcpiError
-    → Result (model.Model A) AcpiError
-model_found (Ok found) = model.model_of found.1
-model_found (Err e) = Ok (Unknown, None)
-
--- the model of the first valid MADT
+-- the model of the first valid MADT; nothing is known if none is valid
 abbrev pub model_in : {A : Type 0} → Memory → List ℕ → Result (model.Model A) AcpiError
-model_in m ps = model_found (lookup m madt_kind ps)
-
--- the platform of this profile and this timer: a refusal of the model comes before one of the timer
-abbrev pub platform_beside : {A : Type 0} → Memory → List ℕ → PowerProfile
-    → Result (Option PmTimer) AcpiError → Result (PlatformInfo A) AcpiError
-platform_beside m ps profile timer = do
-  said ← model_in m ps
-  found ← timer
-  Ok (record {
-    power_profile = profile;
-    interrupt_model = said.0;
-    processor_info = said.1;
-    pm_timer = found;
-  })
+model_in m ps =
+    or_later (λ madt. model.model_of madt.1) (lookup m madt_kind ps) (Ok (Unknown, None))
 
 -- the platform that the first valid FADT and the first valid MADT describe
 abbrev pub platform_of : {A : Type 0} → Memory → List ℕ → Result (PlatformInfo A) AcpiError
 platform_of m ps = do
-  fadt ← lookup m fadt_kind ps
-  platform_beside m ps (profile_of (fadt_at fadt.1)) (timer_of (fadt_at fadt.1))
+  found ← lookup m fadt_kind ps
+  let fadt = fadt_at found.1
+  said ← model_in m ps
+  timer ← timer_of fadt
+  Ok (record {
+    power_profile = profile_of fadt;
+    interrupt_model = said.0;
+    processor_info = said.1;
+    pm_timer = timer;
+  })
 
 -- ---- out of memory
 

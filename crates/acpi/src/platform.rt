@@ -1,7 +1,7 @@
 //! A machine's purpose, interrupt controllers, processors and timer, by the FADT and the MADT.
 ghost use Rattle.acpi_base.specs.Steps.{GivesOrFull};
 ghost use Rattle.acpi.specs.Footprint.{AllowsBelow, lookup_ranges, platform_ranges};
-ghost use Rattle.acpi.specs.Platform.{ModelAsks, madt_kind, model_in, platform_beside};
+ghost use Rattle.acpi.specs.Platform.{ModelAsks, madt_kind, model_in};
 ghost use Rattle.acpi.specs.PlatformAnswer.{GivesPlatform, PlatformFootprint, PlatformRelocation};
 ghost use Rattle.acpi.specs.Tables.{of_tables};
 
@@ -106,31 +106,16 @@ impl<A: Allocator + Clone> PlatformInfo<A> {
         PlatformInfo::new_in_exact(tables, allocator)
     }
 
-    /// What `new_in` answers: it looks the first valid FADT up, and then goes on with the MADT.
+    /// What `new_in` returns: it looks the first valid FADT up, and then the first valid MADT.
     fn new_in_exact<H: Lender>(tables: &AcpiTables<'_, H>, allocator: A) -> AcpiResult<Self>
         requires { AllowsBelow tables.now platform_ranges }
         ensures { GivesPlatform tables.now result }
     {
         let fadt = tables.find_fadt_exact()?;
-        PlatformInfo::beside(fadt.power_profile(), PmTimer::of(&fadt), tables, allocator)
-    }
-
-    /// The platform of the first valid MADT, and of what the FADT says: a profile, and a timer or its
-    /// refusal.
-    fn beside<H: Lender>(
-        power_profile: PowerProfile,
-        timer: AcpiResult<Option<PmTimer>>,
-        tables: &AcpiTables<'_, H>,
-        allocator: A,
-    ) -> AcpiResult<Self>
-        requires { AllowsBelow tables.now (λ m. lookup_ranges m madt_kind) }
-        ensures { GivesOrFull (of_tables tables.now ModelAsks) result
-            (of_tables tables.now platform_beside power_profile timer) }
-    {
         let (interrupt_model, processor_info) = found_model(tables, allocator)?;
-        let pm_timer = timer?;
+        let pm_timer = PmTimer::of(&fadt)?;
         Ok(PlatformInfo {
-            power_profile,
+            power_profile: fadt.power_profile(),
             interrupt_model,
             processor_info,
             pm_timer,

@@ -1,15 +1,18 @@
 -- The entries of a MADT and of an MCFG: what their bytes say, and how many there are.
-use Rattle.std.proofs.Common.{◌≡◌, ℕ, List, [], ◌∷◌, Option, Some, None, option_and_then, Result, refl, ap, ◌≤◌, ◌++◌, get_or, ◌∙◌, arith, append_assoc, suc, ◌*◌, ◌-◌, length, length-drop, drop, Err, sym, length-append, zero, ◌/◌}
+use Rattle.std.proofs.Common.{◌≡◌, ℕ, List, [], ◌∷◌, Option, Some, None, option_and_then, Result, refl, ap, ◌≤◌, ◌++◌, get_or, ◌∙◌, arith, append_assoc, suc, ◌*◌, ◌-◌, length, length-drop, drop, Err, sym, length-append, zero, ◌/◌, true, false, slice_get}
 use Rattle.std.specs.List.{filter_map, cons_option, concat, AllByRecursion}
 use Rattle.std.specs.Option.{option_map}
 use Rattle.std.specs.Result.{result_err, result_ok}
 use Rattle.acpi_base.specs.Interrupts.{item_of}
 use Rattle.acpi_base.specs.Madt.{entry_of, madt_grammar, madt_layout, cut_of, entries_of}
-use Rattle.acpi_base.specs.Model.{fault_in, item_in, fault_of, first_fault}
+use Rattle.acpi_base.specs.Model.{fault_in, item_in, fault_of, first_fault, processor_in, processors_of}
 use Rattle.acpi_base.specs.Items.{item_said, said_of, counted, said_in}
 use Rattle.acpi_base.specs.declared.error.MadtError.{MadtError}
 use Rattle.acpi_base.specs.declared.tables.madt.entry.MadtEntry.{MadtEntry}
 use Rattle.acpi_base.specs.declared.model.item.MadtItem.{MadtItem}
+use Rattle.acpi_base.specs.declared.model.item.MadtItem.TheVariants as item
+use Rattle.acpi_base.specs.declared.model.processor.Processor.{Processor}
+use Rattle.acpi_base.specs.declared.model.processor.ProcessorInfo.{ProcessorInfo}
 use Rattle.std.proofs.lemmas.List.{get_or_append_left}
 use Rattle.acpi_base.specs.Entries.{IsEntry, after_one, cut, with_entry}
 use Rattle.acpi_base.specs.MadtWalk.{BeginsDefined}
@@ -44,6 +47,21 @@ more_said (Some r) xs = refl
 
 pub said_more : (e : List ℕ) (es : List (List ℕ)) → filter_map result_ok (filter_map said_of (e ∷ es)) ≡ cons_option (item_said e) (filter_map result_ok (filter_map said_of es))
 said_more e es = more_said (said_of e) _
+
+abbrev pub info : {A : Type 0} → Processor → List Processor → ProcessorInfo A
+info boot others = record { boot_processor = boot; application_processors = others }
+
+-- the processors by the lists of them, each as the boot processor and as an application processor
+pub processors_are : {A : Type 0} (items : List MadtItem)
+    → processors_of {A = A} items ≡ option_map (λ boot. info {A = A} boot (drop 1 (filter_map (processor_in true) items))) (slice_get (filter_map (processor_in false) items) 0)
+processors_are [] = refl
+processors_are (item.Processor uid id is_enabled ∷ items) = refl
+processors_are (item.IoApic x ∷ items) = processors_are items
+processors_are (item.Override x ∷ items) = processors_are items
+processors_are (item.NmiSource x ∷ items) = processors_are items
+processors_are (item.NmiLine x ∷ items) = processors_are items
+processors_are (item.LocalApicAddress x ∷ items) = processors_are items
+processors_are (item.Wakeup ∷ items) = processors_are items
 
 -- ---- the type of the entry that bytes begin with
 

@@ -1,7 +1,6 @@
 -- The interrupt model: what the entries of the MADT say together (ACPI 6.4, section 5.2.12).
-use Rattle.std.specs.Prelude.{◌≡◌, ℕ, Bool, true, false, List, [], ◌∷◌, drop, slice_get, Option, Some, None, Result, Ok, Err, IsTrue, if◌then◌else◌}
+use Rattle.std.specs.Prelude.{◌≡◌, ℕ, Bool, true, false, List, [], ◌∷◌, Option, Some, None, Result, Ok, Err, IsTrue, if◌then◌else◌}
 use Rattle.std.specs.List.{filter_map, list_any}
-use Rattle.std.specs.Option.{option_map}
 use Rattle.std.specs.Result.{result_err, result_ok}
 use Rattle.acpi_base.specs.Bits.{has_bit}
 use Rattle.acpi_base.specs.Interrupts.{item_of}
@@ -109,13 +108,16 @@ apic_of madt items = record {
   also_has_legacy_pics = has_bit madt.flags 0;  -- Flags (Multiple APIC Flags), bit 0: PCAT_COMPAT
 }
 
--- the first processor is the boot processor, and all after it are application processors
+-- of the processors' entries the first is the boot processor, and the others come after it
 abbrev pub processors_of : {A : Type 0} → List MadtItem → Option (ProcessorInfo A)
-processors_of items =
-    option_map (λ boot. record {
-      boot_processor = boot;
-      application_processors = drop 1 (filter_map (processor_in true) items);
-    }) (slice_get (filter_map (processor_in false) items) 0)
+processors_of [] = None
+processors_of (x ∷ items) = elim (processor_in false x) [
+  | Some boot ↦ Some (record {
+    boot_processor = boot;
+    application_processors = filter_map (processor_in true) items;
+  })
+  | None ↦ processors_of items
+]
 
 -- the model, and the processors; A is the allocator, of which neither says anything
 abbrev pub Model : Type 0 → Type 0

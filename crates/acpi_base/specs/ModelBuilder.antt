@@ -1,8 +1,8 @@
 -- How far a model is gathered.
-use Rattle.std.specs.Prelude.{◌≡◌, ℕ, ◌+◌, ◌-◌, ◌≤◌, length, vec_capacity, vec_len, true, false, List, ◌++◌, drop, slice_get, Option, Some, None}
+use Rattle.std.specs.Prelude.{◌≡◌, ℕ, ◌+◌, ◌-◌, ◌≤◌, length, vec_capacity, vec_len, true, List, ◌++◌, Option, Some, None}
 use Rattle.std.specs.List.{filter_map}
 use Rattle.std.specs.Option.{option_map}
-use Rattle.acpi_base.specs.Model.{Model, local_apic_address_in, io_apic_in, last_address, nmi_line_in, nmi_source_in, override_in, processor_in}
+use Rattle.acpi_base.specs.Model.{Model, local_apic_address_in, io_apic_in, last_address, nmi_line_in, nmi_source_in, override_in, processor_in, processors_of}
 use Rattle.acpi_base.specs.declared.model.counts.Counts.{Counts}
 use Rattle.acpi_base.specs.declared.model.builder.ModelBuilder.{ModelBuilder}
 use Rattle.acpi_base.specs.declared.model.interrupt.InterruptModel.TheVariants as model
@@ -17,11 +17,10 @@ processors_behind (Some boot) others items = Some (record {
   boot_processor = boot;
   application_processors = others ++ filter_map (processor_in true) items;
 })
-processors_behind None others items =
-    option_map (λ boot. record {
-      boot_processor = boot;
-      application_processors = others ++ drop 1 (filter_map (processor_in true) items);
-    }) (slice_get (filter_map (processor_in false) items) 0)
+processors_behind {A = A} None others items =
+    option_map (λ (info : ProcessorInfo A). record info {
+      application_processors = others ++ info.application_processors;
+    }) (processors_of items)
 
 -- the model, if the entries after those gathered say this
 abbrev pub model_behind : {A : Type 0} → ModelBuilder A → List MadtItem → Model A

@@ -1,5 +1,5 @@
 -- What a reader finds in an image that has a table that was written.
-use Rattle.std.proofs.Common.{◌≡◌, ℕ, ◌+◌, ◌≤◌, List, length, Option, Result, Ok, Err, refl, sym, ap, ◌∙◌, lit≤, arith, length-append}
+use Rattle.std.proofs.Common.{◌≡◌, ℕ, ◌+◌, ◌≤◌, List, length, Option, None, Result, Ok, Err, refl, sym, ap, ◌∙◌, lit≤, arith, length-append}
 use Rattle.acpi_base.proofs.Steps.{bind_ok}
 use Rattle.acpi_base.specs.Bytes.{spelling}
 use Rattle.acpi_base.specs.Mcfg.{mcfg_entries_of}
@@ -8,16 +8,18 @@ use Rattle.acpi_base.specs.Model.{Model, model_of}
 use Rattle.acpi_base.specs.Steps.{◌>>=◌}
 use Rattle.acpi_base.specs.Table.{kind}
 use Rattle.acpi_base.specs.declared.error.AcpiError.{AcpiError}
+use Rattle.acpi_base.specs.declared.model.interrupt.InterruptModel.TheVariants.{Unknown}
 use Rattle.acpi_base.specs.declared.table.signature.Signature.{Signature}
 use Rattle.acpi_base.specs.declared.table.signature.TheConstants.Signature.{HPET, MADT, MCFG}
 use Rattle.acpi_base.specs.declared.tables.mcfg.McfgEntry.{McfgEntry}
 use Rattle.acpi_fixed.specs.Fadt.{fadt_at, profile_of}
 use Rattle.acpi_fixed.specs.declared.fadt.PowerProfile.{PowerProfile}
 use Rattle.acpi.specs.Hpet.{hpet_at, hpet_kind, info_of}
+use Rattle.acpi.specs.Later.{or_later}
 use Rattle.acpi.specs.Lists.{fadt_kind}
 use Rattle.acpi.specs.Lookup.{lookup}
 use Rattle.acpi.specs.Pci.{mcfg_kind}
-use Rattle.acpi.specs.Platform.{madt_kind, model_found, model_in}
+use Rattle.acpi.specs.Platform.{madt_kind, model_in}
 use Rattle.acpi.specs.Relocation.{bytes_found}
 use Rattle.acpi.specs.Timer.{timer_of}
 use Rattle.acpi.specs.declared.hpet.HpetInfo.{HpetInfo}
@@ -56,7 +58,10 @@ same_found x y e = cc
 
 -- ---- the MADT
 
-model_by_bytes : {A : Type 0} (r : Result (ℕ × List ℕ) AcpiError) (b : List ℕ) → bytes_found r ≡ Ok b → model_found {A = A} r ≡ model_of b
+abbrev says : {A : Type 0} → Model A → Result (Model A) AcpiError
+says x = Ok x
+
+model_by_bytes : {A : Type 0} (r : Result (ℕ × List ℕ) AcpiError) (b : List ℕ) → bytes_found r ≡ Ok b → or_later (λ f. model_of f.1) r (says {A = A} (Unknown, None)) ≡ model_of b
 model_by_bytes (Ok found) b e = ap model_of (same_found found.1 b e)
 model_by_bytes (Err d) b e = absurd cc
 
@@ -71,9 +76,6 @@ plat x = Ok x
 
 same_platform : {A : Type 0} (x y : PlatformInfo A) → plat x ≡ plat y → x ≡ y
 same_platform x y e = cc
-
-abbrev says : {A : Type 0} → Model A → Result (Model A) AcpiError
-says x = Ok x
 
 same_model : {A : Type 0} (x y : Model A) → says x ≡ says y → x ≡ y
 same_model x y e = cc

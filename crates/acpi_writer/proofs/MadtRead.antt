@@ -7,6 +7,7 @@ use Rattle.std.proofs.lemmas.Bool.{and_parts, ltb-true}
 use Rattle.std.proofs.lemmas.List.{append-nil, drop_at, drop-drop}
 use Rattle.std.proofs.lemmas.List.Elements.{recursion_from_All}
 use Rattle.std.specs.Str.{chars, is_utf8}
+use Rattle.acpi_base.proofs.EntryLists.{processors_are as by_lists}
 use Rattle.acpi_base.proofs.Spelling.{number-spelling}
 use Rattle.acpi_base.specs.Bits.{has_bit}
 use Rattle.acpi_base.specs.Bytes.{field_of, number, part, spelling}
@@ -192,8 +193,8 @@ apic_is ids c t is =
 
 -- with a first processor
 processors_of_are : {A : Type 0} (items : List MadtItem) (ps : List MadtProcessor) → ((is_ap : Bool) → filter_map (read.processor_in is_ap) items ≡ map (processor_read is_ap) ps) → read.processors_of {A = A} items ≡ processors_read ps
-processors_of_are items [] each = rw (each false) refl
-processors_of_are items (p ∷ ps) each = rw (each false, each true) refl
+processors_of_are {A = A} items [] each = rw (by_lists {A = A} items, each false) refl
+processors_of_are {A = A} items (p ∷ ps) each = rw (by_lists {A = A} items, each false, each true) refl
 
 some_apic : (c : MadtContents) (ps : List MadtProcessor) → c.processors.now ≡ ps → is_empty ps ≡ false → list_any read.is_of_apic (madt_items c) ≡ true
 some_apic c [] same some = absurd cc

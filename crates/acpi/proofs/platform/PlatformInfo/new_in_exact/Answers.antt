@@ -7,7 +7,7 @@ find_fadt_exact-requires g c =
     let t = c.args.tables.now in
     asked_profile (may_of t) (memory_of t) (pointers_of t) c.requires
 
-pub beside-requires : goal.beside-requires
-beside-requires g c =
+pub found_model-requires : goal.found_model-requires
+found_model-requires g c =
     let t = c.args.tables.now in
     asked_model (may_of t) (memory_of t) (pointers_of t) _ c.requires c.in_ok-fadt.ensures.found
