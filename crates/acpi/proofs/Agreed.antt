@@ -30,7 +30,7 @@ use Rattle.acpi.specs.declared.tables.AcpiTables.{AcpiTables}
 use Rattle.acpi_base.specs.declared.error.AcpiError.TheVariants.{NoValidRsdp}
 use Rattle.acpi.specs.Opened.{opened_from}
 use Rattle.acpi.specs.OpenedRanges.{area_ranges, length_ranges, opened_ranges, or_else_ranges, rsdp_ranges, search_ranges, walk_ranges}
-use Rattle.acpi.specs.Rsdp.{check_whole_at, length_of, root_of_rsdp, rsdp_at}
+use Rattle.acpi.specs.Rsdp.{check_whole, checked_length, root_of_rsdp, rsdp_at}
 use Rattle.acpi.specs.Search.{count_of, first_area, found_in, found_rsdp, or_else, room_of, second_area, walk, word_in}
 use Rattle.acpi.specs.declared.rsdp.area.Area.{Area}
 use Rattle.std.specs.Option.{option_or}
@@ -177,14 +177,14 @@ mailbox_from_tables t valid n h = rw (from_tables t (λ m. lookup_ranges m madt_
 -- ---- one RSDP
 
 same_sum : (m n : Memory) (a : ℕ) (b : List ℕ) (q : Result (Option ℕ) AcpiError) → AgreesOn m n (ranges.◌>>=◌ q (length_ranges a))
-    → (q >>= λ k. check_whole_at n a k >>= λ _. Ok b) ≡ (q >>= λ k. check_whole_at m a k >>= λ _. Ok b)
+    → (q >>= λ k. check_whole (lent n a) k >>= λ _. Ok b) ≡ (q >>= λ k. check_whole (lent m a) k >>= λ _. Ok b)
 same_sum m n a b (Ok None) h = refl
 same_sum m n a b (Ok (Some k)) h = rw h.0 refl
 same_sum m n a b (Err e) h = refl
 
-same_checks : (m n : Memory) (a : ℕ) (r : Result (List ℕ) AcpiError) → AgreesOn m n (ranges.◌>>=◌ r (λ b. ranges.◌>>=◌ (length_of b) (length_ranges a)))
-    → (r >>= λ b. length_of b >>= λ k. check_whole_at n a k >>= λ _. Ok b) ≡ (r >>= λ b. length_of b >>= λ k. check_whole_at m a k >>= λ _. Ok b)
-same_checks m n a (Ok b) h = same_sum m n a b (length_of b) h
+same_checks : (m n : Memory) (a : ℕ) (r : Result (List ℕ) AcpiError) → AgreesOn m n (ranges.◌>>=◌ r (λ b. ranges.◌>>=◌ (checked_length b) (length_ranges a)))
+    → (r >>= λ b. checked_length b >>= λ k. check_whole (lent n a) k >>= λ _. Ok b) ≡ (r >>= λ b. checked_length b >>= λ k. check_whole (lent m a) k >>= λ _. Ok b)
+same_checks m n a (Ok b) h = same_sum m n a b (checked_length b) h
 same_checks m n a (Err e) h = refl
 
 pub same_rsdp : RsdpDependsOn

@@ -16,7 +16,7 @@ use Rattle.acpi_base.specs.Ranges.{Allows}
 use Rattle.acpi_base.proofs.AllowedRanges.{all_back, all_front}
 use Rattle.acpi.specs.Areas.{areas_ranges, opened_in_areas_ranges, IsCandidateIn, IsFirstIn, IsSearchedIn, NoneIn, count_in, end_of, first_in, found_among, found_in_areas, is_refused_in, walk_in}
 use Rattle.acpi.specs.OpenedRanges.{opened_ranges, or_else_ranges, walk_ranges}
-use Rattle.acpi.specs.Rsdp.{length_of, root_of_rsdp, rsdp_at}
+use Rattle.acpi.specs.Rsdp.{checked_length, root_of_rsdp, rsdp_at}
 use Rattle.acpi.specs.Search.{IsRefused, walk}
 use Rattle.acpi.proofs.Asked.{asked_next}
 use Rattle.acpi.proofs.Search.{Says, lent_part, walk_later, walk_says}
@@ -32,7 +32,7 @@ both_true true b h = (refl, h)
 both_true false b h = absurd cc
 
 -- the first checks refuse what is lent there
-first_refused : (m : Memory) (a : ℕ) (b : List ℕ) (e : AcpiError) → lent m a 36 ≡ Ok b → length_of b ≡ Err e → IsRefused m a
+first_refused : (m : Memory) (a : ℕ) (b : List ℕ) (e : AcpiError) → lent m a 36 ≡ Ok b → checked_length b ≡ Err e → IsRefused m a
 unfolding rsdp_at
 first_refused m a b e there refused = (e, rw (there, refused) refl)
 

@@ -10,7 +10,7 @@ use Rattle.acpi_base.specs.Steps.{lent, ◌>>=◌, Gives}
 use Rattle.std.specs.Option.{ok_or}
 use Rattle.acpi_base.specs.declared.error.AcpiError.TheVariants.{RsdpIncorrectSignature, MapFailed, NoValidRsdp}
 use Rattle.acpi_base.proofs.LentRanges.{lent_is_inside}
-use Rattle.acpi.specs.Rsdp.{check_first, length_of, rsd_ptr, rsdp_at, rsdp_of, check_whole_at, check_rsdp, check_whole}
+use Rattle.acpi.specs.Rsdp.{check_first, checked_length, rsd_ptr, rsdp_at, rsdp_of, check_rsdp, check_whole, at_hand}
 use Rattle.acpi_base.specs.declared.error.AcpiError.{AcpiError}
 use Rattle.acpi.specs.Later.{or_later}
 use Rattle.acpi.specs.Search.{walk, first_area, second_area, room_of, count_of, found_in, found_rsdp, or_else, word_in, IsRefused, IsLeast, HasNone, IsLent, IsSecond, IsSearched, IsFound}
@@ -65,7 +65,7 @@ lent_part m a off n size b hm e some room =
 
 -- without the signature no RSDP is there
 pub unsigned_refused : (m : Memory) (a off size : ℕ) (b : List ℕ) → IsMemory m → lent m a size ≡ Ok b → off + 36 ≤ size → bytes_eq (part b off 8) rsd_ptr ≡ false → rsdp_at m (a + off) ≡ Err RsdpIncorrectSignature
-unfolding rsdp_at length_of check_first rsdp_of
+unfolding rsdp_at checked_length check_first rsdp_of
 unsigned_refused m a off size b hm e room other =
     let there = lent_part m a off 36 size b hm e (omega arith) room in
     let front : take 8 (take 36 (drop off b)) ≡ take 8 (drop off b) = take-take 8 36 (drop off b) (omega arith) in
@@ -231,8 +231,8 @@ value_lent : (m : Memory) (a : ℕ) (b : List ℕ) → rsdp_at m a ≡ Ok b → 
 unfolding rsdp_at
 value_lent m a b e =
     let head = bind_ok (lent m a 36) _ b e in
-    let length = bind_ok (length_of head.0) _ b head.2 in
-    let summed = bind_ok (check_whole_at m a length.0) _ b length.2 in
+    let length = bind_ok (checked_length head.0) _ b head.2 in
+    let summed = bind_ok (check_whole (lent m a) length.0) _ b length.2 in
     head.1 ∙ summed.2
 
 pub valid_lent : (m : Memory) (a : ℕ) → IsOk (rsdp_at m a) → rsdp_at m a ≡ lent m a 36
@@ -267,24 +267,26 @@ rsdp_front b = rw (
   part_within 32 1 4 b (lit≤ tt),
 ) refl
 
-length_front : (b : List ℕ) → length_of (take 36 b) ≡ length_of b
-unfolding length_of check_first
+length_front : (b : List ℕ) → checked_length (take 36 b) ≡ checked_length b
+unfolding checked_length check_first
 length_front b = rw (rsdp_front b, take-take 20 36 b (lit≤ tt)) refl
 
-whole_there : (m : Memory) (a : ℕ) (b : List ℕ) (n : Option ℕ) → at m a (length b) ≡ Some b → check_whole b n ≡ Ok tt → check_whole_at m a n ≡ Ok tt
+whole_there : (m : Memory) (a : ℕ) (b : List ℕ) (n : Option ℕ) → at m a (length b) ≡ Some b → check_whole (at_hand b) n ≡ Ok tt → check_whole (lent m a) n ≡ Ok tt
 whole_there m a b None here whole = refl
 whole_there m a b (Some n) here whole =
-    let fits = holds_ok (nat_le n (length b)) _ _ tt whole in
-    rw (lent_front m a n b here (leb-true n (length b) fits.0)) fits.1
+    let had = bind_ok (at_hand b n) _ tt whole in
+    let fits = holds_ok (nat_le n (length b)) _ _ had.0 had.1 in
+    let lent_here : lent m a n ≡ Ok had.0 = lent_front m a n b here (leb-true n (length b) fits.0) ∙ fits.1 in
+    rw lent_here had.2
 
-is_there : (m : Memory) (a : ℕ) (b head : List ℕ) (n : Option ℕ) → lent m a 36 ≡ Ok head → length_of head ≡ Ok n → check_whole_at m a n ≡ Ok tt → rsdp_at m a ≡ Ok head
+is_there : (m : Memory) (a : ℕ) (b head : List ℕ) (n : Option ℕ) → lent m a 36 ≡ Ok head → checked_length head ≡ Ok n → check_whole (lent m a) n ≡ Ok tt → rsdp_at m a ≡ Ok head
 unfolding rsdp_at
 is_there m a b head n first long whole = rw (first, long, whole) refl
 
 valid_there : (m : Memory) (a : ℕ) (b : List ℕ) → 36 ≤ length b → at m a (length b) ≡ Some b → check_rsdp b ≡ Ok tt → IsOk (rsdp_at m a)
 unfolding check_rsdp
 valid_there m a b enough here said =
-    let n = bind_ok (length_of b) _ tt said in
+    let n = bind_ok (checked_length b) _ tt said in
     rw (is_there m a b (take 36 b) n.0 (lent_front m a 36 b here enough) (length_front b ∙ n.1) (whole_there m a b n.0 here n.2)) refl
 
 pub validated : (m : Memory) (a : ℕ) (b : List ℕ) (r : Result (Unit {0}) AcpiError) → 36 ≤ length b → at m a (length b) ≡ Some b → r ≡ check_rsdp b → IfOk r (λ _. IsOk (rsdp_at m a))

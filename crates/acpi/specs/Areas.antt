@@ -14,7 +14,7 @@ use Rattle.acpi_base.specs.declared.error.AcpiError.TheVariants.{NoValidRsdp}
 use Rattle.acpi_base.specs.declared.range.AddressRange.{AddressRange}
 use Rattle.acpi.specs.Opened.{Opened, opened_from}
 use Rattle.acpi.specs.OpenedRanges.{opened_ranges, or_else_ranges, walk_ranges}
-use Rattle.acpi.specs.Rsdp.{length_of, root_of_rsdp, rsdp_at}
+use Rattle.acpi.specs.Rsdp.{checked_length, root_of_rsdp, rsdp_at}
 use Rattle.acpi.specs.Search.{IsRefused, walk}
 
 -- that many bytes from an address on
@@ -86,7 +86,7 @@ opened_in_areas m areas = do
 -- bytes hold those of a candidate at an offset, and its own checks refuse these
 abbrev pub is_refused_in : List ℕ → ℕ → Bool
 is_refused_in b offset =
-    nat_le 36 (length (drop offset b)) && is_err (length_of (part b offset 36))
+    nat_le 36 (length (drop offset b)) && is_err (checked_length (part b offset 36))
 
 -- ---- ranges
 

@@ -6,7 +6,7 @@ use Rattle.acpi_base.specs.Steps.{lent}
 use Rattle.acpi.specs.Footprint.{root_ranges}
 use Rattle.acpi.specs.Opened.{opened_from}
 use Rattle.acpi.specs.Root.{pointers, width_of}
-use Rattle.acpi.specs.Rsdp.{length_of, root_of_rsdp, rsdp_at}
+use Rattle.acpi.specs.Rsdp.{checked_length, root_of_rsdp, rsdp_at}
 use Rattle.acpi.specs.Search.{count_of, first_area, found_in, found_rsdp, room_of, second_area}
 use Rattle.acpi.specs.Search.{word_in}
 use Rattle.acpi.specs.declared.root.RootPointer.{RootPointer}
@@ -21,7 +21,7 @@ length_ranges a (Some n) = (a, n) ∷ []
 abbrev pub rsdp_ranges : Memory → ℕ → Ranges
 rsdp_ranges m a = (a, 36) ∷ do
   b ← lent m a 36
-  n ← length_of b
+  n ← checked_length b
   length_ranges a n
 
 -- ---- the search

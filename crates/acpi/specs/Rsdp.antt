@@ -70,38 +70,35 @@ check_length (Some n) = do
   Ok (Some n)
 
 -- how many bytes are to sum to 0 as a whole, if the first checks hold: for revision 0 none
-unfoldable pub length_of : List ℕ → Result (Option ℕ) AcpiError
-length_of b = do
+unfoldable pub checked_length : List ℕ → Result (Option ℕ) AcpiError
+checked_length b = do
   _ ← check_first b
   check_length (extended_length_of (rsdp_of b))
 
--- the sum of the whole, which Extended Checksum makes 0, out of the bytes at hand
-abbrev pub check_whole : List ℕ → Option ℕ → Result (Unit {0}) AcpiError
-check_whole b None = Ok tt
-check_whole b (Some n) = do
-  _ ← holds (nat_le n (length b)) RsdpInvalidChecksum
-  check_sum (take n b)
-
--- all checks, over the bytes at hand: what `Rsdp::validate` returns. Too few bytes are RsdpInvalidChecksum
-unfoldable pub check_rsdp : List ℕ → Result (Unit {0}) AcpiError
-check_rsdp b = do
-  n ← length_of b
-  check_whole b n
-
--- ---- at an address
-
--- the sum of the whole, as it is lent
-abbrev pub check_whole_at : Memory → ℕ → Option ℕ → Result (Unit {0}) AcpiError
-check_whole_at m a None = Ok tt
-check_whole_at m a (Some n) = do
-  whole ← lent m a n
+-- the sum of the whole, which Extended Checksum makes 0; `bytes` has the first so many of it
+abbrev pub check_whole : (ℕ → Result (List ℕ) AcpiError) → Option ℕ → Result (Unit {0}) AcpiError
+check_whole bytes None = Ok tt
+check_whole bytes (Some n) = do
+  whole ← bytes n
   check_sum whole
 
+-- the first n of the bytes at hand, or RsdpInvalidChecksum
+abbrev pub at_hand : List ℕ → ℕ → Result (List ℕ) AcpiError
+at_hand b n = do
+  _ ← holds (nat_le n (length b)) RsdpInvalidChecksum
+  Ok (take n b)
+
+-- all checks over the bytes at hand: what `Rsdp::validate` returns
+unfoldable pub check_rsdp : List ℕ → Result (Unit {0}) AcpiError
+check_rsdp b = do
+  n ← checked_length b
+  check_whole (at_hand b) n
+
 -- the RSDP's 36 bytes at an address, or the error of the first check that fails. In order: 36 bytes are lent, what
--- `length_of` checks, as many bytes as Length says are lent, and they sum to 0
+-- `checked_length` checks, as many bytes as Length says are lent, and they sum to 0
 unfoldable pub rsdp_at : Memory → ℕ → Result (List ℕ) AcpiError
 rsdp_at m a = do
   b ← lent m a 36
-  n ← length_of b
-  _ ← check_whole_at m a n
+  n ← checked_length b
+  _ ← check_whole (lent m a) n
   Ok b

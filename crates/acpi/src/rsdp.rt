@@ -4,7 +4,7 @@ ghost use Rattle.acpi_base.specs.Mapping.{IsOfMemory, start_of, bytes_of, handle
 ghost use Rattle.acpi_base.specs.Ranges.{Allows};
 ghost use Rattle.acpi_base.specs.Steps.{Gives, lent};
 ghost use Rattle.acpi.specs.OpenedRanges.{rsdp_ranges};
-ghost use Rattle.acpi.specs.Rsdp.{check_sum, check_whole_at, rsdp_at};
+ghost use Rattle.acpi.specs.Rsdp.{check_sum, check_whole, rsdp_at};
 
 mod area;
 mod given;
@@ -65,7 +65,7 @@ impl Rsdp {
     ghost use Rattle.std.specs.Prelude.{◌≤◌, ℕ, length, IfSome, IsOk, Some};
     ghost use Rattle.acpi_base.specs.Memory.{Memory, at};
     ghost use Rattle.acpi_base.specs.Text.{IsTextOf};
-    ghost use Rattle.acpi.specs.Rsdp.{check_first, check_rsdp, extended_length_of, length_of};
+    ghost use Rattle.acpi.specs.Rsdp.{check_first, check_rsdp, checked_length, extended_length_of};
     ghost use Rattle.acpi.specs.Rsdp.{root_of, rsdp_of, unless_first};
 
     /// Signature: `RSD PTR ` if the RSDP is valid (section 5.2.5.3).
@@ -210,12 +210,12 @@ impl Rsdp {
 
     /// How many bytes are to sum to 0 after the checks of the first 20 bytes, if these hold: `None` for
     /// revision 0, else the length.
-    #[tactic(auto, unfolding(crate::specs::Rsdp::length_of))]
+    #[tactic(auto, unfolding(crate::specs::Rsdp::checked_length))]
     fn summed_length(&self, bytes: &[u8]) -> AcpiResult<Option<usize>>
         requires least { 36 ≤ length bytes.now }
         requires read { self.now ≡ rsdp_of bytes.now }
         ensures long { IfOk result (λ o. IfSome o (λ n. 36 ≤ n)) }
-        ensures length { Gives (λ o. o) result (length_of bytes.now) }
+        ensures length { Gives (λ o. o) result (checked_length bytes.now) }
     {
         self.validate_first(bytes)?;
         match self.length() {
@@ -241,7 +241,7 @@ fn check_sum(bytes: &[u8]) -> AcpiResult<()>
 fn check_whole<H: Lender>(handler: &H, address: u64, length: usize) -> AcpiResult<()>
     requires some { 0 < length }
     requires asked { H.may handler.now address length ≡ true }
-    ensures { result ≡ check_whole_at (H.memory handler.now) address (Some length) }
+    ensures { result ≡ check_whole (lent (H.memory handler.now) address) (Some length) }
 {
     match PhysicalMapping::<'_, H, RawBytes>::map(handler, address, length) {
         Ok(whole) => check_sum(whole.bytes()),

@@ -14,7 +14,7 @@ use Rattle.acpi.specs.Areas.{count_in, ebda_area, end_of, first_in, found_in_are
 use Rattle.acpi.specs.Later.{or_later}
 use Rattle.acpi.specs.Opened.{Opened, opened_by_rsdp}
 use Rattle.acpi.specs.OpenedRanges.{length_ranges, rsdp_ranges}
-use Rattle.acpi.specs.Rsdp.{check_first, extended_length_of, length_of, rsd_ptr, rsdp_at, rsdp_of}
+use Rattle.acpi.specs.Rsdp.{check_first, extended_length_of, checked_length, rsd_ptr, rsdp_at, rsdp_of}
 use Rattle.acpi.specs.Search.{area, count_of, room_of, second_area, walk, word_in}
 use Rattle.acpi.specs.declared.rsdp.Rsdp.{Rsdp}
 use Rattle.acpi_c_lib.specs.Answers.{Writes, put_from}
@@ -36,11 +36,11 @@ unfolding candidate_hole
 head_hole m a e is = rw is (no_hole (rsdp_at m a))
 
 pub unsigned_refused : (m : Memory) (a : ℕ) (b : List ℕ) → lent m a 36 ≡ Ok b → bytes_eq (rsdp_of b).signature rsd_ptr ≡ false → is_ok (rsdp_at m a) ≡ false
-unfolding rsdp_at length_of check_first
+unfolding rsdp_at checked_length check_first
 unsigned_refused m a b is other = grind arith
 
 pub unsigned_hole : (m : Memory) (a : ℕ) (b : List ℕ) → lent m a 36 ≡ Ok b → bytes_eq (rsdp_of b).signature rsd_ptr ≡ false → candidate_hole m a ≡ None
-unfolding candidate_hole rsdp_at length_of check_first
+unfolding candidate_hole rsdp_at checked_length check_first
 unsigned_hole m a b is other = grind arith
 
 -- only if something isn't lent do the ranges count

@@ -19,7 +19,7 @@ use Rattle.acpi.specs.Areas.{areas_ranges, bios_areas, found_among, found_in_are
 use Rattle.acpi.specs.Opened.{Opened, opened_at, opened_by_rsdp, opened_by_search, opened_from}
 use Rattle.acpi.specs.OpenedRanges.{area_ranges, opened_by_rsdp_ranges, opened_by_search_ranges, opened_ranges, or_else_ranges, search_ranges}
 use Rattle.acpi.specs.Root.{root_of_revision}
-use Rattle.acpi.specs.Rsdp.{check_first, check_sum, extended_length_of, length_of, root_of_rsdp, rsdp_at, rsdp_of}
+use Rattle.acpi.specs.Rsdp.{check_first, check_sum, extended_length_of, checked_length, root_of_rsdp, rsdp_at, rsdp_of}
 use Rattle.acpi.specs.Search.{first_area, found_in, found_rsdp, or_else, room_of, second_area, word_in}
 use Rattle.acpi_c_lib.specs.Below.{ebda_in, opened_as_lent, refused_as, opened_in}
 use Rattle.acpi_c_lib.specs.declared.records.Range.{Range}
@@ -53,16 +53,16 @@ pub sum_not : (b : List ℕ) → check_sum b ≡ Err MapFailed → ⊥
 unfolding check_sum
 sum_not b e = grind arith
 
-pub rsdp_not : (b : List ℕ) → length_of b ≡ Err MapFailed → ⊥
-unfolding length_of check_first
+pub rsdp_not : (b : List ℕ) → checked_length b ≡ Err MapFailed → ⊥
+unfolding checked_length check_first
 rsdp_not b e = grind (arith, sum_not)
 
-pub rsdp_length : (b : List ℕ) (o : Option ℕ) → length_of b ≡ Ok o → extended_length_of (rsdp_of b) ≡ o
-unfolding length_of
+pub rsdp_length : (b : List ℕ) (o : Option ℕ) → checked_length b ≡ Ok o → extended_length_of (rsdp_of b) ≡ o
+unfolding checked_length
 rsdp_length b o e = grind arith
 
-pub rsdp_long : (b : List ℕ) (n : ℕ) → length_of b ≡ Ok (Some n) → 36 ≤ n
-unfolding length_of
+pub rsdp_long : (b : List ℕ) (n : ℕ) → checked_length b ≡ Ok (Some n) → 36 ≤ n
+unfolding checked_length
 rsdp_long b n e = grind arith
 
 -- ---- the last range

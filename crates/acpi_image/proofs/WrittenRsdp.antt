@@ -11,7 +11,7 @@ use Rattle.acpi_base.specs.Steps.{lent}
 use Rattle.acpi_base.specs.declared.error.AcpiError.{AcpiError}
 use Rattle.acpi.specs.Root.{root_of_revision, root_pointer}
 use Rattle.acpi.specs.declared.root.RootKind.TheVariants.{Rsdt, Xsdt}
-use Rattle.acpi.specs.Rsdp.{check_first, check_length, check_sum, length_of, root_of_rsdp, rsd_ptr, rsdp_at, rsdp_of}
+use Rattle.acpi.specs.Rsdp.{check_first, check_length, check_sum, checked_length, root_of_rsdp, rsd_ptr, rsdp_at, rsdp_of}
 use Rattle.acpi_image.proofs.Placed.{lent_start}
 use Rattle.acpi_image.proofs.Summed.{sum_is_set}
 use Rattle.acpi_image.proofs.Written.{length-rsdp_unsummed, length-with_first_sum}
@@ -110,8 +110,8 @@ module _ (revision rsdt count xsdt x y : ℕ) where
   revision_of : (rsdp_of bytes).revision ≡ revision
   revision_of = rsdp_revision bytes ∙ revision_is
 
-  lengths : sum_of (take 20 bytes) ≡ 0 → length_of bytes ≡ check_length (if revision == 0 then None else Some (number (spelling 4 count)))
-  unfolding length_of
+  lengths : sum_of (take 20 bytes) ≡ 0 → checked_length bytes ≡ check_length (if revision == 0 then None else Some (number (spelling 4 count)))
+  unfolding checked_length
   lengths zero_sum =
       let many : (rsdp_of bytes).length ≡ number (spelling 4 count) = rsdp_length bytes ∙ count_is in
       rw (first_passes zero_sum, revision_of, many) refl
@@ -132,7 +132,7 @@ done x = Ok x
 
 -- what is tested of an RSDP, and what it leads to
 pub record IsRsdp (revision root : ℕ) (b : List ℕ) : Type 0 where
-  pub many : length_of b ≡ check_length (if revision == 0 then None else Some 36)
+  pub many : checked_length b ≡ check_length (if revision == 0 then None else Some 36)
   pub whole : (revision == 0) ≡ false → sum_of b ≡ 0
   pub leads_to : root_of_rsdp b ≡ root_of_revision revision root
 
@@ -172,7 +172,7 @@ module _ (m : Memory) (r : Region) (h : IsMemory m) (c : Contains m r) (long : l
   lent_whole : lent m r.start 36 ≡ Ok r.bytes
   lent_whole = lent_start m r h c 36 (lit≤ tt) (omega arith) ∙ ap done (take_all 36 r.bytes (omega arith))
 
-  there_by : (first : Bool) → length_of r.bytes ≡ check_length (if first then None else Some 36) → (first ≡ false → sum_of r.bytes ≡ 0) → rsdp_at m r.start ≡ Ok r.bytes
+  there_by : (first : Bool) → checked_length r.bytes ≡ check_length (if first then None else Some 36) → (first ≡ false → sum_of r.bytes ≡ 0) → rsdp_at m r.start ≡ Ok r.bytes
   unfolding rsdp_at check_sum
   there_by true many whole = rw (lent_whole, many) refl
   there_by false many whole = rw (lent_whole, many, lent_whole, whole refl) refl

@@ -18,7 +18,7 @@ use Rattle.acpi_laws.specs.ExampleLaws.{OpenedByRsdpInstance, OpenedInstance, Pl
 use Rattle.acpi.specs.Hpet.{hpet_at}
 use Rattle.acpi.specs.Lists.{own_header_at, stream_at}
 use Rattle.acpi.specs.Root.{pointers}
-use Rattle.acpi.specs.Rsdp.{check_first, check_sum, length_of, rsdp_at, rsdp_of}
+use Rattle.acpi.specs.Rsdp.{check_first, check_sum, checked_length, rsdp_at, rsdp_of}
 
 pub are_memories : AreMemories
 unfolding memory bios moved rsdp rsdt xsdt fadt hpet madt mcfg ssdt dsdt unnamed damaged
@@ -73,7 +73,7 @@ mailbox_instance = ((refl, (refl, (refl, (refl, (refl, tt))))), refl)
 -- ---- what leads to a root table
 
 pub rsdp_instance : RsdpInstance
-unfolding at rest_from length_in whole_of table_of table_at header_at check_names check_table field_of sum_of is_utf8 chars lib.Utf8.encode rsdp_at rsdp_of length_of check_first check_sum memory rsdp rsdt fadt hpet madt mcfg ssdt dsdt unnamed damaged
+unfolding at rest_from length_in whole_of table_of table_at header_at check_names check_table field_of sum_of is_utf8 chars lib.Utf8.encode rsdp_at rsdp_of checked_length check_first check_sum memory rsdp rsdt fadt hpet madt mcfg ssdt dsdt unnamed damaged
 rsdp_instance = ((refl, tt), refl)
 
 pub opened_instance : OpenedInstance
@@ -85,7 +85,7 @@ unfolding at rest_from length_in whole_of table_of table_at header_at check_name
 asked_instance = refl
 
 pub opened_by_rsdp_instance : OpenedByRsdpInstance
-unfolding at rest_from length_in whole_of table_of table_at header_at check_names check_table field_of sum_of is_utf8 chars lib.Utf8.encode rsdp_at rsdp_of length_of check_first check_sum memory rsdp rsdt fadt hpet madt mcfg ssdt dsdt unnamed damaged
+unfolding at rest_from length_in whole_of table_of table_at header_at check_names check_table field_of sum_of is_utf8 chars lib.Utf8.encode rsdp_at rsdp_of checked_length check_first check_sum memory rsdp rsdt fadt hpet madt mcfg ssdt dsdt unnamed damaged
 opened_by_rsdp_instance = ((refl, (refl, (refl, tt))), refl)
 
 -- ---- the same tables elsewhere

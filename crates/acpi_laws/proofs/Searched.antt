@@ -16,7 +16,7 @@ use Rattle.acpi_laws.specs.ExampleLaws.{OpenedBySearchInstance, SearchInstance, 
 use Rattle.acpi_laws.specs.Examples.{bios, bios_here, bios_there, damaged, dsdt, fadt, madt, mcfg, memory, rsdp, rsdt, ssdt}
 use Rattle.acpi.specs.Opened.{opened_from}
 use Rattle.acpi.specs.OpenedRanges.{area_ranges, opened_ranges, or_else_ranges, rsdp_ranges, search_ranges}
-use Rattle.acpi.specs.Rsdp.{check_first, check_sum, length_of, root_of_rsdp, rsdp_at, rsdp_of}
+use Rattle.acpi.specs.Rsdp.{check_first, check_sum, checked_length, root_of_rsdp, rsdp_at, rsdp_of}
 use Rattle.acpi.specs.Search.{count_of, first_area, found_in, found_rsdp, room_of, second_area, word_in}
 
 -- ---- if the first candidate is valid
@@ -69,7 +69,7 @@ unfolding at rest_from bios memory rsdp rsdt fadt hpet madt mcfg ssdt dsdt unnam
 area_is = refl
 
 rsdp_is : rsdp_at bios_here 0xe0000 ≡ Ok rsdp
-unfolding at rest_from rsdp_at rsdp_of length_of check_first check_sum field_of sum_of is_utf8 chars lib.Utf8.encode bios memory rsdp rsdt fadt hpet madt mcfg ssdt dsdt unnamed damaged
+unfolding at rest_from rsdp_at rsdp_of checked_length check_first check_sum field_of sum_of is_utf8 chars lib.Utf8.encode bios memory rsdp rsdt fadt hpet madt mcfg ssdt dsdt unnamed damaged
 rsdp_is = refl
 
 searched : Ranges
@@ -79,7 +79,7 @@ found_here : found_rsdp bios_here ≡ Ok (0xe0000, rsdp)
 found_here = found_is bios_here 8190 0 _ rsdp refl word_is area_is rsdp_is
 
 rest_is : (0xe0000, 131088) ∷ ((rsdp_ranges bios_here 0xe0000 ++ []) ++ []) ≡ drop 1 searched
-unfolding searched at rest_from rsdp_of length_of check_first check_sum field_of sum_of is_utf8 chars lib.Utf8.encode bios memory rsdp rsdt fadt hpet madt mcfg ssdt dsdt unnamed damaged
+unfolding searched at rest_from rsdp_of checked_length check_first check_sum field_of sum_of is_utf8 chars lib.Utf8.encode bios memory rsdp rsdt fadt hpet madt mcfg ssdt dsdt unnamed damaged
 rest_is = refl
 
 searched_is : search_ranges bios_here ≡ searched

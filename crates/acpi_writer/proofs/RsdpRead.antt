@@ -6,7 +6,7 @@ use Rattle.std.proofs.lemmas.Bool.{and_parts, le-leb, lt-leb}
 use Rattle.acpi_base.proofs.Spelling.{number-spelling}
 use Rattle.acpi_base.specs.Bytes.{field_of, spelling, sum_of}
 use Rattle.acpi.specs.Root.{root_pointer}
-use Rattle.acpi.specs.Rsdp.{check_first, check_rsdp, check_sum, length_of, root_of_rsdp, rsd_ptr, rsdp_of}
+use Rattle.acpi.specs.Rsdp.{check_first, check_rsdp, check_sum, checked_length, root_of_rsdp, rsd_ptr, rsdp_of}
 use Rattle.acpi.specs.declared.root.RootKind.TheVariants.{Xsdt}
 use Rattle.acpi_image.proofs.Summed.{sum_is_set}
 use Rattle.acpi_image.proofs.Written.{length-with_first_sum, length-with_sum}
@@ -109,7 +109,7 @@ module _ (a b c d e f xsdt : ℕ) where
   all_of x y = refl
 
   checked : is_utf8 id ≡ true → check_rsdp (shape first second) ≡ Ok tt
-  unfolding check_rsdp length_of check_first check_sum
+  unfolding check_rsdp checked_length check_first check_sum
   checked text =
       rw (signature_is first second, id_is first second, text, front_sum second, revision_is first second, length_is first second, shape_long first second, all_of first second, whole_sum) refl
 
