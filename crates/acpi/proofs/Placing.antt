@@ -8,7 +8,6 @@ use Rattle.acpi_base.proofs.TableFootprints.{each_back, each_front, same_own_tab
 use Rattle.acpi_base.proofs.AllowedRanges as allowed
 use Rattle.acpi_base.specs.declared.error.AcpiError.{AcpiError}
 use Rattle.acpi_base.specs.declared.table.signature.TheConstants.Signature.{DSDT}
-use Rattle.acpi_base.specs.Header.{header_at}
 use Rattle.acpi_base.specs.Memory.{Memory}
 use Rattle.acpi_base.specs.Ranges as ranges
 use Rattle.acpi_base.specs.Ranges.{AgreesOn, Allows, DependsOn, Ranges, own_table_ranges, table_ranges}
@@ -22,7 +21,7 @@ use Rattle.acpi.specs.Footprint.{header_ranges, lookup_ranges}
 use Rattle.acpi.specs.Lists.{fadt_kind, own_header_at}
 use Rattle.acpi.specs.Lookup.{lookup}
 use Rattle.acpi.specs.Members.{found_at, kind_ranges, members_of, tables_found}
-use Rattle.acpi.specs.Places.{dsdt_place, dsdt_place_ranges, facs_at, facs_length, facs_place, facs_place_ranges, facs_ranges, led_by, led_ranges, place_at, place_ranges, places_of, range}
+use Rattle.acpi.specs.Places.{dsdt_place, dsdt_place_ranges, facs_at, facs_length_in, facs_place, facs_place_ranges, facs_ranges, led_by, led_by_ranges, led_ranges, place_at, place_ranges, places_of, range}
 use Rattle.acpi.specs.Root.{pointers}
 use Rattle.acpi_base.specs.declared.range.AddressRange.{AddressRange}
 
@@ -73,9 +72,9 @@ module _ (m n : Memory) where
   long_from a (Ok l) h = rw h.0 refl
   long_from a (Err e) h = refl
 
-  head_from : (a : ℕ) (r : Result (List ℕ) AcpiError) → AgreesOn m n (ranges.◌>>=◌ r (λ b. ranges.◌>>=◌ (facs_length (header_at b)) (λ l. (a, l) ∷ [])))
-      → (r >>= λ b. facs_length (header_at b) >>= λ l. lent n a l >>= λ _. Ok (range a l)) ≡ (r >>= λ b. facs_length (header_at b) >>= λ l. lent m a l >>= λ _. Ok (range a l))
-  head_from a (Ok b) h = long_from a (facs_length (header_at b)) h
+  head_from : (a : ℕ) (r : Result (List ℕ) AcpiError) → AgreesOn m n (ranges.◌>>=◌ r (λ b. ranges.◌>>=◌ (facs_length_in b) (λ l. (a, l) ∷ [])))
+      → (r >>= λ b. facs_length_in b >>= λ l. lent n a l >>= λ _. Ok (range a l)) ≡ (r >>= λ b. facs_length_in b >>= λ l. lent m a l >>= λ _. Ok (range a l))
+  head_from a (Ok b) h = long_from a (facs_length_in b) h
   head_from a (Err e) h = refl
 
   same_facs_at : (a : ℕ) → AgreesOn m n (facs_ranges m a) → facs_at n a ≡ facs_at m a
@@ -113,6 +112,12 @@ module _ (m n : Memory) where
       let after = each_back _ (lookup_ranges m fadt_kind ps) _ h in
       rw front (led_from facs_place facs_place_ranges (λ f g. facs_from (facs_address_of f) g) (lookup m fadt_kind ps) (second_led (lookup m fadt_kind ps) (λ found. dsdt_place_ranges m (fadt_at found.1)) _ after))
 
+pub same_facs : DependsOn (led_by_ranges facs_place_ranges) (led_by facs_place)
+same_facs m n ps h =
+    let front = same_lookup fadt_kind m n ps (each_front _ (lookup_ranges m fadt_kind ps) _ h) in
+    let after = each_back _ (lookup_ranges m fadt_kind ps) _ h in
+    rw front (led_from m n facs_place facs_place_ranges (λ f g. facs_from m n (facs_address_of f) g) (lookup m fadt_kind ps) after)
+
 pub same_places : (root : AddressRange) → DependsOn place_ranges (places_of root)
 same_places root m n ps h =
     let after = each_back _ (header_ranges m ps) _ h in
@@ -133,6 +138,9 @@ fits_places n w root short few = omega (arith, pointers_few w (drop 36 root), le
 
 -- ---- what may be asked for
 
+abbrev pub places_ranges : Memory → Fadt → Ranges
+places_ranges m f = dsdt_place_ranges m f ++ facs_place_ranges m f
+
 module _ (may : ℕ → ℕ → Bool) where
   pub asked_members : (m : Memory) (ps : List ℕ) → Allows may (place_ranges m ps) → Allows may (header_ranges m ps)
   asked_members m ps h = allowed.all_front may (header_ranges m ps) _ h
@@ -140,17 +148,17 @@ module _ (may : ℕ → ℕ → Bool) where
   pub asked_led : (m : Memory) (ps : List ℕ) → Allows may (place_ranges m ps) → Allows may (led_ranges m ps)
   asked_led m ps h = allowed.all_back may (header_ranges m ps) _ h
 
-  pub asked_led_fadt : (m : Memory) (ps : List ℕ) → Allows may (led_ranges m ps) → Allows may (lookup_ranges m fadt_kind ps)
-  asked_led_fadt m ps h = allowed.all_front may (lookup_ranges m fadt_kind ps) _ h
+  pub asked_led_fadt : (place : Memory → Fadt → Ranges) (m : Memory) (ps : List ℕ) → Allows may (led_by_ranges place m ps) → Allows may (lookup_ranges m fadt_kind ps)
+  asked_led_fadt place m ps h = allowed.all_front may (lookup_ranges m fadt_kind ps) _ h
 
-  both_asked : (m : Memory) (ps : List ℕ) (found : ℕ × List ℕ) → Allows may (led_ranges m ps) → lookup m fadt_kind ps ≡ Ok found
-      → Allows may (dsdt_place_ranges m (fadt_at found.1) ++ facs_place_ranges m (fadt_at found.1))
-  both_asked m ps found h there = rw there at (allowed.all_back may (lookup_ranges m fadt_kind ps) _ h)
+  pub asked_place : (place : Memory → Fadt → Ranges) (m : Memory) (ps : List ℕ) (found : ℕ × List ℕ) → Allows may (led_by_ranges place m ps) → lookup m fadt_kind ps ≡ Ok found
+      → Allows may (place m (fadt_at found.1))
+  asked_place place m ps found h there = rw there at (allowed.all_back may (lookup_ranges m fadt_kind ps) _ h)
 
   pub asked_dsdt_place : (m : Memory) (ps : List ℕ) (found : ℕ × List ℕ) → Allows may (led_ranges m ps) → lookup m fadt_kind ps ≡ Ok found
       → Allows may (dsdt_place_ranges m (fadt_at found.1))
-  asked_dsdt_place m ps found h there = allowed.all_front may (dsdt_place_ranges m (fadt_at found.1)) _ (both_asked m ps found h there)
+  asked_dsdt_place m ps found h there = allowed.all_front may (dsdt_place_ranges m (fadt_at found.1)) _ (asked_place places_ranges m ps found h there)
 
   pub asked_facs_place : (m : Memory) (ps : List ℕ) (found : ℕ × List ℕ) → Allows may (led_ranges m ps) → lookup m fadt_kind ps ≡ Ok found
       → Allows may (facs_place_ranges m (fadt_at found.1))
-  asked_facs_place m ps found h there = allowed.all_back may (dsdt_place_ranges m (fadt_at found.1)) _ (both_asked m ps found h there)
+  asked_facs_place m ps found h there = allowed.all_back may (dsdt_place_ranges m (fadt_at found.1)) _ (asked_place places_ranges m ps found h there)

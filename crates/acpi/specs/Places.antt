@@ -5,7 +5,7 @@ use Rattle.std.specs.Result.{result_ok}
 use Rattle.std.specs.Str.{bytes_eq}
 use Rattle.acpi_base.specs.declared.error.AcpiError.{AcpiError}
 use Rattle.acpi_base.specs.declared.error.AcpiError.TheVariants.{SdtInvalidLength, SdtInvalidSignature}
-use Rattle.acpi_base.specs.declared.table.header.SdtHeader.{SdtHeader}
+use Rattle.acpi_base.specs.declared.table.signature.Signature.{Signature}
 use Rattle.acpi_base.specs.declared.table.signature.TheConstants.Signature.{DSDT, FACS}
 use Rattle.acpi_base.specs.Header.{header_at}
 use Rattle.acpi_base.specs.Memory.{Memory}
@@ -37,19 +37,22 @@ dsdt_place m f = do
   table ← table_at m (plain_kind DSDT) address
   Ok (range address (length table))
 
--- Length of a FACS (section 5.2.10), at least 64: its Signature, at 0, and its Length, at 4, lie where those of a
--- header do
-unfoldable pub facs_length : SdtHeader → Result ℕ AcpiError
-facs_length head = do
-  _ ← holds (bytes_eq head.signature.0 FACS.0) (SdtInvalidSignature FACS)
-  _ ← holds (nat_le 64 head.length) (SdtInvalidLength FACS)
-  Ok head.length
+-- Length of a FACS (section 5.2.10), at least 64, by its Signature and its Length
+unfoldable pub facs_length : Signature → ℕ → Result ℕ AcpiError
+facs_length signature length = do
+  _ ← holds (bytes_eq signature.0 FACS.0) (SdtInvalidSignature FACS)
+  _ ← holds (nat_le 64 length) (SdtInvalidLength FACS)
+  Ok length
+
+-- that of the bytes at its address: Signature, at 0, and Length, at 4, lie where those of a header do
+abbrev pub facs_length_in : List ℕ → Result ℕ AcpiError
+facs_length_in head = facs_length (header_at head).signature (header_at head).length
 
 -- the FACS at an address
 unfoldable pub facs_at : Memory → ℕ → Result AddressRange AcpiError
 facs_at m address = do
   head ← lent m address 36
-  length ← facs_length (header_at head)
+  length ← facs_length_in head
   _ ← lent m address length
   Ok (range address length)
 
@@ -86,16 +89,20 @@ dsdt_place_ranges m f = ranges.◌>>=◌ (dsdt_address_of f) (λ address. table_
 -- those of `facs_at`
 abbrev pub facs_ranges : Memory → ℕ → Ranges
 facs_ranges m address = (address, 36) ∷ ranges.◌>>=◌ (lent m address 36) (λ head.
-    ranges.◌>>=◌ (facs_length (header_at head)) (λ length. (address, length) ∷ []))
+    ranges.◌>>=◌ (facs_length_in head) (λ length. (address, length) ∷ []))
 
 -- those of `facs_place`
 abbrev pub facs_place_ranges : Memory → Fadt → Ranges
 facs_place_ranges m f = ranges.◌>>=◌ (facs_address_of f) (λ address. facs_ranges m address)
 
--- those of what the first valid FADT leads to
+-- those of `led_by`: the FADT's, and those of what it leads to
+abbrev pub led_by_ranges : (Memory → Fadt → Ranges) → Memory → List ℕ → Ranges
+led_by_ranges place m ps = lookup_ranges m fadt_kind ps
+    ++ ranges.◌>>=◌ (lookup m fadt_kind ps) (λ found. place m (fadt_at found.1))
+
+-- those of the DSDT and the FACS
 abbrev pub led_ranges : Memory → List ℕ → Ranges
-led_ranges m ps = lookup_ranges m fadt_kind ps ++ ranges.◌>>=◌ (lookup m fadt_kind ps) (λ found.
-    dsdt_place_ranges m (fadt_at found.1) ++ facs_place_ranges m (fadt_at found.1))
+led_ranges = led_by_ranges (λ m f. dsdt_place_ranges m f ++ facs_place_ranges m f)
 
 -- those of `places_of`: each member's, under its own signature, and those of what the FADT leads to
 abbrev pub place_ranges : Memory → List ℕ → Ranges

@@ -36,7 +36,7 @@ pub use members::{TableMember, TableMembers};
 pub use platform::PlatformInfo;
 pub use platform::interrupt::InterruptModel;
 pub use pointers::Pointers;
-pub use ranges::TableRanges;
+pub use ranges::{TableRanges, facs_length};
 pub use records::{AmlTable, Sdt, TableFault};
 pub use ssdts::SsdtIterator;
 pub use tables::AcpiTables;

@@ -97,19 +97,23 @@ fn own_place<H: Lender>(handler: &H, address: u64) -> AcpiResult<AddressRange>
     }
 }
 
-/// The length of a FACS (section 5.2.10), whose signature and length lie where those of a header do.
+/// How many bytes a FACS has (section 5.2.10), by its Signature, bytes 0 to 3, and its Length, bytes 4 to 7. It has no
+/// checksum.
+///
+/// Fails, in this order, with `SdtInvalidSignature` if the signature isn't `FACS`, and with `SdtInvalidLength` if the
+/// length is under 64, both carrying the signature `FACS`.
 #[tactic(auto, unfolding(crate::specs::Places::facs_length))]
-fn facs_length(head: &SdtHeader) -> AcpiResult<usize>
+pub fn facs_length(signature: Signature, length: u32) -> AcpiResult<u32>
+    ensures exact { result ≡ facs_length signature length }
     ensures long { IfOk result (λ n. 64 ≤ n) }
-    ensures length { Gives (λ n. n) result (facs_length head.now) }
 {
-    if head.signature != Signature::FACS {
+    if signature != Signature::FACS {
         return Err(AcpiError::SdtInvalidSignature(Signature::FACS));
     }
-    if head.length < 64 {
+    if length < 64 {
         return Err(AcpiError::SdtInvalidLength(Signature::FACS));
     }
-    Ok(head.length as usize)
+    Ok(length)
 }
 
 /// Where the FACS at an address lies: it has the signature, gives a length of at least 64, and so
@@ -120,9 +124,9 @@ pub(crate) fn facs_at<H: Lender>(handler: &H, address: u64) -> AcpiResult<Addres
     ensures { result ≡ facs_at (H.memory handler.now) address }
 {
     let head = PhysicalMapping::<H, SdtHeader>::map(handler, address, SdtHeader::MIN_LENGTH)?;
-    let length = facs_length(&head)?;
+    let length = facs_length(head.signature, head.length)?;
     drop(head);
-    match PhysicalMapping::<H, SdtHeader>::map(handler, address, length) {
+    match PhysicalMapping::<H, SdtHeader>::map(handler, address, length as usize) {
         Ok(whole) => Ok(AddressRange {
             address,
             length: whole.region_length() as u64,

@@ -29,7 +29,7 @@ use crate::regions::Mapped;
 use acpi::fadt::Fadt;
 use acpi::rsdp::{Rsdp, bios_areas};
 use acpi::sdt::{SdtHeader, Signature, map_own_sdt, map_sdt};
-use acpi::{AcpiError, AcpiHandler, PhysicalMapping, Pointers};
+use acpi::{AcpiError, AcpiHandler, PhysicalMapping, Pointers, facs_length};
 
 /// Lists the ranges of memory that a caller has to map before all tables can be read.
 pub fn missing(source: &Source<'_>, out: &mut [Range]) -> Result<usize, Refusal>
@@ -175,8 +175,8 @@ fn dsdt_hole<H: AcpiHandler>(handler: &H, fadt: &Fadt) -> Option<Range>
     }
 }
 
-/// Where the FACS that a FADT leads to is refused so: its first 36 bytes, or as many as its Length says, which is at
-/// least 64 (section 5.2.10).
+/// Where the FACS that a FADT leads to is refused so: its first 36 bytes, or as many as its Length says (section
+/// 5.2.10).
 #[tactic(auto, using(crate::proofs::Unlent::no_hole), unfolding(acpi::specs::Places::facs_at, acpi::specs::Places::facs_length))]
 fn facs_hole<H: AcpiHandler>(handler: &H, fadt: &Fadt) -> Option<Range>
     ensures { let m = H.memory handler.now in
@@ -186,11 +186,11 @@ fn facs_hole<H: AcpiHandler>(handler: &H, fadt: &Fadt) -> Option<Range>
     let Ok(head) = PhysicalMapping::<'_, H, SdtHeader>::map(handler, address, 36) else {
         return Some(range(address, 36));
     };
-    let is_facs = head.signature == Signature::FACS && head.length >= 64;
-    if !is_facs || is_lent(handler, address, head.length) {
+    let length = facs_length(head.signature, head.length).ok()?;
+    if is_lent(handler, address, length) {
         return None;
     }
-    Some(range(address, head.length))
+    Some(range(address, length))
 }
 
 /// Where opening is refused because something isn't lent.

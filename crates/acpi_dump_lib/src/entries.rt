@@ -10,7 +10,9 @@ use acpi::madt::Madt;
 use acpi::mcfg::Mcfg;
 use acpi::sdt::{SdtHeader, Signature, field};
 use acpi::spcr::Spcr;
-use acpi::{AcpiError, AcpiHandler, AcpiResult, AcpiTable, AcpiTables, PhysicalRecord};
+use acpi::{
+    AcpiError, AcpiHandler, AcpiResult, AcpiTable, AcpiTables, PhysicalRecord, facs_length,
+};
 use acpi_base::bytes::byte_sum;
 use std::alloc::{AllocError, Global};
 
@@ -128,27 +130,21 @@ fn check_header(lent: &[u8], signature: Signature, cut: AcpiError) -> Status {
     }
 }
 
-/// What the checks say of a FACS (section 5.2.10), which has no checksum: its signature, and at least 64 bytes, as
-/// many as its length says.
+/// What the checks say of a FACS (section 5.2.10), over the bytes that there are of it.
 fn check_facs(lent: &[u8], cut: AcpiError) -> Status {
-    if lent.len() < 8 {
+    let [a, b, c, d, e, f, g, h, ..] = lent else {
         return Status::Refused(cut);
-    }
-    if !lent.starts_with(b"FACS") {
-        return Status::Refused(AcpiError::SdtInvalidSignature(Signature::FACS));
-    }
-    let length = field(lent, 4, 4);
-    if length < 64 {
-        return Status::Refused(AcpiError::SdtInvalidLength(Signature::FACS));
-    }
-    if length > lent.len() as u64 {
-        return Status::Cut {
+    };
+    let signature = Signature::from_bytes([*a, *b, *c, *d]);
+    match facs_length(signature, u32::from_le_bytes([*e, *f, *g, *h])) {
+        Ok(length) if length as usize > lent.len() => Status::Cut {
             refusal: cut,
             has: lent.len(),
-            length: u32::try_from(length).unwrap_or(u32::MAX),
-        };
+            length,
+        },
+        Ok(_) => Status::Valid,
+        Err(refusal) => Status::Refused(refusal),
     }
-    Status::Valid
 }
 
 /// The table in a file.

@@ -26,7 +26,7 @@ impl<'h, H: Lender> AcpiTables<'h, H> {
     ghost use Rattle.acpi.specs.Placed.{found_left, members_left, places_left};
     ghost use Rattle.acpi.specs.Pointers.{pointers_left};
     ghost use Rattle.acpi.specs.Places.{dsdt_place, dsdt_place_ranges, facs_place, facs_place_ranges};
-    ghost use Rattle.acpi.specs.Places.{led_by, led_ranges, place_ranges, places_of};
+    ghost use Rattle.acpi.specs.Places.{led_by, led_by_ranges, led_ranges, place_ranges, places_of};
     ghost use Rattle.acpi.specs.Placed.{root_place};
     ghost use Rattle.acpi.specs.Root.{signature_of};
     ghost use Rattle.acpi.specs.Tables.{kind_of, lender_of, may_of, memory_of, of_tables, pointers_of, root_address_of, root_of};
@@ -134,6 +134,23 @@ impl<'h, H: Lender> AcpiTables<'h, H> {
             }
         }
         Err(AcpiError::TableMissing(signature))
+    }
+
+    /// Where the FACS lies, as many bytes as its Length says (section 5.2.10): that of the first valid FADT (section
+    /// 5.2.9).
+    ///
+    /// Fails, in this order, with `TableMissing` if no valid FADT is listed, `InvalidFacsAddress` if that FADT gives no
+    /// address, `MapFailed` if 36 bytes aren't lent there, as `facs_length` does, and with `MapFailed` if as many bytes
+    /// as the length says aren't lent.
+    pub fn facs(&self) -> AcpiResult<AddressRange>
+        requires { AllowsBelow self.now (led_by_ranges facs_place_ranges) }
+        ensures exact { result ≡ of_tables self.now (led_by facs_place) }
+        // It depends on what the lookup of the FADT depends on, and on the FACS that this leads to.
+        ensures footprint { FootprintBelow self.now (led_by_ranges facs_place_ranges) (led_by facs_place)
+            (λ said. result ≡ said) }
+    {
+        let fadt = self.find_fadt_exact()?;
+        self.facs_place(&fadt)
     }
 
     /// The ranges of physical memory in which the tables lie (sections 5.2.6, 5.2.9 and 5.2.10): the root

@@ -1,5 +1,5 @@
 //! Questions about where the tables lie, and about all of a kind: `places root`, `places members`,
-//! `places ranges`, `places found SIGNATURE` and `places sdt SIGNATURE`, where a signature that is no
+//! `places ranges`, `places facs`, `places found SIGNATURE` and `places sdt SIGNATURE`, where a signature that is no
 //! text is eight hexadecimal digits.
 
 use super::types;
@@ -20,6 +20,7 @@ pub(super) fn answer<H: AcpiHandler>(
     match word {
         "members" => listed(alloc, tables.members().map(front_of)),
         "ranges" => listed(alloc, tables.ranges().map(ends_of)),
+        "facs" => shown(alloc, &tables.facs().map(ends_of)),
         "sdt" => {
             let found = tables.find_sdt(signature_of(name));
             shown(
