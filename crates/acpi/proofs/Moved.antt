@@ -52,7 +52,7 @@ headers_follow m n ps qs same = headers_are n qs ∙ ap (map header_at) same ∙
 
 -- ---- lookups
 
-first_of : Signature → ℕ → List (List ℕ) → Result (List ℕ) AcpiError
+unfoldable pub first_of : Signature → ℕ → List (List ℕ) → Result (List ℕ) AcpiError
 first_of s least [] = Err (TableMissing s)
 first_of s least (t ∷ ts) = if serves s least t then Ok t else first_of s least ts
 
@@ -72,7 +72,7 @@ found_step s least p None (Ok t) later ts e f = absurd cc
 found_step s least p None (Err d) later ts e f = f
 found_step s least p (Some t) r later ts e f = found_by (serves s least t) p t r later (first_of s least ts) e f
 
-lookup_is : (m : Memory) (s : Signature) (least : ℕ) (ps : List ℕ) → 36 ≤ least
+pub lookup_is : (m : Memory) (s : Signature) (least : ℕ) (ps : List ℕ) → 36 ≤ least
     → bytes_found (lookup m (kind s least (check_table s)) ps) ≡ first_of s least (valid_tables m ps)
 unfolding first_of
 lookup_is m s least [] enough = refl

@@ -46,7 +46,7 @@ table_is b e =
     record { long = leb-true _ _ p.0; whole = eqb-true _ _ q.0; signature = r.0; id = s.0; table_id = s.1 }
 
 -- a table stays one if byte 9 is set
-still : (b : List ℕ) → IsTable b → IsTable (with_sum 9 b)
+pub still : (b : List ℕ) → IsTable b → IsTable (with_sum 9 b)
 unfolding with_sum field_of
 still b is = record {
   long = omega (arith, is.long, length-with_sum 9 b);

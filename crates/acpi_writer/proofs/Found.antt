@@ -1,21 +1,16 @@
 -- The first table of a signature in an image that is written.
-use Rattle.std.proofs.Common.{◌≡◌, ℕ, ◌≤◌, Bool, true, false, List, [], ◌∷◌, ◌++◌, length, map, Option, Some, None, Result, Ok, Err, refl, ap, ◌∙◌, if◌then◌else◌, lit≤}
+use Rattle.std.proofs.Common.{◌≡◌, ℕ, ◌≤◌, true, false, List, [], ◌∷◌, ◌++◌, length, map, Ok, refl, ap, ◌∙◌, lit≤}
 use Rattle.std.specs.Prelude.{◌&&◌, nat_le}
-use Rattle.std.specs.List.{AllByRecursion, cons_option}
-use Rattle.std.specs.Result.{result_ok}
+use Rattle.std.specs.List.{AllByRecursion}
 use Rattle.std.specs.Str.{bytes_eq}
 use Rattle.std.proofs.lemmas.Bool.{le-leb}
 use Rattle.std.proofs.lemmas.List.{set-set}
-use Rattle.acpi_base.proofs.OwnTable.{own_table_is, served, serves}
+use Rattle.acpi_base.proofs.OwnTable.{serves}
 use Rattle.acpi_base.specs.Header.{check_table, header_at}
 use Rattle.acpi_base.specs.Memory.{Memory, Region}
-use Rattle.acpi_base.specs.Table.{kind, own_table_at, table_at}
-use Rattle.acpi_base.specs.declared.error.AcpiError.{AcpiError}
-use Rattle.acpi_base.specs.declared.error.AcpiError.TheVariants.{TableMissing}
+use Rattle.acpi_base.specs.Table.{kind}
 use Rattle.acpi_base.specs.declared.table.signature.Signature.{Signature}
-use Rattle.acpi.proofs.First.{here}
-use Rattle.acpi.specs.Later.{or_later}
-use Rattle.acpi.specs.Lists.{valid_tables}
+use Rattle.acpi.proofs.Moved.{first_of, lookup_is}
 use Rattle.acpi.specs.Lookup.{lookup}
 use Rattle.acpi.specs.Relocation.{bytes_found}
 use Rattle.acpi_image.proofs.Summed.{part_front}
@@ -23,36 +18,6 @@ use Rattle.acpi_image.proofs.Written.{length-with_sum}
 use Rattle.acpi_image.proofs.WrittenLaws.{written_is_read}
 use Rattle.acpi_image.specs.Written.{Plan, pointers_of, records_of, sum_byte, with_sum}
 use Rattle.acpi_writer.specs.ImageLaws.{HasFirst, is_named}
-
--- ---- a lookup by the valid tables: as in acpi's proofs/Moved.antt, where it is private
-
-first_of : Signature → ℕ → List (List ℕ) → Result (List ℕ) AcpiError
-first_of s least [] = Err (TableMissing s)
-first_of s least (t ∷ ts) = if serves s least t then Ok t else first_of s least ts
-
-found_by : (b : Bool) (p : ℕ) (t : List ℕ) (r : Result (List ℕ) AcpiError) (later : Result (ℕ × List ℕ) AcpiError) (others : Result (List ℕ) AcpiError)
-    → result_ok r ≡ (if b then Some t else None) → bytes_found later ≡ others
-    → bytes_found (or_later (here p) r later) ≡ (if b then Ok t else others)
-found_by true p t (Ok found) later others e f = cc
-found_by true p t (Err d) later others e f = absurd cc
-found_by false p t (Ok found) later others e f = absurd cc
-found_by false p t (Err d) later others e f = f
-
-found_step : (s : Signature) (least p : ℕ) (o : Option (List ℕ)) (r : Result (List ℕ) AcpiError) (later : Result (ℕ × List ℕ) AcpiError) (ts : List (List ℕ))
-    → result_ok r ≡ served s least o → bytes_found later ≡ first_of s least ts
-    → bytes_found (or_later (here p) r later) ≡ first_of s least (cons_option o ts)
-unfolding first_of
-found_step s least p None (Ok t) later ts e f = absurd cc
-found_step s least p None (Err d) later ts e f = f
-found_step s least p (Some t) r later ts e f = found_by (serves s least t) p t r later (first_of s least ts) e f
-
-lookup_is : (m : Memory) (s : Signature) (least : ℕ) (ps : List ℕ) → 36 ≤ least
-    → bytes_found (lookup m (kind s least (check_table s)) ps) ≡ first_of s least (valid_tables m ps)
-unfolding first_of
-lookup_is m s least [] enough = refl
-lookup_is m s least (p ∷ ps) enough =
-    found_step s least p (result_ok (own_table_at m p)) (table_at m (kind s least (check_table s)) p) (lookup m (kind s least (check_table s)) ps) (valid_tables m ps)
-    (own_table_is m s least p enough) (lookup_is m s least ps enough)
 
 -- ---- a table whose Checksum is set
 

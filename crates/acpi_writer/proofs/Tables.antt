@@ -8,9 +8,9 @@ use Rattle.acpi_base.specs.Bytes.{field_of, number, part, spelling, sum_of}
 use Rattle.acpi_base.specs.Header.{check_names, check_table, header_at}
 use Rattle.acpi_base.specs.Text.{letters_of}
 use Rattle.acpi_base.specs.declared.table.signature.Signature.{Signature}
-use Rattle.acpi_image.proofs.Summed.{part_before, part_behind, part_front, sum_is_set}
+use Rattle.acpi_image.proofs.Summed.{part_front, sum_is_set}
 use Rattle.acpi_image.proofs.Written.{length-with_sum}
-use Rattle.acpi_image.proofs.WrittenTables.{IsTable}
+use Rattle.acpi_image.proofs.WrittenTables.{IsTable, still}
 use Rattle.acpi_image.specs.WriteChecks.{is_table}
 use Rattle.acpi_image.specs.Written.{sum_byte, with_sum}
 use Rattle.acpi_writer.specs.ImageLaws.{is_named}
@@ -135,17 +135,6 @@ module _ (s : Signature) (name : IsName s) (revision : ℕ) (ids : TableIds) (ar
 
   raw_is_named : is_named s (unsummed s revision ids body) ≡ true
   raw_is_named = ap (λ p. bytes_eq p (letters_of s)) raw_named ∙ name.same
-
--- a table stays one if byte 9 is set: as in acpi_image's proofs/WrittenTables.antt, where it is private
-still : (b : List ℕ) → IsTable b → IsTable (with_sum 9 b)
-unfolding with_sum field_of
-still b is = record {
-  long = omega (arith, is.long, length-with_sum 9 b);
-  whole = ap number (part_before b 9 (sum_byte 9 b) 4 4 (lit≤ tt)) ∙ is.whole ∙ sym (length-with_sum 9 b);
-  signature = rw (part_front b 9 (sum_byte 9 b) 4 (lit≤ tt)) is.signature;
-  id = rw (part_behind b 9 (sum_byte 9 b) 10 6 (lit< tt)) is.id;
-  table_id = rw (part_behind b 9 (sum_byte 9 b) 16 8 (lit< tt)) is.table_id;
-}
 
 named_still : (s : Signature) (b : List ℕ) → is_named s b ≡ true → is_named s (with_sum 9 b) ≡ true
 unfolding with_sum

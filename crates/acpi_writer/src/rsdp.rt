@@ -7,7 +7,7 @@ ghost use Rattle.acpi_writer.specs.Table.{Keeps};
 use crate::error::WriterError;
 use crate::ids::TableIds;
 use crate::numbers::{dword, qword};
-use crate::table::set_sum;
+use acpi_image::write::set_sum;
 
 /// An RSDP of revision 2 whose checksums are 0.
 #[tactic(auto, unfolding(crate::specs::Rsdp::rsdp_unsummed, acpi_base::specs::Bytes::spelling))]

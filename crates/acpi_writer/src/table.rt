@@ -9,17 +9,7 @@ use crate::ids::TableIds;
 use crate::numbers::dword;
 use crate::spelled::Spelled;
 use acpi_base::Signature;
-use acpi_base::bytes::byte_sum;
-
-/// Sets the byte at an offset so that all sum to 0 modulo 256.
-#[tactic(auto, unfolding(acpi_image::specs::Written::with_sum, acpi_image::specs::Written::sum_byte))]
-pub(crate) fn set_sum(bytes: &mut [u8], offset: usize)
-    requires { offset < length bytes.old }
-    ensures { bytes.new ≡ with_sum offset bytes.old }
-{
-    bytes[offset] = 0;
-    bytes[offset] = 0u8.wrapping_sub(byte_sum(bytes));
-}
+use acpi_image::write::set_sum;
 
 /// The header of a table of a length, with a Checksum of 0.
 #[tactic(auto, unfolding(crate::specs::Table::table_head))]

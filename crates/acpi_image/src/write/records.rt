@@ -15,9 +15,9 @@ use crate::write::checks::{root_length, signature, width};
 use acpi_base::bytes::byte_sum;
 use std::alloc::Allocator;
 
-/// Sets the byte at an offset so that all sum to 0 modulo 256.
+/// Sets the byte at an offset, a checksum, so that all bytes sum to 0 modulo 256 (sections 5.2.5.3 and 5.2.6).
 #[tactic(auto, unfolding(crate::specs::Written::with_sum, crate::specs::Written::sum_byte))]
-fn set_sum(bytes: &mut [u8], offset: usize)
+pub fn set_sum(bytes: &mut [u8], offset: usize)
     requires { offset < length bytes.old }
     ensures { bytes.new ≡ with_sum offset bytes.old }
 {
