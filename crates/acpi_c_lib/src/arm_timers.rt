@@ -7,7 +7,6 @@ ghost use Rattle.acpi_c_lib.specs.ArmTimers.{frames_shown, gtdt_below, timers_sh
 
 use crate::arm_records as records;
 use crate::arm_records::{ArmTimers, Watchdog};
-use crate::interrupts::{polarity_code, trigger_code};
 use crate::lists::put;
 use crate::opening::open;
 use crate::records::Source;
@@ -64,8 +63,8 @@ fn timer_record(timer: &ArmTimer) -> records::ArmTimer
 {
     records::ArmTimer {
         interrupt: timer.interrupt,
-        polarity: polarity_code(timer.polarity),
-        trigger: trigger_code(timer.trigger_mode),
+        polarity: timer.polarity.code(),
+        trigger: timer.trigger_mode.code(),
         always_on: timer.always_on as u8,
         present: 1,
     }
@@ -139,10 +138,10 @@ fn frame_record(block: u64, frame: &GtFrame) -> records::GtFrame
         physical_interrupt: frame.physical_timer.interrupt,
         virtual_interrupt: frame.virtual_timer.interrupt,
         number: frame.number,
-        physical_polarity: polarity_code(frame.physical_timer.polarity),
-        physical_trigger: trigger_code(frame.physical_timer.trigger_mode),
-        virtual_polarity: polarity_code(frame.virtual_timer.polarity),
-        virtual_trigger: trigger_code(frame.virtual_timer.trigger_mode),
+        physical_polarity: frame.physical_timer.polarity.code(),
+        physical_trigger: frame.physical_timer.trigger_mode.code(),
+        virtual_polarity: frame.virtual_timer.polarity.code(),
+        virtual_trigger: frame.virtual_timer.trigger_mode.code(),
         is_secure: frame.is_secure as u8,
         is_always_on: frame.is_always_on as u8,
     }
@@ -180,8 +179,8 @@ fn watchdog_record(watchdog: &SbsaWatchdog) -> Watchdog
         refresh_frame: watchdog.refresh_frame,
         control_frame: watchdog.control_frame,
         interrupt: watchdog.interrupt,
-        polarity: polarity_code(watchdog.polarity),
-        trigger: trigger_code(watchdog.trigger_mode),
+        polarity: watchdog.polarity.code(),
+        trigger: watchdog.trigger_mode.code(),
         is_secure: watchdog.is_secure as u8,
     }
 }

@@ -9,7 +9,6 @@ ghost use Rattle.acpi_c_lib.specs.Answers.{Fills, Writes};
 ghost use Rattle.acpi_c_lib.specs.Arm.{below_gic, distributor_shown, gic_in};
 
 use crate::arm_records as records;
-use crate::interrupts::trigger_code;
 use crate::lists::put;
 use crate::opening::open;
 use crate::records::{Range, Source};
@@ -139,8 +138,8 @@ impl GicRecord for records::GicCpuInterface {
             trace_buffer_interrupt: part.trace_buffer_interrupt.unwrap_or(0),
             is_enabled: part.is_enabled as u8,
             is_online_capable: part.is_online_capable as u8,
-            performance_trigger: trigger_code(part.performance_trigger),
-            maintenance_trigger: trigger_code(part.maintenance_trigger),
+            performance_trigger: part.performance_trigger.code(),
+            maintenance_trigger: part.maintenance_trigger.code(),
             efficiency_class: part.efficiency_class,
         }
     }

@@ -3,7 +3,6 @@
 ghost use Rattle.std.specs.Prelude.{◌≡◌, ◌^◌, ◌<◌, length, map, IfOk, IfSome, Some};
 ghost use Rattle.std.specs.List.{filter_map};
 ghost use Rattle.std.specs.Option.{option_map};
-ghost use Rattle.acpi_base.specs.Interrupts.{polarity_code, trigger_code};
 ghost use Rattle.acpi_base.specs.Items.{counts_of, items_left};
 ghost use Rattle.acpi_base.specs.Mapping.{bytes_of};
 ghost use Rattle.acpi_base.specs.Model.{items_of};
@@ -24,7 +23,6 @@ use acpi::madt::Madt;
 use acpi::platform::PmTimer;
 use acpi::platform::interrupt::{
     InterruptSourceOverride, IoApic, LocalInterruptLine, NmiLine, NmiProcessor, NmiSource,
-    Polarity, TriggerMode,
 };
 use acpi::{AcpiHandler, AcpiResult, AcpiTables, Lender, PhysicalMapping};
 use acpi_base::model::{Counts, MadtItem, MadtItems};
@@ -199,8 +197,8 @@ impl MadtRecord for records::InterruptSourceOverride {
             MadtItem::Override(found) => Some(records::InterruptSourceOverride {
                 global_system_interrupt: found.global_system_interrupt,
                 isa_source: found.isa_source,
-                polarity: polarity_code(found.polarity),
-                trigger: trigger_code(found.trigger_mode),
+                polarity: found.polarity.code(),
+                trigger: found.trigger_mode.code(),
             }),
             _ => None,
         }
@@ -226,8 +224,8 @@ impl MadtRecord for records::NmiSource {
         match item {
             MadtItem::NmiSource(found) => Some(records::NmiSource {
                 global_system_interrupt: found.global_system_interrupt,
-                polarity: polarity_code(found.polarity),
-                trigger: trigger_code(found.trigger_mode),
+                polarity: found.polarity.code(),
+                trigger: found.trigger_mode.code(),
             }),
             _ => None,
         }
@@ -276,27 +274,5 @@ pub(crate) fn io_apic_record(found: &IoApic) -> records::IoApic
         address: found.address,
         global_system_interrupt_base: found.global_system_interrupt_base,
         id: found.id,
-    }
-}
-
-/// The code of a polarity: Polarity, bits 0 and 1 of MPS INTI Flags (section 5.2.12.5).
-pub(crate) fn polarity_code(polarity: Polarity) -> u8
-    ensures { result ≡ polarity_code polarity }
-{
-    match polarity {
-        Polarity::SameAsBus => 0,
-        Polarity::ActiveHigh => 1,
-        Polarity::ActiveLow => 3,
-    }
-}
-
-/// The code of a trigger mode: Trigger Mode, bits 2 and 3 of MPS INTI Flags (section 5.2.12.5).
-pub(crate) fn trigger_code(trigger_mode: TriggerMode) -> u8
-    ensures { result ≡ trigger_code trigger_mode }
-{
-    match trigger_mode {
-        TriggerMode::SameAsBus => 0,
-        TriggerMode::Edge => 1,
-        TriggerMode::Level => 3,
     }
 }

@@ -9,7 +9,7 @@ ghost use Rattle.acpi_c_lib.specs.Routes as routes;
 ghost use Rattle.acpi_c_lib.specs.Routes.{is_nearer, isa_below, pin_below, sci_below};
 
 use crate::interrupt_records::{Interrupt, IoApicPin};
-use crate::interrupts::{apic_madt, io_apic_record, known_madt, polarity_code, trigger_code};
+use crate::interrupts::{apic_madt, io_apic_record, known_madt};
 use crate::isa_list::overrides_in;
 use crate::opening::open;
 use crate::records::Source;
@@ -64,8 +64,8 @@ pub(crate) fn interrupt_record(interrupt: IsaInterrupt) -> Interrupt
 {
     Interrupt {
         global_system_interrupt: interrupt.global_system_interrupt,
-        polarity: polarity_code(interrupt.polarity),
-        trigger: trigger_code(interrupt.trigger_mode),
+        polarity: interrupt.polarity.code(),
+        trigger: interrupt.trigger_mode.code(),
     }
 }
 

@@ -1,4 +1,6 @@
 //! Interrupt controllers, and how interrupts come to them (section 5.2.12).
+ghost use Rattle.std.specs.Prelude.{◌≡◌, ◌≤◌};
+ghost use Rattle.acpi_base.specs.Interrupts as interrupts;
 
 use crate::managed_slice::ManagedSlice;
 use std::alloc::{AllocError, Allocator};
@@ -54,6 +56,20 @@ pub enum Polarity {
     ActiveLow,
 }
 
+impl Polarity {
+    /// Its code: Polarity, bits 0 and 1 of MPS INTI Flags (ACPI 6.4, section 5.2.12.5).
+    pub fn code(self) -> u8
+        ensures value { result ≡ interrupts.polarity_code self }
+        ensures small { result ≤ 3 }
+    {
+        match self {
+            Polarity::SameAsBus => 0,
+            Polarity::ActiveHigh => 1,
+            Polarity::ActiveLow => 3,
+        }
+    }
+}
+
 /// Trigger Mode: what raises an interrupt (MPS INTI Flags; ACPI 6.4, section 5.2.12.5).
 #[derive(Clone, Copy, Debug, PartialEq, Eq)]
 pub enum TriggerMode {
@@ -63,6 +79,20 @@ pub enum TriggerMode {
     Edge,
     /// Level-triggered, code 3: by the level of its polarity, for as long as it stays.
     Level,
+}
+
+impl TriggerMode {
+    /// Its code: Trigger Mode, bits 2 and 3 of MPS INTI Flags (ACPI 6.4, section 5.2.12.5).
+    pub fn code(self) -> u8
+        ensures value { result ≡ interrupts.trigger_code self }
+        ensures small { result ≤ 3 }
+    {
+        match self {
+            TriggerMode::SameAsBus => 0,
+            TriggerMode::Edge => 1,
+            TriggerMode::Level => 3,
+        }
+    }
 }
 
 /// Interrupt Source Override: an ISA interrupt that is not wired to the global system interrupt of

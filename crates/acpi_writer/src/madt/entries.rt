@@ -128,35 +128,11 @@ impl Spelled for IoApic {
     }
 }
 
-/// The number of a polarity.
-fn polarity_code(polarity: Polarity) -> u8
-    ensures value { result ≡ interrupts.polarity_code polarity }
-    ensures small { result ≤ 3 }
-{
-    match polarity {
-        Polarity::SameAsBus => 0,
-        Polarity::ActiveHigh => 1,
-        Polarity::ActiveLow => 3,
-    }
-}
-
-/// The number of a trigger mode.
-fn trigger_code(trigger_mode: TriggerMode) -> u8
-    ensures value { result ≡ interrupts.trigger_code trigger_mode }
-    ensures small { result ≤ 3 }
-{
-    match trigger_mode {
-        TriggerMode::SameAsBus => 0,
-        TriggerMode::Edge => 1,
-        TriggerMode::Level => 3,
-    }
-}
-
 /// The lower byte of MPS INTI Flags.
 fn inti_flags(polarity: Polarity, trigger_mode: TriggerMode) -> u8
     ensures { result ≡ bytes.inti_flags polarity trigger_mode }
 {
-    polarity_code(polarity) + 4 * trigger_code(trigger_mode)
+    polarity.code() + 4 * trigger_mode.code()
 }
 
 impl Spelled for InterruptSourceOverride {
