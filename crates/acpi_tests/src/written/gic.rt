@@ -1,6 +1,6 @@
 //! The MADT of an Arm machine, byte by byte, in its room and in a byte less (ACPI 6.4, sections 5.2.12.14 to 5.2.12.18).
 
-use crate::samples::{IDS, check};
+use super::samples::{IDS, check};
 use acpi_arm::gic::{
     GicCpuInterface, GicDistributor, GicMsiFrame, GicRedistributors, GicTranslationService,
     SpiRange,

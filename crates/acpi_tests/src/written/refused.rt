@@ -1,6 +1,6 @@
 //! What is refused for other reasons than room, in order. `TooLong` isn't tried: it needs a slice of 4 GiB.
 
-use crate::samples::{HPET, IDS, MADT, PROCESSORS, REGIONS, check};
+use super::samples::{HPET, IDS, MADT, PROCESSORS, REGIONS, check};
 use acpi_base::model::{LocalInterruptLine, NmiLine, NmiProcessor};
 use acpi_writer::{
     MadtContents, MadtProcessor, TableIds, WriterError, write_dsdt, write_hpet, write_madt,
@@ -9,7 +9,7 @@ use acpi_writer::{
 use std::process::Abort;
 
 /// A byte that begins no text.
-pub(crate) const BAD: TableIds = TableIds {
+pub(super) const BAD: TableIds = TableIds {
     creator_id: [b'Z', 0xff, b'G', b'Z'],
     ..IDS
 };

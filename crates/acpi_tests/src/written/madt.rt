@@ -2,7 +2,7 @@
 
 /// The bytes that `samples::MADT` has. Checksum is worked out by hand: all others sum to 0x38 modulo 256.
 #[rattlefmt::skip]
-pub(crate) const MADT_BYTES: [u8; 144] = [
+pub(super) const MADT_BYTES: [u8; 144] = [
     b'A', b'P', b'I', b'C', 144, 0, 0, 0, 5, 0xc8, // Signature, Length, Revision, Checksum
     b'G', b'U', b'E', b'S', b'T', b' ', // OEMID
     b'M', b'A', b'C', b'H', b'I', b'N', b'E', b' ', // OEM Table ID
@@ -21,7 +21,7 @@ pub(crate) const MADT_BYTES: [u8; 144] = [
 
 /// The bytes that `samples::EDGES` has. All but Checksum sum to 0x86 modulo 256.
 #[rattlefmt::skip]
-pub(crate) const EDGES_BYTES: [u8; 142] = [
+pub(super) const EDGES_BYTES: [u8; 142] = [
     b'A', b'P', b'I', b'C', 142, 0, 0, 0, 5, 0x7a, // Signature, Length, Revision, Checksum
     b'G', b'U', b'E', b'S', b'T', b' ', // OEMID
     b'M', b'A', b'C', b'H', b'I', b'N', b'E', b' ', // OEM Table ID

@@ -1,7 +1,7 @@
 //! A FADT of fixed hardware, one of reduced hardware, and a FACS, byte by byte, in their room and in a byte less (ACPI
 //! 6.4, sections 5.2.9 and 5.2.10).
 
-use crate::samples::{IDS, check};
+use super::samples::{IDS, check};
 use acpi_base::address::{AccessSize, AddressSpace, GenericAddress};
 use acpi_fixed::fadt::{GpeBlock, PowerProfile};
 use acpi_writer::fadt::{

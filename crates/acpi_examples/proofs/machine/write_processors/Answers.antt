@@ -5,7 +5,7 @@ use Rattle.acpi_writer.specs.Table.{IsValid}
 use Rattle.acpi_writer.specs.declared.error.WriterError.{WriterError}
 use Rattle.acpi_writer.specs.declared.ids.TableIds.{TableIds}
 use Rattle.acpi_writer.specs.declared.madt.MadtContents.{MadtContents}
-use Rattle.acpi_writer_tests.proofs.machine.write_processors.Goals as goal
+use Rattle.acpi_examples.proofs.machine.write_processors.Goals as goal
 
 -- the law of the tables that are written, for one that was
 valid_if : (r : Result ℕ WriterError) (ids : TableIds) (c : MadtContents) (new : List ℕ) → MadtIsValid → IfOk r (λ n. IsMadt ids c (take n new)) → IfOk r (λ n. IsValid MADT (take n new))

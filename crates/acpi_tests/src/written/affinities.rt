@@ -1,7 +1,7 @@
 //! A SRAT with an entry of each kind, byte by byte, and what isn't written (ACPI 6.4, section 5.2.16).
 
-use crate::refused::BAD;
-use crate::samples::{IDS, check};
+use super::refused::BAD;
+use super::samples::{IDS, check};
 use acpi_numa::MemoryRange;
 use acpi_writer::{ApicDomain, GiccDomain, SratContents, WriterError, write_srat};
 

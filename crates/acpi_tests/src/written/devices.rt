@@ -1,7 +1,7 @@
 //! An SPCR and a BGRT, byte by byte, and what isn't written (ACPI 6.4, section 5.2.22; the SPCR's layout is Microsoft's).
 
-use crate::refused::BAD;
-use crate::samples::{IDS, check};
+use super::refused::BAD;
+use super::samples::{IDS, check};
 use acpi_base::address::{AccessSize, AddressSpace, GenericAddress};
 use acpi_base::spcr::{SpcrFlowControl, SpcrInterfaceType, SpcrInterruptType, SpcrTerminalType};
 use acpi_writer::{

@@ -1,7 +1,7 @@
 //! Tables that are written, byte by byte, with what stands after them, and the least room that each needs.
 
-use crate::madt::{EDGES_BYTES, MADT_BYTES};
-use crate::samples::{EDGES, HPET, IDS, MADT, REGIONS, check};
+use super::madt::{EDGES_BYTES, MADT_BYTES};
+use super::samples::{EDGES, HPET, IDS, MADT, REGIONS, check};
 use acpi::HpetInfo;
 use acpi::hpet::PageProtection;
 use acpi_writer::{WriterError, write_hpet, write_madt, write_mcfg};

@@ -1,6 +1,6 @@
 //! The GTDT of an Arm machine, byte by byte, in its room and in a byte less (ACPI 6.4, section 5.2.24).
 
-use crate::samples::{IDS, check};
+use super::samples::{IDS, check};
 use acpi_arm::gtdt::{ArmTimer, GtFrame, SbsaWatchdog, TimerInterrupt};
 use acpi_base::model::{Polarity, TriggerMode};
 use acpi_writer::{GtBlockContents, GtdtContents, PlatformTimerContents, WriterError, write_gtdt};

@@ -10,7 +10,7 @@ use acpi_base::model::{
 use acpi_writer::{MadtContents, MadtProcessor, TableIds, WriterError};
 use std::process::Abort;
 
-pub(crate) const IDS: TableIds = TableIds {
+pub(super) const IDS: TableIds = TableIds {
     oem_id: *b"GUEST ",
     oem_table_id: *b"MACHINE ",
     oem_revision: 0x01020304,
@@ -19,7 +19,7 @@ pub(crate) const IDS: TableIds = TableIds {
 };
 
 /// The second one's ids are too large for a Processor Local APIC.
-pub(crate) const PROCESSORS: [MadtProcessor; 2] = [
+pub(super) const PROCESSORS: [MadtProcessor; 2] = [
     MadtProcessor {
         processor_uid: 7,
         local_apic_id: 2,
@@ -34,26 +34,26 @@ pub(crate) const PROCESSORS: [MadtProcessor; 2] = [
     },
 ];
 
-pub(crate) const IO_APICS: [IoApic; 1] = [IoApic {
+pub(super) const IO_APICS: [IoApic; 1] = [IoApic {
     id: 3,
     address: 0xfec00000,
     global_system_interrupt_base: 24,
 }];
 
-pub(crate) const OVERRIDES: [InterruptSourceOverride; 1] = [InterruptSourceOverride {
+pub(super) const OVERRIDES: [InterruptSourceOverride; 1] = [InterruptSourceOverride {
     isa_source: 9,
     global_system_interrupt: 20,
     polarity: Polarity::ActiveLow,
     trigger_mode: TriggerMode::Level,
 }];
 
-pub(crate) const NMI_SOURCES: [NmiSource; 1] = [NmiSource {
+pub(super) const NMI_SOURCES: [NmiSource; 1] = [NmiSource {
     global_system_interrupt: 21,
     polarity: Polarity::ActiveHigh,
     trigger_mode: TriggerMode::Edge,
 }];
 
-pub(crate) const LINES: [NmiLine; 2] = [
+pub(super) const LINES: [NmiLine; 2] = [
     NmiLine {
         processor: NmiProcessor::All,
         line: LocalInterruptLine::Lint1,
@@ -65,7 +65,7 @@ pub(crate) const LINES: [NmiLine; 2] = [
 ];
 
 /// A MADT with an entry of each kind.
-pub(crate) const MADT: MadtContents<'static> = MadtContents {
+pub(super) const MADT: MadtContents<'static> = MadtContents {
     local_apic_address: 0x1_fee00000,
     also_has_legacy_pics: true,
     processors: &PROCESSORS,
@@ -77,7 +77,7 @@ pub(crate) const MADT: MadtContents<'static> = MadtContents {
 };
 
 /// Ids at the edges of what a Processor Local APIC holds: 255 stands for all there.
-pub(crate) const EDGE_PROCESSORS: [MadtProcessor; 3] = [
+pub(super) const EDGE_PROCESSORS: [MadtProcessor; 3] = [
     MadtProcessor {
         processor_uid: 254,
         local_apic_id: 254,
@@ -98,13 +98,13 @@ pub(crate) const EDGE_PROCESSORS: [MadtProcessor; 3] = [
     },
 ];
 
-pub(crate) const EDGE_IO_APICS: [IoApic; 1] = [IoApic {
+pub(super) const EDGE_IO_APICS: [IoApic; 1] = [IoApic {
     id: 0,
     address: 0xfe020304,
     global_system_interrupt_base: 0x05060708,
 }];
 
-pub(crate) const EDGE_OVERRIDES: [InterruptSourceOverride; 2] = [
+pub(super) const EDGE_OVERRIDES: [InterruptSourceOverride; 2] = [
     InterruptSourceOverride {
         isa_source: 0,
         global_system_interrupt: 0x01020304,
@@ -119,13 +119,13 @@ pub(crate) const EDGE_OVERRIDES: [InterruptSourceOverride; 2] = [
     },
 ];
 
-pub(crate) const EDGE_SOURCES: [NmiSource; 1] = [NmiSource {
+pub(super) const EDGE_SOURCES: [NmiSource; 1] = [NmiSource {
     global_system_interrupt: 0x01020304,
     polarity: Polarity::SameAsBus,
     trigger_mode: TriggerMode::SameAsBus,
 }];
 
-pub(crate) const EDGE_LINES: [NmiLine; 2] = [
+pub(super) const EDGE_LINES: [NmiLine; 2] = [
     NmiLine {
         processor: NmiProcessor::ProcessorUid(254),
         line: LocalInterruptLine::Lint0,
@@ -137,7 +137,7 @@ pub(crate) const EDGE_LINES: [NmiLine; 2] = [
 ];
 
 /// A MADT without 8259s, mailbox or address override.
-pub(crate) const EDGES: MadtContents<'static> = MadtContents {
+pub(super) const EDGES: MadtContents<'static> = MadtContents {
     local_apic_address: 0xfee00000,
     also_has_legacy_pics: false,
     processors: &EDGE_PROCESSORS,
@@ -148,7 +148,7 @@ pub(crate) const EDGES: MadtContents<'static> = MadtContents {
     wakeup_mailbox: None,
 };
 
-pub(crate) const REGIONS: [McfgEntry; 2] = [
+pub(super) const REGIONS: [McfgEntry; 2] = [
     McfgEntry {
         base_address: 0xb0000000,
         pci_segment_group: 0,
@@ -163,7 +163,7 @@ pub(crate) const REGIONS: [McfgEntry; 2] = [
     },
 ];
 
-pub(crate) const HPET: HpetInfo = HpetInfo {
+pub(super) const HPET: HpetInfo = HpetInfo {
     event_timer_block_id: 0x8086a201,
     base_address: 0xfed00000,
     hpet_number: 2,
@@ -172,7 +172,7 @@ pub(crate) const HPET: HpetInfo = HpetInfo {
 };
 
 /// Checks what a call returned, and that the slice after it is this.
-pub(crate) fn check(
+pub(super) fn check(
     rt: &impl Abort,
     name: &str,
     found: Result<usize, WriterError>,

@@ -1,7 +1,7 @@
 //! The RSDP, root tables, tables of AML and distances, byte by byte, in their room and in a byte less (ACPI 6.4,
 //! sections 5.2.5.3, 5.2.7, 5.2.8, 5.2.11 and 5.2.17).
 
-use crate::samples::{IDS, check};
+use super::samples::{IDS, check};
 use acpi_writer::{
     WriterError, write_dsdt, write_rsdp, write_rsdt, write_slit, write_ssdt, write_xsdt,
 };

@@ -1,0 +1,12 @@
+//! Tests of the tables that `acpi_writer` writes: their bytes, and what is refused, worked out by hand from the layouts.
+
+mod affinities;
+mod devices;
+mod fadt;
+mod gic;
+mod gtdt;
+mod madt;
+mod refused;
+mod roots;
+mod samples;
+mod tables;
