@@ -1,18 +1,21 @@
 -- What a reader finds in a FADT that is written.
 use Rattle.std.proofs.Common.{◌≡◌, ℕ, ◌+◌, ◌<◌, true, false, List, length, drop, Option, Some, None, Ok, refl, ap, ◌∙◌, arith}
 use Rattle.std.specs.Prelude.{◌==◌, nat_le, if◌then◌else◌}
-use Rattle.std.specs.Option.{ok_or}
+use Rattle.std.specs.Option.{ok_or, option_map}
 use Rattle.std.specs.Str.{chars, is_utf8}
 use Rattle.std.proofs.lemmas.Bool.{and_parts, ltb-true, ne_eqb}
 use Rattle.std.proofs.lemmas.List.Elements.{recursion_from_All}
+use Rattle.acpi.specs.Timer.{timer_of}
 use Rattle.acpi_base.specs.Address.{generic_address_of}
 use Rattle.acpi_base.specs.Bits.{has_bit}
 use Rattle.acpi_base.specs.Bytes.{field_of, filled_part}
 use Rattle.acpi_base.specs.Header.{header_at}
+use Rattle.acpi_base.specs.declared.address.GenericAddress.{GenericAddress}
 use Rattle.acpi_base.specs.declared.error.AcpiError.{AcpiError}
 use Rattle.acpi_base.specs.declared.error.AcpiError.TheVariants.{InvalidDsdtAddress, InvalidFacsAddress}
 use Rattle.acpi_base.specs.declared.table.signature.TheConstants.Signature.{FADT}
-use Rattle.acpi_fixed.specs.Fadt.{fadt_at, profile_for}
+use Rattle.acpi_fixed.specs.Fadt.{fadt_at, pm_timer_of, profile_for}
+use Rattle.acpi_fixed.specs.Flags.{feature_bits}
 use Rattle.acpi_fixed.specs.Gpe.{gpe_of}
 use Rattle.acpi_fixed.specs.Registers.{address_or, block_at, extended_address, extended_number, has_extended, optional_block_of, register_of, timer_block_of}
 use Rattle.acpi_fixed.specs.declared.fadt.Fadt.{Fadt}
@@ -114,6 +117,11 @@ needed_of (Fixed h) f is event control e k =
       pm1a_event = rw e (block_read (bytes_wide (Some h.pm1a_event)) h.pm1a_event event p.0);
       pm1a_control = rw k (block_read (bytes_wide (Some h.pm1a_control)) h.pm1a_control control r.0);
     }
+
+timer_by : (f : Fadt) (c : FadtContents) (o : Option GenericAddress) → pm_timer_of f ≡ Ok o → has_bit (feature_bits f.flags) 8 ≡ c.features.pm_timer_is_32_bit
+    → timer_of f ≡ Ok (option_map (λ b. record { base = b; supports_32bit = c.features.pm_timer_is_32_bit }) o)
+timer_by f c None e flag = rw e refl
+timer_by f c (Some b) e flag = rw (e, flag) refl
 
 -- ---- a table with these bytes after its header
 
@@ -317,6 +325,7 @@ module _ (ids : TableIds) (c : FadtContents) (t : List ℕ) (is : IsFadt ids c t
         legacy = legacy_is c h t from36 long_is revision_is is.fit;
         hardware = hardware_is c h t from36 long_is revision_is is.fit (blocks_of c.hardware p.0);
         blocks = blocks_are;
+        timer = timer_by (fadt_at t) c h.pm_timer (hardware_is c h t from36 long_is revision_is is.fit (blocks_of c.hardware p.0)).pm_timer ((flags_are c h t from36 long_is revision_is is.fit).features 8);
       }
 
 pub fadt_read : FadtIsRead

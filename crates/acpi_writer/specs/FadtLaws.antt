@@ -1,7 +1,9 @@
 -- What holds of a FADT that is written: what was given is what is read.
-use Rattle.std.specs.Prelude.{◌≡◌, ℕ, ◌^◌, ◌<◌, true, List, Some, Ok}
+use Rattle.std.specs.Prelude.{◌≡◌, ℕ, ◌^◌, ◌<◌, true, List, Option, Some, Ok}
 use Rattle.std.specs.List.{All}
-use Rattle.std.specs.Option.{ok_or}
+use Rattle.std.specs.Option.{ok_or, option_map}
+use Rattle.acpi.specs.Timer.{timer_of}
+use Rattle.acpi.specs.declared.platform.timer.PmTimer.{PmTimer}
 use Rattle.acpi_base.specs.Address.{generic_address_of}
 use Rattle.acpi_base.specs.Bits.{has_bit}
 use Rattle.acpi_base.specs.declared.error.AcpiError.TheVariants.{InvalidFacsAddress}
@@ -106,6 +108,10 @@ abbrev pub HasNeededBlocks : FadtHardware → Fadt → Type 0
 HasNeededBlocks (Fixed h) f = HasBlocks h f
 HasNeededBlocks Reduced f = Unit {0}
 
+-- the timer as a summary has it
+abbrev pub timer_read : FadtContents → Option PmTimer
+timer_read c = option_map (λ b. record { base = b; supports_32bit = c.features.pm_timer_is_32_bit }) (fixed_of c.hardware).pm_timer
+
 -- all of it
 pub record IsReadAs (c : FadtContents) (f : Fadt) : Type 0 where
   pub fields : HasFields c f
@@ -113,6 +119,7 @@ pub record IsReadAs (c : FadtContents) (f : Fadt) : Type 0 where
   pub legacy : HasLegacy c.legacy f
   pub hardware : HasHardware (fixed_of c.hardware) f
   pub blocks : HasNeededBlocks c.hardware f
+  pub timer : timer_of f ≡ Ok (timer_read c)
 
 -- ---- laws
 

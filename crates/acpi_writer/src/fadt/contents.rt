@@ -72,7 +72,7 @@ pub struct LegacyFields {
 }
 
 impl LegacyFields {
-    /// Neither C2 nor C3, and no more of the rest.
+    /// Neither C2 nor C3, and zeros for the rest.
     pub const NONE: LegacyFields = LegacyFields {
         worst_c2_latency: 0xfff,
         worst_c3_latency: 0xfff,
