@@ -4,6 +4,7 @@ use Rattle.acpi_base.proofs.Steps.{bind_ok}
 use Rattle.acpi_base.specs.Bytes.{spelling}
 use Rattle.acpi_base.specs.Mcfg.{mcfg_entries_of}
 use Rattle.acpi_base.specs.Header.{check_table}
+use Rattle.acpi_base.specs.Memory.{Memory}
 use Rattle.acpi_base.specs.Model.{Model, model_of}
 use Rattle.acpi_base.specs.Steps.{◌>>=◌}
 use Rattle.acpi_base.specs.Table.{kind}
@@ -19,7 +20,7 @@ use Rattle.acpi.specs.Later.{or_later}
 use Rattle.acpi.specs.Lists.{fadt_kind}
 use Rattle.acpi.specs.Lookup.{lookup}
 use Rattle.acpi.specs.Pci.{mcfg_kind}
-use Rattle.acpi.specs.Platform.{madt_kind, model_in}
+use Rattle.acpi.specs.Platform.{madt_kind, model_in, platform_of}
 use Rattle.acpi.specs.Relocation.{bytes_found}
 use Rattle.acpi.specs.Timer.{timer_of}
 use Rattle.acpi.specs.declared.hpet.HpetInfo.{HpetInfo}
@@ -92,10 +93,14 @@ timed c profile q (Ok s) (Ok found) same is =
       processor_info = sym (ap (λ z. z.processor_info) q_is) ∙ ap (λ z. z.1) s_is;
     }
 
+-- where the interrupt model is found, the platform has it
+pub platform_has : {A : Type 0} (m : Memory) (ps : List ℕ) (c : MadtContents) (q : PlatformInfo A) → model_in {A = A} m ps ≡ Ok (model_read c) → platform_of m ps ≡ Ok q → HasPlatform c q
+platform_has m ps c q model answered =
+    let parts = bind_ok (lookup m fadt_kind ps) _ q answered in
+    timed c (profile_of (fadt_at parts.0.1)) q (model_in m ps) (timer_of (fadt_at parts.0.1)) model parts.2
+
 pub platform_in_image : {A : Type 0} → PlatformInImage A
-platform_in_image {A = A} p t ids c q is first answered =
-    let parts = bind_ok (lookup (records_of p) fadt_kind (pointers_of p)) _ q answered in
-    timed c (profile_of (fadt_at parts.0.1)) q (model_in (records_of p) (pointers_of p)) (timer_of (fadt_at parts.0.1)) (madt_in_image p t ids c is first) parts.2
+platform_in_image {A = A} p t ids c q is first answered = platform_has (records_of p) (pointers_of p) c q (madt_in_image p t ids c is first) answered
 
 -- ---- the MCFG
 
@@ -113,7 +118,7 @@ mcfg_in_image p t ids es is first =
 
 -- ---- the HPET
 
-hpet_long : (i : HpetInfo) → length (hpet_body i) ≡ 20
+pub hpet_long : (i : HpetInfo) → length (hpet_body i) ≡ 20
 unfolding hpet_body spelling
 hpet_long i = refl
 

@@ -3,6 +3,7 @@ pub mod Parts
 pub mod Tables
 pub mod Rows
 pub mod Bits
+pub mod Sized
 pub mod Speaks
 pub mod Says
 pub mod MadtRead
@@ -11,6 +12,8 @@ pub mod McfgRead
 pub mod HpetRead
 pub mod Found
 pub mod Images
+pub mod LaidRead
+pub mod MachineRead
 pub mod Plain
 pub mod RsdpRead
 pub mod IdsRead

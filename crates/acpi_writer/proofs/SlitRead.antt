@@ -20,7 +20,7 @@ use Rattle.acpi_writer.proofs.Tables as table
 abbrev some : ℕ → Option ℕ
 some x = Some x
 
-slit_name : table.IsName SLIT
+pub slit_name : table.IsName SLIT
 unfolding is_utf8 chars lib.Utf8.encode
 slit_name = record { a = _; b = _; c = _; d = _; letters = refl; text = refl; same = refl }
 

@@ -51,6 +51,27 @@ pub record IsName (s : Signature) : Type 0 where
 abbrev makers : TableIds → List ℕ
 makers ids = spelling 4 ids.oem_revision ++ (ids.creator_id ++ spelling 4 ids.creator_revision)
 
+pub head_length : (s : Signature) (revision : ℕ) (ids : TableIds) → length (letters_of s) ≡ 4 → AreIds ids → (n : ℕ) → length (table_head s revision ids n) ≡ 36
+unfolding table_head
+head_length s revision ids letters are n =
+    let named = ids.oem_id ++ (ids.oem_table_id ++ makers ids) in
+    omega (
+      arith,
+      length-append (letters_of s) (spelling 4 n ++ (revision ∷ 0 ∷ named)),
+      letters,
+      length-append (spelling 4 n) (revision ∷ 0 ∷ named),
+      length-spelling 4 n,
+      length-append ids.oem_id (ids.oem_table_id ++ makers ids),
+      are.oem_id,
+      length-append ids.oem_table_id (makers ids),
+      are.oem_table_id,
+      length-append (spelling 4 ids.oem_revision) (ids.creator_id ++ spelling 4 ids.creator_revision),
+      length-spelling 4 ids.oem_revision,
+      length-append ids.creator_id (spelling 4 ids.creator_revision),
+      are.creator_id,
+      length-spelling 4 ids.creator_revision,
+    )
+
 -- a table field by field
 abbrev fields : ℕ → ℕ → ℕ → ℕ → ℕ → ℕ → TableIds → List ℕ → List ℕ
 fields a b c d n revision ids body =
@@ -62,25 +83,7 @@ module _ (s : Signature) (name : IsName s) (revision : ℕ) (ids : TableIds) (ar
   raw_is = rw (name.letters, append_assoc ids.oem_id (ids.oem_table_id ++ makers ids) body, append_assoc ids.oem_table_id (makers ids) body) refl
 
   pub head_long : (n : ℕ) → length (table_head s revision ids n) ≡ 36
-  unfolding table_head
-  head_long n =
-      let named = ids.oem_id ++ (ids.oem_table_id ++ makers ids) in
-      omega (
-        arith,
-        length-append (letters_of s) (spelling 4 n ++ (revision ∷ 0 ∷ named)),
-        ap length name.letters,
-        length-append (spelling 4 n) (revision ∷ 0 ∷ named),
-        length-spelling 4 n,
-        length-append ids.oem_id (ids.oem_table_id ++ makers ids),
-        are.oem_id,
-        length-append ids.oem_table_id (makers ids),
-        are.oem_table_id,
-        length-append (spelling 4 ids.oem_revision) (ids.creator_id ++ spelling 4 ids.creator_revision),
-        length-spelling 4 ids.oem_revision,
-        length-append ids.creator_id (spelling 4 ids.creator_revision),
-        are.creator_id,
-        length-spelling 4 ids.creator_revision,
-      )
+  head_long = head_length s revision ids (ap length name.letters) are
 
   pub raw_long : length (unsummed s revision ids body) ≡ 36 + length body
   raw_long = omega (arith, length-append (table_head s revision ids (36 + length body)) body, head_long (36 + length body))

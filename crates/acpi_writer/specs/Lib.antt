@@ -25,3 +25,7 @@ pub mod Arm
 pub mod Checked
 pub mod GicMadt
 pub mod Gtdt
+pub mod Laid
+pub mod Contents
+pub mod Machine
+pub mod MachineLaws

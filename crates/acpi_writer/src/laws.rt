@@ -7,6 +7,7 @@ ghost use Rattle.acpi_writer.specs.GicMadt.{GicMadtIsRead, GicMadtIsValid};
 ghost use Rattle.acpi_writer.specs.Gtdt.{GtdtIsRead, GtdtIsValid};
 ghost use Rattle.acpi_writer.specs.HpetLaws.{HpetIsRead, HpetIsValid};
 ghost use Rattle.acpi_writer.specs.ImageLaws.{HpetInImage, MadtInImage, McfgInImage, PlatformInImage};
+ghost use Rattle.acpi_writer.specs.MachineLaws.{LaidAreFound, MachineIsRead, TreeIsRead};
 ghost use Rattle.acpi_writer.specs.MadtLaws.{MadtIsRead, MadtIsValid, MailboxIsRead};
 ghost use Rattle.acpi_writer.specs.McfgLaws.{McfgIsRead, McfgIsValid};
 ghost use Rattle.acpi_writer.specs.Root.{RootIsRead, RootIsValid};
@@ -178,4 +179,19 @@ pub fn gtdt_is_read()
 /// A GTDT that is written passes each check of a table, and `write_image` takes it.
 pub fn gtdt_is_valid()
     ensures { GtdtIsValid }
+{}
+
+/// Valid tables that are laid one after the other are found by their addresses: of each signature the first.
+pub fn laid_are_found()
+    ensures { LaidAreFound }
+{}
+
+/// A machine that `write_tables_without_rsdp` wrote, with an RSDP by `write_rsdp`, is opened and read as it was passed in.
+pub fn tree_is_read<A: Allocator>()
+    ensures { TreeIsRead A }
+{}
+
+/// And so is a machine that `write_tables` wrote.
+pub fn machine_is_read<A: Allocator>()
+    ensures { MachineIsRead A }
 {}

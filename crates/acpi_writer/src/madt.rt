@@ -1,7 +1,8 @@
 //! The Multiple APIC Description Table (MADT, section 5.2.12), from lists of processors and interrupt controllers.
-ghost use Rattle.std.specs.Prelude.{◌≡◌, flat_map, length, take, IfOk};
+ghost use Rattle.std.specs.Prelude.{◌≡◌, ◌^◌, ◌<◌, flat_map, length, take, IfOk};
 ghost use Rattle.std.specs.List.{All, list_all};
 ghost use Rattle.acpi_base.specs.Steps.{Gives};
+ghost use Rattle.acpi_writer.specs.Contents.{most, sized};
 ghost use Rattle.acpi_writer.specs.MadtBytes as bytes;
 ghost use Rattle.acpi_base.specs.declared.table.signature.TheConstants.Signature.{MADT};
 ghost use Rattle.acpi_writer.specs.MadtLaws.{AreFit, FitsAddress, FitsMailbox, IsMadt};
@@ -13,7 +14,7 @@ pub mod gic;
 use crate::error::WriterError;
 use crate::ids::TableIds;
 use crate::spelled::{Each, Spelled, Then};
-use crate::table::write_table;
+use crate::table::{table_size, write_table};
 use acpi_base::Signature;
 use acpi_base::model::{InterruptSourceOverride, IoApic, NmiLine, NmiProcessor, NmiSource};
 use entries::{AddressOverride, Fixed, Wakeup};
@@ -106,6 +107,26 @@ pub struct MadtLists<'a, P, I, O, S, L> {
     pub wakeup_mailbox: Option<u64>,
 }
 
+/// All after the header of a MADT: the fixed fields, and the entries sort by sort.
+macro_rules! body_of {
+    ($contents:expr) => {{
+        let fixed = Fixed {
+            local_apic_address: $contents.local_apic_address,
+            also_has_legacy_pics: $contents.also_has_legacy_pics,
+        };
+        let wakeup = Wakeup($contents.wakeup_mailbox);
+        let nmis = Then(
+            Each($contents.nmi_sources),
+            Then(Each($contents.local_apic_nmi_lines), wakeup),
+        );
+        let wirings = Then(Each($contents.interrupt_source_overrides), nmis);
+        let controllers = Then(Each($contents.io_apics), wirings);
+        let address = AddressOverride($contents.local_apic_address);
+        let entries = Then(Each($contents.processors), Then(address, controllers));
+        Then(fixed, entries)
+    }};
+}
+
 /// Writes a MADT of revision 5 of these entries, whatever they say.
 ///
 /// Returns, in this order, `BadName`, `NoRoom` and `TooLong`, as `write_madt` does.
@@ -130,20 +151,8 @@ pub fn write_madt_of<P: Spelled, I: Spelled, O: Spelled, S: Spelled, L: Spelled>
         × All O.fits lists.now.interrupt_source_overrides.now × All S.fits lists.now.nmi_sources.now
         × FitsMailbox lists.now.wakeup_mailbox) }
 {
-    let fixed = Fixed {
-        local_apic_address: lists.local_apic_address,
-        also_has_legacy_pics: lists.also_has_legacy_pics,
-    };
-    let wakeup = Wakeup(lists.wakeup_mailbox);
-    let nmis = Then(
-        Each(lists.nmi_sources),
-        Then(Each(lists.local_apic_nmi_lines), wakeup),
-    );
-    let wirings = Then(Each(lists.interrupt_source_overrides), nmis);
-    let controllers = Then(Each(lists.io_apics), wirings);
-    let address = AddressOverride(lists.local_apic_address);
-    let entries = Then(Each(lists.processors), Then(address, controllers));
-    write_table(out, Signature::MADT, 5, ids, &Then(fixed, entries))
+    let body = body_of!(lists);
+    write_table(out, Signature::MADT, 5, ids, &body)
 }
 
 /// Writes a MADT whose contents may be written.
@@ -161,17 +170,36 @@ fn write_contents(
         IsTableOf MADT 5 ids.now (bytes.madt_body contents.now) (take n out.new)) }
     ensures fits { IfOk result (λ n. AreFit contents.now) }
 {
-    let lists = MadtLists {
-        local_apic_address: contents.local_apic_address,
-        also_has_legacy_pics: contents.also_has_legacy_pics,
-        processors: contents.processors,
-        io_apics: contents.io_apics,
-        interrupt_source_overrides: contents.interrupt_source_overrides,
-        nmi_sources: contents.nmi_sources,
-        local_apic_nmi_lines: contents.local_apic_nmi_lines,
-        wakeup_mailbox: contents.wakeup_mailbox,
-    };
-    write_madt_of(out, ids, &lists)
+    let body = body_of!(contents);
+    write_table(out, Signature::MADT, 5, ids, &body)
+}
+
+/// How many bytes the MADT of contents that may be written has, or the first error.
+fn contents_size(ids: &TableIds, contents: &MadtContents<'_>) -> Result<usize, WriterError>
+    ensures exact { result ≡ sized (table_written most MADT 5 ids.now (bytes.madt_body contents.now)) }
+    ensures short { IfOk result (λ n. n < 2 ^ 32) }
+    ensures fits { IfOk result (λ n. AreFit contents.now) }
+{
+    let body = body_of!(contents);
+    table_size(Signature::MADT, 5, ids, &body)
+}
+
+/// How many bytes the MADT has, or the first error of `write_madt` in a slice of any length.
+pub(crate) fn madt_size(ids: &TableIds, contents: &MadtContents<'_>) -> Result<usize, WriterError>
+    ensures exact { result ≡ sized (bytes.madt_written most ids.now contents.now) }
+    ensures short { IfOk result (λ n. n < 2 ^ 32) }
+    ensures fits { IfOk result (λ n. AreFit contents.now) }
+{
+    if contents.processors.len() < 1 {
+        return Err(WriterError::NoProcessor);
+    }
+    if !processors_fit(contents.processors) {
+        return Err(WriterError::IdOfAll);
+    }
+    if !lines_fit(contents.local_apic_nmi_lines) {
+        return Err(WriterError::UidOfAll);
+    }
+    contents_size(ids, contents)
 }
 
 /// Writes a MADT of revision 5 to the front of a slice, and returns how many bytes it has. Its entries stand sort by

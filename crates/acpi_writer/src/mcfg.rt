@@ -1,7 +1,8 @@
 //! The PCI Express memory mapped configuration space table (MCFG), from its regions.
-ghost use Rattle.std.specs.Prelude.{◌≡◌, ◌++◌, flat_map, length, take, IfOk};
+ghost use Rattle.std.specs.Prelude.{◌≡◌, ◌++◌, ◌^◌, ◌<◌, flat_map, length, take, IfOk};
 ghost use Rattle.std.specs.List.{All};
 ghost use Rattle.acpi_base.specs.Steps.{Gives};
+ghost use Rattle.acpi_writer.specs.Contents.{most, sized};
 ghost use Rattle.acpi_writer.specs.McfgBytes as bytes;
 ghost use Rattle.acpi_writer.specs.McfgLaws.{FitsMcfg, IsMcfg};
 ghost use Rattle.acpi_base.specs.declared.table.signature.TheConstants.Signature.{MCFG};
@@ -11,7 +12,7 @@ use crate::error::WriterError;
 use crate::ids::TableIds;
 use crate::numbers::{qword, word};
 use crate::spelled::{Each, Spelled, Then};
-use crate::table::write_table;
+use crate::table::{table_size, write_table};
 use acpi_base::Signature;
 use acpi_base::mcfg::McfgEntry;
 
@@ -69,6 +70,15 @@ pub fn write_mcfg_of<E: Spelled>(
     ensures fits { IfOk result (λ n. All E.fits regions.now) }
 {
     write_table(out, Signature::MCFG, 1, ids, &Then(Reserved, Each(regions)))
+}
+
+/// How many bytes the MCFG has, or the first error of `write_mcfg` in a slice of any length.
+pub(crate) fn mcfg_size(ids: &TableIds, regions: &[McfgEntry]) -> Result<usize, WriterError>
+    ensures exact { result ≡ sized (bytes.mcfg_written most ids.now regions.now) }
+    ensures short { IfOk result (λ n. n < 2 ^ 32) }
+    ensures fits { IfOk result (λ n. All FitsMcfg regions.now) }
+{
+    table_size(Signature::MCFG, 1, ids, &Then(Reserved, Each(regions)))
 }
 
 /// Writes an MCFG of revision 1 to the front of a slice, and returns how many bytes it has: 44, and 16 for each region.

@@ -25,7 +25,7 @@ fn rsdp_unsummed(ids: &TableIds, xsdt: u64) -> [u8; 36]
 
 /// An RSDP of revision 2.
 #[tactic(auto, unfolding(crate::specs::Rsdp::rsdp_bytes, acpi_image::specs::Written::with_first_sum))]
-fn rsdp_bytes(ids: &TableIds, xsdt: u64) -> [u8; 36]
+pub(crate) fn rsdp_bytes(ids: &TableIds, xsdt: u64) -> [u8; 36]
     ensures { result ≡ rsdp.rsdp_bytes ids.now.oem_id xsdt }
 {
     let mut rsdp = rsdp_unsummed(ids, xsdt);

@@ -1,13 +1,14 @@
 //! The System Locality Information Table (SLIT, section 5.2.17), from the distances between localities.
-ghost use Rattle.std.specs.Prelude.{◌≡◌, ◌*◌, ◌==◌, length, take, IfOk};
+ghost use Rattle.std.specs.Prelude.{◌≡◌, ◌*◌, ◌==◌, ◌^◌, ◌<◌, length, take, IfOk};
 ghost use Rattle.acpi_base.specs.Steps.{Gives};
+ghost use Rattle.acpi_writer.specs.Contents.{most, sized};
 ghost use Rattle.acpi_writer.specs.Slit.{IsSlit, slit_written};
 ghost use Rattle.acpi_writer.specs.Table.{Keeps};
 
 use crate::error::WriterError;
 use crate::ids::TableIds;
 use crate::spelled::{Bytes, Then};
-use crate::table::write_table;
+use crate::table::{table_size, write_table};
 use acpi_base::Signature;
 
 /// Whether there are as many distances as pairs of localities.
@@ -18,6 +19,22 @@ fn is_square(localities: u64, distances: &[u8]) -> bool
         Some(pairs) => pairs == distances.len() as u64,
         None => false,
     }
+}
+
+/// How many bytes the SLIT has, or the first error of `write_slit` in a slice of any length.
+pub(crate) fn slit_size(
+    ids: &TableIds,
+    localities: u64,
+    distances: &[u8],
+) -> Result<usize, WriterError>
+    ensures exact { result ≡ sized (slit_written most ids.now localities distances.now) }
+    ensures short { IfOk result (λ n. n < 2 ^ 32) }
+    ensures fits { IfOk result (λ n. localities < 2 ^ 64) }
+{
+    if !is_square(localities, distances) {
+        return Err(WriterError::BadMatrix);
+    }
+    table_size(Signature::SLIT, 1, ids, &Then(localities, Bytes(distances)))
 }
 
 /// Writes a SLIT of revision 1 to the front of a slice, and returns how many bytes it has: 44, and one for each

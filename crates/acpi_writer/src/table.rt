@@ -1,7 +1,9 @@
 //! A table from its header's fields and the bytes after its header (section 5.2.6).
 ghost use Rattle.std.specs.Prelude.{◌≡◌, ◌+◌, ◌^◌, ◌<◌, ◌≤◌, ◌++◌, drop, length, take, IfOk};
 ghost use Rattle.acpi_base.specs.Steps.{Gives};
+ghost use Rattle.acpi_base.specs.Text.{letters_of};
 ghost use Rattle.acpi_image.specs.Written.{with_sum};
+ghost use Rattle.acpi_writer.specs.Contents.{most, sized};
 ghost use Rattle.acpi_writer.specs.Table.{IsTableOf, Keeps, table_bytes, table_head, table_written};
 
 use crate::error::WriterError;
@@ -13,7 +15,7 @@ use acpi_image::write::set_sum;
 
 /// The header of a table of a length, with a Checksum of 0.
 #[tactic(auto, unfolding(crate::specs::Table::table_head))]
-fn table_head(signature: Signature, revision: u8, ids: &TableIds, count: u32) -> [u8; 36]
+pub(crate) fn table_head(signature: Signature, revision: u8, ids: &TableIds, count: u32) -> [u8; 36]
     ensures bytes { result ≡ table_head signature revision ids.now count }
     ensures length { length result ≡ 36 }
 {
@@ -30,7 +32,7 @@ fn table_head(signature: Signature, revision: u8, ids: &TableIds, count: u32) ->
 }
 
 /// Puts the header of a table before the bytes after it, and sets Checksum, byte 9.
-fn seal(table: &mut [u8], head: &[u8])
+pub(crate) fn seal(table: &mut [u8], head: &[u8])
     requires within { 36 ≤ length table.old }
     requires head { length head.now ≡ 36 }
     ensures bytes { table.new ≡ with_sum 9 (head.now ++ drop 36 table.old) }
@@ -50,6 +52,41 @@ fn fill<B: Spelled>(table: &mut [u8], signature: Signature, revision: u8, ids: &
     let head = table_head(signature, revision, ids, table.len() as u32);
     body.put(&mut table[36..]);
     seal(table, &head);
+}
+
+/// A signature has four letters.
+fn has_letters(signature: Signature)
+    ensures { length (letters_of signature) ≡ 4 }
+{
+    let _letters = signature.to_bytes();
+}
+
+/// How many bytes a table has, or the first error of `write_table` in a slice of any length.
+pub(crate) fn table_size<B: Spelled>(
+    signature: Signature,
+    revision: u8,
+    ids: &TableIds,
+    body: &B,
+) -> Result<usize, WriterError>
+    ensures exact { result ≡ sized (table_written most signature revision ids.now (B.spelled body.now)) }
+    ensures short { IfOk result (λ n. n < 2 ^ 32) }
+    ensures fits { IfOk result (λ n. B.fits body.now) }
+{
+    if !ids.are_texts() {
+        return Err(WriterError::BadName);
+    }
+    match body.measure(usize::MAX - 36) {
+        Some(size) => {
+            let end = 36 + size;
+            if end > u32::MAX as usize {
+                return Err(WriterError::TooLong);
+            }
+            has_letters(signature);
+            ids.fit();
+            Ok(end)
+        }
+        None => Err(WriterError::NoRoom),
+    }
 }
 
 /// Writes a table to the front of a slice, and returns how many bytes it has.

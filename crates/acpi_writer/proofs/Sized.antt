@@ -1,0 +1,359 @@
+-- How many bytes tables have, and that room changes only whether they fit.
+use Rattle.std.proofs.Common.{◌≡◌, ℕ, ◌+◌, ◌-◌, ◌^◌, ◌<◌, ◌≤◌, Bool, true, false, List, [], ◌∷◌, ◌++◌, length, take, drop, get_or, map, Result, Ok, Err, refl, sym, ap, ◌∙◌, arith, append_assoc, length-append, length-drop}
+use Rattle.std.specs.Prelude.{◌*◌, ◌==◌, flat_map, nat_le, nat_lt, not, replicate}
+use Rattle.std.specs.List.{All, list_all}
+use borrow.Rule.Slice.PartMut.{post_of, put_mid}
+use Rattle.std.proofs.Math.ListN.{drop_of_length-le}
+use Rattle.std.proofs.lemmas.List.Elements.{All-more}
+use Rattle.std.proofs.lemmas.Slice.{take-put_mid}
+use Rattle.std.proofs.lemmas.Bool.{leb-true, le-ltb, lt-ltb, ltb-true}
+use Rattle.std.proofs.lemmas.List.{drop-drop, drop_more, length-map, append-nil, drop_at, length-replicate, length-take-le, take_at}
+use Rattle.acpi.specs.declared.root.RootKind.TheVariants.{Xsdt}
+use Rattle.acpi_base.proofs.Spelling.{length-spelling}
+use Rattle.acpi_base.specs.Bytes.{spelling}
+use Rattle.acpi_base.proofs.Steps.{bind_ok, holds_ok, same_ok}
+use Rattle.acpi_base.specs.Steps.{◌>>=◌, holds}
+use Rattle.acpi_base.specs.Text.{letters_of}
+use Rattle.acpi_base.specs.declared.table.signature.Signature.{Signature}
+use Rattle.acpi_base.specs.declared.table.signature.TheConstants.Signature.{HPET, MADT, MCFG, SLIT, SSDT, XSDT}
+use Rattle.acpi_image.proofs.Written.{length-with_sum}
+use Rattle.acpi_writer.specs.Contents.{FitsContents, bytes_of, contents_written, most, or_none, placed, sized}
+use Rattle.acpi_writer.specs.HpetBytes.{hpet_body}
+use Rattle.acpi_writer.specs.Laid.{addresses, gap, laid, padded, rounded}
+use Rattle.acpi_writer.specs.Machine.{check_machine, check_place, check_tables, dsdt_of, dsdt_sized, dsdt_written, listed, listed_sized, machine_size, region_written, tables_address, tree_bytes, tree_size, tree_sized, xsdt_bytes, xsdt_from, xsdt_length}
+use Rattle.acpi_writer.specs.MadtBytes.{is_empty, is_single, madt_body, madt_written, names_one}
+use Rattle.acpi_writer.specs.McfgBytes.{mcfg_body}
+use Rattle.acpi_writer.specs.Root.{root_body}
+use Rattle.acpi_writer.specs.Slit.{slit_body, slit_written}
+use Rattle.acpi_writer.specs.Table.{AreIds, are_texts, table_bytes, table_head, table_written, unsummed}
+use Rattle.acpi_writer.specs.declared.contents.TableContents.{TableContents}
+use Rattle.acpi_writer.specs.declared.contents.TableContents.TheVariants.{Hpet, Madt, Mcfg, Slit, Ssdt}
+use Rattle.acpi_writer.specs.declared.error.WriterError.{WriterError}
+use Rattle.acpi_writer.specs.declared.error.WriterError.TheVariants.{BadMatrix, BadName, IdOfAll, NoProcessor, TooLong, UidOfAll}
+use Rattle.acpi_writer.specs.declared.machine.Machine.{Machine}
+use Rattle.acpi_writer.specs.declared.madt.MadtContents.{MadtContents}
+use Rattle.acpi_writer.specs.declared.ids.TableIds.{TableIds}
+use Rattle.acpi_writer.proofs.Tables.{head_length, it_fits}
+
+abbrev pub count : ℕ → Result ℕ WriterError
+count n = Ok n
+
+pub table_length : (s : Signature) (revision : ℕ) (ids : TableIds) (body : List ℕ) → length (letters_of s) ≡ 4 → AreIds ids → length (table_bytes s revision ids body) ≡ 36 + length body
+unfolding table_bytes
+table_length s revision ids body letters are =
+    length-with_sum 9 (unsummed s revision ids body)
+    ∙ omega (arith, length-append (table_head s revision ids (36 + length body)) body, head_length s revision ids letters are (36 + length body))
+
+pub sized_table : (n room : ℕ) (s : Signature) (revision : ℕ) (ids : TableIds) (body : List ℕ) → are_texts ids ≡ true → 36 + length body ≤ room → 36 + length body < 2 ^ 32 → length (letters_of s) ≡ 4 → AreIds ids
+    → n ≡ 36 + length body → count n ≡ sized (table_written room s revision ids body)
+sized_table n room s revision ids body texts within short letters are same =
+    ap count (same ∙ sym (table_length s revision ids body letters are)) ∙ sym (ap sized (it_fits room s revision ids body texts within short))
+
+-- ---- more room, and less
+
+-- what is written in some room
+pub record Wrote (room : ℕ) (s : Signature) (revision : ℕ) (ids : TableIds) (body t : List ℕ) : Type 0 where
+  pub texts : are_texts ids ≡ true
+  pub within : 36 + length body ≤ room
+  pub short : 36 + length body < 2 ^ 32
+  pub bytes : t ≡ table_bytes s revision ids body
+
+abbrev done : List ℕ → Result (List ℕ) WriterError
+done x = Ok x
+
+pub wrote : (room : ℕ) (s : Signature) (revision : ℕ) (ids : TableIds) (body t : List ℕ) → table_written room s revision ids body ≡ Ok t → Wrote room s revision ids body t
+unfolding table_written
+wrote room s revision ids body t e =
+    let texts = holds_ok (are_texts ids) _ _ t e in
+    let within = holds_ok (nat_le (36 + length body) room) _ _ t texts.1 in
+    let short = holds_ok (nat_lt (36 + length body) (2 ^ 32)) _ _ t within.1 in
+    record {
+      texts = texts.0;
+      within = leb-true (36 + length body) room within.0;
+      short = ltb-true (36 + length body) (2 ^ 32) short.0;
+      bytes = sym (same_ok {E = WriterError} (table_bytes s revision ids body) t short.1);
+    }
+
+different : (t : List ℕ) (e : WriterError) → done t ≡ Err e → ⊥
+different t e same = cc
+
+-- ---- in another room
+
+-- what is written in some room is written in any other that it fits into
+abbrev pub Moves : (ℕ → Result (List ℕ) WriterError) → Type 0
+Moves written = (room other : ℕ) (t : List ℕ) → written room ≡ Ok t → length t ≤ other → written other ≡ Ok t
+
+pub moved_table : (s : Signature) (revision : ℕ) (ids : TableIds) (body : List ℕ) → length (letters_of s) ≡ 4 → AreIds ids → Moves (λ room. table_written room s revision ids body)
+moved_table s revision ids body letters are room other t e fits =
+    let w = wrote room s revision ids body t e in
+    let long : length t ≡ 36 + length body = ap length w.bytes ∙ table_length s revision ids body letters are in
+    it_fits other s revision ids body w.texts (omega (arith, long, fits)) w.short ∙ sym (ap done w.bytes)
+
+through : (b : Bool) (e : WriterError) (f g : Result (List ℕ) WriterError) (t : List ℕ) → (f ≡ Ok t → g ≡ Ok t) → (holds b e >>= λ _. f) ≡ Ok t → (holds b e >>= λ _. g) ≡ Ok t
+through true e f g t h p = h p
+through false e f g t h p = absurd cc
+
+moved_madt : (ids : TableIds) (c : MadtContents) → AreIds ids → Moves (λ room. madt_written room ids c)
+unfolding madt_written
+moved_madt ids c are room other t e fits =
+    let some = not (is_empty c.processors.now) in
+    let single = list_all is_single c.processors.now in
+    let lines = list_all (λ x. names_one x.processor) c.local_apic_nmi_lines.now in
+    let here : ℕ → Result (List ℕ) WriterError = λ n. table_written n MADT 5 ids (madt_body c) in
+    through some NoProcessor (holds single IdOfAll >>= λ _. holds lines UidOfAll >>= λ _. here room) (holds single IdOfAll >>= λ _. holds lines UidOfAll >>= λ _. here other) t
+    (through single IdOfAll (holds lines UidOfAll >>= λ _. here room) (holds lines UidOfAll >>= λ _. here other) t
+    (through lines UidOfAll (here room) (here other) t (λ p. moved_table MADT 5 ids (madt_body c) refl are room other t p fits))) e
+
+moved_slit : (ids : TableIds) (n : ℕ) (distances : List ℕ) → AreIds ids → Moves (λ room. slit_written room ids n distances)
+unfolding slit_written
+moved_slit ids n distances are room other t e fits =
+    let here : ℕ → Result (List ℕ) WriterError = λ m. table_written m SLIT 1 ids (slit_body n distances) in
+    through (n * n == length distances) BadMatrix (here room) (here other) t (λ p. moved_table SLIT 1 ids (slit_body n distances) refl are room other t p fits) e
+
+pub moved_contents : (ids : TableIds) (c : TableContents) → AreIds ids → Moves (λ room. contents_written room ids c)
+moved_contents ids (Madt c) are = moved_madt ids c are
+moved_contents ids (Mcfg regions) are = moved_table MCFG 1 ids (mcfg_body regions.now) refl are
+moved_contents ids (Hpet info) are = moved_table HPET 1 ids (hpet_body info) refl are
+moved_contents ids (Slit c) are = moved_slit ids c.localities c.distances.now are
+moved_contents ids (Ssdt c) are = moved_table SSDT c.revision ids c.bytes.now refl are
+
+-- ---- what a call wrote, and what it didn't
+
+pub written_is : (written : ℕ → Result (List ℕ) WriterError) → Moves written → (room : ℕ) (t : List ℕ) → written room ≡ Ok t → length t ≤ most → or_none (written most) ≡ t
+written_is written moves room t e fits = ap or_none (moves room most t e fits)
+
+unwritten_by : (written : ℕ → Result (List ℕ) WriterError) → Moves written → (room : ℕ) (e : WriterError) (w : Result (List ℕ) WriterError) → written most ≡ w → written room ≡ Err e → length (padded (or_none w)) ≤ room → or_none w ≡ []
+unwritten_by written moves room e (Ok t) all none within =
+    let there : written room ≡ Ok t = moves most room t all (omega (arith, within, length-append t (replicate (gap (length t)) 0))) in
+    absurd (different t e (sym there ∙ none))
+unwritten_by written moves room e (Err d) all none within = refl
+
+pub unwritten : (written : ℕ → Result (List ℕ) WriterError) → Moves written → (room : ℕ) (e : WriterError) → written room ≡ Err e → length (padded (or_none (written most))) ≤ room → or_none (written most) ≡ []
+unwritten written moves room e none within = unwritten_by written moves room e (written most) refl none within
+
+-- ---- filled up
+
+pub padded_long : (t : List ℕ) → length (padded t) ≡ rounded (length t)
+padded_long t = omega (arith, length-append t (replicate (gap (length t)) 0), length-replicate {A = ℕ} (gap (length t)) 0)
+
+-- what `put` leaves: the table, filled up, and what stood after it
+pub put_bytes : (old new out t : List ℕ) (size : ℕ) → size ≤ length old → drop size new ≡ drop size old → length new ≡ length old → t ≡ take size new
+    → out ≡ take size new ++ (replicate (gap size) 0 ++ drop (rounded size) new)
+    → out ≡ padded t ++ drop (length (padded t)) old
+put_bytes old new out t size within rest same is filled =
+    let long : length t ≡ size = ap length is ∙ length-take-le size new (omega (arith, within, same)) in
+    let after : drop (rounded size) new ≡ drop (rounded size) old = sym (drop-drop (gap size) size new) ∙ ap (drop (gap size)) rest ∙ drop-drop (gap size) size old in
+    let whole : length (padded t) ≡ rounded size = padded_long t ∙ ap rounded long in
+    filled ∙ ap (λ z. z ++ (replicate (gap size) 0 ++ drop (rounded size) new)) (sym is) ∙ ap (λ z. t ++ (replicate (gap size) 0 ++ z)) after
+    ∙ sym (append_assoc t (replicate (gap size) 0) (drop (rounded size) old)) ∙ ap (λ n. (t ++ replicate (gap n) 0) ++ drop (rounded size) old) (sym long) ∙ ap (λ n. padded t ++ drop n old) (sym whole)
+
+pub put_none : (old new t : List ℕ) → t ≡ [] → new ≡ old → new ≡ padded t ++ drop (length (padded t)) old
+put_none old new t none same = rw none same
+
+-- ---- the listed tables
+
+abbrev pub listed_after : ℕ → TableIds → List TableContents → Result ℕ WriterError
+listed_after size ids cs = check_tables ids cs >>= λ _. count (size + length (laid (map (bytes_of ids) cs)))
+
+same_count : (m n : ℕ) → count m ≡ count n → m ≡ n
+same_count m n e = cc
+
+after_one : (w : Result (List ℕ) WriterError) (size more : ℕ) (rest : Result (Unit {0}) WriterError) (others : List ℕ) → sized w ≡ Ok more
+    → ((w >>= λ _. rest) >>= λ _. count (size + length (padded (or_none w) ++ others))) ≡ (rest >>= λ _. count (size + rounded more + length others))
+after_one (Ok t) size more rest others e =
+    let long : length (padded t) ≡ rounded more = padded_long t ∙ ap rounded (same_count (length t) more e) in
+    ap (λ n. rest >>= λ _. count n) (omega (arith, length-append (padded t) others, long))
+after_one (Err d) size more rest others e = absurd cc
+
+after_error : (w : Result (List ℕ) WriterError) (size : ℕ) (e : WriterError) (rest : Result (Unit {0}) WriterError) (others : List ℕ) → sized w ≡ Err e
+    → ((w >>= λ _. rest) >>= λ _. count (size + length (padded (or_none w) ++ others))) ≡ Err e
+after_error (Ok t) size e rest others same = absurd cc
+after_error (Err d) size e rest others same = cc
+
+pub listed_error : (ids : TableIds) (cs : List TableContents) (i size : ℕ) (d : TableContents) (e : WriterError) → i < length cs → sized (contents_written most ids (get_or cs i d)) ≡ Err e
+    → listed_after size ids (drop i cs) ≡ Err e
+listed_error ids cs i size d e less same =
+    ap (listed_after size ids) (drop_more cs i d less) ∙ after_error (contents_written most ids (get_or cs i d)) size e (check_tables ids (drop (i + 1) cs)) (laid (map (bytes_of ids) (drop (i + 1) cs))) same
+
+pub listed_step : (ids : TableIds) (cs : List TableContents) (i size more r : ℕ) (total : Result ℕ WriterError) (d : TableContents) → i < length cs → sized (contents_written most ids (get_or cs i d)) ≡ Ok more
+    → FitsContents (get_or cs i d) → more < 2 ^ 32 → r ≡ rounded more
+    → (listed_after size ids (drop i cs) ≡ total) × (size ≤ i * 2 ^ 32) × All FitsContents (take i cs)
+    → (listed_after (size + r) ids (drop (i + 1) cs) ≡ total) × (size + r ≤ (i + 1) * 2 ^ 32) × All FitsContents (take (i + 1) cs)
+listed_step ids cs i size more r total d less e fit short same before =
+    let rest = drop (i + 1) cs in
+    let one = after_one (contents_written most ids (get_or cs i d)) size more (check_tables ids rest) (laid (map (bytes_of ids) rest)) e in (
+      ap (λ n. listed_after (size + n) ids rest) same ∙ sym one ∙ sym (ap (listed_after size ids) (drop_more cs i d less)) ∙ before.0,
+      omega (arith, before.1, short, same),
+      All-more FitsContents cs i d less before.2 fit,
+    )
+
+-- ---- what is put
+
+put_long : {X : Type 0} (a k : ℕ) (xs ys : List X) → a + k ≤ length xs → length ys ≡ k → length (put_mid a k xs ys) ≡ length xs
+put_long a k xs ys within long =
+    omega (arith, length-append (take a xs) (ys ++ post_of a k xs), length-append ys (post_of a k xs), length-take-le a xs (omega (arith, within)), length-drop a xs, length-drop k (drop a xs), within, long)
+
+pub addresses_step : (ids : TableIds) (cs : List TableContents) (i place at p long sum : ℕ) (out new total : List ℕ) (d : TableContents) → i < length cs → long ≡ 8 * length cs → p ≡ length (placed ids (get_or cs i d))
+    → new ≡ spelling 8 place
+    → (take at out ++ flat_map (spelling 8) (addresses place (map (bytes_of ids) (drop i cs))) ≡ total) × (at ≡ 8 * i) × (length out ≡ long) × (place + length (laid (map (bytes_of ids) (drop i cs))) ≡ sum)
+    → (take (at + 8) (put_mid at (at + 8 - at) out new) ++ flat_map (spelling 8) (addresses (place + p) (map (bytes_of ids) (drop (i + 1) cs))) ≡ total)
+    × (at + 8 ≡ 8 * (i + 1)) × (length (put_mid at (at + 8 - at) out new) ≡ long) × (place + p + length (laid (map (bytes_of ids) (drop (i + 1) cs))) ≡ sum)
+addresses_step ids cs i place at p long sum out new total d less whole size is before =
+    let rest = map (bytes_of ids) (drop (i + 1) cs) in
+    let here = map (bytes_of ids) (drop i cs) in
+    let opens : here ≡ bytes_of ids (get_or cs i d) ∷ rest = ap (map (bytes_of ids)) (drop_more cs i d less) in
+    let eight : length new ≡ 8 = ap length is ∙ length-spelling 8 place in
+    let put = take-put_mid at (at + 8 - at) out new (at + 8) (omega (arith, eight)) (omega (arith, before.1, before.2, whole, less)) in
+    let next : List ℕ = flat_map (spelling 8) (addresses (place + p) rest) in
+    let all : spelling 8 place ++ next ≡ flat_map (spelling 8) (addresses place here) =
+    ap (λ n. spelling 8 place ++ flat_map (spelling 8) (addresses (place + n) rest)) size ∙ sym (ap (λ ts. flat_map (spelling 8) (addresses place ts)) opens) in (
+      ap (λ z. z ++ next) put ∙ append_assoc (take at out) new next ∙ ap (λ z. take at out ++ (z ++ next)) is ∙ ap (λ z. take at out ++ z) all ∙ before.0,
+      omega (arith, before.1),
+      put_long at (at + 8 - at) out new (omega (arith, before.1, before.2, whole, less)) (omega (arith, eight)) ∙ before.2,
+      omega (arith, before.3, size, ap (λ ts. length (laid ts)) opens, length-append (placed ids (get_or cs i d)) (laid rest)),
+    )
+
+pub put_step : (ids : TableIds) (cs : List TableContents) (i at p long : ℕ) (out new total : List ℕ) (d : TableContents) → i < length cs → p ≡ length (placed ids (get_or cs i d))
+    → new ≡ placed ids (get_or cs i d) ++ drop (length (placed ids (get_or cs i d))) (take (length out - at) (drop at out))
+    → (take at out ++ laid (map (bytes_of ids) (drop i cs)) ≡ total) × (at + length (laid (map (bytes_of ids) (drop i cs))) ≡ length out) × (length out ≡ long)
+    → (take (at + p) (put_mid at (length out - at) out new) ++ laid (map (bytes_of ids) (drop (i + 1) cs)) ≡ total)
+    × (at + p + length (laid (map (bytes_of ids) (drop (i + 1) cs))) ≡ length (put_mid at (length out - at) out new)) × (length (put_mid at (length out - at) out new) ≡ long)
+put_step ids cs i at p long out new total d less size is before =
+    let part : List ℕ = take (length out - at) (drop at out) in
+    let rest = map (bytes_of ids) (drop (i + 1) cs) in
+    let this = placed ids (get_or cs i d) in
+    let opens : map (bytes_of ids) (drop i cs) ≡ bytes_of ids (get_or cs i d) ∷ rest = ap (map (bytes_of ids)) (drop_more cs i d less) in
+    let within : length part ≡ length out - at = length-take-le (length out - at) (drop at out) (omega (arith, length-drop at out)) in
+    let fills : length new ≡ length out - at =
+    omega (arith, ap length is, length-append this (drop (length this) part), length-drop (length this) part, within, before.1, ap (λ ts. length (laid ts)) opens, length-append this (laid rest)) in
+    let same : length (put_mid at (length out - at) out new) ≡ length out = put_long at (length out - at) out new (omega (arith, before.1)) fills in
+    let split : put_mid at (length out - at) out new ≡ (take at out ++ this) ++ (drop (length this) part ++ post_of at (length out - at) out) =
+    ap (λ z. take at out ++ (z ++ post_of at (length out - at) out)) is ∙ ap (λ z. take at out ++ z) (append_assoc this (drop (length this) part) (post_of at (length out - at) out))
+    ∙ sym (append_assoc (take at out) this (drop (length this) part ++ post_of at (length out - at) out)) in
+    let front : take (at + p) (put_mid at (length out - at) out new) ≡ take at out ++ this =
+    ap (take (at + p)) split ∙ take_at (take at out ++ this) (drop (length this) part ++ post_of at (length out - at) out) (at + p) (omega (arith, size, length-append (take at out) this, length-take-le at out (omega (arith, before.1)))) in (
+      ap (λ z. z ++ laid rest) front ∙ append_assoc (take at out) this (laid rest) ∙ ap (λ z. take at out ++ z) (sym (ap laid opens)) ∙ before.0,
+      omega (arith, same, before.1, size, ap (λ ts. length (laid ts)) opens, length-append this (laid rest)),
+      same ∙ before.2,
+    )
+
+-- all of a slice is filled
+pub to_the_end : (t old out : List ℕ) → length old ≡ length (padded t) → out ≡ padded t ++ drop (length (padded t)) old → out ≡ padded t
+to_the_end t old out long is = is ∙ ap (λ z. padded t ++ z) (drop_of_length-le old (omega (arith, long))) ∙ append-nil (padded t)
+
+-- a table before what it is filled up with
+pub filled : (n : ℕ) (t rest out : List ℕ) → length t ≡ n → length (t ++ rest) ≡ rounded n → out ≡ take n (t ++ rest) ++ (replicate (gap n) 0 ++ drop (rounded n) (t ++ rest)) → out ≡ padded t
+filled n t rest out long whole is =
+    is ∙ ap (λ z. z ++ (replicate (gap n) 0 ++ drop (rounded n) (t ++ rest))) (take_at t rest n long)
+    ∙ ap (λ z. t ++ (replicate (gap n) 0 ++ z)) (drop_of_length-le (t ++ rest) (omega (arith, whole))) ∙ ap (λ z. t ++ z) (append-nil (replicate (gap n) 0)) ∙ ap (λ k. t ++ replicate (gap k) 0) (sym long)
+
+-- one part, and then the rest
+pub two_parts : {X : Type 0} (n : ℕ) (first rest last : List X) → length first ≡ n → put_mid n (length (first ++ rest) - n) (first ++ rest) last ≡ first ++ last
+two_parts n first rest last long =
+    let behind : post_of n (length (first ++ rest) - n) (first ++ rest) ≡ [] =
+    ap (drop (length (first ++ rest) - n)) (drop_at first rest n long) ∙ drop_of_length-le rest (omega (arith, length-append first rest, long)) in
+    ap (λ z. z ++ (last ++ post_of n (length (first ++ rest) - n) (first ++ rest))) (take_at first rest n long) ∙ ap (λ z. first ++ (last ++ z)) behind ∙ ap (λ z. first ++ z) (append-nil last)
+
+-- ---- the whole machine
+
+pub addresses_long : (a : ℕ) (ts : List (List ℕ)) → length (addresses a ts) ≡ length ts
+addresses_long a [] = refl
+addresses_long a (t ∷ ts) = omega (arith, addresses_long (a + length (padded t)) ts)
+
+pub spelled_long : (ps : List ℕ) → length (flat_map (spelling 8) ps) ≡ 8 * length ps
+spelled_long [] = refl
+spelled_long (p ∷ ps) = omega (arith, length-append (spelling 8 p) (flat_map (spelling 8) ps), length-spelling 8 p, spelled_long ps)
+
+-- the XSDT's body
+pub root_long : (start : ℕ) (ids : TableIds) (cs : List TableContents) → 36 + length (flat_map (spelling 8) (addresses start (map (bytes_of ids) cs))) ≡ 36 + 8 * length cs
+root_long start ids cs =
+    omega (arith, spelled_long (addresses start (map (bytes_of ids) cs)), addresses_long start (map (bytes_of ids) cs), length-map cs (bytes_of ids))
+
+pub xsdt_long : (start : ℕ) (x : Machine) → AreIds x.ids → length (xsdt_from start x) ≡ xsdt_length x
+xsdt_long start x are = table_length XSDT 1 x.ids (root_body Xsdt (addresses start (listed x))) refl are ∙ root_long start x.ids x.tables.now
+
+pub tree_size_is : (a : ℕ) (x : Machine) → AreIds x.ids → length (tree_bytes a x) ≡ tree_size x
+unfolding tree_bytes tree_size
+tree_size_is a x are =
+    let xsdt = xsdt_bytes a x in
+    let first : length (padded xsdt) ≡ rounded (xsdt_length x) = padded_long xsdt ∙ ap rounded (xsdt_long (tables_address a x) x are) in
+    omega (arith, length-append (padded xsdt) (padded (dsdt_of x) ++ laid (listed x)), length-append (padded (dsdt_of x)) (laid (listed x)), first)
+
+-- ---- whether the machine can be written
+
+pub dsdt_long : (w : Result (List ℕ) WriterError) (n : ℕ) → (w >>= λ t. count (length (padded t))) ≡ Ok n → length (padded (or_none w)) ≡ n
+dsdt_long (Ok t) n e = same_count (length (padded t)) n e
+dsdt_long (Err e) n is = absurd cc
+
+pub dsdt_none : (w : Result (List ℕ) WriterError) (e : WriterError) → (w >>= λ t. count (length (padded t))) ≡ Err e → or_none w ≡ []
+dsdt_none (Ok t) e is = absurd cc
+dsdt_none (Err d) e is = refl
+
+pub tree_bad_name : (x : Machine) → are_texts x.ids ≡ false → tree_sized x ≡ Err BadName
+unfolding check_machine
+tree_bad_name x bad = rw bad refl
+
+pub tree_too_long : (x : Machine) → are_texts x.ids ≡ true → 2 ^ 32 ≤ xsdt_length x → tree_sized x ≡ Err TooLong
+unfolding check_machine
+tree_too_long x texts long = rw (texts, le-ltb (xsdt_length x) (2 ^ 32) long) refl
+
+error_of : (w : Result (List ℕ) WriterError) (e : WriterError) → (w >>= λ t. count (length (padded t))) ≡ Err e → w ≡ Err e
+error_of (Ok t) e is = absurd cc
+error_of (Err d) e is = cc
+
+pub tree_dsdt_error : (x : Machine) (e : WriterError) → are_texts x.ids ≡ true → xsdt_length x < 2 ^ 32 → dsdt_sized x.ids x.dsdt ≡ Err e → tree_sized x ≡ Err e
+unfolding check_machine
+tree_dsdt_error x e texts short is = rw (texts, lt-ltb (xsdt_length x) (2 ^ 32) short, error_of (dsdt_written x.ids x.dsdt) e is) refl
+
+check_error : (r : Result (Unit {0}) WriterError) (n : ℕ) (e : WriterError) → (r >>= λ _. count n) ≡ Err e → r ≡ Err e
+check_error (Ok t) n e is = absurd cc
+check_error (Err d) n e is = cc
+
+pub tree_error : (x : Machine) (d : ℕ) (e : WriterError) → are_texts x.ids ≡ true → xsdt_length x < 2 ^ 32 → dsdt_sized x.ids x.dsdt ≡ Ok d → listed_sized x.ids x.tables.now ≡ Err e → tree_sized x ≡ Err e
+unfolding check_machine
+tree_error x d e texts short dsdt is =
+    let first = bind_ok (dsdt_written x.ids x.dsdt) (λ t. count (length (padded t))) d dsdt in
+    rw (texts, lt-ltb (xsdt_length x) (2 ^ 32) short, first.1, check_error (check_tables x.ids x.tables.now) (length (laid (listed x))) e is) refl
+
+check_done : (r : Result (Unit {0}) WriterError) (m n : ℕ) → (r >>= λ _. count m) ≡ Ok n → r ≡ Ok tt
+check_done (Ok t) m n is = refl
+check_done (Err d) m n is = absurd cc
+
+check_count : (r : Result (Unit {0}) WriterError) (m n : ℕ) → (r >>= λ _. count m) ≡ Ok n → m ≡ n
+check_count (Ok t) m n is = same_count m n is
+check_count (Err d) m n is = absurd cc
+
+pub tree_ok : (x : Machine) (d l : ℕ) → are_texts x.ids ≡ true → xsdt_length x < 2 ^ 32 → dsdt_sized x.ids x.dsdt ≡ Ok d → listed_sized x.ids x.tables.now ≡ Ok l
+    → tree_sized x ≡ Ok (rounded (xsdt_length x) + d + l)
+unfolding check_machine tree_size
+tree_ok x d l texts short dsdt is =
+    let first = bind_ok (dsdt_written x.ids x.dsdt) (λ t. count (length (padded t))) d dsdt in
+    let passed = check_done (check_tables x.ids x.tables.now) (length (laid (listed x))) l is in
+    let size : tree_size x ≡ rounded (xsdt_length x) + d + l =
+    omega (arith, dsdt_long (dsdt_written x.ids x.dsdt) d dsdt, check_count (check_tables x.ids x.tables.now) (length (laid (listed x))) l is) in
+    let checked : check_machine x ≡ Ok tt = rw (texts, lt-ltb (xsdt_length x) (2 ^ 32) short, first.1, passed) refl in
+    ap (λ r. r >>= λ _. count (tree_size x)) checked ∙ ap count size
+
+-- ---- what a call gives
+
+pub machine_sized : (x : Machine) (n : ℕ) → tree_sized x ≡ Ok n → machine_size x ≡ Ok (48 + n)
+machine_sized x n e =
+    ap (λ r. r >>= λ _. count (48 + tree_size x)) (check_done (check_machine x) (tree_size x) n e) ∙ ap (λ k. count (48 + k)) (check_count (check_machine x) (tree_size x) n e)
+
+pub machine_error : (x : Machine) (e : WriterError) → tree_sized x ≡ Err e → machine_size x ≡ Err e
+machine_error x e is = ap (λ r. r >>= λ _. count (48 + tree_size x)) (check_error (check_machine x) (tree_size x) e is)
+
+pub size_is : (x : Machine) (n : ℕ) → tree_sized x ≡ Ok n → tree_size x ≡ n
+size_is x n e = check_count (check_machine x) (tree_size x) n e
+
+pub is_checked : (x : Machine) (n : ℕ) → tree_sized x ≡ Ok n → check_machine x ≡ Ok tt
+is_checked x n e = check_done (check_machine x) (tree_size x) n e
+
+pub region_ok : (x : Machine) (k n m room a : ℕ) (bytes : List ℕ) → tree_sized x ≡ Ok k → n ≡ m → check_place room a m ≡ Ok tt → region_written x n room a bytes ≡ Ok bytes
+region_ok x k n m room a bytes e same placed = rw (is_checked x k e, same, placed) refl
+
+pub region_place : (x : Machine) (k n m room a : ℕ) (bytes : List ℕ) (d : WriterError) → tree_sized x ≡ Ok k → n ≡ m → check_place room a m ≡ Err d → region_written x n room a bytes ≡ Err d
+region_place x k n m room a bytes d e same placed = rw (is_checked x k e, same, placed) refl
+
+pub region_error : (x : Machine) (n room a : ℕ) (bytes : List ℕ) (d : WriterError) → tree_sized x ≡ Err d → region_written x n room a bytes ≡ Err d
+region_error x n room a bytes d e = rw (check_error (check_machine x) (tree_size x) d e) refl

@@ -1,0 +1,11 @@
+use Rattle.std.proofs.Common.{◌≡◌, ◌*◌, ◌^◌, ◌≤◌, drop, take}
+use Rattle.std.specs.List.{All}
+use Rattle.acpi_writer.specs.Contents.{FitsContents}
+use Rattle.acpi_writer.specs.Machine.{listed_sized}
+use Rattle.acpi_writer.proofs.Sized.{listed_after}
+use Rattle.acpi_writer.proofs.machine.listed_size.Given as goal
+
+-- what is to come, after so many bytes
+abbrev pub invariant-loop-table : goal.invariant-loop-table
+invariant-loop-table l =
+    (listed_after l.size l.ids (drop l.table-index l.tables) ≡ listed_sized l.ids l.tables) × (l.size ≤ l.table-index * 2 ^ 32) × All FitsContents (take l.table-index l.tables)

@@ -1,0 +1,61 @@
+-- The bytes of a table that an XSDT can list, by what it is to say.
+use Rattle.std.specs.Prelude.{ℕ, ◌-◌, ◌^◌, ◌<◌, List, [], length, Result, Ok, Err}
+use Rattle.std.specs.List.{All}
+use Rattle.acpi_base.specs.declared.table.signature.Signature.{Signature}
+use Rattle.acpi_base.specs.declared.table.signature.TheConstants.Signature.{HPET, MADT, MCFG, SLIT, SSDT}
+use Rattle.acpi_writer.specs.HpetBytes.{hpet_written}
+use Rattle.acpi_writer.specs.HpetLaws.{FitsHpet}
+use Rattle.acpi_writer.specs.Laid.{padded}
+use Rattle.acpi_writer.specs.MadtBytes.{madt_written}
+use Rattle.acpi_writer.specs.MadtLaws.{AreFit}
+use Rattle.acpi_writer.specs.McfgBytes.{mcfg_written}
+use Rattle.acpi_writer.specs.McfgLaws.{FitsMcfg}
+use Rattle.acpi_writer.specs.Slit.{slit_written}
+use Rattle.acpi_writer.specs.Table.{table_written}
+use Rattle.acpi_writer.specs.declared.contents.TableContents.{TableContents}
+use Rattle.acpi_writer.specs.declared.contents.TableContents.TheVariants.{Hpet, Madt, Mcfg, Slit, Ssdt}
+use Rattle.acpi_writer.specs.declared.error.WriterError.{WriterError}
+use Rattle.acpi_writer.specs.declared.ids.TableIds.{TableIds}
+
+-- the table in so much room, or the first error
+abbrev pub contents_written : ℕ → TableIds → TableContents → Result (List ℕ) WriterError
+contents_written room ids (Madt c) = madt_written room ids c
+contents_written room ids (Mcfg regions) = mcfg_written room ids regions.now
+contents_written room ids (Hpet info) = hpet_written room ids info
+contents_written room ids (Slit c) = slit_written room ids c.localities c.distances.now
+contents_written room ids (Ssdt c) = table_written room SSDT c.revision ids c.bytes.now
+
+-- the numbers have a place
+abbrev pub FitsContents : TableContents → Type 0
+FitsContents (Madt c) = AreFit c
+FitsContents (Mcfg regions) = All FitsMcfg regions.now
+FitsContents (Hpet info) = FitsHpet info
+FitsContents (Slit c) = c.localities < 2 ^ 64
+FitsContents (Ssdt c) = Unit {0}
+
+abbrev pub signature_of : TableContents → Signature
+signature_of (Madt c) = MADT
+signature_of (Mcfg regions) = MCFG
+signature_of (Hpet info) = HPET
+signature_of (Slit c) = SLIT
+signature_of (Ssdt c) = SSDT
+
+-- how many bytes they are, or the error
+abbrev pub sized : Result (List ℕ) WriterError → Result ℕ WriterError
+sized (Ok table) = Ok (length table)
+sized (Err e) = Err e
+
+-- the bytes, or none
+abbrev pub or_none : Result (List ℕ) WriterError → List ℕ
+or_none (Ok table) = table
+or_none (Err e) = []
+
+-- all the room that a slice can have
+abbrev pub most : ℕ
+most = 2 ^ 64 - 1
+
+abbrev pub bytes_of : TableIds → TableContents → List ℕ
+bytes_of ids c = or_none (contents_written most ids c)
+
+abbrev pub placed : TableIds → TableContents → List ℕ
+placed ids c = padded (bytes_of ids c)

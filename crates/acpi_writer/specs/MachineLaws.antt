@@ -1,0 +1,120 @@
+-- A machine that is laid out in memory is found there by a reader.
+--
+-- Let a memory lend the 36 bytes of the RSDP, and the bytes of the XSDT with all tables, each from the address that they
+-- were written for. Then
+--   * the RSDP is valid, tables are opened by it, and their root table is the XSDT;
+--   * the XSDT's pointers are the addresses of the listed tables, in the order in which these were passed in;
+--   * of each signature the first of the listed tables is found, at its address, with its bytes;
+--   * so the interrupt model and the processors, the regions of the configuration space, the event timer block and the
+--     distances are exactly those that were passed in; and the DSDT is valid at its address.
+use Rattle.std.specs.Prelude.{◌≡◌, ℕ, ◌+◌, ◌*◌, ◌<◌, ◌≤◌, ◌&&◌, true, List, [], ◌∷◌, length, drop, nat_le, slice_get, if◌then◌else◌}
+use Rattle.std.specs.Prelude.{Option, Some, None, Result, Ok, Err}
+use Rattle.std.specs.List.{AllByRecursion}
+use Rattle.std.specs.Str.{bytes_eq}
+use Rattle.acpi.specs.Hpet.{hpet_of}
+use Rattle.acpi.specs.Lookup.{lookup}
+use Rattle.acpi.specs.Opened.{opened_by_rsdp}
+use Rattle.acpi.specs.Pci.{found_regions}
+use Rattle.acpi.specs.Platform.{model_in, platform_of}
+use Rattle.acpi.specs.Root.{pointers}
+use Rattle.acpi.specs.Rsdp.{rsdp_at}
+use Rattle.acpi.specs.declared.platform.PlatformInfo.{PlatformInfo}
+use Rattle.acpi.specs.declared.root.RootKind.TheVariants.{Xsdt}
+use Rattle.acpi_base.specs.Memory.{Memory, IsMemory, at}
+use Rattle.acpi_base.specs.Steps.{◌>>=◌}
+use Rattle.acpi_base.specs.Table.{plain_kind, sdt_kind, table_at}
+use Rattle.acpi_base.specs.Text.{letters_of}
+use Rattle.acpi_base.specs.declared.error.AcpiError.{AcpiError}
+use Rattle.acpi_base.specs.declared.error.AcpiError.TheVariants.{TableMissing}
+use Rattle.acpi_base.specs.declared.table.signature.Signature.{Signature}
+use Rattle.acpi_base.specs.declared.table.signature.TheConstants.Signature.{DSDT, HPET, MADT, MCFG, SLIT}
+use Rattle.acpi_numa.specs.Slit.{distance_of}
+use Rattle.acpi_writer.specs.Contents.{bytes_of, placed, signature_of}
+use Rattle.acpi_writer.specs.ImageLaws.{HasPlatform, is_named}
+use Rattle.acpi_writer.specs.Laid.{addresses, laid, padded}
+use Rattle.acpi_writer.specs.Machine.{FitsMachine, check_machine, dsdt_address, dsdt_of, is_place, machine_bytes, pointers_of, tables_address, tree_bytes, tree_size, xsdt_bytes}
+use Rattle.acpi_writer.specs.MadtLaws.{model_read}
+use Rattle.acpi_writer.specs.Rsdp.{rsdp_bytes}
+use Rattle.acpi_writer.specs.Table.{IsValid}
+use Rattle.acpi_writer.specs.declared.contents.AmlContents.{AmlContents}
+use Rattle.acpi_writer.specs.declared.contents.TableContents.{TableContents}
+use Rattle.acpi_writer.specs.declared.contents.TableContents.TheVariants.{Hpet, Madt, Mcfg, Slit}
+use Rattle.acpi_writer.specs.declared.ids.TableIds.{TableIds}
+use Rattle.acpi_writer.specs.declared.machine.Machine.{Machine}
+
+-- ---- any valid tables, laid one after the other
+
+-- the first of them with this signature and at least so many bytes, and where it lies, if the first one lies at a
+abbrev pub first_at : Signature → ℕ → ℕ → List (List ℕ) → Result (ℕ × List ℕ) AcpiError
+first_at s least a [] = Err (TableMissing s)
+first_at s least a (t ∷ ts) =
+    if is_named s t && nat_le least (length t) then Ok (a, t)
+    else first_at s least (a + length (padded t)) ts
+
+-- each is valid under some signature
+abbrev pub AreValid : List (List ℕ) → Type 0
+AreValid ts = AllByRecursion (λ t. (s : Signature) × IsValid s t) ts
+
+-- where a memory lends them, a lookup by their addresses finds exactly that
+abbrev pub LaidAreFound : Type 0
+LaidAreFound = (m : Memory) (a : ℕ) (ts : List (List ℕ)) → IsMemory m → AreValid ts
+    → at m a (length (laid ts)) ≡ Some (laid ts)
+    → (s : Signature) (least : ℕ) → 36 ≤ least
+    → lookup m (sdt_kind s least) (addresses a ts) ≡ first_at s least a ts
+
+-- ---- a machine
+
+-- the machine can be written for an address: what `write_tables` says of it
+pub record IsWritable (a : ℕ) (x : Machine) : Type 0 where
+  pub checked : check_machine x ≡ Ok tt
+  pub fit : FitsMachine x
+  pub place : is_place a (tree_size x) ≡ true
+
+-- the first of the listed tables with this signature, and where it lies, if the first one lies at a
+abbrev pub first_of : Signature → List TableContents → Option TableContents
+first_of s [] = None
+first_of s (c ∷ cs) =
+    if bytes_eq (letters_of (signature_of c)) (letters_of s) then Some c else first_of s cs
+
+abbrev pub place_of : TableIds → Signature → ℕ → List TableContents → ℕ
+place_of ids s a [] = a
+place_of ids s a (c ∷ cs) =
+    if bytes_eq (letters_of (signature_of c)) (letters_of s) then a
+    else place_of ids s (a + length (placed ids c)) cs
+
+-- what is opened by the RSDP at an address, if the XSDT lies at a
+pub record IsOpened (m : Memory) (rsdp a : ℕ) (x : Machine) : Type 0 where
+  pub rsdp_is : rsdp_at m rsdp ≡ Ok (rsdp_bytes x.ids.oem_id a)
+  pub opened : opened_by_rsdp m rsdp
+      ≡ Ok (record { revision = 2; kind = Xsdt; address = a; root = xsdt_bytes a x })
+  pub listed : pointers 8 (drop 36 (xsdt_bytes a x)) ≡ pointers_of a x
+  pub found : (s : Signature) (c : TableContents) (least : ℕ) → first_of s x.tables.now ≡ Some c
+      → 36 ≤ least → least ≤ length (bytes_of x.ids c)
+      → lookup m (sdt_kind s least) (pointers_of a x)
+      ≡ Ok (place_of x.ids s (tables_address a x) x.tables.now, bytes_of x.ids c)
+  pub dsdt : (c : AmlContents) → x.dsdt ≡ Some c
+      → table_at m (plain_kind DSDT) (dsdt_address a x) ≡ Ok (dsdt_of x)
+
+-- what a reader says of the tables that these pointers lead to: what was passed in
+pub record Says (A : Type 0) (m : Memory) (ps : List ℕ) (cs : List TableContents) : Type 0 where
+  pub model : (c : _) → first_of MADT cs ≡ Some (Madt c) → model_in {A = A} m ps ≡ Ok (model_read c)
+  pub platform : (c : _) (q : PlatformInfo A) → first_of MADT cs ≡ Some (Madt c)
+      → platform_of m ps ≡ Ok q → HasPlatform c q
+  pub regions : (es : _) → first_of MCFG cs ≡ Some (Mcfg es) → found_regions m ps ≡ Ok es.now
+  pub hpet : (i : _) → first_of HPET cs ≡ Some (Hpet i) → hpet_of m ps ≡ Ok i
+  pub distances : (c : _) (from to : ℕ) → first_of SLIT cs ≡ Some (Slit c)
+      → from < c.localities → to < c.localities
+      → (lookup m (sdt_kind SLIT 44) ps >>= λ found. Ok (distance_of found.1 from to))
+      ≡ Ok (slice_get c.distances.now (from * c.localities + to))
+
+-- the theorem, for an RSDP at an address of its own
+abbrev pub TreeIsRead : Type 0 → Type 0
+TreeIsRead A = (m : Memory) (rsdp a : ℕ) (x : Machine) → IsMemory m → IsWritable a x
+    → at m rsdp 36 ≡ Some (rsdp_bytes x.ids.oem_id a) → at m a (tree_size x) ≡ Some (tree_bytes a x)
+    → IsOpened m rsdp a x × Says A m (pointers_of a x) x.tables.now
+
+-- and for one at the front of the region
+abbrev pub MachineIsRead : Type 0 → Type 0
+MachineIsRead A = (m : Memory) (a : ℕ) (x : Machine) → IsMemory m → IsWritable (a + 48) x
+    → at m a (48 + tree_size x) ≡ Some (machine_bytes a x)
+    → IsOpened m a (a + 48) x × Says A m (pointers_of (a + 48) x) x.tables.now

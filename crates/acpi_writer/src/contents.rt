@@ -1,0 +1,130 @@
+//! The tables that an XSDT can list, each from what it is to say.
+ghost use Rattle.std.specs.Prelude.{◌≡◌, ◌+◌, ◌^◌, ◌<◌, ◌≤◌, ◌++◌, length, take, drop, replicate, IfOk};
+ghost use Rattle.acpi_base.specs.Steps.{Gives};
+ghost use Rattle.acpi_writer.specs.Contents.{FitsContents, contents_written, most, placed, sized};
+ghost use Rattle.acpi_writer.specs.Laid.{gap, rounded};
+ghost use Rattle.acpi_writer.specs.Table.{Keeps};
+
+use crate::aml::write_ssdt;
+use crate::error::WriterError;
+use crate::hpet::write_hpet;
+use crate::ids::TableIds;
+use crate::madt::{MadtContents, madt_size, write_madt};
+use crate::mcfg::{mcfg_size, write_mcfg};
+use crate::slit::{slit_size, write_slit};
+use crate::spelled::Bytes;
+use crate::table::table_size;
+use acpi::HpetInfo;
+use acpi_base::Signature;
+use acpi_base::mcfg::McfgEntry;
+
+/// What a table of AML is to have after its header (section 5.2.11).
+#[derive(Clone, Copy)]
+pub struct AmlContents<'a> {
+    /// Revision: by 1 AML's integers have 32 bits, by 2 they have 64.
+    pub revision: u8,
+    /// The AML bytes, taken as they are.
+    pub bytes: &'a [u8],
+}
+
+/// What a SLIT is to say (section 5.2.17).
+#[derive(Clone, Copy)]
+pub struct SlitContents<'a> {
+    /// Number of System Localities.
+    pub localities: u64,
+    /// The distances, row by row: those from the first locality come first.
+    pub distances: &'a [u8],
+}
+
+/// A table that an XSDT can list, with what it is to say. Each is written as the function of its name writes it.
+#[derive(Clone, Copy)]
+pub enum TableContents<'a> {
+    /// `write_madt`.
+    Madt(MadtContents<'a>),
+    /// `write_mcfg`.
+    Mcfg(&'a [McfgEntry]),
+    /// `write_hpet`.
+    Hpet(HpetInfo),
+    /// `write_slit`.
+    Slit(SlitContents<'a>),
+    /// `write_ssdt`.
+    Ssdt(AmlContents<'a>),
+}
+
+/// The least multiple of 16 that isn't below a number.
+pub(crate) fn rounded(n: usize) -> usize
+    requires { n < 2 ^ 63 }
+    ensures { result ≡ rounded n }
+{
+    n + (15 - (n + 15) % 16)
+}
+
+/// Puts zeros after so many bytes, up to a multiple of 16, which it returns.
+pub(crate) fn fill_up(out: &mut [u8], size: usize) -> usize
+    requires { rounded size ≤ length out.old }
+    ensures bytes { out.new ≡ take size out.old ++ (replicate (gap size) 0 ++ drop (rounded size) out.old) }
+    ensures size { result ≡ rounded size }
+{
+    let end = rounded(size);
+    out[size..end].fill(0);
+    end
+}
+
+impl TableContents<'_> {
+    /// How many bytes the table has, or the first error.
+    pub(crate) fn size(&self, ids: &TableIds) -> Result<usize, WriterError>
+        ensures exact { result ≡ sized (contents_written most ids.now self.now) }
+        ensures short { IfOk result (λ n. n < 2 ^ 32) }
+        ensures fits { IfOk result (λ n. FitsContents self.now) }
+    {
+        match self {
+            TableContents::Madt(contents) => madt_size(ids, contents),
+            TableContents::Mcfg(regions) => mcfg_size(ids, regions),
+            TableContents::Hpet(info) => table_size(Signature::HPET, 1, ids, info),
+            TableContents::Slit(slit) => slit_size(ids, slit.localities, slit.distances),
+            TableContents::Ssdt(aml) => {
+                table_size(Signature::SSDT, aml.revision, ids, &Bytes(aml.bytes))
+            }
+        }
+    }
+
+    /// Writes the table to the front of a slice, as the function of its name does.
+    fn write(&self, out: &mut [u8], ids: &TableIds) -> Result<usize, WriterError>
+        ensures exact { Gives (λ n. take n out.new) result
+            (contents_written (length out.old) ids.now self.now) }
+        ensures keeps { Keeps result out.old out.new }
+    {
+        match self {
+            TableContents::Madt(contents) => write_madt(out, ids, contents),
+            TableContents::Mcfg(regions) => write_mcfg(out, ids, regions),
+            TableContents::Hpet(info) => write_hpet(out, ids, info),
+            TableContents::Slit(slit) => write_slit(out, ids, slit.localities, slit.distances),
+            TableContents::Ssdt(aml) => write_ssdt(out, ids, aml.revision, aml.bytes),
+        }
+    }
+
+    /// Puts the table to the front of a slice, filled up with zeros to a multiple of 16, and returns how many bytes
+    /// these are. One that can't be written has none.
+    pub(crate) fn put(&self, out: &mut [u8], ids: &TableIds) -> usize
+        requires { length (placed ids.now self.now) ≤ length out.old }
+        ensures bytes { out.new ≡ placed ids.now self.now ++ drop (length (placed ids.now self.now)) out.old }
+        ensures size { result ≡ length (placed ids.now self.now) }
+    {
+        ids.fit();
+        match self.write(out, ids) {
+            Ok(size) => fill_up(out, size),
+            Err(_) => 0,
+        }
+    }
+
+    /// How many bytes `put` puts.
+    pub(crate) fn place(&self, ids: &TableIds) -> usize
+        ensures size { result ≡ length (placed ids.now self.now) }
+        ensures short { result ≤ 2 ^ 32 }
+    {
+        match self.size(ids) {
+            Ok(size) => rounded(size),
+            Err(_) => 0,
+        }
+    }
+}

@@ -1,0 +1,303 @@
+//! A whole machine, laid out in one region of a guest's memory.
+ghost use Rattle.std.specs.Prelude.{◌≡◌, ◌+◌, ◌*◌, ◌^◌, ◌<◌, ◌≤◌, flat_map, length, map, take, IfOk};
+ghost use Rattle.std.specs.List.{All};
+ghost use Rattle.acpi_base.specs.Bytes.{spelling};
+ghost use Rattle.acpi_base.specs.Steps.{Gives};
+ghost use Rattle.acpi_writer.specs.Contents.{FitsContents, bytes_of};
+ghost use Rattle.acpi_writer.specs.Laid.{addresses, laid, padded, rounded};
+ghost use Rattle.acpi_writer.specs.Machine as whole;
+ghost use Rattle.acpi_writer.specs.MachineLaws.{IsWritable};
+ghost use Rattle.acpi_writer.specs.Rsdp.{rsdp_bytes};
+ghost use Rattle.acpi_writer.specs.Table.{Keeps};
+
+use crate::aml::write_dsdt;
+use crate::contents::{AmlContents, TableContents, fill_up, rounded};
+use crate::error::WriterError;
+use crate::ids::TableIds;
+use crate::numbers::qword;
+use crate::rsdp::rsdp_bytes;
+use crate::spelled::Bytes;
+use crate::table::{seal, table_head, table_size};
+use acpi_base::Signature;
+
+/// A machine, as its tables describe it.
+#[derive(Clone, Copy)]
+pub struct Machine<'a> {
+    /// Who made the tables. Each table has them, and the RSDP has OEMID.
+    pub ids: TableIds,
+    /// The DSDT, if there is one.
+    pub dsdt: Option<AmlContents<'a>>,
+    /// The tables that the XSDT lists, in this order. Of two tables of one signature a reader finds the first.
+    pub tables: &'a [TableContents<'a>],
+}
+
+/// How many bytes the tables that the XSDT lists take, or the first error.
+fn listed_size(ids: &TableIds, tables: &[TableContents<'_>]) -> Result<usize, WriterError>
+    requires { length tables.now < 2 ^ 29 }
+    ensures exact { result ≡ whole.listed_sized ids.now tables.now }
+    ensures short { IfOk result (λ n. n ≤ 2 ^ 61) }
+    ensures fits { IfOk result (λ n. All FitsContents tables.now) }
+{
+    let mut size = 0;
+    for table in tables {
+        match table.size(ids) {
+            Ok(more) => size += rounded(more),
+            Err(error) => return Err(error),
+        }
+    }
+    Ok(size)
+}
+
+/// How many bytes the DSDT takes, or its first error.
+fn dsdt_size(machine: &Machine<'_>) -> Result<usize, WriterError>
+    ensures exact { result ≡ whole.dsdt_sized machine.now.ids machine.now.dsdt }
+    ensures short { IfOk result (λ n. n ≤ 2 ^ 32) }
+{
+    match machine.dsdt {
+        Some(dsdt) => {
+            let body = Bytes(dsdt.bytes);
+            match table_size(Signature::DSDT, dsdt.revision, &machine.ids, &body) {
+                Ok(size) => Ok(rounded(size)),
+                Err(error) => Err(error),
+            }
+        }
+        None => Ok(0),
+    }
+}
+
+/// How many bytes the DSDT takes. One that can't be written takes none.
+fn dsdt_place(machine: &Machine<'_>) -> usize
+    ensures size { result ≡ length (padded (whole.dsdt_of machine.now)) }
+    ensures short { result ≤ 2 ^ 32 }
+{
+    match dsdt_size(machine) {
+        Ok(size) => size,
+        Err(_) => 0,
+    }
+}
+
+/// How many bytes there are without the RSDP, or the first error.
+fn tree_size(machine: &Machine<'_>) -> Result<usize, WriterError>
+    ensures exact { result ≡ whole.tree_sized machine.now }
+    ensures short { IfOk result (λ n. n < 2 ^ 62) }
+    ensures fits { IfOk result (λ n. whole.FitsMachine machine.now) }
+{
+    if !machine.ids.are_texts() {
+        return Err(WriterError::BadName);
+    }
+    let count = machine.tables.len();
+    if count > 0x1ffffffb {
+        return Err(WriterError::TooLong);
+    }
+    let dsdt = match dsdt_size(machine) {
+        Ok(size) => size,
+        Err(error) => return Err(error),
+    };
+    machine.ids.fit();
+    match listed_size(&machine.ids, machine.tables) {
+        Ok(listed) => Ok(rounded(36 + 8 * count) + dsdt + listed),
+        Err(error) => Err(error),
+    }
+}
+
+/// How many bytes `write_tables` writes, or the first error but for room and place. `write_tables_without_rsdp` writes
+/// 48 fewer.
+pub fn tables_size(machine: &Machine<'_>) -> Result<usize, WriterError>
+    ensures { result ≡ whole.machine_size machine.now }
+{
+    match tree_size(machine) {
+        Ok(size) => Ok(48 + size),
+        Err(error) => Err(error),
+    }
+}
+
+/// Puts the addresses of tables, of which the first lies at this one.
+fn put_addresses(out: &mut [u8], start: u64, ids: &TableIds, tables: &[TableContents<'_>])
+    requires whole { length out.old ≡ 8 * length tables.now }
+    requires ends { start + length (laid (map (bytes_of ids.now) tables.now)) < 2 ^ 64 }
+    ensures { out.new ≡ flat_map (spelling 8) (addresses start (map (bytes_of ids.now) tables.now)) }
+{
+    let mut place = start;
+    let mut at = 0;
+    for table in tables {
+        out[at..at + 8].copy_from_slice(&qword(place));
+        place += table.place(ids) as u64;
+        at += 8;
+    }
+}
+
+/// Puts the tables that the XSDT lists, one after the other.
+fn put_listed(out: &mut [u8], ids: &TableIds, tables: &[TableContents<'_>])
+    requires { length out.old ≡ length (laid (map (bytes_of ids.now) tables.now)) }
+    ensures { out.new ≡ laid (map (bytes_of ids.now) tables.now) }
+{
+    let mut at = 0;
+    for table in tables {
+        at += table.put(&mut out[at..], ids);
+    }
+}
+
+/// Puts the DSDT, if there is one.
+fn put_dsdt(out: &mut [u8], machine: &Machine<'_>)
+    requires { length out.old ≡ length (padded (whole.dsdt_of machine.now)) }
+    ensures { out.new ≡ padded (whole.dsdt_of machine.now) }
+{
+    if let Some(dsdt) = machine.dsdt {
+        machine.ids.fit();
+        match write_dsdt(out, &machine.ids, dsdt.revision, dsdt.bytes) {
+            Ok(size) => {
+                fill_up(out, size);
+            }
+            Err(_) => {}
+        }
+    }
+}
+
+/// Fills a slice with the XSDT of tables of which the first lies at this address.
+fn fill_xsdt(out: &mut [u8], start: u64, machine: &Machine<'_>)
+    requires whole { length out.old ≡ whole.xsdt_length machine.now }
+    requires short { whole.xsdt_length machine.now < 2 ^ 32 }
+    requires ends { start + length (laid (whole.listed machine.now)) < 2 ^ 64 }
+    ensures { out.new ≡ whole.xsdt_from start machine.now }
+{
+    let head = table_head(Signature::XSDT, 1, &machine.ids, out.len() as u32);
+    put_addresses(&mut out[36..], start, &machine.ids, machine.tables);
+    seal(out, &head);
+}
+
+/// Puts the XSDT of tables of which the first lies at this address.
+fn put_xsdt(out: &mut [u8], start: u64, machine: &Machine<'_>)
+    requires whole { length out.old ≡ rounded (whole.xsdt_length machine.now) }
+    requires short { whole.xsdt_length machine.now < 2 ^ 32 }
+    requires ends { start + length (laid (whole.listed machine.now)) < 2 ^ 64 }
+    ensures { out.new ≡ padded (whole.xsdt_from start machine.now) }
+{
+    let size = 36 + 8 * machine.tables.len();
+    machine.ids.fit();
+    fill_xsdt(&mut out[..size], start, machine);
+    fill_up(out, size);
+}
+
+/// Puts the DSDT and the listed tables.
+fn put_rest(out: &mut [u8], machine: &Machine<'_>)
+    requires { length out.old ≡ length (whole.rest_bytes machine.now) }
+    ensures { out.new ≡ whole.rest_bytes machine.now }
+{
+    let dsdt = dsdt_place(machine);
+    put_dsdt(&mut out[..dsdt], machine);
+    put_listed(&mut out[dsdt..], &machine.ids, machine.tables);
+}
+
+/// Puts all but the RSDP, from this address on.
+#[tactic(auto, unfolding(crate::specs::Machine::tree_size, crate::specs::Machine::tree_bytes))]
+fn put_tree(out: &mut [u8], address: u64, machine: &Machine<'_>)
+    requires whole { length out.old ≡ whole.tree_size machine.now }
+    requires short { whole.xsdt_length machine.now < 2 ^ 32 }
+    requires ends { address + whole.tree_size machine.now < 2 ^ 64 }
+    ensures { out.new ≡ whole.tree_bytes address machine.now }
+{
+    let xsdt = rounded(36 + 8 * machine.tables.len());
+    let start = address + xsdt as u64 + dsdt_place(machine) as u64;
+    put_xsdt(&mut out[..xsdt], start, machine);
+    put_rest(&mut out[xsdt..], machine);
+}
+
+/// Whether so many bytes have room, and can lie at this address.
+fn check_place(room: usize, address: u64, size: usize) -> Result<(), WriterError>
+    ensures { result ≡ whole.check_place room address size }
+{
+    if size > room {
+        return Err(WriterError::NoRoom);
+    }
+    if address == 0 || address % 16 != 0 || address > u64::MAX - size as u64 {
+        return Err(WriterError::NoAddress);
+    }
+    Ok(())
+}
+
+/// Writes all tables of a machine but the RSDP to the front of a slice, which is to lie at this physical address: the
+/// XSDT, the DSDT, and the tables that the XSDT lists, in order, each at a multiple of 16 and filled up with zeros to
+/// the next. Returns how many bytes these are. `write_rsdp` with this address writes an RSDP for them.
+///
+/// Returns, in this order, `BadName` if a name of the ids is not valid UTF-8, `TooLong` if the XSDT would have 2^32
+/// bytes or more, the first error of the DSDT or of a table in order, as its own function has it, `NoRoom` if the slice
+/// is shorter than all tables, and `NoAddress` if the address is 0 or no multiple of 16, or the last byte lies at
+/// 2^64 - 1 or above.
+pub fn write_tables_without_rsdp(
+    out: &mut [u8],
+    address: u64,
+    machine: &Machine<'_>,
+) -> Result<usize, WriterError>
+    // The bytes, or the first error, are those that are defined.
+    ensures exact { Gives (λ n. take n out.new) result
+        (whole.tree_written (length out.old) address machine.now) }
+    // What stands after the tables is unchanged, and after an error the whole slice is.
+    ensures keeps { Keeps result out.old out.new }
+    // The machine can be written for this address, so that a reader finds it there (`tree_is_read`).
+    ensures fits { IfOk result (λ n. IsWritable address machine.now) }
+{
+    match tree_size(machine) {
+        Ok(size) => match check_place(out.len(), address, size) {
+            Ok(()) => {
+                put_tree(&mut out[..size], address, machine);
+                Ok(size)
+            }
+            Err(error) => Err(error),
+        },
+        Err(error) => Err(error),
+    }
+}
+
+/// Puts the RSDP of an XSDT at this address.
+fn put_rsdp(out: &mut [u8], xsdt: u64, ids: &TableIds)
+    requires { length out.old ≡ 48 }
+    ensures { out.new ≡ padded (rsdp_bytes ids.now.oem_id xsdt) }
+{
+    ids.fit();
+    out[..36].copy_from_slice(&rsdp_bytes(ids, xsdt));
+    fill_up(out, 36);
+}
+
+/// Puts the RSDP, and all that it leads to, from this address on.
+fn put_machine(out: &mut [u8], address: u64, machine: &Machine<'_>)
+    requires whole { length out.old ≡ 48 + whole.tree_size machine.now }
+    requires short { whole.xsdt_length machine.now < 2 ^ 32 }
+    requires ends { address + (48 + whole.tree_size machine.now) < 2 ^ 64 }
+    ensures { out.new ≡ whole.machine_bytes address machine.now }
+{
+    put_rsdp(&mut out[..48], address + 48, &machine.ids);
+    put_tree(&mut out[48..], address + 48, machine);
+}
+
+/// Writes all tables of a machine to the front of a slice, which is to lie at this physical address: the RSDP, which so
+/// lies at this address itself, and after its 48 bytes all that `write_tables_without_rsdp` writes. Returns how many
+/// bytes these are, as many as `tables_size` says.
+///
+/// Returns the errors of `write_tables_without_rsdp`, in their order.
+pub fn write_tables(
+    out: &mut [u8],
+    address: u64,
+    machine: &Machine<'_>,
+) -> Result<usize, WriterError>
+    // The bytes, or the first error, are those that are defined.
+    ensures exact { Gives (λ n. take n out.new) result
+        (whole.machine_written (length out.old) address machine.now) }
+    // What stands after the tables is unchanged, and after an error the whole slice is.
+    ensures keeps { Keeps result out.old out.new }
+    // The machine can be written for this address, so that a reader finds it there (`machine_is_read`).
+    ensures fits { IfOk result (λ n. IsWritable (address + 48) machine.now) }
+{
+    match tree_size(machine) {
+        Ok(tree) => {
+            let size = 48 + tree;
+            match check_place(out.len(), address, size) {
+                Ok(()) => {
+                    put_machine(&mut out[..size], address, machine);
+                    Ok(size)
+                }
+                Err(error) => Err(error),
+            }
+        }
+        Err(error) => Err(error),
+    }
+}
