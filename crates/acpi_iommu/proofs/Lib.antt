@@ -1,2 +1,3 @@
+mod Cuts
 mod Fronts
-mod Pieces
+mod Sizes

@@ -1,14 +1,10 @@
 -- The DMA Remapping Reporting Structure, DMAR (Intel Virtualization Technology for Directed I/O 4.0, chapter 8), and
 -- the structures that it is made of.
-use Rattle.std.specs.Prelude.{◌≡◌, ℕ, ◌+◌, ◌-◌, ◌*◌, ◌^◌, ◌==◌, ◌&&◌, ◌||◌, Bool, not, nat_lt, nat_le, List, [], ◌∷◌, drop, Option, None, Some, if◌then◌else◌}
+use Rattle.std.specs.Prelude.{ℕ, ◌+◌, ◌-◌, ◌*◌, ◌^◌, ◌==◌, ◌&&◌, ◌||◌, Bool, nat_lt, nat_le, List, [], drop, Option, None, Some, if◌then◌else◌}
 use Rattle.acpi_base.specs.Bits.{bits_of, has_bit}
 use Rattle.acpi_base.specs.Bytes.{field_of}
 use Rattle.acpi_base.specs.Header.{header_at}
-use Rattle.acpi_base.specs.Entries.{cut}
-use Rattle.acpi_base.specs.MadtWalk.{is_left}
-use Rattle.acpi_base.specs.declared.entries.EntryLayout.{EntryLayout}
-use Rattle.acpi_base.specs.declared.entries.Grammar.{Grammar}
-use Rattle.acpi_base.specs.declared.entries.Width.TheVariants.{Two}
+use Rattle.acpi_iommu.specs.Pieces.{left, pieces, rest_after, said}
 use Rattle.acpi_iommu.specs.Texts.{up_to_zero}
 use Rattle.acpi_iommu.specs.declared.dmar.Dmar.{Dmar}
 use Rattle.acpi_iommu.specs.declared.dmar.structure.DmarStructure.{DmarStructure}
@@ -21,7 +17,8 @@ use Rattle.acpi_iommu.specs.declared.dmar.fields.Rhsa.{Rhsa}
 use Rattle.acpi_iommu.specs.declared.dmar.fields.Rmrr.{Rmrr}
 use Rattle.acpi_iommu.specs.declared.dmar.fields.Satc.{Satc}
 use Rattle.acpi_iommu.specs.declared.dmar.fields.Sidp.{Sidp}
-use Rattle.acpi_iommu.specs.declared.dmar.walk.DmarStructureIter.{DmarStructureIter}
+use Rattle.acpi_iommu.specs.declared.dmar.structure.Structures.{Structures}
+use Rattle.acpi_iommu.specs.declared.pieces.PieceIter.{PieceIter}
 
 -- what a table's first bytes mean (section 8.1)
 unfoldable pub dmar_at : List ℕ → Dmar
@@ -33,29 +30,29 @@ dmar_at b = record {
 
 -- ---- structures
 
--- a structure begins with Type and Length, two bytes each; the least lengths are those of types 0 to 6 (sections 8.3 to
--- 8.9)
-abbrev pub structure_layout : EntryLayout 7
-structure_layout = record {
-  kind_place = record { at = 0; width = Two };  -- Type
-  length_place = record { at = 2; width = Two };  -- Length
-  least_lengths = 16 ∷ 24 ∷ 8 ∷ 20 ∷ 8 ∷ 8 ∷ 8 ∷ [];
-  least_of_others = 4;
-}
-
-abbrev pub structure_grammar : Grammar 7
-structure_grammar = record { layout = structure_layout; most = None }
-
--- the structures of a table (Remapping Structures[], from 48 on), and the rest in which none begins
-abbrev pub cut_of : List ℕ → List (List ℕ) × List ℕ
-cut_of table = cut structure_grammar (drop 48 table)
-
-abbrev pub structures_of : List ℕ → List (List ℕ)
-structures_of table = (cut_of table).0
-
 -- Type of a structure
 abbrev pub kind_of : List ℕ → ℕ
 kind_of e = field_of e 0 2
+
+-- the least length of a structure of a type (sections 8.3 to 8.9)
+abbrev pub least_of : ℕ → ℕ
+least_of kind =
+    if kind == 0 then 16
+    else if kind == 1 then 24
+    else if kind == 3 then 20
+    else if nat_le kind 6 then 8
+    else 4
+
+-- Length of the structure with which bytes begin, at 2
+abbrev pub structure_size : List ℕ → Option ℕ
+structure_size e = said (least_of (kind_of e)) (field_of e 2 2)
+
+-- the structures of a table (Remapping Structures[], from 48 on), and the rest in which none begins
+abbrev pub cut_of : List ℕ → List (List ℕ) × List ℕ
+cut_of table = pieces structure_size (drop 48 table)
+
+abbrev pub structures_of : List ℕ → List (List ℕ)
+structures_of table = (cut_of table).0
 
 -- Segment Number, which types 0, 1, 2, 5 and 6 have at the same place
 abbrev pub segment_of : List ℕ → ℕ
@@ -146,23 +143,9 @@ abbrev pub structure_bytes : DmarStructure → List ℕ
 structure_bytes s = s.bytes.now
 
 -- the structures that are still to come
-abbrev pub structures_left : DmarStructureIter → List (List ℕ)
-structures_left s = (cut structure_grammar s.rest.now).0
+abbrev pub structures_left : PieceIter Structures → List (List ℕ)
+structures_left s = left structure_size s
 
 -- the rest after them, in which none begins
-abbrev pub rest_left : DmarStructureIter → List ℕ
-rest_left s = (cut structure_grammar s.rest.now).1
-
--- whether it has answered that no structure is left
-abbrev pub has_ended : DmarStructureIter → Bool
-has_ended s = s.ended
-
--- whether it ended before the table did: what `ended_malformed` returns, which is no until the walk has given None
-abbrev pub is_malformed : DmarStructureIter → Bool
-is_malformed s = s.ended && is_left s.rest.now
-
--- a step leaves the rest as it is, and has ended exactly if it gives no structure
-abbrev pub EndsAtRest : DmarStructureIter → Option DmarStructure → DmarStructureIter → Type 0
-EndsAtRest s (Some structure) t = (rest_left t ≡ rest_left s) × (has_ended t ≡ has_ended s)
-EndsAtRest s None t =
-    (rest_left t ≡ rest_left s) × (is_malformed t ≡ is_left (rest_left s))
+abbrev pub rest_left : PieceIter Structures → List ℕ
+rest_left s = rest_after structure_size s

@@ -1,39 +1,28 @@
 -- Which devices a structure of a DMAR names, by its device scopes (section 8.3.1).
-use Rattle.std.specs.Prelude.{◌≡◌, ◌↔◌, ℕ, ◌==◌, ◌++◌, ◌&&◌, Bool, true, false, nat_lt, List, [], ◌∷◌, length, drop, Option, None, Some, if◌then◌else◌}
+use Rattle.std.specs.Prelude.{◌≡◌, ◌↔◌, ℕ, ◌==◌, ◌++◌, ◌&&◌, Bool, true, false, nat_lt, List, [], ◌∷◌, length, drop, Option, None, if◌then◌else◌}
 use Rattle.std.specs.List.{last_or, list_any}
 use Rattle.acpi_base.specs.Bytes.{field_of}
-use Rattle.acpi_base.specs.Entries.{cut}
-use Rattle.acpi_base.specs.declared.entries.EntryLayout.{EntryLayout}
-use Rattle.acpi_base.specs.declared.entries.Grammar.{Grammar}
-use Rattle.acpi_base.specs.declared.entries.Width.TheVariants.{One}
-use Rattle.acpi_base.specs.MadtWalk.{is_left}
 use Rattle.acpi_iommu.specs.Dmar.{scope_bytes}
+use Rattle.acpi_iommu.specs.Pieces.{left, pieces, rest_after, said}
 use Rattle.acpi_iommu.specs.declared.dmar.scope.DeviceScope.{DeviceScope}
-use Rattle.acpi_iommu.specs.declared.dmar.scope.DeviceScopeIter.{DeviceScopeIter}
 use Rattle.acpi_iommu.specs.declared.dmar.scope.Hop.{Hop}
 use Rattle.acpi_iommu.specs.declared.dmar.scope.HopIter.{HopIter}
+use Rattle.acpi_iommu.specs.declared.dmar.scope.Scopes.{Scopes}
+use Rattle.acpi_iommu.specs.declared.pieces.PieceIter.{PieceIter}
 
 -- ---- scopes
 
--- a scope begins with Type and Length, one byte each
-abbrev pub scope_layout : EntryLayout 0
-scope_layout = record {
-  kind_place = record { at = 0; width = One };  -- Type
-  length_place = record { at = 1; width = One };  -- Length
-  least_lengths = [];
-  least_of_others = 6;
-}
-
-abbrev pub scope_grammar : Grammar 0
-scope_grammar = record { layout = scope_layout; most = None }
+-- Length of the scope with which bytes begin, at 1; each has 6 bytes at least
+abbrev pub scope_size : List ℕ → Option ℕ
+scope_size s = said 6 (field_of s 1 1)
 
 -- the scopes of a structure
 abbrev pub scopes_of : List ℕ → List (List ℕ)
-scopes_of e = (cut scope_grammar (scope_bytes e)).0
+scopes_of e = (pieces scope_size (scope_bytes e)).0
 
 -- the rest after them, in which none begins
 abbrev pub scopes_rest : List ℕ → List ℕ
-scopes_rest e = (cut scope_grammar (scope_bytes e)).1
+scopes_rest e = (pieces scope_size (scope_bytes e)).1
 
 -- Type of a scope: 1 PCI Endpoint Device, 2 PCI Sub-hierarchy, 3 IOAPIC, 4 MSI_CAPABLE_HPET, 5 ACPI_NAMESPACE_DEVICE
 abbrev pub scope_kind : List ℕ → ℕ
@@ -106,26 +95,12 @@ last_hop s = last_or None (path_of s)
 abbrev pub bytes_of_scope : DeviceScope → List ℕ
 bytes_of_scope s = s.bytes.now
 
-abbrev pub scopes_left : DeviceScopeIter → List (List ℕ)
-scopes_left s = (cut scope_grammar s.rest.now).0
+abbrev pub scopes_left : PieceIter Scopes → List (List ℕ)
+scopes_left s = left scope_size s
 
 abbrev pub hops_left : HopIter → List Hop
 hops_left s = hops_in s.rest.now
 
 -- the rest after the scopes, in which none begins
-abbrev pub rest_left : DeviceScopeIter → List ℕ
-rest_left s = (cut scope_grammar s.rest.now).1
-
--- whether it has answered that no scope is left
-abbrev pub has_ended : DeviceScopeIter → Bool
-has_ended s = s.ended
-
--- whether it ended before the structure did: what `ended_malformed` returns
-abbrev pub is_malformed : DeviceScopeIter → Bool
-is_malformed s = s.ended && is_left s.rest.now
-
--- a step leaves the rest as it is, and has ended exactly if it gives no scope
-abbrev pub EndsAtRest : DeviceScopeIter → Option DeviceScope → DeviceScopeIter → Type 0
-EndsAtRest s (Some scope) t = (rest_left t ≡ rest_left s) × (has_ended t ≡ has_ended s)
-EndsAtRest s None t =
-    (rest_left t ≡ rest_left s) × (is_malformed t ≡ is_left (rest_left s))
+abbrev pub rest_left : PieceIter Scopes → List ℕ
+rest_left s = rest_after scope_size s

@@ -1,17 +1,17 @@
 -- The I/O Virtualization Reporting Structure, IVRS (AMD I/O Virtualization Technology (IOMMU) Specification 3.08,
 -- section 5.2), and the blocks that it is made of.
-use Rattle.std.specs.Prelude.{◌≡◌, ℕ, ◌==◌, ◌&&◌, ◌||◌, Bool, nat_le, List, length, drop, Option, None, Some, if◌then◌else◌, []}
+use Rattle.std.specs.Prelude.{ℕ, ◌==◌, ◌||◌, Bool, List, drop, Option, None, Some, if◌then◌else◌, []}
 use Rattle.acpi_base.specs.Bytes.{field_of}
 use Rattle.acpi_base.specs.Header.{header_at}
-use Rattle.acpi_base.specs.MadtWalk.{is_left}
-use Rattle.acpi_iommu.specs.Pieces.{pieces}
+use Rattle.acpi_iommu.specs.Pieces.{left, pieces, rest_after, said}
 use Rattle.acpi_iommu.specs.declared.ivrs.Ivrs.{Ivrs}
 use Rattle.acpi_iommu.specs.declared.ivrs.block.Ivhd.{Ivhd}
 use Rattle.acpi_iommu.specs.declared.ivrs.block.Ivmd.{Ivmd}
 use Rattle.acpi_iommu.specs.declared.ivrs.block.IvrsBlock.{IvrsBlock}
-use Rattle.acpi_iommu.specs.declared.ivrs.block.IvrsBlockIter.{IvrsBlockIter}
 use Rattle.acpi_iommu.specs.declared.ivrs.block.IvrsFields.{IvrsFields}
 use Rattle.acpi_iommu.specs.declared.ivrs.block.IvrsFields.TheVariants as kinds
+use Rattle.acpi_iommu.specs.declared.ivrs.block.Blocks.{Blocks}
+use Rattle.acpi_iommu.specs.declared.pieces.PieceIter.{PieceIter}
 
 -- what a table's first bytes mean
 unfoldable pub ivrs_at : List ℕ → Ivrs
@@ -39,11 +39,9 @@ least_of kind =
     else if is_ivmd kind then 32
     else 4
 
--- Length of the block that bytes begin with, at 2, if that is at least the least of its type and the bytes have as many
+-- Length of the block with which bytes begin, at 2
 abbrev pub block_size : List ℕ → Option ℕ
-block_size b =
-    if nat_le (least_of (block_kind b)) (field_of b 2 2) && nat_le (field_of b 2 2) (length b)
-    then Some (field_of b 2 2) else None
+block_size b = said (least_of (block_kind b)) (field_of b 2 2)
 
 -- the blocks of a table, from 48 on, and the rest in which none begins
 abbrev pub blocks_cut : List ℕ → List (List ℕ) × List ℕ
@@ -95,23 +93,9 @@ abbrev pub block_bytes : IvrsBlock → List ℕ
 block_bytes b = b.bytes.now
 
 -- the blocks that are still to come
-abbrev pub blocks_left : IvrsBlockIter → List (List ℕ)
-blocks_left s = (pieces block_size s.rest.now).0
+abbrev pub blocks_left : PieceIter Blocks → List (List ℕ)
+blocks_left s = left block_size s
 
 -- the rest after them, in which none begins
-abbrev pub rest_left : IvrsBlockIter → List ℕ
-rest_left s = (pieces block_size s.rest.now).1
-
--- whether it has answered that no block is left
-abbrev pub has_ended : IvrsBlockIter → Bool
-has_ended s = s.ended
-
--- whether it ended before the table did: what `ended_malformed` returns, which is no until the walk has given None
-abbrev pub is_malformed : IvrsBlockIter → Bool
-is_malformed s = s.ended && is_left s.rest.now
-
--- a step leaves the rest as it is, and has ended exactly if it gives no block
-abbrev pub EndsAtRest : IvrsBlockIter → Option IvrsBlock → IvrsBlockIter → Type 0
-EndsAtRest s (Some block) t = (rest_left t ≡ rest_left s) × (has_ended t ≡ has_ended s)
-EndsAtRest s None t =
-    (rest_left t ≡ rest_left s) × (is_malformed t ≡ is_left (rest_left s))
+abbrev pub rest_left : PieceIter Blocks → List ℕ
+rest_left s = rest_after block_size s

@@ -1,14 +1,14 @@
 -- Which devices a block of an IVRS is for, by its device entries (section 5.2).
-use Rattle.std.specs.Prelude.{◌≡◌, ℕ, ◌+◌, ◌==◌, ◌&&◌, ◌||◌, Bool, nat_le, nat_lt, List, length, Option, None, Some, if◌then◌else◌, []}
+use Rattle.std.specs.Prelude.{ℕ, ◌+◌, ◌==◌, ◌&&◌, ◌||◌, Bool, nat_le, nat_lt, List, Option, None, Some, if◌then◌else◌, []}
 use Rattle.std.specs.Option.{unwrap_or}
 use Rattle.acpi_base.specs.Bytes.{field_of, part}
-use Rattle.acpi_base.specs.MadtWalk.{is_left}
 use Rattle.acpi_iommu.specs.Ivrs.{entry_bytes}
-use Rattle.acpi_iommu.specs.Pieces.{pieces}
+use Rattle.acpi_iommu.specs.Pieces.{left, pieces, rest_after}
 use Rattle.acpi_iommu.specs.Texts.{up_to_zero}
 use Rattle.acpi_iommu.specs.declared.ivrs.entry.DeviceEntry.{DeviceEntry}
-use Rattle.acpi_iommu.specs.declared.ivrs.entry.DeviceEntryIter.{DeviceEntryIter}
 use Rattle.acpi_iommu.specs.declared.ivrs.entry.SpecialDevice.{SpecialDevice}
+use Rattle.acpi_iommu.specs.declared.ivrs.entry.Entries.{Entries}
+use Rattle.acpi_iommu.specs.declared.pieces.PieceIter.{PieceIter}
 
 -- Type of an entry: 1 all, 2 select, 3 start of range, 0x42 alias select, 0x43 alias start of range, 0x46 extended
 -- select, 0x47 extended start of range, 0x48 special device, 0xF0 ACPI HID device
@@ -29,14 +29,12 @@ own_size e =
 abbrev pub is_start : List ℕ → Bool
 is_start e = (entry_kind e == 3) || (entry_kind e == 0x43) || (entry_kind e == 0x47)
 
--- how many bytes the entry has that bytes begin with: with a start its end belongs to it, and no end is by itself
+-- how many bytes the entry has with which bytes begin: with a start its end belongs to it, and no end is by itself
 abbrev pub entry_size : List ℕ → Option ℕ
 entry_size e =
-    if is_start e then
-    (if (field_of e (own_size e) 1 == 4) && nat_le (own_size e + 4) (length e) then Some (own_size e + 4) else None)
+    if is_start e then (if field_of e (own_size e) 1 == 4 then Some (own_size e + 4) else None)
     else if entry_kind e == 4 then None
-    else if nat_le (own_size e) (length e) then Some (own_size e)
-    else None
+    else Some (own_size e)
 
 -- the entries of a block, and the rest in which none begins
 abbrev pub entries_cut : List ℕ → List (List ℕ) × List ℕ
@@ -117,23 +115,9 @@ abbrev pub bytes_of_entry : DeviceEntry → List ℕ
 bytes_of_entry e = e.bytes.now
 
 -- the entries that are still to come
-abbrev pub entries_left : DeviceEntryIter → List (List ℕ)
-entries_left s = (pieces entry_size s.rest.now).0
+abbrev pub entries_left : PieceIter Entries → List (List ℕ)
+entries_left s = left entry_size s
 
 -- the rest after them, in which none begins
-abbrev pub rest_left : DeviceEntryIter → List ℕ
-rest_left s = (pieces entry_size s.rest.now).1
-
--- whether it has answered that no entry is left
-abbrev pub has_ended : DeviceEntryIter → Bool
-has_ended s = s.ended
-
--- whether it ended before the block did: what `ended_malformed` returns
-abbrev pub is_malformed : DeviceEntryIter → Bool
-is_malformed s = s.ended && is_left s.rest.now
-
--- a step leaves the rest as it is, and has ended exactly if it gives no entry
-abbrev pub EndsAtRest : DeviceEntryIter → Option DeviceEntry → DeviceEntryIter → Type 0
-EndsAtRest s (Some entry) t = (rest_left t ≡ rest_left s) × (has_ended t ≡ has_ended s)
-EndsAtRest s None t =
-    (rest_left t ≡ rest_left s) × (is_malformed t ≡ is_left (rest_left s))
+abbrev pub rest_left : PieceIter Entries → List ℕ
+rest_left s = rest_after entry_size s

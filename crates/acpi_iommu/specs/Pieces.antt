@@ -1,19 +1,77 @@
--- How bytes are cut into pieces, each of which says by its first bytes how long it is.
-use Rattle.std.specs.Prelude.{◌≡◌, ℕ, zero, suc, ◌≤◌, List, [], length, take, drop, Option, Some, None}
+-- How bytes are cut into pieces, each of which says by its first bytes how long it is, and what a walk along them shows.
+use Rattle.std.specs.Prelude.{◌≡◌, ◌↔◌, ℕ, zero, suc, ◌≤◌, ◌&&◌, ◌++◌, Bool, nat_le, List, [], length, take, drop, Option, Some, None, if◌then◌else◌}
+use Rattle.std.specs.List.{concat, AllByRecursion}
 use Rattle.acpi_base.specs.Entries.{with_entry}
+use Rattle.acpi_base.specs.MadtWalk.{is_left}
+use Rattle.acpi_iommu.specs.declared.pieces.PieceIter.{PieceIter}
 
--- how many bytes the piece has with which bytes begin, if one begins there: at least one, and no more than there are
-abbrev pub IsSize : (List ℕ → Option ℕ) → Type 0
-IsSize size = (bytes : List ℕ) (n : ℕ) → size bytes ≡ Some n → (1 ≤ n) × (n ≤ length bytes)
+-- ---- one piece
+
+-- the length that a piece says, if it is the least at least
+abbrev pub said : ℕ → ℕ → Option ℕ
+said least size = if nat_le least size then Some size else None
+
+-- how many bytes the piece has with which bytes begin, if one begins there: as many as it says, which is one at least,
+-- and no more than there are
+abbrev pub front : (List ℕ → Option ℕ) → List ℕ → Option ℕ
+front size bytes = elim (size bytes) [
+  | Some n ↦ if nat_le 1 n && nat_le n (length bytes) then Some n else None
+  | None ↦ None
+]
+
+-- bytes that are one piece
+abbrev pub IsPiece : (List ℕ → Option ℕ) → List ℕ → Type 0
+IsPiece size p = front size p ≡ Some (length p)
+
+-- how long it is, a piece says in its own bytes, whatever comes after them
+abbrev pub SaysItself : (List ℕ → Option ℕ) → Type 0
+SaysItself size = (bytes more : List ℕ) (n : ℕ) → size bytes ≡ Some n → n ≤ length bytes → size (take n bytes ++ more) ≡ Some n
+
+-- ---- all pieces
+
+-- the bytes are the pieces one after the other, and a rest that begins with no piece
+pub record IsCut (size : List ℕ → Option ℕ) (bytes : List ℕ) (ps : List (List ℕ)) (rest : List ℕ) : Type 0 where
+  pub whole : bytes ≡ concat ps ++ rest
+  pub are : AllByRecursion (IsPiece size) ps
+  pub ends : (p more : List ℕ) → rest ≡ p ++ more → IsPiece size p → ⊥
 
 -- at most that many pieces, and the bytes after them
 abbrev pub pieces_within : (List ℕ → Option ℕ) → ℕ → List ℕ → List (List ℕ) × List ℕ
 pieces_within size zero bytes = ([], bytes)
-pieces_within size (suc most) bytes = elim (size bytes) [
+pieces_within size (suc most) bytes = elim (front size bytes) [
   | Some n ↦ with_entry (take n bytes) (pieces_within size most (drop n bytes))
   | None ↦ ([], bytes)
 ]
 
--- the pieces, and the rest in which none begins; there are no more of them than bytes
+-- the pieces, and the rest; there are no more pieces than bytes
 unfoldable pub pieces : (List ℕ → Option ℕ) → List ℕ → List (List ℕ) × List ℕ
 pieces size bytes = pieces_within size (length bytes) bytes
+
+-- there is one such cut of bytes, and it is the computed one
+abbrev pub OneCut : (List ℕ → Option ℕ) → Type 0
+OneCut size = (bytes : List ℕ) (ps : List (List ℕ)) (rest : List ℕ)
+    → IsCut size bytes ps rest ↔ (pieces size bytes ≡ (ps, rest))
+
+-- ---- a walk
+
+-- the pieces that are still to come
+abbrev pub left : {K : Type 0} → (List ℕ → Option ℕ) → PieceIter K → List (List ℕ)
+left size s = (pieces size s.rest.now).0
+
+-- the rest after them
+abbrev pub rest_after : {K : Type 0} → (List ℕ → Option ℕ) → PieceIter K → List ℕ
+rest_after size s = (pieces size s.rest.now).1
+
+-- whether it has returned that no piece is left
+abbrev pub has_ended : {K : Type 0} → PieceIter K → Bool
+has_ended s = s.ended
+
+-- whether it ended before the bytes did: what `ended_malformed` returns, which is no until the walk has given None
+abbrev pub is_malformed : {K : Type 0} → PieceIter K → Bool
+is_malformed s = s.ended && is_left s.rest.now
+
+-- a step leaves the rest as it is, and has ended exactly if it gives no piece
+abbrev pub EndsAtRest : {K P : Type 0} → (List ℕ → Option ℕ) → PieceIter K → Option P → PieceIter K → Type 0
+EndsAtRest size s (Some p) t = (rest_after size t ≡ rest_after size s) × (has_ended t ≡ has_ended s)
+EndsAtRest size s None t =
+    (rest_after size t ≡ rest_after size s) × (is_malformed t ≡ is_left (rest_after size s))

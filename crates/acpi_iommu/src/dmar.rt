@@ -6,7 +6,6 @@ mod reserved;
 mod scope;
 mod structure;
 mod units;
-mod walk;
 
 use acpi_base::bytes::{field_in, has_bit};
 use acpi_base::sdt::SdtHeader;
@@ -15,9 +14,8 @@ use acpi_base::{AcpiResult, AcpiTable, PhysicalRecord, Signature};
 pub use fields::{Andd, Atsr, DmarFields, Drhd, Rhsa, Rmrr, Satc, Sidp};
 pub use reserved::ReservedIter;
 pub use scope::{DeviceScope, DeviceScopeIter, Hop, HopIter};
-pub use structure::DmarStructure;
+pub use structure::{DmarStructure, DmarStructureIter};
 pub use units::{DmarCalls, DmarUnits, UnitSource};
-pub use walk::DmarStructureIter;
 
 /// The DMA Remapping Reporting Structure (DMAR, section 8.1). Its structures stand after 48 fixed bytes; `DmarUnits`
 /// reads them, and `DmarCalls` gives a mapping of it the same calls.

@@ -1,6 +1,10 @@
-//! Laws of comparisons and of paths: each is the contract of a function.
+//! Laws of comparisons, of paths and of pieces: each is the contract of a function.
 ghost use Rattle.acpi_base.specs.Equality.{IsEquality};
-ghost use Rattle.acpi_iommu.specs.DmarScopes.{FrontIsFront};
+ghost use Rattle.acpi_iommu.specs.Dmar.{structure_size};
+ghost use Rattle.acpi_iommu.specs.DmarScopes.{FrontIsFront, scope_size};
+ghost use Rattle.acpi_iommu.specs.Ivrs.{block_size};
+ghost use Rattle.acpi_iommu.specs.IvrsEntries.{entry_size};
+ghost use Rattle.acpi_iommu.specs.Pieces.{OneCut, SaysItself};
 
 use crate::dmar::{Andd, Atsr, Drhd, Hop, Rhsa, Rmrr, Satc, Sidp, UnitSource};
 use crate::error::IommuError;
@@ -107,4 +111,14 @@ pub fn special_device_equality(a: &SpecialDevice, b: &SpecialDevice) -> bool
 /// A path is a front of hops exactly if these are the path and others after it.
 pub fn front_is_front()
     ensures { FrontIsFront }
+{}
+
+/// How long a structure of a DMAR, a device scope, a block of an IVRS or a device entry is, it says in its own bytes,
+/// whatever comes after them. So there is one cut of bytes into such pieces and a rest that begins with none, and it is
+/// the one that the walks give.
+pub fn one_cut()
+    ensures structures { SaysItself structure_size × OneCut structure_size }
+    ensures scopes { SaysItself scope_size × OneCut scope_size }
+    ensures blocks { SaysItself block_size × OneCut block_size }
+    ensures entries { SaysItself entry_size × OneCut entry_size }
 {}

@@ -7,6 +7,7 @@ pub mod dmar;
 pub mod error;
 pub mod ivrs;
 pub mod laws;
+mod pieces;
 mod texts;
 
 pub use dmar::{

@@ -2,7 +2,7 @@
 
 use super::fields::Rmrr;
 use super::scope::Hop;
-use super::walk::DmarStructureIter;
+use super::structure::DmarStructureIter;
 
 /// The ranges of memory that a DMAR reserves for a device, in order (section 8.4).
 #[derive(Clone, Copy, Debug)]

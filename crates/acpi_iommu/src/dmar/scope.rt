@@ -4,8 +4,8 @@ ghost use Rattle.acpi_iommu.specs.DmarScopes.{hops_left, is_front, is_same_hop, 
 ghost use Rattle.acpi_iommu.specs.DmarScopes.{bytes_of_scope, enumeration_id, is_numbered, names, reaches};
 ghost use Rattle.acpi_iommu.specs.DmarScopes.{scope_flags, scope_kind, start_bus};
 
+use crate::pieces::{PieceIter, PieceKind, said};
 use acpi_base::bytes::{field, skip};
-use acpi_base::entries::{EntryLayout, Grammar, Place, Width, split_front};
 
 /// A step from a bus to a device on it (section 8.3.1).
 #[derive(Clone, Copy, Debug, PartialEq, Eq)]
@@ -162,79 +162,30 @@ fn front_length(path: HopIter<'_>, hops: &[Hop]) -> Option<usize>
     Some(count)
 }
 
-/// How the bytes of device scopes are cut (section 8.3.1): Type and Length have one byte each, and each has 6 at least.
-const SCOPE_GRAMMAR: Grammar<0> = Grammar {
-    layout: EntryLayout {
-        kind_place: Place {
-            at: 0,
-            width: Width::One,
-        },
-        length_place: Place {
-            at: 1,
-            width: Width::One,
-        },
-        least_lengths: [],
-        least_of_others: 6,
-    },
-    most: None,
-};
+/// Device scopes.
+#[derive(Clone, Copy, Debug)]
+pub struct Scopes;
+
+impl<'a> PieceKind<'a> for Scopes {
+    ghost use Rattle.acpi_iommu.specs.DmarScopes.{bytes_of_scope, scope_size};
+
+    type Piece = DeviceScope<'a>;
+
+    ghost size = { scope_size };
+
+    ghost shown = { bytes_of_scope };
+
+    fn size_at(bytes: &[u8]) -> Option<usize>
+        ensures { result ≡ scope_size bytes.now }
+    {
+        said(6, field(bytes, 1, 1) as usize) // Length
+    }
+
+    fn piece(bytes: &'a [u8]) -> DeviceScope<'a> {
+        DeviceScope { bytes }
+    }
+}
 
 /// The device scopes of a structure, in order (section 8.3.1). It ends at the structure's end, or where no scope
 /// begins: if one byte is left, or if the length is under 6 or past the structure's end.
-#[derive(Clone, Copy, Debug)]
-pub struct DeviceScopeIter<'a> {
-    rest: &'a [u8],
-    ended: bool,
-}
-
-impl<'a> DeviceScopeIter<'a> {
-    ghost use Rattle.acpi_base.specs.Entries.{cut};
-    ghost use Rattle.acpi_iommu.specs.DmarScopes.{has_ended, is_malformed, rest_left, scope_grammar, scopes_left};
-
-    /// The scopes that bytes have.
-    pub(super) fn over(bytes: &'a [u8]) -> Self
-        ensures items { scopes_left result ≡ (cut scope_grammar bytes.now).0 }
-        ensures rest { rest_left result ≡ (cut scope_grammar bytes.now).1 }
-        ensures begun { has_ended result ≡ false }
-    {
-        DeviceScopeIter {
-            rest: bytes,
-            ended: false,
-        }
-    }
-
-    /// Whether `next` has returned `None` before the structure's end, where no scope begins (section 8.3.1). As long as
-    /// `next` hasn't returned `None` it is false.
-    pub fn ended_malformed(&self) -> bool
-        ensures { result ≡ is_malformed self.now }
-    {
-        match self.rest {
-            [] => false,
-            _ => self.ended,
-        }
-    }
-}
-
-impl<'a> Iterator for DeviceScopeIter<'a> {
-    ghost use Rattle.std.specs.Iterator.{YieldsFirstBy, item_count};
-    ghost use Rattle.acpi_iommu.specs.DmarScopes.{EndsAtRest, bytes_of_scope, scopes_left};
-
-    type Item = DeviceScope<'a>;
-
-    ghost next_gives = { λ s r t. YieldsFirstBy bytes_of_scope (λ x. scopes_left x) s r t × EndsAtRest s r t };
-
-    ghost remaining = { item_count (λ s. scopes_left s) };
-
-    fn next(&mut self) -> Option<DeviceScope<'a>> {
-        match split_front(&SCOPE_GRAMMAR, self.rest) {
-            Some((bytes, others)) => {
-                self.rest = others;
-                Some(DeviceScope { bytes })
-            }
-            None => {
-                self.ended = true;
-                None
-            }
-        }
-    }
-}
+pub type DeviceScopeIter<'a> = PieceIter<'a, Scopes>;

@@ -1,15 +1,19 @@
 //! One structure of a DMAR (section 8.2).
 ghost use Rattle.std.specs.Prelude.{◌≡◌, false, Some, None, if◌then◌else◌};
 ghost use Rattle.acpi_base.specs.Text.{IsTextOf};
-ghost use Rattle.acpi_iommu.specs.Dmar.{drhd_at, fields_of, kind_of, name_of, rmrr_at, scope_bytes, structure_bytes};
-ghost use Rattle.acpi_iommu.specs.DmarScopes.{has_ended, names_device, rest_left, scopes_left, scopes_of, scopes_rest};
+ghost use Rattle.acpi_iommu.specs.Dmar.{drhd_at, fields_of, kind_of, least_of, name_of, rmrr_at, scope_bytes, structure_bytes};
+ghost use Rattle.acpi_iommu.specs.DmarScopes.{names_device, scopes_left, scopes_of, scopes_rest};
 ghost use Rattle.acpi_iommu.specs.DmarUnits.{has_whole_scopes, is_reserved_for, is_unit_of, source_in};
+ghost use Rattle.acpi_iommu.specs.Pieces.{has_ended};
 
+use super::Dmar;
 use super::fields::{DmarFields, Drhd, Rmrr, fields_of, kind_of, segment_of};
 use super::scope::{DeviceScopeIter, Hop};
 use super::units::UnitSource;
+use crate::pieces::{PieceIter, PieceKind, said};
 use crate::texts::up_to_zero;
-use acpi_base::bytes::{skip, text_of};
+use acpi_base::PhysicalRecord;
+use acpi_base::bytes::{field, skip, text_of};
 
 /// A structure of a DMAR (section 8.2).
 #[derive(Clone, Copy, Debug)]
@@ -18,12 +22,7 @@ pub struct DmarStructure<'a> {
 }
 
 impl<'a> DmarStructure<'a> {
-    /// The structure that has these bytes.
-    pub(super) fn over(bytes: &'a [u8]) -> Self
-        ensures { structure_bytes result ≡ bytes.now }
-    {
-        DmarStructure { bytes }
-    }
+    ghost use Rattle.acpi_iommu.specs.DmarScopes.{rest_left};
 
     /// Type: 0 DRHD, 1 RMRR, 2 ATSR, 3 RHSA, 4 ANDD, 5 SATC, 6 SIDP. Others are kept.
     pub fn kind(&self) -> u16
@@ -45,7 +44,7 @@ impl<'a> DmarStructure<'a> {
         ensures rest { rest_left result ≡ scopes_rest (structure_bytes self.now) }
         ensures begun { has_ended result ≡ false }
     {
-        DeviceScopeIter::over(scope_bytes(self.bytes))
+        DeviceScopeIter::of(scope_bytes(self.bytes))
     }
 
     /// ACPI Object Name of an ANDD: the text from byte 8 on, up to the first zero or the structure's end. It is `None`
@@ -77,9 +76,7 @@ impl<'a> DmarStructure<'a> {
     pub(super) fn has_whole_scopes(&self) -> bool
         ensures { result ≡ has_whole_scopes (structure_bytes self.now) }
     {
-        let mut scopes = self.scopes();
-        while let Some(_scope) = scopes.next() {}
-        !scopes.ended_malformed()
+        self.scopes().is_whole()
     }
 
     /// The unit, if it is one of a segment.
@@ -136,5 +133,61 @@ fn scope_bytes(structure: &[u8]) -> &[u8]
         1 => skip(structure, 24),
         2 | 5 | 6 => skip(structure, 8),
         _ => &[],
+    }
+}
+
+/// The least length of a structure of a type.
+fn least_of(kind: u16) -> usize
+    ensures { result ≡ least_of kind }
+{
+    match kind {
+        0 => 16,
+        1 => 24,
+        3 => 20,
+        2 | 4 | 5 | 6 => 8,
+        _ => 4,
+    }
+}
+
+/// The structures of a DMAR.
+#[derive(Clone, Copy, Debug)]
+pub struct Structures;
+
+impl<'a> PieceKind<'a> for Structures {
+    ghost use Rattle.acpi_iommu.specs.Dmar.{structure_bytes, structure_size};
+
+    type Piece = DmarStructure<'a>;
+
+    ghost size = { structure_size };
+
+    ghost shown = { structure_bytes };
+
+    fn size_at(bytes: &[u8]) -> Option<usize>
+        ensures { result ≡ structure_size bytes.now }
+    {
+        let length = field(bytes, 2, 2) as usize; // Length
+        said(least_of(kind_of(bytes)), length)
+    }
+
+    fn piece(bytes: &'a [u8]) -> DmarStructure<'a> {
+        DmarStructure { bytes }
+    }
+}
+
+/// The structures of a DMAR, in order (section 8.2), those of undefined types too. It ends at the table's end, or where
+/// no structure begins: if fewer than 4 bytes are left, or if the length is under the least of its type (16, 24, 8, 20,
+/// 8, 8 and 8 for types 0 to 6, 4 for others) or past the table's end.
+pub type DmarStructureIter<'a> = PieceIter<'a, Structures>;
+
+impl<'a> DmarStructureIter<'a> {
+    ghost use Rattle.acpi_iommu.specs.Dmar.{cut_of, rest_left, structures_left, structures_of};
+
+    /// The structures of a DMAR's bytes (section 8.2): those after its 48 fixed bytes. It needs no handler.
+    pub fn over(table: &'a [u8]) -> Self
+        ensures items { structures_left result ≡ structures_of table.now }
+        ensures rest { rest_left result ≡ (cut_of table.now).1 }
+        ensures begun { has_ended result ≡ false }
+    {
+        PieceIter::of(skip(table, Dmar::MIN_LENGTH))
     }
 }

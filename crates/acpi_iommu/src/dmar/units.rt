@@ -2,15 +2,16 @@
 ghost use Rattle.std.specs.Prelude.{◌≡◌, false};
 ghost use Rattle.std.specs.Option.{option_map};
 ghost use Rattle.acpi_base.specs.Steps.{Gives};
-ghost use Rattle.acpi_iommu.specs.Dmar.{cut_of, drhd_at, has_ended, rest_left, structures_left, structures_of};
+ghost use Rattle.acpi_iommu.specs.Dmar.{cut_of, drhd_at, rest_left, structures_left, structures_of};
 ghost use Rattle.acpi_iommu.specs.DmarUnits.{dmar_bytes, is_whole, reserved_for, reserved_left, source_of};
 ghost use Rattle.acpi_iommu.specs.DmarUnits.{unit_for, unit_of_hpet, unit_of_io_apic, unit_of_others, unit_that_names};
+ghost use Rattle.acpi_iommu.specs.Pieces.{has_ended};
 
 use super::Dmar;
 use super::fields::Drhd;
 use super::reserved::ReservedIter;
 use super::scope::Hop;
-use super::walk::DmarStructureIter;
+use super::structure::DmarStructureIter;
 use crate::error::{IommuError, IommuResult};
 use acpi_base::{Lender, PhysicalMapping};
 
@@ -176,9 +177,10 @@ impl<'a> DmarUnits<'a> {
 pub trait DmarCalls {
     ghost use Rattle.std.specs.Prelude.{◌≡◌, ℕ, List, false};
     ghost use Rattle.acpi_base.specs.Steps.{Gives};
-    ghost use Rattle.acpi_iommu.specs.Dmar.{cut_of, has_ended, rest_left, structures_left, structures_of};
+    ghost use Rattle.acpi_iommu.specs.Dmar.{cut_of, rest_left, structures_left, structures_of};
     ghost use Rattle.acpi_iommu.specs.DmarUnits.{dmar_bytes, reserved_for, reserved_left};
     ghost use Rattle.acpi_iommu.specs.DmarUnits.{unit_for, unit_of_hpet, unit_of_io_apic};
+    ghost use Rattle.acpi_iommu.specs.Pieces.{has_ended};
 
     // The table's bytes.
     ghost table: { Self → List ℕ };

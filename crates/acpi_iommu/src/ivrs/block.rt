@@ -1,14 +1,14 @@
 //! The blocks of an IVRS, one at a time (section 5.2).
-ghost use Rattle.std.specs.Prelude.{◌≡◌, IfSome, IfNone, Some, None, [], false, if◌then◌else◌};
-ghost use Rattle.acpi_base.specs.Entries.{with_entry};
-ghost use Rattle.acpi_iommu.specs.Ivrs.{block_bytes, block_fields, block_kind, block_size, entry_bytes};
+ghost use Rattle.std.specs.Prelude.{◌≡◌, Some, None, false, if◌then◌else◌};
+ghost use Rattle.acpi_iommu.specs.Ivrs.{block_bytes, block_fields, block_kind};
 ghost use Rattle.acpi_iommu.specs.Ivrs.{is_ivhd, is_ivmd, ivhd_at, ivmd_at, least_of};
 ghost use Rattle.acpi_iommu.specs.IvrsUnits.{has_whole_entries, is_memory_for, unit_in};
-ghost use Rattle.acpi_iommu.specs.Pieces.{pieces};
+ghost use Rattle.acpi_iommu.specs.Pieces.{has_ended};
 
 use super::Ivrs;
 use super::blocks::DeviceUnit;
 use super::entry::DeviceEntryIter;
+use crate::pieces::{PieceIter, PieceKind, said};
 use acpi_base::PhysicalRecord;
 use acpi_base::bytes::{field, skip};
 
@@ -153,7 +153,7 @@ pub struct IvrsBlock<'a> {
 }
 
 impl<'a> IvrsBlock<'a> {
-    ghost use Rattle.acpi_iommu.specs.IvrsEntries.{entries_cut, entries_left, entries_of, has_ended, rest_left};
+    ghost use Rattle.acpi_iommu.specs.IvrsEntries.{entries_cut, entries_left, entries_of, rest_left};
 
     /// Type: 0x10, 0x11 and 0x40 IVHD, 0x20, 0x21 and 0x22 IVMD. Others are kept.
     pub fn kind(&self) -> u8
@@ -183,7 +183,7 @@ impl<'a> IvrsBlock<'a> {
         ensures begun { has_ended result ≡ false }
     {
         let kind = self.kind();
-        DeviceEntryIter::over(if is_ivhd(kind) {
+        DeviceEntryIter::of(if is_ivhd(kind) {
             skip(self.bytes, least_of(kind))
         } else {
             &[]
@@ -194,9 +194,7 @@ impl<'a> IvrsBlock<'a> {
     pub(super) fn has_whole_entries(&self) -> bool
         ensures { result ≡ has_whole_entries (block_bytes self.now) }
     {
-        let mut entries = self.entries();
-        while let Some(_entry) = entries.next() {}
-        !entries.ended_malformed()
+        self.entries().is_whole()
     }
 
     /// What the first entry says that covers a device, if this is a block of a type and a segment that has one.
@@ -236,38 +234,38 @@ impl<'a> IvrsBlock<'a> {
     }
 }
 
-/// How many bytes the block has that bytes begin with, or `None` if none begins.
-fn block_size(bytes: &[u8]) -> Option<usize>
-    ensures { result ≡ block_size bytes.now }
-{
-    let size = field(bytes, 2, 2) as usize; // Length
-    if least_of(kind_of(bytes)) <= size && size <= bytes.len() {
-        Some(size)
-    } else {
-        None
-    }
-}
+/// The blocks of an IVRS.
+#[derive(Clone, Copy, Debug)]
+pub struct Blocks;
 
-/// The block that bytes begin with, and the bytes after it, or `None` if none begins.
-fn split_block(bytes: &[u8]) -> Option<(&[u8], &[u8])>
-    ensures found { IfSome result (λ x. pieces block_size bytes.now ≡ with_entry x.0.now (pieces block_size x.1.now)) }
-    ensures none { IfNone result (pieces block_size bytes.now ≡ ([], bytes.now)) }
-{
-    let size = block_size(bytes)?;
-    Some(bytes.split_at(size))
+impl<'a> PieceKind<'a> for Blocks {
+    ghost use Rattle.acpi_iommu.specs.Ivrs.{block_bytes, block_size};
+
+    type Piece = IvrsBlock<'a>;
+
+    ghost size = { block_size };
+
+    ghost shown = { block_bytes };
+
+    fn size_at(bytes: &[u8]) -> Option<usize>
+        ensures { result ≡ block_size bytes.now }
+    {
+        let length = field(bytes, 2, 2) as usize; // Length
+        said(least_of(kind_of(bytes)), length)
+    }
+
+    fn piece(bytes: &'a [u8]) -> IvrsBlock<'a> {
+        IvrsBlock { bytes }
+    }
 }
 
 /// The blocks of an IVRS, in order (section 5.2), those of undefined types too. It ends at the table's end, or where
 /// no block begins: if fewer than 4 bytes are left, or if the length is under the least of its type (24 for 0x10, 40
 /// for 0x11 and 0x40, 32 for 0x20 to 0x22, 4 for others) or past the table's end.
-#[derive(Clone, Copy, Debug)]
-pub struct IvrsBlockIter<'a> {
-    rest: &'a [u8],
-    ended: bool,
-}
+pub type IvrsBlockIter<'a> = PieceIter<'a, Blocks>;
 
 impl<'a> IvrsBlockIter<'a> {
-    ghost use Rattle.acpi_iommu.specs.Ivrs.{blocks_cut, blocks_left, blocks_of, has_ended, is_malformed, rest_left};
+    ghost use Rattle.acpi_iommu.specs.Ivrs.{blocks_cut, blocks_left, blocks_of, rest_left};
 
     /// The blocks of an IVRS' bytes (section 5.2): those after its 48 fixed bytes. It needs no handler.
     pub fn over(table: &'a [u8]) -> Self
@@ -275,44 +273,6 @@ impl<'a> IvrsBlockIter<'a> {
         ensures rest { rest_left result ≡ (blocks_cut table.now).1 }
         ensures begun { has_ended result ≡ false }
     {
-        IvrsBlockIter {
-            rest: skip(table, Ivrs::MIN_LENGTH),
-            ended: false,
-        }
-    }
-
-    /// Whether `next` has returned `None` before the table's end, where no block begins (section 5.2). As long as
-    /// `next` hasn't returned `None` it is false.
-    pub fn ended_malformed(&self) -> bool
-        ensures { result ≡ is_malformed self.now }
-    {
-        match self.rest {
-            [] => false,
-            _ => self.ended,
-        }
-    }
-}
-
-impl<'a> Iterator for IvrsBlockIter<'a> {
-    ghost use Rattle.std.specs.Iterator.{YieldsFirstBy, item_count};
-    ghost use Rattle.acpi_iommu.specs.Ivrs.{EndsAtRest, blocks_left};
-
-    type Item = IvrsBlock<'a>;
-
-    ghost next_gives = { λ s r t. YieldsFirstBy block_bytes (λ x. blocks_left x) s r t × EndsAtRest s r t };
-
-    ghost remaining = { item_count (λ s. blocks_left s) };
-
-    fn next(&mut self) -> Option<IvrsBlock<'a>> {
-        match split_block(self.rest) {
-            Some((bytes, others)) => {
-                self.rest = others;
-                Some(IvrsBlock { bytes })
-            }
-            None => {
-                self.ended = true;
-                None
-            }
-        }
+        PieceIter::of(skip(table, Ivrs::MIN_LENGTH))
     }
 }

@@ -1,11 +1,11 @@
 //! Which unit remaps a device, and which memory has its own rules for it (section 5.2).
 ghost use Rattle.std.specs.Prelude.{◌≡◌, false};
 ghost use Rattle.acpi_base.specs.Steps.{Gives};
-ghost use Rattle.acpi_iommu.specs.Ivrs.{blocks_cut, blocks_left, blocks_of, has_ended, rest_left};
+ghost use Rattle.acpi_iommu.specs.Ivrs.{blocks_cut, blocks_left, blocks_of, rest_left};
 ghost use Rattle.std.specs.List.{list_any};
 ghost use Rattle.acpi_iommu.specs.IvrsUnits.{best_kind, best_left, block_for, blocks_of_best_type, is_of_kind};
-ghost use Rattle.acpi_iommu.specs.IvrsUnits.{is_whole};
-ghost use Rattle.acpi_iommu.specs.IvrsUnits.{ivrs_bytes, memory_for, memory_in, memory_left, of_kind};
+ghost use Rattle.acpi_iommu.specs.IvrsUnits.{is_whole, ivrs_bytes, memory_for, memory_left};
+ghost use Rattle.acpi_iommu.specs.Pieces.{has_ended};
 
 use super::Ivrs;
 use super::block::{Ivhd, Ivmd, IvrsBlock, IvrsBlockIter};
@@ -206,9 +206,10 @@ impl<'a> IvrsBlocks<'a> {
 pub trait IvrsCalls {
     ghost use Rattle.std.specs.Prelude.{◌≡◌, ℕ, List, false};
     ghost use Rattle.acpi_base.specs.Steps.{Gives};
-    ghost use Rattle.acpi_iommu.specs.Ivrs.{blocks_cut, blocks_left, blocks_of, has_ended, rest_left};
+    ghost use Rattle.acpi_iommu.specs.Ivrs.{blocks_cut, blocks_left, blocks_of, rest_left};
     ghost use Rattle.acpi_iommu.specs.IvrsUnits.{best_left, block_for, blocks_of_best_type};
     ghost use Rattle.acpi_iommu.specs.IvrsUnits.{ivrs_bytes, memory_for, memory_left};
+    ghost use Rattle.acpi_iommu.specs.Pieces.{has_ended};
 
     // The table's bytes.
     ghost table: { Self → List ℕ };

@@ -1,15 +1,13 @@
 //! The device entries of an IVHD, one at a time (section 5.2).
-ghost use Rattle.std.specs.Prelude.{◌≡◌, ◌<◌, IfSome, IfNone, [], false};
+ghost use Rattle.std.specs.Prelude.{◌≡◌, ◌<◌};
 ghost use Rattle.acpi_base.specs.Bytes.{part};
-ghost use Rattle.acpi_base.specs.Entries.{with_entry};
 ghost use Rattle.acpi_base.specs.Text.{IsTextOf};
 ghost use Rattle.acpi_iommu.specs.IvrsEntries.{alias_of, bytes_of_entry, compatible_id, covers, entry_kind};
-ghost use Rattle.acpi_iommu.specs.IvrsEntries.{entry_size};
 ghost use Rattle.acpi_iommu.specs.IvrsEntries.{extended_of, first_id, hardware_id, is_select, is_start, last_id};
 ghost use Rattle.acpi_iommu.specs.IvrsEntries.{own_size};
 ghost use Rattle.acpi_iommu.specs.IvrsEntries.{settings_of, source_for, special_of, unique_id, unique_id_format};
-ghost use Rattle.acpi_iommu.specs.Pieces.{pieces};
 
+use crate::pieces::{PieceIter, PieceKind};
 use crate::texts::up_to_zero;
 use acpi_base::bytes::{field, skip, text_of};
 
@@ -206,90 +204,43 @@ fn own_size(entry: &[u8]) -> usize
     }
 }
 
-/// How many bytes the entry has that bytes begin with, with those of the end of a range, or `None` if none begins.
-fn entry_size(bytes: &[u8]) -> Option<usize>
-    ensures { result ≡ entry_size bytes.now }
-{
-    let size = own_size(bytes);
-    if is_start(bytes) {
-        // Type of the end.
-        if field(bytes, size, 1) == 4 && size + 4 <= bytes.len() {
-            return Some(size + 4);
-        }
-        return None;
-    }
-    if kind_of(bytes) != 4 && size <= bytes.len() {
-        Some(size)
-    } else {
-        None
-    }
-}
+/// Device entries.
+#[derive(Clone, Copy, Debug)]
+pub struct Entries;
 
-/// The entry that bytes begin with, and the bytes after it, or `None` if none begins.
-fn split_entry(bytes: &[u8]) -> Option<(&[u8], &[u8])>
-    ensures found { IfSome result (λ x. pieces entry_size bytes.now ≡ with_entry x.0.now (pieces entry_size x.1.now)) }
-    ensures none { IfNone result (pieces entry_size bytes.now ≡ ([], bytes.now)) }
-{
-    let size = entry_size(bytes)?;
-    Some(bytes.split_at(size))
+impl<'a> PieceKind<'a> for Entries {
+    ghost use Rattle.acpi_iommu.specs.IvrsEntries.{bytes_of_entry, entry_size};
+
+    type Piece = DeviceEntry<'a>;
+
+    ghost size = { entry_size };
+
+    ghost shown = { bytes_of_entry };
+
+    fn size_at(bytes: &[u8]) -> Option<usize>
+        ensures { result ≡ entry_size bytes.now }
+    {
+        let size = own_size(bytes);
+        if is_start(bytes) {
+            // Type of the end.
+            if field(bytes, size, 1) == 4 {
+                Some(size + 4)
+            } else {
+                None
+            }
+        } else if kind_of(bytes) == 4 {
+            None
+        } else {
+            Some(size)
+        }
+    }
+
+    fn piece(bytes: &'a [u8]) -> DeviceEntry<'a> {
+        DeviceEntry { bytes }
+    }
 }
 
 /// The device entries of an IVHD, in order (section 5.2), those of undefined types and padding too. It ends at the
 /// block's end, or where no entry begins: if an entry goes past the block's end, if the end of a range doesn't follow
 /// its start at once, or if an end follows no start.
-#[derive(Clone, Copy, Debug)]
-pub struct DeviceEntryIter<'a> {
-    rest: &'a [u8],
-    ended: bool,
-}
-
-impl<'a> DeviceEntryIter<'a> {
-    ghost use Rattle.acpi_iommu.specs.IvrsEntries.{entries_left, has_ended, is_malformed, rest_left};
-
-    /// The entries that bytes have.
-    pub(super) fn over(bytes: &'a [u8]) -> Self
-        ensures items { entries_left result ≡ (pieces entry_size bytes.now).0 }
-        ensures rest { rest_left result ≡ (pieces entry_size bytes.now).1 }
-        ensures begun { has_ended result ≡ false }
-    {
-        DeviceEntryIter {
-            rest: bytes,
-            ended: false,
-        }
-    }
-
-    /// Whether `next` has returned `None` before the block's end, where no entry begins (section 5.2). As long as
-    /// `next` hasn't returned `None` it is false.
-    pub fn ended_malformed(&self) -> bool
-        ensures { result ≡ is_malformed self.now }
-    {
-        match self.rest {
-            [] => false,
-            _ => self.ended,
-        }
-    }
-}
-
-impl<'a> Iterator for DeviceEntryIter<'a> {
-    ghost use Rattle.std.specs.Iterator.{YieldsFirstBy, item_count};
-    ghost use Rattle.acpi_iommu.specs.IvrsEntries.{EndsAtRest, entries_left};
-
-    type Item = DeviceEntry<'a>;
-
-    ghost next_gives = { λ s r t. YieldsFirstBy bytes_of_entry (λ x. entries_left x) s r t × EndsAtRest s r t };
-
-    ghost remaining = { item_count (λ s. entries_left s) };
-
-    fn next(&mut self) -> Option<DeviceEntry<'a>> {
-        match split_entry(self.rest) {
-            Some((bytes, others)) => {
-                self.rest = others;
-                Some(DeviceEntry { bytes })
-            }
-            None => {
-                self.ended = true;
-                None
-            }
-        }
-    }
-}
+pub type DeviceEntryIter<'a> = PieceIter<'a, Entries>;

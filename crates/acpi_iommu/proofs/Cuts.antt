@@ -1,0 +1,149 @@
+-- Bytes are cut into pieces in one way.
+use Rattle.std.proofs.Common.{◌≡◌, ℕ, zero, suc, ◌≤◌, Bool, true, false, cond, List, [], ◌∷◌, ◌++◌, length, take, drop, Option, Some, None, refl, sym, ap, ◌∙◌, subst, arith, append_assoc, length-append, length-drop, leb}
+use Rattle.std.proofs.lemmas.Bool.{and_parts, and_from, leb-true, le-leb}
+use Rattle.std.proofs.lemmas.List.{take_all, take_at, drop_at, take-append-drop, length-take-le, append-nil}
+use Rattle.std.specs.Prelude.{◌&&◌}
+use Rattle.std.specs.List.{concat, AllByRecursion}
+use Rattle.acpi_base.specs.Entries.{with_entry}
+use Rattle.acpi_iommu.specs.Pieces.{IsCut, IsPiece, OneCut, SaysItself, front, pieces, pieces_within}
+
+-- ---- the piece with which bytes begin
+
+-- what the test of a length says
+tested : (b : Bool) (m n : ℕ) → cond b (Some m) None ≡ Some n → (b ≡ true) × (m ≡ n)
+tested true m n e = (refl, cc)
+tested false m n e = absurd cc
+
+checked : ℕ → Option ℕ → Option ℕ
+checked len o = elim o [ Some n ↦ cond (leb 1 n && leb n len) (Some n) None | None ↦ None ]
+
+checked_is : (len n : ℕ) (o : Option ℕ) → checked len o ≡ Some n → (o ≡ Some n) × (1 ≤ n) × (n ≤ len)
+unfolding checked
+checked_is len n None e = absurd cc
+checked_is len n (Some m) e =
+    let t = tested (leb 1 m && leb m len) m n e in
+    let p = and_parts (leb 1 m) (leb m len) t.0 in
+    (ap Some t.1, omega (arith, leb-true 1 m p.0, t.1), omega (arith, leb-true m len p.1, t.1))
+
+pub front_within : (size : List ℕ → Option ℕ) (bytes : List ℕ) (n : ℕ) → front size bytes ≡ Some n → (size bytes ≡ Some n) × (1 ≤ n) × (n ≤ length bytes)
+unfolding checked
+front_within size bytes n e = checked_is (length bytes) n (size bytes) e
+
+front_from : (size : List ℕ → Option ℕ) (bytes : List ℕ) (n : ℕ) → size bytes ≡ Some n → 1 ≤ n → n ≤ length bytes → front size bytes ≡ Some n
+unfolding checked
+front_from size bytes n e one within =
+    ap (checked (length bytes)) e ∙ ap (λ b. cond b (Some n) None) (and_from (leb 1 n) (leb n (length bytes)) (le-leb 1 n one) (le-leb n (length bytes) within))
+
+-- ---- one piece after the other
+
+-- what a front makes of the bytes, if at most that many pieces follow
+abbrev cut_at : (List ℕ → Option ℕ) → ℕ → List ℕ → Option ℕ → List (List ℕ) × List ℕ
+cut_at size most bytes o = elim o [
+  | Some n ↦ with_entry (take n bytes) (pieces_within size most (drop n bytes))
+  | None ↦ ([], bytes)
+]
+
+-- no piece begins in no bytes
+none_in_none : (size : List ℕ → Option ℕ) (most : ℕ) (bytes : List ℕ) (o : Option ℕ) → front size bytes ≡ o → length bytes ≤ 0 → cut_at size most bytes o ≡ ([], bytes)
+none_in_none size most bytes None e none = refl
+none_in_none size most bytes (Some n) e none =
+    let is = front_within size bytes n e in
+    absurd (omega (arith, is.1, is.2, none))
+
+same_at : (size : List ℕ → Option ℕ) (a b : ℕ) (bytes : List ℕ) (o : Option ℕ) → front size bytes ≡ o
+    → ((n : ℕ) → 1 ≤ n → n ≤ length bytes → pieces_within size a (drop n bytes) ≡ pieces_within size b (drop n bytes))
+    → cut_at size a bytes o ≡ cut_at size b bytes o
+same_at size a b bytes None e same = refl
+same_at size a b bytes (Some n) e same =
+    let is = front_within size bytes n e in
+    ap (with_entry (take n bytes)) (same n is.1 is.2)
+
+-- as many as there are bytes are enough
+same_within : (size : List ℕ → Option ℕ) (a b : ℕ) (bytes : List ℕ) → length bytes ≤ a → length bytes ≤ b → pieces_within size a bytes ≡ pieces_within size b bytes
+same_within size zero zero bytes l m = refl
+same_within size zero (suc b) bytes l m = sym (none_in_none size b bytes (front size bytes) refl l)
+same_within size (suc a) zero bytes l m = none_in_none size a bytes (front size bytes) refl m
+same_within size (suc a) (suc b) bytes l m =
+    same_at size a b bytes (front size bytes) refl (λ n one within. same_within size a b (drop n bytes) (omega (arith, length-drop n bytes, l, one)) (omega (arith, length-drop n bytes, m, one)))
+
+one_more : (size : List ℕ → Option ℕ) (bytes : List ℕ) (o : Option ℕ) → front size bytes ≡ o → pieces size bytes ≡ cut_at size (length bytes) bytes o
+unfolding pieces
+one_more size bytes o e =
+    same_within size (length bytes) (suc (length bytes)) bytes (omega arith) (omega arith) ∙ ap (cut_at size (length bytes) bytes) e
+
+-- the pieces of bytes that begin with one
+pub pieces_front : (size : List ℕ → Option ℕ) (bytes : List ℕ) (n : ℕ) → front size bytes ≡ Some n → pieces size bytes ≡ with_entry (take n bytes) (pieces size (drop n bytes))
+unfolding pieces
+pieces_front size bytes n e =
+    let is = front_within size bytes n e in
+    one_more size bytes (Some n) e ∙ ap (with_entry (take n bytes)) (same_within size (length bytes) (length (drop n bytes)) (drop n bytes) (omega (arith, length-drop n bytes)) (omega arith))
+
+-- those of bytes that begin with none
+pub pieces_stuck : (size : List ℕ → Option ℕ) (bytes : List ℕ) → front size bytes ≡ None → pieces size bytes ≡ ([], bytes)
+pieces_stuck size bytes e = one_more size bytes None e
+
+-- ---- a piece by itself
+
+not_none : (n : ℕ) (o : Option ℕ) → o ≡ None → o ≡ Some n → ⊥
+not_none n o none some = cc
+
+-- it begins its bytes whatever comes after them
+begins : (size : List ℕ → Option ℕ) → SaysItself size → (p more : List ℕ) → IsPiece size p → front size (p ++ more) ≡ Some (length p)
+begins size says p more e =
+    let is = front_within size p (length p) e in
+    let again : size (p ++ more) ≡ Some (length p) = sym (ap (λ b. size (b ++ more)) (take_all (length p) p (omega arith))) ∙ says p more (length p) is.0 is.2 in
+    front_from size (p ++ more) (length p) again is.1 (omega (arith, length-append p more))
+
+-- the one with which bytes begin
+front_is : (size : List ℕ → Option ℕ) → SaysItself size → (bytes : List ℕ) (n : ℕ) → front size bytes ≡ Some n → IsPiece size (take n bytes)
+front_is size says bytes n e =
+    let is = front_within size bytes n e in
+    let long : length (take n bytes) ≡ n = length-take-le n bytes is.2 in
+    let again : size (take n bytes) ≡ Some n = sym (ap size (append-nil (take n bytes))) ∙ says bytes [] n is.0 is.2 in
+    front_from size (take n bytes) n again is.1 (omega (arith, long)) ∙ ap Some (sym long)
+
+-- ---- the only cut
+
+-- what is computed is one
+is_cut : (size : List ℕ → Option ℕ) → SaysItself size → (most : ℕ) (bytes : List ℕ) → length bytes ≤ most → (o : Option ℕ) → front size bytes ≡ o → IsCut size bytes (pieces size bytes).0 (pieces size bytes).1
+is_cut size says most bytes few None e =
+    subst (λ x. IsCut size bytes x.0 x.1) (sym (pieces_stuck size bytes e)) (record {
+      whole = refl;
+      are = tt;
+      ends = λ p more w i. not_none (length p) (front size bytes) e (ap (front size) w ∙ begins size says p more i);
+    })
+is_cut size says zero bytes few (Some n) e =
+    let is = front_within size bytes n e in
+    absurd (omega (arith, is.1, is.2, few))
+is_cut size says (suc most) bytes few (Some n) e =
+    let is = front_within size bytes n e in
+    let others = pieces size (drop n bytes) in
+    let c : IsCut size (drop n bytes) others.0 others.1 = is_cut size says most (drop n bytes) (omega (arith, length-drop n bytes, few, is.1)) (front size (drop n bytes)) refl in
+    subst (λ x. IsCut size bytes x.0 x.1) (sym (pieces_front size bytes n e)) (record {
+      whole = sym (take-append-drop n bytes) ∙ ap (λ s. take n bytes ++ s) c.whole ∙ sym (append_assoc (take n bytes) (concat others.0) others.1);
+      are = (front_is size says bytes n e, c.are);
+      ends = c.ends;
+    })
+
+-- and there is no other
+rest_stuck : (size : List ℕ → Option ℕ) → SaysItself size → (rest : List ℕ) (o : Option ℕ) → front size rest ≡ o → ((p more : List ℕ) → rest ≡ p ++ more → IsPiece size p → ⊥) → pieces size rest ≡ ([], rest)
+rest_stuck size says rest None e ends = pieces_stuck size rest e
+rest_stuck size says rest (Some n) e ends =
+    absurd (ends (take n rest) (drop n rest) (sym (take-append-drop n rest)) (front_is size says rest n e))
+
+only : (size : List ℕ → Option ℕ) → SaysItself size → (ps : List (List ℕ)) (rest : List ℕ) → AllByRecursion (IsPiece size) ps → ((p more : List ℕ) → rest ≡ p ++ more → IsPiece size p → ⊥) → pieces size (concat ps ++ rest) ≡ (ps, rest)
+only size says [] rest are ends = rest_stuck size says rest (front size rest) refl ends
+only size says (p ∷ ps) rest are ends =
+    let others : pieces size (concat ps ++ rest) ≡ (ps, rest) = only size says ps rest are.1 ends in
+    let first : pieces size (p ++ (concat ps ++ rest)) ≡ with_entry (take (length p) (p ++ (concat ps ++ rest))) (pieces size (drop (length p) (p ++ (concat ps ++ rest)))) =
+    pieces_front size (p ++ (concat ps ++ rest)) (length p) (begins size says p (concat ps ++ rest) are.0) in
+    ap (pieces size) (append_assoc p (concat ps) rest) ∙ first
+    ∙ ap (λ q. with_entry q (pieces size (drop (length p) (p ++ (concat ps ++ rest))))) (take_at p (concat ps ++ rest) (length p) refl)
+    ∙ ap (λ b. with_entry p (pieces size b)) (drop_at p (concat ps ++ rest) (length p) refl)
+    ∙ ap (with_entry p) others
+
+pub one_cut : (size : List ℕ → Option ℕ) → SaysItself size → OneCut size
+one_cut size says bytes ps rest = (
+  λ c. ap (pieces size) c.whole ∙ only size says ps rest c.are c.ends,
+  λ e. subst (λ x. IsCut size bytes x.0 x.1) e (is_cut size says (length bytes) bytes (omega arith) (front size bytes) refl),
+)

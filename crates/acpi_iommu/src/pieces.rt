@@ -1,0 +1,122 @@
+//! Bytes that are pieces one after the other, each of which says by its first bytes how long it is: the structures and
+//! blocks of a table, the device scopes and entries of one.
+ghost use Rattle.std.specs.Prelude.{◌≡◌, IfSome, IfNone, [], false, not};
+ghost use Rattle.acpi_base.specs.Entries.{with_entry};
+ghost use Rattle.acpi_base.specs.MadtWalk.{is_left};
+ghost use Rattle.acpi_iommu.specs.Pieces.{front, has_ended, is_malformed, left, pieces, rest_after, said};
+
+use std::marker::PhantomData;
+
+/// A kind of pieces.
+pub trait PieceKind<'a> {
+    ghost use Rattle.std.specs.Prelude.{◌≡◌, ℕ, List, Option};
+
+    /// A piece.
+    type Piece: Drop;
+
+    // How long a piece says it is with which bytes begin.
+    ghost size: { List ℕ → Option ℕ };
+
+    // What a piece shows: its bytes.
+    ghost shown: { Self.Piece → List ℕ };
+
+    /// How long a piece says it is with which bytes begin, or `None` if that is less than it can be.
+    fn size_at(bytes: &[u8]) -> Option<usize>
+        ensures { result ≡ size bytes.now };
+
+    /// The piece that has these bytes.
+    fn piece(bytes: &'a [u8]) -> Self::Piece
+        ensures { shown result ≡ bytes.now };
+}
+
+/// The length that a piece says, or `None` if it is less than the least.
+pub(crate) fn said(least: usize, size: usize) -> Option<usize>
+    ensures { result ≡ said least size }
+{
+    if least <= size { Some(size) } else { None }
+}
+
+/// How many bytes the piece has with which bytes begin, or `None` if none begins.
+fn front<'a, K: PieceKind<'a>>(bytes: &[u8]) -> Option<usize>
+    ensures { result ≡ front K.size bytes.now }
+{
+    match K::size_at(bytes) {
+        Some(size) if 1 <= size && size <= bytes.len() => Some(size),
+        _ => None,
+    }
+}
+
+/// The bytes of the piece with which bytes begin, and those after it, or `None` if none begins.
+fn split<'a, K: PieceKind<'a>>(bytes: &'a [u8]) -> Option<(&'a [u8], &'a [u8])>
+    ensures found { IfSome result (λ x. pieces K.size bytes.now ≡ with_entry x.0.now (pieces K.size x.1.now)) }
+    ensures none { IfNone result (pieces K.size bytes.now ≡ ([], bytes.now)) }
+{
+    let size = front::<K>(bytes)?;
+    Some(bytes.split_at(size))
+}
+
+/// The pieces of bytes, in order. It ends at the end of the bytes, or where no piece begins.
+#[derive(Clone, Copy, Debug)]
+pub struct PieceIter<'a, K> {
+    rest: &'a [u8],
+    ended: bool,
+    kind: PhantomData<K>,
+}
+
+impl<'a, K: PieceKind<'a>> PieceIter<'a, K> {
+    /// The pieces of these bytes.
+    pub(crate) fn of(bytes: &'a [u8]) -> Self
+        ensures items { left K.size result ≡ (pieces K.size bytes.now).0 }
+        ensures rest { rest_after K.size result ≡ (pieces K.size bytes.now).1 }
+        ensures begun { has_ended result ≡ false }
+    {
+        PieceIter {
+            rest: bytes,
+            ended: false,
+            kind: PhantomData,
+        }
+    }
+
+    /// Whether `next` has returned `None` before the end of the bytes, where no piece begins. As long as `next` hasn't
+    /// returned `None` it is false.
+    pub fn ended_malformed(&self) -> bool
+        ensures { result ≡ is_malformed self.now }
+    {
+        match self.rest {
+            [] => false,
+            _ => self.ended,
+        }
+    }
+
+    /// Whether the pieces that are left take all bytes.
+    pub(crate) fn is_whole(mut self) -> bool
+        ensures { result ≡ not (is_left (rest_after K.size self.entry)) }
+    {
+        while let Some(_piece) = self.next() {}
+        !self.ended_malformed()
+    }
+}
+
+impl<'a, K: PieceKind<'a>> Iterator for PieceIter<'a, K> {
+    ghost use Rattle.std.specs.Iterator.{YieldsFirstBy, item_count};
+    ghost use Rattle.acpi_iommu.specs.Pieces.{EndsAtRest, left};
+
+    type Item = K::Piece;
+
+    ghost next_gives = { λ s r t. YieldsFirstBy K.shown (left K.size) s r t × EndsAtRest K.size s r t };
+
+    ghost remaining = { item_count (left K.size) };
+
+    fn next(&mut self) -> Option<K::Piece> {
+        match split::<K>(self.rest) {
+            Some((bytes, others)) => {
+                self.rest = others;
+                Some(K::piece(bytes))
+            }
+            None => {
+                self.ended = true;
+                None
+            }
+        }
+    }
+}
