@@ -38,12 +38,12 @@
  * don't sum to 0 modulo 256 (section 5.2.6). 8 to 12 carry the signature that it has to have.
  *
  * The least length is where the fixed fields end: 116 for an FADT, 44 for a MADT, an MCFG or a
- * SLIT, 48 for an SRAT, 56 for an HPET or a BGRT, 80 for an SPCR, 96 for a GTDT, and 36 for any
- * other table. It is 36 for every listed table that zacpi_find_table, zacpi_find_nth_table,
- * zacpi_list_tables or zacpi_list_ranges returns, or that zacpi_list_missing_ranges has a range of,
- * and for the table that zacpi_list_entries is passed. The signature that a table has to have is
- * the one of the call; for the listed tables of the last three calls, and for that of
- * zacpi_list_entries, it is its own.
+ * SLIT, 48 for an SRAT, a DMAR or an IVRS, 56 for an HPET or a BGRT, 80 for an SPCR, 96 for a GTDT,
+ * and 36 for any other table. It is 36 for every listed table that zacpi_find_table,
+ * zacpi_find_nth_table, zacpi_list_tables or zacpi_list_ranges returns, or that
+ * zacpi_list_missing_ranges has a range of, and for the table that zacpi_list_entries is passed.
+ * The signature that a table has to have is the one of the call; for the listed tables of the last
+ * three calls, and for that of zacpi_list_entries, it is its own.
  *
  * Bytes of a field past the end of its table or entry are read as 0, and a field is read in every
  * Revision of its table, unless the field below says otherwise. A field X_... of an FADT is read as
@@ -178,16 +178,33 @@ enum zacpi_refusal {
                                            * (section 5.2.17) */
     ZACPI_UNKNOWN_WIDTH = 37,             /* Type and Length of an entry have one byte or two each,
                                            * and no other number */
-    /* From 38 on: why a table isn't written. */
-    ZACPI_UNKNOWN_CODE = 38,  /* a polarity, trigger mode or LINT pin by a number that isn't one */
-    ZACPI_NO_PROCESSOR = 39,  /* a MADT without a processor */
-    ZACPI_ID_OF_ALL = 40,     /* a processor whose uid or id is 0xffffffff, which stands for all */
-    ZACPI_UID_OF_ALL = 41,    /* an NMI line of the processor whose uid is 0xffffffff */
-    ZACPI_BAD_MATRIX = 42,    /* a SLIT without a distance for each pair of localities */
-    ZACPI_NO_ADDRESS = 43,    /* an RSDP that leads to address 0 */
-    ZACPI_BAD_NAME = 44,      /* OEMID, OEM Table ID or Creator ID isn't UTF-8 */
-    ZACPI_NO_ROOM = 45,       /* the buffer is shorter than the table */
-    ZACPI_TOO_LONG = 46       /* the table has 2^32 bytes or more, which Length can't say */
+    /* 38 to 40: the DMAR and the IVRS. */
+    ZACPI_IOMMU_INVALID_STRUCTURE_LENGTH = 38, /* bytes of the table are left in which none of its
+                                                * structures or blocks begins, or bytes of one in
+                                                * which no device scope or device entry begins */
+    ZACPI_IOMMU_INVALID_MEMORY_RANGE = 39, /* the last byte of an RMRR lies before its first, or
+                                            * start and length of an IVMD add up to more than
+                                            * 2^64 - 1 */
+    ZACPI_NO_IOMMU = 40,                   /* the table has no unit for the device */
+    /* From 41 on: why a table isn't written. */
+    ZACPI_UNKNOWN_CODE = 41,  /* a polarity, trigger mode or LINT pin by a number that isn't one */
+    ZACPI_NO_PROCESSOR = 42,  /* a MADT without a processor */
+    ZACPI_ID_OF_ALL = 43,     /* a processor whose uid or id is 0xffffffff, which stands for all */
+    ZACPI_UID_OF_ALL = 44,    /* an NMI line of the processor whose uid is 0xffffffff */
+    ZACPI_BAD_MATRIX = 45,    /* a SLIT without a distance for each pair of localities */
+    ZACPI_NO_ADDRESS = 46,    /* an RSDP that leads to address 0 */
+    ZACPI_BAD_NAME = 47,      /* OEMID, OEM Table ID or Creator ID isn't UTF-8 */
+    ZACPI_NO_ROOM = 48,       /* the buffer is shorter than the table */
+    ZACPI_TOO_LONG = 49,      /* the table has 2^32 bytes or more, which Length can't say */
+    /* 50 to 56: no call of this header returns them: C has no call for their tables. */
+    ZACPI_BAD_PROFILE = 50,   /* a reserved power profile with the code of one that has a name */
+    ZACPI_BAD_REGISTER = 51,  /* a register at address 0 or in a reserved space, or events without
+                               * bytes */
+    ZACPI_BAD_RANGE = 52,     /* a range of memory that has no byte, or ends above 2^64 - 1 */
+    ZACPI_BAD_CODE = 53,      /* an interface or an address space with a code of another one */
+    ZACPI_LONG_NAME = 54,     /* a name in the namespace of 65535 bytes or more */
+    ZACPI_SAME_AS_BUS = 55,   /* a trigger mode or a polarity of an Arm machine as the bus has it */
+    ZACPI_TOO_MANY_FRAMES = 56 /* a GT Block with more frames than its Length can say */
 };
 
 /* The name of a status, as acpi_view prints it: "MapFailed". "Unknown" for any other number. */
@@ -201,8 +218,10 @@ static inline const char *zacpi_status_name(zacpi_status status) {
         "InvalidMadt InterruptOverrideEntryHasInvalidBus", "InvalidMadt InvalidLocalNmiLine",
         "InvalidMadt MpsIntiInvalidPolarity", "InvalidMadt MpsIntiInvalidTriggerMode", "InvalidMadt WakeupApsTimeout",
         "InvalidMadt InvalidEntryLength", "InvalidSrat InvalidEntryLength", "InvalidSrat InvalidMemoryRange", "NoGic",
-        "NoDomain", "NoDistance", "UnknownWidth", "UnknownCode", "NoProcessor", "IdOfAll", "UidOfAll", "BadMatrix",
-        "NoAddress", "BadName", "NoRoom", "TooLong"};
+        "NoDomain", "NoDistance", "UnknownWidth", "InvalidIommu InvalidStructureLength",
+        "InvalidIommu InvalidMemoryRange", "NoIommu", "UnknownCode", "NoProcessor", "IdOfAll", "UidOfAll",
+        "BadMatrix", "NoAddress", "BadName", "NoRoom", "TooLong", "BadProfile", "BadRegister", "BadRange", "BadCode",
+        "LongName", "SameAsBus", "TooManyFrames"};
     return status < sizeof names / sizeof *names ? names[status] : "Unknown";
 }
 
@@ -904,6 +923,105 @@ zacpi_status zacpi_localities(const struct zacpi_source *source, struct zacpi_lo
 zacpi_status zacpi_distance(const struct zacpi_source *source, uint64_t from, uint64_t to,
                             uint8_t *out, struct zacpi_signature *named);
 
+/* ---- IOMMUs: units that remap what devices ask of memory ------------------------------------- */
+
+/* The units of the DMAR (Intel Virtualization Technology for Directed I/O 4.0, chapter 8). Its
+ * structures stand from byte 48 on, each with a Length of at least 16, 24, 8, 20, 8, 8 and 8 for
+ * Types 0 to 6, and 4 for others; device scopes have at least 6 bytes (section 8.3.1). */
+struct zacpi_hop { /* a step of Path, from a bus to a device on it */
+    uint8_t device, function;
+};
+struct zacpi_dmar_unit { /* DMA Remapping Hardware Unit Definition (DRHD), section 8.3 */
+    uint64_t register_base;   /* Register Base Address */
+    uint64_t register_bytes;  /* 2^n pages of 4 KiB, with n in bits 0 to 3 of Size */
+    uint16_t segment;         /* Segment Number */
+    uint8_t includes_pci_all; /* INCLUDE_PCI_ALL, bit 0 of Flags */
+};
+struct zacpi_dmar_source { /* how a unit knows a device that sends interrupts, section 8.3.1 */
+    struct zacpi_dmar_unit unit;
+    uint8_t bus;          /* Start Bus Number; with a path of one hop, bus and hop are the id */
+    struct zacpi_hop hop; /* the last one of Path, or zeros */
+    uint8_t has_hop;      /* Path has one */
+};
+struct zacpi_dmar_reserved { /* Reserved Memory Region Reporting (RMRR), section 8.4 */
+    uint64_t base;    /* Reserved Memory Region Base Address: the first byte */
+    uint64_t limit;   /* Reserved Memory Region Limit Address: the last byte */
+    uint16_t segment; /* Segment Number */
+};
+
+/* The unit that remaps a device, which the hops reach from a bus of a segment, by the first valid
+ * DMAR: the first DRHD of the segment with a device scope that names it, or the first with
+ * INCLUDE_PCI_ALL. A scope whose Start Bus Number is the bus names it by Type 1 if its Path is the
+ * hops, and by Type 2 if these begin with its Path, of a hop at least (section 8.3.1). Further
+ * errors: ZACPI_TABLE_MISSING "DMAR", ZACPI_IOMMU_INVALID_STRUCTURE_LENGTH, ZACPI_NO_IOMMU. */
+zacpi_status zacpi_dmar_unit(const struct zacpi_source *source, uint16_t segment, uint8_t bus,
+                             const struct zacpi_hop *hops, size_t hops_length,
+                             struct zacpi_dmar_unit *out, struct zacpi_signature *named);
+/* The unit that remaps the interrupts of an I/O APIC, by its id, in the first valid DMAR: that of
+ * the first DRHD with a device scope of Type 3 and this Enumeration ID. Further errors: those of
+ * zacpi_dmar_unit. */
+zacpi_status zacpi_dmar_io_apic(const struct zacpi_source *source, uint8_t id,
+                                struct zacpi_dmar_source *out, struct zacpi_signature *named);
+/* The same of an HPET, by its number: a device scope of Type 4. */
+zacpi_status zacpi_dmar_hpet(const struct zacpi_source *source, uint8_t number,
+                             struct zacpi_dmar_source *out, struct zacpi_signature *named);
+/* The memory that is reserved for a device, by the first valid DMAR: each RMRR of the segment with
+ * a device scope that names it, as for zacpi_dmar_unit, in order. Further errors:
+ * ZACPI_TABLE_MISSING "DMAR", ZACPI_IOMMU_INVALID_STRUCTURE_LENGTH,
+ * ZACPI_IOMMU_INVALID_MEMORY_RANGE of one of these. */
+zacpi_status zacpi_list_dmar_reserved(const struct zacpi_source *source, uint16_t segment,
+                                      uint8_t bus, const struct zacpi_hop *hops,
+                                      size_t hops_length, struct zacpi_dmar_reserved *out,
+                                      size_t room, size_t *count, struct zacpi_signature *named);
+
+/* The units of the IVRS (AMD I/O Virtualization Technology (IOMMU) Specification 3.08, section
+ * 5.2). Its blocks stand from byte 48 on, each with a Length of at least 24 for Type 0x10, 40 for
+ * 0x11 and 0x40, 32 for 0x20 to 0x22, and 4 for others. A device entry has 4, 8, 16 or 32 bytes by
+ * bits 6 and 7 of its Type, or for 0xf0 22 and those of its UID. The end of a range, Type 4, stands
+ * right after its start. A device id is 256 times the bus, 8 times the device, and the function. */
+struct zacpi_ivrs_unit { /* I/O Virtualization Hardware Definition (IVHD) */
+    uint64_t base;                 /* IOMMU Base Address */
+    uint64_t extended_features;    /* EFR Register Image, or 0 */
+    uint32_t features;             /* IOMMU Feature Reporting; of Types 0x11 and 0x40 IOMMU
+                                    * Attributes */
+    uint16_t segment;              /* PCI Segment Group */
+    uint16_t device_id;            /* DeviceID: the unit's own */
+    uint16_t capability_offset;    /* Capability Offset: in its configuration space */
+    uint16_t info;                 /* IOMMU Info */
+    uint8_t block_type;            /* Type */
+    uint8_t flags;                 /* Flags */
+    uint8_t has_extended_features; /* 0 for Type 0x10 */
+};
+struct zacpi_ivrs_device {
+    struct zacpi_ivrs_unit unit;
+    uint16_t source_id; /* by which the unit knows the device: Source DeviceID of an alias (Types
+                         * 0x42 and 0x43), else the device's own id */
+    uint8_t settings;   /* DTE Setting of the entry */
+};
+struct zacpi_ivrs_memory { /* I/O Virtualization Memory Definition (IVMD) */
+    uint64_t start;     /* IVMD start address */
+    uint64_t length;    /* IVMD memory block length */
+    uint16_t device_id; /* DeviceID */
+    uint16_t auxiliary; /* Auxiliary Data: of Type 0x22 the last device */
+    uint8_t block_type; /* Type: 0x20 for all devices, 0x21 for one, 0x22 for a range */
+    uint8_t flags;      /* Flags: bit 0 Unity, bit 1 IR, bit 2 IW, bit 3 Exclusion Range */
+};
+
+/* The unit that remaps a device, by the first valid IVRS: of the IVHDs of the greatest Type, 0x10,
+ * 0x11 or 0x40, that it has, the first of the segment with an entry for the device: for all
+ * devices, for it or for a range that it lies in, or of a special device with it as Source
+ * DeviceID. The block's first such entry counts. Further errors: ZACPI_TABLE_MISSING "IVRS",
+ * ZACPI_IOMMU_INVALID_STRUCTURE_LENGTH, ZACPI_NO_IOMMU. */
+zacpi_status zacpi_ivrs_unit(const struct zacpi_source *source, uint16_t segment,
+                             uint16_t device_id, struct zacpi_ivrs_device *out,
+                             struct zacpi_signature *named);
+/* The memory that has its own rules for a device, by the first valid IVRS: each IVMD for it, for
+ * all devices or for a range that it lies in, in order, whatever its segment. Further errors:
+ * ZACPI_TABLE_MISSING "IVRS", ZACPI_IOMMU_INVALID_STRUCTURE_LENGTH,
+ * ZACPI_IOMMU_INVALID_MEMORY_RANGE of one of these. */
+zacpi_status zacpi_list_ivrs_memory(const struct zacpi_source *source, uint16_t device_id,
+                                    struct zacpi_ivrs_memory *out, size_t room, size_t *count,
+                                    struct zacpi_signature *named);
 /* ---- Tables that are written ----------------------------------------------------------------- */
 
 /* Each call writes one table, from what it is to say, to the front of `out`, which has `room`

@@ -1,7 +1,8 @@
 # Compares the numbers of refusals, and fails if they differ: those of enum zacpi_refusal in include/zacpi.h with those
 # that the crate's refusal.rt gives out, with the names that zacpi_status_name shows, and with those that error.rs of
 # the Rust bindings knows. These three files are what it reads, in this order. Names are compared in the manner of Rust,
-# those of the MADT's refusals with `Madt` before them, and those of the SRAT's without what says that they are.
+# those of the MADT's refusals with `Madt` before them, and those of the SRAT's and of the IOMMUs' without what says that
+# they are.
 function complain(what) { print what; differ = 1 }
 function has(number, name) {
     if ((file, number) in name_of) complain(FILENAME ": two names of " number)
@@ -18,7 +19,7 @@ file == 1 && /^enum zacpi_refusal/ { inside = 1 }
 file == 1 && /^};/ { inside = 0 }
 file == 1 && inside && match($0, /^    ZACPI_[A-Z_]+ = [0-9]+/) {
     split(substr($0, 11, RLENGTH - 10), parts, " = ")
-    sub(/^NUMA_/, "", parts[1])
+    sub(/^(NUMA|IOMMU)_/, "", parts[1])
     if (parts[2] != 0) has(parts[2], rust_name(parts[1]))
 }
 file == 1 && /zacpi_status_name\(/ { shown = 1 }
@@ -29,7 +30,7 @@ file == 1 && shown && listed {
     text = $0
     while (match(text, /"[A-Za-z ]+"/)) {
         part = substr(text, RSTART + 1, RLENGTH - 2)
-        sub(/^InvalidMadt /, "Madt", part); sub(/^InvalidSrat /, "", part)
+        sub(/^InvalidMadt /, "Madt", part); sub(/^Invalid(Srat|Iommu) /, "", part)
         shown_name[number++] = part
         text = substr(text, RSTART + RLENGTH)
     }
@@ -37,7 +38,7 @@ file == 1 && shown && listed {
 }
 file == 2 && match($0, /(Refusal|AcpiError|MadtError|WriterError)::[A-Za-z]+(\(_\))? => [0-9]+/) {
     text = substr($0, RSTART, RLENGTH)
-    sub(/InvalidSrat/, "Invalid", text); sub(/^MadtError::/, "Madt", text)
+    sub(/Invalid(Srat|Iommu)/, "Invalid", text); sub(/^MadtError::/, "Madt", text)
     sub(/^.*::/, "", text); sub(/\(_\)/, "", text)
     split(text, parts, " => ")
     has(parts[2], parts[1])
@@ -49,8 +50,8 @@ file == 3 && match($0, /^ +[0-9]+ => [A-Za-z]+/) {
 }
 END {
     # The bindings don't know those that no call answers them: 17, 18 and 30, 20 as their starts are all known, and
-    # those of tables that are written.
-    split("17 18 20 30 38 39 40 41 42 43 44 45 46", n, " ")
+    # those of tables that are written, from 41 on.
+    split("17 18 20 30 41 42 43 44 45 46 47 48 49 50 51 52 53 54 55 56", n, " ")
     for (i in n) unknown[n[i]] = 1
     for (i = 1; i <= most; i++) {
         here = name_of[1, i]

@@ -110,7 +110,7 @@ static const struct row rows[] = {
     GOOD(list_faults, HOLES, "OEM1", NO, 2, 0x200000, ZACPI_MAP_FAILED, TAIL, ZACPI_MAP_FAILED),
     LEAST_OF("FACP", FADT_115), LEAST_OF("APIC", MADT_43), LEAST_OF("MCFG", MCFG_43), LEAST_OF("HPET", HPET_55),
     LEAST_OF("BGRT", BGRT_55), LEAST_OF("SPCR", SPCR_79), LEAST_OF("GTDT", GTDT_95), LEAST_OF("SRAT", SRAT_47),
-    LEAST_OF("SLIT", SLIT_43), LEAST_OF("OEM2", OEM2_35),
+    LEAST_OF("SLIT", SLIT_43), LEAST_OF("OEM2", OEM2_35), LEAST_OF("DMAR", DMAR_47), LEAST_OF("IVRS", IVRS_47),
     GOOD(find_table, LEAST, "OEM2", NO, 1, AT(OEM2_36), 36, LETTERS('O', 'E', 'M', '2'), 1),
     GOOD(list_tables, PC, NULL, NO, 4, AT(FADT), 276, LETTERS('F', 'A', 'C', 'P'), 6,
          AT(MADT_PC), 96, LETTERS('A', 'P', 'I', 'C'), 4, AT(HPET_SHORT), 48, LETTERS('H', 'P', 'E', 'T'), 3,

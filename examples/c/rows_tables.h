@@ -30,7 +30,8 @@ struct put {
     {at, 1, space}, {at + 1, 1, width}, {at + 2, 1, offset}, {at + 3, 1, access}, {at + 4, 8, address}
 
 enum { EMPTY, ARM, PC, ODD, HOLES, SUM, DESKTOP, MOBILE, WORKSTATION, SERVER, SOHO, APPLIANCE, PERFORMANCE, TABLET,
-       RESERVED, WIDE, TIMER_5, LEAST, OLD, HALF, HALF_X, /* root tables, in the order of `tables` */
+       RESERVED, WIDE, TIMER_5, LEAST, OLD, HALF, HALF_X, UNITS, UNITS_10, UNITS_CUT,
+       UNITS_END, /* root tables, in the order of `tables` */
        RSDP_0, RSDP_2, RSDP_MIXED, RSDP_LONG, RSDP_LOST, RSDP_CUT, RSDP_SHORT,
        RSDP_NONE, /* RSDPs, and the last one is none */
        MADT_GIC, GTDT, SRAT, SLIT, MCFG, FADT, MADT_PC, HPET_SHORT, HPET, MADT_CUT, GTDT_CUT, SRAT_CUT, SLIT_ODD,
@@ -40,7 +41,8 @@ enum { EMPTY, ARM, PC, ODD, HOLES, SUM, DESKTOP, MOBILE, WORKSTATION, SERVER, SO
        DSDT, DSDT_OTHER, SSDT_12, SSDT_0, FACS, FACS_SHORT, FADT_115, FADT_116, MADT_43, MADT_44, MCFG_43, MCFG_44,
        HPET_55, HPET_56, BGRT_55, BGRT_56, SPCR_79, SPCR_80, GTDT_95, GTDT_96, SRAT_47, SRAT_48, SLIT_43, SLIT_44,
        OEM2_35, OEM2_36, FADT_OLD, MADT_OLD, GTDT_OLD, SRAT_OLD, OEM_BYTE, FADT_HALF, SPCR_HALF, GTDT_HALF, MADT_HALF,
-       MCFG_HALF, FADT_HALF_X };
+       MCFG_HALF, FADT_HALF_X, DMAR, DMAR_CUT, DMAR_END, DMAR_47, DMAR_48, IVRS, IVRS_10, IVRS_CUT, IVRS_END, IVRS_47,
+       IVRS_48 };
 
 /* Entry[n] of an RSDT, from 36 on (section 5.2.7), and of an XSDT (section 5.2.8). */
 PUTS(no_fields, {36, 0, 0});
@@ -68,7 +70,7 @@ PUTS(least, {36, 4, AT(FADT_115)}, {40, 4, AT(FADT_116)}, {44, 4, AT(MADT_43)}, 
      {52, 4, AT(MCFG_43)}, {56, 4, AT(MCFG_44)}, {60, 4, AT(HPET_55)}, {64, 4, AT(HPET_56)}, {68, 4, AT(BGRT_55)},
      {72, 4, AT(BGRT_56)}, {76, 4, AT(SPCR_79)}, {80, 4, AT(SPCR_80)}, {84, 4, AT(GTDT_95)}, {88, 4, AT(GTDT_96)},
      {92, 4, AT(SRAT_47)}, {96, 4, AT(SRAT_48)}, {100, 4, AT(SLIT_43)}, {104, 4, AT(SLIT_44)}, {108, 4, AT(OEM2_35)},
-     {112, 4, AT(OEM2_36)});
+     {112, 4, AT(OEM2_36)}, {116, 4, AT(DMAR_47)}, {120, 4, AT(DMAR_48)}, {124, 4, AT(IVRS_47)}, {128, 4, AT(IVRS_48)});
 /* Tables of revisions that lack fields, one whose Signature isn't UTF-8, and a last pointer of two bytes. */
 PUTS(old, {36, 4, AT(FADT_OLD)}, {40, 4, AT(MADT_OLD)}, {44, 4, AT(GTDT_OLD)}, {48, 4, AT(SRAT_OLD)},
      {52, 4, AT(OEM_BYTE)}, {56, 4, 0x56781234});
@@ -197,6 +199,7 @@ PUTS(srat_high,
 PUTS(slit, {36, 8, 2}, {44, 1, 10}, {45, 1, 20}, {46, 1, 30}, {47, 1, 10});
 PUTS(slit_odd, {36, 8, 3}, {44, 1, 10}, {45, 1, 9}, {46, 1, 8}, {47, 1, 255}); /* of nine it has four */
 
+#include "rows_tables_iommu.h"
 #include "rows_tables_pc.h"
 
 static const struct table {
@@ -211,8 +214,10 @@ static const struct table {
     {AT(WORKSTATION), "RSDT", 1, 56, workstation}, {AT(SERVER), "RSDT", 1, 48, server}, {AT(SOHO), "RSDT", 1, 44, soho},
     {AT(APPLIANCE), "RSDT", 1, 52, appliance}, {AT(PERFORMANCE), "RSDT", 1, 40, performance},
     {AT(TABLET), "RSDT", 1, 40, tablet}, {AT(RESERVED), "RSDT", 1, 40, reserved}, {AT(WIDE), "XSDT", 1, 44, wide},
-    {AT(TIMER_5), "RSDT", 1, 44, timer_5}, {AT(LEAST), "RSDT", 1, 116, least},
+    {AT(TIMER_5), "RSDT", 1, 44, timer_5}, {AT(LEAST), "RSDT", 1, 132, least},
     {AT(OLD), "RSDT", 1, 58, old}, {AT(HALF), "RSDT", 1, 56, half}, {AT(HALF_X), "RSDT", 1, 40, half_x},
+    {AT(UNITS), "RSDT", 1, 44, units}, {AT(UNITS_10), "RSDT", 1, 40, units_10},
+    {AT(UNITS_CUT), "RSDT", 1, 44, units_cut}, {AT(UNITS_END), "RSDT", 1, 44, units_end},
     {AT(MADT_GIC), "APIC", 6, 346, madt_gic}, {AT(GTDT), "GTDT", 3, 260, gtdt}, {AT(SRAT), "SRAT", 3, 274, srat},
     {AT(SLIT), "SLIT", 1, 48, slit}, {AT(MCFG), "MCFG", 1, 108, mcfg}, {AT(FADT), "FACP", 6, 276, fadt},
     {AT(MADT_PC), "APIC", 4, 96, madt_pc}, {AT(HPET_SHORT), "HPET", 3, 48, no_fields}, {AT(HPET), "HPET", 1, 56, hpet},
@@ -254,6 +259,11 @@ static const struct table {
     {AT(SPCR_HALF), "SPCR", 3, 82, spcr_half}, {AT(GTDT_HALF), "GTDT", 3, 100, gtdt_half},
     {AT(MADT_HALF), "APIC", 6, 228, madt_half}, {AT(MCFG_HALF), "MCFG", 1, 72, mcfg_half},
     {AT(FADT_HALF_X), "FACP", 6, 238, fadt_half_x},
+    {AT(DMAR), "DMAR", 1, 240, dmar}, {AT(DMAR_CUT), "DMAR", 1, 72, dmar_cut}, {AT(DMAR_END), "DMAR", 1, 76, dmar_end},
+    {AT(DMAR_47), "DMAR", 1, 47, no_fields}, {AT(DMAR_48), "DMAR", 1, 48, no_fields},
+    {AT(IVRS), "IVRS", 2, 332, ivrs}, {AT(IVRS_10), "IVRS", 2, 76, ivrs_10}, {AT(IVRS_CUT), "IVRS", 2, 80, ivrs_cut},
+    {AT(IVRS_END), "IVRS", 2, 80, ivrs_end}, {AT(IVRS_47), "IVRS", 2, 47, no_fields},
+    {AT(IVRS_48), "IVRS", 2, 48, no_fields},
     {BIOS + 0x10000, "RSDT", 1, 36, no_fields}};
 
 /* RSDPs: the first byte of OEMID at 9, Revision at 15, RsdtAddress at 16, Length at 20, XsdtAddress at 24 (section

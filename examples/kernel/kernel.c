@@ -132,6 +132,20 @@ static void first_function(const struct zacpi_source *source) {
     else say(&serial, " vendor "), say_address(&serial, *(const volatile uint16_t *)at(address));
     line();
 }
+/* The unit that remaps that function, on a machine with a DMAR (its registers, and how many bytes they have) or with an
+ * IVRS (its registers, and the id by which it knows the function). */
+static void first_unit(const struct zacpi_source *source) {
+    const struct zacpi_hop function = {0, 0};
+    struct zacpi_signature named = {{0}};
+    struct zacpi_dmar_unit unit = {0};
+    struct zacpi_ivrs_device device = {0};
+    zacpi_status refused = zacpi_dmar_unit(source, 0, 0, &function, 1, &unit, &named);
+    if (!refused) named_range("unit of 0:00.0 dmar ", unit.register_base, unit.register_bytes), line();
+    else if (refused != ZACPI_TABLE_MISSING) say_refused(&serial, "unit of 0:00.0 dmar", refused, &named);
+    refused = zacpi_ivrs_unit(source, 0, 0, &device, &named);
+    if (!refused) named_range("unit of 0:00.0 ivrs ", device.unit.base, device.source_id), line();
+    else if (refused != ZACPI_TABLE_MISSING) say_refused(&serial, "unit of 0:00.0 ivrs", refused, &named);
+}
 /* A call's depth of the stack, and its cycles the first time and at best. */
 #define FIGURE(name, ...) do { \
     uint64_t began_, first_ = 0, best_ = UINT64_MAX, from_ = paint(), depth_; \
@@ -197,6 +211,7 @@ void kernel(uint32_t magic, uint32_t information) {
         places(&known);
         pins(&known);
         first_function(&known);
+        first_unit(&known);
         figures(&source, known);
     }
     say(&serial, "end\n");

@@ -27,6 +27,10 @@ SECOND_ROOT = ['-device', 'pxb-pcie,id=root2,bus_nr=32,bus=pcie.0',
                '-device', 'pcie-root-port,id=port2,bus=root2,chassis=1']
 # What the kernel says of the first PCI function: that of q35 is made by Intel, and pc has no MCFG.
 Q35_ECAM, NO_MCFG = 'ecam 0xb0000000 vendor 0x8086', 'ecam: TableMissing MCFG'
+# What it says of the unit that remaps this function: that of the DMAR has a device scope of an endpoint for it, and
+# registers of one page; that of the IVRS has an entry of type 2 for it.
+UNITS = {'q35 intel-iommu': ['unit of 0:00.0 dmar 0xfed90000 0x1000'],
+         'q35 amd-iommu': ['unit of 0:00.0 ivrs 0xfed80000 0x0']}
 
 
 def own_table():
@@ -52,7 +56,8 @@ def machines():
         all_of[m + ' 4 of 255 128M'] = ['-machine', m, '-m', '128M', '-smp', '4,maxcpus=255']
     all_of['q35 4 6G'] = ['-machine', 'q35', '-m', '6G', '-smp', '4']
     all_of['q35 two PCI roots'] = ['-machine', 'q35', '-m', '128M', '-smp', '2'] + SECOND_ROOT
-    all_of['q35 intel-iommu'] = ['-machine', 'q35', '-m', '128M', '-smp', '2', '-device', 'intel-iommu']
+    for unit in ('intel-iommu', 'amd-iommu'):
+        all_of['q35 ' + unit] = ['-machine', 'q35', '-m', '128M', '-smp', '2', '-device', unit]
     return all_of
 
 
@@ -213,7 +218,7 @@ def tried(name, args, ecam, writes=None, words='hold', kernel=KERNEL, told=None)
         lines, files = [], []
         try:
             lines, files, status = boot(args, folder, writes, words, kernel)
-            wrong = check(lines, files, status, folder, (VIEW, PACK), IMAGE, ecam, told)
+            wrong = check(lines, files, status, folder, (VIEW, PACK), IMAGE, ecam, UNITS.get(name, ()), told)
         except Exception as error:  # QEMU didn't start, or a line can't be read: the other machines still run
             wrong = [repr(error)]
         depth = max([int(l.split()[3]) for l in lines if l.startswith('call')] or [0])

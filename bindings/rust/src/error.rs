@@ -8,7 +8,7 @@ pub type AcpiResult<T> = Result<T, AcpiError>;
 
 /// Why a call refuses. The names are those of the crate `acpi`, and of the library's own checks. A signature that is
 /// carried is that of the table that was looked for. A call whose answer is an `Option` answers `None` for what isn't
-/// there, so that `NoSuchFunction`, `NoSuchInterrupt`, `NoSuchIoApic`, `NoDomain` and `NoDistance` come from none.
+/// there, so that `NoSuchFunction`, `NoSuchInterrupt`, `NoSuchIoApic`, `NoDomain`, `NoDistance` and `NoIommu` come from none.
 #[derive(Clone, Copy, Debug, PartialEq, Eq)]
 #[non_exhaustive]
 pub enum AcpiError {
@@ -58,7 +58,8 @@ pub enum AcpiError {
     InvalidMadt(MadtError),
     /// Bytes of the SRAT are left in which no entry begins (section 5.2.16).
     InvalidEntryLength,
-    /// The address after a range of memory in the SRAT is above 2^64 - 1 (section 5.2.16.2).
+    /// A range of memory in the SRAT (section 5.2.16.2) or the IVRS ends above 2^64 - 1, or one in the DMAR has its last
+    /// byte before its first.
     InvalidMemoryRange,
     /// The MADT has no GICD entry: it describes no distributor of a GIC (section 5.2.12.15).
     NoGic,
@@ -68,6 +69,10 @@ pub enum AcpiError {
     NoDistance,
     /// Type and Length of an entry have one byte or two each, and no other number.
     UnknownWidth,
+    /// Bytes of the DMAR or the IVRS are left in which no structure, block, scope or entry begins.
+    InvalidStructureLength,
+    /// The DMAR or the IVRS has no unit for the device.
+    NoIommu,
     /// There is no memory for a list, or no room for a region.
     AllocError,
     /// The library refuses with a number that this version doesn't know.
@@ -131,6 +136,9 @@ impl AcpiError {
             35 => NoDomain,
             36 => NoDistance,
             37 => UnknownWidth,
+            38 => InvalidStructureLength,
+            39 => InvalidMemoryRange,
+            40 => NoIommu,
             other => Other(other),
         }
     }

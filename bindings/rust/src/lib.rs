@@ -13,6 +13,7 @@ pub mod fadt;
 pub mod gic;
 pub mod gtdt;
 pub mod hpet;
+pub mod iommu;
 pub mod list;
 pub mod madt;
 pub mod mcfg;

@@ -50,7 +50,7 @@ macro_rules! items {
 }
 pub(crate) use items;
 
-plain! { Range AmlTable records::IoApic records::GicTranslationService }
+plain! { Range AmlTable records::IoApic records::GicTranslationService records::DmarReserved records::IvrsMemory }
 
 /// Room for one item of a list, in the form in which the library writes it. An array of 64 is
 /// `[Slot::default(); 64]`.

@@ -124,6 +124,9 @@ ones! {
     zacpi_domain_of_processor(uid: u32) -> u32;
     zacpi_localities() -> Localities;
     zacpi_distance(from: u64, to: u64) -> u8;
+    zacpi_dmar_io_apic(id: u8) -> DmarSource;
+    zacpi_dmar_hpet(number: u8) -> DmarSource;
+    zacpi_ivrs_unit(segment: u16, device_id: u16) -> IvrsDevice;
 }
 
 lists! {
@@ -181,6 +184,34 @@ unsafe extern "C" {
         nmi_sources_room: usize,
         nmi_lines: *mut NmiLine,
         nmi_lines_room: usize,
+        named: *mut Signature,
+    ) -> u32;
+    fn zacpi_dmar_unit(
+        source: *const Source<'_>,
+        segment: u16,
+        bus: u8,
+        hops: *const Hop,
+        hops_length: usize,
+        out: *mut DmarUnit,
+        named: *mut Signature,
+    ) -> u32;
+    fn zacpi_list_dmar_reserved(
+        source: *const Source<'_>,
+        segment: u16,
+        bus: u8,
+        hops: *const Hop,
+        hops_length: usize,
+        out: *mut DmarReserved,
+        room: usize,
+        count: *mut usize,
+        named: *mut Signature,
+    ) -> u32;
+    fn zacpi_list_ivrs_memory(
+        source: *const Source<'_>,
+        device_id: u16,
+        out: *mut IvrsMemory,
+        room: usize,
+        count: *mut usize,
         named: *mut Signature,
     ) -> u32;
     fn zacpi_clip_ranges(
@@ -260,6 +291,51 @@ pub(crate) fn platform(
         )
     };
     answered(status, named).map(|()| model)
+}
+
+/// The unit that remaps the device that hops reach from a bus of a segment.
+pub(crate) fn dmar_unit(source: &Source<'_>, segment: u16, bus: u8, hops: &[Hop]) -> AcpiResult<DmarUnit> {
+    let (mut out, mut named) = (DmarUnit::default(), Signature::default());
+    // SAFETY: the source and the hops are live slices of initialised items; the outputs are two live variables.
+    let status = unsafe { zacpi_dmar_unit(source, segment, bus, hops.as_ptr(), hops.len(), &mut out, &mut named) };
+    answered(status, named).map(|()| out)
+}
+
+/// The memory that is reserved for a device, and how many ranges it has.
+pub(crate) fn list_dmar_reserved(
+    source: &Source<'_>,
+    segment: u16,
+    bus: u8,
+    hops: &[Hop],
+    out: &mut [DmarReserved],
+) -> AcpiResult<usize> {
+    let (mut count, mut named) = (0, Signature::default());
+    // SAFETY: the source and the hops are live slices of initialised items; the outputs are a live slice with its
+    // length, and two live variables.
+    let status = unsafe {
+        zacpi_list_dmar_reserved(
+            source,
+            segment,
+            bus,
+            hops.as_ptr(),
+            hops.len(),
+            out.as_mut_ptr(),
+            out.len(),
+            &mut count,
+            &mut named,
+        )
+    };
+    answered(status, named).map(|()| count)
+}
+
+/// The memory with rules for a device, and how many ranges it has.
+pub(crate) fn list_ivrs_memory(source: &Source<'_>, device_id: u16, out: &mut [IvrsMemory]) -> AcpiResult<usize> {
+    let (mut count, mut named) = (0, Signature::default());
+    // SAFETY: the source holds live slices of initialised items; the outputs are a live slice with its length, and two
+    // live variables.
+    let status =
+        unsafe { zacpi_list_ivrs_memory(source, device_id, out.as_mut_ptr(), out.len(), &mut count, &mut named) };
+    answered(status, named).map(|()| count)
 }
 
 /// The memory to make regions from, and how many ranges it has.

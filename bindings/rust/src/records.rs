@@ -72,6 +72,37 @@ records! {
         /// The pin, from 0 on: the global system interrupt less the I/O APIC's base.
         pin: u32,
     }
+    /// A step from a bus to a device on it (DMAR; Intel Virtualization Technology for Directed I/O 4.0, section 8.3.1).
+    Hop {
+        /// The device's number.
+        device: u8,
+        /// The number of its function.
+        function: u8,
+    }
+    /// Memory that is reserved for a device (DMAR; Reserved Memory Region Reporting, section 8.4).
+    DmarReserved {
+        /// Reserved Memory Region Base Address: the first byte.
+        base: u64,
+        /// Reserved Memory Region Limit Address: the last byte.
+        limit: u64,
+        /// Segment Number.
+        segment: u16,
+    }
+    /// Memory that has its own rules for devices (IVRS; I/O Virtualization Memory Definition, section 5.2).
+    IvrsMemory {
+        /// IVMD start address.
+        start: u64,
+        /// IVMD memory block length.
+        length: u64,
+        /// DeviceID: the device, or the first of a range.
+        device_id: u16,
+        /// Auxiliary Data: of Type 0x22 the last device of the range.
+        auxiliary: u16,
+        /// Type: 0x20 for all devices, 0x21 for one, 0x22 for a range.
+        block_type: u8,
+        /// Flags: bit 0 Unity, bit 1 IR, bit 2 IW, bit 3 Exclusion Range.
+        flags: u8,
+    }
     /// A service that translates interrupts (GIC ITS, section 5.2.12.18).
     GicTranslationService {
         /// Physical Base Address: of its registers.
@@ -131,4 +162,9 @@ records! {
     Watchdog { refresh_frame: u64, control_frame: u64, interrupt: u32, polarity: u8, trigger: u8, is_secure: u8, }
     MemoryAffinity { address: u64, length: u64, domain: u32, is_hot_pluggable: u8, is_non_volatile: u8, }
     Localities { localities: u64, is_sane: u8, }
+    DmarUnit { register_base: u64, register_bytes: u64, segment: u16, includes_pci_all: u8, }
+    DmarSource { unit: DmarUnit, bus: u8, hop: Hop, has_hop: u8, }
+    IvrsUnit { base: u64, extended_features: u64, features: u32, segment: u16, device_id: u16, capability_offset: u16,
+        info: u16, block_type: u8, flags: u8, has_extended_features: u8, }
+    IvrsDevice { unit: IvrsUnit, source_id: u16, settings: u8, }
 }

@@ -157,7 +157,8 @@ impl<'k> AcpiTables<'k> {
     /// The typed view of the first valid table of its signature: [`Fadt`](crate::fadt::Fadt),
     /// [`Madt`](crate::madt::Madt), [`HpetInfo`](crate::hpet::HpetInfo), [`Bgrt`](crate::bgrt::Bgrt),
     /// [`Spcr`](crate::spcr::Spcr), [`PciConfigRegions`](crate::mcfg::PciConfigRegions),
-    /// [`Gtdt`](crate::gtdt::Gtdt), [`Srat`](crate::srat::Srat) or [`Slit`](crate::slit::Slit).
+    /// [`Gtdt`](crate::gtdt::Gtdt), [`Srat`](crate::srat::Srat), [`Slit`](crate::slit::Slit),
+    /// [`Dmar`](crate::iommu::Dmar) or [`Ivrs`](crate::iommu::Ivrs).
     ///
     /// Refuses with `TableMissing`, and with what that type says.
     pub fn find_table<T: AcpiTable<'k>>(&self) -> AcpiResult<T> {

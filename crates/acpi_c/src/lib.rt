@@ -12,6 +12,7 @@ mod clip;
 mod devices;
 mod entries;
 mod interrupts;
+mod iommu;
 mod missing;
 mod numa;
 mod pci;

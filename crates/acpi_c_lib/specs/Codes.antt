@@ -41,14 +41,21 @@ acpi_code (acpi.InvalidMadt e) = madt_code e
 
 -- why a table is not written
 abbrev pub writer_code : WriterError → ℕ
-writer_code writer.NoProcessor = 39
-writer_code writer.IdOfAll = 40
-writer_code writer.UidOfAll = 41
-writer_code writer.BadMatrix = 42
-writer_code writer.NoAddress = 43
-writer_code writer.BadName = 44
-writer_code writer.NoRoom = 45
-writer_code writer.TooLong = 46
+writer_code writer.NoProcessor = 42
+writer_code writer.IdOfAll = 43
+writer_code writer.UidOfAll = 44
+writer_code writer.BadMatrix = 45
+writer_code writer.NoAddress = 46
+writer_code writer.BadName = 47
+writer_code writer.NoRoom = 48
+writer_code writer.TooLong = 49
+writer_code writer.BadProfile = 50
+writer_code writer.BadRegister = 51
+writer_code writer.BadRange = 52
+writer_code writer.BadCode = 53
+writer_code writer.LongName = 54
+writer_code writer.SameAsBus = 55
+writer_code writer.TooManyFrames = 56
 
 -- each is above 0, which stands for success
 abbrev pub code_of : Refusal → ℕ
@@ -66,7 +73,10 @@ code_of refusal.NoGic = 34
 code_of refusal.NoDomain = 35
 code_of refusal.NoDistance = 36
 code_of refusal.UnknownWidth = 37
-code_of refusal.UnknownCode = 38
+code_of refusal.InvalidIommuStructureLength = 38
+code_of refusal.InvalidIommuMemoryRange = 39
+code_of refusal.NoIommu = 40
+code_of refusal.UnknownCode = 41
 code_of (refusal.Writer e) = writer_code e
 code_of (refusal.Acpi e) = acpi_code e
 

@@ -3,7 +3,7 @@ use Rattle.std.specs.Prelude.{ℕ, List, if◌then◌else◌, map, Result, Ok}
 use Rattle.std.specs.Str.{bytes_eq}
 use Rattle.acpi_base.specs.Table.{Kind, sdt_kind}
 use Rattle.acpi_base.specs.declared.table.signature.Signature.{Signature}
-use Rattle.acpi_base.specs.declared.table.signature.TheConstants.Signature.{BGRT, FADT, GTDT, HPET, MADT, MCFG, SLIT, SPCR, SRAT}
+use Rattle.acpi_base.specs.declared.table.signature.TheConstants.Signature.{BGRT, DMAR, FADT, GTDT, HPET, IVRS, MADT, MCFG, SLIT, SPCR, SRAT}
 use Rattle.acpi.specs.Lists.{faults_of}
 use Rattle.acpi.specs.declared.records.TableFault.{TableFault}
 use Rattle.acpi_c_lib.specs.Below.{below_source}
@@ -30,6 +30,8 @@ least_named s =
     else if bytes_eq s.0 GTDT.0 then 96
     else if bytes_eq s.0 SRAT.0 then 48
     else if bytes_eq s.0 SLIT.0 then 44
+    else if bytes_eq s.0 DMAR.0 then 48
+    else if bytes_eq s.0 IVRS.0 then 48
     else 36
 
 abbrev pub kind_named : Signature → Kind

@@ -10,6 +10,7 @@ pub mod Entries
 pub mod Faults
 pub mod Fixed
 pub mod Held
+pub mod Iommu
 pub mod IsaList
 pub mod Located
 pub mod Missing

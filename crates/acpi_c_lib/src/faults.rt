@@ -21,6 +21,7 @@ use acpi::sdt::{Signature, map_sdt, map_table};
 use acpi::spcr::Spcr;
 use acpi::{AcpiError, AcpiHandler, AcpiResult, AcpiTable, Pointers, TableFault};
 use acpi_arm::gtdt::Gtdt;
+use acpi_iommu::{Dmar, Ivrs};
 use acpi_numa::{Slit, Srat};
 
 /// Lists the tables that a lookup of a signature passes over, and why.
@@ -84,6 +85,10 @@ fn looked_at<H: AcpiHandler>(handler: &H, address: u64, signature: Signature) ->
         taken::<H, Srat>(handler, address)
     } else if signature == Signature::SLIT {
         taken::<H, Slit>(handler, address)
+    } else if signature == Signature::DMAR {
+        taken::<H, Dmar>(handler, address)
+    } else if signature == Signature::IVRS {
+        taken::<H, Ivrs>(handler, address)
     } else {
         map_sdt(handler, address, signature)?;
         Ok(())

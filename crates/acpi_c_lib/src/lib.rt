@@ -20,6 +20,8 @@ pub mod fixed_records;
 pub mod gic;
 pub mod interrupt_records;
 pub mod interrupts;
+pub mod iommu;
+pub mod iommu_records;
 pub mod isa_list;
 pub mod laws;
 mod lists;

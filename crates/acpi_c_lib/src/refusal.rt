@@ -37,6 +37,12 @@ pub enum Refusal {
     NoDistance,
     /// The numbers at an entry's front don't have one or two bytes each.
     UnknownWidth,
+    /// Bytes of the DMAR or the IVRS are left in which no structure, scope, block or entry begins.
+    InvalidIommuStructureLength,
+    /// A range of the DMAR ends before it begins, or one of the IVRS ends above 2^64 - 1.
+    InvalidIommuMemoryRange,
+    /// The DMAR or the IVRS has no unit for the device.
+    NoIommu,
     /// A polarity, trigger mode or LINT pin of a record has a number that stands for none.
     UnknownCode,
     /// The error is one of a table that is written.
@@ -85,7 +91,10 @@ impl Refusal {
             Refusal::NoDomain => 35,
             Refusal::NoDistance => 36,
             Refusal::UnknownWidth => 37,
-            Refusal::UnknownCode => 38,
+            Refusal::InvalidIommuStructureLength => 38,
+            Refusal::InvalidIommuMemoryRange => 39,
+            Refusal::NoIommu => 40,
+            Refusal::UnknownCode => 41,
             Refusal::Writer(error) => writer_code(error),
             Refusal::Acpi(error) => acpi_code(error),
         }
@@ -132,14 +141,21 @@ fn writer_code(error: WriterError) -> u32
     ensures { result ≡ codes.writer_code error }
 {
     match error {
-        WriterError::NoProcessor => 39,
-        WriterError::IdOfAll => 40,
-        WriterError::UidOfAll => 41,
-        WriterError::BadMatrix => 42,
-        WriterError::NoAddress => 43,
-        WriterError::BadName => 44,
-        WriterError::NoRoom => 45,
-        WriterError::TooLong => 46,
+        WriterError::NoProcessor => 42,
+        WriterError::IdOfAll => 43,
+        WriterError::UidOfAll => 44,
+        WriterError::BadMatrix => 45,
+        WriterError::NoAddress => 46,
+        WriterError::BadName => 47,
+        WriterError::NoRoom => 48,
+        WriterError::TooLong => 49,
+        WriterError::BadProfile => 50,
+        WriterError::BadRegister => 51,
+        WriterError::BadRange => 52,
+        WriterError::BadCode => 53,
+        WriterError::LongName => 54,
+        WriterError::SameAsBus => 55,
+        WriterError::TooManyFrames => 56,
     }
 }
 

@@ -7,7 +7,8 @@ ghost use Rattle.acpi_iommu.specs.DmarScopes.{scope_flags, scope_kind, start_bus
 use crate::pieces::{PieceIter, PieceKind, said};
 use acpi_base::bytes::{field, skip};
 
-/// A step from a bus to a device on it (section 8.3.1).
+/// A step from a bus to a device on it (section 8.3.1). C passes it as these two bytes.
+#[repr(C)]
 #[derive(Clone, Copy, Debug, PartialEq, Eq)]
 pub struct Hop {
     /// The device's number.

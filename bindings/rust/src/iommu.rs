@@ -1,0 +1,218 @@
+//! The units that remap what devices ask of memory (IOMMUs): those of the DMAR (Intel Virtualization Technology for
+//! Directed I/O 4.0, chapter 8), and those of the IVRS (AMD I/O Virtualization Technology (IOMMU) Specification 3.08,
+//! section 5.2).
+
+use crate::error::{AcpiError, AcpiResult};
+use crate::list::{List, Slot};
+use crate::raw::{self, records, records_of};
+use crate::sdt::Signature;
+use crate::tables::{read::Read, AcpiTable, AcpiTables, Table};
+
+pub use records::{DmarReserved, Hop, IvrsMemory};
+
+/// The least length of a DMAR, and of an IVRS: what they list begins there.
+const LEAST: u32 = 48;
+
+/// A unit of the DMAR (DRHD, section 8.3).
+#[derive(Clone, Copy, Debug, PartialEq, Eq)]
+pub struct DmarUnit {
+    /// Register Base Address: the physical address of its registers.
+    pub register_base: u64,
+    /// How many bytes these have: 2^n pages of 4 KiB, with n in bits 0 to 3 of Size.
+    pub register_bytes: u64,
+    /// Segment Number: the PCI segment of its devices.
+    pub segment: u16,
+    /// INCLUDE_PCI_ALL, bit 0 of Flags: it remaps all devices of the segment that no other unit names.
+    pub includes_pci_all: bool,
+}
+
+impl From<records::DmarUnit> for DmarUnit {
+    fn from(raw: records::DmarUnit) -> Self {
+        DmarUnit {
+            register_base: raw.register_base,
+            register_bytes: raw.register_bytes,
+            segment: raw.segment,
+            includes_pci_all: raw.includes_pci_all != 0,
+        }
+    }
+}
+
+/// A unit of the DMAR, and how it knows a device that sends it interrupts (section 8.3.1).
+#[derive(Clone, Copy, Debug, PartialEq, Eq)]
+pub struct DmarSource {
+    /// The unit that remaps the device's interrupts.
+    pub unit: DmarUnit,
+    /// Start Bus Number of the device's scope.
+    pub bus: u8,
+    /// The last hop of the scope's Path, if it has one. With one hop, bus and hop are the source id.
+    pub hop: Option<Hop>,
+}
+
+impl From<records::DmarSource> for DmarSource {
+    fn from(raw: records::DmarSource) -> Self {
+        DmarSource { unit: raw.unit.into(), bus: raw.bus, hop: (raw.has_hop != 0).then_some(raw.hop) }
+    }
+}
+
+/// A unit of the IVRS (IVHD, section 5.2).
+#[derive(Clone, Copy, Debug, PartialEq, Eq)]
+pub struct IvrsUnit {
+    /// IOMMU Base Address: the physical address of its registers.
+    pub base: u64,
+    /// EFR Register Image, which Type 0x10 hasn't.
+    pub extended_features: Option<u64>,
+    /// IOMMU Feature Reporting, or of Types 0x11 and 0x40 IOMMU Attributes.
+    pub features: u32,
+    /// PCI Segment Group: that of the unit and of its devices.
+    pub segment: u16,
+    /// DeviceID: the unit's own.
+    pub device_id: u16,
+    /// Capability Offset: where its capability block stands in its PCI configuration space.
+    pub capability_offset: u16,
+    /// IOMMU Info.
+    pub info: u16,
+    /// Type: 0x10, 0x11 or 0x40.
+    pub block_type: u8,
+    /// Flags.
+    pub flags: u8,
+}
+
+impl From<records::IvrsUnit> for IvrsUnit {
+    fn from(raw: records::IvrsUnit) -> Self {
+        IvrsUnit {
+            base: raw.base,
+            extended_features: (raw.has_extended_features != 0).then_some(raw.extended_features),
+            features: raw.features,
+            segment: raw.segment,
+            device_id: raw.device_id,
+            capability_offset: raw.capability_offset,
+            info: raw.info,
+            block_type: raw.block_type,
+            flags: raw.flags,
+        }
+    }
+}
+
+/// A unit of the IVRS, and how it treats a device (section 5.2).
+#[derive(Clone, Copy, Debug, PartialEq, Eq)]
+pub struct IvrsDevice {
+    /// The unit that remaps the device.
+    pub unit: IvrsUnit,
+    /// The id by which the unit knows the device: that of the entry's alias, or its own.
+    pub source_id: u16,
+    /// DTE Setting of the entry for the device.
+    pub settings: u8,
+}
+
+impl From<records::IvrsDevice> for IvrsDevice {
+    fn from(raw: records::IvrsDevice) -> Self {
+        IvrsDevice { unit: raw.unit.into(), source_id: raw.source_id, settings: raw.settings }
+    }
+}
+
+/// What is found, or none if there is no unit for the device.
+fn found<Raw, T: From<Raw>>(asked: AcpiResult<Raw>) -> AcpiResult<Option<T>> {
+    match asked {
+        Err(AcpiError::NoIommu) => Ok(None),
+        other => other.map(|raw| Some(raw.into())),
+    }
+}
+
+/// The first valid table of a signature that has all its fixed fields.
+fn whole_table(tables: &AcpiTables<'_>, signature: Signature) -> AcpiResult<Table> {
+    let missing = AcpiError::TableMissing(signature);
+    tables.find_all(signature).find(|table| table.length >= LEAST).ok_or(missing)
+}
+
+/// The units of the first valid DMAR. A device is named by its segment, a bus, and the hops from there to it.
+#[derive(Clone, Copy, Debug)]
+pub struct Dmar<'k> {
+    /// The table.
+    pub table: Table,
+    tables: AcpiTables<'k>,
+}
+
+impl Dmar<'_> {
+    /// The unit that remaps a device: the first DRHD of the segment with a device scope that names it, or the first of
+    /// the segment with INCLUDE_PCI_ALL. The scope of an endpoint names the device of its Path, and that of a bridge
+    /// each device that is reached through it (section 8.3).
+    ///
+    /// Refuses with `InvalidStructureLength`.
+    pub fn unit_for(&self, segment: u16, bus: u8, hops: &[Hop]) -> AcpiResult<Option<DmarUnit>> {
+        found(raw::dmar_unit(&self.tables.source(), segment, bus, hops))
+    }
+
+    /// The unit that remaps the interrupts of the I/O APIC of an id (section 8.3.1). Refuses with
+    /// `InvalidStructureLength`.
+    pub fn unit_of_io_apic(&self, id: u8) -> AcpiResult<Option<DmarSource>> {
+        found(raw::zacpi_dmar_io_apic(&self.tables.source(), id))
+    }
+
+    /// The unit that remaps the interrupts of the HPET of a number (section 8.3.1). Refuses with
+    /// `InvalidStructureLength`.
+    pub fn unit_of_hpet(&self, number: u8) -> AcpiResult<Option<DmarSource>> {
+        found(raw::zacpi_dmar_hpet(&self.tables.source(), number))
+    }
+
+    /// The memory that is reserved for a device, as far as there is room: each RMRR of the segment with a device scope
+    /// that names it, in order (section 8.4).
+    ///
+    /// Refuses with `InvalidStructureLength`, and with `InvalidMemoryRange` if one of these has its last byte before
+    /// its first.
+    pub fn reserved_for<'b>(
+        &self,
+        segment: u16,
+        bus: u8,
+        hops: &[Hop],
+        room: &'b mut [Slot<DmarReserved>],
+    ) -> AcpiResult<List<'b, DmarReserved>> {
+        let count = raw::list_dmar_reserved(&self.tables.source(), segment, bus, hops, records_of(room))?;
+        Ok(List::written(room, count, Signature::default()))
+    }
+}
+
+impl<'k> Read<'k> for Dmar<'k> {
+    fn read(tables: &AcpiTables<'k>) -> AcpiResult<Self> {
+        Ok(Dmar { table: whole_table(tables, Signature::DMAR)?, tables: *tables })
+    }
+}
+impl<'k> AcpiTable<'k> for Dmar<'k> {
+    const SIGNATURE: Signature = Signature::DMAR;
+}
+
+/// The units of the first valid IVRS. A device is named by its segment and its id: 256 times the bus, 8 times the
+/// device, and the function.
+#[derive(Clone, Copy, Debug)]
+pub struct Ivrs<'k> {
+    /// The table.
+    pub table: Table,
+    tables: AcpiTables<'k>,
+}
+
+impl Ivrs<'_> {
+    /// The unit that remaps a device, and how it treats it: of the IVHDs of the greatest Type, 0x10, 0x11 or 0x40, that
+    /// the table has, the first of the segment with an entry for the device. The block's first such entry counts.
+    ///
+    /// Refuses with `InvalidStructureLength`.
+    pub fn block_for(&self, segment: u16, device_id: u16) -> AcpiResult<Option<IvrsDevice>> {
+        found(raw::zacpi_ivrs_unit(&self.tables.source(), segment, device_id))
+    }
+
+    /// The memory that has its own rules for a device, as far as there is room: each IVMD for it, for all devices or for
+    /// a range that it lies in, in order, whatever its segment.
+    ///
+    /// Refuses with `InvalidStructureLength`, and with `InvalidMemoryRange` if one of these ends above 2^64 - 1.
+    pub fn memory_for<'b>(&self, device_id: u16, room: &'b mut [Slot<IvrsMemory>]) -> AcpiResult<List<'b, IvrsMemory>> {
+        let count = raw::list_ivrs_memory(&self.tables.source(), device_id, records_of(room))?;
+        Ok(List::written(room, count, Signature::default()))
+    }
+}
+
+impl<'k> Read<'k> for Ivrs<'k> {
+    fn read(tables: &AcpiTables<'k>) -> AcpiResult<Self> {
+        Ok(Ivrs { table: whole_table(tables, Signature::IVRS)?, tables: *tables })
+    }
+}
+impl<'k> AcpiTable<'k> for Ivrs<'k> {
+    const SIGNATURE: Signature = Signature::IVRS;
+}

@@ -1,0 +1,124 @@
+//! The units that remap what devices ask of memory.
+mod common;
+use common::{Memory, ROOT};
+use zacpi::iommu::{Dmar, DmarReserved, DmarSource, DmarUnit, Hop, Ivrs, IvrsDevice, IvrsMemory, IvrsUnit};
+use zacpi::{AcpiError, Signature, Slot};
+
+const TABLE: u64 = ROOT + 0x1000;
+
+fn hop(device: u8, function: u8) -> Hop {
+    Hop { device, function }
+}
+
+#[test]
+fn reads_a_dmar() {
+    #[rustfmt::skip]
+    let fields = [
+        // DRHD (section 8.3): Type, Length at 2, Flags at 4, Segment Number at 6, Register Base Address at 8; and its
+        // scope (section 8.3.1): Type, Length at 1, Enumeration ID at 4, Start Bus Number at 5, Path at 6.
+        (48, 4, 0x18_0000), (56, 8, 0x1_fed9_0000), (64, 2, 0x0801), (70, 2, 0x0002),
+        // Size at 5. An I/O APIC with the id 2 and an HPET with the number 1, whose path is missing.
+        (72, 4, 0x1e_0000), (76, 1, 1), (77, 1, 3), (80, 8, 0x1_fed9_1000),
+        (88, 2, 0x0803), (92, 1, 2), (93, 1, 0xf0), (94, 2, 0x001f), (96, 2, 0x0604), (100, 1, 1),
+        // RMRR (section 8.4): Segment Number at 6, Base Address at 8, Limit Address at 16, and an endpoint's scope.
+        (102, 4, 0x20_0001), (110, 8, 0x7b80_0000), (118, 8, 0x7fff_ffff), (126, 2, 0x0801), (132, 2, 0x0002),
+        (134, 4, 0x20_0001), (142, 8, 2), (150, 8, 1), (158, 2, 0x0801), (164, 2, 0x0003),
+    ];
+    let mut memory = Memory::rsdt(&[TABLE]);
+    memory.table(TABLE, "DMAR", 1, 166, &fields);
+    memory.ask(|tables| {
+        let dmar = tables.find_table::<Dmar>().unwrap();
+        assert_eq!((dmar.table.address, dmar.table.length), (TABLE, 166));
+        let first =
+            DmarUnit { register_base: 0x1_fed9_0000, register_bytes: 4096, segment: 0, includes_pci_all: false };
+        let second =
+            DmarUnit { register_base: 0x1_fed9_1000, register_bytes: 32768, segment: 0, includes_pci_all: true };
+        assert_eq!(dmar.unit_for(0, 0, &[hop(2, 0)]), Ok(Some(first)));
+        assert_eq!(dmar.unit_for(0, 0, &[hop(2, 0), hop(0, 0)]), Ok(Some(second)));
+        assert_eq!(dmar.unit_for(1, 0, &[hop(2, 0)]), Ok(None));
+        let io_apic = DmarSource { unit: second, bus: 0xf0, hop: Some(hop(0x1f, 0)) };
+        let hpet = DmarSource { unit: second, bus: 0, hop: None };
+        assert_eq!((dmar.unit_of_io_apic(2), dmar.unit_of_io_apic(1)), (Ok(Some(io_apic)), Ok(None)));
+        assert_eq!((dmar.unit_of_hpet(1), dmar.unit_of_hpet(2)), (Ok(Some(hpet)), Ok(None)));
+        let mut room = [Slot::default(); 2];
+        let list = dmar.reserved_for(0, 0, &[hop(2, 0)], &mut room).unwrap();
+        let expected = DmarReserved { base: 0x7b80_0000, limit: 0x7fff_ffff, segment: 0 };
+        assert_eq!((list.count(), list.get(0), list.get(1)), (1, Some(expected), None));
+        let inverted = dmar.reserved_for(0, 0, &[hop(3, 0)], &mut []);
+        assert_eq!(inverted.unwrap_err(), AcpiError::InvalidMemoryRange);
+    });
+    // A byte after the fixed fields; a table that is too short.
+    let mut memory = Memory::rsdt(&[TABLE]);
+    memory.table(TABLE, "DMAR", 1, 49, &[]);
+    memory.ask(|tables| {
+        let dmar = tables.find_table::<Dmar>().unwrap();
+        assert_eq!(dmar.unit_for(0, 0, &[hop(2, 0)]), Err(AcpiError::InvalidStructureLength));
+        assert_eq!(dmar.unit_of_io_apic(2), Err(AcpiError::InvalidStructureLength));
+    });
+    let mut memory = Memory::rsdt(&[TABLE]);
+    memory.table(TABLE, "DMAR", 1, 47, &[]);
+    let missing = AcpiError::TableMissing(Signature::DMAR);
+    memory.ask(|tables| assert_eq!(tables.find_table::<Dmar>().unwrap_err(), missing));
+}
+
+#[test]
+fn reads_an_ivrs() {
+    #[rustfmt::skip]
+    let fields = [
+        // IVHD (section 5.2): Type, Flags at 1, Length at 2, DeviceID at 4, Capability Offset at 6, IOMMU Base Address
+        // at 8, PCI Segment Group at 16, IOMMU Info at 18, IOMMU Attributes at 20, EFR Register Image at 24.
+        (48, 4, 0x34_b011), (52, 2, 2), (54, 2, 0x40), (56, 8, 0x1_feb8_0000), (66, 2, 0x105), (68, 4, 0x8004_8f6e),
+        (72, 8, 0x2465_77ef_a225_4afa),
+        // A select: Type, DeviceID at 1, DTE Setting at 3; an alias: the same, and Source DeviceID at 5.
+        (88, 4, 0xd700_1002), (92, 4, 0x0203_0042), (97, 2, 0x308),
+        // IVMDs: Type, Flags at 1, Length at 2, DeviceID at 4, Auxiliary Data at 6, start at 16, length at 24.
+        (100, 4, 0x20_0822), (104, 2, 0x100), (106, 2, 0x1ff), (116, 8, 0x1_0000_0000), (124, 8, 0x2_0000),
+        (132, 4, 0x20_0121), (136, 2, 0x300), (148, 8, u64::MAX), (156, 8, 1),
+    ];
+    let mut memory = Memory::rsdt(&[TABLE]);
+    memory.table(TABLE, "IVRS", 2, 164, &fields);
+    memory.ask(|tables| {
+        let ivrs = tables.find_table::<Ivrs>().unwrap();
+        assert_eq!((ivrs.table.address, ivrs.table.length), (TABLE, 164));
+        let unit = IvrsUnit {
+            base: 0x1_feb8_0000,
+            extended_features: Some(0x2465_77ef_a225_4afa),
+            features: 0x8004_8f6e,
+            segment: 0,
+            device_id: 2,
+            capability_offset: 0x40,
+            info: 0x105,
+            block_type: 0x11,
+            flags: 0xb0,
+        };
+        let device = |source_id, settings| Ok(Some(IvrsDevice { unit, source_id, settings }));
+        assert_eq!((ivrs.block_for(0, 0x10), ivrs.block_for(0, 0x300)), (device(0x10, 0xd7), device(0x308, 2)));
+        assert_eq!((ivrs.block_for(0, 0x11), ivrs.block_for(1, 0x10)), (Ok(None), Ok(None)));
+        let mut room = [Slot::default(); 2];
+        let list = ivrs.memory_for(0x180, &mut room).unwrap();
+        let expected = IvrsMemory {
+            start: 0x1_0000_0000,
+            length: 0x2_0000,
+            device_id: 0x100,
+            auxiliary: 0x1ff,
+            block_type: 0x22,
+            flags: 8,
+        };
+        assert_eq!((list.count(), list.get(0), list.get(1)), (1, Some(expected), None));
+        assert_eq!(ivrs.memory_for(0x300, &mut []).unwrap_err(), AcpiError::InvalidMemoryRange);
+    });
+    // Type 0x10 has no image, and an entry for all devices. Then a byte after the fixed fields.
+    let mut memory = Memory::rsdt(&[TABLE]);
+    memory.table(TABLE, "IVRS", 2, 76, &[(48, 4, 0x1c_0010), (72, 1, 1)]);
+    memory.ask(|tables| {
+        let device = tables.find_table::<Ivrs>().unwrap().block_for(0, 0x1234).unwrap().unwrap();
+        assert_eq!((device.unit.extended_features, device.source_id), (None, 0x1234));
+    });
+    let mut memory = Memory::rsdt(&[TABLE]);
+    memory.table(TABLE, "IVRS", 2, 49, &[]);
+    memory.ask(|tables| {
+        let ivrs = tables.find_table::<Ivrs>().unwrap();
+        assert_eq!(ivrs.block_for(0, 0), Err(AcpiError::InvalidStructureLength));
+        assert_eq!(ivrs.memory_for(0, &mut []).unwrap_err(), AcpiError::InvalidStructureLength);
+    });
+}

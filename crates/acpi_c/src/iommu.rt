@@ -1,0 +1,103 @@
+//! The units that remap what devices ask of memory, by the DMAR (Intel Virtualization Technology for Directed I/O 4.0)
+//! and by the IVRS (AMD I/O Virtualization Technology (IOMMU) Specification 3.08).
+ghost use Rattle.acpi_c_lib.specs.Answers.{Answers, AnswersList};
+ghost use Rattle.acpi_c_lib.specs.Iommu.{dmar_hpet_below, dmar_io_apic_below, dmar_reserved_below, dmar_unit_below};
+ghost use Rattle.acpi_c_lib.specs.Iommu.{ivrs_memory_below, ivrs_unit_below};
+
+use acpi_c_lib::answer::answer;
+use acpi_c_lib::iommu::{
+    dmar_hpet, dmar_io_apic, dmar_reserved, dmar_unit, ivrs_memory, ivrs_unit,
+};
+use acpi_c_lib::iommu_records::{
+    DmarReserved, DmarSource, DmarUnit, Hop, IvrsDevice, IvrsMemory,
+};
+use acpi_c_lib::records::{Signature, Source};
+
+/// The unit that remaps a device (DMAR, section 8.3).
+#[unsafe(no_mangle)]
+pub extern "C" fn zacpi_dmar_unit(
+    source: &Source<'_>,
+    segment: u16,
+    bus: u8,
+    hops: &[Hop],
+    out: &mut DmarUnit,
+    named: &mut Signature,
+) -> u32
+    ensures { Answers result out.old out.new named.old named.new
+        (dmar_unit_below source.now segment bus hops.now) }
+{
+    answer(dmar_unit(source, segment, bus, hops), out, named)
+}
+
+/// The unit that remaps the interrupts of an I/O APIC (DMAR, section 8.3.1).
+#[unsafe(no_mangle)]
+pub extern "C" fn zacpi_dmar_io_apic(
+    source: &Source<'_>,
+    id: u8,
+    out: &mut DmarSource,
+    named: &mut Signature,
+) -> u32
+    ensures { Answers result out.old out.new named.old named.new (dmar_io_apic_below source.now id) }
+{
+    answer(dmar_io_apic(source, id), out, named)
+}
+
+/// The unit that remaps the interrupts of an HPET (DMAR, section 8.3.1).
+#[unsafe(no_mangle)]
+pub extern "C" fn zacpi_dmar_hpet(
+    source: &Source<'_>,
+    number: u8,
+    out: &mut DmarSource,
+    named: &mut Signature,
+) -> u32
+    ensures { Answers result out.old out.new named.old named.new (dmar_hpet_below source.now number) }
+{
+    answer(dmar_hpet(source, number), out, named)
+}
+
+/// The memory that is reserved for a device (DMAR, section 8.4).
+#[unsafe(no_mangle)]
+pub extern "C" fn zacpi_list_dmar_reserved(
+    source: &Source<'_>,
+    segment: u16,
+    bus: u8,
+    hops: &[Hop],
+    out: &mut [DmarReserved],
+    count: &mut usize,
+    named: &mut Signature,
+) -> u32
+    ensures { AnswersList result out.old out.new count.old count.new named.old named.new
+        (dmar_reserved_below source.now segment bus hops.now) }
+{
+    answer(dmar_reserved(source, segment, bus, hops, out), count, named)
+}
+
+/// The unit that remaps a device, and how it treats it (IVRS, section 5.2).
+#[unsafe(no_mangle)]
+pub extern "C" fn zacpi_ivrs_unit(
+    source: &Source<'_>,
+    segment: u16,
+    device_id: u16,
+    out: &mut IvrsDevice,
+    named: &mut Signature,
+) -> u32
+    ensures { Answers result out.old out.new named.old named.new
+        (ivrs_unit_below source.now segment device_id) }
+{
+    answer(ivrs_unit(source, segment, device_id), out, named)
+}
+
+/// The memory that has its own rules for a device (IVRS, section 5.2).
+#[unsafe(no_mangle)]
+pub extern "C" fn zacpi_list_ivrs_memory(
+    source: &Source<'_>,
+    device_id: u16,
+    out: &mut [IvrsMemory],
+    count: &mut usize,
+    named: &mut Signature,
+) -> u32
+    ensures { AnswersList result out.old out.new count.old count.new named.old named.new
+        (ivrs_memory_below source.now device_id) }
+{
+    answer(ivrs_memory(source, device_id, out), count, named)
+}

@@ -1,0 +1,156 @@
+-- The units that remap what devices ask of memory, as C gets them.
+use Rattle.std.specs.Prelude.{ℕ, List, Option, Some, None, map, Result, Ok, Err}
+use Rattle.std.specs.Option.{ok_or}
+use Rattle.acpi_base.specs.Steps.{◌>>=◌}
+use Rattle.acpi_base.specs.Table.{Kind, sdt_kind}
+use Rattle.acpi_base.specs.declared.table.signature.TheConstants.Signature.{DMAR, IVRS}
+use Rattle.acpi_iommu.specs.Dmar.{includes_pci_all, register_bytes}
+use Rattle.acpi_iommu.specs.DmarUnits.{reserved_for, unit_for, unit_of_hpet, unit_of_io_apic}
+use Rattle.acpi_iommu.specs.IvrsUnits.{block_for, memory_for}
+use Rattle.acpi_iommu.specs.declared.dmar.fields.Drhd.{Drhd}
+use Rattle.acpi_iommu.specs.declared.dmar.fields.Rmrr.{Rmrr}
+use Rattle.acpi_iommu.specs.declared.dmar.scope.Hop.{Hop}
+use Rattle.acpi_iommu.specs.declared.dmar.units.UnitSource.{UnitSource}
+use Rattle.acpi_iommu.specs.declared.error.IommuError.{IommuError}
+use Rattle.acpi_iommu.specs.declared.error.IommuError.TheVariants as iommu
+use Rattle.acpi_iommu.specs.declared.ivrs.block.Ivhd.{Ivhd}
+use Rattle.acpi_iommu.specs.declared.ivrs.block.Ivmd.{Ivmd}
+use Rattle.acpi_iommu.specs.declared.ivrs.blocks.DeviceUnit.{DeviceUnit}
+use Rattle.acpi_c_lib.specs.Below.{below_first}
+use Rattle.acpi_c_lib.specs.Devices.{flag}
+use Rattle.acpi_c_lib.specs.declared.iommu_records.DmarReserved.{DmarReserved}
+use Rattle.acpi_c_lib.specs.declared.iommu_records.DmarSource.{DmarSource}
+use Rattle.acpi_c_lib.specs.declared.iommu_records.DmarUnit.{DmarUnit}
+use Rattle.acpi_c_lib.specs.declared.iommu_records.IvrsDevice.{IvrsDevice}
+use Rattle.acpi_c_lib.specs.declared.iommu_records.IvrsMemory.{IvrsMemory}
+use Rattle.acpi_c_lib.specs.declared.iommu_records.IvrsUnit.{IvrsUnit}
+use Rattle.acpi_c_lib.specs.declared.records.Source.{Source}
+use Rattle.acpi_c_lib.specs.declared.refusal.Refusal.{Refusal}
+use Rattle.acpi_c_lib.specs.declared.refusal.Refusal.TheVariants.{InvalidIommuMemoryRange, InvalidIommuStructureLength, NoIommu}
+
+-- ---- answers
+
+abbrev pub iommu_refusal : IommuError → Refusal
+iommu_refusal iommu.InvalidStructureLength = InvalidIommuStructureLength
+iommu_refusal iommu.InvalidMemoryRange = InvalidIommuMemoryRange
+
+-- what is shown of an answer, or its error
+abbrev pub shown : {A B : Type 0} → (A → B) → Result A IommuError → Result B Refusal
+shown show (Ok x) = Ok (show x)
+shown show (Err e) = Err (iommu_refusal e)
+
+-- what is shown of what is found, or that there is no unit
+abbrev pub found : {A B : Type 0} → (A → B) → Result (Option A) IommuError → Result B Refusal
+found show (Ok (Some x)) = Ok (show x)
+found show (Ok None) = Err NoIommu
+found show (Err e) = Err (iommu_refusal e)
+
+-- ---- the DMAR (Intel Virtualization Technology for Directed I/O 4.0, chapter 8)
+
+-- the bytes of the first valid DMAR
+abbrev pub dmar_in : Source → Result (List ℕ) Refusal
+dmar_in s = below_first (sdt_kind DMAR 48) s (λ table. table)
+
+abbrev pub unit_record : Drhd → DmarUnit
+unit_record d = record {
+  register_base = d.register_base;
+  register_bytes = register_bytes d;
+  segment = d.segment;
+  includes_pci_all = flag (includes_pci_all d);
+}
+
+abbrev pub hop_or : Option Hop → Hop
+hop_or (Some h) = h
+hop_or None = record { device = 0; function = 0 }
+
+abbrev pub has : {A : Type 0} → Option A → ℕ
+has (Some x) = 1
+has None = 0
+
+abbrev pub source_record : UnitSource → DmarSource
+source_record u = record {
+  unit = unit_record u.unit;
+  bus = u.bus;
+  hop = hop_or u.hop;
+  has_hop = has u.hop;
+}
+
+abbrev pub dmar_unit_below : Source → ℕ → ℕ → List Hop → Result DmarUnit Refusal
+dmar_unit_below s segment bus hops = do
+  table ← dmar_in s
+  found unit_record (unit_for table segment bus hops)
+
+abbrev pub dmar_io_apic_below : Source → ℕ → Result DmarSource Refusal
+dmar_io_apic_below s id = do
+  table ← dmar_in s
+  found source_record (unit_of_io_apic table id)
+
+abbrev pub dmar_hpet_below : Source → ℕ → Result DmarSource Refusal
+dmar_hpet_below s number = do
+  table ← dmar_in s
+  found source_record (unit_of_hpet table number)
+
+abbrev pub reserved_record : Rmrr → DmarReserved
+reserved_record r = record { base = r.base; limit = r.limit; segment = r.segment }
+
+abbrev pub dmar_reserved_in : List ℕ → ℕ → ℕ → List Hop → Result (List DmarReserved) Refusal
+dmar_reserved_in table segment bus hops = shown (map reserved_record) (reserved_for table segment bus hops)
+
+abbrev pub dmar_reserved_below : Source → ℕ → ℕ → List Hop → Result (List DmarReserved) Refusal
+dmar_reserved_below s segment bus hops = do
+  table ← dmar_in s
+  dmar_reserved_in table segment bus hops
+
+-- ---- the IVRS (AMD I/O Virtualization Technology (IOMMU) Specification 3.08, section 5.2)
+
+-- the bytes of the first valid IVRS
+abbrev pub ivrs_in : Source → Result (List ℕ) Refusal
+ivrs_in s = below_first (sdt_kind IVRS 48) s (λ table. table)
+
+abbrev pub image_or : Option ℕ → ℕ
+image_or (Some n) = n
+image_or None = 0
+
+abbrev pub block_record : Ivhd → IvrsUnit
+block_record b = record {
+  base = b.base;
+  extended_features = image_or b.extended_features;
+  features = b.features;
+  segment = b.segment;
+  device_id = b.device_id;
+  capability_offset = b.capability_offset;
+  info = b.info;
+  block_type = b.kind;
+  flags = b.flags;
+  has_extended_features = has b.extended_features;
+}
+
+abbrev pub device_record : DeviceUnit → IvrsDevice
+device_record d = record {
+  unit = block_record d.unit;
+  source_id = d.source;
+  settings = d.settings;
+}
+
+abbrev pub ivrs_unit_below : Source → ℕ → ℕ → Result IvrsDevice Refusal
+ivrs_unit_below s segment id = do
+  table ← ivrs_in s
+  found device_record (block_for table segment id)
+
+abbrev pub memory_record : Ivmd → IvrsMemory
+memory_record m = record {
+  start = m.start;
+  length = m.length;
+  device_id = m.device_id;
+  auxiliary = m.auxiliary;
+  block_type = m.kind;
+  flags = m.flags;
+}
+
+abbrev pub ivrs_memory_in : List ℕ → ℕ → Result (List IvrsMemory) Refusal
+ivrs_memory_in table id = shown (map memory_record) (memory_for table id)
+
+abbrev pub ivrs_memory_below : Source → ℕ → Result (List IvrsMemory) Refusal
+ivrs_memory_below s id = do
+  table ← ivrs_in s
+  ivrs_memory_in table id
