@@ -10,10 +10,11 @@ use Rattle.acpi_base.specs.Memory.{Memory, AreApart, IsMemory, IsRegion, end_of,
 use Rattle.acpi.specs.Regions.{IsAscending}
 use Rattle.acpi_c_lib.specs.Regions.{check_from, check_regions, memory_of, region_of}
 use Rattle.acpi_c_lib.specs.declared.regions.Region.{Region}
-use Rattle.std.specs.Prelude.{slice_get}
+use Rattle.std.specs.Prelude.{slice_get, Option, if◌then◌else◌, nat_le}
 use Rattle.std.proofs.lemmas.Option.{slice_get-get_or}
 use Rattle.std.specs.List.Sorted.{IsPartitionPoint}
-use Rattle.acpi_c_lib.specs.Located.{LiesOnlyAt, place_from}
+use Rattle.acpi_c_lib.specs.Located.{LiesOnlyAt, place_from, spot_from}
+use Rattle.acpi_c_lib.specs.declared.records.Place.{Place}
 
 -- ---- in ascending order they are a memory
 
@@ -130,95 +131,83 @@ only_last rs a after h bound point i d inside lies =
         absurd (omega (arith, last, ends, under))
     is_last rs a after i d h bound point before under (inr more) = omega arith
 
--- no region has the address
-abbrev NoneLies : List Region → ℕ → Type 0
-NoneLies rs a = (i : ℕ) (d : Region) → i < length rs → lies_in (region_of (get_or rs i d)) a ≡ true → ⊥
-
 not_there : (r : Region) (a : ℕ) (b : Bool) → lies_in (region_of r) a ≡ b → (lies_in (region_of r) a ≡ true → ⊥) → lies_in (region_of r) a ≡ false
 not_there r a true e h = absurd (h e)
 not_there r a false e h = e
 
-not_first : (r : Region) (rs : List Region) (a : ℕ) → NoneLies (r ∷ rs) a → lies_in (region_of r) a ≡ false
-not_first r rs a h = not_there r a _ refl (λ e. h 0 r (omega arith) e)
-
-none_after : (r : Region) (rs : List Region) (a : ℕ) → NoneLies (r ∷ rs) a → NoneLies rs a
-none_after r rs a h j d inside lies = h (suc j) d (omega arith) lies
-
-nothing_from : (rs : List Region) (a : ℕ) → NoneLies rs a → rest_from (memory_of rs) a ≡ []
-unfolding rest_from
-nothing_from [] a h = refl
-nothing_from (r ∷ rs) a h = rw (not_first r rs a h) (nothing_from rs a (none_after r rs a h))
-
-no_place : (rs : List Region) (k a n : ℕ) → NoneLies rs a → place_from k (memory_of rs) a n ≡ None
-no_place [] k a n h = refl
-no_place (r ∷ rs) k a n h = rw (not_first r rs a h) (no_place rs (k + 1) a n (none_after r rs a h))
-
--- an index past the end
-none_lies : (rs : List Region) (a i : ℕ) → LiesOnlyAt rs a i → length rs ≤ i → NoneLies rs a
-none_lies rs a i h past j d inside lies = omega (arith, h j d inside lies)
-
-pub nothing_past : (rs : List Region) (a i : ℕ) → LiesOnlyAt rs a i → length rs ≤ i → rest_from (memory_of rs) a ≡ []
-nothing_past rs a i h past = nothing_from rs a (none_lies rs a i h past)
-
-pub no_place_past : (rs : List Region) (a i n : ℕ) → LiesOnlyAt rs a i → length rs ≤ i → place_from 0 (memory_of rs) a n ≡ None
-no_place_past rs a i n h past = no_place rs 0 a n (none_lies rs a i h past)
+no_spot : (rs : List Region) (k a : ℕ) → ((i : ℕ) (d : Region) → i < length rs → lies_in (region_of (get_or rs i d)) a ≡ true → ⊥) → spot_from k (memory_of rs) a ≡ None
+no_spot [] k a h = refl
+no_spot (r ∷ rs) k a h = rw (not_there r a _ refl (λ e. h 0 r (omega arith) e)) (no_spot rs (k + 1) a (λ j d inside lies. h (suc j) d (omega arith) lies))
 
 -- the region of the index decides
-only_after : (r : Region) (rs : List Region) (a i : ℕ) → LiesOnlyAt (r ∷ rs) a (suc i) → LiesOnlyAt rs a i
-only_after r rs a i h j d inside lies = omega (arith, h (suc j) d (omega arith) lies)
+abbrev pub spot_in : ℕ → Option Region → ℕ → Option (Place × List ℕ)
+spot_in i None a = None
+spot_in i (Some r) a = spot_from i (region_of r ∷ []) a
 
-not_before : (r : Region) (rs : List Region) (a i : ℕ) → LiesOnlyAt (r ∷ rs) a (suc i) → lies_in (region_of r) a ≡ false
-not_before r rs a i h = not_there r a _ refl (λ e. omega (arith, h 0 r (omega arith) e))
-
-none_later : (r : Region) (rs : List Region) (a : ℕ) → LiesOnlyAt (r ∷ rs) a 0 → NoneLies rs a
-none_later r rs a h j d inside lies = omega (arith, h (suc j) d (omega arith) lies)
-
-pub rest_of_one : (rs : List Region) (a i : ℕ) (r : Region) → LiesOnlyAt rs a i → slice_get rs i ≡ Some r → rest_from (memory_of rs) a ≡ rest_from (region_of r ∷ []) a
-unfolding rest_from
-rest_of_one [] a i r h e = cc
-rest_of_one (s ∷ rs) a zero r h e =
-    let same : s ≡ r = cc in
-    rw (same, nothing_from rs a (none_later s rs a h)) refl
-rest_of_one (s ∷ rs) a (suc i) r h e = rw (not_before s rs a i h) (rest_of_one rs a i r (only_after s rs a i h) e)
-
-place_of_one : (rs : List Region) (k a i n : ℕ) (r : Region) → LiesOnlyAt rs a i → slice_get rs i ≡ Some r → place_from k (memory_of rs) a n ≡ place_from (k + i) (region_of r ∷ []) a n
-place_of_one [] k a i n r h e = cc
-place_of_one (s ∷ rs) k a zero n r h e =
-    let same : s ≡ r = cc in
+spot_of : (rs : List Region) (k a i : ℕ) → LiesOnlyAt rs a i → spot_from k (memory_of rs) a ≡ spot_in (k + i) (slice_get rs i) a
+spot_of [] k a i h = refl
+spot_of (r ∷ rs) k a zero h =
     let index : k + 0 ≡ k = omega arith in
-    rw (same, index, no_place rs (k + 1) a n (none_later s rs a h)) refl
-place_of_one (s ∷ rs) k a (suc i) n r h e =
+    rw (index, no_spot rs (k + 1) a (λ j d inside lies. omega (arith, h (suc j) d (omega arith) lies))) refl
+spot_of (r ∷ rs) k a (suc i) h =
     let index : k + suc i ≡ k + 1 + i = omega arith in
-    rw (not_before s rs a i h, index) (place_of_one rs (k + 1) a i n r (only_after s rs a i h) e)
+    rw (not_there r a _ refl (λ e. omega (arith, h 0 r (omega arith) e)), index) (spot_of rs (k + 1) a i (λ j d inside lies. omega (arith, h (suc j) d (omega arith) lies)))
 
-pub place_there : (rs : List Region) (a i n : ℕ) (r : Region) → LiesOnlyAt rs a i → slice_get rs i ≡ Some r → place_from 0 (memory_of rs) a n ≡ place_from i (region_of r ∷ []) a n
-place_there rs a i n r h e =
+pub spot_past : (rs : List Region) (a i : ℕ) → LiesOnlyAt rs a i → length rs ≤ i → spot_from 0 (memory_of rs) a ≡ None
+spot_past rs a i h past = no_spot rs 0 a (λ j d inside lies. omega (arith, h j d inside lies))
+
+pub spot_there : (rs : List Region) (a i : ℕ) (r : Region) → LiesOnlyAt rs a i → slice_get rs i ≡ Some r → spot_from 0 (memory_of rs) a ≡ spot_from i (region_of r ∷ []) a
+spot_there rs a i r h e =
     let index : 0 + i ≡ i = omega arith in
-    rw index at (place_of_one rs 0 a i n r h e)
+    rw (index, e) at (spot_of rs 0 a i h)
 
--- ---- what the region of the index says
+pub spot_inside : (rs : List Region) (a i : ℕ) (r : Region) → LiesOnlyAt rs a i → i < length rs → ((d : Region) → r ≡ get_or rs i d) → (s : List ℕ) → lies_in (region_of r) a ≡ true → s ≡ drop (a - r.address) r.bytes.now
+    → Some (record { region = i; offset = a - r.address }, s) ≡ spot_from 0 (memory_of rs) a
+spot_inside rs a i r h inside at s lies e =
+    let here : slice_get rs i ≡ Some r = slice_get-get_or rs i r inside ∙ ap Some (sym (at r)) in
+    rw (spot_there rs a i r h here, lies, e) refl
 
--- the bytes from an address in a region on reach to its end
-pub bytes_after : (r : Region) (a : ℕ) (s : List ℕ) → lies_in (region_of r) a ≡ true → s ≡ drop (a - r.address) r.bytes.now → a + length s ≡ end_of (region_of r)
-bytes_after r a s lies e =
-    let there = and_parts (leb r.address a) (ltb a (end_of (region_of r))) lies in
-    rw e (omega (arith, length-drop (a - r.address) r.bytes.now, leb-true _ _ there.0, ltb-true _ _ there.1))
+-- ---- what is seen where an address lies
 
-module _ (rs : List Region) (a i : ℕ) (r : Region) (h : LiesOnlyAt rs a i) (inside : i < length rs) (at : (d : Region) → r ≡ get_or rs i d) where
-  there : slice_get rs i ≡ Some r
-  there =
-      let e : get_or rs i r ≡ r = sym (at r) in
-      slice_get-get_or rs i r inside ∙ ap Some e
+abbrev pub seen : Option (Place × List ℕ) → List ℕ
+seen (Some spot) = spot.1
+seen None = []
 
-  pub rest_inside : (s : List ℕ) → lies_in (region_of r) a ≡ true → s ≡ drop (a - r.address) r.bytes.now → s ≡ rest_from (memory_of rs) a
-  unfolding rest_from
-  rest_inside s lies e = rw (rest_of_one rs a i r h there, lies) e
+seen_from : (k : ℕ) (m : Memory) (a : ℕ) → rest_from m a ≡ seen (spot_from k m a)
+unfolding rest_from
+seen_from k [] a = refl
+seen_from k (r ∷ m) a = grind (arith, seen_from (k + 1) m a)
 
-  pub place_inside : (n : ℕ) → lies_in (region_of r) a ≡ true → a + n ≤ end_of (region_of r) → place_from 0 (memory_of rs) a n ≡ Some (record { region = i; offset = a - r.address })
-  place_inside n lies fits = rw (place_there rs a i n r h there, lies, le-leb _ _ fits) refl
+pub rest_seen : (m : Memory) (a : ℕ) → rest_from m a ≡ seen (spot_from 0 m a)
+rest_seen m a = seen_from 0 m a
 
-  pub place_short : (n : ℕ) → lies_in (region_of r) a ≡ true → end_of (region_of r) < a + n → place_from 0 (memory_of rs) a n ≡ None
-  place_short n lies short = rw (place_there rs a i n r h there, lies, lt-leb _ _ short) refl
+abbrev pub placed : Option (Place × List ℕ) → ℕ → Option Place
+placed (Some spot) n = if nat_le n (length spot.1) then Some spot.0 else None
+placed None n = None
+
+-- no bytes lie where all regions begin above them
+no_place : (k : ℕ) (m : Memory) (end a n : ℕ) → AllByRecursion (λ s. end ≤ s.start) m → a < end → place_from k m a n ≡ None
+no_place k [] end a n h low = refl
+no_place k (r ∷ m) end a n h low =
+    let below : a < r.start = omega (arith, h.0, low) in
+    let outside : lies_in r a ≡ false = and_left _ _ (lt-leb _ _ below) in
+    rw outside (no_place (k + 1) m end a n h.1 low)
+
+place_first : (k : ℕ) (r : memory.Region) (m : Memory) (a n : ℕ) (b : Bool) → lies_in r a ≡ b → (end_of r < a + n) ⊎ (a + n ≤ end_of r) → AllByRecursion (λ s. end_of r ≤ s.start) m
+    → place_from (k + 1) m a n ≡ placed (spot_from (k + 1) m a) n → place_from k (r ∷ m) a n ≡ placed (spot_from k (r ∷ m) a) n
+place_first k r m a n false e fits later rest = rw e rest
+place_first k r m a n true e (inl short) later rest =
+    let there = inside r a e in
+    let less : length (drop (a - r.start) r.bytes) < n = omega (arith, length-drop (a - r.start) r.bytes, there.0, short) in
+    rw (e, lt-leb _ _ short, lt-leb _ _ less, no_place (k + 1) m (end_of r) a n later there.1) refl
+place_first k r m a n true e (inr fits) later rest =
+    let there = inside r a e in
+    let most : n ≤ length (drop (a - r.start) r.bytes) = omega (arith, length-drop (a - r.start) r.bytes, there.0, fits) in
+    rw (e, le-leb _ _ fits, le-leb _ _ most) refl
+
+pub place_seen : (k : ℕ) (m : Memory) (a n : ℕ) → IsAscending m → place_from k m a n ≡ placed (spot_from k m a) n
+place_seen k [] a n h = refl
+place_seen k (r ∷ m) a n h = place_first k r m a n _ refl (cases_lt (end_of r) (a + n)) h.0 (place_seen (k + 1) m a n h.1)
 
 -- ---- where an address lies, and what is lent there
 

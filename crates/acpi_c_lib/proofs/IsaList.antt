@@ -28,27 +28,6 @@ use Rattle.acpi_c_lib.specs.declared.records.Source.{Source}
 use Rattle.acpi_c_lib.specs.declared.refusal.Refusal.{Refusal}
 use Rattle.acpi_c_lib.specs.declared.interrupt_records.IsaRoute.{IsaRoute}
 
--- ---- a loop over the numbers
-
--- one thing holds of the routes below a number, and another from there on
-abbrev pub Turned : (ℕ → IsaRoute → Type 0) → (ℕ → IsaRoute → Type 0) → ℕ → List IsaRoute → Type 0
-Turned Below From irq routes =
-    ((n : ℕ) → n < irq → Below n (get_or routes n no_route)) × ((n : ℕ) → irq ≤ n → From n (get_or routes n no_route))
-
-module _ (Below From : ℕ → IsaRoute → Type 0) (irq : ℕ) (routes : List IsaRoute) (turned : Turned Below From irq routes) where
-  at_or_below : (n : ℕ) (here : Bool) → (n == irq) ≡ here → n < irq + 1 → (n ≡ irq) ⊎ (n < irq)
-  at_or_below n true is small = inl (grind (arith, nat_tests))
-  at_or_below n false is small = inr (grind (arith, nat_tests))
-
-  pub turned_more : (new : IsaRoute) → irq < length routes → Below irq new → Turned Below From (irq + 1) (set routes irq new)
-  turned_more new fits is = (
-    λ n small. elim (at_or_below n (n == irq) refl small) [
-      | inl here ↦ subst (λ n. Below n (get_or (set routes irq new) n no_route)) (sym here) (subst (Below irq) (sym (get_or-set_same routes irq new no_route fits)) is)
-      | inr below ↦ subst (Below n) (sym (get_or-set_other routes irq n new no_route (λ e. omega arith))) (turned.0 n below)
-    ],
-    λ n large. subst (From n) (sym (get_or-set_other routes irq n new no_route (λ e. omega arith))) (turned.1 n (omega arith)),
-  )
-
 -- ---- a walk along the I/O APICs
 
 -- each interrupt has the nearest of the I/O APICs so far, which with those that are left are all
@@ -83,12 +62,7 @@ one_met isa before after x left all meets routed = λ irq small.
 -- other items change nothing
 pub none_more : (item : MadtItem) (left : List MadtItem) → ((x : IoApic) → item ≡ items.IoApic x → ⊥) → filter_map io_apic_in (item ∷ left) ≡ filter_map io_apic_in left
 none_more (items.IoApic x) left other = absurd (other x refl)
-none_more (items.Processor uid id enabled) left other = refl
-none_more (items.Override x) left other = refl
-none_more (items.NmiSource x) left other = refl
-none_more (items.NmiLine x) left other = refl
-none_more (items.LocalApicAddress x) left other = refl
-none_more items.Wakeup left other = refl
+none_more _ left other = refl
 
 found_last : (found : Option IoApic) → or_nearer found None ≡ found
 found_last None = refl

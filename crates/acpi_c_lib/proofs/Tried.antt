@@ -8,7 +8,7 @@ use Rattle.acpi_base.specs.Memory.{Memory}
 use Rattle.acpi_base.specs.Ranges.{Ranges}
 use Rattle.acpi_base.specs.Steps.{lent}
 use Rattle.acpi_base.specs.declared.error.AcpiError.{AcpiError}
-use Rattle.acpi_base.specs.declared.error.AcpiError.TheVariants.{AllocError, InvalidDsdtAddress, InvalidFacsAddress, InvalidGenericAddress, InvalidMadt, InvalidNamespaceString, MapFailed, NoValidRsdp, RsdpIncorrectSignature, RsdpInvalidChecksum, RsdpInvalidOemId, SdtInvalidChecksum, SdtInvalidLength, SdtInvalidOemId, SdtInvalidSignature, SdtInvalidTableId, TableMissing}
+use Rattle.acpi_base.specs.declared.error.AcpiError.TheVariants.{MapFailed, NoValidRsdp}
 use Rattle.acpi_base.specs.declared.range.AddressRange.{AddressRange}
 use Rattle.acpi.specs.Areas.{count_in, ebda_area, end_of, first_in, found_in_areas, range}
 use Rattle.acpi.specs.Later.{or_later}
@@ -46,22 +46,7 @@ unsigned_hole m a b is other = grind arith
 -- only if something isn't lent do the ranges count
 same_hole : (e : AcpiError) (xs ys : Ranges) → (e ≡ MapFailed → xs ≡ ys) → hole {A = Unit {0}} (Err e) xs ≡ hole {A = List ℕ} (Err e) ys
 same_hole MapFailed xs ys f = ap last_range (f refl)
-same_hole NoValidRsdp xs ys f = refl
-same_hole RsdpIncorrectSignature xs ys f = refl
-same_hole RsdpInvalidOemId xs ys f = refl
-same_hole RsdpInvalidChecksum xs ys f = refl
-same_hole (SdtInvalidSignature s) xs ys f = refl
-same_hole (SdtInvalidOemId s) xs ys f = refl
-same_hole (SdtInvalidTableId s) xs ys f = refl
-same_hole (SdtInvalidLength s) xs ys f = refl
-same_hole (SdtInvalidChecksum s) xs ys f = refl
-same_hole (TableMissing s) xs ys f = refl
-same_hole InvalidFacsAddress xs ys f = refl
-same_hole InvalidDsdtAddress xs ys f = refl
-same_hole (InvalidMadt x) xs ys f = refl
-same_hole InvalidGenericAddress xs ys f = refl
-same_hole AllocError xs ys f = refl
-same_hole InvalidNamespaceString xs ys f = refl
+same_hole _ xs ys f = refl
 
 long_ranges : (m : Memory) (a : ℕ) (b : List ℕ) → lent m a 36 ≡ Ok b → rsdp_at m a ≡ Err MapFailed → drop 1 (rsdp_ranges m a) ≡ length_ranges a (extended_length_of (rsdp_of b))
 unfolding rsdp_at
@@ -123,42 +108,9 @@ later_found : (r : Result (List ℕ) AcpiError) (a : ℕ) (o : Option (ℕ × Li
 later_found (Ok x) a o = refl
 later_found (Err e) a o = refl
 
-holes_one : (m : Memory) (i a : ℕ) → 0 < i → walk_holes m i a ≡ or_later (λ b. []) (rsdp_at m a) (cons_option (candidate_hole m a) (walk_holes m (i - 1) (a + 16)))
-unfolding walk_holes
-holes_one m zero a some = absurd (omega (arith, some))
-holes_one m (suc i) a some =
-    let less : suc i - 1 ≡ i = omega arith in
-    rw less refl
-
-found_one : (m : Memory) (i a : ℕ) → 0 < i → has_valid m i a ≡ (if is_ok (rsdp_at m a) then true else has_valid m (i - 1) (a + 16))
-unfolding has_valid
-found_one m zero a some = absurd (omega (arith, some))
-found_one m (suc i) a some =
-    let less : suc i - 1 ≡ i = omega arith in
-    rw less (later_found (rsdp_at m a) a (walk m i (a + 16)))
-
-later_holes : (r : Result (List ℕ) AcpiError) (b : Bool) (xs : List Range) → b ≡ is_ok r → or_later (λ x. []) r xs ≡ (if b then [] else xs)
-later_holes (Ok x) b xs is = rw is refl
-later_holes (Err e) b xs is = rw is refl
-
-module _ (m : Memory) (n k start : ℕ) (turn : k < n) (valid : Bool) (is : valid ≡ is_ok (rsdp_at m (start + 16 * k))) where
-  pub holes_turn : walk_holes m (n - k) (start + 16 * k) ≡ (if valid then [] else cons_option (candidate_hole m (start + 16 * k)) (walk_holes m (n - (k + 1)) (start + 16 * (k + 1))))
-  holes_turn =
-      let less : n - k - 1 ≡ n - (k + 1) = omega arith in
-      let next : start + 16 * k + 16 ≡ start + 16 * (k + 1) = omega arith in
-      let some : 0 < n - k = omega (arith, turn) in
-      let step : walk_holes m (n - k) (start + 16 * k) ≡ or_later (λ b. []) (rsdp_at m (start + 16 * k)) (cons_option (candidate_hole m (start + 16 * k)) (walk_holes m (n - (k + 1)) (start + 16 * (k + 1)))) =
-      rw (less, next) at (holes_one m (n - k) (start + 16 * k) some) in
-      step ∙ later_holes _ valid _ is
-
-  pub found_turn : has_valid m (n - k) (start + 16 * k) ≡ (if valid then true else has_valid m (n - (k + 1)) (start + 16 * (k + 1)))
-  found_turn =
-      let less : n - k - 1 ≡ n - (k + 1) = omega arith in
-      let next : start + 16 * k + 16 ≡ start + 16 * (k + 1) = omega arith in
-      let some : 0 < n - k = omega (arith, turn) in
-      let step : has_valid m (n - k) (start + 16 * k) ≡ (if is_ok (rsdp_at m (start + 16 * k)) then true else has_valid m (n - (k + 1)) (start + 16 * (k + 1))) =
-      rw (less, next) at (found_one m (n - k) (start + 16 * k) some) in
-      step ∙ ap (λ b. if b then true else has_valid m (n - (k + 1)) (start + 16 * (k + 1))) (sym is)
+later_holes : (r : Result (List ℕ) AcpiError) (b : Bool) (xs : List Range) → is_ok r ≡ b → or_later (λ x. []) r xs ≡ (if b then [] else xs)
+later_holes (Ok x) b xs is = rw (← is) refl
+later_holes (Err e) b xs is = rw (← is) refl
 
 put_hole : (old : List Range) (n : ℕ) (o : Option Range) (ys : List Range) → put_from (put_from old n (cons_option o [])) (n + length (cons_option o [])) ys ≡ put_from old n (cons_option o ys)
 put_hole old n (Some r) ys = refl
@@ -168,57 +120,41 @@ more_holes : (n : ℕ) (o : Option Range) (ys : List Range) → n + length (cons
 more_holes n (Some r) ys = omega arith
 more_holes n None ys = omega arith
 
-few_holes : (o : Option Range) → length (cons_option o []) ≤ 1
+pub few_holes : (o : Option Range) → length (cons_option o []) ≤ 1
 few_holes (Some r) = omega arith
 few_holes None = omega arith
 
--- what is written and what is left are the whole, and those that are left have the first valid one of all
-abbrev pub Walked : Memory → ℕ → ℕ → ℕ → List Range → List Range → ℕ → ℕ → Type 0
-Walked m count first k new old next from =
-    let left = walk_holes m (count - k) (first + 16 * k) in
-    let all = walk_holes m count first in
-    (put_from new next left ≡ put_from old from all)
-    × (next + length left ≡ from + length all)
-    × (next ≤ from + k)
-    × (has_valid m (count - k) (first + 16 * k) ≡ has_valid m count first)
+-- what is written and what is left are the whole, and those that are left have a valid one if all have
+abbrev pub Walked : Memory → ℕ → ℕ → List Range → ℕ → List Range → ℕ → Bool → Type 0
+Walked m left a new next all count valid =
+    (put_from new next (walk_holes m left a) ≡ all) × (next + length (walk_holes m left a) ≡ count) × (has_valid m left a ≡ valid)
 
-pub walked_on : (m : Memory) (count first k : ℕ) (new newer old : List Range) (next after from : ℕ) (o : Option Range) → k < count → is_ok (rsdp_at m (first + 16 * k)) ≡ false → o ≡ candidate_hole m (first + 16 * k)
-    → newer ≡ put_from new next (cons_option o []) → after ≡ next + length (cons_option o []) → Walked m count first k new old next from → Walked m count first (k + 1) newer old after from
-walked_on m count first k new newer old next after from o turn refused is written counted w =
-    let left = walk_holes m (count - (k + 1)) (first + 16 * (k + 1)) in
-    let same : walk_holes m (count - k) (first + 16 * k) ≡ cons_option o left = holes_turn m count k first turn false (sym refused) ∙ ap (λ x. cons_option x left) (sym is) in
-    let found : has_valid m (count - k) (first + 16 * k) ≡ has_valid m (count - (k + 1)) (first + 16 * (k + 1)) = found_turn m count k first turn false (sym refused) in (
-      rw (written, counted) (put_hole new next o left) ∙ (rw same at w.0),
-      rw counted (more_holes next o left) ∙ (rw same at w.1),
-      omega (arith, counted, few_holes o, w.2),
-      sym found ∙ w.3,
-    )
+pub walked_more : (m : Memory) (left a : ℕ) (new : List Range) (next : ℕ) (o : Option Range) (all : List Range) (count : ℕ) (valid : Bool) → 0 < left → is_ok (rsdp_at m a) ≡ false → o ≡ candidate_hole m a
+    → Walked m left a new next all count valid → Walked m (left - 1) (a + 16) (put_from new next (cons_option o [])) (next + length (cons_option o [])) all count valid
+unfolding walk_holes has_valid
+walked_more m zero a new next o all count valid some refused is w = absurd (omega (arith, some))
+walked_more m (suc left) a new next o all count valid some refused is w =
+    let less : suc left - 1 ≡ left = omega arith in
+    let ys = walk_holes m left (a + 16) in
+    let holes : walk_holes m (suc left) a ≡ cons_option o ys = later_holes (rsdp_at m a) false _ refused ∙ ap (λ x. cons_option x ys) (sym is) in
+    let found : has_valid m (suc left) a ≡ has_valid m left (a + 16) = later_found (rsdp_at m a) a (walk m left (a + 16)) ∙ ap (λ b. if b then true else has_valid m left (a + 16)) refused in
+    rw less (put_hole new next o ys ∙ (rw holes at w.0), more_holes next o ys ∙ (rw holes at w.1), sym found ∙ w.2)
 
-pub walked_to : (m : Memory) (count first k : ℕ) (new old : List Range) (next from : ℕ) → k < count → is_ok (rsdp_at m (first + 16 * k)) ≡ true → Walked m count first k new old next from
-    → (new ≡ put_from old from (walk_holes m count first)) × (next ≡ from + length (walk_holes m count first)) × (next ≤ from + k) × (true ≡ has_valid m count first)
-walked_to m count first k new old next from turn valid w =
-    let none : walk_holes m (count - k) (first + 16 * k) ≡ [] = holes_turn m count k first turn true (sym valid) in
-    let found : has_valid m (count - k) (first + 16 * k) ≡ true = found_turn m count k first turn true (sym valid) in
-    let zero_more : next + 0 ≡ next = omega arith in
-    (rw none at w.0, sym zero_more ∙ (rw none at w.1), w.2, sym found ∙ w.3)
+-- a valid one is the last
+pub walked_to : (m : Memory) (left a : ℕ) (new : List Range) (next : ℕ) (all : List Range) (count : ℕ) (valid : Bool) → 0 < left → is_ok (rsdp_at m a) ≡ true → Walked m left a new next all count valid
+    → (new ≡ all) × (next ≡ count) × (true ≡ valid)
+unfolding walk_holes has_valid
+walked_to m zero a new next all count valid some is w = absurd (omega (arith, some))
+walked_to m (suc left) a new next all count valid some is w =
+    let holes : walk_holes m (suc left) a ≡ [] = later_holes (rsdp_at m a) true _ is in
+    let found : has_valid m (suc left) a ≡ true = later_found (rsdp_at m a) a (walk m left (a + 16)) ∙ ap (λ b. if b then true else has_valid m left (a + 16)) is in
+    (rw holes at w.0, omega (arith, rw holes at w.1), sym found ∙ w.2)
 
-no_holes : (m : Memory) (n a : ℕ) → n ≡ 0 → walk_holes m n a ≡ []
-unfolding walk_holes
-no_holes m zero a e = refl
-no_holes m (suc n) a e = absurd (omega (arith, e))
-
-not_valid : (m : Memory) (n a : ℕ) → n ≡ 0 → has_valid m n a ≡ false
-unfolding has_valid
-not_valid m zero a e = refl
-not_valid m (suc n) a e = absurd (omega (arith, e))
-
-pub walked_all : (m : Memory) (count first k : ℕ) (new old : List Range) (next from : ℕ) → count ≤ k → Walked m count first k new old next from
-    → (new ≡ put_from old from (walk_holes m count first)) × (next ≡ from + length (walk_holes m count first)) × (false ≡ has_valid m count first)
-walked_all m count first k new old next from over w =
-    let nothing_left : count - k ≡ 0 = omega (arith, over) in
-    let none = no_holes m (count - k) (first + 16 * k) nothing_left in
-    let zero_more : next + 0 ≡ next = omega arith in
-    (rw none at w.0, sym zero_more ∙ (rw none at w.1), sym (not_valid m (count - k) (first + 16 * k) nothing_left) ∙ w.3)
+pub walked_all : (m : Memory) (left a : ℕ) (new : List Range) (next : ℕ) (all : List Range) (count : ℕ) (valid : Bool) → left ≤ 0 → Walked m left a new next all count valid
+    → (new ≡ all) × (next ≡ count) × (false ≡ valid)
+unfolding walk_holes has_valid
+walked_all m zero a new next all count valid none w = (w.0, omega (arith, w.1), w.2)
+walked_all m (suc left) a new next all count valid none w = absurd (omega (arith, none))
 
 -- ---- of two areas
 

@@ -183,24 +183,9 @@ opening_unlent m s =
 -- ---- the ranges of a search's candidates, and then the others
 
 -- only an unknown start is refused, and that is no search
-never_refused : (m : Memory) (s : Source) (r : Result Opened AcpiError) (e : Refusal) → missing_in m s (refused_as r) ≡ Err e → ⊥
-never_refused m s (Ok o) e is = cc
-never_refused m s (Err x) e is = cc
-
-not_this : (m : Memory) (s : Source) (b : Bool) (r : Result Opened AcpiError) (later : Result Opened Refusal) (e : Refusal) → missing_in m s (if b then refused_as r else later) ≡ Err e
-    → (b ≡ false) × (missing_in m s later ≡ Err e)
-not_this m s true r later e is = absurd (never_refused m s r e is)
-not_this m s false r later e is = (refl, is)
-
 no_candidates : (m : Memory) (s : Source) (e : Refusal) → missing_in m s (opened_in m s) ≡ Err e → candidate_holes m s ≡ []
 unfolding candidate_holes has_valid walk_holes
-no_candidates m s e is =
-    let after_0 = not_this m s (s.start == 0) _ _ e is in
-    let after_1 = not_this m s (s.start == 1) _ _ e after_0.1 in
-    let after_2 = not_this m s (s.start == 2) _ _ e after_1.1 in
-    let after_3 = not_this m s (s.start == 3) _ _ e after_2.1 in
-    let after_4 = not_this m s (s.start == 4) _ _ e after_3.1 in
-    rw (after_3.0, after_4.0) refl
+no_candidates m s e is = grind arith
 
 abbrev both : List Range → Result (List Range) Refusal → Result (List Range) Refusal
 both xs others = others >>= λ ys. Ok (xs ++ ys)

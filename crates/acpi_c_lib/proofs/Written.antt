@@ -6,6 +6,7 @@ use Rattle.std.proofs.lemmas.List.{append-nil, length-map}
 use Rattle.acpi_c_lib.specs.Answers.{Writes, put_from, Fills, result_map}
 use Rattle.std.specs.Prelude.{Result, Ok, nat_lt, ◌==◌, ◌&&◌, ◌||◌, not, nat_le, map, if◌then◌else◌}
 use Rattle.acpi_base.specs.Memory.{Memory}
+use Rattle.acpi.proofs.First.{filter_map_few}
 use Rattle.acpi.specs.Opened.{Opened}
 use Rattle.acpi.specs.Root as root
 use Rattle.acpi.specs.Root.{pointers}
@@ -150,14 +151,6 @@ one_each : (es : List (List ℕ)) → AllByRecursion (IsEntry timers_layout) es 
 one_each [] a = omega arith
 one_each (e ∷ es) a = omega (arith, one_each es a.1, a.0.header, length-append e (concat es))
 
-length-cons_option : {X : Type 0} (o : Option X) (xs : List X) → length (cons_option o xs) ≤ suc (length xs)
-length-cons_option None xs = omega arith
-length-cons_option (Some x) xs = omega arith
-
-length-filter_map : {X Y : Type 0} (f : X → Option Y) (xs : List X) → length (filter_map f xs) ≤ length xs
-length-filter_map f [] = omega arith
-length-filter_map f (x ∷ xs) = omega (arith, length-filter_map f xs, length-cons_option (f x) (filter_map f xs))
-
 by_front : (b : Bool) (e : List ℕ) (es fs : List (List ℕ)) → length fs ≤ length es → length (if b then e ∷ fs else []) ≤ suc (length es)
 by_front true e es fs h = omega (arith, h)
 by_front false e es fs h = omega arith
@@ -170,7 +163,7 @@ pub watchdogs_few : (table : List ℕ) → length (watchdogs_shown table) ≤ le
 watchdogs_few table =
     let es = (cut (timers_grammar (timer_count table)) (timer_bytes table)).0 in
     let c = cut_is_cut 2 (timers_grammar (timer_count table)) (timer_bytes table) in
-    omega (arith, length-filter_map watchdog_in (filter_map timer_of (sound_front es)), length-filter_map timer_of (sound_front es), front_few es, one_each es c.entries, cut_whole (timer_count table) (timer_bytes table), bytes_few table)
+    omega (arith, filter_map_few watchdog_in (filter_map timer_of (sound_front es)), filter_map_few timer_of (sound_front es), front_few es, one_each es c.entries, cut_whole (timer_count table) (timer_bytes table), bytes_few table)
 
 -- ---- blocks one after the other
 

@@ -61,11 +61,6 @@ isa_list_in m ps = do
 abbrev pub isa_list_below : Source → Result IsaInterrupts Refusal
 isa_list_below s = below s isa_list_in
 
--- the value written, or the refusal and nothing written
-abbrev pub WritesOne : {A : Type 0} → Result (Unit {0}) Refusal → A → A → Result A Refusal → Type 0
-WritesOne said old new (Ok x) = (said ≡ Ok tt) × (new ≡ x)
-WritesOne said old new (Err e) = (said ≡ Err e) × (new ≡ old)
-
 -- the law: each item is what the calls for one answer
 abbrev pub ItemsAreAnswers : Type 0
 ItemsAreAnswers = (s : Source) (list : IsaInterrupts) → isa_list_below s ≡ Ok list

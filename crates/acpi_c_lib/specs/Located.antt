@@ -1,5 +1,5 @@
 -- Where bytes lie in a caller's regions.
-use Rattle.std.specs.Prelude.{◌≡◌, ℕ, ◌+◌, ◌-◌, ◌<◌, ◌&&◌, Bool, true, nat_le, List, [], ◌∷◌, length, slice_index_or, Option, Some, None, Result, if◌then◌else◌}
+use Rattle.std.specs.Prelude.{◌≡◌, ℕ, ◌+◌, ◌-◌, ◌<◌, ◌&&◌, Bool, true, nat_le, List, [], ◌∷◌, drop, length, slice_index_or, Option, Some, None, Result, if◌then◌else◌}
 use Rattle.std.specs.Option.{ok_or}
 use Rattle.acpi_base.specs.Memory as memory
 use Rattle.acpi_base.specs.Memory.{Memory, end_of, lies_in}
@@ -21,6 +21,13 @@ place_from index [] a n = None
 place_from index (r ∷ m) a n =
     if holds_all a n r then Some (record { region = index; offset = a - r.start })
     else place_from (index + 1) m a n
+
+-- where an address lies, by a region counted from this index on, and the bytes from there to the region's end
+abbrev pub spot_from : ℕ → Memory → ℕ → Option (Place × List ℕ)
+spot_from index [] a = None
+spot_from index (r ∷ m) a =
+    if lies_in r a then Some (record { region = index; offset = a - r.start }, drop (a - r.start) r.bytes)
+    else spot_from (index + 1) m a
 
 -- where n bytes from an address lie, or that no region holds them
 abbrev pub located : List Region → ℕ → ℕ → Result Place Refusal

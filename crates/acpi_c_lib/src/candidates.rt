@@ -141,17 +141,22 @@ fn walk<H: AcpiHandler>(
     ensures found { result.1 ≡ has_valid (H.memory handler.now) candidates.count candidates.first }
 {
     let mut next = from;
-    for k in 0..candidates.count {
-        match tried(handler, candidates.first + 16 * k) {
+    let mut address = candidates.first;
+    let mut left = candidates.count;
+    while left > 0 {
+        match tried(handler, address) {
             Ok(()) => return (next, true),
             Err(hole) => next = put_pair((hole, None), out, next),
         }
+        address += 16;
+        left -= 1;
     }
     (next, false)
 }
 
 /// Tries a candidate: whether it is valid, or else as many bytes of it as its Length says, if its 36 bytes are lent and
 /// these aren't.
+#[tactic(auto, using(crate::proofs::Tried::head_hole, crate::proofs::Tried::head_refused, crate::proofs::Tried::one_refused, crate::proofs::Tried::one_valid, crate::proofs::Tried::unsigned_hole, crate::proofs::Tried::unsigned_refused))]
 fn tried<H: AcpiHandler>(handler: &H, address: u64) -> Result<(), Option<Range>>
     requires begins { address / 16 * 16 ≡ address }
     requires low { address + 20 < 2 ^ 64 }

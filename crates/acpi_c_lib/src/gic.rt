@@ -1,12 +1,12 @@
 //! The generic interrupt controller (GIC) of an Arm machine, with no heap: each list is written by a walk along the
 //! entries of the MADT.
-ghost use Rattle.std.specs.Prelude.{◌≡◌, map};
+ghost use Rattle.std.specs.Prelude.{◌≡◌, map, refl};
 ghost use Rattle.acpi_base.specs.Mapping.{bytes_of};
 ghost use Rattle.acpi_base.specs.Steps.{Gives};
 ghost use Rattle.acpi.specs.Tables.{of_tables};
 ghost use Rattle.acpi_arm.specs.Gic.{items_of, model_beside};
 ghost use Rattle.acpi_c_lib.specs.Answers.{Fills, Writes};
-ghost use Rattle.acpi_c_lib.specs.Arm.{below_gic, distributor_shown, gic_in};
+ghost use Rattle.acpi_c_lib.specs.Arm.{below_gic, distributor_shown, gic_in, cpu_interface_record, cpu_interfaces_shown, msi_frame_record, msi_frames_shown, redistributors_record, redistributors_shown, translation_service_record, translation_services_shown};
 
 use crate::arm_records as records;
 use crate::lists::put;
@@ -109,9 +109,6 @@ fn fill_parts<R: GicRecord>(table: &[u8], out: &mut [R]) -> usize
 }
 
 impl GicRecord for records::GicCpuInterface {
-    ghost use Rattle.std.specs.Prelude.{refl};
-    ghost use Rattle.acpi_c_lib.specs.Arm.{cpu_interface_record, cpu_interfaces_shown};
-
     type Part = GicCpuInterface;
 
     ghost record_of = { cpu_interface_record };
@@ -146,9 +143,6 @@ impl GicRecord for records::GicCpuInterface {
 }
 
 impl GicRecord for Range {
-    ghost use Rattle.std.specs.Prelude.{refl};
-    ghost use Rattle.acpi_c_lib.specs.Arm.{redistributors_record, redistributors_shown};
-
     type Part = GicRedistributors;
 
     ghost record_of = { redistributors_record };
@@ -166,9 +160,6 @@ impl GicRecord for Range {
 }
 
 impl GicRecord for records::GicTranslationService {
-    ghost use Rattle.std.specs.Prelude.{refl};
-    ghost use Rattle.acpi_c_lib.specs.Arm.{translation_service_record, translation_services_shown};
-
     type Part = GicTranslationService;
 
     ghost record_of = { translation_service_record };
@@ -186,9 +177,6 @@ impl GicRecord for records::GicTranslationService {
 }
 
 impl GicRecord for records::GicMsiFrame {
-    ghost use Rattle.std.specs.Prelude.{refl};
-    ghost use Rattle.acpi_c_lib.specs.Arm.{msi_frame_record, msi_frames_shown};
-
     type Part = GicMsiFrame;
 
     ghost record_of = { msi_frame_record };

@@ -1,16 +1,16 @@
 //! The interrupt model, gathered with no heap: what is counted is counted by a walk along the entries of
 //! the MADT, and what is listed is written by another one.
-ghost use Rattle.std.specs.Prelude.{◌≡◌, ◌^◌, ◌<◌, length, map, IfOk, IfSome, Some};
+ghost use Rattle.std.specs.Prelude.{◌≡◌, ◌^◌, ◌<◌, length, map, IfOk, IfSome, Some, refl};
 ghost use Rattle.std.specs.List.{filter_map};
 ghost use Rattle.std.specs.Option.{option_map};
 ghost use Rattle.acpi_base.specs.Items.{counts_of, items_left};
 ghost use Rattle.acpi_base.specs.Mapping.{bytes_of};
-ghost use Rattle.acpi_base.specs.Model.{items_of};
+ghost use Rattle.acpi_base.specs.Model.{items_of, io_apic_in, nmi_line_in, nmi_source_in, override_in};
 ghost use Rattle.acpi_base.specs.Steps.{Gives};
 ghost use Rattle.acpi.specs.Platform.{model_in};
 ghost use Rattle.acpi.specs.Tables.{of_tables};
 ghost use Rattle.acpi_c_lib.specs.Answers.{Fills, Writes};
-ghost use Rattle.acpi_c_lib.specs.Model.{apics_by, io_apic_record, model_by, platform_model};
+ghost use Rattle.acpi_c_lib.specs.Model.{apics_by, io_apic_record, model_by, platform_model, io_apics_of, nmi_line_record, nmi_lines_of, nmi_source_record, nmi_sources_of, override_record, overrides_of};
 ghost use Rattle.acpi_c_lib.specs.Routes.{apics_in, below_apics, platform_in};
 
 use crate::interrupt_records as records;
@@ -155,10 +155,6 @@ fn fill_entries<R: MadtRecord>(items: MadtItems<'_>, out: &mut [R]) -> usize
 }
 
 impl MadtRecord for records::IoApic {
-    ghost use Rattle.std.specs.Prelude.{refl};
-    ghost use Rattle.acpi_base.specs.Model.{io_apic_in};
-    ghost use Rattle.acpi_c_lib.specs.Model.{io_apic_record, io_apics_of};
-
     type Part = IoApic;
 
     ghost part_in = { io_apic_in };
@@ -178,10 +174,6 @@ impl MadtRecord for records::IoApic {
 }
 
 impl MadtRecord for records::InterruptSourceOverride {
-    ghost use Rattle.std.specs.Prelude.{refl};
-    ghost use Rattle.acpi_base.specs.Model.{override_in};
-    ghost use Rattle.acpi_c_lib.specs.Model.{override_record, overrides_of};
-
     type Part = InterruptSourceOverride;
 
     ghost part_in = { override_in };
@@ -206,10 +198,6 @@ impl MadtRecord for records::InterruptSourceOverride {
 }
 
 impl MadtRecord for records::NmiSource {
-    ghost use Rattle.std.specs.Prelude.{refl};
-    ghost use Rattle.acpi_base.specs.Model.{nmi_source_in};
-    ghost use Rattle.acpi_c_lib.specs.Model.{nmi_source_record, nmi_sources_of};
-
     type Part = NmiSource;
 
     ghost part_in = { nmi_source_in };
@@ -233,10 +221,6 @@ impl MadtRecord for records::NmiSource {
 }
 
 impl MadtRecord for records::NmiLine {
-    ghost use Rattle.std.specs.Prelude.{refl};
-    ghost use Rattle.acpi_base.specs.Model.{nmi_line_in};
-    ghost use Rattle.acpi_c_lib.specs.Model.{nmi_line_record, nmi_lines_of};
-
     type Part = NmiLine;
 
     ghost part_in = { nmi_line_in };

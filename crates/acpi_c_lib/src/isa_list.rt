@@ -1,12 +1,14 @@
 //! How all ISA interrupts come to the I/O APICs, by one walk along the overrides and one along the I/O APICs.
 ghost use Rattle.std.specs.Prelude.{◌≡◌, ◌<◌, ℕ, None, map, slice_index_or};
 ghost use Rattle.std.specs.List.{filter_map};
+ghost use Rattle.std.specs.Result.{result_unwrap_or};
 ghost use Rattle.acpi_base.specs.Isa.{isa_interrupt};
 ghost use Rattle.acpi_base.specs.IsaOverrides.{IsGathered};
 ghost use Rattle.acpi_base.specs.Mapping.{bytes_of};
 ghost use Rattle.acpi_base.specs.Model.{io_apic_in, items_of, override_in};
+ghost use Rattle.acpi_c_lib.specs.Answers.{result_map};
 ghost use Rattle.acpi_c_lib.specs.IsaList as list;
-ghost use Rattle.acpi_c_lib.specs.IsaList.{WritesOne, isa_list_below, nearer_of, number_of, route_of};
+ghost use Rattle.acpi_c_lib.specs.IsaList.{isa_list_below, nearer_of, number_of, route_of};
 
 use crate::interrupt_records as records;
 use crate::interrupt_records::{Interrupt, IoApicPin, IsaInterrupts, IsaRoute};
@@ -23,7 +25,8 @@ use acpi_base::model::{IsaOverrides, MadtItem};
 
 /// Writes the 16 ISA interrupts, each with its pin. They are written in place, since a copy takes much of the stack.
 pub fn isa_list(source: &Source<'_>, out: &mut IsaInterrupts) -> Result<(), Refusal>
-    ensures { WritesOne result out.old out.new (isa_list_below source.now) }
+    ensures status { result ≡ result_map (λ _. tt) (isa_list_below source.now) }
+    ensures written { out.new ≡ result_unwrap_or (isa_list_below source.now) out.old }
 {
     let memory = Mapped::new(source.regions)?;
     let tables = open(&memory, source)?;

@@ -1,7 +1,7 @@
 //! The domains that memory and processors are in, by the SRAT, and the distances between localities, by the SLIT.
 ghost use Rattle.std.specs.Prelude.{◌≡◌, map};
 ghost use Rattle.acpi_numa.specs.Affinities.{domain_at, ranges_of};
-ghost use Rattle.acpi_c_lib.specs.Answers.{Fills, GivesSome, put_from};
+ghost use Rattle.acpi_c_lib.specs.Answers.{Fills, GivesSome, Writes};
 ghost use Rattle.acpi_c_lib.specs.Numa.{IsLocalities, affinities_below, affinity_record, distance_below, slit_in};
 ghost use Rattle.acpi_c_lib.specs.Numa.{domain_of_address_below, domain_of_apic_below, domain_of_processor_below};
 
@@ -35,24 +35,24 @@ pub fn affinities(source: &Source<'_>, out: &mut [MemoryAffinity]) -> Result<usi
     let memory = Mapped::new(source.regions)?;
     let tables = open(&memory, source)?;
     let srat = tables.find_table::<Srat>()?;
-    let count = affinities_count(srat.bytes())?;
-    fill_affinities(srat.bytes(), out);
-    Ok(count)
+    affinities_count(srat.bytes())?;
+    Ok(fill_affinities(srat.bytes(), out))
 }
 
 /// The ranges in a SRAT's bytes.
 #[tactic(auto, using(acpi_numa::proofs::SratCounts::ranges_few))]
-fn fill_affinities(table: &[u8], out: &mut [MemoryAffinity])
-    ensures { out.new ≡ put_from out.old 0 (map affinity_record (ranges_of table.now)) }
+fn fill_affinities(table: &[u8], out: &mut [MemoryAffinity]) -> usize
+    ensures { Writes result out.old out.new (map affinity_record (ranges_of table.now)) }
 {
-    let mut index = 0;
+    let mut count = 0;
     let mut entries = Domains::over(table).entries();
     while let Some(entry) = entries.next() {
         if let Some(range) = entry.memory_range() {
-            put(out, index, affinity_record(&range));
-            index += 1;
+            put(out, count, affinity_record(&range));
+            count += 1;
         }
     }
+    count
 }
 
 fn affinity_record(range: &MemoryRange) -> MemoryAffinity

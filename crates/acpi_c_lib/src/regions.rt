@@ -1,10 +1,11 @@
 //! Physical memory, as a kernel has it mapped.
 ghost use Rattle.std.specs.Prelude.{◌≡◌, length, IfOk};
+ghost use Rattle.std.specs.Option.{option_map};
 ghost use Rattle.acpi_base.specs.Bytes.{IsBytes};
 ghost use Rattle.acpi_base.specs.Memory.{IsMemory, IsMemory-prop, rest_from};
 ghost use Rattle.acpi_base.specs.Steps.{Gives};
 ghost use Rattle.acpi.specs.Regions.{IsAscending, IsAscending-prop};
-ghost use Rattle.acpi_c_lib.specs.Located.{LiesOnlyAt, located, place_from};
+ghost use Rattle.acpi_c_lib.specs.Located.{LiesOnlyAt, located, place_from, spot_from};
 ghost use Rattle.acpi_c_lib.specs.Regions.{check_regions, memory_of, region_of};
 
 use crate::records::Place;
@@ -82,37 +83,45 @@ fn index_for(regions: &[Region<'_>], address: u64) -> usize
     after.saturating_sub(1)
 }
 
+/// Where an address lies, and the bytes from there to the end of the region.
+#[tactic(auto, using(crate::proofs::Ascending::spot_past, crate::proofs::Ascending::spot_there))]
+fn spot<'k>(regions: &[Region<'k>], address: u64) -> Option<(Place, &'k [u8])>
+    requires { IsAscending (memory_of regions.now) }
+    ensures { option_map (λ s. (s.0, s.1.now)) result ≡ spot_from 0 (memory_of regions.now) address }
+{
+    let index = index_for(regions, address);
+    let region = regions.get(index)?;
+    let rest = region.rest(address)?;
+    let place = Place {
+        region: index,
+        offset: (address - region.address) as usize,
+    };
+    Some((place, rest))
+}
+
 /// The bytes from an address to the end of the region that it lies in, or none.
-#[tactic(auto, using(crate::proofs::Ascending::nothing_past, crate::proofs::Ascending::rest_of_one), unfolding(acpi_base::specs::Memory::rest_from))]
+#[tactic(auto, using(crate::proofs::Ascending::rest_seen))]
 fn rest_at<'k>(regions: &[Region<'k>], address: u64) -> &'k [u8]
     requires { IsAscending (memory_of regions.now) }
     ensures { result.now ≡ rest_from (memory_of regions.now) address }
 {
-    let Some(region) = regions.get(index_for(regions, address)) else {
-        return &[];
-    };
-    match region.rest(address) {
-        Some(rest) => rest,
+    match spot(regions, address) {
+        Some((_, rest)) => rest,
         None => &[],
     }
 }
 
 /// Where so many bytes from an address lie, if they lie in one region.
-#[tactic(auto, using(crate::proofs::Ascending::no_place_past, crate::proofs::Ascending::place_there))]
+#[tactic(auto, using(crate::proofs::Ascending::place_seen))]
 fn place_for(regions: &[Region<'_>], address: u64, length: u64) -> Option<Place>
     requires { IsAscending (memory_of regions.now) }
     ensures { result ≡ place_from 0 (memory_of regions.now) address length }
 {
-    let index = index_for(regions, address);
-    let region = regions.get(index)?;
-    let rest = region.rest(address)?;
+    let (place, rest) = spot(regions, address)?;
     if length > rest.len() as u64 {
         return None;
     }
-    Some(Place {
-        region: index,
-        offset: (address - region.address) as usize,
-    })
+    Some(place)
 }
 
 /// Where so many bytes from an address lie.

@@ -1,5 +1,18 @@
+use Rattle.std.proofs.Common.{◌≡◌, ◌+◌, ◌*◌, ◌/◌, ◌^◌, ◌≤◌, length}
+use Rattle.acpi_c_lib.specs.Answers.{put_from}
+use Rattle.acpi_c_lib.specs.Missing.{has_valid, walk_holes}
 use Rattle.acpi_c_lib.proofs.Tried.{Walked}
 use Rattle.acpi_c_lib.proofs.candidates.walk.Given as goal
 
-abbrev pub invariant-loop-k : goal.invariant-loop-k
-invariant-loop-k g l = Walked (g.H.AcpiHandler.memory l.handler) l.candidates.count l.candidates.first l.k l.out l.initial.out l.next l.from
+-- what is written and what is left are the whole, and those that are left have the first valid one of all
+abbrev pub invariant-loop-left : goal.invariant-loop-left
+invariant-loop-left g l =
+    let m = g.H.AcpiHandler.memory l.handler in
+    let all = walk_holes m l.fn.candidates.count l.fn.candidates.first in
+    Walked m l.left l.address l.out l.next (put_from l.initial.out l.from all) (l.from + length all) (has_valid m l.fn.candidates.count l.fn.candidates.first)
+    × (l.next + l.left ≤ l.from + l.fn.candidates.count)
+    × (l.address / 16 * 16 ≡ l.address)
+    × (l.address + 16 * l.left ≤ 2 ^ 20)
+
+abbrev pub decreases-loop-left : goal.decreases-loop-left
+decreases-loop-left g l = l.left

@@ -1,11 +1,11 @@
-use Rattle.std.proofs.Common.{◌≡◌, length, get_or}
+use Rattle.std.proofs.Common.{◌≡◌, ℕ, ◌<◌, ◌≤◌, length, get_or}
 use Rattle.acpi_c_lib.specs.IsaList.{no_route}
-use Rattle.acpi_c_lib.proofs.IsaList.{MeetsAt, Turned}
+use Rattle.acpi_c_lib.proofs.IsaList.{MeetsAt}
 use Rattle.acpi_c_lib.proofs.isa_list.meet_all.Given as goal
 
 -- as many as there were; those before have met it, and from this one on they are as they were
 abbrev pub invariant-loop-irq : goal.invariant-loop-irq
 invariant-loop-irq l =
     (length l.routes ≡ 16)
-    × Turned (λ n route. MeetsAt l.io_apic (get_or l.initial.routes n no_route) route) (λ n route. route ≡ get_or l.initial.routes n no_route)
-    l.irq l.routes
+    × ((n : ℕ) → n < l.irq → MeetsAt l.io_apic (get_or l.initial.routes n no_route) (get_or l.routes n no_route))
+    × ((n : ℕ) → l.irq ≤ n → get_or l.routes n no_route ≡ get_or l.initial.routes n no_route)

@@ -10,7 +10,7 @@ use Rattle.acpi_c_lib.proofs.numa.fill_affinities.Given as goal
 abbrev pub invariant-loop-entry : goal.invariant-loop-entry
 invariant-loop-entry l =
     let left = filter_map range_in (entries_left l.entries) in
-    (put_from l.out l.index (map affinity_record left) ≡ put_from l.initial.out 0 (map affinity_record (ranges_of l.table))) × (l.index + length left ≡ length (ranges_of l.table))
+    (put_from l.out l.count (map affinity_record left) ≡ put_from l.initial.out 0 (map affinity_record (ranges_of l.table))) × (l.count + length left ≡ length (ranges_of l.table))
 
 abbrev pub decreases-loop-entry : goal.decreases-loop-entry
 decreases-loop-entry l = length (entries_left l.entries)
