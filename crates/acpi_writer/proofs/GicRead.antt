@@ -1,5 +1,5 @@
 -- What a reader finds in the MADT of an Arm machine that is written.
-use Rattle.std.proofs.Common.{◌≡◌, ℕ, ◌^◌, ◌<◌, Bool, true, false, List, [], ◌∷◌, ◌++◌, length, map, drop, Option, Some, None, Result, Ok, refl, sym, ap, ◌∙◌, arith, lit≤}
+use Rattle.std.proofs.Common.{◌≡◌, ℕ, ◌^◌, ◌<◌, Bool, false, List, [], ◌∷◌, ◌++◌, length, map, drop, Option, Some, None, Result, Ok, refl, sym, ap, ◌∙◌, arith, lit≤}
 use Rattle.std.specs.Prelude.{flat_map, if◌then◌else◌, not, slice_get}
 use Rattle.std.specs.List.{AllByRecursion, cons_option, filter_map}
 use Rattle.std.specs.Option.{option_map, unwrap_or}
@@ -37,12 +37,12 @@ use Rattle.acpi_writer.specs.Checked.{all_checked}
 use Rattle.acpi_writer.specs.Table.{bit_of}
 use Rattle.acpi_writer.specs.declared.ids.TableIds.{TableIds}
 use Rattle.acpi_writer.specs.declared.madt.gic.GicContents.{GicContents}
-use Rattle.acpi_writer.specs.GicMadt.{AreGicFit, FitsDistributor, FitsFrame, FitsInterface, FitsRedistributors, FitsService, GicMadtIsRead, GicMadtIsValid, IsGicMadt, gic_body, gic_read, gicc_bytes, gicc_entry, gicc_flags, gicc_length, gicd_entry, gicr_entry, has_spis, interface_checked, its_entry, msi_entry, spis_of}
+use Rattle.acpi_writer.specs.GicMadt.{AreGicFit, FitsDistributor, FitsFrame, FitsInterface, FitsRedistributors, FitsService, GicMadtIsRead, GicMadtIsValid, IsGicMadt, gic_body, gic_read, gicc_bytes, gicc_entry, gicc_length, gicd_entry, gicr_entry, has_spis, interface_checked, its_entry, msi_entry, spis_of}
 use Rattle.acpi_writer.specs.MadtBytes.{madt_fixed}
 use Rattle.acpi_writer.proofs.Bits.{app, each_good, flags_are, flags_number, itself, mode, mode_is, one, was_true}
 use Rattle.acpi_writer.proofs.IdsRead.{ids_are_read}
 use Rattle.acpi_writer.proofs.MadtRead.{fixed_long, madt_name}
-use Rattle.acpi_writer.proofs.Rows.{AreRows, all_known, both_rows, each_of, each_row, five, none_of, one_row, rows_are_cut}
+use Rattle.acpi_writer.proofs.Rows.{AreRows, all_known, both_known, both_rows, each_of, each_row, five, none_of, one_row, rows_are_cut}
 use Rattle.acpi_writer.proofs.Tables as table
 
 -- ---- entries as they are read
@@ -239,10 +239,6 @@ module _ (x : GicCpuInterface) (f : FitsInterface x) where
 
 -- ---- the table
 
-both_known : (xs : List GicCpuInterface) → AllByRecursion FitsInterface xs → AllByRecursion (λ x. interface_checked x ≡ Ok tt) xs → AllByRecursion (λ x. FitsInterface x × (interface_checked x ≡ Ok tt)) xs
-both_known [] all has = tt
-both_known (x ∷ xs) all has = ((all.0, has.0), both_known xs all.1 has.1)
-
 -- all entries, sort by sort
 abbrev rows : GicContents → List (List ℕ)
 rows c =
@@ -301,7 +297,7 @@ module _ (c : GicContents) where
 
     interfaces_are : all_checked interface_checked c.cpu_interfaces.now ≡ Ok tt → filter_map (read.cpu_interface_in 6) (entries_read c) ≡ c.cpu_interfaces.now
     interfaces_are good =
-        let each = both_known c.cpu_interfaces.now (recursion_from_All FitsInterface c.cpu_interfaces.now f.cpu_interfaces) (each_good interface_checked c.cpu_interfaces.now good) in
+        let each = both_known FitsInterface (λ x. interface_checked x ≡ Ok tt) c.cpu_interfaces.now (recursion_from_All FitsInterface c.cpu_interfaces.now f.cpu_interfaces) (each_good interface_checked c.cpu_interfaces.now good) in
         sorts (read.cpu_interface_in 6) [] c.cpu_interfaces.now [] [] [] refl
         (all_known (λ x. FitsInterface x × (interface_checked x ≡ Ok tt)) (read.cpu_interface_in 6) gicc_kind (λ x h. gicc_says x h.0 h.1) c.cpu_interfaces.now each)
         (none_of (read.cpu_interface_in 6) gicr_kind (λ x. refl) c.redistributors.now) (none_of (read.cpu_interface_in 6) its_kind (λ x. refl) c.translation_services.now)

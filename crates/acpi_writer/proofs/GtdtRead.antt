@@ -1,13 +1,13 @@
 -- What a reader finds in a GTDT that is written.
-use Rattle.std.proofs.Common.{◌≡◌, ℕ, ◌+◌, ◌*◌, ◌^◌, ◌<◌, ◌≤◌, Bool, true, false, List, [], ◌∷◌, ◌++◌, length, map, take, drop, Option, Some, None, Result, Ok, Err, refl, sym, ap, ◌∙◌, arith, lit≤, inl, inr, length-append, if◌then◌else◌}
-use Rattle.std.specs.Prelude.{IfOk, ◌-◌, ◌==◌, ◌&&◌, ◌||◌, flat_map, nat_le, nat_lt}
+use Rattle.std.proofs.Common.{◌≡◌, ℕ, ◌+◌, ◌*◌, ◌^◌, ◌<◌, ◌≤◌, Bool, true, false, List, [], ◌∷◌, ◌++◌, length, map, drop, Option, Some, None, Result, Ok, Err, refl, sym, ap, ◌∙◌, arith, lit≤, inl, inr, length-append, if◌then◌else◌}
+use Rattle.std.specs.Prelude.{◌-◌, ◌==◌, flat_map, nat_le, nat_lt}
 use Rattle.std.specs.List.{AllByRecursion, filter_map}
 use Rattle.std.specs.Str.{chars, is_utf8}
 use Rattle.std.proofs.Math.Bool.{or-true}
 use Rattle.std.proofs.lemmas.Bool.{and_parts, le-leb, leb-true, ltb-true, ne_eqb}
 use Rattle.std.proofs.lemmas.List.{drop_at, drop-drop, length-map}
 use Rattle.std.proofs.lemmas.List.Elements.{recursion_from_All}
-use Rattle.acpi_base.proofs.Spelling.{length-spelling, number-spelling}
+use Rattle.acpi_base.proofs.Spelling.{number-spelling}
 use Rattle.acpi_base.specs.Bits.{has_bit}
 use Rattle.acpi_base.specs.Bytes.{field_of, number, part, spelling}
 use Rattle.acpi_base.specs.Entries.{IsEntry, IsFew, number_at}
@@ -24,8 +24,8 @@ use Rattle.acpi_arm.specs.declared.gtdt.ArmTimer.{ArmTimer}
 use Rattle.acpi_arm.specs.declared.timers.SbsaWatchdog.{SbsaWatchdog}
 use Rattle.acpi_writer.specs.Arm.{base_checked, is_edge, is_low, modes_checked}
 use Rattle.acpi_writer.specs.Checked.{all_checked}
-use Rattle.acpi_writer.specs.Gtdt.{AreTimersFit, FitsFrame, FitsStructure, FitsTimer, FitsWatchdog, GtdtIsRead, GtdtIsValid, IsGtdt, SaysTimers, array_bytes, base_of, block_head, frame_bytes, frame_checked, gtdt_body, gtdt_checked, gtdt_written, structure_bytes, structure_checked, timer_bytes, timer_checked, timer_read, watchdog_bytes}
-use Rattle.acpi_writer.specs.Table.{IsTableOf, table_written}
+use Rattle.acpi_writer.specs.Gtdt.{FitsFrame, FitsStructure, FitsTimer, FitsWatchdog, GtdtIsRead, GtdtIsValid, IsGtdt, SaysTimers, array_bytes, base_of, block_head, frame_bytes, frame_checked, gtdt_body, gtdt_checked, gtdt_written, structure_bytes, structure_checked, timer_bytes, timer_checked, timer_read, watchdog_bytes}
+use Rattle.acpi_writer.specs.Table.{table_written}
 use Rattle.acpi_writer.specs.declared.error.WriterError.{WriterError}
 use Rattle.acpi_writer.specs.declared.error.WriterError.TheVariants.{TooManyFrames}
 use Rattle.acpi_writer.specs.declared.gtdt.GtdtContents.{GtdtContents}
@@ -35,7 +35,7 @@ use Rattle.acpi_writer.proofs.Tables as table
 use Rattle.acpi_writer.specs.declared.gtdt.PlatformTimerContents.{PlatformTimerContents}
 use Rattle.acpi_writer.specs.declared.gtdt.PlatformTimerContents.TheVariants as kinds
 use Rattle.acpi_writer.proofs.Bits.{app, each_good, first_good, flags_are, flags_number, itself, mode, mode_is, one, was_true, way, way_is}
-use Rattle.acpi_writer.proofs.Rows.{AreRows, each_known, each_row_known, rows_are_cut}
+use Rattle.acpi_writer.proofs.Rows.{AreRows, both_known, each_known, each_row_known, rows_are_cut}
 
 -- ---- addresses and interrupts
 
@@ -250,10 +250,6 @@ structures_many : (xs : List PlatformTimerContents) → AllByRecursion IsGood xs
 structures_many [] all = lit≤ tt
 structures_many (x ∷ xs) all = omega (arith, length-append (structure_bytes x) (flat_map structure_bytes xs), (structure_is x all.0).3, structures_many xs all.1)
 
-both_known : (xs : List PlatformTimerContents) → AllByRecursion FitsStructure xs → AllByRecursion (λ x. structure_checked x ≡ Ok tt) xs → AllByRecursion IsGood xs
-both_known [] all good = tt
-both_known (x ∷ xs) all good = ((all.0, good.0), both_known xs all.1 good.1)
-
 module _ (xs : List PlatformTimerContents) (all : AllByRecursion IsGood xs) where
   abbrev count : ℕ
   count = length xs
@@ -358,7 +354,7 @@ module _ (ids : TableIds) (c : GtdtContents) (t : List ℕ) (is : IsGtdt ids c t
   revision_is = (ids_are_read GTDT _ _ _ _ 3 ids (gtdt_body c) t gtdt_name.letters is.written).revision_is
 
   all : AllByRecursion IsGood c.platform_timers.now
-  all = both_known c.platform_timers.now (recursion_from_All FitsStructure c.platform_timers.now is.fit.platform) (each_good structure_checked c.platform_timers.now good.platform)
+  all = both_known FitsStructure (λ x. structure_checked x ≡ Ok tt) c.platform_timers.now (recursion_from_All FitsStructure c.platform_timers.now is.fit.platform) (each_good structure_checked c.platform_timers.now good.platform)
 
   count_is : field_of t 88 4 ≡ length c.platform_timers.now
   count_is =
@@ -428,8 +424,3 @@ module _ (room : ℕ) (ids : TableIds) (c : GtdtContents) where
   pub gtdt_is : gtdt_checked c ≡ Ok tt → gtdt_written room ids c ≡ table_written room GTDT 3 ids (gtdt_body c)
   unfolding gtdt_written
   gtdt_is good = rw good refl
-
-pub gtdt_answer_is : (r : Result ℕ WriterError) (ids : TableIds) (c : GtdtContents) (new : List ℕ) → gtdt_checked c ≡ Ok tt
-    → IfOk r (λ n. IsTableOf GTDT 3 ids (gtdt_body c) (take n new)) → IfOk r (λ n. AreTimersFit c) → IfOk r (λ n. IsGtdt ids c (take n new))
-gtdt_answer_is (Ok n) ids c new checked written fit = record { written = written; fit = fit; checked = checked }
-gtdt_answer_is (Err e) ids c new checked written fit = tt

@@ -15,6 +15,7 @@ use Rattle.acpi.specs.declared.hpet.PageProtection.{PageProtection}
 use Rattle.acpi.specs.declared.hpet.PageProtection.TheVariants as protections
 use Rattle.acpi_writer.specs.HpetBytes.{hpet_body, protection_code}
 use Rattle.acpi_writer.specs.HpetLaws.{HpetIsRead, HpetIsValid}
+use Rattle.acpi_writer.proofs.Bits.{one}
 use Rattle.acpi_writer.proofs.Tables as table
 
 pub hpet_name : table.IsName HPET
@@ -22,9 +23,6 @@ unfolding is_utf8 chars lib.Utf8.encode
 hpet_name = record { a = _; b = _; c = _; d = _; letters = refl; text = refl; same = refl }
 
 -- ---- the fields
-
-one : (n : ℕ) → number (n ∷ []) ≡ n
-one n = omega arith
 
 block : (i : HpetInfo) → i.event_timer_block_id < 2 ^ 32 → field_of (hpet_body i) 0 4 ≡ i.event_timer_block_id
 unfolding hpet_body spelling field_of

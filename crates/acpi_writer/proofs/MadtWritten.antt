@@ -9,7 +9,7 @@ use Rattle.acpi_writer.specs.declared.ids.TableIds.{TableIds}
 use Rattle.acpi_writer.specs.declared.madt.MadtContents.{MadtContents}
 use Rattle.acpi_writer.specs.declared.madt.gic.GicContents.{GicContents}
 use Rattle.acpi_writer.specs.Checked.{all_checked}
-use Rattle.acpi_writer.specs.GicMadt.{AreGicFit, IsGicMadt, gic_body, gic_written, interface_checked}
+use Rattle.acpi_writer.specs.GicMadt.{gic_body, gic_written, interface_checked}
 use Rattle.acpi_writer.specs.MadtBytes.{is_empty, is_single, madt_body, madt_written, names_one}
 use Rattle.acpi_writer.specs.MadtLaws.{AreFit, IsMadt}
 use Rattle.acpi_writer.specs.Table.{IsTableOf, table_written}
@@ -57,8 +57,3 @@ module _ (room : ℕ) (ids : TableIds) (c : GicContents) where
   pub gic_is : 1 ≤ length c.cpu_interfaces.now → all_checked interface_checked c.cpu_interfaces.now ≡ Ok tt → gic_written room ids c ≡ table_written room MADT 6 ids (gic_body c)
   unfolding gic_written
   gic_is some good = rw (some_is c.cpu_interfaces.now some, good) refl
-
-pub gic_answer_is : (r : Result ℕ WriterError) (ids : TableIds) (c : GicContents) (new : List ℕ) → all_checked interface_checked c.cpu_interfaces.now ≡ Ok tt
-    → IfOk r (λ n. IsTableOf MADT 6 ids (gic_body c) (take n new)) → IfOk r (λ n. AreGicFit c) → IfOk r (λ n. IsGicMadt ids c (take n new))
-gic_answer_is (Ok n) ids c new checked written fit = record { written = written; fit = fit; checked = checked }
-gic_answer_is (Err e) ids c new checked written fit = tt

@@ -12,6 +12,7 @@ use Rattle.acpi_base.specs.declared.table.signature.TheConstants.Signature.{MCFG
 use Rattle.acpi_base.specs.declared.tables.mcfg.McfgEntry.{McfgEntry}
 use Rattle.acpi_writer.specs.McfgBytes.{mcfg_body, mcfg_entry, mcfg_reserved}
 use Rattle.acpi_writer.specs.McfgLaws.{FitsMcfg, McfgIsRead, McfgIsValid}
+use Rattle.acpi_writer.proofs.Bits.{one}
 use Rattle.acpi_writer.proofs.Tables as table
 
 -- ---- one entry
@@ -21,9 +22,6 @@ entry a g s t = record { base_address = a; pci_segment_group = g; bus_number_sta
 
 same_entry : (a a' g g' s s' t t' : ℕ) → a ≡ a' → g ≡ g' → s ≡ s' → t ≡ t' → entry a g s t ≡ entry a' g' s' t'
 same_entry a a' g g' s s' t t' p q r u = ap (λ z. entry z g s t) p ∙ ap (λ z. entry a' z s t) q ∙ ap (λ z. entry a' g' z t) r ∙ ap (λ z. entry a' g' s' z) u
-
-one : (n : ℕ) → number (n ∷ []) ≡ n
-one n = omega arith
 
 entry_at : (e : McfgEntry) (more : List ℕ) → FitsMcfg e → mcfg_entry_at (mcfg_entry e ++ more) ≡ e
 unfolding mcfg_entry spelling field_of

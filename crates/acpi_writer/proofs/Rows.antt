@@ -6,7 +6,7 @@ use Rattle.std.proofs.lemmas.List.{append-nil, map-id}
 use Rattle.std.proofs.lemmas.List.Elements.{filter_map-append}
 use Rattle.std.proofs.lemmas.List.Folds.{concat-append}
 use Rattle.acpi_base.proofs.Cuts.{cut_is_cut, one_cut}
-use Rattle.acpi_base.specs.Entries.{IsCut, IsEntry, IsFew, cut, end_of, width_of}
+use Rattle.acpi_base.specs.Entries.{IsCut, IsEntry, IsFew, cut, width_of}
 use Rattle.acpi_base.specs.declared.entries.EntryLayout.{EntryLayout}
 use Rattle.acpi_base.specs.declared.entries.Grammar.{Grammar}
 use Rattle.acpi_base.specs.declared.entries.Width.{Width}
@@ -66,6 +66,10 @@ pub rows_are_cut : {n : ℕ} (g : Grammar n) (bytes : List ℕ) (rows : List (Li
 rows_are_cut {n = n} g bytes rows few are = one_cut n g bytes (cut g bytes).0 rows (cut g bytes).1 [] (cut_is_cut n g bytes) (are_cut g bytes rows few are)
 
 -- ---- sorts
+
+pub both_known : {X : Type 0} (P Q : X → Type 0) (xs : List X) → AllByRecursion P xs → AllByRecursion Q xs → AllByRecursion (λ x. P x × Q x) xs
+both_known P Q [] all and = tt
+both_known P Q (x ∷ xs) all and = ((all.0, and.0), both_known P Q xs all.1 and.1)
 
 pub none_of : {I X Y : Type 0} (h : I → Option Y) (g : X → I) → ((x : X) → h (g x) ≡ None) → (xs : List X) → filter_map h (map g xs) ≡ []
 none_of h g e [] = refl

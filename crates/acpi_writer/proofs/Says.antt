@@ -26,6 +26,7 @@ use Rattle.acpi_base.specs.declared.model.interrupt.TriggerMode.TheVariants as t
 use Rattle.acpi_writer.specs.declared.madt.MadtProcessor.{MadtProcessor}
 use Rattle.acpi_writer.specs.MadtBytes.{address_entries, address_entry, apic_nmi_entry, io_apic_entry, local_apic_entry, local_x2apic_entry, long_uid, names_one, nmi_entry, nmi_line_entry, nmi_source_entry, override_entry, processor_entry, short_uid, wakeup_entries, wakeup_entry, x2apic_nmi_entry}
 use Rattle.acpi_writer.specs.MadtLaws.{FitsIoApic, FitsMailbox, FitsNmiSource, FitsOverride, FitsProcessor}
+use Rattle.acpi_writer.proofs.Bits.{one}
 use Rattle.acpi_writer.proofs.Speaks.{Speaks, box_of, fine, speaks_box, speaks_nothing, speaks_one}
 
 abbrev tell : MadtItem → Option (Result MadtItem MadtError)
@@ -36,9 +37,6 @@ same2 f a b x y e h = ap (λ z. f z x) e ∙ ap (f b) h
 
 same3 : {A B C D : Type 0} (f : A → B → C → D) (a b : A) (x y : B) (u v : C) → a ≡ b → x ≡ y → u ≡ v → f a x u ≡ f b y v
 same3 f a b x y u v e h i = same2 (f a) x y u v h i ∙ ap (λ z. f z y v) e
-
-one : (n : ℕ) → number (n ∷ []) ≡ n
-one n = omega arith
 
 abbrev some_box : ℕ → Option ℕ
 some_box a = Some a

@@ -1,5 +1,5 @@
 -- The GTDT that is written (ACPI 6.4, section 5.2.24), and that what was given is what is read.
-use Rattle.std.specs.Prelude.{◌≡◌, ◌⊎◌, ℕ, ◌+◌, ◌*◌, ◌^◌, ◌<◌, false, List, [], ◌∷◌, ◌++◌, flat_map, length, map, nat_le, Option, Some, None, Result, Ok}
+use Rattle.std.specs.Prelude.{◌≡◌, ℕ, ◌+◌, ◌*◌, ◌^◌, ◌<◌, false, List, [], ◌∷◌, ◌++◌, flat_map, length, map, nat_le, Option, Some, None, Result, Ok}
 use Rattle.std.proofs.Common.{inl, inr}
 use Rattle.std.specs.List.{All}
 use Rattle.acpi_base.specs.Bytes.{spelling}

@@ -276,7 +276,8 @@ impl<'a> Spelled for PlatformTimerContents<'a> {
     }
 }
 
-/// The Platform Timer Structures. `write_table` is not proved to take a list whose lifetime and its items' are two.
+/// The Platform Timer Structures. It is a type of one lifetime, since of an `Each` the prover isn't told that its items
+/// outlive it.
 #[derive(Clone, Copy)]
 pub(super) struct Structures<'a>(pub(super) &'a [PlatformTimerContents<'a>]);
 
