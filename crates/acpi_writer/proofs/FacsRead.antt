@@ -1,7 +1,7 @@
 -- What a reader finds in a FACS that is written.
 use Rattle.std.proofs.Common.{◌≡◌, ℕ, ◌+◌, ◌*◌, ◌<◌, ◌≤◌, Bool, true, false, length, take, Some, Ok, Err, refl, sym, ap, subst, ◌∙◌, arith}
 use Rattle.std.proofs.lemmas.Bool.{le-leb, lt-leb}
-use Rattle.acpi.specs.Places.{facs_at, facs_length, range}
+use Rattle.acpi.specs.Places.{facs_at, facs_length, facs_length_in, range}
 use Rattle.acpi_base.proofs.Spelling.{number-spelling}
 use Rattle.acpi_base.specs.Bits.{has_bit}
 use Rattle.acpi_base.specs.Bytes.{field_of, spelling}
@@ -59,7 +59,7 @@ second_bit false false = refl
 
 -- ---- where it lies
 
-length_is : (c : FacsContents) → facs_length (header_at (take 36 (facs_bytes c))) ≡ Ok 64
+length_is : (c : FacsContents) → facs_length_in (take 36 (facs_bytes c)) ≡ Ok 64
 unfolding facs_bytes spelling field_of header_at facs_length
 length_is c = refl
 
