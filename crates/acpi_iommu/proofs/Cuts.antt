@@ -1,11 +1,14 @@
--- Bytes are cut into pieces in one way.
+-- Bytes are cut into pieces in one way, and hops into a path and others after it.
 use Rattle.std.proofs.Common.{◌≡◌, ℕ, zero, suc, ◌≤◌, Bool, true, false, cond, List, [], ◌∷◌, ◌++◌, length, take, drop, Option, Some, None, refl, sym, ap, ◌∙◌, subst, arith, append_assoc, length-append, length-drop, leb}
-use Rattle.std.proofs.lemmas.Bool.{and_parts, and_from, leb-true, le-leb}
+use Rattle.std.proofs.lemmas.Bool.{and_parts, and_from, eqb-true, leb-true, le-leb}
+use Rattle.std.proofs.lemmas.Bool.Decides.{nat_tests}
 use Rattle.std.proofs.lemmas.List.{take_all, take_at, drop_at, take-append-drop, length-take-le, append-nil}
-use Rattle.std.specs.Prelude.{◌&&◌}
+use Rattle.std.specs.Prelude.{◌==◌, ◌&&◌}
 use Rattle.std.specs.List.{concat, AllByRecursion}
 use Rattle.acpi_base.specs.Entries.{with_entry}
+use Rattle.acpi_iommu.specs.DmarScopes.{FrontIsFront, is_front, is_same_hop}
 use Rattle.acpi_iommu.specs.Pieces.{IsCut, IsPiece, OneCut, SaysItself, front, pieces, pieces_within}
+use Rattle.acpi_iommu.specs.declared.dmar.scope.Hop.{Hop}
 
 -- ---- the piece with which bytes begin
 
@@ -147,3 +150,37 @@ one_cut size says bytes ps rest = (
   λ c. ap (pieces size) c.whole ∙ only size says ps rest c.are c.ends,
   λ e. subst (λ x. IsCut size bytes x.0 x.1) e (is_cut size says (length bytes) bytes (omega arith) (front size bytes) refl),
 )
+
+-- ---- a path and others
+
+hop : ℕ → ℕ → Hop
+hop device function = record { device = device; function = function }
+
+same_is : (a b : Hop) → is_same_hop a b ≡ true → a ≡ b
+unfolding hop
+same_is a b e =
+    let parts = and_parts (a.device == b.device) (a.function == b.function) e in
+    let device : a.device ≡ b.device = eqb-true a.device b.device parts.0 in
+    let function : a.function ≡ b.function = eqb-true a.function b.function parts.1 in
+    ap (λ d. hop d a.function) device ∙ ap (λ f. hop b.device f) function
+
+number_same : (n : ℕ) → (n == n) ≡ true
+number_same n = grind (arith, nat_tests)
+
+same_self : (a : Hop) → is_same_hop a a ≡ true
+same_self a = and_from (a.device == a.device) (a.function == a.function) (number_same a.device) (number_same a.function)
+
+others : (path hops : List Hop) → is_front path hops ≡ true → (rest : List Hop) × (hops ≡ path ++ rest)
+others [] hops e = (hops, refl)
+others (p ∷ path) [] e = absurd cc
+others (p ∷ path) (h ∷ hops) e =
+    let parts = and_parts (is_same_hop p h) (is_front path hops) e in
+    let more = others path hops parts.1 in
+    (more.0, ap (λ x. x ∷ hops) (sym (same_is p h parts.0)) ∙ ap (λ xs. p ∷ xs) more.1)
+
+is_front_of : (path rest : List Hop) → is_front path (path ++ rest) ≡ true
+is_front_of [] rest = refl
+is_front_of (p ∷ path) rest = and_from (is_same_hop p p) (is_front path (path ++ rest)) (same_self p) (is_front_of path rest)
+
+pub front_is_front : FrontIsFront
+front_is_front path hops = (others path hops, λ r. rw r.1 (is_front_of path r.0))
