@@ -80,61 +80,61 @@ fn affinities_fill_their_room(rt: HostRuntime) {
     );
 }
 
-#[test]
-fn affinities_are_of_one_processor_and_of_bytes(rt: HostRuntime) {
-    let empty = MemoryRange { length: 0, ..LOW };
-    let past_end = MemoryRange {
-        length: 0x1000,
-        ..HIGH
-    };
-    let mut out = [7; 185];
-    for range in &[empty, past_end] {
-        let bad_range = SratContents {
-            ranges: &[LOW, *range],
-            ..SRAT
-        };
-        let found = write_srat(&mut out, &BAD, &bad_range);
-        check(
-            &rt,
-            "range",
-            found,
-            Err(WriterError::BadRange),
-            &out,
-            &[7; 185],
-        );
-        let bad_apic = SratContents {
+/// No byte.
+const EMPTY: MemoryRange = MemoryRange { length: 0, ..LOW };
+
+/// Its end is 2^64.
+const PAST_END: MemoryRange = MemoryRange {
+    length: 0x1000,
+    ..HIGH
+};
+
+/// Each with ids that aren't valid UTF-8 too.
+const NOT_WRITTEN: [(SratContents<'static>, WriterError); 5] = [
+    (
+        SratContents {
             apics: &[ApicDomain {
                 local_apic_id: 0xffffffff,
                 domain: 0,
             }],
-            ..bad_range
-        };
-        let found = write_srat(&mut out, &BAD, &bad_apic);
-        check(&rt, "id", found, Err(WriterError::IdOfAll), &out, &[7; 185]);
-        let bad_gicc = SratContents {
+            ranges: &[EMPTY],
+            ..SRAT
+        },
+        WriterError::IdOfAll,
+    ),
+    (
+        SratContents {
             giccs: &[GiccDomain {
                 processor_uid: 0xffffffff,
                 domain: 0,
             }],
-            ..bad_range
-        };
-        let found = write_srat(&mut out, &BAD, &bad_gicc);
-        check(
-            &rt,
-            "uid",
-            found,
-            Err(WriterError::IdOfAll),
-            &out,
-            &[7; 185],
-        );
+            ranges: &[EMPTY],
+            ..SRAT
+        },
+        WriterError::IdOfAll,
+    ),
+    (
+        SratContents {
+            ranges: &[LOW, EMPTY],
+            ..SRAT
+        },
+        WriterError::BadRange,
+    ),
+    (
+        SratContents {
+            ranges: &[LOW, PAST_END],
+            ..SRAT
+        },
+        WriterError::BadRange,
+    ),
+    (SRAT, WriterError::BadName),
+];
+
+#[test]
+fn affinities_are_of_one_processor_and_of_bytes(rt: HostRuntime) {
+    for (contents, error) in &NOT_WRITTEN {
+        let mut out = [7; 185];
+        let found = write_srat(&mut out, &BAD, contents);
+        check(&rt, "SRAT", found, Err(*error), &out, &[7; 185]);
     }
-    let found = write_srat(&mut out, &BAD, &SRAT);
-    check(
-        &rt,
-        "name",
-        found,
-        Err(WriterError::BadName),
-        &out,
-        &[7; 185],
-    );
 }

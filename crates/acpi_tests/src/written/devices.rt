@@ -7,7 +7,6 @@ use acpi_base::spcr::{SpcrFlowControl, SpcrInterfaceType, SpcrInterruptType, Spc
 use acpi_writer::{
     BgrtContents, BgrtOrientation, SpcrContents, SpcrPciDevice, WriterError, write_bgrt, write_spcr,
 };
-use bitflags::Flags;
 
 const COM: GenericAddress = GenericAddress {
     address_space: AddressSpace::SystemIo,
@@ -17,42 +16,40 @@ const COM: GenericAddress = GenericAddress {
     address: 0x3f8,
 };
 
-/// A PCI device that is a 16550 on the 8259s and an I/O APIC.
-fn port() -> SpcrContents<'static> {
-    SpcrContents {
-        interface_type: SpcrInterfaceType::Generic16550,
-        base_address: Some(COM),
-        interrupt_type: SpcrInterruptType::from_bits_retain(3),
-        irq: 4,
-        global_system_interrupt: 0x08070605,
-        baud_rate: 115200,
-        parity: 0,
-        stop_bits: 1,
-        flow_control: SpcrFlowControl::RTS_CTS,
-        terminal_type: SpcrTerminalType::ANSI,
-        language: 0,
-        pci_device: Some(SpcrPciDevice {
-            device_id: 0x1234,
-            vendor_id: 0x8086,
-            bus: 1,
-            device: 2,
-            function: 3,
-            flags: 0x01020304,
-            segment: 5,
-        }),
-        uart_clock_frequency: 1_843_200,
-        namespace_string: "\\_SB.COM0",
-    }
-}
+/// A PCI device that is a 16550 on an I/O APIC.
+const PORT: SpcrContents<'static> = SpcrContents {
+    interface_type: SpcrInterfaceType::Generic16550,
+    base_address: Some(COM),
+    interrupt_type: SpcrInterruptType::IO_APIC,
+    irq: 4,
+    global_system_interrupt: 0x08070605,
+    baud_rate: 115200,
+    parity: 0,
+    stop_bits: 1,
+    flow_control: SpcrFlowControl::RTS_CTS,
+    terminal_type: SpcrTerminalType::ANSI,
+    language: 0,
+    pci_device: Some(SpcrPciDevice {
+        device_id: 0x1234,
+        vendor_id: 0x8086,
+        bus: 1,
+        device: 2,
+        function: 3,
+        flags: 0x01020304,
+        segment: 5,
+    }),
+    uart_clock_frequency: 1_843_200,
+    namespace_string: "\\_SB.COM0",
+};
 
 #[rattlefmt::skip]
 const SPCR_BYTES: [u8; 98] = [
-    b'S', b'P', b'C', b'R', 98, 0, 0, 0, 4, 0x98, // Signature, Length, Revision, Checksum
+    b'S', b'P', b'C', b'R', 98, 0, 0, 0, 4, 0x99, // Signature, Length, Revision, Checksum
     b'G', b'U', b'E', b'S', b'T', b' ', // OEMID
     b'M', b'A', b'C', b'H', b'I', b'N', b'E', b' ', // OEM Table ID
     4, 3, 2, 1, b'Z', b'U', b'G', b'Z', 8, 7, 6, 5, // OEM Revision, Creator ID, Creator Revision
     0x12, 0, 0, 0, 1, 8, 0, 1, 0xf8, 3, 0, 0, 0, 0, 0, 0, // Interface Type, Reserved, Base Address
-    3, 4, 5, 6, 7, 8, // Interrupt Type, IRQ, Global System Interrupt
+    2, 4, 5, 6, 7, 8, // Interrupt Type, IRQ, Global System Interrupt
     7, 0, 1, 2, 8, 0, // Configured Baud Rate, Parity, Stop Bits, Flow Control, Terminal Type, Language
     0x34, 0x12, 0x86, 0x80, 1, 2, 3, 4, 3, 2, 1, 5, // PCI: ids, bus, device, function, flags, segment
     0, 0x20, 0x1c, 0, 0, 0xc2, 1, 0, 10, 0, 88, 0, // UART Clock Frequency, Precise Baud Rate, length and offset
@@ -60,34 +57,32 @@ const SPCR_BYTES: [u8; 98] = [
 ];
 
 /// No console, of an interface without a name.
-fn none() -> SpcrContents<'static> {
-    SpcrContents {
-        interface_type: SpcrInterfaceType::Unknown(0x16),
-        base_address: None,
-        interrupt_type: SpcrInterruptType::empty(),
-        irq: 0,
-        global_system_interrupt: 0,
-        baud_rate: 0,
-        parity: 0,
-        stop_bits: 0,
-        flow_control: SpcrFlowControl::empty(),
-        terminal_type: SpcrTerminalType::empty(),
-        language: 0,
-        pci_device: None,
-        uart_clock_frequency: 0,
-        namespace_string: ".",
-    }
-}
+const NONE: SpcrContents<'static> = SpcrContents {
+    interface_type: SpcrInterfaceType::Unknown(0x16),
+    base_address: None,
+    interrupt_type: SpcrInterruptType::DUAL_8259,
+    irq: 0,
+    global_system_interrupt: 0,
+    baud_rate: 0,
+    parity: 0,
+    stop_bits: 0,
+    flow_control: SpcrFlowControl::XON_XOFF,
+    terminal_type: SpcrTerminalType::VT_UTF8,
+    language: 0,
+    pci_device: None,
+    uart_clock_frequency: 0,
+    namespace_string: ".",
+};
 
 #[rattlefmt::skip]
 const NONE_BYTES: [u8; 90] = [
-    b'S', b'P', b'C', b'R', 90, 0, 0, 0, 4, 0x9f, // Signature, Length, Revision, Checksum
+    b'S', b'P', b'C', b'R', 90, 0, 0, 0, 4, 0x96, // Signature, Length, Revision, Checksum
     b'G', b'U', b'E', b'S', b'T', b' ', // OEMID
     b'M', b'A', b'C', b'H', b'I', b'N', b'E', b' ', // OEM Table ID
     4, 3, 2, 1, b'Z', b'U', b'G', b'Z', 8, 7, 6, 5, // OEM Revision, Creator ID, Creator Revision
     0x16, 0, 0, 0, 0, 0, 0, 0, 0, 0, 0, 0, 0, 0, 0, 0, // Interface Type, Reserved, Base Address
-    0, 0, 0, 0, 0, 0, // Interrupt Type, IRQ, Global System Interrupt
-    0, 0, 0, 0, 0, 0, // Configured Baud Rate, Parity, Stop Bits, Flow Control, Terminal Type, Language
+    1, 0, 0, 0, 0, 0, // Interrupt Type, IRQ, Global System Interrupt
+    0, 0, 0, 4, 4, 0, // Configured Baud Rate, Parity, Stop Bits, Flow Control, Terminal Type, Language
     255, 255, 255, 255, 0, 0, 0, 0, 0, 0, 0, 0, // PCI: ids, bus, device, function, flags, segment
     0, 0, 0, 0, 0, 0, 0, 0, 2, 0, 88, 0, // UART Clock Frequency, Precise Baud Rate, length and offset
     b'.', 0, // NamespaceString
@@ -114,10 +109,10 @@ const BGRT_BYTES: [u8; 56] = [
 #[test]
 fn devices_fill_their_room(rt: HostRuntime) {
     let mut out = [7; 98];
-    let found = write_spcr(&mut out, &IDS, &port());
+    let found = write_spcr(&mut out, &IDS, &PORT);
     check(&rt, "SPCR", found, Ok(98), &out, &SPCR_BYTES);
     let mut out = [7; 90];
-    let found = write_spcr(&mut out, &IDS, &none());
+    let found = write_spcr(&mut out, &IDS, &NONE);
     check(&rt, "none", found, Ok(90), &out, &NONE_BYTES);
     let mut out = [7; 56];
     let found = write_bgrt(&mut out, &IDS, &IMAGE);
@@ -128,7 +123,7 @@ fn devices_fill_their_room(rt: HostRuntime) {
 fn devices_need_their_room(rt: HostRuntime) {
     let no_room = Err(WriterError::NoRoom);
     let mut out = [7; 97];
-    let found = write_spcr(&mut out, &IDS, &port());
+    let found = write_spcr(&mut out, &IDS, &PORT);
     check(&rt, "SPCR", found, no_room, &out, &[7; 97]);
     let mut out = [7; 55];
     let found = write_bgrt(&mut out, &IDS, &IMAGE);
@@ -144,58 +139,40 @@ fn devices_need_their_room(rt: HostRuntime) {
     );
 }
 
+const NOWHERE: SpcrContents<'static> = SpcrContents {
+    base_address: Some(GenericAddress { address: 0, ..COM }),
+    ..PORT
+};
+
+/// Each with ids that aren't valid UTF-8 too.
+const NOT_WRITTEN: [(SpcrContents<'static>, WriterError); 4] = [
+    (
+        SpcrContents {
+            interface_type: SpcrInterfaceType::Unknown(0x15),
+            ..NOWHERE
+        },
+        WriterError::BadCode,
+    ),
+    (
+        SpcrContents {
+            base_address: Some(GenericAddress {
+                address_space: AddressSpace::OemDefined(0xbf),
+                address: 0,
+                ..COM
+            }),
+            ..PORT
+        },
+        WriterError::BadCode,
+    ),
+    (NOWHERE, WriterError::NoAddress),
+    (PORT, WriterError::BadName),
+];
+
 #[test]
 fn ports_have_codes_and_an_address(rt: HostRuntime) {
-    let mut out = [7; 98];
-    let nowhere = SpcrContents {
-        base_address: Some(GenericAddress { address: 0, ..COM }),
-        ..port()
-    };
-    let found = write_spcr(&mut out, &BAD, &nowhere);
-    check(
-        &rt,
-        "address 0",
-        found,
-        Err(WriterError::NoAddress),
-        &out,
-        &[7; 98],
-    );
-    let named = SpcrContents {
-        interface_type: SpcrInterfaceType::Unknown(0x15),
-        ..nowhere
-    };
-    let found = write_spcr(&mut out, &BAD, &named);
-    check(
-        &rt,
-        "interface",
-        found,
-        Err(WriterError::BadCode),
-        &out,
-        &[7; 98],
-    );
-    let reserved = SpcrContents {
-        base_address: Some(GenericAddress {
-            address_space: AddressSpace::OemDefined(0xbf),
-            ..COM
-        }),
-        ..port()
-    };
-    let found = write_spcr(&mut out, &BAD, &reserved);
-    check(
-        &rt,
-        "space",
-        found,
-        Err(WriterError::BadCode),
-        &out,
-        &[7; 98],
-    );
-    let found = write_spcr(&mut out, &BAD, &port());
-    check(
-        &rt,
-        "name",
-        found,
-        Err(WriterError::BadName),
-        &out,
-        &[7; 98],
-    );
+    for (contents, error) in &NOT_WRITTEN {
+        let mut out = [7; 98];
+        let found = write_spcr(&mut out, &BAD, contents);
+        check(&rt, "SPCR", found, Err(*error), &out, &[7; 98]);
+    }
 }
