@@ -10,3 +10,4 @@ mod refused;
 mod roots;
 mod samples;
 mod tables;
+mod whole;

@@ -18,24 +18,27 @@ use Rattle.acpi_base.specs.Table.{plain_kind, sdt_kind, table_at}
 use Rattle.acpi_base.specs.Text.{letters_of}
 use Rattle.acpi_base.specs.declared.error.AcpiError.{AcpiError}
 use Rattle.acpi_base.specs.declared.table.signature.Signature.{Signature}
-use Rattle.acpi_base.specs.declared.table.signature.TheConstants.Signature.{DSDT, HPET, MADT, MCFG, SLIT, SSDT, XSDT}
+use Rattle.acpi_base.specs.declared.table.signature.TheConstants.Signature.{DSDT, FADT, HPET, MADT, MCFG, SLIT, SSDT, XSDT}
 use Rattle.acpi_base.specs.declared.error.AcpiError.TheVariants.{RsdpInvalidChecksum}
 use Rattle.acpi.specs.Hpet.{hpet_of}
+use Rattle.acpi.specs.Lists.{dsdt_stream, stream_at, stream_of}
 use Rattle.acpi.specs.Lookup.{lookup}
 use Rattle.acpi.specs.Pci.{found_regions}
-use Rattle.acpi.specs.Platform.{model_in}
+use Rattle.acpi.specs.Platform.{model_in, platform_of}
 use Rattle.acpi.specs.Rsdp.{check_rsdp, check_sum, check_whole, check_whole_at, length_of, rsdp_at}
 use Rattle.acpi.specs.declared.hpet.HpetInfo.{HpetInfo}
 use Rattle.acpi.specs.declared.root.RootKind.TheVariants.{Xsdt}
 use Rattle.acpi_image.proofs.WrittenTables.{table_is}
 use Rattle.acpi_numa.specs.Slit.{distance_of}
 use Rattle.acpi_writer.specs.Contents.{FitsContents, bytes_of, contents_written, most, or_none, placed, signature_of}
+use Rattle.acpi_writer.specs.FadtBytes.{are_placed, are_registers, fadt_body, fadt_written, fixed_of, is_profile}
+use Rattle.acpi_writer.specs.FadtLaws.{AreFitFor, IsFadt}
 use Rattle.acpi_writer.specs.HpetBytes.{hpet_body}
 use Rattle.acpi_writer.specs.HpetLaws.{IsHpet}
 use Rattle.acpi_writer.specs.ImageLaws.{is_named}
 use Rattle.acpi_writer.specs.Laid.{addresses, gap, laid, padded, rounded}
 use Rattle.acpi_writer.specs.Machine.{check_machine, check_tables, dsdt_address, dsdt_of, dsdt_written, listed, machine_bytes, pointers_of, tables_address, tree_bytes, tree_size, xsdt_bytes, xsdt_length}
-use Rattle.acpi_writer.specs.MachineLaws.{AreValid, IsOpened, IsWritable, MachineIsRead, TreeIsRead, first_at, first_of, place_of}
+use Rattle.acpi_writer.specs.MachineLaws.{AreValid, HasFadt, IsOpened, IsWritable, MachineIsRead, TreeIsRead, first_at, first_of, place_of, platform_read}
 use Rattle.acpi_writer.specs.MadtBytes.{is_empty, is_single, madt_body, madt_entries, madt_fixed, madt_written, names_one}
 use Rattle.acpi_writer.specs.MadtLaws.{AreFit, IsMadt, model_read}
 use Rattle.acpi_writer.specs.McfgBytes.{mcfg_body}
@@ -47,11 +50,14 @@ use Rattle.acpi_writer.specs.Table.{AreIds, IsTableOf, IsValid, are_texts, table
 use Rattle.acpi_writer.specs.declared.contents.AmlContents.{AmlContents}
 use Rattle.acpi_writer.specs.declared.contents.SlitContents.{SlitContents}
 use Rattle.acpi_writer.specs.declared.contents.TableContents.{TableContents}
-use Rattle.acpi_writer.specs.declared.contents.TableContents.TheVariants.{Hpet, Madt, Mcfg, Slit, Ssdt}
-use Rattle.acpi_writer.specs.declared.error.WriterError.TheVariants.{BadMatrix, BadName, IdOfAll, NoProcessor, TooLong, UidOfAll}
+use Rattle.acpi_writer.specs.declared.contents.TableContents.TheVariants.{Fadt, Hpet, Madt, Mcfg, Slit, Ssdt}
+use Rattle.acpi_writer.specs.declared.error.WriterError.TheVariants.{BadMatrix, BadName, BadProfile, BadRegister, IdOfAll, NoAddress, NoProcessor, TooLong, UidOfAll}
+use Rattle.acpi_writer.specs.declared.fadt.contents.FadtContents.{FadtContents}
 use Rattle.acpi_writer.specs.declared.ids.TableIds.{TableIds}
 use Rattle.acpi_writer.specs.declared.machine.Machine.{Machine}
 use Rattle.acpi_writer.specs.declared.madt.MadtContents.{MadtContents}
+use Rattle.acpi_writer.proofs.FadtParts.{body_long}
+use Rattle.acpi_writer.proofs.FadtRead.{fadt_name, fadt_read, fadt_valid}
 use Rattle.acpi_writer.proofs.HpetRead.{hpet_name, hpet_read, hpet_valid}
 use Rattle.acpi_writer.proofs.Images.{hpet_long, platform_has}
 use Rattle.acpi_writer.proofs.LaidRead.{front_lent, holds_only, laid_found, rest_lent, there}
@@ -84,6 +90,7 @@ IsContents ids (Mcfg regions) t = IsMcfg ids regions.now t
 IsContents ids (Hpet info) t = IsHpet ids info t
 IsContents ids (Slit c) t = IsSlit ids c.localities c.distances.now t
 IsContents ids (Ssdt c) t = IsTableOf SSDT c.revision ids c.bytes.now t
+IsContents ids (Fadt c) t = IsFadt ids c t
 
 pub table_of : (s : Signature) (revision : ℕ) (ids : TableIds) (body t : List ℕ) → AreIds ids → table_written most s revision ids body ≡ Ok t → IsTableOf s revision ids body t
 table_of s revision ids body t are e =
@@ -107,12 +114,22 @@ slit_of ids n distances t are small e =
     let square = holds_ok (n * n == length distances) BadMatrix (λ _. table_written most SLIT 1 ids (slit_body n distances)) t e in
     record { written = table_of SLIT 1 ids (slit_body n distances) t are square.1; small = small; square = eqb-true (n * n) (length distances) square.0 }
 
+fadt_of : (ids : TableIds) (c : FadtContents) (t : List ℕ) → AreIds ids → AreFitFor c (fixed_of c.hardware) → fadt_written most ids c ≡ Ok t → IsFadt ids c t
+unfolding fadt_written
+fadt_of ids c t are fit e =
+    let here = table_written most FADT 6 ids (fadt_body c) in
+    let one = holds_ok (are_placed c) NoAddress (λ _. holds (is_profile c.power_profile) BadProfile >>= λ _. holds (are_registers c) BadRegister >>= λ _. here) t e in
+    let two = holds_ok (is_profile c.power_profile) BadProfile (λ _. holds (are_registers c) BadRegister >>= λ _. here) t one.1 in
+    let three = holds_ok (are_registers c) BadRegister (λ _. here) t two.1 in
+    record { written = table_of FADT 6 ids (fadt_body c) t are three.1; fit = fit; placed = one.0; profile = two.0; registers = three.0 }
+
 contents_of : (ids : TableIds) (c : TableContents) (t : List ℕ) → AreIds ids → FitsContents c → contents_written most ids c ≡ Ok t → IsContents ids c t
 contents_of ids (Madt c) t are fit e = madt_of ids c t are fit e
 contents_of ids (Mcfg regions) t are fit e = record { written = table_of MCFG 1 ids (mcfg_body regions.now) t are e; fit = fit }
 contents_of ids (Hpet info) t are fit e = record { written = table_of HPET 1 ids (hpet_body info) t are e; fit = fit }
 contents_of ids (Slit c) t are fit e = slit_of ids c.localities c.distances.now t are fit e
 contents_of ids (Ssdt c) t are fit e = table_of SSDT c.revision ids c.bytes.now t are e
+contents_of ids (Fadt c) t are fit e = fadt_of ids c t are fit e
 
 valid_of : (ids : TableIds) (c : TableContents) (t : List ℕ) → IsContents ids c t → IsValid (signature_of c) t
 valid_of ids (Madt c) t is = madt_valid ids c t is
@@ -120,6 +137,7 @@ valid_of ids (Mcfg regions) t is = mcfg_valid ids regions.now t is
 valid_of ids (Hpet info) t is = hpet_valid ids info t is
 valid_of ids (Slit c) t is = slit_valid ids c.localities c.distances.now t is
 valid_of ids (Ssdt c) t is = (ssdt_read c.revision ids c.bytes.now t is).valid
+valid_of ids (Fadt c) t is = fadt_valid ids c t is
 
 -- ---- all of them
 
@@ -299,15 +317,34 @@ module _ (m : Memory) (rsdp a : ℕ) (x : Machine) (h : IsMemory m) (is : IsWrit
       → lookup m (sdt_kind s least) (pointers_of a x) ≡ Ok (place_of x.ids s (tables_address a x) x.tables.now, bytes_of x.ids c)
   found s c least is_first enough long = looked_up s least enough ∙ first_found x.ids s (tables_address a x) least c x.tables.now known.tables is_first long
 
+  dsdt_found : (d : AmlContents) → x.dsdt ≡ Some d → table_at m (plain_kind DSDT) (dsdt_address a x) ≡ Ok (dsdt_of x)
+  dsdt_found d some =
+      let valid : IsValid DSDT (dsdt_of x) = subst (IsValid DSDT) (sym (ap or_none known.dsdt_is)) (dsdt_is_valid x.ids x.dsdt d known.dsdt is.fit.ids some known.dsdt_is) in
+      table_there m (dsdt_address a x) DSDT (dsdt_of x) valid dsdt_lent
+
+  fadt_found : (c : FadtContents) → first_of FADT x.tables.now ≡ Some (Fadt c) → HasFadt m (pointers_of a x) c
+  fadt_found c is_first =
+      let t = bytes_of x.ids (Fadt c) in
+      let this : IsFadt x.ids c t = first_is x.ids FADT (Fadt c) x.tables.now known.tables is_first in
+      let long = table.long FADT fadt_name 6 x.ids (fadt_body c) t this.written in
+      ((place_of x.ids FADT (tables_address a x) x.tables.now, t), found FADT (Fadt c) 116 is_first (lit≤ tt) (omega (arith, long, body_long c (fixed_of c.hardware))), fadt_read x.ids c t this)
+
+  aml_found : (c : FadtContents) (d : AmlContents) → first_of FADT x.tables.now ≡ Some (Fadt c) → x.dsdt ≡ Some d → c.dsdt ≡ dsdt_address a x
+      → dsdt_stream m (pointers_of a x) ≡ Ok (stream_of (dsdt_address a x) (dsdt_of x))
+  unfolding stream_at
+  aml_found c d is_first some same =
+      let fadt = fadt_found c is_first in
+      let leads_there = fadt.2.fields.dsdt in
+      rw (fadt.1, leads_there, same, dsdt_found d some) refl
+
   opened : IsOpened m rsdp a x
   opened = record {
     rsdp_is = rsdp_found;
     opened = rw (rsdp_found, leads.leads, root_found) refl;
     listed = root_read Xsdt x.ids (pointers_of a x) xsdt root;
     found = found;
-    dsdt = λ c some.
-        let valid : IsValid DSDT (dsdt_of x) = subst (IsValid DSDT) (sym (ap or_none known.dsdt_is)) (dsdt_is_valid x.ids x.dsdt c known.dsdt is.fit.ids some known.dsdt_is) in
-        table_there m (dsdt_address a x) DSDT (dsdt_of x) valid dsdt_lent;
+    dsdt = dsdt_found;
+    aml = aml_found;
   }
 
   -- ---- what is said of it
@@ -346,12 +383,20 @@ module _ (m : Memory) (rsdp a : ℕ) (x : Machine) (h : IsMemory m) (is : IsWrit
       let there = found SLIT (Slit c) 44 is_first (lit≤ tt) (omega (arith, long, size, length-spelling 8 c.localities)) in
       rw (there, slit_read x.ids c.localities c.distances.now (bytes_of x.ids (Slit c)) this from to less below) refl
 
+  platform_found : {A : Type 0} (c : FadtContents) (d : MadtContents) → first_of FADT x.tables.now ≡ Some (Fadt c) → first_of MADT x.tables.now ≡ Some (Madt d)
+      → platform_of {A = A} m (pointers_of a x) ≡ Ok (platform_read c d)
+  platform_found {A = A} c d is_fadt is_madt =
+      let fadt = fadt_found c is_fadt in
+      rw (fadt.1, model {A = A} d is_madt, fadt.2.fields.profile, fadt.2.timer) refl
+
 pub tree_read : {A : Type 0} → TreeIsRead A
 tree_read {A = A} m rsdp a x h is first e = (
   opened m rsdp a x h is first e,
   record {
     model = λ c is_first. model m rsdp a x h is first e {A = A} c is_first;
     platform = λ c q is_first said. platform_has m (pointers_of a x) c q (model m rsdp a x h is first e {A = A} c is_first) said;
+    platform_is = λ c d is_fadt is_madt. platform_found m rsdp a x h is first e {A = A} c d is_fadt is_madt;
+    fadt = fadt_found m rsdp a x h is first e;
     regions = regions m rsdp a x h is first e;
     hpet = hpet m rsdp a x h is first e;
     distances = distances m rsdp a x h is first e;

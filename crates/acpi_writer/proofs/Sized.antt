@@ -15,9 +15,10 @@ use Rattle.acpi_base.proofs.Steps.{bind_ok, holds_ok, same_ok}
 use Rattle.acpi_base.specs.Steps.{◌>>=◌, holds}
 use Rattle.acpi_base.specs.Text.{letters_of}
 use Rattle.acpi_base.specs.declared.table.signature.Signature.{Signature}
-use Rattle.acpi_base.specs.declared.table.signature.TheConstants.Signature.{HPET, MADT, MCFG, SLIT, SSDT, XSDT}
+use Rattle.acpi_base.specs.declared.table.signature.TheConstants.Signature.{FADT, HPET, MADT, MCFG, SLIT, SSDT, XSDT}
 use Rattle.acpi_image.proofs.Written.{length-with_sum}
 use Rattle.acpi_writer.specs.Contents.{FitsContents, bytes_of, contents_written, most, or_none, placed, sized}
+use Rattle.acpi_writer.specs.FadtBytes.{are_placed, are_registers, fadt_body, fadt_written, is_profile}
 use Rattle.acpi_writer.specs.HpetBytes.{hpet_body}
 use Rattle.acpi_writer.specs.Laid.{addresses, gap, laid, padded, rounded}
 use Rattle.acpi_writer.specs.Machine.{check_machine, check_place, check_tables, dsdt_of, dsdt_sized, dsdt_written, listed, listed_sized, machine_size, region_written, tables_address, tree_bytes, tree_size, tree_sized, xsdt_bytes, xsdt_from, xsdt_length}
@@ -27,9 +28,10 @@ use Rattle.acpi_writer.specs.Root.{root_body}
 use Rattle.acpi_writer.specs.Slit.{slit_body, slit_written}
 use Rattle.acpi_writer.specs.Table.{AreIds, are_texts, table_bytes, table_head, table_written, unsummed}
 use Rattle.acpi_writer.specs.declared.contents.TableContents.{TableContents}
-use Rattle.acpi_writer.specs.declared.contents.TableContents.TheVariants.{Hpet, Madt, Mcfg, Slit, Ssdt}
+use Rattle.acpi_writer.specs.declared.contents.TableContents.TheVariants.{Fadt, Hpet, Madt, Mcfg, Slit, Ssdt}
 use Rattle.acpi_writer.specs.declared.error.WriterError.{WriterError}
-use Rattle.acpi_writer.specs.declared.error.WriterError.TheVariants.{BadMatrix, BadName, IdOfAll, NoProcessor, TooLong, UidOfAll}
+use Rattle.acpi_writer.specs.declared.error.WriterError.TheVariants.{BadMatrix, BadName, BadProfile, BadRegister, IdOfAll, NoAddress, NoProcessor, TooLong, UidOfAll}
+use Rattle.acpi_writer.specs.declared.fadt.contents.FadtContents.{FadtContents}
 use Rattle.acpi_writer.specs.declared.machine.Machine.{Machine}
 use Rattle.acpi_writer.specs.declared.madt.MadtContents.{MadtContents}
 use Rattle.acpi_writer.specs.declared.ids.TableIds.{TableIds}
@@ -110,12 +112,24 @@ moved_slit ids n distances are room other t e fits =
     let here : ℕ → Result (List ℕ) WriterError = λ m. table_written m SLIT 1 ids (slit_body n distances) in
     through (n * n == length distances) BadMatrix (here room) (here other) t (λ p. moved_table SLIT 1 ids (slit_body n distances) refl are room other t p fits) e
 
+moved_fadt : (ids : TableIds) (c : FadtContents) → AreIds ids → Moves (λ room. fadt_written room ids c)
+unfolding fadt_written
+moved_fadt ids c are room other t e fits =
+    let placed = are_placed c in
+    let profile = is_profile c.power_profile in
+    let registers = are_registers c in
+    let here : ℕ → Result (List ℕ) WriterError = λ n. table_written n FADT 6 ids (fadt_body c) in
+    through placed NoAddress (holds profile BadProfile >>= λ _. holds registers BadRegister >>= λ _. here room) (holds profile BadProfile >>= λ _. holds registers BadRegister >>= λ _. here other) t
+    (through profile BadProfile (holds registers BadRegister >>= λ _. here room) (holds registers BadRegister >>= λ _. here other) t
+    (through registers BadRegister (here room) (here other) t (λ p. moved_table FADT 6 ids (fadt_body c) refl are room other t p fits))) e
+
 pub moved_contents : (ids : TableIds) (c : TableContents) → AreIds ids → Moves (λ room. contents_written room ids c)
 moved_contents ids (Madt c) are = moved_madt ids c are
 moved_contents ids (Mcfg regions) are = moved_table MCFG 1 ids (mcfg_body regions.now) refl are
 moved_contents ids (Hpet info) are = moved_table HPET 1 ids (hpet_body info) refl are
 moved_contents ids (Slit c) are = moved_slit ids c.localities c.distances.now are
 moved_contents ids (Ssdt c) are = moved_table SSDT c.revision ids c.bytes.now refl are
+moved_contents ids (Fadt c) are = moved_fadt ids c are
 
 -- ---- what a call wrote, and what it didn't
 

@@ -1,5 +1,5 @@
 -- A whole machine in one region of memory: the RSDP, the XSDT, a DSDT, and the tables that the XSDT lists.
-use Rattle.std.specs.Prelude.{ℕ, ◌+◌, ◌*◌, ◌^◌, ◌%◌, ◌<◌, ◌==◌, ◌&&◌, Bool, not, List, [], ◌∷◌, ◌++◌, length, map, nat_le, nat_lt}
+use Rattle.std.specs.Prelude.{ℕ, ◌+◌, ◌*◌, ◌^◌, ◌%◌, ◌<◌, ◌==◌, ◌&&◌, Bool, not, if◌then◌else◌, List, [], ◌∷◌, ◌++◌, length, map, nat_le, nat_lt}
 use Rattle.std.specs.Prelude.{Option, Some, None, Result, Ok}
 use Rattle.std.specs.List.{All}
 use Rattle.acpi.specs.declared.root.RootKind.TheVariants.{Xsdt}
@@ -38,6 +38,12 @@ xsdt_length m = 36 + 8 * length m.tables.now
 -- where the DSDT lies, or would lie, and where the listed tables begin, if the XSDT lies at a
 abbrev pub dsdt_address : ℕ → Machine → ℕ
 dsdt_address a m = a + rounded (xsdt_length m)
+
+-- where `write_tables` lays the DSDT for an address, with so many listed tables, if that is an address
+abbrev pub dsdt_at : ℕ → ℕ → Option ℕ
+dsdt_at a n =
+    if nat_lt (36 + 8 * n) (2 ^ 32) && nat_lt (a + (48 + rounded (36 + 8 * n))) (2 ^ 64) then Some (a + (48 + rounded (36 + 8 * n)))
+    else None
 
 abbrev pub tables_address : ℕ → Machine → ℕ
 tables_address a m = dsdt_address a m + length (padded (dsdt_of m))

@@ -5,13 +5,15 @@
 --   * the RSDP is valid, tables are opened by it, and their root table is the XSDT;
 --   * the XSDT's pointers are the addresses of the listed tables, in the order in which these were passed in;
 --   * of each signature the first of the listed tables is found, at its address, with its bytes;
---   * so the interrupt model and the processors, the regions of the configuration space, the event timer block and the
+--   * a FADT is read as it was passed in, and if it has the DSDT's address, the DSDT's AML is found;
+--   * so the platform with its interrupt model and its processors, the regions of the configuration space, the event timer block and the
 --     distances are exactly those that were passed in; and the DSDT is valid at its address.
 use Rattle.std.specs.Prelude.{◌≡◌, ℕ, ◌+◌, ◌*◌, ◌<◌, ◌≤◌, ◌&&◌, true, List, [], ◌∷◌, length, drop, nat_le, slice_get, if◌then◌else◌}
 use Rattle.std.specs.Prelude.{Option, Some, None, Result, Ok, Err}
 use Rattle.std.specs.List.{AllByRecursion}
 use Rattle.std.specs.Str.{bytes_eq}
 use Rattle.acpi.specs.Hpet.{hpet_of}
+use Rattle.acpi.specs.Lists.{dsdt_stream, fadt_kind, stream_of}
 use Rattle.acpi.specs.Lookup.{lookup}
 use Rattle.acpi.specs.Opened.{opened_by_rsdp}
 use Rattle.acpi.specs.Pci.{found_regions}
@@ -26,20 +28,25 @@ use Rattle.acpi_base.specs.Table.{plain_kind, sdt_kind, table_at}
 use Rattle.acpi_base.specs.Text.{letters_of}
 use Rattle.acpi_base.specs.declared.error.AcpiError.{AcpiError}
 use Rattle.acpi_base.specs.declared.error.AcpiError.TheVariants.{TableMissing}
+use Rattle.acpi_base.specs.declared.model.interrupt.InterruptModel.TheVariants.{Apic}
 use Rattle.acpi_base.specs.declared.table.signature.Signature.{Signature}
-use Rattle.acpi_base.specs.declared.table.signature.TheConstants.Signature.{DSDT, HPET, MADT, MCFG, SLIT}
+use Rattle.acpi_base.specs.declared.table.signature.TheConstants.Signature.{DSDT, FADT, HPET, MADT, MCFG, SLIT}
+use Rattle.acpi_fixed.specs.Fadt.{fadt_at}
 use Rattle.acpi_numa.specs.Slit.{distance_of}
 use Rattle.acpi_writer.specs.Contents.{bytes_of, placed, signature_of}
+use Rattle.acpi_writer.specs.FadtLaws.{IsReadAs, timer_read}
 use Rattle.acpi_writer.specs.ImageLaws.{HasPlatform, is_named}
 use Rattle.acpi_writer.specs.Laid.{addresses, laid, padded}
 use Rattle.acpi_writer.specs.Machine.{FitsMachine, check_machine, dsdt_address, dsdt_of, is_place, machine_bytes, pointers_of, tables_address, tree_bytes, tree_size, xsdt_bytes}
-use Rattle.acpi_writer.specs.MadtLaws.{model_read}
+use Rattle.acpi_writer.specs.MadtLaws.{apic_read, model_read, processors_read}
 use Rattle.acpi_writer.specs.Rsdp.{rsdp_bytes}
 use Rattle.acpi_writer.specs.Table.{IsValid}
 use Rattle.acpi_writer.specs.declared.contents.AmlContents.{AmlContents}
 use Rattle.acpi_writer.specs.declared.contents.TableContents.{TableContents}
-use Rattle.acpi_writer.specs.declared.contents.TableContents.TheVariants.{Hpet, Madt, Mcfg, Slit}
+use Rattle.acpi_writer.specs.declared.contents.TableContents.TheVariants.{Fadt, Hpet, Madt, Mcfg, Slit}
+use Rattle.acpi_writer.specs.declared.fadt.contents.FadtContents.{FadtContents}
 use Rattle.acpi_writer.specs.declared.ids.TableIds.{TableIds}
+use Rattle.acpi_writer.specs.declared.madt.MadtContents.{MadtContents}
 use Rattle.acpi_writer.specs.declared.machine.Machine.{Machine}
 
 -- ---- any valid tables, laid one after the other
@@ -92,14 +99,34 @@ pub record IsOpened (m : Memory) (rsdp a : ℕ) (x : Machine) : Type 0 where
       → 36 ≤ least → least ≤ length (bytes_of x.ids c)
       → lookup m (sdt_kind s least) (pointers_of a x)
       ≡ Ok (place_of x.ids s (tables_address a x) x.tables.now, bytes_of x.ids c)
-  pub dsdt : (c : AmlContents) → x.dsdt ≡ Some c
+  pub dsdt : (d : AmlContents) → x.dsdt ≡ Some d
       → table_at m (plain_kind DSDT) (dsdt_address a x) ≡ Ok (dsdt_of x)
+  -- if the FADT has its address, its AML is found
+  pub aml : (c : FadtContents) (d : AmlContents) → first_of FADT x.tables.now ≡ Some (Fadt c) → x.dsdt ≡ Some d
+      → c.dsdt ≡ dsdt_address a x
+      → dsdt_stream m (pointers_of a x) ≡ Ok (stream_of (dsdt_address a x) (dsdt_of x))
+
+-- a FADT is found, and what calls of the reader return of it is what was given
+abbrev pub HasFadt : Memory → List ℕ → FadtContents → Type 0
+HasFadt m ps c = (found : ℕ × List ℕ) × (lookup m fadt_kind ps ≡ Ok found) × IsReadAs c (fadt_at found.1)
+
+-- the platform of a FADT and a MADT
+abbrev pub platform_read : {A : Type 0} → FadtContents → MadtContents → PlatformInfo A
+platform_read c d = record {
+  power_profile = c.power_profile;
+  interrupt_model = Apic (apic_read d);
+  processor_info = processors_read d.processors.now;
+  pm_timer = timer_read c;
+}
 
 -- what a reader says of the tables that these pointers lead to: what was passed in
 pub record Says (A : Type 0) (m : Memory) (ps : List ℕ) (cs : List TableContents) : Type 0 where
   pub model : (c : _) → first_of MADT cs ≡ Some (Madt c) → model_in {A = A} m ps ≡ Ok (model_read c)
   pub platform : (c : _) (q : PlatformInfo A) → first_of MADT cs ≡ Some (Madt c)
       → platform_of m ps ≡ Ok q → HasPlatform c q
+  pub platform_is : (c d : _) → first_of FADT cs ≡ Some (Fadt c) → first_of MADT cs ≡ Some (Madt d)
+      → platform_of {A = A} m ps ≡ Ok (platform_read c d)
+  pub fadt : (c : _) → first_of FADT cs ≡ Some (Fadt c) → HasFadt m ps c
   pub regions : (es : _) → first_of MCFG cs ≡ Some (Mcfg es) → found_regions m ps ≡ Ok es.now
   pub hpet : (i : _) → first_of HPET cs ≡ Some (Hpet i) → hpet_of m ps ≡ Ok i
   pub distances : (c : _) (from to : ℕ) → first_of SLIT cs ≡ Some (Slit c)

@@ -7,6 +7,7 @@ ghost use Rattle.acpi_writer.specs.Table.{Keeps};
 
 use crate::aml::write_ssdt;
 use crate::error::WriterError;
+use crate::fadt::{FadtContents, fadt_size, write_fadt};
 use crate::hpet::write_hpet;
 use crate::ids::TableIds;
 use crate::madt::{MadtContents, madt_size, write_madt};
@@ -49,6 +50,8 @@ pub enum TableContents<'a> {
     Slit(SlitContents<'a>),
     /// `write_ssdt`.
     Ssdt(AmlContents<'a>),
+    /// `write_fadt`. `dsdt_address` is where the machine's DSDT lies.
+    Fadt(FadtContents),
 }
 
 /// The least multiple of 16 that isn't below a number.
@@ -85,6 +88,7 @@ impl TableContents<'_> {
             TableContents::Ssdt(aml) => {
                 table_size(Signature::SSDT, aml.revision, ids, &Bytes(aml.bytes))
             }
+            TableContents::Fadt(contents) => fadt_size(ids, contents),
         }
     }
 
@@ -100,6 +104,7 @@ impl TableContents<'_> {
             TableContents::Hpet(info) => write_hpet(out, ids, info),
             TableContents::Slit(slit) => write_slit(out, ids, slit.localities, slit.distances),
             TableContents::Ssdt(aml) => write_ssdt(out, ids, aml.revision, aml.bytes),
+            TableContents::Fadt(contents) => write_fadt(out, ids, contents),
         }
     }
 

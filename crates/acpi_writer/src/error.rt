@@ -12,7 +12,7 @@ pub enum WriterError {
     /// A SLIT without a distance for each pair of localities.
     BadMatrix,
     /// An address that stands for none: of 0 in an RSDP, a FADT or of a serial port, and of all ones as a base address
-    /// in a GTDT.
+    /// in a GTDT; or an address at which a machine's tables can't lie.
     NoAddress,
     /// A FADT with a `Reserved` profile whose code is that of one that has a name.
     BadProfile,

@@ -1,7 +1,8 @@
 //! The Fixed ACPI Description Table (FADT, section 5.2.9), from the hardware and the features that it is to say.
-ghost use Rattle.std.specs.Prelude.{◌≡◌, length, take, IfOk};
+ghost use Rattle.std.specs.Prelude.{◌≡◌, ◌^◌, ◌<◌, length, take, IfOk};
 ghost use Rattle.acpi_base.specs.Steps.{Gives};
 ghost use Rattle.acpi_base.specs.declared.table.signature.TheConstants.Signature.{FADT};
+ghost use Rattle.acpi_writer.specs.Contents.{most, sized};
 ghost use Rattle.acpi_writer.specs.FadtBytes as bytes;
 ghost use Rattle.acpi_writer.specs.FadtLaws.{AreFitFor, IsFadt};
 ghost use Rattle.acpi_writer.specs.Table.{IsTableOf, Keeps, table_written};
@@ -14,7 +15,7 @@ use crate::error::WriterError;
 use crate::generic::is_register;
 use crate::ids::TableIds;
 use crate::spelled::{Each, Then};
-use crate::table::write_table;
+use crate::table::{table_size, write_table};
 use acpi_base::Signature;
 use acpi_base::address::GenericAddress;
 use acpi_fixed::fadt::{GpeBlock, PowerProfile};
@@ -104,6 +105,17 @@ fn registers(contents: &FadtContents, h: &FixedHardware) -> [Option<GenericAddre
     ]
 }
 
+/// All after the header of a FADT.
+macro_rules! body_of {
+    ($contents:expr, $hardware:expr, $registers:expr) => {{
+        let ends = Then(Each(&$registers), 0u64);
+        let wide = Then($contents.reset_register, Then(Wide($contents), ends));
+        let features = Then(Lengths($hardware), Then(Features($contents), wide));
+        let ports = Then(Pm1Ports($hardware), Then(OtherPorts($hardware), features));
+        Then(Head($contents, $hardware), ports)
+    }};
+}
+
 /// Writes a FADT whose contents may be written.
 ///
 /// Returns, in this order, `BadName` and `NoRoom`.
@@ -121,12 +133,41 @@ fn write_contents(
     ensures fits { IfOk result (λ n. AreFitFor contents.now hardware.now) }
 {
     let registers = registers(contents, hardware);
-    let ends = Then(Each(&registers), 0u64);
-    let wide = Then(contents.reset_register, Then(Wide(contents), ends));
-    let features = Then(Lengths(hardware), Then(Features(contents), wide));
-    let ports = Then(Pm1Ports(hardware), Then(OtherPorts(hardware), features));
-    let body = Then(Head(contents, hardware), ports);
+    let body = body_of!(contents, hardware, registers);
     write_table(out, Signature::FADT, 6, ids, &body)
+}
+
+/// How many bytes the FADT of contents that may be written has, or the first error.
+fn contents_size(
+    ids: &TableIds,
+    contents: &FadtContents,
+    hardware: &FixedHardware,
+) -> Result<usize, WriterError>
+    ensures exact { result ≡ sized (table_written most FADT 6 ids.now (bytes.body_with contents.now hardware.now)) }
+    ensures short { IfOk result (λ n. n < 2 ^ 32) }
+    ensures fits { IfOk result (λ n. AreFitFor contents.now hardware.now) }
+{
+    let registers = registers(contents, hardware);
+    let body = body_of!(contents, hardware, registers);
+    table_size(Signature::FADT, 6, ids, &body)
+}
+
+/// How many bytes the FADT has, or the first error of `write_fadt` in a slice of any length.
+pub(crate) fn fadt_size(ids: &TableIds, contents: &FadtContents) -> Result<usize, WriterError>
+    ensures exact { result ≡ sized (bytes.fadt_written most ids.now contents.now) }
+    ensures short { IfOk result (λ n. n < 2 ^ 32) }
+    ensures fits { IfOk result (λ n. AreFitFor contents.now (bytes.fixed_of contents.now.hardware)) }
+{
+    if !are_placed(contents) {
+        return Err(WriterError::NoAddress);
+    }
+    if !is_profile(contents.power_profile) {
+        return Err(WriterError::BadProfile);
+    }
+    if !are_registers(contents) {
+        return Err(WriterError::BadRegister);
+    }
+    contents_size(ids, contents, &fixed_of(&contents.hardware))
 }
 
 /// Writes a FADT of version 6.4, 276 bytes, to the front of a slice, and returns how many bytes it has. Each address and

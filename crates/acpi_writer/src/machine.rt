@@ -31,6 +31,17 @@ pub struct Machine<'a> {
     pub tables: &'a [TableContents<'a>],
 }
 
+/// The physical address at which `write_tables` lays the DSDT of a machine that lists so many tables, if it is passed this
+/// address itself, or `None` if there can't be so many or the sum is 2^64 or above. A FADT among the tables is to have it.
+pub fn dsdt_address(address: u64, tables: usize) -> Option<u64>
+    ensures { result ≡ whole.dsdt_at address tables }
+{
+    if tables > 0x1ffffffb {
+        return None;
+    }
+    address.checked_add(48 + rounded(36 + 8 * tables) as u64)
+}
+
 /// How many bytes the tables that the XSDT lists take, or the first error.
 fn listed_size(ids: &TableIds, tables: &[TableContents<'_>]) -> Result<usize, WriterError>
     requires { length tables.now < 2 ^ 29 }

@@ -36,7 +36,7 @@ const RSDT_BYTES: [u8; 44] = [
 ];
 
 /// Scope (_SB_) {}
-const AML: [u8; 6] = [0x10, 5, b'_', b'S', b'B', b'_'];
+pub(crate) const AML: [u8; 6] = [0x10, 5, b'_', b'S', b'B', b'_'];
 
 /// An SSDT of revision 2 with it.
 #[rattlefmt::skip]
@@ -50,7 +50,7 @@ const SSDT_BYTES: [u8; 42] = [
 
 /// A DSDT of revision 2 with it.
 #[rattlefmt::skip]
-const DSDT_BYTES: [u8; 42] = [
+pub(crate) const DSDT_BYTES: [u8; 42] = [
     b'D', b'S', b'D', b'T', 42, 0, 0, 0, 2, 0x0c, // Signature, Length, Revision, Checksum
     b'G', b'U', b'E', b'S', b'T', b' ', // OEMID
     b'M', b'A', b'C', b'H', b'I', b'N', b'E', b' ', // OEM Table ID

@@ -8,7 +8,7 @@ use acpi_writer::{WriterError, write_hpet, write_madt, write_mcfg};
 
 /// An MCFG of `samples::REGIONS` (PCI Firmware Specification, section 4.1.2).
 #[rattlefmt::skip]
-const MCFG_BYTES: [u8; 76] = [
+pub(crate) const MCFG_BYTES: [u8; 76] = [
     b'M', b'C', b'F', b'G', 76, 0, 0, 0, 1, 0x64, // Signature, Length, Revision, Checksum
     b'G', b'U', b'E', b'S', b'T', b' ', // OEMID
     b'M', b'A', b'C', b'H', b'I', b'N', b'E', b' ', // OEM Table ID
@@ -20,7 +20,7 @@ const MCFG_BYTES: [u8; 76] = [
 
 /// An HPET of `samples::HPET` (IA-PC HPET Specification 1.0a, section 3.2.4).
 #[rattlefmt::skip]
-const HPET_BYTES: [u8; 56] = [
+pub(crate) const HPET_BYTES: [u8; 56] = [
     b'H', b'P', b'E', b'T', 56, 0, 0, 0, 1, 0x6b, // Signature, Length, Revision, Checksum
     b'G', b'U', b'E', b'S', b'T', b' ', // OEMID
     b'M', b'A', b'C', b'H', b'I', b'N', b'E', b' ', // OEM Table ID
