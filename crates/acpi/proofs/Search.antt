@@ -271,7 +271,7 @@ length_front : (b : List ℕ) → checked_length (take 36 b) ≡ checked_length 
 unfolding checked_length check_first
 length_front b = rw (rsdp_front b, take-take 20 36 b (lit≤ tt)) refl
 
-whole_there : (m : Memory) (a : ℕ) (b : List ℕ) (n : Option ℕ) → at m a (length b) ≡ Some b → check_whole (at_hand b) n ≡ Ok tt → check_whole (lent m a) n ≡ Ok tt
+pub whole_there : (m : Memory) (a : ℕ) (b : List ℕ) (n : Option ℕ) → at m a (length b) ≡ Some b → check_whole (at_hand b) n ≡ Ok tt → check_whole (lent m a) n ≡ Ok tt
 whole_there m a b None here whole = refl
 whole_there m a b (Some n) here whole =
     let had = bind_ok (at_hand b n) _ tt whole in

@@ -20,12 +20,13 @@ use Rattle.acpi_base.specs.declared.error.AcpiError.{AcpiError}
 use Rattle.acpi_base.specs.declared.table.signature.Signature.{Signature}
 use Rattle.acpi_base.specs.declared.table.signature.TheConstants.Signature.{DSDT, FADT, HPET, MADT, MCFG, SLIT, SSDT, XSDT}
 use Rattle.acpi_base.specs.declared.error.AcpiError.TheVariants.{RsdpInvalidChecksum}
+use Rattle.acpi.proofs.Search.{whole_there}
 use Rattle.acpi.specs.Hpet.{hpet_of}
 use Rattle.acpi.specs.Lists.{dsdt_stream, stream_at, stream_of}
 use Rattle.acpi.specs.Lookup.{lookup}
 use Rattle.acpi.specs.Pci.{found_regions}
 use Rattle.acpi.specs.Platform.{model_in, platform_of}
-use Rattle.acpi.specs.Rsdp.{check_rsdp, check_sum, check_whole, check_whole_at, length_of, rsdp_at}
+use Rattle.acpi.specs.Rsdp.{at_hand, check_rsdp, check_whole, checked_length, rsdp_at}
 use Rattle.acpi.specs.declared.hpet.HpetInfo.{HpetInfo}
 use Rattle.acpi.specs.declared.root.RootKind.TheVariants.{Xsdt}
 use Rattle.acpi_image.proofs.WrittenTables.{table_is}
@@ -192,18 +193,12 @@ first_is ids s c (d ∷ cs) all is = first_by (bytes_eq (letters_of (signature_o
 
 -- ---- an RSDP that is lent
 
-whole_by : (m : Memory) (p : ℕ) (b : List ℕ) (n : Option ℕ) → at m p (length b) ≡ Some b → check_whole b n ≡ Ok tt → check_whole_at m p n ≡ Ok tt
-whole_by m p b None e checked = refl
-whole_by m p b (Some n) e checked =
-    let both = holds_ok (nat_le n (length b)) RsdpInvalidChecksum (λ _. check_sum (take n b)) tt checked in
-    rw (at-front m p n b e (leb-true n (length b) both.0)) both.1
-
 pub rsdp_there : (m : Memory) (p : ℕ) (b : List ℕ) → length b ≡ 36 → at m p 36 ≡ Some b → check_rsdp b ≡ Ok tt → rsdp_at m p ≡ Ok b
 unfolding rsdp_at check_rsdp
 rsdp_there m p b long e checked =
-    let parts = bind_ok (length_of b) (λ n. check_whole b n) tt checked in
+    let parts = bind_ok (checked_length b) (λ n. check_whole (at_hand b) n) tt checked in
     let all : at m p (length b) ≡ Some b = ap (at m p) long ∙ e in
-    rw (e, parts.1, whole_by m p b parts.0 all parts.2) refl
+    rw (e, parts.1, whole_there m p b parts.0 all parts.2) refl
 
 -- ---- a table that is lent
 
