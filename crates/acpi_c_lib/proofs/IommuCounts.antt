@@ -1,23 +1,24 @@
 -- How many ranges of memory there are at most.
 use Rattle.std.proofs.Common.{◌≡◌, ℕ, zero, suc, ◌≤◌, Bool, true, false, List, [], length, map, take, drop, Option, Some, None, ap, arith, length-drop}
+use Rattle.std.specs.Prelude.{filter, Ok}
+use Rattle.std.specs.List.{list_all}
 use Rattle.std.proofs.lemmas.List.{length-map}
 use Rattle.std.proofs.lemmas.List.Sums.{length-filter, count_by-le-length}
-use Rattle.acpi_base.specs.Entries.{cut, cut_within, front, with_entry}
-use Rattle.acpi_base.specs.declared.entries.EntryLayout.{EntryLayout}
+use Rattle.acpi_base.specs.Entries.{with_entry}
+use Rattle.acpi_base.specs.Steps.{◌>>=◌, holds}
+use Rattle.acpi_iommu.specs.Dmar.{is_range, rmrr_at, structure_size, structures_of}
 use Rattle.acpi_iommu.specs.DmarUnits as dmar
-use Rattle.acpi_iommu.specs.IvrsUnits as ivrs
-use Rattle.acpi_iommu.specs.declared.error.IommuError.TheVariants.{InvalidMemoryRange, InvalidStructureLength}
-use Rattle.std.specs.List.{list_all}
-use Rattle.acpi_iommu.specs.Dmar.{is_range, rmrr_at, structure_grammar, structure_layout, structures_of}
 use Rattle.acpi_iommu.specs.DmarUnits.{is_reserved_for, reserved_for}
 use Rattle.acpi_iommu.specs.Ivrs.{block_size, blocks_of, ivmd_at}
+use Rattle.acpi_iommu.specs.IvrsUnits as ivrs
 use Rattle.acpi_iommu.specs.IvrsUnits.{ends_below, is_memory_for, memory_for}
-use Rattle.acpi_iommu.specs.Pieces.{pieces, pieces_within}
-use Rattle.acpi_iommu.specs.declared.dmar.scope.Hop.{Hop}
+use Rattle.acpi_iommu.specs.Pieces.{front, pieces, pieces_within}
 use Rattle.acpi_iommu.specs.declared.dmar.fields.Rmrr.{Rmrr}
+use Rattle.acpi_iommu.specs.declared.dmar.scope.Hop.{Hop}
+use Rattle.acpi_iommu.specs.declared.error.IommuError.TheVariants.{InvalidMemoryRange, InvalidStructureLength}
 use Rattle.acpi_iommu.specs.declared.ivrs.block.Ivmd.{Ivmd}
-use Rattle.acpi_base.specs.Steps.{◌>>=◌, holds}
-use Rattle.std.specs.Prelude.{filter, Result, Ok, Err}
+
+-- ---- pieces
 
 -- what begins the bytes, and what follows it
 abbrev step : List ℕ → (ℕ → List (List ℕ) × List ℕ) → Option ℕ → List (List ℕ) × List ℕ
@@ -27,23 +28,16 @@ one_more : (most : ℕ) (bytes : List ℕ) (next : ℕ → List (List ℕ) × Li
 one_more most bytes next None h = omega arith
 one_more most bytes next (Some n) h = omega (arith, h n)
 
-cut_few : {k : ℕ} (l : EntryLayout k) (most : ℕ) (bytes : List ℕ) → length (cut_within l most bytes).0 ≤ most
-cut_few l zero bytes = omega arith
-cut_few l (suc most) bytes =
-    one_more most bytes (λ n. cut_within l most (drop n bytes)) (front l bytes) (λ n. cut_few l most (drop n bytes))
+within_few : (size : List ℕ → Option ℕ) (most : ℕ) (bytes : List ℕ) → length (pieces_within size most bytes).0 ≤ most
+within_few size zero bytes = omega arith
+within_few size (suc most) bytes =
+    one_more most bytes (λ n. pieces_within size most (drop n bytes)) (front size bytes) (λ n. within_few size most (drop n bytes))
 
-pieces_few : (size : List ℕ → Option ℕ) (most : ℕ) (bytes : List ℕ) → length (pieces_within size most bytes).0 ≤ most
-pieces_few size zero bytes = omega arith
-pieces_few size (suc most) bytes =
-    one_more most bytes (λ n. pieces_within size most (drop n bytes)) (size bytes) (λ n. pieces_few size most (drop n bytes))
-
-structures_few : (table : List ℕ) → length (structures_of table) ≤ length table
-unfolding cut
-structures_few table = omega (arith, cut_few structure_layout (length (drop 48 table)) (drop 48 table), length-drop 48 table)
-
-blocks_few : (table : List ℕ) → length (blocks_of table) ≤ length table
+pieces_few : (size : List ℕ → Option ℕ) (table : List ℕ) → length (pieces size (drop 48 table)).0 ≤ length table
 unfolding pieces
-blocks_few table = omega (arith, pieces_few block_size (length (drop 48 table)) (drop 48 table), length-drop 48 table)
+pieces_few size table = omega (arith, within_few size (length (drop 48 table)) (drop 48 table), length-drop 48 table)
+
+-- ---- ranges
 
 -- what is listed after two checks that hold
 listed : {A E : Type 0} (a b : Bool) (e f : E) (xs ys : List A) → (holds a e >>= λ _. holds b f >>= λ _. Ok xs) ≡ Ok ys → xs ≡ ys
@@ -55,10 +49,10 @@ pub reserved_few : (table : List ℕ) (segment bus : ℕ) (hops : List Hop) (rs 
 reserved_few table segment bus hops rs said =
     let some = filter (is_reserved_for segment bus hops) (structures_of table) in
     let same = listed (dmar.is_whole table) (list_all is_range (map rmrr_at some)) InvalidStructureLength InvalidMemoryRange (map rmrr_at some) rs said in
-    omega (arith, ap length same, length-map some rmrr_at, length-filter (is_reserved_for segment bus hops) (structures_of table), count_by-le-length (is_reserved_for segment bus hops) (structures_of table), structures_few table)
+    omega (arith, ap length same, length-map some rmrr_at, length-filter (is_reserved_for segment bus hops) (structures_of table), count_by-le-length (is_reserved_for segment bus hops) (structures_of table), pieces_few structure_size table)
 
 pub memory_few : (table : List ℕ) (id : ℕ) (ms : List Ivmd) → memory_for table id ≡ Ok ms → length ms ≤ length table
 memory_few table id ms said =
     let some = filter (is_memory_for id) (blocks_of table) in
     let same = listed (ivrs.is_whole table) (list_all ends_below (map ivmd_at some)) InvalidStructureLength InvalidMemoryRange (map ivmd_at some) ms said in
-    omega (arith, ap length same, length-map some ivmd_at, length-filter (is_memory_for id) (blocks_of table), count_by-le-length (is_memory_for id) (blocks_of table), blocks_few table)
+    omega (arith, ap length same, length-map some ivmd_at, length-filter (is_memory_for id) (blocks_of table), count_by-le-length (is_memory_for id) (blocks_of table), pieces_few block_size table)

@@ -1,8 +1,7 @@
 -- The units that remap what devices ask of memory, as C gets them.
 use Rattle.std.specs.Prelude.{ℕ, List, Option, Some, None, map, Result, Ok, Err}
-use Rattle.std.specs.Option.{ok_or}
 use Rattle.acpi_base.specs.Steps.{◌>>=◌}
-use Rattle.acpi_base.specs.Table.{Kind, sdt_kind}
+use Rattle.acpi_base.specs.Table.{sdt_kind}
 use Rattle.acpi_base.specs.declared.table.signature.TheConstants.Signature.{DMAR, IVRS}
 use Rattle.acpi_iommu.specs.Dmar.{includes_pci_all, register_bytes}
 use Rattle.acpi_iommu.specs.DmarUnits.{reserved_for, unit_for, unit_of_hpet, unit_of_io_apic}
