@@ -8,9 +8,7 @@ use acpi_c_lib::answer::answer;
 use acpi_c_lib::iommu::{
     dmar_hpet, dmar_io_apic, dmar_reserved, dmar_unit, ivrs_memory, ivrs_unit,
 };
-use acpi_c_lib::iommu_records::{
-    DmarReserved, DmarSource, DmarUnit, Hop, IvrsDevice, IvrsMemory,
-};
+use acpi_c_lib::iommu_records::{DmarReserved, DmarSource, DmarUnit, Hop, IvrsDevice, IvrsMemory};
 use acpi_c_lib::records::{Signature, Source};
 
 /// The unit that remaps a device (DMAR, section 8.3).
