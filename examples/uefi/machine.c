@@ -59,6 +59,13 @@ void *memcpy(void *to, const void *from, size_t n) {
     while (n--) *t++ = *f++;
     return to;
 }
+void *memmove(void *to, const void *from, size_t n) {
+    volatile uint8_t *t = to;
+    const volatile uint8_t *f = from;
+    if (t <= f) return memcpy(to, from, n);
+    while (n--) t[n] = f[n];
+    return to;
+}
 void *memset(void *to, int x, size_t n) {
     volatile uint8_t *t = to;
     while (n--) *t++ = (uint8_t)x;
