@@ -1,16 +1,17 @@
 -- Each of some ranges may be asked for: so may each part of them.
-use Rattle.std.proofs.Common.{◌≡◌, ℕ, ◌==◌, ◌&&◌, List, [], ◌∷◌, ◌++◌, get_or, Bool, true, Ok, ap, refl, subst, sym}
-use Rattle.std.proofs.lemmas.Bool.{eq-eqb}
+use Rattle.std.proofs.Common.{◌≡◌, ℕ, ◌==◌, ◌&&◌, List, [], ◌∷◌, ◌++◌, get_or, Bool, true, Ok, ap, arith, refl, subst, sym, ◌≤◌}
+use Rattle.std.specs.List.{AllByRecursion}
+use Rattle.std.proofs.lemmas.Bool.{eq-eqb, le-leb}
 use Rattle.std.proofs.lemmas.List.Folds.{list_any_at}
 use Rattle.std.proofs.lemmas.List.Elements.{All-cons, All-head, All-nil, All-tail}
 use Rattle.acpi_base.specs.Bytes.{part}
 use Rattle.acpi_base.specs.Text.{letters_of}
 use Rattle.acpi_base.specs.declared.table.signature.Signature.{Signature}
-use Rattle.acpi_base.specs.Header.{header_at}
+use Rattle.acpi_base.specs.Header.{check_names, header_at}
 use Rattle.acpi_base.specs.Memory.{Memory}
 use Rattle.acpi_base.specs.Ranges.{Allows, Ranges, is_listed, own_table_ranges, table_ranges, whole_ranges}
 use Rattle.acpi_base.specs.Steps.{lent}
-use Rattle.acpi_base.specs.Table.{Kind, length_in}
+use Rattle.acpi_base.specs.Table.{Kind}
 
 abbrev the_signature : List ℕ → Signature
 the_signature letters = record { 0 = letters }
@@ -66,5 +67,17 @@ module _ (may : ℕ → ℕ → Bool) where
   asked_own m s p head h there letters = of_equal s (header_at head).signature p head (own_signature s head letters) (rw there at (all_rest (p, 36) _ h))
 
   pub asked_length : (s : Signature) (least p n : ℕ) (head : List ℕ) → Allows may (whole_ranges s least p head)
-      → length_in s least (header_at head) ≡ Ok n → may p n ≡ true
-  asked_length s least p n head h is = all_here (p, n) [] (rw is at h)
+      → check_names s (header_at head) ≡ Ok tt → least ≤ n → n ≡ (header_at head).length → may p n ≡ true
+  asked_length s least p n head h names long is =
+      let enough = le-leb least (header_at head).length (omega (arith, long, is)) in
+      rw is (all_here (p, (header_at head).length) [] (rw (names, enough) at h))
+
+-- what holds of each of some ranges holds of each part of them
+
+pub each_front : {X : Type 0} (P : X → Type 0) (xs ys : List X) → AllByRecursion P (xs ++ ys) → AllByRecursion P xs
+each_front P [] ys h = tt
+each_front P (x ∷ xs) ys h = (h.0, each_front P xs ys h.1)
+
+pub each_back : {X : Type 0} (P : X → Type 0) (xs ys : List X) → AllByRecursion P (xs ++ ys) → AllByRecursion P ys
+each_back P [] ys h = h
+each_back P (x ∷ xs) ys h = each_back P xs ys h.1

@@ -4,13 +4,14 @@ use Rattle.std.specs.Prelude.{if◌then◌else◌}
 use Rattle.std.proofs.lemmas.List.{get_or_past, length-take}
 use Rattle.std.proofs.lemmas.Option.{cond_some}
 use Rattle.acpi_base.proofs.LentRanges.{lent_inside}
+use Rattle.acpi_base.proofs.OwnTable.{passed}
 use Rattle.acpi_base.proofs.Spelling.{IsBytes-drop, IsBytes-take}
-use Rattle.acpi_base.proofs.Steps.{bind_ok, same_ok, some_lent}
+use Rattle.acpi_base.proofs.Steps.{some_lent}
 use Rattle.acpi_base.specs.Bytes.{IsBytes}
 use Rattle.acpi_base.specs.Memory.{Memory, Region, IsMemory, IsRegion, at, lies_in, rest_from}
 use Rattle.acpi_base.specs.Steps.{lent}
 use Rattle.acpi_base.specs.Header.{header_at}
-use Rattle.acpi_base.specs.Table.{Kind, length_in, table_at, table_of, whole_of}
+use Rattle.acpi_base.specs.Table.{Kind, table_at}
 
 no_bytes : IsBytes []
 no_bytes i = let none = get_or_past {X = ℕ} [] i 0 (omega arith) in omega (arith, none)
@@ -35,14 +36,9 @@ lent_bytes m a n bytes h e = at_bytes m a n bytes h (some_lent _ _ e)
 
 -- a table's bytes are bytes
 pub table_bytes : (m : Memory) (k : Kind) (p : ℕ) (table : List ℕ) → IsMemory m → table_at m k p ≡ Ok table → IsBytes table
-unfolding table_at table_of whole_of
 table_bytes m k p table h e =
-    let head = bind_ok (lent m p 36) _ table e in
-    let whole = bind_ok (whole_of m k.signature k.least p head.0) _ table head.2 in
-    let length = bind_ok (length_in k.signature k.least (header_at head.0)) _ whole.0 whole.1 in
-    let checked = bind_ok (k.check whole.0) _ table whole.2 in
-    let same : whole.0 ≡ table = same_ok whole.0 table checked.2 in
-    subst (λ (b : List ℕ). IsBytes b) same (lent_bytes m p length.0 whole.0 h length.2)
+    let passes = passed m k p table e in
+    lent_bytes m p (header_at passes.head).length table h passes.whole
 
 region_at : (m : Memory) (k : ℕ) (d : Region) → IsMemory m → k < length m → IsRegion (get_or m k d)
 region_at [] k d h less = absurd (omega arith)

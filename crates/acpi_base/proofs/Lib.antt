@@ -1,5 +1,4 @@
 pub mod AllowedRanges
-pub mod TableFootprints
 pub mod Cuts
 pub mod EntryLists
 pub mod Equalities

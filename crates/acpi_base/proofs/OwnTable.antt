@@ -1,21 +1,24 @@
 -- What the header of a table tells. A table is valid for a signature and a least length exactly if it is valid under the
--- signature that it has, has this one, and is as long.
-use Rattle.std.proofs.Common.{◌≡◌, ℕ, ◌≤◌, Bool, true, false, ◌&&◌, ◌+◌, List, [], ◌∷◌, length, take, drop, lit≤, Option, Some, None, Result, Ok, Err, refl, sym, ap, ◌∙◌, arith, eq-eqb, if◌then◌else◌, ◌==◌}
+-- signature that it has, has this one, and is as long. And memories that agree on the ranges of a table have the same table.
+use Rattle.std.proofs.Common.{◌≡◌, ℕ, ◌≤◌, Bool, true, false, ◌&&◌, ◌+◌, List, length, take, drop, lit≤, Option, Some, None, Result, Ok, Err, refl, sym, ap, subst, ◌∙◌, arith, if◌then◌else◌, ◌==◌}
 use Rattle.std.specs.Prelude.{nat_le}
 use Rattle.std.specs.Result.{result_ok}
 use Rattle.std.specs.Str.{bytes_eq, is_utf8}
 use Rattle.std.proofs.lemmas.Bool.{and_from, and_parts, leb-true, le-leb, ne_eqb}
 use Rattle.std.proofs.lemmas.List.{drop-take, length-take-le, take-take}
 use Rattle.std.proofs.lemmas.Option.{cond_some}
+use Rattle.std.proofs.lemmas.Slice.Eq.{bytes_eq-Decides}
 use Rattle.acpi_base.proofs.LentFronts.{at-front}
 use Rattle.acpi_base.proofs.Steps.{bind_ok, holds_ok, some_lent, same_ok}
 use Rattle.acpi_base.specs.Bytes.{field_of, part, sum_of}
+use Rattle.acpi_base.specs.Claim.{unchecked}
 use Rattle.acpi_base.specs.Header.{check_names, check_table, header_at}
 use Rattle.acpi_base.specs.Memory.{Memory, at, rest_from}
+use Rattle.acpi_base.specs.Ranges.{OwnTableDependsOn, TableDependsOn}
 use Rattle.acpi_base.specs.Steps.{◌>>=◌, holds, lent}
-use Rattle.acpi_base.specs.Table.{kind, length_in, own_table_at, plain_kind, table_at, table_of, whole_of, Kind}
+use Rattle.acpi_base.specs.Table.{kind, own_table_at, plain_kind, table_at, Kind}
 use Rattle.acpi_base.specs.declared.error.AcpiError.{AcpiError}
-use Rattle.acpi_base.specs.declared.error.AcpiError.TheVariants.{SdtInvalidChecksum, SdtInvalidLength, SdtInvalidOemId, SdtInvalidSignature, SdtInvalidTableId}
+use Rattle.acpi_base.specs.declared.error.AcpiError.TheVariants.{SdtInvalidChecksum, SdtInvalidLength, SdtInvalidSignature}
 use Rattle.acpi_base.specs.declared.table.header.SdtHeader.{SdtHeader}
 use Rattle.acpi_base.specs.declared.table.signature.Signature.{Signature}
 use Rattle.std.proofs.Math.Seq.{take-length}
@@ -36,77 +39,38 @@ abbrev pub served : Signature → ℕ → Option (List ℕ) → Option (List ℕ
 served s least None = None
 served s least (Some table) = only (serves s least table) (Some table)
 
--- ---- checks that differ in what they refuse by
+-- ---- the five checks
 
-then_only : {A B : Type 0} (b : Bool) (r r' : Result A AcpiError) (f f' : A → Result B AcpiError)
-    → result_ok r ≡ only b (result_ok r') → ((x : A) → result_ok (f x) ≡ result_ok (f' x))
-    → result_ok (r >>= f) ≡ only b (result_ok (r' >>= f'))
-then_only true (Ok x) (Ok y) f f' e each = let same : x ≡ y = cc in rw same (each y)
-then_only true (Ok x) (Err d) f f' e each = absurd cc
-then_only true (Err c) (Ok y) f f' e each = absurd cc
-then_only true (Err c) (Err d) f f' e each = refl
-then_only false (Ok x) r' f f' e each = absurd cc
-then_only false (Err c) r' f f' e each = refl
+-- what a table at an address has passed
+pub record Passed (m : Memory) (k : Kind) (p : ℕ) (table : List ℕ) : Type 0 where
+  pub head : List ℕ
+  pub front : lent m p 36 ≡ Ok head
+  pub names : check_names k.signature (header_at head) ≡ Ok tt
+  pub long : nat_le k.least (header_at head).length ≡ true
+  pub whole : lent m p (header_at head).length ≡ Ok table
+  pub checked : k.check table ≡ Ok tt
 
-same_bytes : (xs : List ℕ) → bytes_eq xs xs ≡ true
-same_bytes [] = refl
-same_bytes (x ∷ xs) = and_from _ _ (eq-eqb x x refl) (same_bytes xs)
+pub passed : (m : Memory) (k : Kind) (p : ℕ) (table : List ℕ) → table_at m k p ≡ Ok table → Passed m k p table
+unfolding table_at
+passed m k p table e =
+    let head = bind_ok (lent m p 36) _ table e in
+    let names = bind_ok (check_names k.signature (header_at head.0)) _ table head.2 in
+    let long = holds_ok (nat_le k.least (header_at head.0).length) _ _ table names.2 in
+    let whole = bind_ok (lent m p (header_at head.0).length) _ table long.1 in
+    let checked = bind_ok (k.check whole.0) _ table whole.2 in
+    let same : whole.0 ≡ table = same_ok whole.0 table checked.2 in
+    record {
+      head = head.0;
+      front = head.1;
+      names = names.1;
+      long = long.0;
+      whole = subst (λ (b : List ℕ). lent m p (header_at head.0).length ≡ Ok b) same whole.1;
+      checked = subst (λ (b : List ℕ). k.check b ≡ Ok tt) same checked.1;
+    }
 
-names_by : (own own' text : Bool) (d d' : AcpiError) (f f' : Unit {0} → Result (Unit {0}) AcpiError) → own' ≡ true
-    → ((x : Unit {0}) → result_ok (f x) ≡ result_ok (f' x))
-    → result_ok (holds (own && text) d >>= f) ≡ only own (result_ok (holds (own' && text) d' >>= f'))
-names_by own false text d d' f f' e each = absurd cc
-names_by true true true d d' f f' e each = each tt
-names_by true true false d d' f f' e each = refl
-names_by false true true d d' f f' e each = refl
-names_by false true false d d' f f' e each = refl
-
-two_by : (b c : Bool) (d e d' e' : AcpiError) → result_ok (holds b d >>= λ _. holds c e) ≡ result_ok (holds b d' >>= λ _. holds c e')
-two_by true true d e d' e' = refl
-two_by true false d e d' e' = refl
-two_by false c d e d' e' = refl
-
-names_only : (s : Signature) (h : SdtHeader) → result_ok (check_names s h) ≡ only (bears s h) (result_ok (check_names h.signature h))
-unfolding check_names
-names_only s h =
-    names_by (bears s h) (bears h.signature h) (is_utf8 h.signature.0) (SdtInvalidSignature s) (SdtInvalidSignature h.signature)
-    (λ _. holds (is_utf8 h.oem_id) (SdtInvalidOemId s) >>= λ _. holds (is_utf8 h.oem_table_id) (SdtInvalidTableId s))
-    (λ _. holds (is_utf8 h.oem_id) (SdtInvalidOemId h.signature) >>= λ _. holds (is_utf8 h.oem_table_id) (SdtInvalidTableId h.signature))
-    (same_bytes h.signature.0)
-    (λ _. two_by (is_utf8 h.oem_id) (is_utf8 h.oem_table_id) (SdtInvalidOemId s) (SdtInvalidTableId s) (SdtInvalidOemId h.signature) (SdtInvalidTableId h.signature))
-
-table_only : (s : Signature) (b : List ℕ) → result_ok (check_table s b) ≡ only (bears s (header_at b)) (result_ok (check_table (header_at b).signature b))
-unfolding check_table
-table_only s b =
-    let own = (header_at b).signature in
-    let fits = nat_le 36 (field_of b 4 4) && nat_le (field_of b 4 4) (length b) in
-    let sums = sum_of (take (field_of b 4 4) b) == 0 in
-    then_only (bears s (header_at b)) (check_names s (header_at b)) (check_names own (header_at b))
-    (λ _. holds fits (SdtInvalidLength s) >>= λ _. holds sums (SdtInvalidChecksum s))
-    (λ _. holds fits (SdtInvalidLength own) >>= λ _. holds sums (SdtInvalidChecksum own))
-    (names_only s (header_at b))
-    (λ _. two_by fits sums (SdtInvalidLength s) (SdtInvalidChecksum s) (SdtInvalidLength own) (SdtInvalidChecksum own))
-
--- ---- the length
-
-long_by : (own l l36 : Bool) (n : ℕ) (d d' : AcpiError) (r r' : Result (Unit {0}) AcpiError) → (l ≡ true → l36 ≡ true)
-    → result_ok r ≡ only own (result_ok r')
-    → result_ok (r >>= λ _. holds l d >>= λ _. Ok n) ≡ only (own && l) (result_ok (r' >>= λ _. holds l36 d' >>= λ _. Ok n))
-long_by true true false n d d' r r' more e = let no : false ≡ true = more refl in absurd cc
-long_by true true true n d d' (Ok x) (Ok y) more e = refl
-long_by true true true n d d' (Ok x) (Err c) more e = absurd cc
-long_by true true true n d d' (Err c) (Ok y) more e = absurd cc
-long_by true true true n d d' (Err c) (Err c') more e = refl
-long_by true false l36 n d d' (Ok x) r' more e = refl
-long_by true false l36 n d d' (Err c) r' more e = refl
-long_by false l l36 n d d' (Ok x) r' more e = absurd cc
-long_by false l l36 n d d' (Err c) r' more e = refl
-
-length_only : (s : Signature) (least : ℕ) (h : SdtHeader) → 36 ≤ least
-    → result_ok (length_in s least h) ≡ only (bears s h && nat_le least h.length) (result_ok (length_in h.signature 36 h))
-unfolding length_in
-length_only s least h enough =
-    long_by _ _ _ _ _ _ _ _ (λ q. le-leb 36 h.length (omega (arith, leb-true least h.length q))) (names_only s h)
+pub passes : (m : Memory) (k : Kind) (p : ℕ) (table : List ℕ) → Passed m k p table → table_at m k p ≡ Ok table
+unfolding table_at
+passes m k p table h = rw (h.front, h.names, h.long, h.whole, h.checked) refl
 
 -- ---- the whole table
 
@@ -145,122 +109,114 @@ at_header m p n b head whole front enough =
     let same : take 36 b ≡ head = same_some (sym (at-front m p 36 b whole_of_it (omega (arith, long))) ∙ front) in
     (sym (header_front b) ∙ ap header_at same, long)
 
-pub is_length : (s : Signature) (least : ℕ) (h : SdtHeader) (n : ℕ) → length_in s least h ≡ Ok n → (h.length ≡ n) × (least ≤ n)
-unfolding length_in
-is_length s least h n e =
-    let names = bind_ok (check_names s h) _ n e in
-    let long = holds_ok (nat_le least h.length) _ _ n names.2 in
-    let same : h.length ≡ n = cc in
-    (same, rw (← same) (leb-true least h.length long.0))
+-- the whole of a table has the header that was looked at, which has its length
+pub is_whole : (m : Memory) (k : Kind) (p : ℕ) (table : List ℕ) → 36 ≤ k.least → (h : Passed m k p table)
+    → (header_at table ≡ header_at h.head) × ((header_at table).length ≡ length table)
+is_whole m k p table enough h =
+    let long : 36 ≤ (header_at h.head).length = omega (arith, enough, leb-true k.least (header_at h.head).length h.long) in
+    let both = at_header m p (header_at h.head).length table h.head (some_lent _ _ h.whole) (some_lent _ _ h.front) long in
+    (both.0, ap (λ x. x.length) both.0 ∙ sym both.1)
 
--- the whole of a table has the header that was looked at, and is as long as that says
-whole_is : (m : Memory) (s : Signature) (p : ℕ) (head table : List ℕ) → lent m p 36 ≡ Ok head → whole_of m s 36 p head ≡ Ok table
-    → (header_at table ≡ header_at head) × (length table ≡ (header_at head).length)
-unfolding whole_of
-whole_is m s p head table front e =
-    let n = bind_ok (length_in s 36 (header_at head)) _ table e in
-    let long = is_length s 36 (header_at head) n.0 n.1 in
-    let both = at_header m p n.0 table head (some_lent _ _ n.2) (some_lent _ _ front) long.1 in
-    (both.0, both.1 ∙ sym long.0)
-
-whole_only : (m : Memory) (s : Signature) (least p : ℕ) (head : List ℕ) → 36 ≤ least
-    → result_ok (whole_of m s least p head) ≡ only (bears s (header_at head) && nat_le least (header_at head).length) (result_ok (whole_of m (header_at head).signature 36 p head))
-unfolding whole_of
-whole_only m s least p head enough = then_only _ _ _ _ _ (length_only s least (header_at head) enough) (λ n. refl)
-
--- ---- the checks of the whole
-
-passed : (s : Signature) (least : ℕ) (table : List ℕ) (c c' : Result (Unit {0}) AcpiError) → serves s least table ≡ true → result_ok c ≡ result_ok c'
-    → result_ok (c >>= λ _. Ok table) ≡ served s least (result_ok (c' >>= λ _. Ok table))
-passed s least table (Ok x) (Ok y) serving e = rw serving refl
-passed s least table (Ok x) (Err d) serving e = absurd cc
-passed s least table (Err c) (Ok y) serving e = absurd cc
-passed s least table (Err c) (Err d) serving e = refl
-
-kept : (s : Signature) (least : ℕ) (table : List ℕ) (both : Bool) (c' : Result (Unit {0}) AcpiError) (w : Result (List ℕ) AcpiError)
-    → serves s least table ≡ both → result_ok w ≡ only both (Some table) → (both ≡ true → result_ok (check_table s table) ≡ result_ok c')
-    → result_ok (w >>= λ t. check_table s t >>= λ _. Ok t) ≡ served s least (result_ok (c' >>= λ _. Ok table))
-kept s least table true c' (Ok t) serving e same =
-    let is : t ≡ table = same_some e in
-    rw is (passed s least table (check_table s table) c' serving (same refl))
-kept s least table true c' (Err d) serving e same = absurd cc
-kept s least table false c' (Ok t) serving e same = absurd cc
-kept s least table false (Ok x) (Err d) serving e same = rw serving refl
-kept s least table false (Err c) (Err d) serving e same = refl
-
-nothing_there : {t : List ℕ} (b : Bool) → Some t ≡ only b None → ⊥
-nothing_there true e = absurd cc
-nothing_there false e = absurd cc
-
--- the checks over what `whole_of` gave, by what it gives under the table's own signature
-table_by : (m : Memory) (s : Signature) (least p : ℕ) (head : List ℕ) (w w' : Result (List ℕ) AcpiError) → lent m p 36 ≡ Ok head
-    → whole_of m (header_at head).signature 36 p head ≡ w'
-    → result_ok w ≡ only (bears s (header_at head) && nat_le least (header_at head).length) (result_ok w')
-    → result_ok (w >>= λ t. check_table s t >>= λ _. Ok t) ≡ served s least (result_ok (w' >>= λ t. check_table (header_at head).signature t >>= λ _. Ok t))
-table_by m s least p head (Ok t) (Err d) front there e = absurd (nothing_there _ e)
-table_by m s least p head (Err c) (Err d) front there e = refl
-table_by m s least p head w (Ok table) front there e =
-    let is = whole_is m (header_at head).signature p head table front there in
-    let serving : serves s least table ≡ (bears s (header_at head) && nat_le least (header_at head).length) = rw (is.0, is.1) refl in
-    let checks = table_only s table in
-    kept s least table (bears s (header_at head) && nat_le least (header_at head).length) (check_table (header_at head).signature table) w serving e
-    (λ q. let b : bears s (header_at table) ≡ true = rw is.0 (and_parts _ _ q).0 in rw (← is.0) (checks ∙ rw b refl))
-
-own_by : (m : Memory) (s : Signature) (least p : ℕ) (r : Result (List ℕ) AcpiError) → 36 ≤ least → lent m p 36 ≡ r
-    → result_ok (r >>= λ head. table_of m (kind s least (check_table s)) p head) ≡ served s least (result_ok (r >>= λ head. lent m p 36 >>= λ h. table_of m (plain_kind (header_at head).signature) p h))
-unfolding table_of
-own_by m s least p (Err d) enough there = refl
-own_by m s least p (Ok head) enough there =
-    rw there (table_by m s least p head (whole_of m s least p head) (whole_of m (header_at head).signature 36 p head) there refl (whole_only m s least p head enough))
-
-pub own_table_is : (m : Memory) (s : Signature) (least p : ℕ) → 36 ≤ least
-    → result_ok (table_at m (kind s least (check_table s)) p) ≡ served s least (result_ok (own_table_at m p))
-unfolding table_at own_table_at
-own_table_is m s least p enough = own_by m s least p (lent m p 36) enough refl
-
--- ---- before the table is asked for: that only the sum is left to be checked
-
--- what it means that a header gives a length
-gives_length : (s : Signature) (least n : ℕ) (h : SdtHeader) → length_in s least h ≡ Ok n
-    → (check_names s h ≡ Ok tt) × ((nat_le least n ≡ true) × (h.length ≡ n))
-unfolding length_in
-gives_length s least n h e =
-    let names = bind_ok (check_names s h) (λ _. holds (nat_le least h.length) (SdtInvalidLength s) >>= λ _. Ok h.length) n e in
-    let long = holds_ok (nat_le least h.length) (SdtInvalidLength s) (λ _. Ok h.length) n names.2 in
-    let same : h.length ≡ n = same_ok {E = AcpiError} h.length n long.1 in
-    (names.1, (ap (nat_le least) (sym same) ∙ long.0, same))
+-- ---- a table under its own signature
 
 abbrev the_signature : List ℕ → Signature
 the_signature letters = record { 0 = letters }
+
+same_signature : (s : Signature) (h : SdtHeader) → bears s h ≡ true → h.signature ≡ s
+same_signature s h e = ap the_signature ((bytes_eq-Decides h.signature.0 s.0).0 e)
+
+is_named : (s : Signature) (h : SdtHeader) → check_names s h ≡ Ok tt → bears s h ≡ true
+unfolding check_names
+is_named s h e = (and_parts _ _ (holds_ok (bears s h && is_utf8 h.signature.0) _ _ tt e).0).0
+
+own_is : (m : Memory) (s : Signature) (p : ℕ) (head : List ℕ) → lent m p 36 ≡ Ok head → (header_at head).signature ≡ s
+    → own_table_at m p ≡ table_at m (plain_kind s) p
+unfolding own_table_at
+own_is m s p head front own = rw front (ap (λ x. table_at m (plain_kind x) p) own)
+
+own_of : (m : Memory) (s : Signature) (least p : ℕ) → 36 ≤ least → (table : List ℕ) → table_at m (kind s least (check_table s)) p ≡ Ok table
+    → (own_table_at m p ≡ Ok table) × (serves s least table ≡ true)
+own_of m s least p enough table e =
+    let h = passed m (kind s least (check_table s)) p table e in
+    let is = is_whole m (kind s least (check_table s)) p table enough h in
+    let own = is_named s (header_at h.head) h.names in
+    let long = le-leb 36 (header_at h.head).length (omega (arith, enough, leb-true least (header_at h.head).length h.long)) in
+    let plain = passes m (plain_kind s) p table (record { head = h.head; front = h.front; names = h.names; long = long; whole = h.whole; checked = h.checked }) in (
+      own_is m s p h.head h.front (same_signature s (header_at h.head) own) ∙ plain,
+      and_from (bears s (header_at table)) (nat_le least (length table)) (rw is.0 own) (rw (← is.1, is.0) h.long),
+    )
+
+of_own : (m : Memory) (s : Signature) (least p : ℕ) (table : List ℕ) → own_table_at m p ≡ Ok table → serves s least table ≡ true
+    → table_at m (kind s least (check_table s)) p ≡ Ok table
+unfolding own_table_at
+of_own m s least p table e serving =
+    let both = and_parts _ _ serving in
+    let first = bind_ok (lent m p 36) _ table e in
+    let own_kind = plain_kind (header_at first.0).signature in
+    let h = passed m own_kind p table first.2 in
+    let is = is_whole m own_kind p table (lit≤ tt) h in
+    let same : h.head ≡ first.0 = same_ok h.head first.0 (sym h.front ∙ first.1) in
+    let own : (header_at first.0).signature ≡ s = ap (λ b. (header_at b).signature) (sym same) ∙ same_signature s (header_at h.head) (rw (← is.0) both.0) in
+    let g = passed m (plain_kind s) p table (subst (λ x. table_at m (plain_kind x) p ≡ Ok table) own first.2) in
+    let long = is_whole m (plain_kind s) p table (lit≤ tt) g in
+    passes m (kind s least (check_table s)) p table (record { head = g.head; front = g.front; names = g.names; long = rw (← long.0, long.1) both.1; whole = g.whole; checked = g.checked })
+
+unserved : (b : Bool) (table : List ℕ) → (b ≡ true → ⊥) → None ≡ only b (Some table)
+unserved true table never = absurd (never refl)
+unserved false table never = refl
+
+by_both : (s : Signature) (least : ℕ) (r own : Result (List ℕ) AcpiError) → ((t : List ℕ) → r ≡ Ok t → (own ≡ Ok t) × (serves s least t ≡ true))
+    → ((t : List ℕ) → own ≡ Ok t → serves s least t ≡ true → r ≡ Ok t) → result_ok r ≡ served s least (result_ok own)
+by_both s least (Ok t) own there back = let both = there t refl in rw (both.0, both.1) refl
+by_both s least (Err d) (Ok t) there back = unserved (serves s least t) t (λ q. let other = back t refl q in cc)
+by_both s least (Err d) (Err e) there back = refl
+
+pub own_table_is : (m : Memory) (s : Signature) (least p : ℕ) → 36 ≤ least
+    → result_ok (table_at m (kind s least (check_table s)) p) ≡ served s least (result_ok (own_table_at m p))
+own_table_is m s least p enough = by_both s least _ _ (own_of m s least p enough) (of_own m s least p)
+
+pub own_table : (m : Memory) (s : Signature) (p : ℕ) (head : List ℕ) → lent m p 36 ≡ Ok head → letters_of s ≡ part head 0 4
+    → own_table_at m p ≡ table_at m (plain_kind s) p
+unfolding header_at
+own_table m s p head front letters = own_is m s p head front (ap the_signature (sym letters))
+
+-- ---- before the kind's own check, and then only the sum is left
+
+-- what is known of a table that was claimed by its signature and its least length
+pub names_there : (m : Memory) (s : Signature) (least p : ℕ) (table : List ℕ) → 36 ≤ least → table_at m (unchecked s least) p ≡ Ok table
+    → check_names s (header_at table) ≡ Ok tt
+names_there m s least p table enough e =
+    let h = passed m (unchecked s least) p table e in
+    rw (is_whole m (unchecked s least) p table enough h).0 h.names
+
+pub length_there : (m : Memory) (s : Signature) (least p : ℕ) (table : List ℕ) → 36 ≤ least → table_at m (unchecked s least) p ≡ Ok table
+    → (header_at table).length ≡ length table
+length_there m s least p table enough e = (is_whole m (unchecked s least) p table enough (passed m (unchecked s least) p table e)).1
+
+-- the kind's own check is the last
+check_last : (a b : Result (Unit {0}) AcpiError) (w : Result (List ℕ) AcpiError) (f : List ℕ → Result (List ℕ) AcpiError)
+    → (a >>= λ _. b >>= λ _. w >>= f) ≡ ((a >>= λ _. b >>= λ _. w >>= λ t. Ok t) >>= f)
+check_last (Ok x) (Ok y) (Ok t) f = refl
+check_last (Ok x) (Ok y) (Err d) f = refl
+check_last (Ok x) (Err d) w f = refl
+check_last (Err d) b w f = refl
+
+check_after : (m : Memory) (k : Kind) (p : ℕ) (r : Result (List ℕ) AcpiError) → lent m p 36 ≡ r
+    → table_at m k p ≡ (table_at m (unchecked k.signature k.least) p >>= λ t. k.check t >>= λ _. Ok t)
+unfolding table_at
+check_after m k p (Ok head) front =
+    let long = holds (nat_le k.least (header_at head).length) (SdtInvalidLength k.signature) in
+    rw front (check_last (check_names k.signature (header_at head)) long (lent m p (header_at head).length) (λ t. k.check t >>= λ _. Ok t))
+check_after m k p (Err d) front = rw front refl
+
+pub checked_last : (m : Memory) (k : Kind) (p : ℕ) → table_at m k p ≡ (table_at m (unchecked k.signature k.least) p >>= λ t. k.check t >>= λ _. Ok t)
+checked_last m k p = check_after m k p (lent m p 36) refl
 
 sum_left : (s : Signature) (b : List ℕ) → check_names s (header_at b) ≡ Ok tt → nat_le 36 (length b) ≡ true → field_of b 4 4 ≡ length b
     → check_table s b ≡ holds (sum_of b == 0) (SdtInvalidChecksum s)
 unfolding check_table
 sum_left s b names long same =
     rw (names, same, and_from (nat_le 36 (length b)) (nat_le (length b) (length b)) long (le-leb (length b) (length b) (omega arith)), take-length b) refl
-
--- what the whole of a table shows, if the header there has the names and the least length
-pub names_and_length : (m : Memory) (s : Signature) (least p : ℕ) (head table : List ℕ) → 36 ≤ least → lent m p 36 ≡ Ok head → whole_of m s least p head ≡ Ok table
-    → (check_names s (header_at table) ≡ Ok tt) × ((header_at table).length ≡ length table)
-unfolding whole_of
-names_and_length m s least p head table enough front e =
-    let steps = bind_ok (length_in s least (header_at head)) (λ n. lent m p n) table e in
-    let n = steps.0 in
-    let given = gives_length s least n (header_at head) steps.1 in
-    let there : at m p n ≡ Some table = some_lent (at m p n) table steps.2 in
-    let long : 36 ≤ n = omega (arith, enough, leb-true least n given.1.0) in
-    let whole = at_header m p n table head there (some_lent (at m p 36) head front) long in (
-      ap (check_names s) whole.0 ∙ given.0,
-      ap (λ h. h.length) whole.0 ∙ (given.1.1 ∙ sym whole.1),
-    )
-
-pub names_there : (m : Memory) (s : Signature) (least p : ℕ) (head table : List ℕ) → 36 ≤ least → lent m p 36 ≡ Ok head → whole_of m s least p head ≡ Ok table
-    → check_names s (header_at table) ≡ Ok tt
-names_there m s least p head table enough front e = (names_and_length m s least p head table enough front e).0
-
-pub length_there : (m : Memory) (s : Signature) (least p : ℕ) (head table : List ℕ) → 36 ≤ least → lent m p 36 ≡ Ok head → whole_of m s least p head ≡ Ok table
-    → (header_at table).length ≡ length table
-length_there m s least p head table enough front e = (names_and_length m s least p head table enough front e).1
 
 header_length : (b : List ℕ) → (header_at b).length ≡ field_of b 4 4
 unfolding header_at
@@ -279,42 +235,6 @@ pub good_rest : (s : Signature) (b : List ℕ) → 36 ≤ length b → check_nam
     → sum_of b ≡ 0 → check_table s b ≡ Ok tt
 good_rest s b long names same good = rw (only_sum_left s b long names same, good) refl
 
--- it is as long as is asked for
-whole_long : (m : Memory) (s : Signature) (least p : ℕ) (head table : List ℕ) → 36 ≤ least → lent m p 36 ≡ Ok head → whole_of m s least p head ≡ Ok table → 36 ≤ length table
-unfolding whole_of
-whole_long m s least p head table enough front e =
-    let steps = bind_ok (length_in s least (header_at head)) (λ n. lent m p n) table e in
-    let given = gives_length s least steps.0 (header_at head) steps.1 in
-    let there : at m p steps.0 ≡ Some table = some_lent (at m p steps.0) table steps.2 in
-    let long : 36 ≤ steps.0 = omega (arith, enough, leb-true least steps.0 given.1.0) in
-    omega (arith, long, (at_header m p steps.0 table head there (some_lent (at m p 36) head front) long).1)
-
-only_the_sum : (m : Memory) (s : Signature) (p : ℕ) (head table : List ℕ) → lent m p 36 ≡ Ok head → whole_of m s 36 p head ≡ Ok table
-    → check_table s table ≡ holds (sum_of table == 0) (SdtInvalidChecksum s)
-only_the_sum m s p head table front e =
-    let steps = names_and_length m s 36 p head table (omega arith) front e in
-    only_sum_left s table (whole_long m s 36 p head table (omega arith) front e) steps.0 steps.1
-
-plain_table : (m : Memory) (s : Signature) (p : ℕ) (head table : List ℕ) → lent m p 36 ≡ Ok head → whole_of m s 36 p head ≡ Ok table
-    → table_of m (plain_kind s) p head ≡ (holds (sum_of table == 0) (SdtInvalidChecksum s) >>= λ _. Ok table)
-unfolding table_of
-plain_table m s p head table front e = rw (e, only_the_sum m s p head table front e) refl
-
-pub bad_sum : (m : Memory) (s : Signature) (p : ℕ) (head table : List ℕ) → lent m p 36 ≡ Ok head → whole_of m s 36 p head ≡ Ok table
-    → (sum_of table ≡ 0 → ⊥) → table_of m (plain_kind s) p head ≡ Err (SdtInvalidChecksum s)
-bad_sum m s p head table front e bad = rw (plain_table m s p head table front e, ne_eqb _ _ bad) refl
-
-pub good_sum : (m : Memory) (s : Signature) (p : ℕ) (head table : List ℕ) → lent m p 36 ≡ Ok head → whole_of m s 36 p head ≡ Ok table
-    → sum_of table ≡ 0 → table_of m (plain_kind s) p head ≡ Ok table
-good_sum m s p head table front e good = rw (plain_table m s p head table front e, good) refl
-
-pub own_table : (m : Memory) (s : Signature) (p : ℕ) (head : List ℕ) → lent m p 36 ≡ Ok head → letters_of s ≡ part head 0 4
-    → own_table_at m p ≡ table_of m (plain_kind s) p head
-unfolding own_table_at table_at header_at
-own_table m s p head front letters =
-    let own : the_signature (part head 0 4) ≡ s = ap the_signature (sym letters) in
-    rw (front, own) refl
-
 -- ---- if the header isn't lent, or has another signature
 
 pub no_header : (m : Memory) (k : Kind) (p : ℕ) (e : AcpiError) → lent m p 36 ≡ Err e → table_at m k p ≡ Err e
@@ -323,5 +243,27 @@ no_header m k p e refused = rw refused refl
 
 pub another_signature : (m : Memory) (k : Kind) (p : ℕ) (head : List ℕ) → lent m p 36 ≡ Ok head → bytes_eq (part head 0 4) k.signature.0 ≡ false
     → table_at m k p ≡ Err (SdtInvalidSignature k.signature)
-unfolding table_at table_of whole_of length_in check_names header_at
+unfolding table_at check_names header_at
 another_signature m k p head front other = rw (front, other) refl
+
+-- ---- in another memory
+
+-- steps that go on in the same way after what they give
+after : {A B : Type 0} (r : Result A AcpiError) (f g : A → Result B AcpiError) → ((x : A) → r ≡ Ok x → f x ≡ g x) → (r >>= f) ≡ (r >>= g)
+after (Ok x) f g each = each x refl
+after (Err e) f g each = refl
+
+pub same_table : TableDependsOn
+unfolding table_at
+same_table k m n p h =
+    rw (← h.0) (after (lent m p 36) _ _ (λ head front.
+    after (check_names k.signature (header_at head)) _ _ (λ _ names.
+    after (holds (nat_le k.least (header_at head).length) (SdtInvalidLength k.signature)) _ _ (λ _ long.
+    let whole = rw (front, names, long) at h.1 in
+    rw (← whole.0) refl))))
+
+pub same_own_table : OwnTableDependsOn
+unfolding own_table_at
+same_own_table m n p h =
+    rw (← h.0) (after (lent m p 36) _ _ (λ head front.
+    same_table (plain_kind (header_at head).signature) m n p (h.0, rw front (rw front at h.1))))

@@ -1,7 +1,9 @@
 -- What a claim shows.
-use Rattle.std.specs.Prelude.{◌≡◌, ℕ, List, length, take, Some}
+use Rattle.std.specs.Prelude.{◌≡◌, ℕ, List, length, take, Some, Ok}
 use Rattle.acpi_base.specs.Memory.{Memory, at}
+use Rattle.acpi_base.specs.Table.{Kind, kind}
 use Rattle.acpi_base.specs.declared.memory.claim.Claim.{Claim}
+use Rattle.acpi_base.specs.declared.table.signature.Signature.{Signature}
 
 -- where the lent bytes start
 abbrev pub claimed_at : {H h : _} → Claim H h → ℕ
@@ -22,3 +24,7 @@ claimed_from c = c.handler.now
 -- however many bytes were lent, all of them are the memory's
 abbrev pub IsLentOf : {H h : _} → Memory → Claim H h → Type 0
 IsLentOf m c = at m (claimed_at c) (length (all_of c)) ≡ Some (all_of c)
+
+-- a table of this signature and least length, whatever else its bytes are: what is claimed before they are checked
+abbrev pub unchecked : Signature → ℕ → Kind
+unchecked s least = kind s least (λ _. Ok tt)

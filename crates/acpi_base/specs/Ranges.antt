@@ -1,12 +1,13 @@
 -- The ranges of a memory that an answer depends on. Each definition over a memory has its ranges, which follow its
 -- steps: they go on after a step that succeeds, and end at one that fails.
-use Rattle.std.specs.Prelude.{◌≡◌, ℕ, ◌==◌, ◌&&◌, Bool, true, List, [], ◌∷◌, All, Result, Ok, Err}
+use Rattle.std.specs.Prelude.{◌≡◌, ℕ, ◌==◌, ◌&&◌, Bool, true, List, [], ◌∷◌, All, nat_le, Result, Ok, Err}
 use Rattle.std.specs.List.{AllByRecursion, list_any}
+use Rattle.acpi_base.specs.declared.error.AcpiError.TheVariants.{SdtInvalidLength}
 use Rattle.acpi_base.specs.declared.table.signature.Signature.{Signature}
-use Rattle.acpi_base.specs.Header.{header_at}
+use Rattle.acpi_base.specs.Header.{check_names, header_at}
 use Rattle.acpi_base.specs.Memory.{Memory, at}
-use Rattle.acpi_base.specs.Steps.{lent}
-use Rattle.acpi_base.specs.Table.{Kind, length_in, own_table_at, table_at}
+use Rattle.acpi_base.specs.Steps.{holds, lent}
+use Rattle.acpi_base.specs.Table.{Kind, own_table_at, table_at}
 
 -- each an address and a number of bytes
 abbrev pub Ranges : Type 0
@@ -48,11 +49,13 @@ unless_found (Err e) ranges = ranges
 
 -- ---- of one table
 
--- those of `whole_of`: as many bytes as the header says, if it has the names and the least length
+-- after its header: as many bytes as that says, if it has the names and the least length
 abbrev pub whole_ranges : Signature → ℕ → ℕ → List ℕ → Ranges
 whole_ranges s least p head = do
-  length ← length_in s least (header_at head)
-  (p, length) ∷ []
+  let header = header_at head
+  _ ← check_names s header
+  _ ← holds (nat_le least header.length) (SdtInvalidLength s)
+  (p, header.length) ∷ []
 
 -- those of `table_at`
 abbrev pub table_ranges : Memory → Kind → ℕ → Ranges

@@ -3,7 +3,6 @@ use Rattle.std.specs.Prelude.{ℕ, List, nat_le, Result, Ok}
 use Rattle.acpi_base.specs.declared.error.AcpiError.{AcpiError}
 use Rattle.acpi_base.specs.declared.error.AcpiError.TheVariants.{SdtInvalidLength}
 use Rattle.acpi_base.specs.declared.table.signature.Signature.{Signature}
-use Rattle.acpi_base.specs.declared.table.header.SdtHeader.{SdtHeader}
 use Rattle.acpi_base.specs.Header.{header_at, check_names, check_table}
 use Rattle.acpi_base.specs.Memory.{Memory}
 use Rattle.acpi_base.specs.Steps.{◌>>=◌, holds, lent}
@@ -26,32 +25,19 @@ sdt_kind s least = kind s least (check_table s)
 abbrev pub plain_kind : Signature → Kind
 plain_kind s = sdt_kind s 36
 
--- the length that a header gives, if it has the names and the least length
-unfoldable pub length_in : Signature → ℕ → SdtHeader → Result ℕ AcpiError
-length_in s least h = do
-  _ ← check_names s h
-  _ ← holds (nat_le least h.length) (SdtInvalidLength s)
-  Ok h.length
-
--- what lies at an address, as long as the header there says, if it has the names and the least length
-unfoldable pub whole_of : Memory → Signature → ℕ → ℕ → List ℕ → Result (List ℕ) AcpiError
-whole_of m s least p head = do
-  length ← length_in s least (header_at head)
-  lent m p length
-
--- the table at an address whose header is this one, or the refusal of the first check that fails
-unfoldable pub table_of : Memory → Kind → ℕ → List ℕ → Result (List ℕ) AcpiError
-table_of m k p head = do
-  table ← whole_of m k.signature k.least p head
-  _ ← k.check table
-  Ok table
-
--- the bytes of the table at an address, or the error of the first check that fails. In order: 36 bytes are lent, the
--- names are right, the length is at least the least, that many bytes are lent, the kind's own check accepts them
+-- the bytes of the table at an address, by the header that they begin with (System Description Table Header, section
+-- 5.2.6), or the error of the first of five checks that fails: 36 bytes are lent, which are the header; its Signature is
+-- the kind's, and all its names are texts; its Length is the kind's least or more; that many bytes are lent; the kind's
+-- own check accepts them, which for most tables looks at their sum
 unfoldable pub table_at : Memory → Kind → ℕ → Result (List ℕ) AcpiError
 table_at m k p = do
   head ← lent m p 36
-  table_of m k p head
+  let header = header_at head
+  _ ← check_names k.signature header
+  _ ← holds (nat_le k.least header.length) (SdtInvalidLength k.signature)
+  table ← lent m p header.length
+  _ ← k.check table
+  Ok table
 
 -- the table at an address under the signature that its own header has, or the first error
 unfoldable pub own_table_at : Memory → ℕ → Result (List ℕ) AcpiError

@@ -1,9 +1,8 @@
 //! The header that every table begins with, and its checks (section 5.2.6).
-ghost use Rattle.std.specs.Prelude.{◌≡◌, ◌^◌, ◌<◌, ◌≤◌, IfOk, IsOk};
+ghost use Rattle.std.specs.Prelude.{◌≡◌, ◌⊎◌, ◌^◌, ◌<◌, ◌≤◌, IfErr, IfOk, IsOk, Ok, Err};
+ghost use Rattle.acpi_base.specs.declared.error.AcpiError.TheVariants.{SdtInvalidLength};
 ghost use Rattle.acpi_base.specs.Header.{header_at, check_names, check_table};
 ghost use Rattle.acpi_base.specs.Laws.{DamageShows};
-ghost use Rattle.acpi_base.specs.Steps.{Gives};
-ghost use Rattle.acpi_base.specs.Table.{length_in};
 ghost use Rattle.acpi_base.specs.Text.{IsTextOf};
 
 use crate::bytes::{is_text, text_of, u8_in, u32_in};
@@ -131,11 +130,13 @@ impl SdtHeader {
     }
 
     /// The length of the table, if the header has the names and the least length.
-    #[tactic(auto, unfolding(crate::specs::Table::length_in))]
     pub(crate) fn table_length(&self, signature: Signature, least: usize) -> AcpiResult<usize>
         ensures long { IfOk result (λ n. least ≤ n) }
         ensures short { IfOk result (λ n. n < 2 ^ 32) }
-        ensures length { Gives (λ n. n) result (length_in signature least self.now) }
+        ensures length { IfOk result (λ n. n ≡ self.now.length) }
+        ensures names { IfOk result (λ n. check_names signature self.now ≡ Ok tt) }
+        ensures refused { let names = check_names signature self.now in IfErr result (λ e. (names ≡ Err e)
+            ⊎ ((names ≡ Ok tt) × (self.now.length < least) × (e ≡ SdtInvalidLength signature))) }
     {
         self.validate_names(signature)?;
         let length = self.length as usize;

@@ -1,11 +1,10 @@
 //! The table at an address (section 5.2.6).
 ghost use Rattle.std.specs.Prelude.{◌≡◌, true, ◌+◌, ◌^◌, ◌<◌, ◌≤◌, length, IfErr, IfOk, Ok, Err};
-ghost use Rattle.acpi_base.specs.Claim.{IsLentOf, claimed_at, claimed_from, shown_by};
+ghost use Rattle.acpi_base.specs.Claim.{IsLentOf, claimed_at, claimed_from, shown_by, unchecked};
 ghost use Rattle.acpi_base.specs.Mapping.{IsOfMemory, start_of, bytes_of, handler_of};
 ghost use Rattle.acpi_base.specs.Ranges.{Allows, own_table_ranges, table_ranges, whole_ranges};
 ghost use Rattle.acpi_base.specs.Steps.{Gives, lent};
-ghost use Rattle.acpi_base.specs.Table.{Kind, own_table_at, plain_kind, table_at, table_of};
-ghost use Rattle.acpi_base.specs.Table.{whole_of};
+ghost use Rattle.acpi_base.specs.Table.{Kind, own_table_at, plain_kind, table_at};
 
 use super::AcpiTable;
 use super::header::SdtHeader;
@@ -46,7 +45,7 @@ fn claim_header<'h, H: Lender>(
 /// the least length. The sum is still to be checked. If the bytes lent for the header hold the whole table,
 /// they are shown; else the header's claim ends before the request.
 #[inline(always)]
-#[tactic(auto, using(crate::proofs::AllowedRanges::asked_length), unfolding(crate::specs::Table::whole_of))]
+#[tactic(auto, using(crate::proofs::AllowedRanges::asked_length), unfolding(crate::specs::Table::table_at))]
 fn claim_whole<'h, H: Lender>(
     head: Claim<'h, H>,
     signature: Signature,
@@ -54,6 +53,7 @@ fn claim_whole<'h, H: Lender>(
 ) -> AcpiResult<Claim<'h, H>>
     requires header { length (shown_by head) ≡ 36 }
     requires lent { IsLentOf (H.memory (claimed_from head)) head }
+    requires shown { lent (H.memory (claimed_from head)) (claimed_at head) 36 ≡ Ok (shown_by head) }
     requires some { 0 < least }
     requires asked { Allows (H.may (claimed_from head))
         (whole_ranges signature least (claimed_at head) (shown_by head)) }
@@ -64,7 +64,7 @@ fn claim_whole<'h, H: Lender>(
     ensures ends { IfOk result (λ c. claimed_at c + length (shown_by c) < 2 ^ 64) }
     ensures all { IfOk result (λ c. IsLentOf (H.memory (claimed_from head.entry)) c) }
     ensures shown { let m = H.memory (claimed_from head.entry) in Gives (λ c. shown_by c) result
-        (whole_of m signature least (claimed_at head.entry) (shown_by head.entry)) }
+        (table_at m (unchecked signature least) (claimed_at head.entry)) }
 {
     match SdtHeader::read(head.shown()).table_length(signature, least) {
         Ok(length) => head.widen(length),
@@ -78,7 +78,7 @@ fn claim_whole<'h, H: Lender>(
 /// The bytes of the table whose header is claimed, if it is valid for `T`. No record is made of them here:
 /// they are small to pass on, and the record is read where it is to lie.
 #[inline(never)]
-#[tactic(auto, using(crate::proofs::OwnTable::names_there, crate::proofs::OwnTable::length_there), unfolding(crate::specs::Table::table_of))]
+#[tactic(auto, using(crate::proofs::OwnTable::names_there, crate::proofs::OwnTable::length_there, crate::proofs::OwnTable::checked_last))]
 fn claim_valid<'h, H: Lender, T: AcpiTable>(head: Claim<'h, H>) -> AcpiResult<Claim<'h, H>>
     requires header { length (shown_by head) ≡ 36 }
     requires lent { IsLentOf (H.memory (claimed_from head)) head }
@@ -90,7 +90,7 @@ fn claim_valid<'h, H: Lender, T: AcpiTable>(head: Claim<'h, H>) -> AcpiResult<Cl
     ensures least { IfOk result (λ c. T.MIN_LENGTH ≤ length (shown_by c)) }
     ensures all { IfOk result (λ c. IsLentOf (H.memory (claimed_from head.entry)) c) }
     ensures shown { let m = H.memory (claimed_from head.entry) in Gives (λ c. shown_by c) result
-        (table_of m T.kind (claimed_at head.entry) (shown_by head.entry)) }
+        (table_at m T.kind (claimed_at head.entry)) }
 {
     let whole = claim_whole(head, T::SIGNATURE, T::MIN_LENGTH)?;
     match T::validate_rest(whole.shown()) {
@@ -130,7 +130,7 @@ impl<'h, H: Lender> ValidTable<'h, H> {
 ///
 /// Fails as `map_table` does.
 #[inline(always)]
-#[tactic(auto, using(crate::proofs::AllowedRanges::asked_header, crate::proofs::AllowedRanges::asked_whole), unfolding(crate::specs::Table::table_at))]
+#[tactic(auto, using(crate::proofs::AllowedRanges::asked_header, crate::proofs::AllowedRanges::asked_whole))]
 pub fn valid_at<'h, H: Lender, T: AcpiTable>(
     handler: &'h H,
     address: u64,
@@ -175,7 +175,7 @@ pub fn map_table<'h, H: Lender, T: AcpiTable>(
 /// The table whose header is claimed, if it is valid under this signature as one of which only
 /// the header and the sum matter.
 #[inline(never)]
-#[tactic(auto, using(crate::proofs::OwnTable::bad_sum, crate::proofs::OwnTable::good_sum), unfolding(crate::specs::Table::table_of))]
+#[tactic(auto, using(crate::proofs::OwnTable::names_there, crate::proofs::OwnTable::length_there, crate::proofs::OwnTable::checked_last, crate::proofs::OwnTable::bad_rest, crate::proofs::OwnTable::good_rest))]
 fn map_by_header_and_sum<'h, H: Lender>(
     head: Claim<'h, H>,
     signature: Signature,
@@ -191,7 +191,7 @@ fn map_by_header_and_sum<'h, H: Lender>(
     ensures short { IfOk result (λ m. length (bytes_of m) < 2 ^ 32) }
     ensures ends { IfOk result (λ m. start_of m + length (bytes_of m) < 2 ^ 64) }
     ensures table { let m = H.memory (claimed_from head.entry) in Gives (λ x. bytes_of x) result
-        (table_of m (plain_kind signature) (claimed_at head.entry) (shown_by head.entry)) }
+        (table_at m (plain_kind signature) (claimed_at head.entry)) }
 {
     let whole = claim_whole(head, signature, SdtHeader::MIN_LENGTH)?;
     // The names and the length are those of the header, which is the table's own.
@@ -207,7 +207,7 @@ fn map_by_header_and_sum<'h, H: Lender>(
 ///
 /// Fails as `map_table` does for a type with that signature, the least length 36 and these checks.
 #[inline(always)]
-#[tactic(auto, using(crate::proofs::AllowedRanges::asked_header, crate::proofs::AllowedRanges::asked_whole), unfolding(crate::specs::Table::table_at))]
+#[tactic(auto, using(crate::proofs::AllowedRanges::asked_header, crate::proofs::AllowedRanges::asked_whole))]
 pub fn map_sdt<'h, H: Lender>(
     handler: &'h H,
     address: u64,
@@ -232,7 +232,7 @@ pub fn map_sdt<'h, H: Lender>(
 /// its header (section 5.2.6).
 ///
 /// Fails as `map_sdt` does for that signature.
-#[tactic(auto, using(crate::proofs::OwnTable::own_table, crate::proofs::AllowedRanges::asked_own_header, crate::proofs::AllowedRanges::asked_own), unfolding(crate::specs::Table::own_table_at))]
+#[tactic(auto, using(crate::proofs::AllowedRanges::asked_own_header, crate::proofs::AllowedRanges::asked_own), unfolding(crate::specs::Table::own_table_at))]
 pub fn map_own_sdt<'h, H: Lender>(
     handler: &'h H,
     address: u64,
