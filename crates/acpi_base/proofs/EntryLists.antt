@@ -63,6 +63,13 @@ processors_are (item.NmiLine x ∷ items) = processors_are items
 processors_are (item.LocalApicAddress x ∷ items) = processors_are items
 processors_are (item.Wakeup ∷ items) = processors_are items
 
+-- none of them come before these
+pub none_first : {A : Type 0} (items : List MadtItem) → option_map (λ (info : ProcessorInfo A). record info { application_processors = [] ++ info.application_processors }) (processors_of items) ≡ processors_of items
+none_first {A} items = of_none (processors_of items) where
+  of_none : (o : Option (ProcessorInfo A)) → option_map (λ (info : ProcessorInfo A). record info { application_processors = [] ++ info.application_processors }) o ≡ o
+  of_none None = refl
+  of_none (Some info) = refl
+
 -- ---- the type of the entry that bytes begin with
 
 of_first : (bytes : List ℕ) (es : List (List ℕ)) (rest : List ℕ) → bytes ≡ concat es ++ rest → AllByRecursion (IsEntry madt_layout) es → get_or bytes 0 0 ≤ 16 → BeginsDefined es

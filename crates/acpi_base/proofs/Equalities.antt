@@ -1,7 +1,7 @@
 -- What is compared by `==` is equal exactly if it is one: values of enums by their variants and fields, structs by
 -- their fields.
 use Rattle.acpi_base.specs.declared.range.AddressRange.{AddressRange}
-use Rattle.std.proofs.Common.{rules, ◌≡◌, ℕ, Bool, List, [], ◌∷◌, true, false, refl, ap, sym, ◌∙◌, arith, suc}
+use Rattle.std.proofs.Common.{rules, ◌≡◌, ℕ, Bool, List, [], ◌∷◌, true, false, refl, ap, sym, ◌∙◌, arith, suc, ◌↔◌}
 use Rattle.std.specs.Prelude.{◌&&◌, ◌==◌, Contains}
 use mathlib.Core.Logic.{inl, inr}
 use denote.Enum.Compared.{Each, by}
@@ -28,6 +28,13 @@ use Rattle.acpi_base.specs.contracts.address.GenericAddressPartialEq.TheImpl as 
 use Rattle.acpi_base.specs.contracts.error.MadtErrorPartialEq.TheImpl as madt_errors
 use Rattle.acpi_base.specs.contracts.tables.spcr.interface.SpcrInterfaceType as interface
 use Rattle.acpi_base.specs.contracts.tables.spcr.interface.SpcrInterfaceTypePartialEq.TheImpl as interfaces
+use Rattle.std.specs.Cmp.{nat_cmp_is}
+use Rattle.std.specs.Cmp.Lexicographic.{slice_cmp}
+use Rattle.std.specs.Ordering.{nat_cmp}
+use Rattle.std.specs.declared.cmp.Ordering.{Ordering}
+use Rattle.std.specs.declared.cmp.Ordering.TheVariants.{Equal}
+use Rattle.std.proofs.lemmas.Map.Lookups.{exact_bytes}
+use Rattle.acpi_base.specs.Text.{letters_of}
 
 -- the test at each variant is that of equal fields
 abbrev pub Exact : (parts : List (List Field)) → Each Bool parts → Type 0
@@ -129,3 +136,13 @@ clones_equal R (x ∷ xs) (y ∷ ys) same zip =
     let here : y ≡ x = same x y (0, omega arith, refl) zip.0 in
     let rest : ys ≡ xs = clones_equal R xs ys (λ a b held. same a b (suc held.0, omega (arith, held.1), held.2)) zip.1 in
     cc
+
+-- ---- the order of signatures answers Equal exactly if they are one
+
+itself : (bytes : List ℕ) → slice_cmp nat_cmp bytes bytes ≡ Equal
+itself [] = refl
+itself (b ∷ bytes) = rw (sym (nat_cmp_is b b Equal refl)) (itself bytes)
+
+pub equal_is : (a b : Signature) (r : Ordering) → r ≡ slice_cmp nat_cmp (letters_of a) (letters_of b) → (r ≡ Equal) ↔ (a ≡ b)
+equal_is a b r e =
+    (λ equal. ap (λ (l : List ℕ). record { 0 = l }) (exact_bytes _ _ (sym e ∙ equal)), λ same. e ∙ rw same (itself b.0))

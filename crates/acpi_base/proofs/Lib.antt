@@ -6,12 +6,9 @@ pub mod Isa
 pub mod LentBytes
 pub mod LentRanges
 pub mod LentFronts
-pub mod Numbers
 pub mod OneRegion
 pub mod Pin
-pub mod SignatureOrder
 pub mod OwnTable
 pub mod Spelling
 pub mod Steps
 pub mod Sums
-pub mod FieldPastEnd

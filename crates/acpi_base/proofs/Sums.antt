@@ -1,5 +1,5 @@
 -- Sums modulo 256: in lanes that wrap, and of a valid table in which one byte is changed.
-use Rattle.std.proofs.Common.{◌≡◌, ℕ, suc, zero, ◌+◌, ◌-◌, ◌%◌, ◌≤◌, ◌<◌, List, [], ◌∷◌, ◌++◌, length, length-append, length-drop, take, drop, replicate, refl, ap, sym, ◌∙◌, arith, ◌≢◌, ◌⊎◌, inl, inr, Bool, true, false, set, get_or, sum, Result, Ok, Err, subst}
+use Rattle.std.proofs.Common.{◌≡◌, ℕ, suc, zero, ◌+◌, ◌-◌, ◌%◌, ◌≤◌, ◌<◌, List, [], ◌∷◌, ◌++◌, length, length-append, length-drop, take, drop, replicate, refl, ap, sym, ◌∙◌, arith, ◌≢◌, ◌⊎◌, inl, inr, Bool, true, false, set, get_or, sum, Result, Ok, Err, subst, Fits, w8}
 use Rattle.std.specs.Prelude.{bit_and, IsOk, IsErr}
 use Rattle.std.specs.Simd.Lanes.{chunk, fold_l, zip2}
 use Rattle.std.proofs.Math.Seq.{take-add, take-append-add}
@@ -7,7 +7,7 @@ use Rattle.std.proofs.lemmas.List.{drop-append-le, drop-drop, drop-replicate, ta
 use Rattle.std.proofs.lemmas.List.Sums.{sum_by-append, sum_by-cons, sum_by-take-drop, sum_by-set}
 use Rattle.std.proofs.lemmas.Nat.{and_mask}
 use Rattle.std.proofs.lemmas.Simd.{length-chunk, length-replicate, length-zip2}
-use Rattle.acpi_base.specs.Bytes.{sum_of, IsBytes, field_of, number}
+use Rattle.acpi_base.specs.Bytes.{sum_of, field_of, number}
 use Rattle.acpi_base.specs.Sums.{AddsUp}
 use Rattle.std.proofs.lemmas.Bool.{leb-true, eqb-true, and_parts}
 use Rattle.acpi_base.proofs.Steps.{bind_ok, holds_ok}
@@ -51,21 +51,11 @@ sum-next : (bytes : List ℕ) (at end : ℕ) → at + 16 ≡ end → sum (take e
 sum-next bytes at end there =
     ap (λ n. sum (take n bytes)) (sym there) ∙ ap sum (take-add at 16 bytes) ∙ sum_by-append (λ x. x) (take at bytes) (chunk at 16 bytes)
 
-pub adds_up_next : (lanes bytes : List ℕ) (at end : ℕ) → at + 16 ≡ end → end ≤ length bytes → AddsUp lanes (take at bytes) → AddsUp (wrapped lanes (chunk at 16 bytes)) (take end bytes)
+pub adds_up_next : (lanes bytes : List ℕ) (at end : ℕ) → at + 16 ≡ end → at + 16 ≤ length bytes → AddsUp lanes (take at bytes) → AddsUp (wrapped lanes (chunk at 16 bytes)) (take end bytes)
 unfolding sum_of
 adds_up_next lanes bytes at end there room so_far =
     let same : length lanes ≡ length (chunk at 16 bytes) = omega (arith, so_far.0, length-chunk at 16 bytes (omega (arith, there, room))) in
     (length-zip2 _ lanes (chunk at 16 bytes) same ∙ so_far.0, omega (arith, so_far.1, sum-wrapped lanes (chunk at 16 bytes) same, sum-next bytes at end there))
-
--- four vectors more
-pub adds_up_block : (lanes bytes : List ℕ) (at : ℕ) → at + 64 ≤ length bytes → AddsUp lanes (take at bytes)
-    → AddsUp (wrapped (wrapped (wrapped (wrapped lanes (chunk at 16 bytes)) (chunk (at + 16) 16 bytes))
-    (chunk (at + 32) 16 bytes)) (chunk (at + 48) 16 bytes)) (take (at + 64) bytes)
-adds_up_block lanes bytes at room so_far =
-    let one = adds_up_next lanes bytes at (at + 16) refl (omega (arith, room)) so_far in
-    let two = adds_up_next _ bytes (at + 16) (at + 32) (omega arith) (omega (arith, room)) one in
-    let three = adds_up_next _ bytes (at + 32) (at + 48) (omega arith) (omega (arith, room)) two in
-    adds_up_next _ bytes (at + 48) (at + 64) (omega arith) room three
 
 -- if all lanes are kept, their sum is; and if the first are cleared, that of the others
 sum-kept_all : (xs : List ℕ) (n : ℕ) → length xs ≡ n → sum (zip2 bit_and xs (replicate n 255)) % 256 ≡ sum xs % 256
@@ -84,7 +74,7 @@ sum-kept (suc k) n (x ∷ xs) long =
 abbrev kept : ℕ → List ℕ
 kept n = replicate (16 - n) 0 ++ replicate n 255
 
-abbrev masks : List ℕ
+abbrev pub masks : List ℕ
 masks = replicate 16 0 ++ replicate 16 255
 
 -- they stand from place n on
@@ -169,14 +159,14 @@ sum_set n bytes k b l m =
     let whole : sum (set bytes k b) + get_or bytes k 0 ≡ sum bytes + b = sum_by-set (λ x. x) bytes k b 0 m in
     omega arith
 
-pub damage_shows : (s : Signature) (bytes : List ℕ) → IsBytes bytes → IsOk (check_table s bytes) → DamageShows s bytes
-damage_shows s bytes are ok k b below outside small other =
-    let before = passed s bytes tt (is_ok_value _ ok) in
+pub damage_shows : (s : Signature) (bytes : List ℕ) (r : Result (Unit {0}) AcpiError) → ((i : ℕ) → Fits w8 (get_or bytes i 0)) → r ≡ check_table s bytes → IsOk r → DamageShows s bytes
+damage_shows s bytes r are is ok k b below outside small other =
+    let before = passed s bytes tt (sym is ∙ is_ok_value r ok) in
     err_from_not _ (λ x e.
     let after = passed s (set bytes k b) x e in
     let stays : field_of (set bytes k b) 4 4 ≡ field_of bytes 4 4 = length_stays bytes k b outside in
     let zero_after : sum (take (field_of bytes 4 4) (set bytes k b)) % 256 ≡ 0 = subst (λ (n : ℕ). sum (take n (set bytes k b)) % 256 ≡ 0) stays after.1 in
     let moved = sum_set (field_of bytes 4 4) bytes k b below (omega (arith, before.0)) in
-    let old_small : get_or bytes k 0 < 256 = are k in
+    let old_small : get_or bytes k 0 < 256 = omega (arith, are k) in
     let differ : b ≢ get_or bytes k 0 = other in
     omega (arith, moved, before.1))

@@ -47,11 +47,10 @@ fn eight(bytes: &[u8]) -> u64
 
 /// The number that at most eight bytes encode, the lowest byte first.
 #[inline(always)]
-#[tactic(auto, unfolding(crate::specs::Bytes::field_of))]
+#[tactic(auto, using(crate::proofs::Spelling::number_filled), unfolding(crate::specs::Bytes::field_of))]
 fn number_of(bytes: &[u8]) -> u64
     requires { length bytes.now ≤ 8 }
-    ensures value { result ≡ number bytes.now }
-    ensures fits { result < 2 ^ (8 * length bytes.now) }
+    ensures { result ≡ number bytes.now }
 {
     if bytes.len() == 8 {
         return eight(bytes);
@@ -69,8 +68,7 @@ fn number_of(bytes: &[u8]) -> u64
 #[inline(never)]
 fn rest_of(bytes: &[u8]) -> u64
     requires { length bytes.now ≤ 8 }
-    ensures value { result ≡ number bytes.now }
-    ensures fits { result < 2 ^ (8 * length bytes.now) }
+    ensures { result ≡ number bytes.now }
 {
     number_of(bytes)
 }
@@ -78,11 +76,21 @@ fn rest_of(bytes: &[u8]) -> u64
 /// The little-endian number of the `n` bytes at an offset, for `n` of at most 8. A byte past the
 /// end is read as zero (numbers: section 5.2).
 #[inline(always)]
-#[tactic(auto, unfolding(crate::specs::Bytes::field_of))]
+#[tactic(auto, using(crate::proofs::Spelling::field_fits))]
 pub fn field(bytes: &[u8], offset: usize, n: usize) -> u64
     requires { n ≤ 8 }
     ensures value { result ≡ field_of bytes.now offset n }
     ensures fits { result < 2 ^ (8 * n) }
+{
+    field_or_rest(bytes, offset, n)
+}
+
+/// What `field` returns.
+#[inline(always)]
+#[tactic(auto, unfolding(crate::specs::Bytes::field_of))]
+fn field_or_rest(bytes: &[u8], offset: usize, n: usize) -> u64
+    requires { n ≤ 8 }
+    ensures { result ≡ field_of bytes.now offset n }
 {
     if offset > bytes.len() {
         return 0;
@@ -98,12 +106,23 @@ pub fn field(bytes: &[u8], offset: usize, n: usize) -> u64
 /// The little-endian number of the `n` bytes at an offset, for `n` of at most 8, all of which are there:
 /// nothing is tested (numbers: section 5.2).
 #[inline(always)]
-#[tactic(auto, unfolding(crate::specs::Bytes::field_of))]
+#[tactic(auto, using(crate::proofs::Spelling::field_fits))]
 pub fn field_in(bytes: &[u8], offset: usize, n: usize) -> u64
     requires few { n ≤ 8 }
     requires there { offset + n ≤ length bytes.now }
     ensures value { result ≡ field_of bytes.now offset n }
     ensures fits { result < 2 ^ (8 * n) }
+{
+    field_there(bytes, offset, n)
+}
+
+/// What `field_in` returns.
+#[inline(always)]
+#[tactic(auto, unfolding(crate::specs::Bytes::field_of))]
+fn field_there(bytes: &[u8], offset: usize, n: usize) -> u64
+    requires few { n ≤ 8 }
+    requires there { offset + n ≤ length bytes.now }
+    ensures { result ≡ field_of bytes.now offset n }
 {
     let rest = &bytes[offset..];
     number_of(&rest[..n])
@@ -196,6 +215,7 @@ fn are_plain(bytes: &[u8]) -> bool
 
 /// Whether the bytes are valid UTF-8.
 #[inline(always)]
+#[tactic(auto, using(crate::proofs::Spelling::plain_text))]
 pub fn is_text(bytes: &[u8]) -> bool
     ensures { result ≡ is_utf8 bytes.now }
 {
@@ -207,6 +227,7 @@ pub fn is_text(bytes: &[u8]) -> bool
 
 /// Whether the bytes are valid UTF-8, out of line: few names have bytes of 128 and above.
 #[inline(never)]
+#[tactic(auto, using(crate::proofs::Spelling::is_text, crate::proofs::Spelling::no_text))]
 fn is_other_text(bytes: &[u8]) -> bool
     ensures { result ≡ is_utf8 bytes.now }
 {

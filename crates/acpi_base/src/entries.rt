@@ -2,7 +2,7 @@
 //!
 //! What tables differ in is a value, a `Grammar`. A walk goes from entry to entry by `split_front`; over
 //! a grammar that is a constant it costs what a walk written for that table does.
-ghost use Rattle.std.specs.Prelude.{◌≡◌, ◌<◌, ◌≤◌, length, IfSome, IfNone, [], slice_index};
+ghost use Rattle.std.specs.Prelude.{◌≡◌, ◌<◌, ◌≤◌, length, IfSome, IfNone, [], slice_index, Some};
 ghost use Rattle.acpi_base.specs.Entries.{IsEntry, after_one, cut, end_of, front, least_length, next_front, number_at, with_entry};
 
 /// How many bytes a number has.
@@ -136,11 +136,28 @@ fn next_front<const KINDS: usize>(grammar: &Grammar<KINDS>, bytes: &[u8]) -> Opt
     }
 }
 
+/// The entry of this length that the bytes begin with, and the bytes after it.
+#[inline(always)]
+fn split_next<'a, const KINDS: usize>(
+    grammar: &Grammar<KINDS>,
+    bytes: &'a [u8],
+    size: usize,
+) -> (&'a [u8], &'a [u8])
+    requires { next_front grammar.now bytes.now ≡ Some size }
+    ensures found { cut grammar.now bytes.now
+        ≡ with_entry result.0.now (cut (after_one grammar.now) result.1.now) }
+    ensures entry { IsEntry grammar.now.layout result.0.now }
+    ensures shorter { length result.1.now < length bytes.now }
+{
+    bytes.split_at(size)
+}
+
 /// The entry that the bytes begin with, and the bytes after it, or `None` if there may be no more
 /// entries, or the bytes begin with none: if the length is less than what holds type and length, than
 /// the least of its type, or goes past the bytes. Those that follow are entries by the same grammar
 /// with one less of them.
 #[inline(always)]
+#[tactic(auto, using(crate::proofs::Cuts::cut_stuck))]
 pub fn split_front<'a, const KINDS: usize>(
     grammar: &Grammar<KINDS>,
     bytes: &'a [u8],
@@ -152,12 +169,13 @@ pub fn split_front<'a, const KINDS: usize>(
     ensures none { IfNone result (cut grammar.now bytes.now ≡ ([], bytes.now)) }
 {
     let size = next_front(grammar, bytes)?;
-    Some(bytes.split_at(size))
+    Some(split_next(grammar, bytes, size))
 }
 
 /// The entry that the bytes begin with, and the bytes after it, or `None` if there are no more. It is for
 /// bytes that are known to be entries to their end, so that nothing is tested but whether there are more.
 #[inline(always)]
+#[tactic(auto, using(crate::proofs::Cuts::cut_empty, crate::proofs::Cuts::whole_front, crate::proofs::Cuts::whole_header))]
 pub(crate) fn split_whole<'a, const KINDS: usize>(
     grammar: &Grammar<KINDS>,
     bytes: &'a [u8],
@@ -173,5 +191,5 @@ pub(crate) fn split_whole<'a, const KINDS: usize>(
         return None;
     }
     let size = number_there(grammar.layout.length_place, bytes);
-    Some(bytes.split_at(size))
+    Some(split_next(grammar, bytes, size))
 }

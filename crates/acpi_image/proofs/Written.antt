@@ -9,8 +9,7 @@ use Rattle.std.proofs.lemmas.List.{length-append, length-set, append_assoc, appe
 use Rattle.acpi_base.specs.Bytes.{IsBytes, filled_part, spelling}
 use Rattle.acpi_base.specs.Text.{letters_of}
 use Rattle.acpi_base.specs.declared.table.signature.Signature.{Signature}
-use Rattle.acpi_base.proofs.Numbers.{number_filled}
-use Rattle.acpi_base.proofs.Spelling.{length-spelling, number-spelling}
+use Rattle.acpi_base.proofs.Spelling.{length-spelling, number-spelling, number_filled}
 use Rattle.acpi.specs.Root.{signature_of, width_of}
 use Rattle.acpi.specs.declared.root.RootKind.{RootKind}
 use Rattle.acpi.specs.declared.root.RootKind.TheVariants.{Rsdt, Xsdt}

@@ -22,7 +22,7 @@ pub fn names_are_spelled()
 
 /// Signatures are ordered as their four bytes are, the first byte first, and the order agrees with
 /// equality.
-#[tactic(auto, using(acpi_base::proofs::SignatureOrder::equal_is))]
+#[tactic(auto, using(acpi_base::proofs::Equalities::equal_is))]
 pub fn signature_order(a: &Signature, b: &Signature) -> Ordering
     ensures bytes { result ≡ slice_cmp nat_cmp (letters_of a.now) (letters_of b.now) }
     ensures equality { (result ≡ Equal) ↔ (a.now ≡ b.now) }

@@ -11,7 +11,7 @@ pub fn lent_is_inside()
 {}
 
 /// A number whose bytes reach past the end of a table is read as if zeros followed (section 5.2).
-#[tactic(auto, using(acpi_base::proofs::FieldPastEnd::field_past_end))]
+#[tactic(auto, using(acpi_base::proofs::Spelling::field_past_end))]
 pub fn field_past_end()
     ensures { FieldPastEnd }
 {}

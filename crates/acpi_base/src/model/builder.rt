@@ -37,6 +37,7 @@ impl<A: Allocator + Clone> ModelBuilder<A> {
     /// A model of no entries yet, with room for exactly as many items as are counted.
     ///
     /// Fails with `AllocError` if memory is refused, or a clone of the allocator.
+    #[tactic(auto, using(crate::proofs::EntryLists::none_first))]
     pub(super) fn with_room(madt: &Madt, counts: Counts, allocator: A) -> AcpiResult<Self>
         ensures room { IfOk result (λ d. (items : List MadtItem) → counts_of items ≡ counts
             → HasRoom d items) }

@@ -60,6 +60,7 @@ impl IsaOverrides {
     }
 
     /// What `Apic::isa_interrupt` returns for an ISA interrupt, if the overrides that were added are all.
+    #[tactic(auto, using(crate::proofs::Isa::of_taken, crate::proofs::Isa::of_free))]
     pub fn isa_interrupt(&self, irq: u8) -> Option<IsaInterrupt>
         ensures { (overrides : _) → IsGathered overrides self.now → result ≡ isa_interrupt overrides irq }
     {

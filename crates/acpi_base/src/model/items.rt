@@ -17,6 +17,23 @@ pub struct MadtItems<'a> {
     rest: &'a [u8],
 }
 
+impl<'a> MadtItems<'a> {
+    ghost use Rattle.std.specs.Prelude.{◌-◌, ◌*◌, ◌≤◌, length};
+    ghost use Rattle.acpi_base.specs.Items.{items_left};
+    ghost use Rattle.acpi_base.specs.Model.{items_of};
+
+    /// What the entries of a MADT's bytes say.
+    #[tactic(auto, using(crate::proofs::EntryLists::said_items, crate::proofs::EntryLists::items_few))]
+    fn over(table: &'a [u8]) -> Self
+        ensures items { items_left result ≡ items_of table.now }
+        ensures few { 2 * length (items_left result) ≤ length table.now - 44 }
+    {
+        MadtItems {
+            rest: skip(table, Madt::MIN_LENGTH),
+        }
+    }
+}
+
 impl<'h, H: Lender> PhysicalMapping<'h, H, Madt> {
     ghost use Rattle.std.specs.Prelude.{◌+◌, ◌*◌, ◌≤◌, length};
     ghost use Rattle.acpi_base.specs.Items.{items_left, model_counts};
@@ -25,14 +42,11 @@ impl<'h, H: Lender> PhysicalMapping<'h, H, Madt> {
 
     /// What the entries say, in order, for a caller with no heap: `parse_interrupt_model_in` sorts
     /// the same items into lists. `model_counts` fails first, if an entry is malformed.
-    #[tactic(auto, using(crate::proofs::EntryLists::said_items))]
     pub fn items(&self) -> MadtItems<'_>
         ensures items { items_left result ≡ items_of (bytes_of self.now) }
         ensures few { 2 * length (items_left result) + 44 ≤ length (bytes_of self.now) }
     {
-        MadtItems {
-            rest: skip(self.bytes(), Madt::MIN_LENGTH),
-        }
+        MadtItems::over(self.bytes())
     }
 
     /// How many items of each sort the entries say, and whether any is of a model of APICs.

@@ -43,6 +43,7 @@ impl PhysicalRecord for SdtHeader {
 
     ghost reading = { header_at };
 
+    #[tactic(auto, using(crate::proofs::Spelling::oem_id_part, crate::proofs::Spelling::oem_table_id_part), unfolding(crate::specs::Header::header_at))]
     fn read(bytes: &[u8]) -> Self {
         SdtHeader {
             signature: Signature::leading(bytes), // Signature
@@ -74,6 +75,7 @@ impl SdtHeader {
     /// UTF-8, `SdtInvalidOemId` and `SdtInvalidTableId` if that id is not valid UTF-8,
     /// `SdtInvalidLength` if the length is under 36 or above the number of bytes, and `SdtInvalidChecksum`
     /// if that many bytes don't sum to 0 modulo 256.
+    #[tactic(auto, using(crate::proofs::Sums::damage_shows))]
     pub fn validate(&self, signature: Signature, bytes: &[u8]) -> AcpiResult<()>
         requires { self.now ≡ header_at bytes.now }
         ensures exact { result ≡ check_table signature bytes.now }

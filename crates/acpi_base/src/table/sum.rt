@@ -1,5 +1,5 @@
 //! The sum of bytes modulo 256, in lanes: sixteen bytes are added at once, each to a sum of its own.
-ghost use Rattle.std.specs.Prelude.{◌≡◌, ◌⊎◌, ◌-◌, ◌+◌, ◌<◌, ◌≤◌, length, take, drop};
+ghost use Rattle.std.specs.Prelude.{◌≡◌, ◌⊎◌, ◌-◌, ◌+◌, ◌<◌, ◌≤◌, length, take, ℕ};
 ghost use Rattle.std.specs.Simd.Lanes.{chunk};
 ghost use Rattle.acpi_base.specs.Bytes.{sum_of};
 ghost use Rattle.acpi_base.specs.Sums.{AddsUp};
@@ -58,6 +58,7 @@ fn long_sum(bytes: &[u8]) -> u8
 
 /// The lanes' sums over the whole blocks, and where these end.
 #[inline(always)]
+#[tactic(auto, using(crate::proofs::Sums::adds_up_nothing))]
 fn summed_blocks(bytes: &[u8]) -> (u8x16, usize)
     ensures within { result.1 ≤ length bytes.now }
     ensures whole { length bytes.now - result.1 < BLOCK }
@@ -66,10 +67,10 @@ fn summed_blocks(bytes: &[u8]) -> (u8x16, usize)
     let mut lanes = u8x16::splat(0);
     let mut at = 0;
     while bytes.len() - at >= BLOCK {
-        lanes += vector_at(bytes, at);
-        lanes += vector_at(bytes, at + LANES);
-        lanes += vector_at(bytes, at + 2 * LANES);
-        lanes += vector_at(bytes, at + 3 * LANES);
+        lanes = with_vector(lanes, bytes, at);
+        lanes = with_vector(lanes, bytes, at + LANES);
+        lanes = with_vector(lanes, bytes, at + 2 * LANES);
+        lanes = with_vector(lanes, bytes, at + 3 * LANES);
         at += BLOCK;
     }
     (lanes, at)
@@ -89,7 +90,9 @@ fn finished(begun: u8x16, bytes: &[u8], begin: usize) -> u8
     let (lanes, at) = one_more(begun, bytes, begin);
     let (lanes, at) = one_more(lanes, bytes, at);
     let (lanes, at) = one_more(lanes, bytes, at);
-    (lanes + last_lanes(bytes, bytes.len() - at)).reduce_sum()
+    // The last vector, of which the lanes that are counted already are 0.
+    let last = vector_at(bytes, bytes.len() - LANES) & vector_at(&TAIL_MASKS, bytes.len() - at);
+    (lanes + last).reduce_sum()
 }
 
 /// One vector more, if a whole one stands at the place.
@@ -105,18 +108,18 @@ fn one_more(lanes: u8x16, bytes: &[u8], at: usize) -> (u8x16, usize)
     if bytes.len() - at < LANES {
         (lanes, at)
     } else {
-        (lanes + vector_at(bytes, at), at + LANES)
+        (with_vector(lanes, bytes, at), at + LANES)
     }
 }
 
-/// The last `n` bytes, as the last lanes of a vector whose other lanes are 0.
+/// The lanes with the vector at a place added.
 #[inline(always)]
-fn last_lanes(bytes: &[u8], n: usize) -> u8x16
-    requires long { LANES ≤ length bytes.now }
-    requires few { n ≤ LANES }
-    ensures { AddsUp result (drop (length bytes.now - n) bytes.now) }
+fn with_vector(lanes: u8x16, bytes: &[u8], at: usize) -> u8x16
+    requires there { at + LANES ≤ length bytes.now }
+    requires sums { AddsUp lanes (take at bytes.now) }
+    ensures { (end : ℕ) → at + LANES ≡ end → AddsUp result (take end bytes.now) }
 {
-    vector_at(bytes, bytes.len() - LANES) & vector_at(&TAIL_MASKS, n)
+    lanes + vector_at(bytes, at)
 }
 
 /// The sixteen bytes at a place.

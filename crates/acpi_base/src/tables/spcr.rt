@@ -290,6 +290,7 @@ fn namespace_in<'t>(spcr: &Spcr, table: &'t [u8]) -> AcpiResult<&'t str>
 }
 
 /// The name that bytes encode.
+#[tactic(auto, using(crate::proofs::Spelling::is_text, crate::proofs::Spelling::no_text))]
 fn name_of(bytes: &[u8]) -> AcpiResult<&str>
     ensures { Shows result (name_of bytes.now) }
 {

@@ -1,6 +1,8 @@
 use Rattle.std.proofs.Common.{◌≡◌, ◌-◌, arith, drop, length}
+use Rattle.std.specs.Prelude.{bit_and}
+use Rattle.std.specs.Simd.Lanes.{chunk, zip2}
 use Rattle.acpi_base.specs.Sums.{AddsUp}
-use Rattle.acpi_base.proofs.Sums.{adds_up_whole}
+use Rattle.acpi_base.proofs.Sums.{adds_up_last, adds_up_whole, masks}
 use Rattle.acpi_base.proofs.table.sum.finished.Goals as goal
 
 pub returns : goal.returns
@@ -8,6 +10,6 @@ returns c =
     let at = c.one_more-at-3.result.1 in
     let bytes = c.args.bytes.now in
     let there : length bytes - (length bytes - at) ≡ at = omega (arith, c.one_more-at-3.ensures.within) in
-    let rest : AddsUp c.last_lanes.result (drop at bytes) =
-    rw there at c.last_lanes.ensures in
-    adds_up_whole c.one_more-at-3.result.0 c.last_lanes.result bytes at c.one_more-at-3.ensures.sums rest
+    let rest = adds_up_last bytes (length bytes - at) c.requires.long (omega arith) in
+    let last : AddsUp (zip2 bit_and (chunk (length bytes - 16) 16 bytes) (chunk (length bytes - at) 16 masks)) (drop at bytes) = rw there at rest in
+    rw (c.vector_at.ensures, c.vector_at-2.ensures) (adds_up_whole c.one_more-at-3.result.0 _ bytes at c.one_more-at-3.ensures.sums last)
