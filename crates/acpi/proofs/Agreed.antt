@@ -3,7 +3,8 @@
 use Rattle.std.proofs.Common.{◌≡◌, ℕ, List, [], ◌∷◌, ◌++◌, Option, Some, Result, Ok, Err, refl, ap, ◌∙◌, zero, suc, ◌+◌, None}
 use Rattle.std.specs.Prelude.{filter_map, flat_map}
 use Rattle.std.specs.Result.{result_ok}
-use Rattle.acpi_base.proofs.TableFootprints.{each_back, each_front, same_own_table, same_table}
+use Rattle.acpi_base.proofs.AllowedRanges.{each_back, each_front}
+use Rattle.acpi_base.proofs.OwnTable.{same_own_table, same_table}
 use Rattle.acpi_base.specs.declared.error.AcpiError.{AcpiError}
 use Rattle.acpi_base.specs.declared.table.signature.TheConstants.Signature.{DSDT, SSDT}
 use Rattle.acpi_base.specs.Madt.{mailbox_of}

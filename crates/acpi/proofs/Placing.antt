@@ -4,7 +4,8 @@ use Rattle.std.proofs.Common.{◌≡◌, ℕ, ◌+◌, ◌≤◌, ◌<◌, ◌^�
 use Rattle.std.specs.Prelude.{map, filter_map}
 use Rattle.std.specs.List.{cons_option}
 use Rattle.std.specs.Result.{result_ok}
-use Rattle.acpi_base.proofs.TableFootprints.{each_back, each_front, same_own_table, same_table}
+use Rattle.acpi_base.proofs.AllowedRanges.{each_back, each_front}
+use Rattle.acpi_base.proofs.OwnTable.{same_own_table, same_table}
 use Rattle.acpi_base.proofs.AllowedRanges as allowed
 use Rattle.acpi_base.specs.declared.error.AcpiError.{AcpiError}
 use Rattle.acpi_base.specs.declared.table.signature.TheConstants.Signature.{DSDT}
