@@ -1,19 +1,21 @@
 -- The members, and the ranges in which the tables lie.
-use Rattle.std.proofs.Common.{◌≡◌, ◌⊎◌, inl, inr, ℕ, ◌≤◌, List, [], ◌∷◌, ◌++◌, length, Option, Some, None, Result, Ok, Err, refl, sym, ap, subst, ◌∙◌, arith}
-use Rattle.std.specs.Prelude.{IsErr, filter_map, flat_map, slice_get}
+use Rattle.std.proofs.Common.{◌≡◌, ◌⊎◌, inl, inr, ℕ, ◌≤◌, List, [], ◌∷◌, ◌++◌, length, Option, Some, None, Result, Ok, Err, refl, sym, ap, ◌∙◌, arith, lit≤}
+use Rattle.std.specs.Prelude.{IsErr, filter_map, flat_map, nat_le, slice_get}
 use Rattle.std.specs.List.{AllByRecursion, cons_option}
 use Rattle.std.specs.Result.{result_ok}
-use Rattle.acpi_base.proofs.OwnTable.{at_header, is_length}
-use Rattle.acpi_base.proofs.Steps.{bind_ok, same_ok, some_lent}
+use Rattle.std.proofs.lemmas.Bool.{leb-true}
+use Rattle.acpi_base.proofs.OwnTable.{is_whole, passed}
+use Rattle.acpi_base.proofs.Steps.{bind_ok, same_ok}
 use Rattle.acpi_base.specs.declared.error.AcpiError.{AcpiError}
+use Rattle.acpi_base.specs.declared.error.AcpiError.TheVariants.{SdtInvalidLength}
 use Rattle.acpi_base.specs.declared.table.signature.Signature.{Signature}
 use Rattle.acpi_base.specs.declared.table.signature.TheConstants.Signature.{DSDT, SSDT}
-use Rattle.acpi_base.specs.Header.{check_table, header_at}
+use Rattle.acpi_base.specs.Header.{check_names, check_table, header_at}
 use Rattle.acpi_base.specs.Memory.{Memory}
 use Rattle.acpi_base.specs.Ranges as ranges
 use Rattle.acpi_base.specs.Ranges.{Ranges, own_table_ranges, table_ranges, unless_found, whole_ranges}
-use Rattle.acpi_base.specs.Steps.{◌>>=◌, lent}
-use Rattle.acpi_base.specs.Table.{Kind, length_in, own_table_at, plain_kind, table_at, table_of, whole_of}
+use Rattle.acpi_base.specs.Steps.{◌>>=◌, holds, lent}
+use Rattle.acpi_base.specs.Table.{Kind, own_table_at, plain_kind, table_at}
 use Rattle.acpi_fixed.specs.Fadt.{dsdt_address_of, fadt_at}
 use Rattle.acpi.specs.Footprint.{lookup_ranges, root_ranges}
 use Rattle.acpi.specs.Lists.{fadt_kind, own_header_at}
@@ -51,31 +53,14 @@ found_by_signature m k ps least check = ap (λ x. lookup m x ps) (same_kind k le
 
 -- ---- how long a valid table is
 
-whole_long : (m : Memory) (s : Signature) (p : ℕ) (head table : List ℕ) → lent m p 36 ≡ Ok head → whole_of m s 36 p head ≡ Ok table
-    → (length table ≡ (header_at head).length) × (36 ≤ length table)
-unfolding whole_of
-whole_long m s p head table front e =
-    let n = bind_ok (length_in s 36 (header_at head)) _ table e in
-    let long = is_length s 36 (header_at head) n.0 n.1 in
-    let both = at_header m p n.0 table head (some_lent _ _ n.2) (some_lent _ _ front) long.1 in
-    (both.1 ∙ sym long.0, omega (arith, both.1, long.1))
-
-checked_long : (m : Memory) (s : Signature) (p : ℕ) (head table : List ℕ) → lent m p 36 ≡ Ok head → table_of m (plain_kind s) p head ≡ Ok table
-    → (length table ≡ (header_at head).length) × (36 ≤ length table)
-unfolding table_of
-checked_long m s p head table front e =
-    let whole = bind_ok (whole_of m s 36 p head) _ table e in
-    let checked = bind_ok (check_table s whole.0) _ table whole.2 in
-    let is : whole.0 ≡ table = same_ok whole.0 table checked.2 in
-    subst (λ (b : List ℕ). (length b ≡ (header_at head).length) × (36 ≤ length b)) is (whole_long m s p head whole.0 front whole.1)
-
 plain_long : (m : Memory) (s : Signature) (p : ℕ) (head table : List ℕ) → lent m p 36 ≡ Ok head → table_at m (plain_kind s) p ≡ Ok table
     → (length table ≡ (header_at head).length) × (36 ≤ length table)
-unfolding table_at
 plain_long m s p head table front e =
-    let first = bind_ok (lent m p 36) _ table e in
-    let same : first.0 ≡ head = same_ok first.0 head (sym first.1 ∙ front) in
-    checked_long m s p head table front (subst (λ (h : List ℕ). table_of m (plain_kind s) p h ≡ Ok table) same first.2)
+    let h = passed m (plain_kind s) p table e in
+    let is = is_whole m (plain_kind s) p table (lit≤ tt) h in
+    let same : h.head ≡ head = same_ok h.head head (sym h.front ∙ front) in
+    let long : length table ≡ (header_at h.head).length = sym is.1 ∙ ap (λ x. x.length) is.0 in
+    (long ∙ ap (λ b. (header_at b).length) same, omega (arith, long, leb-true 36 (header_at h.head).length h.long))
 
 own_long : (m : Memory) (p : ℕ) (head table : List ℕ) → lent m p 36 ≡ Ok head → own_table_at m p ≡ Ok table
     → (length table ≡ (header_at head).length) × (36 ≤ length table)
@@ -86,8 +71,7 @@ own_long m p head table front e =
 
 -- at least its header is there
 plain_enough : (m : Memory) (s : Signature) (p : ℕ) (table : List ℕ) → table_at m (plain_kind s) p ≡ Ok table → 36 ≤ length table
-unfolding table_at
-plain_enough m s p table e = let first = bind_ok (lent m p 36) _ table e in (plain_long m s p first.0 table first.1 e).1
+plain_enough m s p table e = let h = passed m (plain_kind s) p table e in (plain_long m s p h.head table h.front e).1
 
 own_enough : (m : Memory) (p : ℕ) (table : List ℕ) → own_table_at m p ≡ Ok table → 36 ≤ length table
 unfolding own_table_at
@@ -102,42 +86,40 @@ done_at a = Ok a
 abbrev Fits : ℕ → ℕ → ℕ × ℕ → Type 0
 Fits p n asked = (asked.0 ≡ p) × (asked.1 ≤ n)
 
-head_fits : (m : Memory) (s : Signature) (least p n : ℕ) (head : List ℕ) (r : Result ℕ AcpiError) → length_in s least (header_at head) ≡ r
-    → n ≡ (header_at head).length → AllByRecursion (Fits p n) (ranges.◌>>=◌ r (λ l. (p, l) ∷ []))
-head_fits m s least p n head (Ok l) is long =
-    let same = is_length s least (header_at head) l is in
-    ((refl, omega (arith, same.0, long)), tt)
-head_fits m s least p n head (Err e) is long = tt
+head_fits : (p n l : ℕ) (names long : Result (Unit {0}) AcpiError) → n ≡ l → AllByRecursion (Fits p n) (ranges.◌>>=◌ names (λ _. ranges.◌>>=◌ long (λ _. (p, l) ∷ [])))
+head_fits p n l (Ok x) (Ok y) is = ((refl, omega (arith, is)), tt)
+head_fits p n l (Ok x) (Err e) is = tt
+head_fits p n l (Err e) long is = tt
 
-fits_from : (m : Memory) (s : Signature) (least p n : ℕ) (r : Result (List ℕ) AcpiError)
-    → ((head : List ℕ) → r ≡ Ok head → n ≡ (header_at head).length) → AllByRecursion (Fits p n) (ranges.◌>>=◌ r (λ head. whole_ranges s least p head))
-fits_from m s least p n (Ok head) long = head_fits m s least p n head (length_in s least (header_at head)) refl (long head refl)
-fits_from m s least p n (Err e) long = tt
+fits_from : (p n : ℕ) (s : List ℕ → Signature) (least : ℕ) (r : Result (List ℕ) AcpiError)
+    → ((head : List ℕ) → r ≡ Ok head → n ≡ (header_at head).length) → AllByRecursion (Fits p n) (ranges.◌>>=◌ r (λ head. whole_ranges (s head) least p head))
+fits_from p n s least (Ok head) is =
+    let long = holds (nat_le least (header_at head).length) (SdtInvalidLength (s head)) in
+    head_fits p n (header_at head).length (check_names (s head) (header_at head)) long (is head refl)
+fits_from p n s least (Err e) is = tt
 
 -- the ranges of any kind at an address where a table lies that is as long as its header says
 kind_fits : (m : Memory) (k : Kind) (p n : ℕ) → ((head : List ℕ) → lent m p 36 ≡ Ok head → n ≡ (header_at head).length) → 36 ≤ n
     → AllByRecursion (Fits p n) (table_ranges m k p)
-kind_fits m k p n long enough = ((refl, enough), fits_from m k.signature k.least p n (lent m p 36) long)
-
-own_from : (m : Memory) (p n : ℕ) (r : Result (List ℕ) AcpiError)
-    → ((head : List ℕ) → r ≡ Ok head → n ≡ (header_at head).length) → AllByRecursion (Fits p n) (ranges.◌>>=◌ r (λ head. whole_ranges (header_at head).signature 36 p head))
-own_from m p n (Ok head) long = head_fits m (header_at head).signature 36 p n head (length_in (header_at head).signature 36 (header_at head)) refl (long head refl)
-own_from m p n (Err e) long = tt
+kind_fits m k p n long enough = ((refl, enough), fits_from p n (λ _. k.signature) k.least (lent m p 36) long)
 
 own_fits : (m : Memory) (p n : ℕ) → ((head : List ℕ) → lent m p 36 ≡ Ok head → n ≡ (header_at head).length) → 36 ≤ n
     → AllByRecursion (Fits p n) (own_table_ranges m p)
-own_fits m p n long enough = ((refl, enough), own_from m p n (lent m p 36) long)
+own_fits m p n long enough = ((refl, enough), fits_from p n (λ head. (header_at head).signature) 36 (lent m p 36) long)
 
 -- each begins at the table
 abbrev Begins : ℕ → ℕ × ℕ → Type 0
 Begins p asked = asked.0 ≡ p
 
-length_begins : (p : ℕ) (r : Result ℕ AcpiError) → AllByRecursion (Begins p) (ranges.◌>>=◌ r (λ l. (p, l) ∷ []))
-length_begins p (Ok l) = (refl, tt)
-length_begins p (Err e) = tt
+length_begins : (p l : ℕ) (names long : Result (Unit {0}) AcpiError) → AllByRecursion (Begins p) (ranges.◌>>=◌ names (λ _. ranges.◌>>=◌ long (λ _. (p, l) ∷ [])))
+length_begins p l (Ok x) (Ok y) = (refl, tt)
+length_begins p l (Ok x) (Err e) = tt
+length_begins p l (Err e) long = tt
 
 whole_begins : (p : ℕ) (s : List ℕ → Signature) (least : ℕ) (r : Result (List ℕ) AcpiError) → AllByRecursion (Begins p) (ranges.◌>>=◌ r (λ head. whole_ranges (s head) least p head))
-whole_begins p s least (Ok head) = length_begins p (length_in (s head) least (header_at head))
+whole_begins p s least (Ok head) =
+    let long = holds (nat_le least (header_at head).length) (SdtInvalidLength (s head)) in
+    length_begins p (header_at head).length (check_names (s head) (header_at head)) long
 whole_begins p s least (Err e) = tt
 
 -- ---- lists

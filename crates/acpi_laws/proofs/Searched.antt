@@ -11,7 +11,7 @@ use Rattle.acpi_base.specs.Ranges as ranges
 use Rattle.acpi_base.specs.Ranges.{AgreesOn, Ranges}
 use Rattle.acpi_base.specs.Steps.{◌>>=◌, lent}
 use Rattle.acpi_base.specs.declared.error.AcpiError.{AcpiError}
-use Rattle.acpi_base.specs.Table.{length_in, table_at, table_of, whole_of}
+use Rattle.acpi_base.specs.Table.{table_at}
 use Rattle.acpi_laws.specs.ExampleLaws.{OpenedBySearchInstance, SearchInstance, opened}
 use Rattle.acpi_laws.specs.Examples.{bios, bios_here, bios_there, damaged, dsdt, fadt, madt, mcfg, memory, rsdp, rsdt, ssdt}
 use Rattle.acpi.specs.Opened.{opened_from}
@@ -96,11 +96,11 @@ search_instance = (agrees_by bios_here bios_there (search_ranges bios_here) sear
 -- ---- what it opens
 
 root_is : opened_from bios_here (root_of_rsdp rsdp) ≡ Ok opened
-unfolding at rest_from length_in whole_of table_of table_at header_at check_names check_table field_of sum_of is_utf8 chars lib.Utf8.encode rsdp_of bios memory rsdp rsdt fadt hpet madt mcfg ssdt dsdt unnamed damaged
+unfolding at rest_from table_at header_at check_names check_table field_of sum_of is_utf8 chars lib.Utf8.encode rsdp_of bios memory rsdp rsdt fadt hpet madt mcfg ssdt dsdt unnamed damaged
 root_is = refl
 
 they_agree_below : AgreesOn bios_here bios_there (searched ++ opened_ranges bios_here (root_of_rsdp rsdp))
-unfolding searched at rest_from length_in header_at check_names field_of is_utf8 chars lib.Utf8.encode rsdp_of bios memory rsdp rsdt fadt hpet madt mcfg ssdt dsdt unnamed damaged
+unfolding searched at rest_from header_at check_names field_of is_utf8 chars lib.Utf8.encode rsdp_of bios memory rsdp rsdt fadt hpet madt mcfg ssdt dsdt unnamed damaged
 they_agree_below = (refl, (refl, (refl, (refl, (refl, tt)))))
 
 pub opened_by_search_instance : OpenedBySearchInstance

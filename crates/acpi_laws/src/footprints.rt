@@ -14,14 +14,14 @@ use std::alloc::Allocator;
 
 /// The table at an address, or its refusal, is the same over every memory that agrees on its
 /// ranges.
-#[tactic(auto, using(acpi_base::proofs::TableFootprints::same_table))]
+#[tactic(auto, using(acpi_base::proofs::OwnTable::same_table))]
 pub fn table_depends_on()
     ensures { TableDependsOn }
 {}
 
 /// The table at an address under the signature that it has, or its refusal, is the same over
 /// every memory that agrees on its ranges.
-#[tactic(auto, using(acpi_base::proofs::TableFootprints::same_own_table))]
+#[tactic(auto, using(acpi_base::proofs::OwnTable::same_own_table))]
 pub fn own_table_depends_on()
     ensures { OwnTableDependsOn }
 {}
