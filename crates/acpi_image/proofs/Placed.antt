@@ -9,7 +9,7 @@ use Rattle.acpi_base.specs.Bytes.{field_of, sum_of}
 use Rattle.acpi_base.specs.Header.{check_names, check_table, header_at}
 use Rattle.acpi_base.specs.Memory.{Memory, Region, IsMemory, at}
 use Rattle.acpi_base.specs.Steps.{lent}
-use Rattle.acpi_base.specs.Table.{length_in, own_table_at, plain_kind, table_at, table_of, whole_of}
+use Rattle.acpi_base.specs.Table.{own_table_at, plain_kind, table_at}
 use Rattle.acpi_base.specs.declared.table.signature.Signature.{Signature}
 
 -- ---- members of a memory
@@ -45,15 +45,12 @@ module _ (m : Memory) (r : Region) (h : IsMemory m) (c : Contains m r) where
         let all : take (field_of r.bytes 4 4) r.bytes ≡ r.bytes = take_all _ r.bytes (omega (arith, whole)) in
         rw (names, le-leb 36 (field_of r.bytes 4 4) (omega arith), le-leb (field_of r.bytes 4 4) (length r.bytes) (omega arith), all, zero_sum) refl
 
-    long_enough : length_in s 36 (header_at r.bytes) ≡ Ok (length r.bytes)
-    unfolding length_in
-    long_enough = rw (names, length_is r.bytes, le-leb 36 (field_of r.bytes 4 4) (omega arith), whole) refl
-
     pub table_there : table_at m (plain_kind s) r.start ≡ Ok r.bytes
-    unfolding table_at table_of whole_of
+    unfolding table_at
     table_there =
         let all : take (length r.bytes) r.bytes ≡ r.bytes = take_all _ r.bytes (omega arith) in
-        rw (lent_start 36 (lit≤ tt) long, header_front r.bytes, long_enough, lent_start (length r.bytes) (omega arith) (omega arith), all, checked) refl
+        let enough = le-leb 36 (length r.bytes) long in
+        rw (lent_start 36 (lit≤ tt) long, header_front r.bytes, names, length_is r.bytes, whole, enough, lent_start (length r.bytes) (omega arith) (omega arith), all, checked) refl
 
   pub own_table_there : check_names (header_at r.bytes).signature (header_at r.bytes) ≡ Ok tt → 36 ≤ length r.bytes → field_of r.bytes 4 4 ≡ length r.bytes → sum_of r.bytes ≡ 0
       → own_table_at m r.start ≡ Ok r.bytes
