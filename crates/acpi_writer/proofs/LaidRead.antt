@@ -6,13 +6,13 @@ use Rattle.std.proofs.lemmas.Bool.{eqb-true, le-leb}
 use Rattle.std.proofs.lemmas.List.{drop_at, drop-drop, drop-take, take_all, take_at}
 use Rattle.acpi_base.proofs.LentFronts.{at-front}
 use Rattle.acpi_base.proofs.LentRanges.{lent_inside, lent_is_inside}
-use Rattle.acpi_base.proofs.OwnTable.{good_sum, header_front, own_table, own_table_is, served}
+use Rattle.acpi_base.proofs.OwnTable.{good_rest, header_front, own_table, own_table_is, passes, served}
 use Rattle.acpi_base.proofs.Steps.{bind_ok, holds_ok}
 use Rattle.acpi_base.specs.Bytes.{field_of, part, sum_of}
 use Rattle.acpi_base.specs.Header.{check_names, check_table, header_at}
 use Rattle.acpi_base.specs.Memory.{Memory, HoldsRange, IsMemory, Region, at, rest_from}
 use Rattle.acpi_base.specs.Steps.{holds, lent}
-use Rattle.acpi_base.specs.Table.{length_in, own_table_at, sdt_kind, table_at, whole_of}
+use Rattle.acpi_base.specs.Table.{own_table_at, plain_kind, sdt_kind, table_at}
 use Rattle.acpi_base.specs.Text.{letters_of}
 use Rattle.acpi_base.specs.declared.error.AcpiError.{AcpiError}
 use Rattle.acpi_base.specs.declared.error.AcpiError.TheVariants.{SdtInvalidChecksum, SdtInvalidLength}
@@ -75,18 +75,22 @@ unfolding header_at
 same_letters t = ap (λ h. letters_of h.signature) (sym (header_front t))
 
 module _ (m : Memory) (p : ℕ) (s : Signature) (t : List ℕ) (valid : IsValid s t) (e : at m p (length t) ≡ Some t) where
-  whole_there : whole_of m (header_at t).signature 36 p (take 36 t) ≡ Ok t
-  unfolding whole_of length_in
-  whole_there =
-      let is = table_is t valid.taken in
-      rw (header_front t, header_names t is.signature is.id is.table_id, header_length t, is.whole, le-leb 36 (length t) is.long, e) refl
-
   pub own_there : own_table_at m p ≡ Ok t
   own_there =
       let is = table_is t valid.taken in
+      let own = (header_at t).signature in
       let front : lent m p 36 ≡ Ok (take 36 t) = rw (at-front m p 36 t e is.long) refl in
-      own_table m (header_at t).signature p (take 36 t) front (same_letters t)
-      ∙ good_sum m (header_at t).signature p (take 36 t) t front whole_there (summed s t is.whole valid.checked)
+      let names = header_names t is.signature is.id is.table_id in
+      let long = header_length t ∙ is.whole in
+      own_table m own p (take 36 t) front (same_letters t)
+      ∙ passes m (plain_kind own) p t (record {
+        head = take 36 t;
+        front = front;
+        names = rw (header_front t) names;
+        long = rw (header_front t, long) (le-leb 36 (length t) is.long);
+        whole = rw (header_front t, long, e) refl;
+        checked = good_rest own t is.long names long (summed s t is.whole valid.checked);
+      })
 
   -- a lookup's step there
   pub there : (of : Signature) (least : ℕ) → 36 ≤ least → result_ok (table_at m (sdt_kind of least) p) ≡ (if is_named of t && nat_le least (length t) then Some t else None)
