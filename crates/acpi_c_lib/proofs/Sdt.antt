@@ -7,11 +7,12 @@ use Rattle.acpi_base.specs.declared.table.signature.Signature.{Signature}
 use Rattle.std.proofs.lemmas.List.{length-take}
 use Rattle.std.proofs.lemmas.Option.{cond_some}
 use Rattle.acpi_base.proofs.LentBytes.{lent_ends}
-use Rattle.acpi_base.proofs.Steps.{bind_ok, same_ok, some_lent}
+use Rattle.acpi_base.proofs.OwnTable.{passed}
+use Rattle.acpi_base.proofs.Steps.{bind_ok, some_lent}
 use Rattle.acpi_base.specs.Header.{header_at}
 use Rattle.acpi_base.specs.Memory.{Memory, IsMemory, at, rest_from}
 use Rattle.acpi_base.specs.Steps.{lent}
-use Rattle.acpi_base.specs.Table.{Kind, length_in, own_table_at, plain_kind, table_at, table_of, whole_of}
+use Rattle.acpi_base.specs.Table.{Kind, own_table_at, plain_kind, table_at}
 
 abbrev of_letters : List ℕ → Signature
 of_letters b = record { 0 = b }
@@ -30,15 +31,10 @@ lent_short m a n bytes e =
     subst (λ (b : List ℕ). length b ≤ n) both.1 (omega (arith, length-take n (rest_from m a)))
 
 table_ends : (m : Memory) (k : Kind) (p : ℕ) (table : List ℕ) → IsMemory m → 0 < length table → table_at m k p ≡ Ok table → p + length table < 2 ^ 64
-unfolding table_at table_of whole_of
 table_ends m k p table h some e =
-    let head = bind_ok (lent m p 36) _ table e in
-    let whole = bind_ok (whole_of m k.signature k.least p head.0) _ table head.2 in
-    let length_said = bind_ok (length_in k.signature k.least (header_at head.0)) _ whole.0 whole.1 in
-    let checked = bind_ok (k.check whole.0) _ table whole.2 in
-    let same : whole.0 ≡ table = same_ok whole.0 table checked.2 in
-    let is_lent : lent m p length_said.0 ≡ Ok table = subst (λ (b : List ℕ). lent m p length_said.0 ≡ Ok b) same length_said.2 in
-    lent_ends m p length_said.0 table h (omega (arith, some, lent_short m p length_said.0 table is_lent)) is_lent
+    let passes = passed m k p table e in
+    let n = (header_at passes.head).length in
+    lent_ends m p n table h (omega (arith, some, lent_short m p n table passes.whole)) passes.whole
 
 pub own_table_ends : (m : Memory) (p : ℕ) (table : List ℕ) → IsMemory m → 0 < length table → own_table_at m p ≡ Ok table → p + length table < 2 ^ 64
 unfolding own_table_at

@@ -10,7 +10,7 @@ use Rattle.acpi_base.specs.Header.{check_names, check_table}
 use Rattle.acpi_base.specs.Memory.{Memory, at}
 use Rattle.acpi_base.specs.Ranges.{Ranges}
 use Rattle.acpi_base.specs.Steps.{◌>>=◌, lent}
-use Rattle.acpi_base.specs.Table.{length_in, table_at, table_of, whole_of}
+use Rattle.acpi_base.specs.Table.{table_at}
 use Rattle.acpi_base.specs.declared.error.AcpiError.{AcpiError}
 use Rattle.acpi_base.specs.declared.error.AcpiError.TheVariants.{MapFailed, NoValidRsdp}
 use Rattle.acpi_base.specs.declared.table.header.SdtHeader.{SdtHeader}
@@ -33,17 +33,9 @@ use Rattle.acpi_c_lib.proofs.Written.{two_parts}
 
 -- ---- the checks, which refuse by other errors
 
-names_not : (s : Signature) (h : SdtHeader) → check_names s h ≡ Err MapFailed → ⊥
+pub names_not : (s : Signature) (h : SdtHeader) → check_names s h ≡ Err MapFailed → ⊥
 unfolding check_names
 names_not s h e = grind arith
-
-pub length_not : (s : Signature) (h : SdtHeader) → length_in s 36 h ≡ Err MapFailed → ⊥
-unfolding length_in
-length_not s h e = grind (arith, names_not)
-
-pub length_same : (s : Signature) (h : SdtHeader) (n : ℕ) → length_in s 36 h ≡ Ok n → h.length ≡ n
-unfolding length_in
-length_same s h n e = grind arith
 
 pub table_not : (s : Signature) (b : List ℕ) → check_table s b ≡ Err MapFailed → ⊥
 unfolding check_table
@@ -114,8 +106,8 @@ search_unlent m e =
 -- ---- opening
 
 from_unlent : (m : Memory) (place : _) → opened_from m place ≡ Err MapFailed → IsUnlent m (last_range (opened_ranges m place))
-unfolding table_at table_of whole_of
-from_unlent m place e = grind (arith, length_not, table_not)
+unfolding table_at
+from_unlent m place e = grind (arith, names_not, table_not)
 
 rsdp_unlent : (m : Memory) (a : ℕ) → opened_by_rsdp m a ≡ Err MapFailed → IsUnlent m (last_range (opened_by_rsdp_ranges m a))
 unfolding rsdp_at

@@ -4,14 +4,14 @@ ghost use Rattle.acpi_c_lib.specs.Missing.{CandidatesHaveHoles, LedHaveHoles, Me
 
 /// Each member of the root table that is refused with `MapFailed` has a range among those that
 /// `zacpi_list_missing_ranges` lists, and that range lies in no one region.
-#[tactic(auto, using(crate::proofs::Unlent::length_not, crate::proofs::Unlent::table_not), unfolding(acpi_base::specs::Table::own_table_at, acpi_base::specs::Table::table_at, acpi_base::specs::Table::table_of, acpi_base::specs::Table::whole_of))]
+#[tactic(auto, using(crate::proofs::Unlent::names_not, crate::proofs::Unlent::table_not), unfolding(acpi_base::specs::Table::own_table_at, acpi_base::specs::Table::table_at))]
 pub fn members_refused_have_ranges()
     ensures { MembersHaveHoles }
 {}
 
 /// If the error of the DSDT or the FACS that a FADT leads to is `MapFailed`, there is the range that
 /// `zacpi_list_missing_ranges` lists of it, and that range lies in no one region.
-#[tactic(auto, using(crate::proofs::Unlent::length_not, crate::proofs::Unlent::table_not), unfolding(acpi_base::specs::Table::table_at, acpi_base::specs::Table::table_of, acpi_base::specs::Table::whole_of, acpi::specs::Places::dsdt_place, acpi::specs::Places::facs_at, acpi::specs::Places::facs_length))]
+#[tactic(auto, using(crate::proofs::Unlent::names_not, crate::proofs::Unlent::table_not), unfolding(acpi_base::specs::Table::table_at, acpi::specs::Places::dsdt_place, acpi::specs::Places::facs_at, acpi::specs::Places::facs_length))]
 pub fn led_tables_have_ranges()
     ensures { LedHaveHoles }
 {}

@@ -138,7 +138,7 @@ pub(crate) fn is_lent<H: AcpiHandler>(handler: &H, address: u64, length: u32) ->
 
 /// Where a table is refused that isn't lent, whatever its signature: its header, or as many bytes as that says (section
 /// 5.2.6).
-#[tactic(auto, using(crate::proofs::Unlent::length_not, crate::proofs::Unlent::length_same), unfolding(acpi_base::specs::Table::own_table_at, acpi_base::specs::Table::table_at, acpi_base::specs::Table::table_of, acpi_base::specs::Table::whole_of))]
+#[tactic(auto, using(crate::proofs::Unlent::names_not), unfolding(acpi_base::specs::Table::own_table_at, acpi_base::specs::Table::table_at))]
 fn table_hole<H: AcpiHandler>(handler: &H, address: u64) -> Range
     ensures named { let m = H.memory handler.now in (s : Signature)
         → table_at m (plain_kind s) address ≡ Err MapFailed
