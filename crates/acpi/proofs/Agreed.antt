@@ -15,11 +15,11 @@ use Rattle.acpi_base.specs.Steps.{◌>>=◌, GivesOrFull, lent}
 use Rattle.acpi_base.specs.Table.{Kind, plain_kind, table_at}
 use Rattle.acpi_fixed.specs.Fadt.{dsdt_address_of, fadt_at}
 use Rattle.acpi.proofs.First.{here}
-use Rattle.acpi.specs.Footprint.{FootprintBelow, below, lookup_ranges, platform_ranges, root_ranges}
+use Rattle.acpi.specs.Footprint.{FootprintBelow, below, dsdt_ranges, lookup_ranges, platform_ranges, root_ranges}
 use Rattle.acpi.specs.FootprintLaws.{DsdtDependsOn, FaultsDependOn, HeadersDependOn, HpetDependsOn, LookupDependsOn, MailboxDependsOn, PlatformDependsOn, RegionsDependOn, SsdtsDependOn, OpenedByRsdpDependsOn, OpenedBySearchDependsOn, OpenedDependsOn, RsdpDependsOn, SearchDependsOn}
 use Rattle.acpi.specs.Hpet.{hpet_at, hpet_kind, info_of}
 use Rattle.acpi.specs.Later.{or_later}
-use Rattle.acpi.specs.Lists.{fadt_kind, faults_of, own_header_at, stream_at, unless_valid}
+use Rattle.acpi.specs.Lists.{dsdt_stream, fadt_kind, faults_of, own_header_at, stream_at, unless_valid}
 use Rattle.acpi.specs.Lookup.{lookup}
 use Rattle.acpi.specs.Pci.{mcfg_kind}
 use Rattle.acpi.specs.Platform.{madt_kind, model_in, platform_of}
@@ -170,6 +170,10 @@ pub platform_from_tables : {H A : Type 0} {h : _} (t : AcpiTables H h) (Asks : T
     → result_ok (root_at (memory_of t) (kind_of t) (root_address_of t)) ≡ Some (root_of t)
     → GivesOrFull Asks r (platform_of (memory_of t) (pointers_of t)) → FootprintBelow t platform_ranges platform_of (GivesOrFull Asks r)
 platform_from_tables t Asks r valid said n h = rw (from_tables t platform_ranges platform_of same_platform valid n h) said
+
+pub dsdt_from_tables : {H : Type 0} {h : _} (t : AcpiTables H h) → result_ok (root_at (memory_of t) (kind_of t) (root_address_of t)) ≡ Some (root_of t)
+    → FootprintBelow t dsdt_ranges dsdt_stream (λ said. dsdt_stream (memory_of t) (pointers_of t) ≡ said)
+dsdt_from_tables t valid n h = rw (from_tables t dsdt_ranges dsdt_stream same_dsdt valid n h) refl
 
 pub mailbox_from_tables : {H : Type 0} {h : _} (t : AcpiTables H h) → result_ok (root_at (memory_of t) (kind_of t) (root_address_of t)) ≡ Some (root_of t)
     → FootprintBelow t (λ m. lookup_ranges m madt_kind) mailbox_found (λ said. mailbox_found (memory_of t) (pointers_of t) ≡ said)

@@ -138,5 +138,8 @@ pub pointers_few : (w : ℕ) (b : List ℕ) → length (pointers w b) ≤ length
 unfolding pointers
 pointers_few w b = pieces_few (length b) w b
 
+pub pointers_short : (w : ℕ) (root : List ℕ) → length root < 2 ^ 32 → length (pointers w (drop 36 root)) < 2 ^ 32
+pointers_short w root short = omega (arith, pointers_few w (drop 36 root), length-drop 36 root, short)
+
 pub fits_root : (n w : ℕ) (root : List ℕ) → length root < 2 ^ 32 → n ≤ length (pointers w (drop 36 root)) → n < 2 ^ 32
 fits_root n w root short few = omega (arith, pointers_few w (drop 36 root), length-drop 36 root, short, few)

@@ -60,6 +60,7 @@ impl<'h, H: Lender> AcpiTables<'h, H> {
     }
 
     /// The physical addresses that the root table lists, in order. Nothing is looked at there.
+    #[tactic(auto, using(crate::proofs::First::pointers_short))]
     pub fn addresses(&self) -> Pointers<'_>
         ensures items { pointers_left result ≡ pointers_of self.now }
         ensures fits { length (pointers_left result) < 2 ^ 32 }
