@@ -3,6 +3,7 @@ pub mod Parts
 pub mod Tables
 pub mod Rows
 pub mod Bits
+pub mod Room
 pub mod Sized
 pub mod Speaks
 pub mod Says
@@ -13,6 +14,8 @@ pub mod HpetRead
 pub mod Found
 pub mod Images
 pub mod LaidRead
+pub mod ContentsRead
+pub mod MachineSays
 pub mod MachineRead
 pub mod Plain
 pub mod RsdpRead
@@ -29,4 +32,5 @@ pub mod FadtWritten
 pub mod FadtRead
 pub mod FacsRead
 pub mod GicRead
+pub mod GtdtStructures
 pub mod GtdtRead

@@ -5,7 +5,8 @@ use Rattle.acpi_writer.specs.Contents.{or_none}
 use Rattle.acpi_writer.specs.Laid.{padded, rounded}
 use Rattle.acpi_writer.specs.Machine.{dsdt_of, dsdt_written}
 use Rattle.acpi_writer.specs.Table.{table_written}
-use Rattle.acpi_writer.proofs.Sized.{moved_table, padded_long, put_bytes, put_none, to_the_end, unwritten, written_is}
+use Rattle.acpi_writer.proofs.Room.{moved_table, unwritten, written_is}
+use Rattle.acpi_writer.proofs.Sized.{padded_long, put_bytes, put_none, to_the_end}
 use Rattle.acpi_writer.proofs.machine.put_dsdt.Goals as goal
 
 pub fill_up-requires : goal.fill_up-requires

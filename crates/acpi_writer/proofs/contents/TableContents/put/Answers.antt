@@ -2,7 +2,8 @@ use Rattle.std.proofs.Common.{length, take, sym, ap, ◌∙◌, arith}
 use Rattle.std.proofs.lemmas.List.{length-take-le}
 use Rattle.acpi_writer.specs.Contents.{bytes_of, contents_written}
 use Rattle.acpi_writer.specs.Laid.{padded, rounded}
-use Rattle.acpi_writer.proofs.Sized.{moved_contents, padded_long, put_bytes, put_none, unwritten, written_is}
+use Rattle.acpi_writer.proofs.Room.{moved_contents, unwritten, written_is}
+use Rattle.acpi_writer.proofs.Sized.{padded_long, put_bytes, put_none}
 use Rattle.acpi_writer.proofs.contents.TableContents.put.Goals as goal
 
 pub fill_up-requires : goal.fill_up-requires

@@ -1,0 +1,127 @@
+-- That the room for a table changes only whether it fits.
+use Rattle.std.proofs.Common.{◌≡◌, ℕ, ◌+◌, ◌-◌, ◌^◌, ◌<◌, ◌≤◌, Bool, true, false, List, [], length, Result, Ok, Err, refl, sym, ap, ◌∙◌, arith, length-append}
+use Rattle.std.specs.Prelude.{◌*◌, ◌==◌, nat_le, nat_lt, not, replicate}
+use Rattle.std.specs.List.{list_all}
+use Rattle.std.proofs.lemmas.Bool.{leb-true, ltb-true}
+use Rattle.acpi_base.proofs.Steps.{holds_ok, same_ok}
+use Rattle.acpi_base.specs.Steps.{◌>>=◌, holds}
+use Rattle.acpi_base.specs.Text.{letters_of}
+use Rattle.acpi_base.specs.declared.table.signature.Signature.{Signature}
+use Rattle.acpi_base.specs.declared.table.signature.TheConstants.Signature.{FADT, HPET, MADT, MCFG, SLIT, SSDT}
+use Rattle.acpi_image.proofs.Written.{length-with_sum}
+use Rattle.acpi_writer.specs.Contents.{contents_written, most, or_none, placed}
+use Rattle.acpi_writer.specs.FadtBytes.{are_placed, are_registers, fadt_body, fadt_written, is_profile}
+use Rattle.acpi_writer.specs.HpetBytes.{hpet_body}
+use Rattle.acpi_writer.specs.Laid.{gap, padded}
+use Rattle.acpi_writer.specs.MadtBytes.{is_empty, is_single, madt_body, madt_written, names_one}
+use Rattle.acpi_writer.specs.McfgBytes.{mcfg_body}
+use Rattle.acpi_writer.specs.Slit.{slit_body, slit_written}
+use Rattle.acpi_writer.specs.Table.{AreIds, are_texts, table_bytes, table_head, table_written, unsummed}
+use Rattle.acpi_writer.specs.declared.contents.TableContents.{TableContents}
+use Rattle.acpi_writer.specs.declared.contents.TableContents.TheVariants.{Fadt, Hpet, Madt, Mcfg, Slit, Ssdt}
+use Rattle.acpi_writer.specs.declared.error.WriterError.{WriterError}
+use Rattle.acpi_writer.specs.declared.error.WriterError.TheVariants.{BadMatrix, BadProfile, BadRegister, IdOfAll, NoAddress, NoProcessor, UidOfAll}
+use Rattle.acpi_writer.specs.declared.fadt.contents.FadtContents.{FadtContents}
+use Rattle.acpi_writer.specs.declared.madt.MadtContents.{MadtContents}
+use Rattle.acpi_writer.specs.declared.ids.TableIds.{TableIds}
+use Rattle.acpi_writer.proofs.Tables.{head_length, it_fits}
+
+pub table_length : (s : Signature) (revision : ℕ) (ids : TableIds) (body : List ℕ) → length (letters_of s) ≡ 4 → AreIds ids → length (table_bytes s revision ids body) ≡ 36 + length body
+unfolding table_bytes
+table_length s revision ids body letters are =
+    length-with_sum 9 (unsummed s revision ids body)
+    ∙ omega (arith, length-append (table_head s revision ids (36 + length body)) body, head_length s revision ids letters are (36 + length body))
+
+-- ---- more room, and less
+
+-- what is written in some room
+pub record Wrote (room : ℕ) (s : Signature) (revision : ℕ) (ids : TableIds) (body t : List ℕ) : Type 0 where
+  pub texts : are_texts ids ≡ true
+  pub within : 36 + length body ≤ room
+  pub short : 36 + length body < 2 ^ 32
+  pub bytes : t ≡ table_bytes s revision ids body
+
+abbrev done : List ℕ → Result (List ℕ) WriterError
+done x = Ok x
+
+pub wrote : (room : ℕ) (s : Signature) (revision : ℕ) (ids : TableIds) (body t : List ℕ) → table_written room s revision ids body ≡ Ok t → Wrote room s revision ids body t
+unfolding table_written
+wrote room s revision ids body t e =
+    let texts = holds_ok (are_texts ids) _ _ t e in
+    let within = holds_ok (nat_le (36 + length body) room) _ _ t texts.1 in
+    let short = holds_ok (nat_lt (36 + length body) (2 ^ 32)) _ _ t within.1 in
+    record {
+      texts = texts.0;
+      within = leb-true (36 + length body) room within.0;
+      short = ltb-true (36 + length body) (2 ^ 32) short.0;
+      bytes = sym (same_ok {E = WriterError} (table_bytes s revision ids body) t short.1);
+    }
+
+different : (t : List ℕ) (e : WriterError) → done t ≡ Err e → ⊥
+different t e same = cc
+
+-- ---- in another room
+
+-- what is written in some room is written in any other that it fits into
+abbrev pub Moves : (ℕ → Result (List ℕ) WriterError) → Type 0
+Moves written = (room other : ℕ) (t : List ℕ) → written room ≡ Ok t → length t ≤ other → written other ≡ Ok t
+
+pub moved_table : (s : Signature) (revision : ℕ) (ids : TableIds) (body : List ℕ) → length (letters_of s) ≡ 4 → AreIds ids → Moves (λ room. table_written room s revision ids body)
+moved_table s revision ids body letters are room other t e fits =
+    let w = wrote room s revision ids body t e in
+    let long : length t ≡ 36 + length body = ap length w.bytes ∙ table_length s revision ids body letters are in
+    it_fits other s revision ids body w.texts (omega (arith, long, fits)) w.short ∙ sym (ap done w.bytes)
+
+through : (b : Bool) (e : WriterError) (f g : Result (List ℕ) WriterError) (t : List ℕ) → (f ≡ Ok t → g ≡ Ok t) → (holds b e >>= λ _. f) ≡ Ok t → (holds b e >>= λ _. g) ≡ Ok t
+through true e f g t h p = h p
+through false e f g t h p = absurd cc
+
+moved_madt : (ids : TableIds) (c : MadtContents) → AreIds ids → Moves (λ room. madt_written room ids c)
+unfolding madt_written
+moved_madt ids c are room other t e fits =
+    let some = not (is_empty c.processors.now) in
+    let single = list_all is_single c.processors.now in
+    let lines = list_all (λ x. names_one x.processor) c.local_apic_nmi_lines.now in
+    let here : ℕ → Result (List ℕ) WriterError = λ n. table_written n MADT 5 ids (madt_body c) in
+    through some NoProcessor (holds single IdOfAll >>= λ _. holds lines UidOfAll >>= λ _. here room) (holds single IdOfAll >>= λ _. holds lines UidOfAll >>= λ _. here other) t
+    (through single IdOfAll (holds lines UidOfAll >>= λ _. here room) (holds lines UidOfAll >>= λ _. here other) t
+    (through lines UidOfAll (here room) (here other) t (λ p. moved_table MADT 5 ids (madt_body c) refl are room other t p fits))) e
+
+moved_slit : (ids : TableIds) (n : ℕ) (distances : List ℕ) → AreIds ids → Moves (λ room. slit_written room ids n distances)
+unfolding slit_written
+moved_slit ids n distances are room other t e fits =
+    let here : ℕ → Result (List ℕ) WriterError = λ m. table_written m SLIT 1 ids (slit_body n distances) in
+    through (n * n == length distances) BadMatrix (here room) (here other) t (λ p. moved_table SLIT 1 ids (slit_body n distances) refl are room other t p fits) e
+
+moved_fadt : (ids : TableIds) (c : FadtContents) → AreIds ids → Moves (λ room. fadt_written room ids c)
+unfolding fadt_written
+moved_fadt ids c are room other t e fits =
+    let placed = are_placed c in
+    let profile = is_profile c.power_profile in
+    let registers = are_registers c in
+    let here : ℕ → Result (List ℕ) WriterError = λ n. table_written n FADT 6 ids (fadt_body c) in
+    through placed NoAddress (holds profile BadProfile >>= λ _. holds registers BadRegister >>= λ _. here room) (holds profile BadProfile >>= λ _. holds registers BadRegister >>= λ _. here other) t
+    (through profile BadProfile (holds registers BadRegister >>= λ _. here room) (holds registers BadRegister >>= λ _. here other) t
+    (through registers BadRegister (here room) (here other) t (λ p. moved_table FADT 6 ids (fadt_body c) refl are room other t p fits))) e
+
+pub moved_contents : (ids : TableIds) (c : TableContents) → AreIds ids → Moves (λ room. contents_written room ids c)
+moved_contents ids (Madt c) are = moved_madt ids c are
+moved_contents ids (Mcfg regions) are = moved_table MCFG 1 ids (mcfg_body regions.now) refl are
+moved_contents ids (Hpet info) are = moved_table HPET 1 ids (hpet_body info) refl are
+moved_contents ids (Slit c) are = moved_slit ids c.localities c.distances.now are
+moved_contents ids (Ssdt c) are = moved_table SSDT c.revision ids c.bytes.now refl are
+moved_contents ids (Fadt c) are = moved_fadt ids c are
+
+-- ---- what a call wrote, and what it didn't
+
+pub written_is : (written : ℕ → Result (List ℕ) WriterError) → Moves written → (room : ℕ) (t : List ℕ) → written room ≡ Ok t → length t ≤ most → or_none (written most) ≡ t
+written_is written moves room t e fits = ap or_none (moves room most t e fits)
+
+unwritten_by : (written : ℕ → Result (List ℕ) WriterError) → Moves written → (room : ℕ) (e : WriterError) (w : Result (List ℕ) WriterError) → written most ≡ w → written room ≡ Err e → length (padded (or_none w)) ≤ room → or_none w ≡ []
+unwritten_by written moves room e (Ok t) all none within =
+    let there : written room ≡ Ok t = moves most room t all (omega (arith, within, length-append t (replicate (gap (length t)) 0))) in
+    absurd (different t e (sym there ∙ none))
+unwritten_by written moves room e (Err d) all none within = refl
+
+pub unwritten : (written : ℕ → Result (List ℕ) WriterError) → Moves written → (room : ℕ) (e : WriterError) → written room ≡ Err e → length (padded (or_none (written most))) ≤ room → or_none (written most) ≡ []
+unwritten written moves room e none within = unwritten_by written moves room e (written most) refl none within
