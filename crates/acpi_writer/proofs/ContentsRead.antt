@@ -11,7 +11,7 @@ use Rattle.acpi_base.specs.Header.{check_names, check_table, header_at}
 use Rattle.acpi_base.specs.Steps.{◌>>=◌, holds}
 use Rattle.acpi_base.specs.Text.{letters_of}
 use Rattle.acpi_base.specs.declared.table.signature.Signature.{Signature}
-use Rattle.acpi_base.specs.declared.table.signature.TheConstants.Signature.{FADT, HPET, MADT, MCFG, SLIT, SSDT}
+use Rattle.acpi_base.specs.declared.table.signature.TheConstants.Signature.{FADT, HPET, MADT, MCFG, SLIT, SRAT, SSDT}
 use Rattle.acpi_writer.specs.Contents.{FitsContents, bytes_of, contents_written, most, or_none, placed, signature_of}
 use Rattle.acpi_writer.specs.FadtBytes.{are_placed, are_registers, fadt_body, fadt_written, fixed_of, is_profile}
 use Rattle.acpi_writer.specs.FadtLaws.{AreFitFor, IsFadt}
@@ -25,13 +25,16 @@ use Rattle.acpi_writer.specs.MadtLaws.{AreFit, IsMadt}
 use Rattle.acpi_writer.specs.McfgBytes.{mcfg_body}
 use Rattle.acpi_writer.specs.McfgLaws.{IsMcfg}
 use Rattle.acpi_writer.specs.Slit.{IsSlit, slit_body, slit_written}
+use Rattle.acpi_writer.specs.Srat.{is_one_apic, is_one_gicc, is_range, srat_body, srat_written}
+use Rattle.acpi_writer.specs.SratLaws as srat
 use Rattle.acpi_writer.specs.Table.{AreIds, IsTableOf, IsValid, table_written}
 use Rattle.acpi_writer.specs.declared.contents.TableContents.{TableContents}
-use Rattle.acpi_writer.specs.declared.contents.TableContents.TheVariants.{Fadt, Hpet, Madt, Mcfg, Slit, Ssdt}
-use Rattle.acpi_writer.specs.declared.error.WriterError.TheVariants.{BadMatrix, BadProfile, BadRegister, IdOfAll, NoAddress, NoProcessor, UidOfAll}
+use Rattle.acpi_writer.specs.declared.contents.TableContents.TheVariants.{Fadt, Hpet, Madt, Mcfg, Slit, Srat, Ssdt}
+use Rattle.acpi_writer.specs.declared.error.WriterError.TheVariants.{BadMatrix, BadProfile, BadRange, BadRegister, IdOfAll, NoAddress, NoProcessor, UidOfAll}
 use Rattle.acpi_writer.specs.declared.fadt.contents.FadtContents.{FadtContents}
 use Rattle.acpi_writer.specs.declared.ids.TableIds.{TableIds}
 use Rattle.acpi_writer.specs.declared.madt.MadtContents.{MadtContents}
+use Rattle.acpi_writer.specs.declared.srat.SratContents.{SratContents}
 use Rattle.acpi_writer.proofs.FadtRead.{fadt_valid}
 use Rattle.acpi_writer.proofs.HpetRead.{hpet_valid}
 use Rattle.acpi_writer.proofs.LaidRead.{holds_only}
@@ -40,6 +43,7 @@ use Rattle.acpi_writer.proofs.McfgRead.{mcfg_valid}
 use Rattle.acpi_writer.proofs.Plain.{ssdt_read}
 use Rattle.acpi_writer.proofs.Room.{wrote}
 use Rattle.acpi_writer.proofs.SlitRead.{slit_valid}
+use Rattle.acpi_writer.proofs.SratRead.{srat_valid}
 
 pub not_true : (b : Bool) → not b ≡ true → b ≡ false
 not_true false e = refl
@@ -63,6 +67,7 @@ IsContents ids (Hpet info) t = IsHpet ids info t
 IsContents ids (Slit c) t = IsSlit ids c.localities c.distances.now t
 IsContents ids (Ssdt c) t = IsTableOf SSDT c.revision ids c.bytes.now t
 IsContents ids (Fadt c) t = IsFadt ids c t
+IsContents ids (Srat c) t = srat.IsSrat ids c t
 
 pub table_of : (s : Signature) (revision : ℕ) (ids : TableIds) (body t : List ℕ) → AreIds ids → table_written most s revision ids body ≡ Ok t → IsTableOf s revision ids body t
 table_of s revision ids body t are e =
@@ -95,6 +100,17 @@ fadt_of ids c t are fit e =
     let three = holds_ok (are_registers c) BadRegister (λ _. here) t two.1 in
     record { written = table_of FADT 6 ids (fadt_body c) t are three.1; fit = fit; placed = one.0; profile = two.0; registers = three.0 }
 
+srat_of : (ids : TableIds) (c : SratContents) (t : List ℕ) → AreIds ids → srat.AreFit c → srat_written most ids c ≡ Ok t → srat.IsSrat ids c t
+unfolding srat_written
+srat_of ids c t are fit e =
+    let giccs = list_all is_one_gicc c.giccs.now in
+    let ranges = list_all is_range c.ranges.now in
+    let here = table_written most SRAT 3 ids (srat_body c) in
+    let one = holds_ok (list_all is_one_apic c.apics.now) IdOfAll (λ _. holds giccs IdOfAll >>= λ _. holds ranges BadRange >>= λ _. here) t e in
+    let two = holds_ok giccs IdOfAll (λ _. holds ranges BadRange >>= λ _. here) t one.1 in
+    let three = holds_ok ranges BadRange (λ _. here) t two.1 in
+    record { written = table_of SRAT 3 ids (srat_body c) t are three.1; fit = fit; ranges = three.0 }
+
 contents_of : (ids : TableIds) (c : TableContents) (t : List ℕ) → AreIds ids → FitsContents c → contents_written most ids c ≡ Ok t → IsContents ids c t
 contents_of ids (Madt c) t are fit e = madt_of ids c t are fit e
 contents_of ids (Mcfg regions) t are fit e = record { written = table_of MCFG 1 ids (mcfg_body regions.now) t are e; fit = fit }
@@ -102,6 +118,7 @@ contents_of ids (Hpet info) t are fit e = record { written = table_of HPET 1 ids
 contents_of ids (Slit c) t are fit e = slit_of ids c.localities c.distances.now t are fit e
 contents_of ids (Ssdt c) t are fit e = table_of SSDT c.revision ids c.bytes.now t are e
 contents_of ids (Fadt c) t are fit e = fadt_of ids c t are fit e
+contents_of ids (Srat c) t are fit e = srat_of ids c t are fit e
 
 valid_of : (ids : TableIds) (c : TableContents) (t : List ℕ) → IsContents ids c t → IsValid (signature_of c) t
 valid_of ids (Madt c) t is = madt_valid ids c t is
@@ -110,6 +127,7 @@ valid_of ids (Hpet info) t is = hpet_valid ids info t is
 valid_of ids (Slit c) t is = slit_valid ids c.localities c.distances.now t is
 valid_of ids (Ssdt c) t is = (ssdt_read c.revision ids c.bytes.now t is).valid
 valid_of ids (Fadt c) t is = fadt_valid ids c t is
+valid_of ids (Srat c) t is = srat_valid ids c t is
 
 -- ---- all of them
 

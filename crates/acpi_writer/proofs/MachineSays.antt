@@ -9,30 +9,34 @@ use Rattle.acpi_base.specs.Steps.{◌>>=◌}
 use Rattle.acpi_base.specs.Table.{sdt_kind}
 use Rattle.acpi_base.specs.declared.error.AcpiError.{AcpiError}
 use Rattle.acpi_base.specs.declared.table.signature.Signature.{Signature}
-use Rattle.acpi_base.specs.declared.table.signature.TheConstants.Signature.{FADT, HPET, MADT, MCFG, SLIT}
+use Rattle.acpi_base.specs.declared.table.signature.TheConstants.Signature.{FADT, HPET, MADT, MCFG, SLIT, SRAT}
 use Rattle.acpi.specs.Hpet.{hpet_of}
 use Rattle.acpi.specs.Lookup.{lookup}
 use Rattle.acpi.specs.Pci.{found_regions}
 use Rattle.acpi.specs.Platform.{model_in, platform_of}
 use Rattle.acpi.specs.declared.hpet.HpetInfo.{HpetInfo}
+use Rattle.acpi_numa.specs.Affinities.{srat_kind}
 use Rattle.acpi_numa.specs.Slit.{distance_of}
 use Rattle.acpi_writer.specs.Contents.{bytes_of}
 use Rattle.acpi_writer.specs.FadtBytes.{fadt_body, fixed_of}
 use Rattle.acpi_writer.specs.FadtLaws.{IsFadt}
 use Rattle.acpi_writer.specs.HpetBytes.{hpet_body}
 use Rattle.acpi_writer.specs.HpetLaws.{IsHpet}
-use Rattle.acpi_writer.specs.MachineLaws.{HasFadt, Says, first_of, platform_read}
+use Rattle.acpi_writer.specs.MachineLaws.{HasFadt, HasTable, Says, first_of, platform_read}
 use Rattle.acpi_writer.specs.MadtBytes.{madt_body, madt_entries, madt_fixed}
 use Rattle.acpi_writer.specs.MadtLaws.{IsMadt, model_read}
 use Rattle.acpi_writer.specs.McfgBytes.{mcfg_body}
 use Rattle.acpi_writer.specs.McfgLaws.{IsMcfg}
 use Rattle.acpi_writer.specs.Slit.{IsSlit, slit_body}
+use Rattle.acpi_writer.specs.Srat.{srat_body, srat_entries, srat_reserved}
+use Rattle.acpi_writer.specs.SratLaws.{IsSrat, SaysDomains}
 use Rattle.acpi_writer.specs.declared.contents.SlitContents.{SlitContents}
 use Rattle.acpi_writer.specs.declared.contents.TableContents.{TableContents}
-use Rattle.acpi_writer.specs.declared.contents.TableContents.TheVariants.{Fadt, Hpet, Madt, Mcfg, Slit}
+use Rattle.acpi_writer.specs.declared.contents.TableContents.TheVariants.{Fadt, Hpet, Madt, Mcfg, Slit, Srat}
 use Rattle.acpi_writer.specs.declared.fadt.contents.FadtContents.{FadtContents}
 use Rattle.acpi_writer.specs.declared.ids.TableIds.{TableIds}
 use Rattle.acpi_writer.specs.declared.madt.MadtContents.{MadtContents}
+use Rattle.acpi_writer.specs.declared.srat.SratContents.{SratContents}
 use Rattle.acpi_writer.proofs.ContentsRead.{IsContents, first_is}
 use Rattle.acpi_writer.proofs.FadtParts.{body_long}
 use Rattle.acpi_writer.proofs.FadtRead.{fadt_name, fadt_read}
@@ -41,6 +45,7 @@ use Rattle.acpi_writer.proofs.Images.{hpet_long, platform_has}
 use Rattle.acpi_writer.proofs.MadtRead.{fixed_long, madt_name, madt_read}
 use Rattle.acpi_writer.proofs.McfgRead.{mcfg_name, mcfg_read}
 use Rattle.acpi_writer.proofs.SlitRead.{slit_name, slit_read}
+use Rattle.acpi_writer.proofs.SratRead.{srat_name, srat_read}
 use Rattle.acpi_writer.proofs.Tables as table
 
 abbrev one_distance : Option ℕ → Result (Option ℕ) AcpiError
@@ -97,6 +102,13 @@ module _
       let fadt = fadt_found c is_fadt in
       rw (fadt.1, model {A = A} d is_madt, fadt.2.fields.profile, fadt.2.timer) refl
 
+  domains : (c : SratContents) → first_of SRAT cs ≡ Some (Srat c) → HasTable m ps srat_kind (SaysDomains c)
+  domains c is_first =
+      let t = bytes_of ids (Srat c) in
+      let this : IsSrat ids c t = written SRAT (Srat c) is_first in
+      let long = table.long SRAT srat_name 3 ids (srat_body c) t this.written in
+      ((place SRAT, t), found SRAT (Srat c) 48 is_first (lit≤ tt) (omega (arith, long, length-append srat_reserved (srat_entries c))), srat_read ids c t this)
+
   pub says : {A : Type 0} → Says A m ps cs
   says {A = A} = record {
     model = λ c is_first. model {A = A} c is_first;
@@ -106,4 +118,5 @@ module _
     regions = regions;
     hpet = hpet;
     distances = distances;
+    domains = domains;
   }

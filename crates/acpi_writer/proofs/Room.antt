@@ -7,7 +7,7 @@ use Rattle.acpi_base.proofs.Steps.{holds_ok, same_ok}
 use Rattle.acpi_base.specs.Steps.{◌>>=◌, holds}
 use Rattle.acpi_base.specs.Text.{letters_of}
 use Rattle.acpi_base.specs.declared.table.signature.Signature.{Signature}
-use Rattle.acpi_base.specs.declared.table.signature.TheConstants.Signature.{FADT, HPET, MADT, MCFG, SLIT, SSDT}
+use Rattle.acpi_base.specs.declared.table.signature.TheConstants.Signature.{FADT, HPET, MADT, MCFG, SLIT, SRAT, SSDT}
 use Rattle.acpi_image.proofs.Written.{length-with_sum}
 use Rattle.acpi_writer.specs.Contents.{contents_written, most, or_none, placed}
 use Rattle.acpi_writer.specs.FadtBytes.{are_placed, are_registers, fadt_body, fadt_written, is_profile}
@@ -16,14 +16,16 @@ use Rattle.acpi_writer.specs.Laid.{gap, padded}
 use Rattle.acpi_writer.specs.MadtBytes.{is_empty, is_single, madt_body, madt_written, names_one}
 use Rattle.acpi_writer.specs.McfgBytes.{mcfg_body}
 use Rattle.acpi_writer.specs.Slit.{slit_body, slit_written}
+use Rattle.acpi_writer.specs.Srat.{is_one_apic, is_one_gicc, is_range, srat_body, srat_written}
 use Rattle.acpi_writer.specs.Table.{AreIds, are_texts, table_bytes, table_head, table_written, unsummed}
 use Rattle.acpi_writer.specs.declared.contents.TableContents.{TableContents}
-use Rattle.acpi_writer.specs.declared.contents.TableContents.TheVariants.{Fadt, Hpet, Madt, Mcfg, Slit, Ssdt}
+use Rattle.acpi_writer.specs.declared.contents.TableContents.TheVariants.{Fadt, Hpet, Madt, Mcfg, Slit, Srat, Ssdt}
 use Rattle.acpi_writer.specs.declared.error.WriterError.{WriterError}
-use Rattle.acpi_writer.specs.declared.error.WriterError.TheVariants.{BadMatrix, BadProfile, BadRegister, IdOfAll, NoAddress, NoProcessor, UidOfAll}
+use Rattle.acpi_writer.specs.declared.error.WriterError.TheVariants.{BadMatrix, BadProfile, BadRange, BadRegister, IdOfAll, NoAddress, NoProcessor, UidOfAll}
 use Rattle.acpi_writer.specs.declared.fadt.contents.FadtContents.{FadtContents}
 use Rattle.acpi_writer.specs.declared.madt.MadtContents.{MadtContents}
 use Rattle.acpi_writer.specs.declared.ids.TableIds.{TableIds}
+use Rattle.acpi_writer.specs.declared.srat.SratContents.{SratContents}
 use Rattle.acpi_writer.proofs.Tables.{head_length, it_fits}
 
 pub table_length : (s : Signature) (revision : ℕ) (ids : TableIds) (body : List ℕ) → length (letters_of s) ≡ 4 → AreIds ids → length (table_bytes s revision ids body) ≡ 36 + length body
@@ -104,6 +106,17 @@ moved_fadt ids c are room other t e fits =
     (through profile BadProfile (holds registers BadRegister >>= λ _. here room) (holds registers BadRegister >>= λ _. here other) t
     (through registers BadRegister (here room) (here other) t (λ p. moved_table FADT 6 ids (fadt_body c) refl are room other t p fits))) e
 
+moved_srat : (ids : TableIds) (c : SratContents) → AreIds ids → Moves (λ room. srat_written room ids c)
+unfolding srat_written
+moved_srat ids c are room other t e fits =
+    let apics = list_all is_one_apic c.apics.now in
+    let giccs = list_all is_one_gicc c.giccs.now in
+    let ranges = list_all is_range c.ranges.now in
+    let here : ℕ → Result (List ℕ) WriterError = λ n. table_written n SRAT 3 ids (srat_body c) in
+    through apics IdOfAll (holds giccs IdOfAll >>= λ _. holds ranges BadRange >>= λ _. here room) (holds giccs IdOfAll >>= λ _. holds ranges BadRange >>= λ _. here other) t
+    (through giccs IdOfAll (holds ranges BadRange >>= λ _. here room) (holds ranges BadRange >>= λ _. here other) t
+    (through ranges BadRange (here room) (here other) t (λ p. moved_table SRAT 3 ids (srat_body c) refl are room other t p fits))) e
+
 pub moved_contents : (ids : TableIds) (c : TableContents) → AreIds ids → Moves (λ room. contents_written room ids c)
 moved_contents ids (Madt c) are = moved_madt ids c are
 moved_contents ids (Mcfg regions) are = moved_table MCFG 1 ids (mcfg_body regions.now) refl are
@@ -111,6 +124,7 @@ moved_contents ids (Hpet info) are = moved_table HPET 1 ids (hpet_body info) ref
 moved_contents ids (Slit c) are = moved_slit ids c.localities c.distances.now are
 moved_contents ids (Ssdt c) are = moved_table SSDT c.revision ids c.bytes.now refl are
 moved_contents ids (Fadt c) are = moved_fadt ids c are
+moved_contents ids (Srat c) are = moved_srat ids c are
 
 -- ---- what a call wrote, and what it didn't
 

@@ -237,7 +237,7 @@ module _ (c : SratContents) where
 
 -- ---- the table
 
-srat_name : table.IsName SRAT
+pub srat_name : table.IsName SRAT
 unfolding is_utf8 chars lib.Utf8.encode
 srat_name = record { a = _; b = _; c = _; d = _; letters = refl; text = refl; same = refl }
 

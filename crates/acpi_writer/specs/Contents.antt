@@ -2,7 +2,7 @@
 use Rattle.std.specs.Prelude.{ℕ, ◌-◌, ◌^◌, ◌<◌, List, [], length, Result, Ok, Err}
 use Rattle.std.specs.List.{All}
 use Rattle.acpi_base.specs.declared.table.signature.Signature.{Signature}
-use Rattle.acpi_base.specs.declared.table.signature.TheConstants.Signature.{FADT, HPET, MADT, MCFG, SLIT, SSDT}
+use Rattle.acpi_base.specs.declared.table.signature.TheConstants.Signature.{FADT, HPET, MADT, MCFG, SLIT, SRAT, SSDT}
 use Rattle.acpi_writer.specs.FadtBytes.{fadt_written, fixed_of}
 use Rattle.acpi_writer.specs.FadtLaws.{AreFitFor}
 use Rattle.acpi_writer.specs.HpetBytes.{hpet_written}
@@ -13,9 +13,11 @@ use Rattle.acpi_writer.specs.MadtLaws.{AreFit}
 use Rattle.acpi_writer.specs.McfgBytes.{mcfg_written}
 use Rattle.acpi_writer.specs.McfgLaws.{FitsMcfg}
 use Rattle.acpi_writer.specs.Slit.{slit_written}
+use Rattle.acpi_writer.specs.Srat.{srat_written}
+use Rattle.acpi_writer.specs.SratLaws as srat
 use Rattle.acpi_writer.specs.Table.{table_written}
 use Rattle.acpi_writer.specs.declared.contents.TableContents.{TableContents}
-use Rattle.acpi_writer.specs.declared.contents.TableContents.TheVariants.{Fadt, Hpet, Madt, Mcfg, Slit, Ssdt}
+use Rattle.acpi_writer.specs.declared.contents.TableContents.TheVariants.{Fadt, Hpet, Madt, Mcfg, Slit, Srat, Ssdt}
 use Rattle.acpi_writer.specs.declared.error.WriterError.{WriterError}
 use Rattle.acpi_writer.specs.declared.ids.TableIds.{TableIds}
 
@@ -27,6 +29,7 @@ contents_written room ids (Hpet info) = hpet_written room ids info
 contents_written room ids (Slit c) = slit_written room ids c.localities c.distances.now
 contents_written room ids (Ssdt c) = table_written room SSDT c.revision ids c.bytes.now
 contents_written room ids (Fadt c) = fadt_written room ids c
+contents_written room ids (Srat c) = srat_written room ids c
 
 -- the numbers have a place
 abbrev pub FitsContents : TableContents → Type 0
@@ -36,6 +39,7 @@ FitsContents (Hpet info) = FitsHpet info
 FitsContents (Slit c) = c.localities < 2 ^ 64
 FitsContents (Ssdt c) = Unit {0}
 FitsContents (Fadt c) = AreFitFor c (fixed_of c.hardware)
+FitsContents (Srat c) = srat.AreFit c
 
 abbrev pub signature_of : TableContents → Signature
 signature_of (Madt c) = MADT
@@ -44,6 +48,7 @@ signature_of (Hpet info) = HPET
 signature_of (Slit c) = SLIT
 signature_of (Ssdt c) = SSDT
 signature_of (Fadt c) = FADT
+signature_of (Srat c) = SRAT
 
 -- how many bytes they are, or the error
 abbrev pub sized : Result (List ℕ) WriterError → Result ℕ WriterError

@@ -6,8 +6,9 @@
 --   * the XSDT's pointers are the addresses of the listed tables, in the order in which these were passed in;
 --   * of each signature the first of the listed tables is found, at its address, with its bytes;
 --   * a FADT is read as it was passed in, and if it has the DSDT's address, the DSDT's AML is found;
---   * so the platform with its interrupt model and its processors, the regions of the configuration space, the event timer block and the
---     distances are exactly those that were passed in; and the DSDT is valid at its address.
+--   * so the platform with its interrupt model and its processors, the regions of the configuration space, the event
+--     timer block, the domains and the distances are exactly those that were passed in; and the DSDT is valid at its
+--     address.
 use Rattle.std.specs.Prelude.{◌≡◌, ℕ, ◌+◌, ◌*◌, ◌<◌, ◌≤◌, ◌&&◌, true, List, [], ◌∷◌, length, drop, nat_le, slice_get, if◌then◌else◌}
 use Rattle.std.specs.Prelude.{Option, Some, None, Result, Ok, Err}
 use Rattle.std.specs.List.{AllByRecursion}
@@ -24,14 +25,15 @@ use Rattle.acpi.specs.declared.platform.PlatformInfo.{PlatformInfo}
 use Rattle.acpi.specs.declared.root.RootKind.TheVariants.{Xsdt}
 use Rattle.acpi_base.specs.Memory.{Memory, IsMemory, at}
 use Rattle.acpi_base.specs.Steps.{◌>>=◌}
-use Rattle.acpi_base.specs.Table.{plain_kind, sdt_kind, table_at}
+use Rattle.acpi_base.specs.Table.{Kind, plain_kind, sdt_kind, table_at}
 use Rattle.acpi_base.specs.Text.{letters_of}
 use Rattle.acpi_base.specs.declared.error.AcpiError.{AcpiError}
 use Rattle.acpi_base.specs.declared.error.AcpiError.TheVariants.{TableMissing}
 use Rattle.acpi_base.specs.declared.model.interrupt.InterruptModel.TheVariants.{Apic}
 use Rattle.acpi_base.specs.declared.table.signature.Signature.{Signature}
-use Rattle.acpi_base.specs.declared.table.signature.TheConstants.Signature.{DSDT, FADT, HPET, MADT, MCFG, SLIT}
+use Rattle.acpi_base.specs.declared.table.signature.TheConstants.Signature.{DSDT, FADT, HPET, MADT, MCFG, SLIT, SRAT}
 use Rattle.acpi_fixed.specs.Fadt.{fadt_at}
+use Rattle.acpi_numa.specs.Affinities.{srat_kind}
 use Rattle.acpi_numa.specs.Slit.{distance_of}
 use Rattle.acpi_writer.specs.Contents.{bytes_of, placed, signature_of}
 use Rattle.acpi_writer.specs.FadtLaws.{IsReadAs, timer_read}
@@ -40,10 +42,11 @@ use Rattle.acpi_writer.specs.Laid.{addresses, laid, padded}
 use Rattle.acpi_writer.specs.Machine.{FitsMachine, check_machine, dsdt_address, dsdt_of, is_place, machine_bytes, pointers_of, tables_address, tree_bytes, tree_size, xsdt_bytes}
 use Rattle.acpi_writer.specs.MadtLaws.{apic_read, model_read, processors_read}
 use Rattle.acpi_writer.specs.Rsdp.{rsdp_bytes}
+use Rattle.acpi_writer.specs.SratLaws.{SaysDomains}
 use Rattle.acpi_writer.specs.Table.{IsValid}
 use Rattle.acpi_writer.specs.declared.contents.AmlContents.{AmlContents}
 use Rattle.acpi_writer.specs.declared.contents.TableContents.{TableContents}
-use Rattle.acpi_writer.specs.declared.contents.TableContents.TheVariants.{Fadt, Hpet, Madt, Mcfg, Slit}
+use Rattle.acpi_writer.specs.declared.contents.TableContents.TheVariants.{Fadt, Hpet, Madt, Mcfg, Slit, Srat}
 use Rattle.acpi_writer.specs.declared.fadt.contents.FadtContents.{FadtContents}
 use Rattle.acpi_writer.specs.declared.ids.TableIds.{TableIds}
 use Rattle.acpi_writer.specs.declared.madt.MadtContents.{MadtContents}
@@ -106,9 +109,13 @@ pub record IsOpened (m : Memory) (rsdp a : ℕ) (x : Machine) : Type 0 where
       → c.dsdt ≡ dsdt_address a x
       → dsdt_stream m (pointers_of a x) ≡ Ok (stream_of (dsdt_address a x) (dsdt_of x))
 
+-- a table of a kind is found, and this holds of its bytes
+abbrev pub HasTable : Memory → List ℕ → Kind → (List ℕ → Type 0) → Type 0
+HasTable m ps k P = (found : ℕ × List ℕ) × (lookup m k ps ≡ Ok found) × P found.1
+
 -- a FADT is found, and what calls of the reader return of it is what was given
 abbrev pub HasFadt : Memory → List ℕ → FadtContents → Type 0
-HasFadt m ps c = (found : ℕ × List ℕ) × (lookup m fadt_kind ps ≡ Ok found) × IsReadAs c (fadt_at found.1)
+HasFadt m ps c = HasTable m ps fadt_kind (λ t. IsReadAs c (fadt_at t))
 
 -- the platform of a FADT and a MADT
 abbrev pub platform_read : {A : Type 0} → FadtContents → MadtContents → PlatformInfo A
@@ -133,6 +140,7 @@ pub record Says (A : Type 0) (m : Memory) (ps : List ℕ) (cs : List TableConten
       → from < c.localities → to < c.localities
       → (lookup m (sdt_kind SLIT 44) ps >>= λ found. Ok (distance_of found.1 from to))
       ≡ Ok (slice_get c.distances.now (from * c.localities + to))
+  pub domains : (c : _) → first_of SRAT cs ≡ Some (Srat c) → HasTable m ps srat_kind (SaysDomains c)
 
 -- the theorem, for an RSDP at an address of its own
 abbrev pub TreeIsRead : Type 0 → Type 0

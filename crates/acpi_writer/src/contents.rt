@@ -14,6 +14,7 @@ use crate::madt::{MadtContents, madt_size, write_madt};
 use crate::mcfg::{mcfg_size, write_mcfg};
 use crate::slit::{slit_size, write_slit};
 use crate::spelled::Bytes;
+use crate::srat::{SratContents, srat_size, write_srat};
 use crate::table::table_size;
 use acpi::HpetInfo;
 use acpi_base::Signature;
@@ -52,6 +53,8 @@ pub enum TableContents<'a> {
     Ssdt(AmlContents<'a>),
     /// `write_fadt`. `dsdt_address` is where the machine's DSDT lies.
     Fadt(FadtContents),
+    /// `write_srat`.
+    Srat(SratContents<'a>),
 }
 
 /// The least multiple of 16 that isn't below a number.
@@ -89,6 +92,7 @@ impl TableContents<'_> {
                 table_size(Signature::SSDT, aml.revision, ids, &Bytes(aml.bytes))
             }
             TableContents::Fadt(contents) => fadt_size(ids, contents),
+            TableContents::Srat(contents) => srat_size(ids, contents),
         }
     }
 
@@ -105,6 +109,7 @@ impl TableContents<'_> {
             TableContents::Slit(slit) => write_slit(out, ids, slit.localities, slit.distances),
             TableContents::Ssdt(aml) => write_ssdt(out, ids, aml.revision, aml.bytes),
             TableContents::Fadt(contents) => write_fadt(out, ids, contents),
+            TableContents::Srat(contents) => write_srat(out, ids, contents),
         }
     }
 

@@ -1,8 +1,9 @@
 //! The System Resource Affinity Table (SRAT, section 5.2.16), from the domains of processors and of ranges of memory.
-ghost use Rattle.std.specs.Prelude.{◌≡◌, length, take, IfOk};
+ghost use Rattle.std.specs.Prelude.{◌≡◌, ◌^◌, ◌<◌, length, take, IfOk};
 ghost use Rattle.std.specs.List.{list_all};
 ghost use Rattle.acpi_base.specs.Steps.{Gives};
 ghost use Rattle.acpi_base.specs.declared.table.signature.TheConstants.Signature.{SRAT};
+ghost use Rattle.acpi_writer.specs.Contents.{most, sized};
 ghost use Rattle.acpi_writer.specs.Srat as srat;
 ghost use Rattle.acpi_writer.specs.SratLaws as laws;
 ghost use Rattle.acpi_writer.specs.Table.{IsTableOf, Keeps, table_written};
@@ -11,7 +12,7 @@ use crate::error::WriterError;
 use crate::ids::TableIds;
 use crate::numbers::{bit_of, dword, qword};
 use crate::spelled::{Bytes, Each, Spelled, Then};
-use crate::table::write_table;
+use crate::table::{table_size, write_table};
 use acpi_base::Signature;
 use acpi_numa::MemoryRange;
 
@@ -160,6 +161,17 @@ fn ranges_fit(ranges: &[MemoryRange]) -> bool
     ranges.iter().all(|range| is_range(range))
 }
 
+/// All after the header of a SRAT.
+macro_rules! body_of {
+    ($contents:expr) => {{
+        let others = Then(Each($contents.giccs), Each($contents.ranges));
+        let entries = Then(Each($contents.apics), others);
+        // Reserved, of which the first is 1.
+        let reserved = Bytes(&[1, 0, 0, 0, 0, 0, 0, 0, 0, 0, 0, 0]);
+        Then(reserved, entries)
+    }};
+}
+
 /// Writes a SRAT whose contents may be written.
 ///
 /// Returns, in this order, `BadName`, `NoRoom` and `TooLong`.
@@ -175,11 +187,36 @@ fn write_contents(
         IsTableOf SRAT 3 ids.now (srat.srat_body contents.now) (take n out.new)) }
     ensures fits { IfOk result (λ n. laws.AreFit contents.now) }
 {
-    let others = Then(Each(contents.giccs), Each(contents.ranges));
-    let entries = Then(Each(contents.apics), others);
-    // Reserved, of which the first is 1.
-    let reserved = Bytes(&[1, 0, 0, 0, 0, 0, 0, 0, 0, 0, 0, 0]);
-    write_table(out, Signature::SRAT, 3, ids, &Then(reserved, entries))
+    let body = body_of!(contents);
+    write_table(out, Signature::SRAT, 3, ids, &body)
+}
+
+/// How many bytes the SRAT of contents that may be written has, or the first error.
+fn contents_size(ids: &TableIds, contents: &SratContents<'_>) -> Result<usize, WriterError>
+    ensures exact { result ≡ sized (table_written most SRAT 3 ids.now (srat.srat_body contents.now)) }
+    ensures short { IfOk result (λ n. n < 2 ^ 32) }
+    ensures fits { IfOk result (λ n. laws.AreFit contents.now) }
+{
+    let body = body_of!(contents);
+    table_size(Signature::SRAT, 3, ids, &body)
+}
+
+/// How many bytes the SRAT has, or the first error of `write_srat` in a slice of any length.
+pub(crate) fn srat_size(ids: &TableIds, contents: &SratContents<'_>) -> Result<usize, WriterError>
+    ensures exact { result ≡ sized (srat.srat_written most ids.now contents.now) }
+    ensures short { IfOk result (λ n. n < 2 ^ 32) }
+    ensures fits { IfOk result (λ n. laws.AreFit contents.now) }
+{
+    if !apics_fit(contents.apics) {
+        return Err(WriterError::IdOfAll);
+    }
+    if !giccs_fit(contents.giccs) {
+        return Err(WriterError::IdOfAll);
+    }
+    if !ranges_fit(contents.ranges) {
+        return Err(WriterError::BadRange);
+    }
+    contents_size(ids, contents)
 }
 
 /// Writes a SRAT of revision 3 to the front of a slice, and returns how many bytes it has: 48, and those of its entries,
