@@ -1,9 +1,9 @@
 -- The tables that an XSDT lists, as they are written, and the first of a signature.
 use Rattle.std.proofs.Common.{◌≡◌, ℕ, ◌+◌, ◌*◌, ◌^◌, ◌<◌, ◌≤◌, Bool, true, false, List, [], ◌∷◌, length, map, Option, Some, None, Ok, refl, sym, ap, subst, if◌then◌else◌}
-use Rattle.std.specs.Prelude.{◌&&◌, ◌==◌, not}
+use Rattle.std.specs.Prelude.{◌&&◌, ◌==◌, IsUtf8, nat_lt, not}
 use Rattle.std.specs.List.{AllByRecursion, list_all}
 use Rattle.std.specs.Str.{bytes_eq, is_utf8}
-use Rattle.std.proofs.lemmas.Bool.{and_parts, eqb-true, le-leb}
+use Rattle.std.proofs.lemmas.Bool.{and_parts, eqb-true, le-leb, ltb-true}
 use Rattle.std.proofs.lemmas.Slice.Eq.{bytes_eq-Decides}
 use Rattle.acpi_base.proofs.Steps.{bind_ok, holds_ok}
 use Rattle.acpi_base.specs.Bytes.{part}
@@ -11,7 +11,7 @@ use Rattle.acpi_base.specs.Header.{check_names, check_table, header_at}
 use Rattle.acpi_base.specs.Steps.{◌>>=◌, holds}
 use Rattle.acpi_base.specs.Text.{letters_of}
 use Rattle.acpi_base.specs.declared.table.signature.Signature.{Signature}
-use Rattle.acpi_base.specs.declared.table.signature.TheConstants.Signature.{FADT, HPET, MADT, MCFG, SLIT, SRAT, SSDT}
+use Rattle.acpi_base.specs.declared.table.signature.TheConstants.Signature.{FADT, HPET, MADT, MCFG, SLIT, SPCR, SRAT, SSDT}
 use Rattle.acpi_writer.specs.Contents.{FitsContents, bytes_of, contents_written, most, or_none, placed, signature_of}
 use Rattle.acpi_writer.specs.FadtBytes.{are_placed, are_registers, fadt_body, fadt_written, fixed_of, is_profile}
 use Rattle.acpi_writer.specs.FadtLaws.{AreFitFor, IsFadt}
@@ -25,15 +25,18 @@ use Rattle.acpi_writer.specs.MadtLaws.{AreFit, IsMadt}
 use Rattle.acpi_writer.specs.McfgBytes.{mcfg_body}
 use Rattle.acpi_writer.specs.McfgLaws.{IsMcfg}
 use Rattle.acpi_writer.specs.Slit.{IsSlit, slit_body, slit_written}
+use Rattle.acpi_writer.specs.Spcr.{is_base, is_interface, is_somewhere, spcr_body, spcr_written}
+use Rattle.acpi_writer.specs.SpcrLaws.{FitsSpcr, IsSpcr}
 use Rattle.acpi_writer.specs.Srat.{is_one_apic, is_one_gicc, is_range, srat_body, srat_written}
 use Rattle.acpi_writer.specs.SratLaws as srat
 use Rattle.acpi_writer.specs.Table.{AreIds, IsTableOf, IsValid, table_written}
 use Rattle.acpi_writer.specs.declared.contents.TableContents.{TableContents}
-use Rattle.acpi_writer.specs.declared.contents.TableContents.TheVariants.{Fadt, Hpet, Madt, Mcfg, Slit, Srat, Ssdt}
-use Rattle.acpi_writer.specs.declared.error.WriterError.TheVariants.{BadMatrix, BadProfile, BadRange, BadRegister, IdOfAll, NoAddress, NoProcessor, UidOfAll}
+use Rattle.acpi_writer.specs.declared.contents.TableContents.TheVariants.{Fadt, Hpet, Madt, Mcfg, Slit, Spcr, Srat, Ssdt}
+use Rattle.acpi_writer.specs.declared.error.WriterError.TheVariants.{BadCode, BadMatrix, BadProfile, BadRange, BadRegister, IdOfAll, LongName, NoAddress, NoProcessor, UidOfAll}
 use Rattle.acpi_writer.specs.declared.fadt.contents.FadtContents.{FadtContents}
 use Rattle.acpi_writer.specs.declared.ids.TableIds.{TableIds}
 use Rattle.acpi_writer.specs.declared.madt.MadtContents.{MadtContents}
+use Rattle.acpi_writer.specs.declared.spcr.SpcrContents.{SpcrContents}
 use Rattle.acpi_writer.specs.declared.srat.SratContents.{SratContents}
 use Rattle.acpi_writer.proofs.FadtRead.{fadt_valid}
 use Rattle.acpi_writer.proofs.HpetRead.{hpet_valid}
@@ -43,6 +46,7 @@ use Rattle.acpi_writer.proofs.McfgRead.{mcfg_valid}
 use Rattle.acpi_writer.proofs.Plain.{ssdt_read}
 use Rattle.acpi_writer.proofs.Room.{wrote}
 use Rattle.acpi_writer.proofs.SlitRead.{slit_valid}
+use Rattle.acpi_writer.proofs.SpcrRead.{spcr_valid}
 use Rattle.acpi_writer.proofs.SratRead.{srat_valid}
 
 pub not_true : (b : Bool) → not b ≡ true → b ≡ false
@@ -68,6 +72,7 @@ IsContents ids (Slit c) t = IsSlit ids c.localities c.distances.now t
 IsContents ids (Ssdt c) t = IsTableOf SSDT c.revision ids c.bytes.now t
 IsContents ids (Fadt c) t = IsFadt ids c t
 IsContents ids (Srat c) t = srat.IsSrat ids c t
+IsContents ids (Spcr c) t = IsSpcr ids c t
 
 pub table_of : (s : Signature) (revision : ℕ) (ids : TableIds) (body t : List ℕ) → AreIds ids → table_written most s revision ids body ≡ Ok t → IsTableOf s revision ids body t
 table_of s revision ids body t are e =
@@ -111,6 +116,26 @@ srat_of ids c t are fit e =
     let three = holds_ok ranges BadRange (λ _. here) t two.1 in
     record { written = table_of SRAT 3 ids (srat_body c) t are three.1; fit = fit; ranges = three.0 }
 
+spcr_of : (ids : TableIds) (c : SpcrContents) (t : List ℕ) → AreIds ids → FitsSpcr c → IsUtf8 c.namespace_string.now → spcr_written most ids c ≡ Ok t → IsSpcr ids c t
+unfolding spcr_written
+spcr_of ids c t are fit text e =
+    let somewhere = is_somewhere c.base_address in
+    let short = nat_lt (length c.namespace_string.now) 0xffff in
+    let here = table_written most SPCR 4 ids (spcr_body c) in
+    let one = holds_ok (is_interface c.interface_type && is_base c.base_address) BadCode (λ _. holds somewhere NoAddress >>= λ _. holds short LongName >>= λ _. here) t e in
+    let two = holds_ok somewhere NoAddress (λ _. holds short LongName >>= λ _. here) t one.1 in
+    let three = holds_ok short LongName (λ _. here) t two.1 in
+    let codes = and_parts (is_interface c.interface_type) (is_base c.base_address) one.0 in
+    record {
+      written = table_of SPCR 4 ids (spcr_body c) t are three.1;
+      fit = fit;
+      interface = codes.0;
+      base = codes.1;
+      somewhere = two.0;
+      short = ltb-true (length c.namespace_string.now) 0xffff three.0;
+      text = text;
+    }
+
 contents_of : (ids : TableIds) (c : TableContents) (t : List ℕ) → AreIds ids → FitsContents c → contents_written most ids c ≡ Ok t → IsContents ids c t
 contents_of ids (Madt c) t are fit e = madt_of ids c t are fit e
 contents_of ids (Mcfg regions) t are fit e = record { written = table_of MCFG 1 ids (mcfg_body regions.now) t are e; fit = fit }
@@ -119,6 +144,7 @@ contents_of ids (Slit c) t are fit e = slit_of ids c.localities c.distances.now 
 contents_of ids (Ssdt c) t are fit e = table_of SSDT c.revision ids c.bytes.now t are e
 contents_of ids (Fadt c) t are fit e = fadt_of ids c t are fit e
 contents_of ids (Srat c) t are fit e = srat_of ids c t are fit e
+contents_of ids (Spcr c) t are fit e = spcr_of ids c t are fit.0 fit.1 e
 
 valid_of : (ids : TableIds) (c : TableContents) (t : List ℕ) → IsContents ids c t → IsValid (signature_of c) t
 valid_of ids (Madt c) t is = madt_valid ids c t is
@@ -128,6 +154,7 @@ valid_of ids (Slit c) t is = slit_valid ids c.localities c.distances.now t is
 valid_of ids (Ssdt c) t is = (ssdt_read c.revision ids c.bytes.now t is).valid
 valid_of ids (Fadt c) t is = fadt_valid ids c t is
 valid_of ids (Srat c) t is = srat_valid ids c t is
+valid_of ids (Spcr c) t is = spcr_valid ids c t is
 
 -- ---- all of them
 

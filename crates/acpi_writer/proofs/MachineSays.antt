@@ -9,7 +9,7 @@ use Rattle.acpi_base.specs.Steps.{◌>>=◌}
 use Rattle.acpi_base.specs.Table.{sdt_kind}
 use Rattle.acpi_base.specs.declared.error.AcpiError.{AcpiError}
 use Rattle.acpi_base.specs.declared.table.signature.Signature.{Signature}
-use Rattle.acpi_base.specs.declared.table.signature.TheConstants.Signature.{FADT, HPET, MADT, MCFG, SLIT, SRAT}
+use Rattle.acpi_base.specs.declared.table.signature.TheConstants.Signature.{FADT, HPET, MADT, MCFG, SLIT, SPCR, SRAT}
 use Rattle.acpi.specs.Hpet.{hpet_of}
 use Rattle.acpi.specs.Lookup.{lookup}
 use Rattle.acpi.specs.Pci.{found_regions}
@@ -28,14 +28,17 @@ use Rattle.acpi_writer.specs.MadtLaws.{IsMadt, model_read}
 use Rattle.acpi_writer.specs.McfgBytes.{mcfg_body}
 use Rattle.acpi_writer.specs.McfgLaws.{IsMcfg}
 use Rattle.acpi_writer.specs.Slit.{IsSlit, slit_body}
+use Rattle.acpi_writer.specs.Spcr.{spcr_body}
+use Rattle.acpi_writer.specs.SpcrLaws.{IsSpcr, SaysConsole}
 use Rattle.acpi_writer.specs.Srat.{srat_body, srat_entries, srat_reserved}
 use Rattle.acpi_writer.specs.SratLaws.{IsSrat, SaysDomains}
 use Rattle.acpi_writer.specs.declared.contents.SlitContents.{SlitContents}
 use Rattle.acpi_writer.specs.declared.contents.TableContents.{TableContents}
-use Rattle.acpi_writer.specs.declared.contents.TableContents.TheVariants.{Fadt, Hpet, Madt, Mcfg, Slit, Srat}
+use Rattle.acpi_writer.specs.declared.contents.TableContents.TheVariants.{Fadt, Hpet, Madt, Mcfg, Slit, Spcr, Srat}
 use Rattle.acpi_writer.specs.declared.fadt.contents.FadtContents.{FadtContents}
 use Rattle.acpi_writer.specs.declared.ids.TableIds.{TableIds}
 use Rattle.acpi_writer.specs.declared.madt.MadtContents.{MadtContents}
+use Rattle.acpi_writer.specs.declared.spcr.SpcrContents.{SpcrContents}
 use Rattle.acpi_writer.specs.declared.srat.SratContents.{SratContents}
 use Rattle.acpi_writer.proofs.ContentsRead.{IsContents, first_is}
 use Rattle.acpi_writer.proofs.FadtParts.{body_long}
@@ -45,6 +48,7 @@ use Rattle.acpi_writer.proofs.Images.{hpet_long, platform_has}
 use Rattle.acpi_writer.proofs.MadtRead.{fixed_long, madt_name, madt_read}
 use Rattle.acpi_writer.proofs.McfgRead.{mcfg_name, mcfg_read}
 use Rattle.acpi_writer.proofs.SlitRead.{slit_name, slit_read}
+use Rattle.acpi_writer.proofs.SpcrRead as spcr
 use Rattle.acpi_writer.proofs.SratRead.{srat_name, srat_read}
 use Rattle.acpi_writer.proofs.Tables as table
 
@@ -109,6 +113,13 @@ module _
       let long = table.long SRAT srat_name 3 ids (srat_body c) t this.written in
       ((place SRAT, t), found SRAT (Srat c) 48 is_first (lit≤ tt) (omega (arith, long, length-append srat_reserved (srat_entries c))), srat_read ids c t this)
 
+  console : (c : SpcrContents) → first_of SPCR cs ≡ Some (Spcr c) → HasTable m ps (sdt_kind SPCR 80) (SaysConsole c)
+  console c is_first =
+      let t = bytes_of ids (Spcr c) in
+      let this : IsSpcr ids c t = written SPCR (Spcr c) is_first in
+      let long = table.long SPCR spcr.spcr_name 4 ids (spcr_body c) t this.written in
+      ((place SPCR, t), found SPCR (Spcr c) 80 is_first (lit≤ tt) (omega (arith, long, spcr.body_long c)), spcr.spcr_read ids c t this)
+
   pub says : {A : Type 0} → Says A m ps cs
   says {A = A} = record {
     model = λ c is_first. model {A = A} c is_first;
@@ -119,4 +130,5 @@ module _
     hpet = hpet;
     distances = distances;
     domains = domains;
+    console = console;
   }

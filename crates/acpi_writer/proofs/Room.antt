@@ -1,13 +1,13 @@
 -- That the room for a table changes only whether it fits.
 use Rattle.std.proofs.Common.{◌≡◌, ℕ, ◌+◌, ◌-◌, ◌^◌, ◌<◌, ◌≤◌, Bool, true, false, List, [], length, Result, Ok, Err, refl, sym, ap, ◌∙◌, arith, length-append}
-use Rattle.std.specs.Prelude.{◌*◌, ◌==◌, nat_le, nat_lt, not, replicate}
+use Rattle.std.specs.Prelude.{◌*◌, ◌==◌, ◌&&◌, nat_le, nat_lt, not, replicate}
 use Rattle.std.specs.List.{list_all}
 use Rattle.std.proofs.lemmas.Bool.{leb-true, ltb-true}
 use Rattle.acpi_base.proofs.Steps.{holds_ok, same_ok}
 use Rattle.acpi_base.specs.Steps.{◌>>=◌, holds}
 use Rattle.acpi_base.specs.Text.{letters_of}
 use Rattle.acpi_base.specs.declared.table.signature.Signature.{Signature}
-use Rattle.acpi_base.specs.declared.table.signature.TheConstants.Signature.{FADT, HPET, MADT, MCFG, SLIT, SRAT, SSDT}
+use Rattle.acpi_base.specs.declared.table.signature.TheConstants.Signature.{FADT, HPET, MADT, MCFG, SLIT, SPCR, SRAT, SSDT}
 use Rattle.acpi_image.proofs.Written.{length-with_sum}
 use Rattle.acpi_writer.specs.Contents.{contents_written, most, or_none, placed}
 use Rattle.acpi_writer.specs.FadtBytes.{are_placed, are_registers, fadt_body, fadt_written, is_profile}
@@ -16,15 +16,17 @@ use Rattle.acpi_writer.specs.Laid.{gap, padded}
 use Rattle.acpi_writer.specs.MadtBytes.{is_empty, is_single, madt_body, madt_written, names_one}
 use Rattle.acpi_writer.specs.McfgBytes.{mcfg_body}
 use Rattle.acpi_writer.specs.Slit.{slit_body, slit_written}
+use Rattle.acpi_writer.specs.Spcr.{is_base, is_interface, is_somewhere, spcr_body, spcr_written}
 use Rattle.acpi_writer.specs.Srat.{is_one_apic, is_one_gicc, is_range, srat_body, srat_written}
 use Rattle.acpi_writer.specs.Table.{AreIds, are_texts, table_bytes, table_head, table_written, unsummed}
 use Rattle.acpi_writer.specs.declared.contents.TableContents.{TableContents}
-use Rattle.acpi_writer.specs.declared.contents.TableContents.TheVariants.{Fadt, Hpet, Madt, Mcfg, Slit, Srat, Ssdt}
+use Rattle.acpi_writer.specs.declared.contents.TableContents.TheVariants.{Fadt, Hpet, Madt, Mcfg, Slit, Spcr, Srat, Ssdt}
 use Rattle.acpi_writer.specs.declared.error.WriterError.{WriterError}
-use Rattle.acpi_writer.specs.declared.error.WriterError.TheVariants.{BadMatrix, BadProfile, BadRange, BadRegister, IdOfAll, NoAddress, NoProcessor, UidOfAll}
+use Rattle.acpi_writer.specs.declared.error.WriterError.TheVariants.{BadCode, BadMatrix, BadProfile, BadRange, BadRegister, IdOfAll, LongName, NoAddress, NoProcessor, UidOfAll}
 use Rattle.acpi_writer.specs.declared.fadt.contents.FadtContents.{FadtContents}
 use Rattle.acpi_writer.specs.declared.madt.MadtContents.{MadtContents}
 use Rattle.acpi_writer.specs.declared.ids.TableIds.{TableIds}
+use Rattle.acpi_writer.specs.declared.spcr.SpcrContents.{SpcrContents}
 use Rattle.acpi_writer.specs.declared.srat.SratContents.{SratContents}
 use Rattle.acpi_writer.proofs.Tables.{head_length, it_fits}
 
@@ -117,6 +119,17 @@ moved_srat ids c are room other t e fits =
     (through giccs IdOfAll (holds ranges BadRange >>= λ _. here room) (holds ranges BadRange >>= λ _. here other) t
     (through ranges BadRange (here room) (here other) t (λ p. moved_table SRAT 3 ids (srat_body c) refl are room other t p fits))) e
 
+moved_spcr : (ids : TableIds) (c : SpcrContents) → AreIds ids → Moves (λ room. spcr_written room ids c)
+unfolding spcr_written
+moved_spcr ids c are room other t e fits =
+    let codes = is_interface c.interface_type && is_base c.base_address in
+    let somewhere = is_somewhere c.base_address in
+    let short = nat_lt (length c.namespace_string.now) 0xffff in
+    let here : ℕ → Result (List ℕ) WriterError = λ n. table_written n SPCR 4 ids (spcr_body c) in
+    through codes BadCode (holds somewhere NoAddress >>= λ _. holds short LongName >>= λ _. here room) (holds somewhere NoAddress >>= λ _. holds short LongName >>= λ _. here other) t
+    (through somewhere NoAddress (holds short LongName >>= λ _. here room) (holds short LongName >>= λ _. here other) t
+    (through short LongName (here room) (here other) t (λ p. moved_table SPCR 4 ids (spcr_body c) refl are room other t p fits))) e
+
 pub moved_contents : (ids : TableIds) (c : TableContents) → AreIds ids → Moves (λ room. contents_written room ids c)
 moved_contents ids (Madt c) are = moved_madt ids c are
 moved_contents ids (Mcfg regions) are = moved_table MCFG 1 ids (mcfg_body regions.now) refl are
@@ -125,6 +138,7 @@ moved_contents ids (Slit c) are = moved_slit ids c.localities c.distances.now ar
 moved_contents ids (Ssdt c) are = moved_table SSDT c.revision ids c.bytes.now refl are
 moved_contents ids (Fadt c) are = moved_fadt ids c are
 moved_contents ids (Srat c) are = moved_srat ids c are
+moved_contents ids (Spcr c) are = moved_spcr ids c are
 
 -- ---- what a call wrote, and what it didn't
 

@@ -104,7 +104,7 @@ filled a = refl
 
 -- ---- the table
 
-spcr_name : table.IsName SPCR
+pub spcr_name : table.IsName SPCR
 unfolding is_utf8 chars lib.Utf8.encode
 spcr_name = record { a = _; b = _; c = _; d = _; letters = refl; text = refl; same = refl }
 
@@ -174,7 +174,7 @@ module _ (c : SpcrContents) where
     unfolding port_fields console_fields address_bytes spelling field_of
     offset_in = refl
 
-  body_long : length (spcr_body c) ≡ 53 + length c.namespace_string.now
+  pub body_long : length (spcr_body c) ≡ 53 + length c.namespace_string.now
   unfolding port_fields console_fields address_bytes spelling
   body_long = omega (arith, length-append c.namespace_string.now (0 ∷ []))
 

@@ -1,8 +1,8 @@
 -- The bytes of a table that an XSDT can list, by what it is to say.
-use Rattle.std.specs.Prelude.{ℕ, ◌-◌, ◌^◌, ◌<◌, List, [], length, Result, Ok, Err}
+use Rattle.std.specs.Prelude.{ℕ, ◌-◌, ◌^◌, ◌<◌, List, [], length, IsUtf8, Result, Ok, Err}
 use Rattle.std.specs.List.{All}
 use Rattle.acpi_base.specs.declared.table.signature.Signature.{Signature}
-use Rattle.acpi_base.specs.declared.table.signature.TheConstants.Signature.{FADT, HPET, MADT, MCFG, SLIT, SRAT, SSDT}
+use Rattle.acpi_base.specs.declared.table.signature.TheConstants.Signature.{FADT, HPET, MADT, MCFG, SLIT, SPCR, SRAT, SSDT}
 use Rattle.acpi_writer.specs.FadtBytes.{fadt_written, fixed_of}
 use Rattle.acpi_writer.specs.FadtLaws.{AreFitFor}
 use Rattle.acpi_writer.specs.HpetBytes.{hpet_written}
@@ -13,11 +13,13 @@ use Rattle.acpi_writer.specs.MadtLaws.{AreFit}
 use Rattle.acpi_writer.specs.McfgBytes.{mcfg_written}
 use Rattle.acpi_writer.specs.McfgLaws.{FitsMcfg}
 use Rattle.acpi_writer.specs.Slit.{slit_written}
+use Rattle.acpi_writer.specs.Spcr.{spcr_written}
+use Rattle.acpi_writer.specs.SpcrLaws.{FitsSpcr}
 use Rattle.acpi_writer.specs.Srat.{srat_written}
 use Rattle.acpi_writer.specs.SratLaws as srat
 use Rattle.acpi_writer.specs.Table.{table_written}
 use Rattle.acpi_writer.specs.declared.contents.TableContents.{TableContents}
-use Rattle.acpi_writer.specs.declared.contents.TableContents.TheVariants.{Fadt, Hpet, Madt, Mcfg, Slit, Srat, Ssdt}
+use Rattle.acpi_writer.specs.declared.contents.TableContents.TheVariants.{Fadt, Hpet, Madt, Mcfg, Slit, Spcr, Srat, Ssdt}
 use Rattle.acpi_writer.specs.declared.error.WriterError.{WriterError}
 use Rattle.acpi_writer.specs.declared.ids.TableIds.{TableIds}
 
@@ -30,6 +32,7 @@ contents_written room ids (Slit c) = slit_written room ids c.localities c.distan
 contents_written room ids (Ssdt c) = table_written room SSDT c.revision ids c.bytes.now
 contents_written room ids (Fadt c) = fadt_written room ids c
 contents_written room ids (Srat c) = srat_written room ids c
+contents_written room ids (Spcr c) = spcr_written room ids c
 
 -- the numbers have a place
 abbrev pub FitsContents : TableContents → Type 0
@@ -40,6 +43,7 @@ FitsContents (Slit c) = c.localities < 2 ^ 64
 FitsContents (Ssdt c) = Unit {0}
 FitsContents (Fadt c) = AreFitFor c (fixed_of c.hardware)
 FitsContents (Srat c) = srat.AreFit c
+FitsContents (Spcr c) = FitsSpcr c × IsUtf8 c.namespace_string.now
 
 abbrev pub signature_of : TableContents → Signature
 signature_of (Madt c) = MADT
@@ -49,6 +53,7 @@ signature_of (Slit c) = SLIT
 signature_of (Ssdt c) = SSDT
 signature_of (Fadt c) = FADT
 signature_of (Srat c) = SRAT
+signature_of (Spcr c) = SPCR
 
 -- how many bytes they are, or the error
 abbrev pub sized : Result (List ℕ) WriterError → Result ℕ WriterError

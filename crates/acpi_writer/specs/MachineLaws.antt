@@ -7,8 +7,8 @@
 --   * of each signature the first of the listed tables is found, at its address, with its bytes;
 --   * a FADT is read as it was passed in, and if it has the DSDT's address, the DSDT's AML is found;
 --   * so the platform with its interrupt model and its processors, the regions of the configuration space, the event
---     timer block, the domains and the distances are exactly those that were passed in; and the DSDT is valid at its
---     address.
+--     timer block, the domains, the distances and the console's serial port are exactly those that were passed in; and
+--     the DSDT is valid at its address.
 use Rattle.std.specs.Prelude.{◌≡◌, ℕ, ◌+◌, ◌*◌, ◌<◌, ◌≤◌, ◌&&◌, true, List, [], ◌∷◌, length, drop, nat_le, slice_get, if◌then◌else◌}
 use Rattle.std.specs.Prelude.{Option, Some, None, Result, Ok, Err}
 use Rattle.std.specs.List.{AllByRecursion}
@@ -31,7 +31,7 @@ use Rattle.acpi_base.specs.declared.error.AcpiError.{AcpiError}
 use Rattle.acpi_base.specs.declared.error.AcpiError.TheVariants.{TableMissing}
 use Rattle.acpi_base.specs.declared.model.interrupt.InterruptModel.TheVariants.{Apic}
 use Rattle.acpi_base.specs.declared.table.signature.Signature.{Signature}
-use Rattle.acpi_base.specs.declared.table.signature.TheConstants.Signature.{DSDT, FADT, HPET, MADT, MCFG, SLIT, SRAT}
+use Rattle.acpi_base.specs.declared.table.signature.TheConstants.Signature.{DSDT, FADT, HPET, MADT, MCFG, SLIT, SPCR, SRAT}
 use Rattle.acpi_fixed.specs.Fadt.{fadt_at}
 use Rattle.acpi_numa.specs.Affinities.{srat_kind}
 use Rattle.acpi_numa.specs.Slit.{distance_of}
@@ -42,11 +42,12 @@ use Rattle.acpi_writer.specs.Laid.{addresses, laid, padded}
 use Rattle.acpi_writer.specs.Machine.{FitsMachine, check_machine, dsdt_address, dsdt_of, is_place, machine_bytes, pointers_of, tables_address, tree_bytes, tree_size, xsdt_bytes}
 use Rattle.acpi_writer.specs.MadtLaws.{apic_read, model_read, processors_read}
 use Rattle.acpi_writer.specs.Rsdp.{rsdp_bytes}
+use Rattle.acpi_writer.specs.SpcrLaws.{SaysConsole}
 use Rattle.acpi_writer.specs.SratLaws.{SaysDomains}
 use Rattle.acpi_writer.specs.Table.{IsValid}
 use Rattle.acpi_writer.specs.declared.contents.AmlContents.{AmlContents}
 use Rattle.acpi_writer.specs.declared.contents.TableContents.{TableContents}
-use Rattle.acpi_writer.specs.declared.contents.TableContents.TheVariants.{Fadt, Hpet, Madt, Mcfg, Slit, Srat}
+use Rattle.acpi_writer.specs.declared.contents.TableContents.TheVariants.{Fadt, Hpet, Madt, Mcfg, Slit, Spcr, Srat}
 use Rattle.acpi_writer.specs.declared.fadt.contents.FadtContents.{FadtContents}
 use Rattle.acpi_writer.specs.declared.ids.TableIds.{TableIds}
 use Rattle.acpi_writer.specs.declared.madt.MadtContents.{MadtContents}
@@ -141,6 +142,7 @@ pub record Says (A : Type 0) (m : Memory) (ps : List ℕ) (cs : List TableConten
       → (lookup m (sdt_kind SLIT 44) ps >>= λ found. Ok (distance_of found.1 from to))
       ≡ Ok (slice_get c.distances.now (from * c.localities + to))
   pub domains : (c : _) → first_of SRAT cs ≡ Some (Srat c) → HasTable m ps srat_kind (SaysDomains c)
+  pub console : (c : _) → first_of SPCR cs ≡ Some (Spcr c) → HasTable m ps (sdt_kind SPCR 80) (SaysConsole c)
 
 -- the theorem, for an RSDP at an address of its own
 abbrev pub TreeIsRead : Type 0 → Type 0

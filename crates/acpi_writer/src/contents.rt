@@ -13,6 +13,7 @@ use crate::ids::TableIds;
 use crate::madt::{MadtContents, madt_size, write_madt};
 use crate::mcfg::{mcfg_size, write_mcfg};
 use crate::slit::{slit_size, write_slit};
+use crate::spcr::{SpcrContents, spcr_size, write_spcr};
 use crate::spelled::Bytes;
 use crate::srat::{SratContents, srat_size, write_srat};
 use crate::table::table_size;
@@ -55,6 +56,8 @@ pub enum TableContents<'a> {
     Fadt(FadtContents),
     /// `write_srat`.
     Srat(SratContents<'a>),
+    /// `write_spcr`.
+    Spcr(SpcrContents<'a>),
 }
 
 /// The least multiple of 16 that isn't below a number.
@@ -93,6 +96,7 @@ impl TableContents<'_> {
             }
             TableContents::Fadt(contents) => fadt_size(ids, contents),
             TableContents::Srat(contents) => srat_size(ids, contents),
+            TableContents::Spcr(contents) => spcr_size(ids, contents),
         }
     }
 
@@ -110,6 +114,7 @@ impl TableContents<'_> {
             TableContents::Ssdt(aml) => write_ssdt(out, ids, aml.revision, aml.bytes),
             TableContents::Fadt(contents) => write_fadt(out, ids, contents),
             TableContents::Srat(contents) => write_srat(out, ids, contents),
+            TableContents::Spcr(contents) => write_spcr(out, ids, contents),
         }
     }
 

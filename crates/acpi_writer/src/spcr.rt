@@ -1,8 +1,9 @@
 //! The Serial Port Console Redirection Table (SPCR, section 5.2.6), from what it says of a serial port. Its layout is
 //! Microsoft's.
-ghost use Rattle.std.specs.Prelude.{◌≡◌, ◌<◌, ◌&&◌, length, take, IfOk, IsUtf8};
+ghost use Rattle.std.specs.Prelude.{◌≡◌, ◌^◌, ◌<◌, ◌&&◌, length, take, IfOk, IsUtf8};
 ghost use Rattle.acpi_base.specs.Steps.{Gives};
 ghost use Rattle.acpi_base.specs.declared.table.signature.TheConstants.Signature.{SPCR};
+ghost use Rattle.acpi_writer.specs.Contents.{most, sized};
 ghost use Rattle.acpi_writer.specs.Spcr as spcr;
 ghost use Rattle.acpi_writer.specs.SpcrLaws as laws;
 ghost use Rattle.acpi_writer.specs.Table.{IsTableOf, Keeps, table_written};
@@ -13,7 +14,7 @@ use crate::error::WriterError;
 use crate::generic::is_named_space;
 use crate::ids::TableIds;
 use crate::spelled::{Bytes, Then};
-use crate::table::write_table;
+use crate::table::{table_size, write_table};
 use acpi_base::Signature;
 use acpi_base::address::GenericAddress;
 use acpi_base::spcr::{SpcrFlowControl, SpcrInterfaceType, SpcrInterruptType, SpcrTerminalType};
@@ -111,6 +112,22 @@ fn is_somewhere(address: Option<GenericAddress>) -> bool
     }
 }
 
+/// All after the header of an SPCR.
+macro_rules! body_of {
+    ($contents:expr) => {{
+        let name = $contents.namespace_string.as_bytes();
+        let console = Console {
+            device: device_of($contents.pci_device),
+            uart_clock_frequency: $contents.uart_clock_frequency,
+            baud_rate: $contents.baud_rate,
+            name_length: name.len() as u16 + 1,
+        };
+        // A zero ends the name.
+        let text = Then(Bytes(name), Bytes(&[0]));
+        Then(Port(*$contents), Then(console, text))
+    }};
+}
+
 /// Writes an SPCR whose contents may be written.
 ///
 /// Returns, in this order, `BadName`, `NoRoom` and `TooLong`.
@@ -128,17 +145,38 @@ fn write_contents(
     ensures fits { IfOk result (λ n. laws.FitsSpcr contents.now) }
     ensures text { IsUtf8 contents.now.namespace_string.now }
 {
-    let name = contents.namespace_string.as_bytes();
-    let console = Console {
-        device: device_of(contents.pci_device),
-        uart_clock_frequency: contents.uart_clock_frequency,
-        baud_rate: contents.baud_rate,
-        name_length: name.len() as u16 + 1,
-    };
-    // A zero ends the name.
-    let text = Then(Bytes(name), Bytes(&[0]));
-    let body = Then(Port(*contents), Then(console, text));
+    let body = body_of!(contents);
     write_table(out, Signature::SPCR, 4, ids, &body)
+}
+
+/// How many bytes the SPCR of contents that may be written has, or the first error.
+fn contents_size(ids: &TableIds, contents: &SpcrContents<'_>) -> Result<usize, WriterError>
+    requires { length contents.now.namespace_string.now < 0xffff }
+    ensures exact { result ≡ sized (table_written most SPCR 4 ids.now (spcr.spcr_body contents.now)) }
+    ensures short { IfOk result (λ n. n < 2 ^ 32) }
+    ensures fits { IfOk result (λ n. laws.FitsSpcr contents.now) }
+    ensures text { IsUtf8 contents.now.namespace_string.now }
+{
+    let body = body_of!(contents);
+    table_size(Signature::SPCR, 4, ids, &body)
+}
+
+/// How many bytes the SPCR has, or the first error of `write_spcr` in a slice of any length.
+pub(crate) fn spcr_size(ids: &TableIds, contents: &SpcrContents<'_>) -> Result<usize, WriterError>
+    ensures exact { result ≡ sized (spcr.spcr_written most ids.now contents.now) }
+    ensures short { IfOk result (λ n. n < 2 ^ 32) }
+    ensures fits { IfOk result (λ n. laws.FitsSpcr contents.now × IsUtf8 contents.now.namespace_string.now) }
+{
+    if !has_codes(contents) {
+        return Err(WriterError::BadCode);
+    }
+    if !is_somewhere(contents.base_address) {
+        return Err(WriterError::NoAddress);
+    }
+    if contents.namespace_string.len() >= 0xffff {
+        return Err(WriterError::LongName);
+    }
+    contents_size(ids, contents)
 }
 
 /// Writes an SPCR of revision 4 to the front of a slice, and returns how many bytes it has: 88, and those of its name
