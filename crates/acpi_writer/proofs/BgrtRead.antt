@@ -1,5 +1,5 @@
 -- What a reader finds in a BGRT that is written.
-use Rattle.std.proofs.Common.{◌≡◌, ℕ, ◌+◌, ◌*◌, ◌^◌, ◌<◌, Bool, true, false, [], ◌∷◌, refl, ap, ◌∙◌, arith}
+use Rattle.std.proofs.Common.{◌≡◌, ℕ, ◌+◌, ◌*◌, ◌^◌, ◌<◌, Bool, true, false, [], ◌∷◌, length, refl, ap, ◌∙◌, arith}
 use Rattle.std.specs.Prelude.{◌==◌, if◌then◌else◌}
 use Rattle.std.specs.Str.{chars, is_utf8}
 use Rattle.acpi_base.proofs.Spelling.{number-spelling}
@@ -15,9 +15,13 @@ use Rattle.acpi_writer.specs.declared.bgrt.BgrtOrientation.{BgrtOrientation}
 use Rattle.acpi_writer.specs.declared.bgrt.BgrtOrientation.TheVariants as orientations
 use Rattle.acpi_writer.proofs.Tables as table
 
-bgrt_name : table.IsName BGRT
+pub bgrt_name : table.IsName BGRT
 unfolding is_utf8 chars lib.Utf8.encode
 bgrt_name = record { a = _; b = _; c = _; d = _; letters = refl; text = refl; same = refl }
+
+pub bgrt_long : (c : BgrtContents) → length (bgrt_body c) ≡ 20
+unfolding bgrt_body spelling
+bgrt_long c = refl
 
 one : (n : ℕ) → number (n ∷ []) ≡ n
 one n = omega arith

@@ -11,7 +11,8 @@ use Rattle.acpi_base.specs.Header.{check_names, check_table, header_at}
 use Rattle.acpi_base.specs.Steps.{◌>>=◌, holds}
 use Rattle.acpi_base.specs.Text.{letters_of}
 use Rattle.acpi_base.specs.declared.table.signature.Signature.{Signature}
-use Rattle.acpi_base.specs.declared.table.signature.TheConstants.Signature.{FADT, HPET, MADT, MCFG, SLIT, SPCR, SRAT, SSDT}
+use Rattle.acpi_base.specs.declared.table.signature.TheConstants.Signature.{BGRT, FADT, HPET, MADT, MCFG, SLIT, SPCR, SRAT, SSDT}
+use Rattle.acpi_writer.specs.Bgrt.{IsBgrt, bgrt_body}
 use Rattle.acpi_writer.specs.Contents.{FitsContents, bytes_of, contents_written, most, or_none, placed, signature_of}
 use Rattle.acpi_writer.specs.FadtBytes.{are_placed, are_registers, fadt_body, fadt_written, fixed_of, is_profile}
 use Rattle.acpi_writer.specs.FadtLaws.{AreFitFor, IsFadt}
@@ -31,13 +32,14 @@ use Rattle.acpi_writer.specs.Srat.{is_one_apic, is_one_gicc, is_range, srat_body
 use Rattle.acpi_writer.specs.SratLaws as srat
 use Rattle.acpi_writer.specs.Table.{AreIds, IsTableOf, IsValid, table_written}
 use Rattle.acpi_writer.specs.declared.contents.TableContents.{TableContents}
-use Rattle.acpi_writer.specs.declared.contents.TableContents.TheVariants.{Fadt, Hpet, Madt, Mcfg, Slit, Spcr, Srat, Ssdt}
+use Rattle.acpi_writer.specs.declared.contents.TableContents.TheVariants.{Bgrt, Fadt, Hpet, Madt, Mcfg, Slit, Spcr, Srat, Ssdt}
 use Rattle.acpi_writer.specs.declared.error.WriterError.TheVariants.{BadCode, BadMatrix, BadProfile, BadRange, BadRegister, IdOfAll, LongName, NoAddress, NoProcessor, UidOfAll}
 use Rattle.acpi_writer.specs.declared.fadt.contents.FadtContents.{FadtContents}
 use Rattle.acpi_writer.specs.declared.ids.TableIds.{TableIds}
 use Rattle.acpi_writer.specs.declared.madt.MadtContents.{MadtContents}
 use Rattle.acpi_writer.specs.declared.spcr.SpcrContents.{SpcrContents}
 use Rattle.acpi_writer.specs.declared.srat.SratContents.{SratContents}
+use Rattle.acpi_writer.proofs.BgrtRead.{bgrt_valid}
 use Rattle.acpi_writer.proofs.FadtRead.{fadt_valid}
 use Rattle.acpi_writer.proofs.HpetRead.{hpet_valid}
 use Rattle.acpi_writer.proofs.LaidRead.{holds_only}
@@ -73,6 +75,7 @@ IsContents ids (Ssdt c) t = IsTableOf SSDT c.revision ids c.bytes.now t
 IsContents ids (Fadt c) t = IsFadt ids c t
 IsContents ids (Srat c) t = srat.IsSrat ids c t
 IsContents ids (Spcr c) t = IsSpcr ids c t
+IsContents ids (Bgrt c) t = IsBgrt ids c t
 
 pub table_of : (s : Signature) (revision : ℕ) (ids : TableIds) (body t : List ℕ) → AreIds ids → table_written most s revision ids body ≡ Ok t → IsTableOf s revision ids body t
 table_of s revision ids body t are e =
@@ -145,6 +148,7 @@ contents_of ids (Ssdt c) t are fit e = table_of SSDT c.revision ids c.bytes.now 
 contents_of ids (Fadt c) t are fit e = fadt_of ids c t are fit e
 contents_of ids (Srat c) t are fit e = srat_of ids c t are fit e
 contents_of ids (Spcr c) t are fit e = spcr_of ids c t are fit.0 fit.1 e
+contents_of ids (Bgrt c) t are fit e = record { written = table_of BGRT 1 ids (bgrt_body c) t are e; fit = fit }
 
 valid_of : (ids : TableIds) (c : TableContents) (t : List ℕ) → IsContents ids c t → IsValid (signature_of c) t
 valid_of ids (Madt c) t is = madt_valid ids c t is
@@ -155,6 +159,7 @@ valid_of ids (Ssdt c) t is = (ssdt_read c.revision ids c.bytes.now t is).valid
 valid_of ids (Fadt c) t is = fadt_valid ids c t is
 valid_of ids (Srat c) t is = srat_valid ids c t is
 valid_of ids (Spcr c) t is = spcr_valid ids c t is
+valid_of ids (Bgrt c) t is = bgrt_valid ids c t is
 
 -- ---- all of them
 

@@ -9,14 +9,16 @@ use Rattle.acpi_base.specs.Steps.{◌>>=◌}
 use Rattle.acpi_base.specs.Table.{sdt_kind}
 use Rattle.acpi_base.specs.declared.error.AcpiError.{AcpiError}
 use Rattle.acpi_base.specs.declared.table.signature.Signature.{Signature}
-use Rattle.acpi_base.specs.declared.table.signature.TheConstants.Signature.{FADT, HPET, MADT, MCFG, SLIT, SPCR, SRAT}
+use Rattle.acpi_base.specs.declared.table.signature.TheConstants.Signature.{BGRT, FADT, HPET, MADT, MCFG, SLIT, SPCR, SRAT}
 use Rattle.acpi.specs.Hpet.{hpet_of}
 use Rattle.acpi.specs.Lookup.{lookup}
 use Rattle.acpi.specs.Pci.{found_regions}
 use Rattle.acpi.specs.Platform.{model_in, platform_of}
 use Rattle.acpi.specs.declared.hpet.HpetInfo.{HpetInfo}
+use Rattle.acpi_fixed.specs.Bgrt.{bgrt_at}
 use Rattle.acpi_numa.specs.Affinities.{srat_kind}
 use Rattle.acpi_numa.specs.Slit.{distance_of}
+use Rattle.acpi_writer.specs.Bgrt.{IsBgrt, SaysImage, bgrt_body}
 use Rattle.acpi_writer.specs.Contents.{bytes_of}
 use Rattle.acpi_writer.specs.FadtBytes.{fadt_body, fixed_of}
 use Rattle.acpi_writer.specs.FadtLaws.{IsFadt}
@@ -32,14 +34,16 @@ use Rattle.acpi_writer.specs.Spcr.{spcr_body}
 use Rattle.acpi_writer.specs.SpcrLaws.{IsSpcr, SaysConsole}
 use Rattle.acpi_writer.specs.Srat.{srat_body, srat_entries, srat_reserved}
 use Rattle.acpi_writer.specs.SratLaws.{IsSrat, SaysDomains}
+use Rattle.acpi_writer.specs.declared.bgrt.BgrtContents.{BgrtContents}
 use Rattle.acpi_writer.specs.declared.contents.SlitContents.{SlitContents}
 use Rattle.acpi_writer.specs.declared.contents.TableContents.{TableContents}
-use Rattle.acpi_writer.specs.declared.contents.TableContents.TheVariants.{Fadt, Hpet, Madt, Mcfg, Slit, Spcr, Srat}
+use Rattle.acpi_writer.specs.declared.contents.TableContents.TheVariants.{Bgrt, Fadt, Hpet, Madt, Mcfg, Slit, Spcr, Srat}
 use Rattle.acpi_writer.specs.declared.fadt.contents.FadtContents.{FadtContents}
 use Rattle.acpi_writer.specs.declared.ids.TableIds.{TableIds}
 use Rattle.acpi_writer.specs.declared.madt.MadtContents.{MadtContents}
 use Rattle.acpi_writer.specs.declared.spcr.SpcrContents.{SpcrContents}
 use Rattle.acpi_writer.specs.declared.srat.SratContents.{SratContents}
+use Rattle.acpi_writer.proofs.BgrtRead.{bgrt_long, bgrt_name, bgrt_read}
 use Rattle.acpi_writer.proofs.ContentsRead.{IsContents, first_is}
 use Rattle.acpi_writer.proofs.FadtParts.{body_long}
 use Rattle.acpi_writer.proofs.FadtRead.{fadt_name, fadt_read}
@@ -120,6 +124,13 @@ module _
       let long = table.long SPCR spcr.spcr_name 4 ids (spcr_body c) t this.written in
       ((place SPCR, t), found SPCR (Spcr c) 80 is_first (lit≤ tt) (omega (arith, long, spcr.body_long c)), spcr.spcr_read ids c t this)
 
+  image : (c : BgrtContents) → first_of BGRT cs ≡ Some (Bgrt c) → HasTable m ps (sdt_kind BGRT 56) (λ t. SaysImage c (bgrt_at t))
+  image c is_first =
+      let t = bytes_of ids (Bgrt c) in
+      let this : IsBgrt ids c t = written BGRT (Bgrt c) is_first in
+      let long = table.long BGRT bgrt_name 1 ids (bgrt_body c) t this.written in
+      ((place BGRT, t), found BGRT (Bgrt c) 56 is_first (lit≤ tt) (omega (arith, long, bgrt_long c)), bgrt_read ids c t this)
+
   pub says : {A : Type 0} → Says A m ps cs
   says {A = A} = record {
     model = λ c is_first. model {A = A} c is_first;
@@ -131,4 +142,5 @@ module _
     distances = distances;
     domains = domains;
     console = console;
+    image = image;
   }

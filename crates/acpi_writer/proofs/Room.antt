@@ -7,8 +7,9 @@ use Rattle.acpi_base.proofs.Steps.{holds_ok, same_ok}
 use Rattle.acpi_base.specs.Steps.{◌>>=◌, holds}
 use Rattle.acpi_base.specs.Text.{letters_of}
 use Rattle.acpi_base.specs.declared.table.signature.Signature.{Signature}
-use Rattle.acpi_base.specs.declared.table.signature.TheConstants.Signature.{FADT, HPET, MADT, MCFG, SLIT, SPCR, SRAT, SSDT}
+use Rattle.acpi_base.specs.declared.table.signature.TheConstants.Signature.{BGRT, FADT, HPET, MADT, MCFG, SLIT, SPCR, SRAT, SSDT}
 use Rattle.acpi_image.proofs.Written.{length-with_sum}
+use Rattle.acpi_writer.specs.Bgrt.{bgrt_body}
 use Rattle.acpi_writer.specs.Contents.{contents_written, most, or_none, placed}
 use Rattle.acpi_writer.specs.FadtBytes.{are_placed, are_registers, fadt_body, fadt_written, is_profile}
 use Rattle.acpi_writer.specs.HpetBytes.{hpet_body}
@@ -20,7 +21,7 @@ use Rattle.acpi_writer.specs.Spcr.{is_base, is_interface, is_somewhere, spcr_bod
 use Rattle.acpi_writer.specs.Srat.{is_one_apic, is_one_gicc, is_range, srat_body, srat_written}
 use Rattle.acpi_writer.specs.Table.{AreIds, are_texts, table_bytes, table_head, table_written, unsummed}
 use Rattle.acpi_writer.specs.declared.contents.TableContents.{TableContents}
-use Rattle.acpi_writer.specs.declared.contents.TableContents.TheVariants.{Fadt, Hpet, Madt, Mcfg, Slit, Spcr, Srat, Ssdt}
+use Rattle.acpi_writer.specs.declared.contents.TableContents.TheVariants.{Bgrt, Fadt, Hpet, Madt, Mcfg, Slit, Spcr, Srat, Ssdt}
 use Rattle.acpi_writer.specs.declared.error.WriterError.{WriterError}
 use Rattle.acpi_writer.specs.declared.error.WriterError.TheVariants.{BadCode, BadMatrix, BadProfile, BadRange, BadRegister, IdOfAll, LongName, NoAddress, NoProcessor, UidOfAll}
 use Rattle.acpi_writer.specs.declared.fadt.contents.FadtContents.{FadtContents}
@@ -139,6 +140,7 @@ moved_contents ids (Ssdt c) are = moved_table SSDT c.revision ids c.bytes.now re
 moved_contents ids (Fadt c) are = moved_fadt ids c are
 moved_contents ids (Srat c) are = moved_srat ids c are
 moved_contents ids (Spcr c) are = moved_spcr ids c are
+moved_contents ids (Bgrt c) are = moved_table BGRT 1 ids (bgrt_body c) refl are
 
 -- ---- what a call wrote, and what it didn't
 

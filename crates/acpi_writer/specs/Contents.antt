@@ -2,7 +2,8 @@
 use Rattle.std.specs.Prelude.{ℕ, ◌-◌, ◌^◌, ◌<◌, List, [], length, IsUtf8, Result, Ok, Err}
 use Rattle.std.specs.List.{All}
 use Rattle.acpi_base.specs.declared.table.signature.Signature.{Signature}
-use Rattle.acpi_base.specs.declared.table.signature.TheConstants.Signature.{FADT, HPET, MADT, MCFG, SLIT, SPCR, SRAT, SSDT}
+use Rattle.acpi_base.specs.declared.table.signature.TheConstants.Signature.{BGRT, FADT, HPET, MADT, MCFG, SLIT, SPCR, SRAT, SSDT}
+use Rattle.acpi_writer.specs.Bgrt.{FitsBgrt, bgrt_written}
 use Rattle.acpi_writer.specs.FadtBytes.{fadt_written, fixed_of}
 use Rattle.acpi_writer.specs.FadtLaws.{AreFitFor}
 use Rattle.acpi_writer.specs.HpetBytes.{hpet_written}
@@ -19,7 +20,7 @@ use Rattle.acpi_writer.specs.Srat.{srat_written}
 use Rattle.acpi_writer.specs.SratLaws as srat
 use Rattle.acpi_writer.specs.Table.{table_written}
 use Rattle.acpi_writer.specs.declared.contents.TableContents.{TableContents}
-use Rattle.acpi_writer.specs.declared.contents.TableContents.TheVariants.{Fadt, Hpet, Madt, Mcfg, Slit, Spcr, Srat, Ssdt}
+use Rattle.acpi_writer.specs.declared.contents.TableContents.TheVariants.{Bgrt, Fadt, Hpet, Madt, Mcfg, Slit, Spcr, Srat, Ssdt}
 use Rattle.acpi_writer.specs.declared.error.WriterError.{WriterError}
 use Rattle.acpi_writer.specs.declared.ids.TableIds.{TableIds}
 
@@ -33,6 +34,7 @@ contents_written room ids (Ssdt c) = table_written room SSDT c.revision ids c.by
 contents_written room ids (Fadt c) = fadt_written room ids c
 contents_written room ids (Srat c) = srat_written room ids c
 contents_written room ids (Spcr c) = spcr_written room ids c
+contents_written room ids (Bgrt c) = bgrt_written room ids c
 
 -- the numbers have a place
 abbrev pub FitsContents : TableContents → Type 0
@@ -44,6 +46,7 @@ FitsContents (Ssdt c) = Unit {0}
 FitsContents (Fadt c) = AreFitFor c (fixed_of c.hardware)
 FitsContents (Srat c) = srat.AreFit c
 FitsContents (Spcr c) = FitsSpcr c × IsUtf8 c.namespace_string.now
+FitsContents (Bgrt c) = FitsBgrt c
 
 abbrev pub signature_of : TableContents → Signature
 signature_of (Madt c) = MADT
@@ -54,6 +57,7 @@ signature_of (Ssdt c) = SSDT
 signature_of (Fadt c) = FADT
 signature_of (Srat c) = SRAT
 signature_of (Spcr c) = SPCR
+signature_of (Bgrt c) = BGRT
 
 -- how many bytes they are, or the error
 abbrev pub sized : Result (List ℕ) WriterError → Result ℕ WriterError

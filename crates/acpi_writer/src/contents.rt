@@ -6,6 +6,7 @@ ghost use Rattle.acpi_writer.specs.Laid.{gap, rounded};
 ghost use Rattle.acpi_writer.specs.Table.{Keeps};
 
 use crate::aml::write_ssdt;
+use crate::bgrt::{BgrtContents, write_bgrt};
 use crate::error::WriterError;
 use crate::fadt::{FadtContents, fadt_size, write_fadt};
 use crate::hpet::write_hpet;
@@ -58,6 +59,8 @@ pub enum TableContents<'a> {
     Srat(SratContents<'a>),
     /// `write_spcr`.
     Spcr(SpcrContents<'a>),
+    /// `write_bgrt`.
+    Bgrt(BgrtContents),
 }
 
 /// The least multiple of 16 that isn't below a number.
@@ -97,6 +100,7 @@ impl TableContents<'_> {
             TableContents::Fadt(contents) => fadt_size(ids, contents),
             TableContents::Srat(contents) => srat_size(ids, contents),
             TableContents::Spcr(contents) => spcr_size(ids, contents),
+            TableContents::Bgrt(contents) => table_size(Signature::BGRT, 1, ids, contents),
         }
     }
 
@@ -115,6 +119,7 @@ impl TableContents<'_> {
             TableContents::Fadt(contents) => write_fadt(out, ids, contents),
             TableContents::Srat(contents) => write_srat(out, ids, contents),
             TableContents::Spcr(contents) => write_spcr(out, ids, contents),
+            TableContents::Bgrt(contents) => write_bgrt(out, ids, contents),
         }
     }
 
