@@ -11,11 +11,12 @@ use Rattle.acpi_base.specs.Header.{check_names, check_table, header_at}
 use Rattle.acpi_base.specs.Steps.{◌>>=◌, holds}
 use Rattle.acpi_base.specs.Text.{letters_of}
 use Rattle.acpi_base.specs.declared.table.signature.Signature.{Signature}
-use Rattle.acpi_base.specs.declared.table.signature.TheConstants.Signature.{BGRT, FADT, HPET, MADT, MCFG, SLIT, SPCR, SRAT, SSDT}
+use Rattle.acpi_base.specs.declared.table.signature.TheConstants.Signature.{BGRT, FADT, GTDT, HPET, MADT, MCFG, SLIT, SPCR, SRAT, SSDT}
 use Rattle.acpi_writer.specs.Bgrt.{IsBgrt, bgrt_body}
 use Rattle.acpi_writer.specs.Contents.{FitsContents, bytes_of, contents_written, most, or_none, placed, signature_of}
 use Rattle.acpi_writer.specs.FadtBytes.{are_placed, are_registers, fadt_body, fadt_written, fixed_of, is_profile}
 use Rattle.acpi_writer.specs.FadtLaws.{AreFitFor, IsFadt}
+use Rattle.acpi_writer.specs.Gtdt.{AreTimersFit, IsGtdt, gtdt_body, gtdt_checked, gtdt_written}
 use Rattle.acpi_writer.specs.HpetBytes.{hpet_body}
 use Rattle.acpi_writer.specs.HpetLaws.{IsHpet}
 use Rattle.acpi_writer.specs.ImageLaws.{is_named}
@@ -32,15 +33,17 @@ use Rattle.acpi_writer.specs.Srat.{is_one_apic, is_one_gicc, is_range, srat_body
 use Rattle.acpi_writer.specs.SratLaws as srat
 use Rattle.acpi_writer.specs.Table.{AreIds, IsTableOf, IsValid, table_written}
 use Rattle.acpi_writer.specs.declared.contents.TableContents.{TableContents}
-use Rattle.acpi_writer.specs.declared.contents.TableContents.TheVariants.{Bgrt, Fadt, Hpet, Madt, Mcfg, Slit, Spcr, Srat, Ssdt}
+use Rattle.acpi_writer.specs.declared.contents.TableContents.TheVariants.{Bgrt, Fadt, Gtdt, Hpet, Madt, Mcfg, Slit, Spcr, Srat, Ssdt}
 use Rattle.acpi_writer.specs.declared.error.WriterError.TheVariants.{BadCode, BadMatrix, BadProfile, BadRange, BadRegister, IdOfAll, LongName, NoAddress, NoProcessor, UidOfAll}
 use Rattle.acpi_writer.specs.declared.fadt.contents.FadtContents.{FadtContents}
+use Rattle.acpi_writer.specs.declared.gtdt.GtdtContents.{GtdtContents}
 use Rattle.acpi_writer.specs.declared.ids.TableIds.{TableIds}
 use Rattle.acpi_writer.specs.declared.madt.MadtContents.{MadtContents}
 use Rattle.acpi_writer.specs.declared.spcr.SpcrContents.{SpcrContents}
 use Rattle.acpi_writer.specs.declared.srat.SratContents.{SratContents}
 use Rattle.acpi_writer.proofs.BgrtRead.{bgrt_valid}
 use Rattle.acpi_writer.proofs.FadtRead.{fadt_valid}
+use Rattle.acpi_writer.proofs.GtdtRead.{gtdt_valid}
 use Rattle.acpi_writer.proofs.HpetRead.{hpet_valid}
 use Rattle.acpi_writer.proofs.LaidRead.{holds_only}
 use Rattle.acpi_writer.proofs.MadtRead.{madt_valid}
@@ -76,6 +79,7 @@ IsContents ids (Fadt c) t = IsFadt ids c t
 IsContents ids (Srat c) t = srat.IsSrat ids c t
 IsContents ids (Spcr c) t = IsSpcr ids c t
 IsContents ids (Bgrt c) t = IsBgrt ids c t
+IsContents ids (Gtdt c) t = IsGtdt ids c t
 
 pub table_of : (s : Signature) (revision : ℕ) (ids : TableIds) (body t : List ℕ) → AreIds ids → table_written most s revision ids body ≡ Ok t → IsTableOf s revision ids body t
 table_of s revision ids body t are e =
@@ -139,6 +143,12 @@ spcr_of ids c t are fit text e =
       text = text;
     }
 
+gtdt_of : (ids : TableIds) (c : GtdtContents) (t : List ℕ) → AreIds ids → AreTimersFit c → gtdt_written most ids c ≡ Ok t → IsGtdt ids c t
+unfolding gtdt_written
+gtdt_of ids c t are fit e =
+    let one = bind_ok (gtdt_checked c) (λ _. table_written most GTDT 3 ids (gtdt_body c)) t e in
+    record { written = table_of GTDT 3 ids (gtdt_body c) t are one.2; fit = fit; checked = one.1 }
+
 contents_of : (ids : TableIds) (c : TableContents) (t : List ℕ) → AreIds ids → FitsContents c → contents_written most ids c ≡ Ok t → IsContents ids c t
 contents_of ids (Madt c) t are fit e = madt_of ids c t are fit e
 contents_of ids (Mcfg regions) t are fit e = record { written = table_of MCFG 1 ids (mcfg_body regions.now) t are e; fit = fit }
@@ -149,6 +159,7 @@ contents_of ids (Fadt c) t are fit e = fadt_of ids c t are fit e
 contents_of ids (Srat c) t are fit e = srat_of ids c t are fit e
 contents_of ids (Spcr c) t are fit e = spcr_of ids c t are fit.0 fit.1 e
 contents_of ids (Bgrt c) t are fit e = record { written = table_of BGRT 1 ids (bgrt_body c) t are e; fit = fit }
+contents_of ids (Gtdt c) t are fit e = gtdt_of ids c t are fit e
 
 valid_of : (ids : TableIds) (c : TableContents) (t : List ℕ) → IsContents ids c t → IsValid (signature_of c) t
 valid_of ids (Madt c) t is = madt_valid ids c t is
@@ -160,6 +171,7 @@ valid_of ids (Fadt c) t is = fadt_valid ids c t is
 valid_of ids (Srat c) t is = srat_valid ids c t is
 valid_of ids (Spcr c) t is = spcr_valid ids c t is
 valid_of ids (Bgrt c) t is = bgrt_valid ids c t is
+valid_of ids (Gtdt c) t is = gtdt_valid ids c t is
 
 -- ---- all of them
 

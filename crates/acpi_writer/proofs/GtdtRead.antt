@@ -77,7 +77,7 @@ module _ (c : GtdtContents) where
   unfolding timer_bytes array_bytes spelling
   structures_in_body = refl
 
-  body_long : length (gtdt_body c) ≡ 68 + length (flat_map structure_bytes c.platform_timers.now)
+  pub body_long : length (gtdt_body c) ≡ 68 + length (flat_map structure_bytes c.platform_timers.now)
   unfolding timer_bytes array_bytes spelling
   body_long = omega arith
 

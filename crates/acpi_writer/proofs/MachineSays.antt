@@ -9,12 +9,13 @@ use Rattle.acpi_base.specs.Steps.{◌>>=◌}
 use Rattle.acpi_base.specs.Table.{sdt_kind}
 use Rattle.acpi_base.specs.declared.error.AcpiError.{AcpiError}
 use Rattle.acpi_base.specs.declared.table.signature.Signature.{Signature}
-use Rattle.acpi_base.specs.declared.table.signature.TheConstants.Signature.{BGRT, FADT, HPET, MADT, MCFG, SLIT, SPCR, SRAT}
+use Rattle.acpi_base.specs.declared.table.signature.TheConstants.Signature.{BGRT, FADT, GTDT, HPET, MADT, MCFG, SLIT, SPCR, SRAT}
 use Rattle.acpi.specs.Hpet.{hpet_of}
 use Rattle.acpi.specs.Lookup.{lookup}
 use Rattle.acpi.specs.Pci.{found_regions}
 use Rattle.acpi.specs.Platform.{model_in, platform_of}
 use Rattle.acpi.specs.declared.hpet.HpetInfo.{HpetInfo}
+use Rattle.acpi_arm.specs.Gtdt.{gtdt_kind}
 use Rattle.acpi_fixed.specs.Bgrt.{bgrt_at}
 use Rattle.acpi_numa.specs.Affinities.{srat_kind}
 use Rattle.acpi_numa.specs.Slit.{distance_of}
@@ -22,6 +23,7 @@ use Rattle.acpi_writer.specs.Bgrt.{IsBgrt, SaysImage, bgrt_body}
 use Rattle.acpi_writer.specs.Contents.{bytes_of}
 use Rattle.acpi_writer.specs.FadtBytes.{fadt_body, fixed_of}
 use Rattle.acpi_writer.specs.FadtLaws.{IsFadt}
+use Rattle.acpi_writer.specs.Gtdt.{IsGtdt, SaysTimers, gtdt_body}
 use Rattle.acpi_writer.specs.HpetBytes.{hpet_body}
 use Rattle.acpi_writer.specs.HpetLaws.{IsHpet}
 use Rattle.acpi_writer.specs.MachineLaws.{HasFadt, HasTable, Says, first_of, platform_read}
@@ -37,8 +39,9 @@ use Rattle.acpi_writer.specs.SratLaws.{IsSrat, SaysDomains}
 use Rattle.acpi_writer.specs.declared.bgrt.BgrtContents.{BgrtContents}
 use Rattle.acpi_writer.specs.declared.contents.SlitContents.{SlitContents}
 use Rattle.acpi_writer.specs.declared.contents.TableContents.{TableContents}
-use Rattle.acpi_writer.specs.declared.contents.TableContents.TheVariants.{Bgrt, Fadt, Hpet, Madt, Mcfg, Slit, Spcr, Srat}
+use Rattle.acpi_writer.specs.declared.contents.TableContents.TheVariants.{Bgrt, Fadt, Gtdt, Hpet, Madt, Mcfg, Slit, Spcr, Srat}
 use Rattle.acpi_writer.specs.declared.fadt.contents.FadtContents.{FadtContents}
+use Rattle.acpi_writer.specs.declared.gtdt.GtdtContents.{GtdtContents}
 use Rattle.acpi_writer.specs.declared.ids.TableIds.{TableIds}
 use Rattle.acpi_writer.specs.declared.madt.MadtContents.{MadtContents}
 use Rattle.acpi_writer.specs.declared.spcr.SpcrContents.{SpcrContents}
@@ -47,6 +50,7 @@ use Rattle.acpi_writer.proofs.BgrtRead.{bgrt_long, bgrt_name, bgrt_read}
 use Rattle.acpi_writer.proofs.ContentsRead.{IsContents, first_is}
 use Rattle.acpi_writer.proofs.FadtParts.{body_long}
 use Rattle.acpi_writer.proofs.FadtRead.{fadt_name, fadt_read}
+use Rattle.acpi_writer.proofs.GtdtRead as gtdt
 use Rattle.acpi_writer.proofs.HpetRead.{hpet_name, hpet_read}
 use Rattle.acpi_writer.proofs.Images.{hpet_long, platform_has}
 use Rattle.acpi_writer.proofs.MadtRead.{fixed_long, madt_name, madt_read}
@@ -131,6 +135,13 @@ module _
       let long = table.long BGRT bgrt_name 1 ids (bgrt_body c) t this.written in
       ((place BGRT, t), found BGRT (Bgrt c) 56 is_first (lit≤ tt) (omega (arith, long, bgrt_long c)), bgrt_read ids c t this)
 
+  timers : (c : GtdtContents) → first_of GTDT cs ≡ Some (Gtdt c) → HasTable m ps gtdt_kind (SaysTimers c)
+  timers c is_first =
+      let t = bytes_of ids (Gtdt c) in
+      let this : IsGtdt ids c t = written GTDT (Gtdt c) is_first in
+      let long = table.long GTDT gtdt.gtdt_name 3 ids (gtdt_body c) t this.written in
+      ((place GTDT, t), found GTDT (Gtdt c) 96 is_first (lit≤ tt) (omega (arith, long, gtdt.body_long c)), gtdt.gtdt_read ids c t this)
+
   pub says : {A : Type 0} → Says A m ps cs
   says {A = A} = record {
     model = λ c is_first. model {A = A} c is_first;
@@ -143,4 +154,5 @@ module _
     domains = domains;
     console = console;
     image = image;
+    timers = timers;
   }

@@ -7,11 +7,12 @@ use Rattle.acpi_base.proofs.Steps.{holds_ok, same_ok}
 use Rattle.acpi_base.specs.Steps.{◌>>=◌, holds}
 use Rattle.acpi_base.specs.Text.{letters_of}
 use Rattle.acpi_base.specs.declared.table.signature.Signature.{Signature}
-use Rattle.acpi_base.specs.declared.table.signature.TheConstants.Signature.{BGRT, FADT, HPET, MADT, MCFG, SLIT, SPCR, SRAT, SSDT}
+use Rattle.acpi_base.specs.declared.table.signature.TheConstants.Signature.{BGRT, FADT, GTDT, HPET, MADT, MCFG, SLIT, SPCR, SRAT, SSDT}
 use Rattle.acpi_image.proofs.Written.{length-with_sum}
 use Rattle.acpi_writer.specs.Bgrt.{bgrt_body}
 use Rattle.acpi_writer.specs.Contents.{contents_written, most, or_none, placed}
 use Rattle.acpi_writer.specs.FadtBytes.{are_placed, are_registers, fadt_body, fadt_written, is_profile}
+use Rattle.acpi_writer.specs.Gtdt.{gtdt_body, gtdt_checked, gtdt_written}
 use Rattle.acpi_writer.specs.HpetBytes.{hpet_body}
 use Rattle.acpi_writer.specs.Laid.{gap, padded}
 use Rattle.acpi_writer.specs.MadtBytes.{is_empty, is_single, madt_body, madt_written, names_one}
@@ -21,10 +22,11 @@ use Rattle.acpi_writer.specs.Spcr.{is_base, is_interface, is_somewhere, spcr_bod
 use Rattle.acpi_writer.specs.Srat.{is_one_apic, is_one_gicc, is_range, srat_body, srat_written}
 use Rattle.acpi_writer.specs.Table.{AreIds, are_texts, table_bytes, table_head, table_written, unsummed}
 use Rattle.acpi_writer.specs.declared.contents.TableContents.{TableContents}
-use Rattle.acpi_writer.specs.declared.contents.TableContents.TheVariants.{Bgrt, Fadt, Hpet, Madt, Mcfg, Slit, Spcr, Srat, Ssdt}
+use Rattle.acpi_writer.specs.declared.contents.TableContents.TheVariants.{Bgrt, Fadt, Gtdt, Hpet, Madt, Mcfg, Slit, Spcr, Srat, Ssdt}
 use Rattle.acpi_writer.specs.declared.error.WriterError.{WriterError}
 use Rattle.acpi_writer.specs.declared.error.WriterError.TheVariants.{BadCode, BadMatrix, BadProfile, BadRange, BadRegister, IdOfAll, LongName, NoAddress, NoProcessor, UidOfAll}
 use Rattle.acpi_writer.specs.declared.fadt.contents.FadtContents.{FadtContents}
+use Rattle.acpi_writer.specs.declared.gtdt.GtdtContents.{GtdtContents}
 use Rattle.acpi_writer.specs.declared.madt.MadtContents.{MadtContents}
 use Rattle.acpi_writer.specs.declared.ids.TableIds.{TableIds}
 use Rattle.acpi_writer.specs.declared.spcr.SpcrContents.{SpcrContents}
@@ -77,9 +79,9 @@ moved_table s revision ids body letters are room other t e fits =
     let long : length t ≡ 36 + length body = ap length w.bytes ∙ table_length s revision ids body letters are in
     it_fits other s revision ids body w.texts (omega (arith, long, fits)) w.short ∙ sym (ap done w.bytes)
 
-through : (b : Bool) (e : WriterError) (f g : Result (List ℕ) WriterError) (t : List ℕ) → (f ≡ Ok t → g ≡ Ok t) → (holds b e >>= λ _. f) ≡ Ok t → (holds b e >>= λ _. g) ≡ Ok t
-through true e f g t h p = h p
-through false e f g t h p = absurd cc
+through : (r : Result (Unit {0}) WriterError) (f g : Result (List ℕ) WriterError) (t : List ℕ) → (f ≡ Ok t → g ≡ Ok t) → (r >>= λ _. f) ≡ Ok t → (r >>= λ _. g) ≡ Ok t
+through (Ok passed) f g t h p = h p
+through (Err e) f g t h p = absurd cc
 
 moved_madt : (ids : TableIds) (c : MadtContents) → AreIds ids → Moves (λ room. madt_written room ids c)
 unfolding madt_written
@@ -88,15 +90,15 @@ moved_madt ids c are room other t e fits =
     let single = list_all is_single c.processors.now in
     let lines = list_all (λ x. names_one x.processor) c.local_apic_nmi_lines.now in
     let here : ℕ → Result (List ℕ) WriterError = λ n. table_written n MADT 5 ids (madt_body c) in
-    through some NoProcessor (holds single IdOfAll >>= λ _. holds lines UidOfAll >>= λ _. here room) (holds single IdOfAll >>= λ _. holds lines UidOfAll >>= λ _. here other) t
-    (through single IdOfAll (holds lines UidOfAll >>= λ _. here room) (holds lines UidOfAll >>= λ _. here other) t
-    (through lines UidOfAll (here room) (here other) t (λ p. moved_table MADT 5 ids (madt_body c) refl are room other t p fits))) e
+    through (holds some NoProcessor) (holds single IdOfAll >>= λ _. holds lines UidOfAll >>= λ _. here room) (holds single IdOfAll >>= λ _. holds lines UidOfAll >>= λ _. here other) t
+    (through (holds single IdOfAll) (holds lines UidOfAll >>= λ _. here room) (holds lines UidOfAll >>= λ _. here other) t
+    (through (holds lines UidOfAll) (here room) (here other) t (λ p. moved_table MADT 5 ids (madt_body c) refl are room other t p fits))) e
 
 moved_slit : (ids : TableIds) (n : ℕ) (distances : List ℕ) → AreIds ids → Moves (λ room. slit_written room ids n distances)
 unfolding slit_written
 moved_slit ids n distances are room other t e fits =
     let here : ℕ → Result (List ℕ) WriterError = λ m. table_written m SLIT 1 ids (slit_body n distances) in
-    through (n * n == length distances) BadMatrix (here room) (here other) t (λ p. moved_table SLIT 1 ids (slit_body n distances) refl are room other t p fits) e
+    through (holds (n * n == length distances) BadMatrix) (here room) (here other) t (λ p. moved_table SLIT 1 ids (slit_body n distances) refl are room other t p fits) e
 
 moved_fadt : (ids : TableIds) (c : FadtContents) → AreIds ids → Moves (λ room. fadt_written room ids c)
 unfolding fadt_written
@@ -105,9 +107,9 @@ moved_fadt ids c are room other t e fits =
     let profile = is_profile c.power_profile in
     let registers = are_registers c in
     let here : ℕ → Result (List ℕ) WriterError = λ n. table_written n FADT 6 ids (fadt_body c) in
-    through placed NoAddress (holds profile BadProfile >>= λ _. holds registers BadRegister >>= λ _. here room) (holds profile BadProfile >>= λ _. holds registers BadRegister >>= λ _. here other) t
-    (through profile BadProfile (holds registers BadRegister >>= λ _. here room) (holds registers BadRegister >>= λ _. here other) t
-    (through registers BadRegister (here room) (here other) t (λ p. moved_table FADT 6 ids (fadt_body c) refl are room other t p fits))) e
+    through (holds placed NoAddress) (holds profile BadProfile >>= λ _. holds registers BadRegister >>= λ _. here room) (holds profile BadProfile >>= λ _. holds registers BadRegister >>= λ _. here other) t
+    (through (holds profile BadProfile) (holds registers BadRegister >>= λ _. here room) (holds registers BadRegister >>= λ _. here other) t
+    (through (holds registers BadRegister) (here room) (here other) t (λ p. moved_table FADT 6 ids (fadt_body c) refl are room other t p fits))) e
 
 moved_srat : (ids : TableIds) (c : SratContents) → AreIds ids → Moves (λ room. srat_written room ids c)
 unfolding srat_written
@@ -116,9 +118,9 @@ moved_srat ids c are room other t e fits =
     let giccs = list_all is_one_gicc c.giccs.now in
     let ranges = list_all is_range c.ranges.now in
     let here : ℕ → Result (List ℕ) WriterError = λ n. table_written n SRAT 3 ids (srat_body c) in
-    through apics IdOfAll (holds giccs IdOfAll >>= λ _. holds ranges BadRange >>= λ _. here room) (holds giccs IdOfAll >>= λ _. holds ranges BadRange >>= λ _. here other) t
-    (through giccs IdOfAll (holds ranges BadRange >>= λ _. here room) (holds ranges BadRange >>= λ _. here other) t
-    (through ranges BadRange (here room) (here other) t (λ p. moved_table SRAT 3 ids (srat_body c) refl are room other t p fits))) e
+    through (holds apics IdOfAll) (holds giccs IdOfAll >>= λ _. holds ranges BadRange >>= λ _. here room) (holds giccs IdOfAll >>= λ _. holds ranges BadRange >>= λ _. here other) t
+    (through (holds giccs IdOfAll) (holds ranges BadRange >>= λ _. here room) (holds ranges BadRange >>= λ _. here other) t
+    (through (holds ranges BadRange) (here room) (here other) t (λ p. moved_table SRAT 3 ids (srat_body c) refl are room other t p fits))) e
 
 moved_spcr : (ids : TableIds) (c : SpcrContents) → AreIds ids → Moves (λ room. spcr_written room ids c)
 unfolding spcr_written
@@ -127,9 +129,15 @@ moved_spcr ids c are room other t e fits =
     let somewhere = is_somewhere c.base_address in
     let short = nat_lt (length c.namespace_string.now) 0xffff in
     let here : ℕ → Result (List ℕ) WriterError = λ n. table_written n SPCR 4 ids (spcr_body c) in
-    through codes BadCode (holds somewhere NoAddress >>= λ _. holds short LongName >>= λ _. here room) (holds somewhere NoAddress >>= λ _. holds short LongName >>= λ _. here other) t
-    (through somewhere NoAddress (holds short LongName >>= λ _. here room) (holds short LongName >>= λ _. here other) t
-    (through short LongName (here room) (here other) t (λ p. moved_table SPCR 4 ids (spcr_body c) refl are room other t p fits))) e
+    through (holds codes BadCode) (holds somewhere NoAddress >>= λ _. holds short LongName >>= λ _. here room) (holds somewhere NoAddress >>= λ _. holds short LongName >>= λ _. here other) t
+    (through (holds somewhere NoAddress) (holds short LongName >>= λ _. here room) (holds short LongName >>= λ _. here other) t
+    (through (holds short LongName) (here room) (here other) t (λ p. moved_table SPCR 4 ids (spcr_body c) refl are room other t p fits))) e
+
+moved_gtdt : (ids : TableIds) (c : GtdtContents) → AreIds ids → Moves (λ room. gtdt_written room ids c)
+unfolding gtdt_written
+moved_gtdt ids c are room other t e fits =
+    let here : ℕ → Result (List ℕ) WriterError = λ n. table_written n GTDT 3 ids (gtdt_body c) in
+    through (gtdt_checked c) (here room) (here other) t (λ p. moved_table GTDT 3 ids (gtdt_body c) refl are room other t p fits) e
 
 pub moved_contents : (ids : TableIds) (c : TableContents) → AreIds ids → Moves (λ room. contents_written room ids c)
 moved_contents ids (Madt c) are = moved_madt ids c are
@@ -141,6 +149,7 @@ moved_contents ids (Fadt c) are = moved_fadt ids c are
 moved_contents ids (Srat c) are = moved_srat ids c are
 moved_contents ids (Spcr c) are = moved_spcr ids c are
 moved_contents ids (Bgrt c) are = moved_table BGRT 1 ids (bgrt_body c) refl are
+moved_contents ids (Gtdt c) are = moved_gtdt ids c are
 
 -- ---- what a call wrote, and what it didn't
 

@@ -2,10 +2,11 @@
 use Rattle.std.specs.Prelude.{ℕ, ◌-◌, ◌^◌, ◌<◌, List, [], length, IsUtf8, Result, Ok, Err}
 use Rattle.std.specs.List.{All}
 use Rattle.acpi_base.specs.declared.table.signature.Signature.{Signature}
-use Rattle.acpi_base.specs.declared.table.signature.TheConstants.Signature.{BGRT, FADT, HPET, MADT, MCFG, SLIT, SPCR, SRAT, SSDT}
+use Rattle.acpi_base.specs.declared.table.signature.TheConstants.Signature.{BGRT, FADT, GTDT, HPET, MADT, MCFG, SLIT, SPCR, SRAT, SSDT}
 use Rattle.acpi_writer.specs.Bgrt.{FitsBgrt, bgrt_written}
 use Rattle.acpi_writer.specs.FadtBytes.{fadt_written, fixed_of}
 use Rattle.acpi_writer.specs.FadtLaws.{AreFitFor}
+use Rattle.acpi_writer.specs.Gtdt.{AreTimersFit, gtdt_written}
 use Rattle.acpi_writer.specs.HpetBytes.{hpet_written}
 use Rattle.acpi_writer.specs.HpetLaws.{FitsHpet}
 use Rattle.acpi_writer.specs.Laid.{padded}
@@ -20,7 +21,7 @@ use Rattle.acpi_writer.specs.Srat.{srat_written}
 use Rattle.acpi_writer.specs.SratLaws as srat
 use Rattle.acpi_writer.specs.Table.{table_written}
 use Rattle.acpi_writer.specs.declared.contents.TableContents.{TableContents}
-use Rattle.acpi_writer.specs.declared.contents.TableContents.TheVariants.{Bgrt, Fadt, Hpet, Madt, Mcfg, Slit, Spcr, Srat, Ssdt}
+use Rattle.acpi_writer.specs.declared.contents.TableContents.TheVariants.{Bgrt, Fadt, Gtdt, Hpet, Madt, Mcfg, Slit, Spcr, Srat, Ssdt}
 use Rattle.acpi_writer.specs.declared.error.WriterError.{WriterError}
 use Rattle.acpi_writer.specs.declared.ids.TableIds.{TableIds}
 
@@ -35,6 +36,7 @@ contents_written room ids (Fadt c) = fadt_written room ids c
 contents_written room ids (Srat c) = srat_written room ids c
 contents_written room ids (Spcr c) = spcr_written room ids c
 contents_written room ids (Bgrt c) = bgrt_written room ids c
+contents_written room ids (Gtdt c) = gtdt_written room ids c
 
 -- the numbers have a place
 abbrev pub FitsContents : TableContents → Type 0
@@ -47,6 +49,7 @@ FitsContents (Fadt c) = AreFitFor c (fixed_of c.hardware)
 FitsContents (Srat c) = srat.AreFit c
 FitsContents (Spcr c) = FitsSpcr c × IsUtf8 c.namespace_string.now
 FitsContents (Bgrt c) = FitsBgrt c
+FitsContents (Gtdt c) = AreTimersFit c
 
 abbrev pub signature_of : TableContents → Signature
 signature_of (Madt c) = MADT
@@ -58,6 +61,7 @@ signature_of (Fadt c) = FADT
 signature_of (Srat c) = SRAT
 signature_of (Spcr c) = SPCR
 signature_of (Bgrt c) = BGRT
+signature_of (Gtdt c) = GTDT
 
 -- how many bytes they are, or the error
 abbrev pub sized : Result (List ℕ) WriterError → Result ℕ WriterError

@@ -9,6 +9,7 @@ use crate::aml::write_ssdt;
 use crate::bgrt::{BgrtContents, write_bgrt};
 use crate::error::WriterError;
 use crate::fadt::{FadtContents, fadt_size, write_fadt};
+use crate::gtdt::{GtdtContents, gtdt_size, write_gtdt};
 use crate::hpet::write_hpet;
 use crate::ids::TableIds;
 use crate::madt::{MadtContents, madt_size, write_madt};
@@ -61,6 +62,8 @@ pub enum TableContents<'a> {
     Spcr(SpcrContents<'a>),
     /// `write_bgrt`.
     Bgrt(BgrtContents),
+    /// `write_gtdt`.
+    Gtdt(GtdtContents<'a>),
 }
 
 /// The least multiple of 16 that isn't below a number.
@@ -101,6 +104,7 @@ impl TableContents<'_> {
             TableContents::Srat(contents) => srat_size(ids, contents),
             TableContents::Spcr(contents) => spcr_size(ids, contents),
             TableContents::Bgrt(contents) => table_size(Signature::BGRT, 1, ids, contents),
+            TableContents::Gtdt(contents) => gtdt_size(ids, contents),
         }
     }
 
@@ -120,6 +124,7 @@ impl TableContents<'_> {
             TableContents::Srat(contents) => write_srat(out, ids, contents),
             TableContents::Spcr(contents) => write_spcr(out, ids, contents),
             TableContents::Bgrt(contents) => write_bgrt(out, ids, contents),
+            TableContents::Gtdt(contents) => write_gtdt(out, ids, contents),
         }
     }
 

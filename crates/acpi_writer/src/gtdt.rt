@@ -1,7 +1,8 @@
 //! The Generic Timer Description Table (GTDT, section 5.2.24), from the timers of an Arm machine.
-ghost use Rattle.std.specs.Prelude.{◌≡◌, length, take, IfOk};
+ghost use Rattle.std.specs.Prelude.{◌≡◌, ◌^◌, ◌<◌, length, take, IfOk};
 ghost use Rattle.acpi_base.specs.Steps.{Gives};
 ghost use Rattle.acpi_base.specs.declared.table.signature.TheConstants.Signature.{GTDT};
+ghost use Rattle.acpi_writer.specs.Contents.{most, sized};
 ghost use Rattle.acpi_writer.specs.Gtdt.{AreTimersFit, IsGtdt, gtdt_body, gtdt_checked, gtdt_written};
 ghost use Rattle.acpi_writer.specs.Table.{IsTableOf, Keeps, table_written};
 
@@ -12,7 +13,7 @@ use crate::checked::{Checked, check_all};
 use crate::error::WriterError;
 use crate::ids::TableIds;
 use crate::spelled::Then;
-use crate::table::write_table;
+use crate::table::{table_size, write_table};
 use acpi_arm::gtdt::{ArmTimer, GtFrame, SbsaWatchdog};
 use acpi_base::Signature;
 use structures::{Array, Base, Reserved, Structures};
@@ -70,6 +71,29 @@ fn check(contents: &GtdtContents<'_>) -> Result<(), WriterError>
     check_all(contents.platform_timers)
 }
 
+/// All after the header of a GTDT.
+macro_rules! body_of {
+    ($contents:expr) => {{
+        let platform = Then(
+            Array($contents.platform_timers.len()),
+            Then(
+                $contents.virtual_el2_timer,
+                Structures($contents.platform_timers),
+            ),
+        );
+        let el2 = Then(
+            $contents.el2_timer,
+            Then(Base($contents.counter_read_base), platform),
+        );
+        let el1 = Then(
+            $contents.non_secure_el1_timer,
+            Then($contents.virtual_el1_timer, el2),
+        );
+        let timers = Then(Reserved, Then($contents.secure_el1_timer, el1));
+        Then(Base($contents.counter_control_base), timers)
+    }};
+}
+
 /// Writes a GTDT whose contents may be written.
 ///
 /// Returns, in this order, `BadName`, `NoRoom` and `TooLong`.
@@ -85,29 +109,30 @@ fn write_contents(
         IsTableOf GTDT 3 ids.now (gtdt_body contents.now) (take n out.new)) }
     ensures fits { IfOk result (λ n. AreTimersFit contents.now) }
 {
-    let platform = Then(
-        Array(contents.platform_timers.len()),
-        Then(
-            contents.virtual_el2_timer,
-            Structures(contents.platform_timers),
-        ),
-    );
-    let el2 = Then(
-        contents.el2_timer,
-        Then(Base(contents.counter_read_base), platform),
-    );
-    let el1 = Then(
-        contents.non_secure_el1_timer,
-        Then(contents.virtual_el1_timer, el2),
-    );
-    let timers = Then(Reserved, Then(contents.secure_el1_timer, el1));
-    write_table(
-        out,
-        Signature::GTDT,
-        3,
-        ids,
-        &Then(Base(contents.counter_control_base), timers),
-    )
+    let body = body_of!(contents);
+    write_table(out, Signature::GTDT, 3, ids, &body)
+}
+
+/// How many bytes the GTDT of contents that may be written has, or the first error.
+fn contents_size(ids: &TableIds, contents: &GtdtContents<'_>) -> Result<usize, WriterError>
+    ensures exact { result ≡ sized (table_written most GTDT 3 ids.now (gtdt_body contents.now)) }
+    ensures short { IfOk result (λ n. n < 2 ^ 32) }
+    ensures fits { IfOk result (λ n. AreTimersFit contents.now) }
+{
+    let body = body_of!(contents);
+    table_size(Signature::GTDT, 3, ids, &body)
+}
+
+/// How many bytes the GTDT has, or the first error of `write_gtdt` in a slice of any length.
+pub(crate) fn gtdt_size(ids: &TableIds, contents: &GtdtContents<'_>) -> Result<usize, WriterError>
+    ensures exact { result ≡ sized (gtdt_written most ids.now contents.now) }
+    ensures short { IfOk result (λ n. n < 2 ^ 32) }
+    ensures fits { IfOk result (λ n. AreTimersFit contents.now) }
+{
+    match check(contents) {
+        Ok(()) => contents_size(ids, contents),
+        Err(error) => Err(error),
+    }
 }
 
 /// Writes a GTDT of revision 3 to the front of a slice, and returns how many bytes it has: 104, and 28 for each
