@@ -13,9 +13,11 @@ use Rattle.acpi_base.specs.Text.{letters_of}
 use Rattle.acpi_base.specs.declared.table.signature.Signature.{Signature}
 use Rattle.acpi_base.specs.declared.table.signature.TheConstants.Signature.{BGRT, FADT, GTDT, HPET, MADT, MCFG, SLIT, SPCR, SRAT, SSDT}
 use Rattle.acpi_writer.specs.Bgrt.{IsBgrt, bgrt_body}
+use Rattle.acpi_writer.specs.Checked.{all_checked}
 use Rattle.acpi_writer.specs.Contents.{FitsContents, bytes_of, contents_written, most, or_none, placed, signature_of}
 use Rattle.acpi_writer.specs.FadtBytes.{are_placed, are_registers, fadt_body, fadt_written, fixed_of, is_profile}
 use Rattle.acpi_writer.specs.FadtLaws.{AreFitFor, IsFadt}
+use Rattle.acpi_writer.specs.GicMadt.{AreGicFit, IsGicMadt, gic_body, gic_written, interface_checked}
 use Rattle.acpi_writer.specs.Gtdt.{AreTimersFit, IsGtdt, gtdt_body, gtdt_checked, gtdt_written}
 use Rattle.acpi_writer.specs.HpetBytes.{hpet_body}
 use Rattle.acpi_writer.specs.HpetLaws.{IsHpet}
@@ -33,16 +35,18 @@ use Rattle.acpi_writer.specs.Srat.{is_one_apic, is_one_gicc, is_range, srat_body
 use Rattle.acpi_writer.specs.SratLaws as srat
 use Rattle.acpi_writer.specs.Table.{AreIds, IsTableOf, IsValid, table_written}
 use Rattle.acpi_writer.specs.declared.contents.TableContents.{TableContents}
-use Rattle.acpi_writer.specs.declared.contents.TableContents.TheVariants.{Bgrt, Fadt, Gtdt, Hpet, Madt, Mcfg, Slit, Spcr, Srat, Ssdt}
+use Rattle.acpi_writer.specs.declared.contents.TableContents.TheVariants.{Bgrt, Fadt, GicMadt, Gtdt, Hpet, Madt, Mcfg, Slit, Spcr, Srat, Ssdt}
 use Rattle.acpi_writer.specs.declared.error.WriterError.TheVariants.{BadCode, BadMatrix, BadProfile, BadRange, BadRegister, IdOfAll, LongName, NoAddress, NoProcessor, UidOfAll}
 use Rattle.acpi_writer.specs.declared.fadt.contents.FadtContents.{FadtContents}
 use Rattle.acpi_writer.specs.declared.gtdt.GtdtContents.{GtdtContents}
 use Rattle.acpi_writer.specs.declared.ids.TableIds.{TableIds}
+use Rattle.acpi_writer.specs.declared.madt.gic.GicContents.{GicContents}
 use Rattle.acpi_writer.specs.declared.madt.MadtContents.{MadtContents}
 use Rattle.acpi_writer.specs.declared.spcr.SpcrContents.{SpcrContents}
 use Rattle.acpi_writer.specs.declared.srat.SratContents.{SratContents}
 use Rattle.acpi_writer.proofs.BgrtRead.{bgrt_valid}
 use Rattle.acpi_writer.proofs.FadtRead.{fadt_valid}
+use Rattle.acpi_writer.proofs.GicRead.{gic_madt_valid}
 use Rattle.acpi_writer.proofs.GtdtRead.{gtdt_valid}
 use Rattle.acpi_writer.proofs.HpetRead.{hpet_valid}
 use Rattle.acpi_writer.proofs.LaidRead.{holds_only}
@@ -80,6 +84,7 @@ IsContents ids (Srat c) t = srat.IsSrat ids c t
 IsContents ids (Spcr c) t = IsSpcr ids c t
 IsContents ids (Bgrt c) t = IsBgrt ids c t
 IsContents ids (Gtdt c) t = IsGtdt ids c t
+IsContents ids (GicMadt c) t = IsGicMadt ids c t
 
 pub table_of : (s : Signature) (revision : ℕ) (ids : TableIds) (body t : List ℕ) → AreIds ids → table_written most s revision ids body ≡ Ok t → IsTableOf s revision ids body t
 table_of s revision ids body t are e =
@@ -149,6 +154,15 @@ gtdt_of ids c t are fit e =
     let one = bind_ok (gtdt_checked c) (λ _. table_written most GTDT 3 ids (gtdt_body c)) t e in
     record { written = table_of GTDT 3 ids (gtdt_body c) t are one.2; fit = fit; checked = one.1 }
 
+gic_of : (ids : TableIds) (c : GicContents) (t : List ℕ) → AreIds ids → AreGicFit c → gic_written most ids c ≡ Ok t → IsGicMadt ids c t
+unfolding gic_written
+gic_of ids c t are fit e =
+    let modes = all_checked interface_checked c.cpu_interfaces.now in
+    let here = table_written most MADT 6 ids (gic_body c) in
+    let one = holds_ok (not (is_empty c.cpu_interfaces.now)) NoProcessor (λ _. modes >>= λ _. here) t e in
+    let two = bind_ok modes (λ _. here) t one.1 in
+    record { written = table_of MADT 6 ids (gic_body c) t are two.2; fit = fit; checked = two.1 }
+
 contents_of : (ids : TableIds) (c : TableContents) (t : List ℕ) → AreIds ids → FitsContents c → contents_written most ids c ≡ Ok t → IsContents ids c t
 contents_of ids (Madt c) t are fit e = madt_of ids c t are fit e
 contents_of ids (Mcfg regions) t are fit e = record { written = table_of MCFG 1 ids (mcfg_body regions.now) t are e; fit = fit }
@@ -160,6 +174,7 @@ contents_of ids (Srat c) t are fit e = srat_of ids c t are fit e
 contents_of ids (Spcr c) t are fit e = spcr_of ids c t are fit.0 fit.1 e
 contents_of ids (Bgrt c) t are fit e = record { written = table_of BGRT 1 ids (bgrt_body c) t are e; fit = fit }
 contents_of ids (Gtdt c) t are fit e = gtdt_of ids c t are fit e
+contents_of ids (GicMadt c) t are fit e = gic_of ids c t are fit e
 
 valid_of : (ids : TableIds) (c : TableContents) (t : List ℕ) → IsContents ids c t → IsValid (signature_of c) t
 valid_of ids (Madt c) t is = madt_valid ids c t is
@@ -172,6 +187,7 @@ valid_of ids (Srat c) t is = srat_valid ids c t is
 valid_of ids (Spcr c) t is = spcr_valid ids c t is
 valid_of ids (Bgrt c) t is = bgrt_valid ids c t is
 valid_of ids (Gtdt c) t is = gtdt_valid ids c t is
+valid_of ids (GicMadt c) t is = gic_madt_valid ids c t is
 
 -- ---- all of them
 

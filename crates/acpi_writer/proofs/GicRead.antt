@@ -256,7 +256,7 @@ entries_read c =
     ++ (map its_kind c.translation_services.now
     ++ map msi_kind c.msi_frames.now)))
 
-abbrev entry_bytes : GicContents → List ℕ
+abbrev pub entry_bytes : GicContents → List ℕ
 entry_bytes c =
     gicd_entry c.distributor
     ++ (flat_map gicc_entry c.cpu_interfaces.now

@@ -1,5 +1,5 @@
 -- What a reader says of the tables of a machine, where a lookup finds the first of each signature.
-use Rattle.std.proofs.Common.{◌≡◌, ℕ, ◌+◌, ◌*◌, ◌<◌, ◌≤◌, List, length, Option, Some, Result, Ok, refl, arith, lit≤, length-append}
+use Rattle.std.proofs.Common.{◌≡◌, ℕ, ◌+◌, ◌*◌, ◌<◌, ◌≤◌, false, List, length, Option, Some, Result, Ok, refl, arith, lit≤, length-append}
 use Rattle.std.specs.Prelude.{slice_get}
 use Rattle.std.specs.List.{AllByRecursion}
 use Rattle.acpi_base.proofs.Spelling.{length-spelling}
@@ -15,6 +15,7 @@ use Rattle.acpi.specs.Lookup.{lookup}
 use Rattle.acpi.specs.Pci.{found_regions}
 use Rattle.acpi.specs.Platform.{model_in, platform_of}
 use Rattle.acpi.specs.declared.hpet.HpetInfo.{HpetInfo}
+use Rattle.acpi_arm.specs.Gic.{found_gic}
 use Rattle.acpi_arm.specs.Gtdt.{gtdt_kind}
 use Rattle.acpi_fixed.specs.Bgrt.{bgrt_at}
 use Rattle.acpi_numa.specs.Affinities.{srat_kind}
@@ -23,6 +24,7 @@ use Rattle.acpi_writer.specs.Bgrt.{IsBgrt, SaysImage, bgrt_body}
 use Rattle.acpi_writer.specs.Contents.{bytes_of}
 use Rattle.acpi_writer.specs.FadtBytes.{fadt_body, fixed_of}
 use Rattle.acpi_writer.specs.FadtLaws.{IsFadt}
+use Rattle.acpi_writer.specs.GicMadt.{IsGicMadt, gic_body, gic_read}
 use Rattle.acpi_writer.specs.Gtdt.{IsGtdt, SaysTimers, gtdt_body}
 use Rattle.acpi_writer.specs.HpetBytes.{hpet_body}
 use Rattle.acpi_writer.specs.HpetLaws.{IsHpet}
@@ -39,10 +41,11 @@ use Rattle.acpi_writer.specs.SratLaws.{IsSrat, SaysDomains}
 use Rattle.acpi_writer.specs.declared.bgrt.BgrtContents.{BgrtContents}
 use Rattle.acpi_writer.specs.declared.contents.SlitContents.{SlitContents}
 use Rattle.acpi_writer.specs.declared.contents.TableContents.{TableContents}
-use Rattle.acpi_writer.specs.declared.contents.TableContents.TheVariants.{Bgrt, Fadt, Gtdt, Hpet, Madt, Mcfg, Slit, Spcr, Srat}
+use Rattle.acpi_writer.specs.declared.contents.TableContents.TheVariants.{Bgrt, Fadt, GicMadt, Gtdt, Hpet, Madt, Mcfg, Slit, Spcr, Srat}
 use Rattle.acpi_writer.specs.declared.fadt.contents.FadtContents.{FadtContents}
 use Rattle.acpi_writer.specs.declared.gtdt.GtdtContents.{GtdtContents}
 use Rattle.acpi_writer.specs.declared.ids.TableIds.{TableIds}
+use Rattle.acpi_writer.specs.declared.madt.gic.GicContents.{GicContents}
 use Rattle.acpi_writer.specs.declared.madt.MadtContents.{MadtContents}
 use Rattle.acpi_writer.specs.declared.spcr.SpcrContents.{SpcrContents}
 use Rattle.acpi_writer.specs.declared.srat.SratContents.{SratContents}
@@ -50,6 +53,7 @@ use Rattle.acpi_writer.proofs.BgrtRead.{bgrt_long, bgrt_name, bgrt_read}
 use Rattle.acpi_writer.proofs.ContentsRead.{IsContents, first_is}
 use Rattle.acpi_writer.proofs.FadtParts.{body_long}
 use Rattle.acpi_writer.proofs.FadtRead.{fadt_name, fadt_read}
+use Rattle.acpi_writer.proofs.GicRead.{entry_bytes, gic_madt_read}
 use Rattle.acpi_writer.proofs.GtdtRead as gtdt
 use Rattle.acpi_writer.proofs.HpetRead.{hpet_name, hpet_read}
 use Rattle.acpi_writer.proofs.Images.{hpet_long, platform_has}
@@ -142,6 +146,15 @@ module _
       let long = table.long GTDT gtdt.gtdt_name 3 ids (gtdt_body c) t this.written in
       ((place GTDT, t), found GTDT (Gtdt c) 96 is_first (lit≤ tt) (omega (arith, long, gtdt.body_long c)), gtdt.gtdt_read ids c t this)
 
+  gic : {A : Type 0} (c : GicContents) → first_of MADT cs ≡ Some (GicMadt c) → found_gic {A = A} m ps ≡ Ok (Some (gic_read c))
+  gic {A = A} c is_first =
+      let t = bytes_of ids (GicMadt c) in
+      let this : IsGicMadt ids c t = written MADT (GicMadt c) is_first in
+      let size = length-append (madt_fixed 0 false) (entry_bytes c) in
+      let long = table.long MADT madt_name 6 ids (gic_body c) t this.written in
+      let there = found MADT (GicMadt c) 44 is_first (lit≤ tt) (omega (arith, long, size, fixed_long 0 false)) in
+      rw there (gic_madt_read {A = A} ids c t this)
+
   pub says : {A : Type 0} → Says A m ps cs
   says {A = A} = record {
     model = λ c is_first. model {A = A} c is_first;
@@ -155,4 +168,5 @@ module _
     console = console;
     image = image;
     timers = timers;
+    gic = λ c is_first. gic {A = A} c is_first;
   }

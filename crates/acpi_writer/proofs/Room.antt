@@ -10,8 +10,10 @@ use Rattle.acpi_base.specs.declared.table.signature.Signature.{Signature}
 use Rattle.acpi_base.specs.declared.table.signature.TheConstants.Signature.{BGRT, FADT, GTDT, HPET, MADT, MCFG, SLIT, SPCR, SRAT, SSDT}
 use Rattle.acpi_image.proofs.Written.{length-with_sum}
 use Rattle.acpi_writer.specs.Bgrt.{bgrt_body}
+use Rattle.acpi_writer.specs.Checked.{all_checked}
 use Rattle.acpi_writer.specs.Contents.{contents_written, most, or_none, placed}
 use Rattle.acpi_writer.specs.FadtBytes.{are_placed, are_registers, fadt_body, fadt_written, is_profile}
+use Rattle.acpi_writer.specs.GicMadt.{gic_body, gic_written, interface_checked}
 use Rattle.acpi_writer.specs.Gtdt.{gtdt_body, gtdt_checked, gtdt_written}
 use Rattle.acpi_writer.specs.HpetBytes.{hpet_body}
 use Rattle.acpi_writer.specs.Laid.{gap, padded}
@@ -22,11 +24,12 @@ use Rattle.acpi_writer.specs.Spcr.{is_base, is_interface, is_somewhere, spcr_bod
 use Rattle.acpi_writer.specs.Srat.{is_one_apic, is_one_gicc, is_range, srat_body, srat_written}
 use Rattle.acpi_writer.specs.Table.{AreIds, are_texts, table_bytes, table_head, table_written, unsummed}
 use Rattle.acpi_writer.specs.declared.contents.TableContents.{TableContents}
-use Rattle.acpi_writer.specs.declared.contents.TableContents.TheVariants.{Bgrt, Fadt, Gtdt, Hpet, Madt, Mcfg, Slit, Spcr, Srat, Ssdt}
+use Rattle.acpi_writer.specs.declared.contents.TableContents.TheVariants.{Bgrt, Fadt, GicMadt, Gtdt, Hpet, Madt, Mcfg, Slit, Spcr, Srat, Ssdt}
 use Rattle.acpi_writer.specs.declared.error.WriterError.{WriterError}
 use Rattle.acpi_writer.specs.declared.error.WriterError.TheVariants.{BadCode, BadMatrix, BadProfile, BadRange, BadRegister, IdOfAll, LongName, NoAddress, NoProcessor, UidOfAll}
 use Rattle.acpi_writer.specs.declared.fadt.contents.FadtContents.{FadtContents}
 use Rattle.acpi_writer.specs.declared.gtdt.GtdtContents.{GtdtContents}
+use Rattle.acpi_writer.specs.declared.madt.gic.GicContents.{GicContents}
 use Rattle.acpi_writer.specs.declared.madt.MadtContents.{MadtContents}
 use Rattle.acpi_writer.specs.declared.ids.TableIds.{TableIds}
 use Rattle.acpi_writer.specs.declared.spcr.SpcrContents.{SpcrContents}
@@ -139,6 +142,15 @@ moved_gtdt ids c are room other t e fits =
     let here : ℕ → Result (List ℕ) WriterError = λ n. table_written n GTDT 3 ids (gtdt_body c) in
     through (gtdt_checked c) (here room) (here other) t (λ p. moved_table GTDT 3 ids (gtdt_body c) refl are room other t p fits) e
 
+moved_gic : (ids : TableIds) (c : GicContents) → AreIds ids → Moves (λ room. gic_written room ids c)
+unfolding gic_written
+moved_gic ids c are room other t e fits =
+    let some = holds (not (is_empty c.cpu_interfaces.now)) NoProcessor in
+    let modes = all_checked interface_checked c.cpu_interfaces.now in
+    let here : ℕ → Result (List ℕ) WriterError = λ n. table_written n MADT 6 ids (gic_body c) in
+    through some (modes >>= λ _. here room) (modes >>= λ _. here other) t
+    (through modes (here room) (here other) t (λ p. moved_table MADT 6 ids (gic_body c) refl are room other t p fits)) e
+
 pub moved_contents : (ids : TableIds) (c : TableContents) → AreIds ids → Moves (λ room. contents_written room ids c)
 moved_contents ids (Madt c) are = moved_madt ids c are
 moved_contents ids (Mcfg regions) are = moved_table MCFG 1 ids (mcfg_body regions.now) refl are
@@ -150,6 +162,7 @@ moved_contents ids (Srat c) are = moved_srat ids c are
 moved_contents ids (Spcr c) are = moved_spcr ids c are
 moved_contents ids (Bgrt c) are = moved_table BGRT 1 ids (bgrt_body c) refl are
 moved_contents ids (Gtdt c) are = moved_gtdt ids c are
+moved_contents ids (GicMadt c) are = moved_gic ids c are
 
 -- ---- what a call wrote, and what it didn't
 

@@ -6,6 +6,7 @@ use Rattle.acpi_base.specs.declared.table.signature.TheConstants.Signature.{BGRT
 use Rattle.acpi_writer.specs.Bgrt.{FitsBgrt, bgrt_written}
 use Rattle.acpi_writer.specs.FadtBytes.{fadt_written, fixed_of}
 use Rattle.acpi_writer.specs.FadtLaws.{AreFitFor}
+use Rattle.acpi_writer.specs.GicMadt.{AreGicFit, gic_written}
 use Rattle.acpi_writer.specs.Gtdt.{AreTimersFit, gtdt_written}
 use Rattle.acpi_writer.specs.HpetBytes.{hpet_written}
 use Rattle.acpi_writer.specs.HpetLaws.{FitsHpet}
@@ -21,7 +22,7 @@ use Rattle.acpi_writer.specs.Srat.{srat_written}
 use Rattle.acpi_writer.specs.SratLaws as srat
 use Rattle.acpi_writer.specs.Table.{table_written}
 use Rattle.acpi_writer.specs.declared.contents.TableContents.{TableContents}
-use Rattle.acpi_writer.specs.declared.contents.TableContents.TheVariants.{Bgrt, Fadt, Gtdt, Hpet, Madt, Mcfg, Slit, Spcr, Srat, Ssdt}
+use Rattle.acpi_writer.specs.declared.contents.TableContents.TheVariants.{Bgrt, Fadt, GicMadt, Gtdt, Hpet, Madt, Mcfg, Slit, Spcr, Srat, Ssdt}
 use Rattle.acpi_writer.specs.declared.error.WriterError.{WriterError}
 use Rattle.acpi_writer.specs.declared.ids.TableIds.{TableIds}
 
@@ -37,6 +38,7 @@ contents_written room ids (Srat c) = srat_written room ids c
 contents_written room ids (Spcr c) = spcr_written room ids c
 contents_written room ids (Bgrt c) = bgrt_written room ids c
 contents_written room ids (Gtdt c) = gtdt_written room ids c
+contents_written room ids (GicMadt c) = gic_written room ids c
 
 -- the numbers have a place
 abbrev pub FitsContents : TableContents → Type 0
@@ -50,6 +52,7 @@ FitsContents (Srat c) = srat.AreFit c
 FitsContents (Spcr c) = FitsSpcr c × IsUtf8 c.namespace_string.now
 FitsContents (Bgrt c) = FitsBgrt c
 FitsContents (Gtdt c) = AreTimersFit c
+FitsContents (GicMadt c) = AreGicFit c
 
 abbrev pub signature_of : TableContents → Signature
 signature_of (Madt c) = MADT
@@ -62,6 +65,7 @@ signature_of (Srat c) = SRAT
 signature_of (Spcr c) = SPCR
 signature_of (Bgrt c) = BGRT
 signature_of (Gtdt c) = GTDT
+signature_of (GicMadt c) = MADT
 
 -- how many bytes they are, or the error
 abbrev pub sized : Result (List ℕ) WriterError → Result ℕ WriterError

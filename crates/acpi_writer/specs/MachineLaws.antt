@@ -7,8 +7,8 @@
 --   * of each signature the first of the listed tables is found, at its address, with its bytes;
 --   * a FADT is read as it was passed in, and if it has the DSDT's address, the DSDT's AML is found;
 --   * so the platform with its interrupt model and its processors, the regions of the configuration space, the event
---     timer block, the domains, the distances, the console's serial port, the boot image and the generic timers are
---     exactly those that were passed in; and the DSDT is valid at its address.
+--     timer block, the domains, the distances, the console's serial port, the boot image, the generic timers and the
+--     GIC are exactly those that were passed in; and the DSDT is valid at its address.
 use Rattle.std.specs.Prelude.{◌≡◌, ℕ, ◌+◌, ◌*◌, ◌<◌, ◌≤◌, ◌&&◌, true, List, [], ◌∷◌, length, drop, nat_le, slice_get, if◌then◌else◌}
 use Rattle.std.specs.Prelude.{Option, Some, None, Result, Ok, Err}
 use Rattle.std.specs.List.{AllByRecursion}
@@ -32,6 +32,7 @@ use Rattle.acpi_base.specs.declared.error.AcpiError.TheVariants.{TableMissing}
 use Rattle.acpi_base.specs.declared.model.interrupt.InterruptModel.TheVariants.{Apic}
 use Rattle.acpi_base.specs.declared.table.signature.Signature.{Signature}
 use Rattle.acpi_base.specs.declared.table.signature.TheConstants.Signature.{BGRT, DSDT, FADT, GTDT, HPET, MADT, MCFG, SLIT, SPCR, SRAT}
+use Rattle.acpi_arm.specs.Gic.{found_gic}
 use Rattle.acpi_arm.specs.Gtdt.{gtdt_kind}
 use Rattle.acpi_fixed.specs.Bgrt.{bgrt_at}
 use Rattle.acpi_fixed.specs.Fadt.{fadt_at}
@@ -40,6 +41,7 @@ use Rattle.acpi_numa.specs.Slit.{distance_of}
 use Rattle.acpi_writer.specs.Bgrt.{SaysImage}
 use Rattle.acpi_writer.specs.Contents.{bytes_of, placed, signature_of}
 use Rattle.acpi_writer.specs.FadtLaws.{IsReadAs, timer_read}
+use Rattle.acpi_writer.specs.GicMadt.{gic_read}
 use Rattle.acpi_writer.specs.Gtdt.{SaysTimers}
 use Rattle.acpi_writer.specs.ImageLaws.{HasPlatform, is_named}
 use Rattle.acpi_writer.specs.Laid.{addresses, laid, padded}
@@ -51,7 +53,7 @@ use Rattle.acpi_writer.specs.SratLaws.{SaysDomains}
 use Rattle.acpi_writer.specs.Table.{IsValid}
 use Rattle.acpi_writer.specs.declared.contents.AmlContents.{AmlContents}
 use Rattle.acpi_writer.specs.declared.contents.TableContents.{TableContents}
-use Rattle.acpi_writer.specs.declared.contents.TableContents.TheVariants.{Bgrt, Fadt, Gtdt, Hpet, Madt, Mcfg, Slit, Spcr, Srat}
+use Rattle.acpi_writer.specs.declared.contents.TableContents.TheVariants.{Bgrt, Fadt, GicMadt, Gtdt, Hpet, Madt, Mcfg, Slit, Spcr, Srat}
 use Rattle.acpi_writer.specs.declared.fadt.contents.FadtContents.{FadtContents}
 use Rattle.acpi_writer.specs.declared.ids.TableIds.{TableIds}
 use Rattle.acpi_writer.specs.declared.madt.MadtContents.{MadtContents}
@@ -150,6 +152,7 @@ pub record Says (A : Type 0) (m : Memory) (ps : List ℕ) (cs : List TableConten
   pub image : (c : _) → first_of BGRT cs ≡ Some (Bgrt c)
       → HasTable m ps (sdt_kind BGRT 56) (λ t. SaysImage c (bgrt_at t))
   pub timers : (c : _) → first_of GTDT cs ≡ Some (Gtdt c) → HasTable m ps gtdt_kind (SaysTimers c)
+  pub gic : (c : _) → first_of MADT cs ≡ Some (GicMadt c) → found_gic {A = A} m ps ≡ Ok (Some (gic_read c))
 
 -- the theorem, for an RSDP at an address of its own
 abbrev pub TreeIsRead : Type 0 → Type 0

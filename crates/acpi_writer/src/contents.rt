@@ -12,6 +12,7 @@ use crate::fadt::{FadtContents, fadt_size, write_fadt};
 use crate::gtdt::{GtdtContents, gtdt_size, write_gtdt};
 use crate::hpet::write_hpet;
 use crate::ids::TableIds;
+use crate::madt::gic::{GicContents, gic_size, write_gic_madt};
 use crate::madt::{MadtContents, madt_size, write_madt};
 use crate::mcfg::{mcfg_size, write_mcfg};
 use crate::slit::{slit_size, write_slit};
@@ -64,6 +65,8 @@ pub enum TableContents<'a> {
     Bgrt(BgrtContents),
     /// `write_gtdt`.
     Gtdt(GtdtContents<'a>),
+    /// `write_gic_madt`.
+    GicMadt(GicContents<'a>),
 }
 
 /// The least multiple of 16 that isn't below a number.
@@ -105,6 +108,7 @@ impl TableContents<'_> {
             TableContents::Spcr(contents) => spcr_size(ids, contents),
             TableContents::Bgrt(contents) => table_size(Signature::BGRT, 1, ids, contents),
             TableContents::Gtdt(contents) => gtdt_size(ids, contents),
+            TableContents::GicMadt(contents) => gic_size(ids, contents),
         }
     }
 
@@ -125,6 +129,7 @@ impl TableContents<'_> {
             TableContents::Spcr(contents) => write_spcr(out, ids, contents),
             TableContents::Bgrt(contents) => write_bgrt(out, ids, contents),
             TableContents::Gtdt(contents) => write_gtdt(out, ids, contents),
+            TableContents::GicMadt(contents) => write_gic_madt(out, ids, contents),
         }
     }
 

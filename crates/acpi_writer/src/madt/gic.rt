@@ -1,8 +1,9 @@
 //! The MADT of an Arm machine, from its Generic Interrupt Controller (GIC, sections 5.2.12.14 to 5.2.12.18).
-ghost use Rattle.std.specs.Prelude.{◌≡◌, length, take, IfOk};
+ghost use Rattle.std.specs.Prelude.{◌≡◌, ◌^◌, ◌<◌, length, take, IfOk};
 ghost use Rattle.std.specs.List.{list_all};
 ghost use Rattle.acpi_base.specs.Steps.{Gives};
 ghost use Rattle.acpi_base.specs.declared.table.signature.TheConstants.Signature.{MADT};
+ghost use Rattle.acpi_writer.specs.Contents.{most, sized};
 ghost use Rattle.acpi_writer.specs.GicMadt.{AreGicFit, IsGicMadt, gic_body, gic_written};
 ghost use Rattle.acpi_writer.specs.Table.{IsTableOf, Keeps, table_written};
 
@@ -13,7 +14,7 @@ use crate::checked::check_all;
 use crate::error::WriterError;
 use crate::ids::TableIds;
 use crate::spelled::{Each, Then};
-use crate::table::write_table;
+use crate::table::{table_size, write_table};
 use acpi_arm::gic::{
     GicCpuInterface, GicDistributor, GicMsiFrame, GicRedistributors, GicTranslationService,
 };
@@ -34,6 +35,26 @@ pub struct GicContents<'a> {
     pub msi_frames: &'a [GicMsiFrame],
 }
 
+/// All after the header of such a MADT.
+macro_rules! body_of {
+    ($contents:expr) => {{
+        let fixed = Fixed {
+            local_apic_address: 0,
+            also_has_legacy_pics: false,
+        };
+        let messages = Then(
+            Each($contents.translation_services),
+            Each($contents.msi_frames),
+        );
+        let redistributors = Then(Each($contents.redistributors), messages);
+        let entries = Then(
+            $contents.distributor,
+            Then(Each($contents.cpu_interfaces), redistributors),
+        );
+        Then(fixed, entries)
+    }};
+}
+
 /// Writes a MADT whose contents may be written.
 ///
 /// Returns, in this order, `BadName`, `NoRoom` and `TooLong`.
@@ -49,20 +70,33 @@ fn write_contents(
         IsTableOf MADT 6 ids.now (gic_body contents.now) (take n out.new)) }
     ensures fits { IfOk result (λ n. AreGicFit contents.now) }
 {
-    let fixed = Fixed {
-        local_apic_address: 0,
-        also_has_legacy_pics: false,
-    };
-    let messages = Then(
-        Each(contents.translation_services),
-        Each(contents.msi_frames),
-    );
-    let redistributors = Then(Each(contents.redistributors), messages);
-    let entries = Then(
-        contents.distributor,
-        Then(Each(contents.cpu_interfaces), redistributors),
-    );
-    write_table(out, Signature::MADT, 6, ids, &Then(fixed, entries))
+    let body = body_of!(contents);
+    write_table(out, Signature::MADT, 6, ids, &body)
+}
+
+/// How many bytes the MADT of contents that may be written has, or the first error.
+fn contents_size(ids: &TableIds, contents: &GicContents<'_>) -> Result<usize, WriterError>
+    ensures exact { result ≡ sized (table_written most MADT 6 ids.now (gic_body contents.now)) }
+    ensures short { IfOk result (λ n. n < 2 ^ 32) }
+    ensures fits { IfOk result (λ n. AreGicFit contents.now) }
+{
+    let body = body_of!(contents);
+    table_size(Signature::MADT, 6, ids, &body)
+}
+
+/// How many bytes the MADT has, or the first error of `write_gic_madt` in a slice of any length.
+pub(crate) fn gic_size(ids: &TableIds, contents: &GicContents<'_>) -> Result<usize, WriterError>
+    ensures exact { result ≡ sized (gic_written most ids.now contents.now) }
+    ensures short { IfOk result (λ n. n < 2 ^ 32) }
+    ensures fits { IfOk result (λ n. AreGicFit contents.now) }
+{
+    if contents.cpu_interfaces.len() < 1 {
+        return Err(WriterError::NoProcessor);
+    }
+    match check_all(contents.cpu_interfaces) {
+        Ok(()) => contents_size(ids, contents),
+        Err(error) => Err(error),
+    }
 }
 
 /// Writes the MADT of an Arm machine, of revision 6, to the front of a slice, and returns how many bytes it has. Its
