@@ -2,7 +2,8 @@
 //! addresses that may be missing.
 ghost use Rattle.std.specs.Prelude.{◌≡◌, ◌^◌, ◌<◌};
 ghost use Rattle.acpi_base.specs.Bytes.{spelling};
-ghost use Rattle.acpi_writer.specs.Arm.{base_checked, flags_of, has_polarity, has_trigger, is_edge, is_low, modes_checked};
+ghost use Rattle.acpi_writer.specs.Arm.{base_checked, flags_of, has_polarity, has_trigger};
+ghost use Rattle.acpi_writer.specs.Arm.{is_edge, is_low, modes_checked};
 
 use crate::checked::require;
 use crate::error::WriterError;

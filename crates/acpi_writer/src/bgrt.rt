@@ -83,8 +83,8 @@ impl Spelled for BgrtContents {
     }
 }
 
-/// Writes a BGRT of revision 1, whose Version is 1 and whose image is a bitmap, to the front of a slice, and returns how
-/// many bytes it has, 56. Whether there is an image at its address isn't asked.
+/// Writes a BGRT of revision 1, whose Version is 1 and whose image is a bitmap, to the front of a slice, and returns
+/// how many bytes it has, 56. Whether there is an image at its address isn't asked.
 ///
 /// Returns, in this order, `BadName` if a name of the ids is not valid UTF-8, and `NoRoom` if the slice is shorter
 /// than the table.

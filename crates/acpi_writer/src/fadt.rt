@@ -170,16 +170,17 @@ pub(crate) fn fadt_size(ids: &TableIds, contents: &FadtContents) -> Result<usize
     contents_size(ids, contents, &fixed_of(&contents.hardware))
 }
 
-/// Writes a FADT of version 6.4, 276 bytes, to the front of a slice, and returns how many bytes it has. Each address and
-/// each block stands in its X_ field, and in its field of 32 bits too if it fits there, a block if it is one of ports.
-/// PM1_EVT_LEN, PM1_CNT_LEN and PM2_CNT_LEN are the whole bytes of the block's width, by its first block, and PM_TMR_LEN
-/// is 4. A block of general purpose events has a width of 255 if it is of 32 bytes or more. What isn't given, and all of
-/// fixed hardware on a machine of reduced hardware, is 0, and so are the reserved fields and Hypervisor Vendor Identity.
+/// Writes a FADT of version 6.4, 276 bytes, to the front of a slice, and returns how many bytes it has. Each address
+/// and each block stands in its X_ field, and in its field of 32 bits too if it fits there, a block if it is one of
+/// ports. PM1_EVT_LEN, PM1_CNT_LEN and PM2_CNT_LEN are the whole bytes of the block's width, by its first block, and
+/// PM_TMR_LEN is 4. A block of general purpose events has a width of 255 if it is of 32 bytes or more. What isn't
+/// given, and all of fixed hardware on a machine of reduced hardware, is 0, and so are the reserved fields and
+/// Hypervisor Vendor Identity.
 ///
-/// Returns, in this order, `NoAddress` if the DSDT or the FACS is at address 0, `BadProfile` if a `Reserved` profile has
-/// the code of one that has a name, `BadRegister` if a register is at address 0 or in an `OemDefined` space below 0xc0,
-/// or if a block of general purpose events has no bytes, `BadName` if a name of the ids is not valid UTF-8, and `NoRoom`
-/// if the slice is shorter than the table.
+/// Returns, in this order, `NoAddress` if the DSDT or the FACS is at address 0, `BadProfile` if a `Reserved` profile
+/// has the code of one that has a name, `BadRegister` if a register is at address 0 or in an `OemDefined` space below
+/// 0xc0, or if a block of general purpose events has no bytes, `BadName` if a name of the ids is not valid UTF-8, and
+/// `NoRoom` if the slice is shorter than the table.
 pub fn write_fadt(
     out: &mut [u8],
     ids: &TableIds,

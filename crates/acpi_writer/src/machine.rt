@@ -31,8 +31,9 @@ pub struct Machine<'a> {
     pub tables: &'a [TableContents<'a>],
 }
 
-/// The physical address at which `write_tables` lays the DSDT of a machine that lists so many tables, if it is passed this
-/// address itself, or `None` if there can't be so many or the sum is 2^64 or above. A FADT among the tables is to have it.
+/// The physical address at which `write_tables` lays the DSDT of a machine that lists so many tables, if it is passed
+/// this address itself, or `None` if there can't be so many or the sum is 2^64 or above. A FADT among the tables is to
+/// have it.
 pub fn dsdt_address(address: u64, tables: usize) -> Option<u64>
     ensures { result ≡ whole.dsdt_at address tables }
 {

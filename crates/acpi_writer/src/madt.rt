@@ -210,8 +210,8 @@ pub(crate) fn madt_size(ids: &TableIds, contents: &MadtContents<'_>) -> Result<u
 /// processors of one uid, and one with both flags set, are written as they are.
 ///
 /// Returns, in this order, `NoProcessor` if there is no processor, `IdOfAll` if a processor's uid or id is 0xffffffff,
-/// `UidOfAll` if an NMI line is of the processor 0xffffffff, `BadName` if a name of the ids is not valid UTF-8, `NoRoom`
-/// if the slice is shorter than the table, and `TooLong` if the table has 2^32 bytes or more.
+/// `UidOfAll` if an NMI line is of the processor 0xffffffff, `BadName` if a name of the ids is not valid UTF-8,
+/// `NoRoom` if the slice is shorter than the table, and `TooLong` if the table has 2^32 bytes or more.
 pub fn write_madt(
     out: &mut [u8],
     ids: &TableIds,

@@ -53,8 +53,8 @@ pub struct SpcrContents<'a> {
     pub irq: u8,
     /// Global System Interrupt. It counts if Interrupt Type has another controller than the 8259s.
     pub global_system_interrupt: u32,
-    /// Precise Baud Rate: the rate in bits per second, or 0 if it is to stay as it is. Configured Baud Rate has its code
-    /// too, if it has one.
+    /// Precise Baud Rate: the rate in bits per second, or 0 if it is to stay as it is. Configured Baud Rate has its
+    /// code too, if it has one.
     pub baud_rate: u32,
     /// Parity: 0 is no parity, and other codes are reserved.
     pub parity: u8,

@@ -219,15 +219,15 @@ pub(crate) fn srat_size(ids: &TableIds, contents: &SratContents<'_>) -> Result<u
     contents_size(ids, contents)
 }
 
-/// Writes a SRAT of revision 3 to the front of a slice, and returns how many bytes it has: 48, and those of its entries,
-/// which stand sort by sort, in the order of the fields, and are all enabled. A processor with a local APIC has 16 if its
-/// id is below 255, as a Processor Local APIC/SAPIC Affinity, otherwise 24, as a Processor Local x2APIC Affinity; one
-/// with an interface to the GIC has 18, and a range of memory 40. Each Clock Domain is 0. Of two entries of one processor
-/// the later one is the one that is read; ranges may overlap.
+/// Writes a SRAT of revision 3 to the front of a slice, and returns how many bytes it has: 48, and those of its
+/// entries, which stand sort by sort, in the order of the fields, and are all enabled. A processor with a local APIC
+/// has 16 if its id is below 255, as a Processor Local APIC/SAPIC Affinity, otherwise 24, as a Processor Local x2APIC
+/// Affinity; one with an interface to the GIC has 18, and a range of memory 40. Each Clock Domain is 0. Of two entries
+/// of one processor the later one is the one that is read; ranges may overlap.
 ///
-/// Returns, in this order, `IdOfAll` if a processor's id or uid is 0xffffffff, `BadRange` if a range has no byte or ends
-/// above 2^64 - 1, `BadName` if a name of the ids is not valid UTF-8, `NoRoom` if the slice is shorter than the table,
-/// and `TooLong` if the table has 2^32 bytes or more.
+/// Returns, in this order, `IdOfAll` if a processor's id or uid is 0xffffffff, `BadRange` if a range has no byte or
+/// ends above 2^64 - 1, `BadName` if a name of the ids is not valid UTF-8, `NoRoom` if the slice is shorter than the
+/// table, and `TooLong` if the table has 2^32 bytes or more.
 pub fn write_srat(
     out: &mut [u8],
     ids: &TableIds,

@@ -116,7 +116,7 @@ fn numbers_fit(x: &GicCpuInterface)
     let _spe = x.spe_overflow_interrupt;
 }
 
-/// So have its addresses.
+/// The addresses of a processor have a place in its GICC.
 fn addresses_fit(x: &GicCpuInterface)
     ensures { gic.FitsAddresses x.now }
 {
