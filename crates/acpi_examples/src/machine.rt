@@ -4,7 +4,7 @@ ghost use Rattle.acpi_base.specs.declared.table.signature.TheConstants.Signature
 ghost use Rattle.acpi_writer.specs.Table.{IsValid};
 
 use acpi_base::model::IoApic;
-use acpi_writer::laws::madt_is_valid;
+use acpi_writer::laws::tables_are_valid;
 use acpi_writer::{MadtContents, MadtProcessor, TableIds, WriterError, write_madt};
 
 /// The MADT of a machine with these processors and one I/O APIC, and how many bytes it has.
@@ -29,6 +29,6 @@ pub fn write_processors(
         local_apic_nmi_lines: &[],
         wakeup_mailbox: None,
     };
-    madt_is_valid();
+    tables_are_valid();
     write_madt(out, ids, &machine)
 }

@@ -26,7 +26,7 @@ pub fn write_dsdt(
         (table_written (length out.old) DSDT revision ids.now aml.now) }
     // What stands after the table is unchanged, and after an error the whole slice is.
     ensures keeps { Keeps result out.old out.new }
-    // The bytes are such a table, so that it is valid and its AML is what was given (`dsdt_is_read`).
+    // The bytes are such a table, so that it is valid and its AML is what was given (`tables_are_read`).
     ensures fits { IfOk result (λ n. IsTableOf DSDT revision ids.now aml.now (take n out.new)) }
 {
     write_table(out, Signature::DSDT, revision, ids, &Bytes(aml))
@@ -46,7 +46,7 @@ pub fn write_ssdt(
         (table_written (length out.old) SSDT revision ids.now aml.now) }
     // What stands after the table is unchanged, and after an error the whole slice is.
     ensures keeps { Keeps result out.old out.new }
-    // The bytes are such a table, so that it is valid and its AML is what was given (`ssdt_is_read`).
+    // The bytes are such a table, so that it is valid and its AML is what was given (`tables_are_read`).
     ensures fits { IfOk result (λ n. IsTableOf SSDT revision ids.now aml.now (take n out.new)) }
 {
     write_table(out, Signature::SSDT, revision, ids, &Bytes(aml))

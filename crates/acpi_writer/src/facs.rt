@@ -50,7 +50,7 @@ pub fn write_facs(out: &mut [u8], contents: &FacsContents) -> Result<usize, Writ
         (facs.facs_written (length out.old) contents.now) }
     // What stands after the FACS is unchanged, and after an error the whole slice is.
     ensures keeps { Keeps result out.old out.new }
-    // The numbers that were given fit, so that what was given is what is read (`facs_is_read`).
+    // The numbers that were given fit, so that what was given is what is read (`tables_are_read`).
     ensures fits { IfOk result (λ n. facs.IsFacs contents.now (take n out.new)) }
 {
     if out.len() < 64 {

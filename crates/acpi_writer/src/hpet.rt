@@ -64,7 +64,7 @@ pub fn write_hpet(out: &mut [u8], ids: &TableIds, info: &HpetInfo) -> Result<usi
         (bytes.hpet_written (length out.old) ids.now info.now) }
     // What stands after the table is unchanged, and after an error the whole slice is.
     ensures keeps { Keeps result out.old out.new }
-    // The numbers that were given fit, so that what was given is what is read (`hpet_is_read`).
+    // The numbers that were given fit, so that what was given is what is read (`tables_are_read`).
     ensures fits { IfOk result (λ n. IsHpet ids.now info.now (take n out.new)) }
 {
     write_table(out, Signature::HPET, 1, ids, info)

@@ -19,179 +19,73 @@ ghost use Rattle.acpi_writer.specs.Table.{IdsAreRead};
 
 use std::alloc::Allocator;
 
-/// The interrupt model of a MADT that is written, and its processors, are exactly those that were given, in order.
-pub fn madt_is_read<A: Allocator>()
-    ensures { MadtIsRead A }
+/// A table that is written passes each check of a table, and `write_image` takes it.
+pub fn tables_are_valid()
+    ensures fadt { FadtIsValid }
+    ensures madt { MadtIsValid }
+    ensures gic_madt { GicMadtIsValid }
+    ensures mcfg { McfgIsValid }
+    ensures hpet { HpetIsValid }
+    ensures bgrt { BgrtIsValid }
+    ensures spcr { SpcrIsValid }
+    ensures srat { SratIsValid }
+    ensures slit { SlitIsValid }
+    ensures gtdt { GtdtIsValid }
+    // A root table passes the checks alone: `write_image` writes its own.
+    ensures root { RootIsValid }
 {}
 
-/// And so is its mailbox, or that there is none.
-pub fn mailbox_is_read()
-    ensures { MailboxIsRead }
+/// What is read of a table that is written is exactly what was given.
+pub fn tables_are_read<A: Allocator>()
+    // The header has the revision and the ids.
+    ensures ids { IdsAreRead }
+    // An RSDP passes each check of an RSDP, has the OEMID, and leads to the XSDT.
+    ensures rsdp { RsdpIsRead }
+    // The pointers of a root table are the addresses, in order.
+    ensures root { RootIsRead }
+    // A DSDT is valid, and its AML is that of the caller.
+    ensures dsdt { DsdtIsRead }
+    // And so is an SSDT.
+    ensures ssdt { SsdtIsRead }
+    // What calls of `Fadt` return.
+    ensures fadt { FadtIsRead }
+    // A reader finds a FACS where a memory has it.
+    ensures facs { FacsIsRead }
+    // The interrupt model of a MADT, and its processors, in order.
+    ensures madt { MadtIsRead A }
+    // And its mailbox, or that there is none.
+    ensures mailbox { MailboxIsRead }
+    // The GIC of a MADT of an Arm machine, each list in order.
+    ensures gic_madt { GicMadtIsRead A }
+    // The regions of an MCFG, in order.
+    ensures mcfg { McfgIsRead }
+    ensures hpet { HpetIsRead }
+    ensures bgrt { BgrtIsRead }
+    // The serial port of an SPCR; its name has a zero at its end.
+    ensures spcr { SpcrIsRead }
+    // The ranges of memory of a SRAT, in order; a processor is in the domain that was given for its id or uid, in the
+    // last one of several, and in none if none was given.
+    ensures srat { SratIsRead }
+    // A SLIT's distance between two localities.
+    ensures slit { SlitIsRead }
+    // The timers of the platform are in order.
+    ensures gtdt { GtdtIsRead }
 {}
 
-/// The interrupt model of an image by `write_image` that has such a MADT, as its first, is exactly that too.
-pub fn madt_in_image<A: Allocator>()
-    ensures { MadtInImage A }
+/// And so it is in an image by `write_image` that has the table as the first of its signature.
+pub fn images_are_read<A: Allocator>()
+    ensures madt { MadtInImage A }
+    // What `platform_info` returns there, if it returns a platform.
+    ensures platform { PlatformInImage A }
+    ensures mcfg { McfgInImage }
+    ensures hpet { HpetInImage }
 {}
 
-/// And so is what `platform_info` returns there, if it returns a platform.
-pub fn platform_in_image<A: Allocator>()
-    ensures { PlatformInImage A }
-{}
-
-/// The regions of an MCFG that is written are exactly those that were given, in order.
-pub fn mcfg_is_read()
-    ensures { McfgIsRead }
-{}
-
-/// The regions of an image by `write_image` that has such an MCFG, as its first, are exactly these too.
-pub fn mcfg_in_image()
-    ensures { McfgInImage }
-{}
-
-/// An HPET that is written says exactly what was given.
-pub fn hpet_is_read()
-    ensures { HpetIsRead }
-{}
-
-/// And so does an image by `write_image` that has such an HPET, as its first.
-pub fn hpet_in_image()
-    ensures { HpetInImage }
-{}
-
-/// A MADT that is written passes each check of a table, and `write_image` takes it.
-pub fn madt_is_valid()
-    ensures { MadtIsValid }
-{}
-
-/// An MCFG that is written passes each check of a table, and `write_image` takes it.
-pub fn mcfg_is_valid()
-    ensures { McfgIsValid }
-{}
-
-/// An HPET that is written passes each check of a table, and `write_image` takes it.
-pub fn hpet_is_valid()
-    ensures { HpetIsValid }
-{}
-
-/// The pointers of a root table that is written are exactly the addresses that were given, in order.
-pub fn root_is_read()
-    ensures { RootIsRead }
-{}
-
-/// A root table that is written passes each check of a table.
-pub fn root_is_valid()
-    ensures { RootIsValid }
-{}
-
-/// A DSDT that is written is valid, and its AML is what was given.
-pub fn dsdt_is_read()
-    ensures { DsdtIsRead }
-{}
-
-/// And so it is of an SSDT.
-pub fn ssdt_is_read()
-    ensures { SsdtIsRead }
-{}
-
-/// An RSDP that is written passes each check of an RSDP, has the OEMID that was given, and leads to the XSDT whose
-/// address was given.
-pub fn rsdp_is_read()
-    ensures { RsdpIsRead }
-{}
-
-/// The header of a table that is written has the revision and the ids that were given.
-pub fn ids_are_read()
-    ensures { IdsAreRead }
-{}
-
-/// The distance between two localities by a SLIT that is written is the one that was given for them.
-pub fn slit_is_read()
-    ensures { SlitIsRead }
-{}
-
-/// A SLIT that is written passes each check of a table, and `write_image` takes it.
-pub fn slit_is_valid()
-    ensures { SlitIsValid }
-{}
-
-/// The ranges of memory by a SRAT that is written are exactly those that were given, in order, and a processor is in the
-/// domain that was given for its id or uid, in the last one of several, and in none if none was given.
-pub fn srat_is_read()
-    ensures { SratIsRead }
-{}
-
-/// A SRAT that is written passes each check of a table, and `write_image` takes it.
-pub fn srat_is_valid()
-    ensures { SratIsValid }
-{}
-
-/// The image of a BGRT that is written is exactly the one that was given.
-pub fn bgrt_is_read()
-    ensures { BgrtIsRead }
-{}
-
-/// A BGRT that is written passes each check of a table, and `write_image` takes it.
-pub fn bgrt_is_valid()
-    ensures { BgrtIsValid }
-{}
-
-/// The serial port of an SPCR that is written is exactly the one that was given, and its name has a zero at its end.
-pub fn spcr_is_read()
-    ensures { SpcrIsRead }
-{}
-
-/// An SPCR that is written passes each check of a table, and `write_image` takes it.
-pub fn spcr_is_valid()
-    ensures { SpcrIsValid }
-{}
-
-/// A FADT that is written passes each check of a table, and `write_image` takes it.
-pub fn fadt_is_valid()
-    ensures { FadtIsValid }
-{}
-
-/// What calls of `Fadt` return of a FADT that is written is exactly what was given.
-pub fn fadt_is_read()
-    ensures { FadtIsRead }
-{}
-
-/// A reader finds a FACS that is written where a memory has it, and its fields have what was given.
-pub fn facs_is_read()
-    ensures { FacsIsRead }
-{}
-
-/// The GIC of a MADT of an Arm machine that is written is exactly the one that was given, each list in order.
-pub fn gic_madt_is_read<A: Allocator>()
-    ensures { GicMadtIsRead A }
-{}
-
-/// A MADT of an Arm machine that is written passes each check of a table, and `write_image` takes it.
-pub fn gic_madt_is_valid()
-    ensures { GicMadtIsValid }
-{}
-
-/// A GTDT that is written says exactly what was given, the timers of the platform in order.
-pub fn gtdt_is_read()
-    ensures { GtdtIsRead }
-{}
-
-/// A GTDT that is written passes each check of a table, and `write_image` takes it.
-pub fn gtdt_is_valid()
-    ensures { GtdtIsValid }
-{}
-
-/// Valid tables that are laid one after the other are found by their addresses: of each signature the first.
-pub fn laid_are_found()
-    ensures { LaidAreFound }
-{}
-
-/// A machine that `write_tables_without_rsdp` wrote, with an RSDP by `write_rsdp`, is opened and read as it was passed in.
-pub fn tree_is_read<A: Allocator>()
-    ensures { TreeIsRead A }
-{}
-
-/// And so is a machine that `write_tables` wrote.
+/// A machine that `write_tables` wrote is opened and read as it was passed in.
 pub fn machine_is_read<A: Allocator>()
-    ensures { MachineIsRead A }
+    ensures is_read { MachineIsRead A }
+    // And so is one by `write_tables_without_rsdp` with an RSDP by `write_rsdp`.
+    ensures tree { TreeIsRead A }
+    // Valid tables that are laid one after the other are found by their addresses: of each signature the first.
+    ensures laid { LaidAreFound }
 {}

@@ -245,7 +245,7 @@ pub fn write_tables_without_rsdp(
         (whole.tree_written (length out.old) address machine.now) }
     // What stands after the tables is unchanged, and after an error the whole slice is.
     ensures keeps { Keeps result out.old out.new }
-    // The machine can be written for this address, so that a reader finds it there (`tree_is_read`).
+    // The machine can be written for this address, so that a reader finds it there (`machine_is_read`).
     ensures fits { IfOk result (λ n. IsWritable address machine.now) }
 {
     match tree_size(machine) {

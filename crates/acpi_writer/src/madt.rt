@@ -222,7 +222,7 @@ pub fn write_madt(
         (bytes.madt_written (length out.old) ids.now contents.now) }
     // What stands after the table is unchanged, and after an error the whole slice is.
     ensures keeps { Keeps result out.old out.new }
-    // The numbers that were given fit, so that what was given is what is read (`madt_is_read`).
+    // The numbers that were given fit, so that what was given is what is read (`tables_are_read`).
     ensures fits { IfOk result (λ n. IsMadt ids.now contents.now (take n out.new)) }
 {
     if contents.processors.len() < 1 {

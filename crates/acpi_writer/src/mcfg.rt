@@ -96,7 +96,7 @@ pub fn write_mcfg(
         (bytes.mcfg_written (length out.old) ids.now regions.now) }
     // What stands after the table is unchanged, and after an error the whole slice is.
     ensures keeps { Keeps result out.old out.new }
-    // The numbers that were given fit, so that what was given is what is read (`mcfg_is_read`).
+    // The numbers that were given fit, so that what was given is what is read (`tables_are_read`).
     ensures fits { IfOk result (λ n. IsMcfg ids.now regions.now (take n out.new)) }
 {
     write_mcfg_of(out, ids, regions)

@@ -55,7 +55,7 @@ pub fn write_slit(
         (slit_written (length out.old) ids.now localities distances.now) }
     // What stands after the table is unchanged, and after an error the whole slice is.
     ensures keeps { Keeps result out.old out.new }
-    // The numbers that were given fit, so that the distances are those that are read (`slit_is_read`).
+    // The numbers that were given fit, so that the distances are those that are read (`tables_are_read`).
     ensures fits { IfOk result (λ n. IsSlit ids.now localities distances.now (take n out.new)) }
 {
     if !is_square(localities, distances) {

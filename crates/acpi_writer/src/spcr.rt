@@ -195,7 +195,7 @@ pub fn write_spcr(
         (spcr.spcr_written (length out.old) ids.now contents.now) }
     // What stands after the table is unchanged, and after an error the whole slice is.
     ensures keeps { Keeps result out.old out.new }
-    // The numbers that were given fit, so that what was given is what is read (`spcr_is_read`).
+    // The numbers that were given fit, so that what was given is what is read (`tables_are_read`).
     ensures fits { IfOk result (λ n. laws.IsSpcr ids.now contents.now (take n out.new)) }
 {
     if !has_codes(contents) {

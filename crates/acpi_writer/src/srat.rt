@@ -238,7 +238,7 @@ pub fn write_srat(
         (srat.srat_written (length out.old) ids.now contents.now) }
     // What stands after the table is unchanged, and after an error the whole slice is.
     ensures keeps { Keeps result out.old out.new }
-    // The numbers that were given fit, so that what was given is what is read (`srat_is_read`).
+    // The numbers that were given fit, so that what was given is what is read (`tables_are_read`).
     ensures fits { IfOk result (λ n. laws.IsSrat ids.now contents.now (take n out.new)) }
 {
     if !apics_fit(contents.apics) {

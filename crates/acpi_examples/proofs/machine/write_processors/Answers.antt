@@ -13,4 +13,4 @@ valid_if (Ok n) ids c new law is = law ids c (take n new) is
 valid_if (Err e) ids c new law is = tt
 
 pub returns : goal.returns
-returns c = valid_if c.write_madt.result c.args.ids.now _ c.write_madt.new.out c.madt_is_valid.ensures c.write_madt.ensures.fits
+returns c = valid_if c.write_madt.result c.args.ids.now _ c.write_madt.new.out c.tables_are_valid.ensures.madt c.write_madt.ensures.fits
