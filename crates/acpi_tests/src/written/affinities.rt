@@ -39,14 +39,14 @@ const HIGH: MemoryRange = MemoryRange {
     is_non_volatile: true,
 };
 
-const SRAT: SratContents<'static> = SratContents {
+pub(super) const SRAT: SratContents<'static> = SratContents {
     apics: &APICS,
     giccs: &GICCS,
     ranges: &[LOW, HIGH],
 };
 
 #[rattlefmt::skip]
-const SRAT_BYTES: [u8; 186] = [
+pub(super) const SRAT_BYTES: [u8; 186] = [
     b'S', b'R', b'A', b'T', 186, 0, 0, 0, 3, 0x0e, // Signature, Length, Revision, Checksum
     b'G', b'U', b'E', b'S', b'T', b' ', // OEMID
     b'M', b'A', b'C', b'H', b'I', b'N', b'E', b' ', // OEM Table ID

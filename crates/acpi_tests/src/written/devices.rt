@@ -17,7 +17,7 @@ const COM: GenericAddress = GenericAddress {
 };
 
 /// A PCI device that is a 16550 on an I/O APIC.
-const PORT: SpcrContents<'static> = SpcrContents {
+pub(super) const PORT: SpcrContents<'static> = SpcrContents {
     interface_type: SpcrInterfaceType::Generic16550,
     base_address: Some(COM),
     interrupt_type: SpcrInterruptType::IO_APIC,
@@ -43,7 +43,7 @@ const PORT: SpcrContents<'static> = SpcrContents {
 };
 
 #[rattlefmt::skip]
-const SPCR_BYTES: [u8; 98] = [
+pub(super) const SPCR_BYTES: [u8; 98] = [
     b'S', b'P', b'C', b'R', 98, 0, 0, 0, 4, 0x99, // Signature, Length, Revision, Checksum
     b'G', b'U', b'E', b'S', b'T', b' ', // OEMID
     b'M', b'A', b'C', b'H', b'I', b'N', b'E', b' ', // OEM Table ID
@@ -89,7 +89,7 @@ const NONE_BYTES: [u8; 90] = [
 ];
 
 /// An image that is on the screen, turned by three quarters.
-const IMAGE: BgrtContents = BgrtContents {
+pub(super) const IMAGE: BgrtContents = BgrtContents {
     was_displayed: true,
     orientation_offset: BgrtOrientation::Degrees270,
     image_address: 0x1_00200000,
@@ -97,7 +97,7 @@ const IMAGE: BgrtContents = BgrtContents {
 };
 
 #[rattlefmt::skip]
-const BGRT_BYTES: [u8; 56] = [
+pub(super) const BGRT_BYTES: [u8; 56] = [
     b'B', b'G', b'R', b'T', 56, 0, 0, 0, 1, 0x2f, // Signature, Length, Revision, Checksum
     b'G', b'U', b'E', b'S', b'T', b' ', // OEMID
     b'M', b'A', b'C', b'H', b'I', b'N', b'E', b' ', // OEM Table ID

@@ -68,7 +68,7 @@ const HARDWARE: FixedHardware = FixedHardware {
     gpe1_base: 0x40,
 };
 
-const FIXED: FadtContents = FadtContents {
+pub(super) const FIXED: FadtContents = FadtContents {
     dsdt: 0x1_00002000,
     facs: Some(0x3000),
     power_profile: PowerProfile::EnterpriseServer,
@@ -115,7 +115,7 @@ const FIXED: FadtContents = FadtContents {
 /// Its bytes. Of Flags the bits 0, 2, 5, 8, 10, 15 and 21 are set, of IAPC_BOOT_ARCH the bits 0, 1 and 4. All but Checksum
 /// sum to 0x5f modulo 256.
 #[rattlefmt::skip]
-const FIXED_BYTES: [u8; 276] = [
+pub(super) const FIXED_BYTES: [u8; 276] = [
     b'F', b'A', b'C', b'P', 0x14, 1, 0, 0, 6, 0xa1, // Signature, Length, FADT Major Version, Checksum
     b'G', b'U', b'E', b'S', b'T', b' ', // OEMID
     b'M', b'A', b'C', b'H', b'I', b'N', b'E', b' ', // OEM Table ID

@@ -72,7 +72,7 @@ const FRAMES: [GicMsiFrame; 2] = [
 ];
 
 /// A GIC with an entry of each kind.
-const GIC: GicContents<'static> = GicContents {
+pub(super) const GIC: GicContents<'static> = GicContents {
     distributor: GicDistributor {
         id: 0x01020304,
         address: 0x1_2f000000,
@@ -87,7 +87,7 @@ const GIC: GicContents<'static> = GicContents {
 
 /// The MADT that `GIC` has. All but Checksum sum to 0xf9 modulo 256.
 #[rattlefmt::skip]
-const GIC_BYTES: [u8; 314] = [
+pub(super) const GIC_BYTES: [u8; 314] = [
     b'A', b'P', b'I', b'C', 58, 1, 0, 0, 6, 0x07, // Signature, Length, Revision, Checksum
     b'G', b'U', b'E', b'S', b'T', b' ', // OEMID
     b'M', b'A', b'C', b'H', b'I', b'N', b'E', b' ', // OEM Table ID

@@ -69,7 +69,7 @@ const LEVEL: ArmTimer = ArmTimer {
 };
 
 /// Each flag of a timer set by itself, all of them, and none.
-const GTDT: GtdtContents<'static> = GtdtContents {
+pub(super) const GTDT: GtdtContents<'static> = GtdtContents {
     counter_control_base: None,
     secure_el1_timer: ArmTimer {
         interrupt: 285,
@@ -99,7 +99,7 @@ const GTDT: GtdtContents<'static> = GtdtContents {
 
 /// The GTDT that `GTDT` has. All but Checksum sum to 0xe2 modulo 256.
 #[rattlefmt::skip]
-const GTDT_BYTES: [u8; 232] = [
+pub(super) const GTDT_BYTES: [u8; 232] = [
     b'G', b'T', b'D', b'T', 232, 0, 0, 0, 3, 0x1e, // Signature, Length, Revision, Checksum
     b'G', b'U', b'E', b'S', b'T', b' ', // OEMID
     b'M', b'A', b'C', b'H', b'I', b'N', b'E', b' ', // OEM Table ID

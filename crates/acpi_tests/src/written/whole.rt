@@ -52,7 +52,7 @@ const XSDT_BYTES: [u8; 64] = [
 ];
 
 /// Checks that bytes stand at a place, and after them zeros up to the next multiple of 16.
-fn stands(rt: &impl Abort, name: &str, out: &[u8], place: usize, bytes: &[u8]) {
+pub(super) fn stands(rt: &impl Abort, name: &str, out: &[u8], place: usize, bytes: &[u8]) {
     for (at, byte) in bytes.iter().enumerate() {
         assert!(rt;
             out.get(place.wrapping_add(at)) == Some(byte),
