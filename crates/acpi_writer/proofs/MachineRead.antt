@@ -20,10 +20,10 @@ use Rattle.acpi.specs.Lookup.{lookup}
 use Rattle.acpi.specs.Rsdp.{at_hand, check_rsdp, check_whole, checked_length, rsdp_at}
 use Rattle.acpi.specs.declared.root.RootKind.TheVariants.{Xsdt}
 use Rattle.acpi_image.proofs.WrittenTables.{table_is}
-use Rattle.acpi_writer.specs.Contents.{FitsContents, bytes_of, or_none}
+use Rattle.acpi_writer.specs.Contents.{FitsContents, bytes_of, contents_written, or_none}
 use Rattle.acpi_writer.specs.ImageLaws.{is_named}
 use Rattle.acpi_writer.specs.Laid.{addresses, gap, laid, padded, rounded}
-use Rattle.acpi_writer.specs.Machine.{check_machine, check_tables, dsdt_address, dsdt_of, dsdt_written, listed, machine_bytes, pointers_of, tables_address, tree_bytes, tree_size, xsdt_bytes, xsdt_length}
+use Rattle.acpi_writer.specs.Machine.{Machine, check_by, check_tables, dsdt_address, dsdt_of, dsdt_written, listed, machine_by, pointers_of, size_by, tables_address, tree_by, tree_bytes, tree_size, xsdt_bytes, xsdt_length}
 use Rattle.acpi_writer.specs.MachineLaws.{IsOpened, IsWritable, MachineIsRead, TreeIsRead, first_at, first_of, place_of}
 use Rattle.acpi_writer.specs.Root.{IsRoot}
 use Rattle.acpi_writer.specs.Rsdp.{Leads, rsdp_bytes}
@@ -34,7 +34,6 @@ use Rattle.acpi_writer.specs.declared.contents.TableContents.TheVariants.{Fadt}
 use Rattle.acpi_writer.specs.declared.error.WriterError.TheVariants.{BadName, TooLong}
 use Rattle.acpi_writer.specs.declared.fadt.contents.FadtContents.{FadtContents}
 use Rattle.acpi_writer.specs.declared.ids.TableIds.{TableIds}
-use Rattle.acpi_writer.specs.declared.machine.Machine.{Machine}
 use Rattle.acpi_writer.proofs.ContentsRead.{IsContents, all_contents, all_valid, first_found, letters_are, not_true, table_of}
 use Rattle.acpi_writer.proofs.LaidRead.{front_lent, laid_found, rest_lent, there}
 use Rattle.acpi_writer.proofs.MachineSays.{fadt_found, says}
@@ -83,7 +82,7 @@ record Facts (a : ℕ) (x : Machine) : Type 0 where
   ends : a + tree_size x < 2 ^ 64
 
 facts : (a : ℕ) (x : Machine) → IsWritable a x → Facts a x
-unfolding check_machine
+unfolding check_by
 facts a x is =
     let one = holds_ok (are_texts x.ids) BadName (λ _. holds (nat_lt (xsdt_length x) (2 ^ 32)) TooLong >>= λ _. dsdt_written x.ids x.dsdt >>= λ _. check_tables x.ids x.tables.now) tt is.checked in
     let two = holds_ok (nat_lt (xsdt_length x) (2 ^ 32)) TooLong (λ _. dsdt_written x.ids x.dsdt >>= λ _. check_tables x.ids x.tables.now) tt one.1 in
@@ -113,11 +112,11 @@ module _ (m : Memory) (rsdp a : ℕ) (x : Machine) (h : IsMemory m) (is : IsWrit
   xsdt = xsdt_bytes a x
 
   xsdt_is : length xsdt ≡ xsdt_length x
-  xsdt_is = xsdt_long (tables_address a x) x is.fit.ids
+  xsdt_is = xsdt_long contents_written (tables_address a x) x is.fit.ids
 
   whole_lent : at m a (length (padded xsdt ++ (padded (dsdt_of x) ++ laid (listed x)))) ≡ Some (padded xsdt ++ (padded (dsdt_of x) ++ laid (listed x)))
-  unfolding tree_bytes
-  whole_lent = ap (at m a) (tree_size_is a x is.fit.ids) ∙ e
+  unfolding tree_by
+  whole_lent = ap (at m a) (tree_size_is contents_written a x is.fit.ids) ∙ e
 
   xsdt_lent : at m a (length xsdt) ≡ Some xsdt
   xsdt_lent = front_lent m a xsdt (replicate (gap (length xsdt)) 0) (front_lent m a (padded xsdt) (padded (dsdt_of x) ++ laid (listed x)) whole_lent)
@@ -141,12 +140,12 @@ module _ (m : Memory) (rsdp a : ℕ) (x : Machine) (h : IsMemory m) (is : IsWrit
   rsdp_found = rsdp_there m rsdp (rsdp_bytes x.ids.oem_id a) (rsdp_long x.ids.oem_id a is.fit.ids.oem_id) first leads.checked
 
   listed_ends : tables_address a x + length (laid (listed x)) < 2 ^ 64
-  unfolding tree_size
+  unfolding size_by
   listed_ends = omega (arith, known.ends)
 
   root : IsRoot Xsdt x.ids (pointers_of a x) xsdt
   root = record {
-    written = record { ids_fit = is.fit.ids; texts = known.texts; short = omega (arith, known.short, root_long (tables_address a x) x.ids x.tables.now); bytes = refl };
+    written = record { ids_fit = is.fit.ids; texts = known.texts; short = omega (arith, known.short, root_long contents_written (tables_address a x) x.ids x.tables.now); bytes = refl };
     fit = All-from_recursion (λ p. p < 256 ^ 8) (pointers_of a x) (addresses_fit (256 ^ 8) (tables_address a x) (listed x) (omega (arith, listed_ends)));
   }
 
@@ -190,12 +189,12 @@ tree_read {A = A} m rsdp a x h is first e = (
 )
 
 pub machine_read : {A : Type 0} → MachineIsRead A
-unfolding machine_bytes
+unfolding machine_by
 machine_read {A = A} m a x h is e =
     let rsdp = rsdp_bytes x.ids.oem_id (a + 48) in
     let long : length rsdp ≡ 36 = rsdp_long x.ids.oem_id (a + 48) is.fit.ids.oem_id in
     let filled : length (padded rsdp) ≡ 48 = padded_long rsdp ∙ ap rounded long in
-    let tree : length (tree_bytes (a + 48) x) ≡ tree_size x = tree_size_is (a + 48) x is.fit.ids in
+    let tree : length (tree_bytes (a + 48) x) ≡ tree_size x = tree_size_is contents_written (a + 48) x is.fit.ids in
     let all : at m a (length (padded rsdp ++ tree_bytes (a + 48) x)) ≡ Some (padded rsdp ++ tree_bytes (a + 48) x) =
     ap (at m a) (omega (arith, length-append (padded rsdp) (tree_bytes (a + 48) x), filled, tree)) ∙ e in
     let front = front_lent m a rsdp (replicate (gap (length rsdp)) 0) (front_lent m a (padded rsdp) (tree_bytes (a + 48) x) all) in

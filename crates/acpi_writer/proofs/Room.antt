@@ -11,7 +11,7 @@ use Rattle.acpi_base.specs.declared.table.signature.TheConstants.Signature.{BGRT
 use Rattle.acpi_image.proofs.Written.{length-with_sum}
 use Rattle.acpi_writer.specs.Bgrt.{bgrt_body}
 use Rattle.acpi_writer.specs.Checked.{all_checked}
-use Rattle.acpi_writer.specs.Contents.{contents_written, most, or_none, placed}
+use Rattle.acpi_writer.specs.Contents.{Moves, contents_written, most, or_none}
 use Rattle.acpi_writer.specs.FadtBytes.{are_placed, are_registers, fadt_body, fadt_written, is_profile}
 use Rattle.acpi_writer.specs.GicMadt.{gic_body, gic_written, interface_checked}
 use Rattle.acpi_writer.specs.Gtdt.{gtdt_body, gtdt_checked, gtdt_written}
@@ -72,21 +72,17 @@ different t e same = cc
 
 -- ---- in another room
 
--- what is written in some room is written in any other that it fits into
-abbrev pub Moves : (ℕ → Result (List ℕ) WriterError) → Type 0
-Moves written = (room other : ℕ) (t : List ℕ) → written room ≡ Ok t → length t ≤ other → written other ≡ Ok t
-
 pub moved_table : (s : Signature) (revision : ℕ) (ids : TableIds) (body : List ℕ) → length (letters_of s) ≡ 4 → AreIds ids → Moves (λ room. table_written room s revision ids body)
 moved_table s revision ids body letters are room other t e fits =
     let w = wrote room s revision ids body t e in
     let long : length t ≡ 36 + length body = ap length w.bytes ∙ table_length s revision ids body letters are in
     it_fits other s revision ids body w.texts (omega (arith, long, fits)) w.short ∙ sym (ap done w.bytes)
 
-through : (r : Result (Unit {0}) WriterError) (f g : Result (List ℕ) WriterError) (t : List ℕ) → (f ≡ Ok t → g ≡ Ok t) → (r >>= λ _. f) ≡ Ok t → (r >>= λ _. g) ≡ Ok t
+pub through : (r : Result (Unit {0}) WriterError) (f g : Result (List ℕ) WriterError) (t : List ℕ) → (f ≡ Ok t → g ≡ Ok t) → (r >>= λ _. f) ≡ Ok t → (r >>= λ _. g) ≡ Ok t
 through (Ok passed) f g t h p = h p
 through (Err e) f g t h p = absurd cc
 
-moved_madt : (ids : TableIds) (c : MadtContents) → AreIds ids → Moves (λ room. madt_written room ids c)
+pub moved_madt : (ids : TableIds) (c : MadtContents) → AreIds ids → Moves (λ room. madt_written room ids c)
 unfolding madt_written
 moved_madt ids c are room other t e fits =
     let some = not (is_empty c.processors.now) in
@@ -97,13 +93,13 @@ moved_madt ids c are room other t e fits =
     (through (holds single IdOfAll) (holds lines UidOfAll >>= λ _. here room) (holds lines UidOfAll >>= λ _. here other) t
     (through (holds lines UidOfAll) (here room) (here other) t (λ p. moved_table MADT 5 ids (madt_body c) refl are room other t p fits))) e
 
-moved_slit : (ids : TableIds) (n : ℕ) (distances : List ℕ) → AreIds ids → Moves (λ room. slit_written room ids n distances)
+pub moved_slit : (ids : TableIds) (n : ℕ) (distances : List ℕ) → AreIds ids → Moves (λ room. slit_written room ids n distances)
 unfolding slit_written
 moved_slit ids n distances are room other t e fits =
     let here : ℕ → Result (List ℕ) WriterError = λ m. table_written m SLIT 1 ids (slit_body n distances) in
     through (holds (n * n == length distances) BadMatrix) (here room) (here other) t (λ p. moved_table SLIT 1 ids (slit_body n distances) refl are room other t p fits) e
 
-moved_fadt : (ids : TableIds) (c : FadtContents) → AreIds ids → Moves (λ room. fadt_written room ids c)
+pub moved_fadt : (ids : TableIds) (c : FadtContents) → AreIds ids → Moves (λ room. fadt_written room ids c)
 unfolding fadt_written
 moved_fadt ids c are room other t e fits =
     let placed = are_placed c in
@@ -114,7 +110,7 @@ moved_fadt ids c are room other t e fits =
     (through (holds profile BadProfile) (holds registers BadRegister >>= λ _. here room) (holds registers BadRegister >>= λ _. here other) t
     (through (holds registers BadRegister) (here room) (here other) t (λ p. moved_table FADT 6 ids (fadt_body c) refl are room other t p fits))) e
 
-moved_srat : (ids : TableIds) (c : SratContents) → AreIds ids → Moves (λ room. srat_written room ids c)
+pub moved_srat : (ids : TableIds) (c : SratContents) → AreIds ids → Moves (λ room. srat_written room ids c)
 unfolding srat_written
 moved_srat ids c are room other t e fits =
     let apics = list_all is_one_apic c.apics.now in
@@ -125,7 +121,7 @@ moved_srat ids c are room other t e fits =
     (through (holds giccs IdOfAll) (holds ranges BadRange >>= λ _. here room) (holds ranges BadRange >>= λ _. here other) t
     (through (holds ranges BadRange) (here room) (here other) t (λ p. moved_table SRAT 3 ids (srat_body c) refl are room other t p fits))) e
 
-moved_spcr : (ids : TableIds) (c : SpcrContents) → AreIds ids → Moves (λ room. spcr_written room ids c)
+pub moved_spcr : (ids : TableIds) (c : SpcrContents) → AreIds ids → Moves (λ room. spcr_written room ids c)
 unfolding spcr_written
 moved_spcr ids c are room other t e fits =
     let codes = is_interface c.interface_type && is_base c.base_address in
@@ -136,13 +132,13 @@ moved_spcr ids c are room other t e fits =
     (through (holds somewhere NoAddress) (holds short LongName >>= λ _. here room) (holds short LongName >>= λ _. here other) t
     (through (holds short LongName) (here room) (here other) t (λ p. moved_table SPCR 4 ids (spcr_body c) refl are room other t p fits))) e
 
-moved_gtdt : (ids : TableIds) (c : GtdtContents) → AreIds ids → Moves (λ room. gtdt_written room ids c)
+pub moved_gtdt : (ids : TableIds) (c : GtdtContents) → AreIds ids → Moves (λ room. gtdt_written room ids c)
 unfolding gtdt_written
 moved_gtdt ids c are room other t e fits =
     let here : ℕ → Result (List ℕ) WriterError = λ n. table_written n GTDT 3 ids (gtdt_body c) in
     through (gtdt_checked c) (here room) (here other) t (λ p. moved_table GTDT 3 ids (gtdt_body c) refl are room other t p fits) e
 
-moved_gic : (ids : TableIds) (c : GicContents) → AreIds ids → Moves (λ room. gic_written room ids c)
+pub moved_gic : (ids : TableIds) (c : GicContents) → AreIds ids → Moves (λ room. gic_written room ids c)
 unfolding gic_written
 moved_gic ids c are room other t e fits =
     let some = holds (not (is_empty c.cpu_interfaces.now)) NoProcessor in

@@ -1,5 +1,5 @@
 -- How many bytes tables have, one by one and laid out.
-use Rattle.std.proofs.Common.{◌≡◌, ℕ, ◌+◌, ◌-◌, ◌^◌, ◌<◌, ◌≤◌, true, false, List, [], ◌∷◌, ◌++◌, length, take, drop, get_or, map, Result, Ok, Err, refl, sym, ap, ◌∙◌, arith, append_assoc, length-append, length-drop}
+use Rattle.std.proofs.Common.{◌≡◌, ℕ, ◌+◌, ◌-◌, ◌^◌, ◌<◌, ◌≤◌, true, false, List, [], ◌∷◌, ◌++◌, length, take, drop, get_or, map, Result, Ok, Err, refl, sym, ap, subst, ◌∙◌, arith, append_assoc, length-append, length-drop}
 use Rattle.std.specs.Prelude.{◌*◌, flat_map, replicate}
 use Rattle.std.specs.List.{All}
 use borrow.Rule.Slice.PartMut.{post_of, put_mid}
@@ -16,15 +16,13 @@ use Rattle.acpi_base.specs.Steps.{◌>>=◌}
 use Rattle.acpi_base.specs.Text.{letters_of}
 use Rattle.acpi_base.specs.declared.table.signature.Signature.{Signature}
 use Rattle.acpi_base.specs.declared.table.signature.TheConstants.Signature.{XSDT}
-use Rattle.acpi_writer.specs.Contents.{FitsContents, bytes_of, contents_written, most, or_none, placed, sized}
+use Rattle.acpi_writer.specs.Contents.{Written, bytes_by, most, or_none, placed_by, sized}
 use Rattle.acpi_writer.specs.Laid.{addresses, gap, laid, padded, rounded}
-use Rattle.acpi_writer.specs.Machine.{check_machine, check_place, check_tables, dsdt_of, dsdt_sized, dsdt_written, listed, listed_sized, machine_size, region_written, tables_address, tree_bytes, tree_size, tree_sized, xsdt_bytes, xsdt_from, xsdt_length}
+use Rattle.acpi_writer.specs.Machine.{MachineOf, check_by, check_each, check_place, dsdt_of, dsdt_sized, dsdt_written, listed_by, listed_sized, machine_size, region_written, size_by, tables_address, tree_by, tree_sized, xsdt_by, xsdt_from, xsdt_length}
 use Rattle.acpi_writer.specs.Root.{root_body}
 use Rattle.acpi_writer.specs.Table.{AreIds, are_texts, table_written}
-use Rattle.acpi_writer.specs.declared.contents.TableContents.{TableContents}
 use Rattle.acpi_writer.specs.declared.error.WriterError.{WriterError}
 use Rattle.acpi_writer.specs.declared.error.WriterError.TheVariants.{BadName, TooLong}
-use Rattle.acpi_writer.specs.declared.machine.Machine.{Machine}
 use Rattle.acpi_writer.specs.declared.ids.TableIds.{TableIds}
 use Rattle.acpi_writer.proofs.Room.{table_length}
 use Rattle.acpi_writer.proofs.Tables.{it_fits}
@@ -58,8 +56,8 @@ put_none old new t none same = rw none same
 
 -- ---- the listed tables
 
-abbrev pub listed_after : ℕ → TableIds → List TableContents → Result ℕ WriterError
-listed_after size ids cs = check_tables ids cs >>= λ _. count (size + length (laid (map (bytes_of ids) cs)))
+abbrev pub listed_after : {A : Type 0} → Written A → ℕ → TableIds → List A → Result ℕ WriterError
+listed_after w size ids cs = check_each w ids cs >>= λ _. count (size + length (laid (map (bytes_by w ids) cs)))
 
 same_count : (m n : ℕ) → count m ≡ count n → m ≡ n
 same_count m n e = cc
@@ -76,21 +74,25 @@ after_error : (w : Result (List ℕ) WriterError) (size : ℕ) (e : WriterError)
 after_error (Ok t) size e rest others same = absurd cc
 after_error (Err d) size e rest others same = cc
 
-pub listed_error : (ids : TableIds) (cs : List TableContents) (i size : ℕ) (d : TableContents) (e : WriterError) → i < length cs → sized (contents_written most ids (get_or cs i d)) ≡ Err e
-    → listed_after size ids (drop i cs) ≡ Err e
-listed_error ids cs i size d e less same =
-    ap (listed_after size ids) (drop_more cs i d less) ∙ after_error (contents_written most ids (get_or cs i d)) size e (check_tables ids (drop (i + 1) cs)) (laid (map (bytes_of ids) (drop (i + 1) cs))) same
+-- a list from one thing on
+opens : {A : Type 0} (cs : List A) (i : ℕ) (x : A) → x ≡ get_or cs i x → i < length cs → drop i cs ≡ x ∷ drop (i + 1) cs
+opens cs i x is less = drop_more cs i x less ∙ ap (λ y. y ∷ drop (i + 1) cs) (sym is)
 
-pub listed_step : (ids : TableIds) (cs : List TableContents) (i size more r : ℕ) (total : Result ℕ WriterError) (d : TableContents) → i < length cs → sized (contents_written most ids (get_or cs i d)) ≡ Ok more
-    → FitsContents (get_or cs i d) → more < 2 ^ 32 → r ≡ rounded more
-    → (listed_after size ids (drop i cs) ≡ total) × (size ≤ i * 2 ^ 32) × All FitsContents (take i cs)
-    → (listed_after (size + r) ids (drop (i + 1) cs) ≡ total) × (size + r ≤ (i + 1) * 2 ^ 32) × All FitsContents (take (i + 1) cs)
-listed_step ids cs i size more r total d less e fit short same before =
+pub listed_error : {A : Type 0} (w : Written A) (ids : TableIds) (cs : List A) (i size : ℕ) (x : A) (e : WriterError) → x ≡ get_or cs i x → i < length cs → sized (w most ids x) ≡ Err e
+    → listed_after w size ids (drop i cs) ≡ Err e
+listed_error w ids cs i size x e is less same =
+    ap (listed_after w size ids) (opens cs i x is less) ∙ after_error (w most ids x) size e (check_each w ids (drop (i + 1) cs)) (laid (map (bytes_by w ids) (drop (i + 1) cs))) same
+
+pub listed_step : {A : Type 0} (w : Written A) (Fits : A → Type 0) (ids : TableIds) (cs : List A) (i size more r : ℕ) (total : Result ℕ WriterError) (x : A) → x ≡ get_or cs i x → i < length cs → sized (w most ids x) ≡ Ok more
+    → Fits x → more < 2 ^ 32 → r ≡ rounded more
+    → (listed_after w size ids (drop i cs) ≡ total) × (size ≤ i * 2 ^ 32) × All Fits (take i cs)
+    → (listed_after w (size + r) ids (drop (i + 1) cs) ≡ total) × (size + r ≤ (i + 1) * 2 ^ 32) × All Fits (take (i + 1) cs)
+listed_step w Fits ids cs i size more r total x is less e fit short same before =
     let rest = drop (i + 1) cs in
-    let one = after_one (contents_written most ids (get_or cs i d)) size more (check_tables ids rest) (laid (map (bytes_of ids) rest)) e in (
-      ap (λ n. listed_after (size + n) ids rest) same ∙ sym one ∙ sym (ap (listed_after size ids) (drop_more cs i d less)) ∙ before.0,
+    let one = after_one (w most ids x) size more (check_each w ids rest) (laid (map (bytes_by w ids) rest)) e in (
+      ap (λ n. listed_after w (size + n) ids rest) same ∙ sym one ∙ sym (ap (listed_after w size ids) (opens cs i x is less)) ∙ before.0,
       omega (arith, before.1, short, same),
-      All-more FitsContents cs i d less before.2 fit,
+      All-more Fits cs i x less before.2 (subst Fits is fit),
     )
 
 -- ---- what is put
@@ -99,47 +101,47 @@ put_long : {X : Type 0} (a k : ℕ) (xs ys : List X) → a + k ≤ length xs →
 put_long a k xs ys within long =
     omega (arith, length-append (take a xs) (ys ++ post_of a k xs), length-append ys (post_of a k xs), length-take-le a xs (omega (arith, within)), length-drop a xs, length-drop k (drop a xs), within, long)
 
-pub addresses_step : (ids : TableIds) (cs : List TableContents) (i place at p long sum : ℕ) (out new total : List ℕ) (d : TableContents) → i < length cs → long ≡ 8 * length cs → p ≡ length (placed ids (get_or cs i d))
+pub addresses_step : {A : Type 0} (w : Written A) (ids : TableIds) (cs : List A) (i place at p long sum : ℕ) (out new total : List ℕ) (x : A) → x ≡ get_or cs i x → i < length cs → long ≡ 8 * length cs → p ≡ length (placed_by w ids x)
     → new ≡ spelling 8 place
-    → (take at out ++ flat_map (spelling 8) (addresses place (map (bytes_of ids) (drop i cs))) ≡ total) × (at ≡ 8 * i) × (length out ≡ long) × (place + length (laid (map (bytes_of ids) (drop i cs))) ≡ sum)
-    → (take (at + 8) (put_mid at (at + 8 - at) out new) ++ flat_map (spelling 8) (addresses (place + p) (map (bytes_of ids) (drop (i + 1) cs))) ≡ total)
-    × (at + 8 ≡ 8 * (i + 1)) × (length (put_mid at (at + 8 - at) out new) ≡ long) × (place + p + length (laid (map (bytes_of ids) (drop (i + 1) cs))) ≡ sum)
-addresses_step ids cs i place at p long sum out new total d less whole size is before =
-    let rest = map (bytes_of ids) (drop (i + 1) cs) in
-    let here = map (bytes_of ids) (drop i cs) in
-    let opens : here ≡ bytes_of ids (get_or cs i d) ∷ rest = ap (map (bytes_of ids)) (drop_more cs i d less) in
+    → (take at out ++ flat_map (spelling 8) (addresses place (map (bytes_by w ids) (drop i cs))) ≡ total) × (at ≡ 8 * i) × (length out ≡ long) × (place + length (laid (map (bytes_by w ids) (drop i cs))) ≡ sum)
+    → (take (at + 8) (put_mid at (at + 8 - at) out new) ++ flat_map (spelling 8) (addresses (place + p) (map (bytes_by w ids) (drop (i + 1) cs))) ≡ total)
+    × (at + 8 ≡ 8 * (i + 1)) × (length (put_mid at (at + 8 - at) out new) ≡ long) × (place + p + length (laid (map (bytes_by w ids) (drop (i + 1) cs))) ≡ sum)
+addresses_step w ids cs i place at p long sum out new total x here_is less whole size is before =
+    let rest = map (bytes_by w ids) (drop (i + 1) cs) in
+    let here = map (bytes_by w ids) (drop i cs) in
+    let opened : here ≡ bytes_by w ids x ∷ rest = ap (map (bytes_by w ids)) (opens cs i x here_is less) in
     let eight : length new ≡ 8 = ap length is ∙ length-spelling 8 place in
     let put = take-put_mid at (at + 8 - at) out new (at + 8) (omega (arith, eight)) (omega (arith, before.1, before.2, whole, less)) in
     let next : List ℕ = flat_map (spelling 8) (addresses (place + p) rest) in
     let all : spelling 8 place ++ next ≡ flat_map (spelling 8) (addresses place here) =
-    ap (λ n. spelling 8 place ++ flat_map (spelling 8) (addresses (place + n) rest)) size ∙ sym (ap (λ ts. flat_map (spelling 8) (addresses place ts)) opens) in (
+    ap (λ n. spelling 8 place ++ flat_map (spelling 8) (addresses (place + n) rest)) size ∙ sym (ap (λ ts. flat_map (spelling 8) (addresses place ts)) opened) in (
       ap (λ z. z ++ next) put ∙ append_assoc (take at out) new next ∙ ap (λ z. take at out ++ (z ++ next)) is ∙ ap (λ z. take at out ++ z) all ∙ before.0,
       omega (arith, before.1),
       put_long at (at + 8 - at) out new (omega (arith, before.1, before.2, whole, less)) (omega (arith, eight)) ∙ before.2,
-      omega (arith, before.3, size, ap (λ ts. length (laid ts)) opens, length-append (placed ids (get_or cs i d)) (laid rest)),
+      omega (arith, before.3, size, ap (λ ts. length (laid ts)) opened, length-append (placed_by w ids x) (laid rest)),
     )
 
-pub put_step : (ids : TableIds) (cs : List TableContents) (i at p long : ℕ) (out new total : List ℕ) (d : TableContents) → i < length cs → p ≡ length (placed ids (get_or cs i d))
-    → new ≡ placed ids (get_or cs i d) ++ drop (length (placed ids (get_or cs i d))) (take (length out - at) (drop at out))
-    → (take at out ++ laid (map (bytes_of ids) (drop i cs)) ≡ total) × (at + length (laid (map (bytes_of ids) (drop i cs))) ≡ length out) × (length out ≡ long)
-    → (take (at + p) (put_mid at (length out - at) out new) ++ laid (map (bytes_of ids) (drop (i + 1) cs)) ≡ total)
-    × (at + p + length (laid (map (bytes_of ids) (drop (i + 1) cs))) ≡ length (put_mid at (length out - at) out new)) × (length (put_mid at (length out - at) out new) ≡ long)
-put_step ids cs i at p long out new total d less size is before =
+pub put_step : {A : Type 0} (w : Written A) (ids : TableIds) (cs : List A) (i at p long : ℕ) (out new total : List ℕ) (x : A) → x ≡ get_or cs i x → i < length cs → p ≡ length (placed_by w ids x)
+    → new ≡ placed_by w ids x ++ drop (length (placed_by w ids x)) (take (length out - at) (drop at out))
+    → (take at out ++ laid (map (bytes_by w ids) (drop i cs)) ≡ total) × (at + length (laid (map (bytes_by w ids) (drop i cs))) ≡ length out) × (length out ≡ long)
+    → (take (at + p) (put_mid at (length out - at) out new) ++ laid (map (bytes_by w ids) (drop (i + 1) cs)) ≡ total)
+    × (at + p + length (laid (map (bytes_by w ids) (drop (i + 1) cs))) ≡ length (put_mid at (length out - at) out new)) × (length (put_mid at (length out - at) out new) ≡ long)
+put_step w ids cs i at p long out new total x here_is less size is before =
     let part : List ℕ = take (length out - at) (drop at out) in
-    let rest = map (bytes_of ids) (drop (i + 1) cs) in
-    let this = placed ids (get_or cs i d) in
-    let opens : map (bytes_of ids) (drop i cs) ≡ bytes_of ids (get_or cs i d) ∷ rest = ap (map (bytes_of ids)) (drop_more cs i d less) in
+    let rest = map (bytes_by w ids) (drop (i + 1) cs) in
+    let this = placed_by w ids x in
+    let opened : map (bytes_by w ids) (drop i cs) ≡ bytes_by w ids x ∷ rest = ap (map (bytes_by w ids)) (opens cs i x here_is less) in
     let within : length part ≡ length out - at = length-take-le (length out - at) (drop at out) (omega (arith, length-drop at out)) in
     let fills : length new ≡ length out - at =
-    omega (arith, ap length is, length-append this (drop (length this) part), length-drop (length this) part, within, before.1, ap (λ ts. length (laid ts)) opens, length-append this (laid rest)) in
+    omega (arith, ap length is, length-append this (drop (length this) part), length-drop (length this) part, within, before.1, ap (λ ts. length (laid ts)) opened, length-append this (laid rest)) in
     let same : length (put_mid at (length out - at) out new) ≡ length out = put_long at (length out - at) out new (omega (arith, before.1)) fills in
     let split : put_mid at (length out - at) out new ≡ (take at out ++ this) ++ (drop (length this) part ++ post_of at (length out - at) out) =
     ap (λ z. take at out ++ (z ++ post_of at (length out - at) out)) is ∙ ap (λ z. take at out ++ z) (append_assoc this (drop (length this) part) (post_of at (length out - at) out))
     ∙ sym (append_assoc (take at out) this (drop (length this) part ++ post_of at (length out - at) out)) in
     let front : take (at + p) (put_mid at (length out - at) out new) ≡ take at out ++ this =
     ap (take (at + p)) split ∙ take_at (take at out ++ this) (drop (length this) part ++ post_of at (length out - at) out) (at + p) (omega (arith, size, length-append (take at out) this, length-take-le at out (omega (arith, before.1)))) in (
-      ap (λ z. z ++ laid rest) front ∙ append_assoc (take at out) this (laid rest) ∙ ap (λ z. take at out ++ z) (sym (ap laid opens)) ∙ before.0,
-      omega (arith, same, before.1, size, ap (λ ts. length (laid ts)) opens, length-append this (laid rest)),
+      ap (λ z. z ++ laid rest) front ∙ append_assoc (take at out) this (laid rest) ∙ ap (λ z. take at out ++ z) (sym (ap laid opened)) ∙ before.0,
+      omega (arith, same, before.1, size, ap (λ ts. length (laid ts)) opened, length-append this (laid rest)),
       same ∙ before.2,
     )
 
@@ -171,19 +173,19 @@ spelled_long [] = refl
 spelled_long (p ∷ ps) = omega (arith, length-append (spelling 8 p) (flat_map (spelling 8) ps), length-spelling 8 p, spelled_long ps)
 
 -- the XSDT's body
-pub root_long : (start : ℕ) (ids : TableIds) (cs : List TableContents) → 36 + length (flat_map (spelling 8) (addresses start (map (bytes_of ids) cs))) ≡ 36 + 8 * length cs
-root_long start ids cs =
-    omega (arith, spelled_long (addresses start (map (bytes_of ids) cs)), addresses_long start (map (bytes_of ids) cs), length-map cs (bytes_of ids))
+pub root_long : {A : Type 0} (w : Written A) (start : ℕ) (ids : TableIds) (cs : List A) → 36 + length (flat_map (spelling 8) (addresses start (map (bytes_by w ids) cs))) ≡ 36 + 8 * length cs
+root_long w start ids cs =
+    omega (arith, spelled_long (addresses start (map (bytes_by w ids) cs)), addresses_long start (map (bytes_by w ids) cs), length-map cs (bytes_by w ids))
 
-pub xsdt_long : (start : ℕ) (x : Machine) → AreIds x.ids → length (xsdt_from start x) ≡ xsdt_length x
-xsdt_long start x are = table_length XSDT 1 x.ids (root_body Xsdt (addresses start (listed x))) refl are ∙ root_long start x.ids x.tables.now
+pub xsdt_long : {A : Type 0} (w : Written A) (start : ℕ) (x : MachineOf A) → AreIds x.ids → length (xsdt_from w start x) ≡ xsdt_length x
+xsdt_long w start x are = table_length XSDT 1 x.ids (root_body Xsdt (addresses start (listed_by w x))) refl are ∙ root_long w start x.ids x.tables.now
 
-pub tree_size_is : (a : ℕ) (x : Machine) → AreIds x.ids → length (tree_bytes a x) ≡ tree_size x
-unfolding tree_bytes tree_size
-tree_size_is a x are =
-    let xsdt = xsdt_bytes a x in
-    let first : length (padded xsdt) ≡ rounded (xsdt_length x) = padded_long xsdt ∙ ap rounded (xsdt_long (tables_address a x) x are) in
-    omega (arith, length-append (padded xsdt) (padded (dsdt_of x) ++ laid (listed x)), length-append (padded (dsdt_of x)) (laid (listed x)), first)
+pub tree_size_is : {A : Type 0} (w : Written A) (a : ℕ) (x : MachineOf A) → AreIds x.ids → length (tree_by w a x) ≡ size_by w x
+unfolding tree_by size_by
+tree_size_is w a x are =
+    let xsdt = xsdt_by w a x in
+    let first : length (padded xsdt) ≡ rounded (xsdt_length x) = padded_long xsdt ∙ ap rounded (xsdt_long w (tables_address a x) x are) in
+    omega (arith, length-append (padded xsdt) (padded (dsdt_of x) ++ laid (listed_by w x)), length-append (padded (dsdt_of x)) (laid (listed_by w x)), first)
 
 -- ---- whether the machine can be written
 
@@ -195,31 +197,31 @@ pub dsdt_none : (w : Result (List ℕ) WriterError) (e : WriterError) → (w >>=
 dsdt_none (Ok t) e is = absurd cc
 dsdt_none (Err d) e is = refl
 
-pub tree_bad_name : (x : Machine) → are_texts x.ids ≡ false → tree_sized x ≡ Err BadName
-unfolding check_machine
-tree_bad_name x bad = rw bad refl
+pub tree_bad_name : {A : Type 0} (w : Written A) (x : MachineOf A) → are_texts x.ids ≡ false → tree_sized w x ≡ Err BadName
+unfolding check_by
+tree_bad_name w x bad = rw bad refl
 
-pub tree_too_long : (x : Machine) → are_texts x.ids ≡ true → 2 ^ 32 ≤ xsdt_length x → tree_sized x ≡ Err TooLong
-unfolding check_machine
-tree_too_long x texts long = rw (texts, le-ltb (xsdt_length x) (2 ^ 32) long) refl
+pub tree_too_long : {A : Type 0} (w : Written A) (x : MachineOf A) → are_texts x.ids ≡ true → 2 ^ 32 ≤ xsdt_length x → tree_sized w x ≡ Err TooLong
+unfolding check_by
+tree_too_long w x texts long = rw (texts, le-ltb (xsdt_length x) (2 ^ 32) long) refl
 
 error_of : (w : Result (List ℕ) WriterError) (e : WriterError) → (w >>= λ t. count (length (padded t))) ≡ Err e → w ≡ Err e
 error_of (Ok t) e is = absurd cc
 error_of (Err d) e is = cc
 
-pub tree_dsdt_error : (x : Machine) (e : WriterError) → are_texts x.ids ≡ true → xsdt_length x < 2 ^ 32 → dsdt_sized x.ids x.dsdt ≡ Err e → tree_sized x ≡ Err e
-unfolding check_machine
-tree_dsdt_error x e texts short is = rw (texts, lt-ltb (xsdt_length x) (2 ^ 32) short, error_of (dsdt_written x.ids x.dsdt) e is) refl
+pub tree_dsdt_error : {A : Type 0} (w : Written A) (x : MachineOf A) (e : WriterError) → are_texts x.ids ≡ true → xsdt_length x < 2 ^ 32 → dsdt_sized x.ids x.dsdt ≡ Err e → tree_sized w x ≡ Err e
+unfolding check_by
+tree_dsdt_error w x e texts short is = rw (texts, lt-ltb (xsdt_length x) (2 ^ 32) short, error_of (dsdt_written x.ids x.dsdt) e is) refl
 
 check_error : (r : Result (Unit {0}) WriterError) (n : ℕ) (e : WriterError) → (r >>= λ _. count n) ≡ Err e → r ≡ Err e
 check_error (Ok t) n e is = absurd cc
 check_error (Err d) n e is = cc
 
-pub tree_error : (x : Machine) (d : ℕ) (e : WriterError) → are_texts x.ids ≡ true → xsdt_length x < 2 ^ 32 → dsdt_sized x.ids x.dsdt ≡ Ok d → listed_sized x.ids x.tables.now ≡ Err e → tree_sized x ≡ Err e
-unfolding check_machine
-tree_error x d e texts short dsdt is =
+pub tree_error : {A : Type 0} (w : Written A) (x : MachineOf A) (d : ℕ) (e : WriterError) → are_texts x.ids ≡ true → xsdt_length x < 2 ^ 32 → dsdt_sized x.ids x.dsdt ≡ Ok d → listed_sized w x.ids x.tables.now ≡ Err e → tree_sized w x ≡ Err e
+unfolding check_by
+tree_error w x d e texts short dsdt is =
     let first = bind_ok (dsdt_written x.ids x.dsdt) (λ t. count (length (padded t))) d dsdt in
-    rw (texts, lt-ltb (xsdt_length x) (2 ^ 32) short, first.1, check_error (check_tables x.ids x.tables.now) (length (laid (listed x))) e is) refl
+    rw (texts, lt-ltb (xsdt_length x) (2 ^ 32) short, first.1, check_error (check_each w x.ids x.tables.now) (length (laid (listed_by w x))) e is) refl
 
 check_done : (r : Result (Unit {0}) WriterError) (m n : ℕ) → (r >>= λ _. count m) ≡ Ok n → r ≡ Ok tt
 check_done (Ok t) m n is = refl
@@ -229,37 +231,37 @@ check_count : (r : Result (Unit {0}) WriterError) (m n : ℕ) → (r >>= λ _. c
 check_count (Ok t) m n is = same_count m n is
 check_count (Err d) m n is = absurd cc
 
-pub tree_ok : (x : Machine) (d l : ℕ) → are_texts x.ids ≡ true → xsdt_length x < 2 ^ 32 → dsdt_sized x.ids x.dsdt ≡ Ok d → listed_sized x.ids x.tables.now ≡ Ok l
-    → tree_sized x ≡ Ok (rounded (xsdt_length x) + d + l)
-unfolding check_machine tree_size
-tree_ok x d l texts short dsdt is =
+pub tree_ok : {A : Type 0} (w : Written A) (x : MachineOf A) (d l : ℕ) → are_texts x.ids ≡ true → xsdt_length x < 2 ^ 32 → dsdt_sized x.ids x.dsdt ≡ Ok d → listed_sized w x.ids x.tables.now ≡ Ok l
+    → tree_sized w x ≡ Ok (rounded (xsdt_length x) + d + l)
+unfolding check_by size_by
+tree_ok w x d l texts short dsdt is =
     let first = bind_ok (dsdt_written x.ids x.dsdt) (λ t. count (length (padded t))) d dsdt in
-    let passed = check_done (check_tables x.ids x.tables.now) (length (laid (listed x))) l is in
-    let size : tree_size x ≡ rounded (xsdt_length x) + d + l =
-    omega (arith, dsdt_long (dsdt_written x.ids x.dsdt) d dsdt, check_count (check_tables x.ids x.tables.now) (length (laid (listed x))) l is) in
-    let checked : check_machine x ≡ Ok tt = rw (texts, lt-ltb (xsdt_length x) (2 ^ 32) short, first.1, passed) refl in
-    ap (λ r. r >>= λ _. count (tree_size x)) checked ∙ ap count size
+    let passed = check_done (check_each w x.ids x.tables.now) (length (laid (listed_by w x))) l is in
+    let size : size_by w x ≡ rounded (xsdt_length x) + d + l =
+    omega (arith, dsdt_long (dsdt_written x.ids x.dsdt) d dsdt, check_count (check_each w x.ids x.tables.now) (length (laid (listed_by w x))) l is) in
+    let checked : check_by w x ≡ Ok tt = rw (texts, lt-ltb (xsdt_length x) (2 ^ 32) short, first.1, passed) refl in
+    ap (λ r. r >>= λ _. count (size_by w x)) checked ∙ ap count size
 
 -- ---- what a call gives
 
-pub machine_sized : (x : Machine) (n : ℕ) → tree_sized x ≡ Ok n → machine_size x ≡ Ok (48 + n)
-machine_sized x n e =
-    ap (λ r. r >>= λ _. count (48 + tree_size x)) (check_done (check_machine x) (tree_size x) n e) ∙ ap (λ k. count (48 + k)) (check_count (check_machine x) (tree_size x) n e)
+pub machine_sized : {A : Type 0} (w : Written A) (x : MachineOf A) (n : ℕ) → tree_sized w x ≡ Ok n → machine_size w x ≡ Ok (48 + n)
+machine_sized w x n e =
+    ap (λ r. r >>= λ _. count (48 + size_by w x)) (check_done (check_by w x) (size_by w x) n e) ∙ ap (λ k. count (48 + k)) (check_count (check_by w x) (size_by w x) n e)
 
-pub machine_error : (x : Machine) (e : WriterError) → tree_sized x ≡ Err e → machine_size x ≡ Err e
-machine_error x e is = ap (λ r. r >>= λ _. count (48 + tree_size x)) (check_error (check_machine x) (tree_size x) e is)
+pub machine_error : {A : Type 0} (w : Written A) (x : MachineOf A) (e : WriterError) → tree_sized w x ≡ Err e → machine_size w x ≡ Err e
+machine_error w x e is = ap (λ r. r >>= λ _. count (48 + size_by w x)) (check_error (check_by w x) (size_by w x) e is)
 
-pub size_is : (x : Machine) (n : ℕ) → tree_sized x ≡ Ok n → tree_size x ≡ n
-size_is x n e = check_count (check_machine x) (tree_size x) n e
+pub size_is : {A : Type 0} (w : Written A) (x : MachineOf A) (n : ℕ) → tree_sized w x ≡ Ok n → size_by w x ≡ n
+size_is w x n e = check_count (check_by w x) (size_by w x) n e
 
-pub is_checked : (x : Machine) (n : ℕ) → tree_sized x ≡ Ok n → check_machine x ≡ Ok tt
-is_checked x n e = check_done (check_machine x) (tree_size x) n e
+pub is_checked : {A : Type 0} (w : Written A) (x : MachineOf A) (n : ℕ) → tree_sized w x ≡ Ok n → check_by w x ≡ Ok tt
+is_checked w x n e = check_done (check_by w x) (size_by w x) n e
 
-pub region_ok : (x : Machine) (k n m room a : ℕ) (bytes : List ℕ) → tree_sized x ≡ Ok k → n ≡ m → check_place room a m ≡ Ok tt → region_written x n room a bytes ≡ Ok bytes
-region_ok x k n m room a bytes e same placed = rw (is_checked x k e, same, placed) refl
+pub region_ok : {A : Type 0} (w : Written A) (x : MachineOf A) (k n m room a : ℕ) (bytes : List ℕ) → tree_sized w x ≡ Ok k → n ≡ m → check_place room a m ≡ Ok tt → region_written w x n room a bytes ≡ Ok bytes
+region_ok w x k n m room a bytes e same placed = rw (is_checked w x k e, same, placed) refl
 
-pub region_place : (x : Machine) (k n m room a : ℕ) (bytes : List ℕ) (d : WriterError) → tree_sized x ≡ Ok k → n ≡ m → check_place room a m ≡ Err d → region_written x n room a bytes ≡ Err d
-region_place x k n m room a bytes d e same placed = rw (is_checked x k e, same, placed) refl
+pub region_place : {A : Type 0} (w : Written A) (x : MachineOf A) (k n m room a : ℕ) (bytes : List ℕ) (d : WriterError) → tree_sized w x ≡ Ok k → n ≡ m → check_place room a m ≡ Err d → region_written w x n room a bytes ≡ Err d
+region_place w x k n m room a bytes d e same placed = rw (is_checked w x k e, same, placed) refl
 
-pub region_error : (x : Machine) (n room a : ℕ) (bytes : List ℕ) (d : WriterError) → tree_sized x ≡ Err d → region_written x n room a bytes ≡ Err d
-region_error x n room a bytes d e = rw (check_error (check_machine x) (tree_size x) d e) refl
+pub region_error : {A : Type 0} (w : Written A) (x : MachineOf A) (n room a : ℕ) (bytes : List ℕ) (d : WriterError) → tree_sized w x ≡ Err d → region_written w x n room a bytes ≡ Err d
+region_error w x n room a bytes d e = rw (check_error (check_by w x) (size_by w x) d e) refl

@@ -1,5 +1,5 @@
 -- The bytes of a table that an XSDT can list, by what it is to say.
-use Rattle.std.specs.Prelude.{ℕ, ◌-◌, ◌^◌, ◌<◌, List, [], length, IsUtf8, Result, Ok, Err}
+use Rattle.std.specs.Prelude.{◌≡◌, ℕ, ◌-◌, ◌^◌, ◌<◌, ◌≤◌, List, [], length, IsUtf8, Result, Ok, Err}
 use Rattle.std.specs.List.{All}
 use Rattle.acpi_base.specs.declared.table.signature.Signature.{Signature}
 use Rattle.acpi_base.specs.declared.table.signature.TheConstants.Signature.{BGRT, FADT, GTDT, HPET, MADT, MCFG, SLIT, SPCR, SRAT, SSDT}
@@ -81,8 +81,24 @@ or_none (Err e) = []
 abbrev pub most : ℕ
 most = 2 ^ 64 - 1
 
+-- how things of a type are written as tables: in so much room, with these ids, or the first error
+abbrev pub Written : Type 0 → Type 0
+Written A = ℕ → TableIds → A → Result (List ℕ) WriterError
+
+-- what is written in some room is written in any other that it fits into
+abbrev pub Moves : (ℕ → Result (List ℕ) WriterError) → Type 0
+Moves written = (room other : ℕ) (t : List ℕ) → written room ≡ Ok t → length t ≤ other → written other ≡ Ok t
+
+-- the bytes of one thing, and these filled up
+abbrev pub bytes_by : {A : Type 0} → Written A → TableIds → A → List ℕ
+bytes_by written ids c = or_none (written most ids c)
+
+abbrev pub placed_by : {A : Type 0} → Written A → TableIds → A → List ℕ
+placed_by written ids c = padded (bytes_by written ids c)
+
+-- of contents
 abbrev pub bytes_of : TableIds → TableContents → List ℕ
-bytes_of ids c = or_none (contents_written most ids c)
+bytes_of ids c = bytes_by contents_written ids c
 
 abbrev pub placed : TableIds → TableContents → List ℕ
-placed ids c = padded (bytes_of ids c)
+placed ids c = placed_by contents_written ids c

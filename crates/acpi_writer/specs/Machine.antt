@@ -1,11 +1,12 @@
--- A whole machine in one region of memory: the RSDP, the XSDT, a DSDT, and the tables that the XSDT lists.
-use Rattle.std.specs.Prelude.{ℕ, ◌+◌, ◌*◌, ◌^◌, ◌%◌, ◌<◌, ◌==◌, ◌&&◌, Bool, not, if◌then◌else◌, List, [], ◌∷◌, ◌++◌, length, map, nat_le, nat_lt}
-use Rattle.std.specs.Prelude.{Option, Some, None, Result, Ok}
+-- A whole machine in one region of memory: the RSDP, the XSDT, a DSDT, and the tables that the XSDT lists, which are
+-- things that are written as tables.
+use Rattle.std.specs.Prelude.{◌≡◌, ℕ, ◌+◌, ◌*◌, ◌^◌, ◌%◌, ◌<◌, ◌==◌, ◌&&◌, Bool, true, not, if◌then◌else◌, List, [], ◌∷◌, ◌++◌, length, map, nat_le, nat_lt}
+use Rattle.std.specs.Prelude.{Option, Some, None, Result, Ok, Err}
 use Rattle.std.specs.List.{All}
 use Rattle.acpi.specs.declared.root.RootKind.TheVariants.{Xsdt}
 use Rattle.acpi_base.specs.Steps.{◌>>=◌, holds}
 use Rattle.acpi_base.specs.declared.table.signature.TheConstants.Signature.{DSDT, XSDT}
-use Rattle.acpi_writer.specs.Contents.{FitsContents, bytes_of, contents_written, most, or_none}
+use Rattle.acpi_writer.specs.Contents.{FitsContents, Written, bytes_by, contents_written, most, or_none}
 use Rattle.acpi_writer.specs.Laid.{addresses, laid, padded, rounded}
 use Rattle.acpi_writer.specs.Root.{root_body}
 use Rattle.acpi_writer.specs.Rsdp.{rsdp_bytes}
@@ -15,7 +16,14 @@ use Rattle.acpi_writer.specs.declared.contents.TableContents.{TableContents}
 use Rattle.acpi_writer.specs.declared.error.WriterError.{WriterError}
 use Rattle.acpi_writer.specs.declared.error.WriterError.TheVariants.{BadName, NoAddress, NoRoom, TooLong}
 use Rattle.acpi_writer.specs.declared.ids.TableIds.{TableIds}
-use Rattle.acpi_writer.specs.declared.machine.Machine.{Machine}
+use Rattle.acpi_writer.specs.declared.machine.Machine as declared
+
+-- a machine of things of a type, and one of contents
+abbrev pub MachineOf : Type 0 → Type 0
+MachineOf A = declared.Machine A
+
+abbrev pub Machine : Type 0
+Machine = MachineOf TableContents
 
 -- ---- what is laid
 
@@ -24,19 +32,19 @@ abbrev pub dsdt_written : TableIds → Option AmlContents → Result (List ℕ) 
 dsdt_written ids None = Ok []
 dsdt_written ids (Some c) = table_written most DSDT c.revision ids c.bytes.now
 
-abbrev pub dsdt_of : Machine → List ℕ
+abbrev pub dsdt_of : {A : Type 0} → MachineOf A → List ℕ
 dsdt_of m = or_none (dsdt_written m.ids m.dsdt)
 
 -- the tables that the XSDT lists, in order
-abbrev pub listed : Machine → List (List ℕ)
-listed m = map (bytes_of m.ids) m.tables.now
+abbrev pub listed_by : {A : Type 0} → Written A → MachineOf A → List (List ℕ)
+listed_by written m = map (bytes_by written m.ids) m.tables.now
 
 -- how many bytes the XSDT has: 8 for each table after its header
-abbrev pub xsdt_length : Machine → ℕ
+abbrev pub xsdt_length : {A : Type 0} → MachineOf A → ℕ
 xsdt_length m = 36 + 8 * length m.tables.now
 
 -- where the DSDT lies, or would lie, and where the listed tables begin, if the XSDT lies at a
-abbrev pub dsdt_address : ℕ → Machine → ℕ
+abbrev pub dsdt_address : {A : Type 0} → ℕ → MachineOf A → ℕ
 dsdt_address a m = a + rounded (xsdt_length m)
 
 -- where `write_tables` lays the DSDT for an address, with so many listed tables, if that is an address
@@ -45,56 +53,56 @@ dsdt_at a n =
     if nat_lt (36 + 8 * n) (2 ^ 32) && nat_lt (a + (48 + rounded (36 + 8 * n))) (2 ^ 64) then Some (a + (48 + rounded (36 + 8 * n)))
     else None
 
-abbrev pub tables_address : ℕ → Machine → ℕ
+abbrev pub tables_address : {A : Type 0} → ℕ → MachineOf A → ℕ
 tables_address a m = dsdt_address a m + length (padded (dsdt_of m))
 
 -- where each of them lies
-abbrev pub pointers_of : ℕ → Machine → List ℕ
-pointers_of a m = addresses (tables_address a m) (listed m)
+abbrev pub pointers_by : {A : Type 0} → Written A → ℕ → MachineOf A → List ℕ
+pointers_by written a m = addresses (tables_address a m) (listed_by written m)
 
 -- the XSDT, if the first of them lies at this address, and if the XSDT itself lies at a
-abbrev pub xsdt_from : ℕ → Machine → List ℕ
-xsdt_from start m = table_bytes XSDT 1 m.ids (root_body Xsdt (addresses start (listed m)))
+abbrev pub xsdt_from : {A : Type 0} → Written A → ℕ → MachineOf A → List ℕ
+xsdt_from written start m = table_bytes XSDT 1 m.ids (root_body Xsdt (addresses start (listed_by written m)))
 
-abbrev pub xsdt_bytes : ℕ → Machine → List ℕ
-xsdt_bytes a m = xsdt_from (tables_address a m) m
+abbrev pub xsdt_by : {A : Type 0} → Written A → ℕ → MachineOf A → List ℕ
+xsdt_by written a m = xsdt_from written (tables_address a m) m
 
 -- the DSDT and the listed tables, and before them the XSDT, at a
-abbrev pub rest_bytes : Machine → List ℕ
-rest_bytes m = padded (dsdt_of m) ++ laid (listed m)
+abbrev pub rest_bytes : {A : Type 0} → Written A → MachineOf A → List ℕ
+rest_bytes written m = padded (dsdt_of m) ++ laid (listed_by written m)
 
-unfoldable pub tree_bytes : ℕ → Machine → List ℕ
-tree_bytes a m = padded (xsdt_bytes a m) ++ rest_bytes m
+unfoldable pub tree_by : {A : Type 0} → Written A → ℕ → MachineOf A → List ℕ
+tree_by written a m = padded (xsdt_by written a m) ++ rest_bytes written m
 
 -- and before that the RSDP, at a
-unfoldable pub machine_bytes : ℕ → Machine → List ℕ
-machine_bytes a m = padded (rsdp_bytes m.ids.oem_id (a + 48)) ++ tree_bytes (a + 48) m
+unfoldable pub machine_by : {A : Type 0} → Written A → ℕ → MachineOf A → List ℕ
+machine_by written a m = padded (rsdp_bytes m.ids.oem_id (a + 48)) ++ tree_by written (a + 48) m
 
 -- how many bytes there are without the RSDP, which takes 48 more
-unfoldable pub tree_size : Machine → ℕ
-tree_size m = rounded (xsdt_length m) + (length (padded (dsdt_of m)) + length (laid (listed m)))
+unfoldable pub size_by : {A : Type 0} → Written A → MachineOf A → ℕ
+size_by written m = rounded (xsdt_length m) + (length (padded (dsdt_of m)) + length (laid (listed_by written m)))
 
 -- the numbers have a place
-pub record FitsMachine (m : Machine) : Type 0 where
+pub record Fit {A : Type 0} (Fits : A → Type 0) (m : MachineOf A) : Type 0 where
   pub ids : AreIds m.ids
   pub short : xsdt_length m < 2 ^ 32
-  pub tables : All FitsContents m.tables.now
+  pub tables : All Fits m.tables.now
 
 -- ---- errors
 
 -- each table can be written, or the first error
-abbrev pub check_tables : TableIds → List TableContents → Result (Unit {0}) WriterError
-check_tables ids [] = Ok tt
-check_tables ids (c ∷ cs) = do
-  _ ← contents_written most ids c
-  check_tables ids cs
+abbrev pub check_each : {A : Type 0} → Written A → TableIds → List A → Result (Unit {0}) WriterError
+check_each written ids [] = Ok tt
+check_each written ids (c ∷ cs) = do
+  _ ← written most ids c
+  check_each written ids cs
 
-unfoldable pub check_machine : Machine → Result (Unit {0}) WriterError
-check_machine m = do
+unfoldable pub check_by : {A : Type 0} → Written A → MachineOf A → Result (Unit {0}) WriterError
+check_by written m = do
   _ ← holds (are_texts m.ids) BadName
   _ ← holds (nat_lt (xsdt_length m) (2 ^ 32)) TooLong
   _ ← dsdt_written m.ids m.dsdt
-  check_tables m.ids m.tables.now
+  check_each written m.ids m.tables.now
 
 -- so many bytes can lie here: the address is a multiple of 16, and neither 0 nor too high
 abbrev pub is_place : ℕ → ℕ → Bool
@@ -106,38 +114,73 @@ check_place room a n = do
   _ ← holds (nat_le n room) NoRoom
   holds (is_place a n) NoAddress
 
+-- the machine can be written for an address
+pub record CanLie {A : Type 0} (written : Written A) (Fits : A → Type 0) (a : ℕ) (m : MachineOf A) : Type 0 where
+  pub checked : check_by written m ≡ Ok tt
+  pub fit : Fit Fits m
+  pub place : is_place a (size_by written m) ≡ true
+
 -- how many bytes the listed tables take, or the first error; and so of the DSDT, and of all but the RSDP
-abbrev pub listed_sized : TableIds → List TableContents → Result ℕ WriterError
-listed_sized ids cs = do
-  _ ← check_tables ids cs
-  Ok (length (laid (map (bytes_of ids) cs)))
+abbrev pub listed_sized : {A : Type 0} → Written A → TableIds → List A → Result ℕ WriterError
+listed_sized written ids cs = do
+  _ ← check_each written ids cs
+  Ok (length (laid (map (bytes_by written ids) cs)))
 
 abbrev pub dsdt_sized : TableIds → Option AmlContents → Result ℕ WriterError
 dsdt_sized ids dsdt = do
   table ← dsdt_written ids dsdt
   Ok (length (padded table))
 
-abbrev pub tree_sized : Machine → Result ℕ WriterError
-tree_sized m = do
-  _ ← check_machine m
-  Ok (tree_size m)
+abbrev pub tree_sized : {A : Type 0} → Written A → MachineOf A → Result ℕ WriterError
+tree_sized written m = do
+  _ ← check_by written m
+  Ok (size_by written m)
 
 -- how many bytes there are with the RSDP, or the first error
-abbrev pub machine_size : Machine → Result ℕ WriterError
-machine_size m = do
-  _ ← check_machine m
-  Ok (48 + tree_size m)
+abbrev pub machine_size : {A : Type 0} → Written A → MachineOf A → Result ℕ WriterError
+machine_size written m = do
+  _ ← check_by written m
+  Ok (48 + size_by written m)
 
 -- what a call that writes so many bytes for an address into so much room gives: these bytes, or the first error
-abbrev pub region_written : Machine → ℕ → ℕ → ℕ → List ℕ → Result (List ℕ) WriterError
-region_written m n room a bytes = do
-  _ ← check_machine m
+abbrev pub region_written : {A : Type 0} → Written A → MachineOf A → ℕ → ℕ → ℕ → List ℕ → Result (List ℕ) WriterError
+region_written written m n room a bytes = do
+  _ ← check_by written m
   _ ← check_place room a n
   Ok bytes
 
 -- with the RSDP, and without it
-abbrev pub machine_written : ℕ → ℕ → Machine → Result (List ℕ) WriterError
-machine_written room a m = region_written m (48 + tree_size m) room a (machine_bytes a m)
+abbrev pub machine_written : {A : Type 0} → Written A → ℕ → ℕ → MachineOf A → Result (List ℕ) WriterError
+machine_written written room a m = region_written written m (48 + size_by written m) room a (machine_by written a m)
 
-abbrev pub tree_written : ℕ → ℕ → Machine → Result (List ℕ) WriterError
-tree_written room a m = region_written m (tree_size m) room a (tree_bytes a m)
+abbrev pub tree_written : {A : Type 0} → Written A → ℕ → ℕ → MachineOf A → Result (List ℕ) WriterError
+tree_written written room a m = region_written written m (size_by written m) room a (tree_by written a m)
+
+-- ---- of a machine of contents
+
+abbrev pub listed : Machine → List (List ℕ)
+listed m = listed_by contents_written m
+
+abbrev pub pointers_of : ℕ → Machine → List ℕ
+pointers_of a m = pointers_by contents_written a m
+
+abbrev pub xsdt_bytes : ℕ → Machine → List ℕ
+xsdt_bytes a m = xsdt_by contents_written a m
+
+abbrev pub tree_bytes : ℕ → Machine → List ℕ
+tree_bytes a m = tree_by contents_written a m
+
+abbrev pub machine_bytes : ℕ → Machine → List ℕ
+machine_bytes a m = machine_by contents_written a m
+
+abbrev pub tree_size : Machine → ℕ
+tree_size m = size_by contents_written m
+
+abbrev pub FitsMachine : Machine → Type 0
+FitsMachine m = Fit FitsContents m
+
+abbrev pub check_tables : TableIds → List TableContents → Result (Unit {0}) WriterError
+check_tables ids cs = check_each contents_written ids cs
+
+abbrev pub check_machine : Machine → Result (Unit {0}) WriterError
+check_machine m = check_by contents_written m

@@ -39,13 +39,13 @@ use Rattle.acpi_fixed.specs.Fadt.{fadt_at}
 use Rattle.acpi_numa.specs.Affinities.{srat_kind}
 use Rattle.acpi_numa.specs.Slit.{distance_of}
 use Rattle.acpi_writer.specs.Bgrt.{SaysImage}
-use Rattle.acpi_writer.specs.Contents.{bytes_of, placed, signature_of}
+use Rattle.acpi_writer.specs.Contents.{FitsContents, bytes_of, contents_written, placed, signature_of}
 use Rattle.acpi_writer.specs.FadtLaws.{IsReadAs, timer_read}
 use Rattle.acpi_writer.specs.GicMadt.{gic_read}
 use Rattle.acpi_writer.specs.Gtdt.{SaysTimers}
 use Rattle.acpi_writer.specs.ImageLaws.{HasPlatform, is_named}
 use Rattle.acpi_writer.specs.Laid.{addresses, laid, padded}
-use Rattle.acpi_writer.specs.Machine.{FitsMachine, check_machine, dsdt_address, dsdt_of, is_place, machine_bytes, pointers_of, tables_address, tree_bytes, tree_size, xsdt_bytes}
+use Rattle.acpi_writer.specs.Machine.{CanLie, Machine, dsdt_address, dsdt_of, machine_bytes, pointers_of, tables_address, tree_bytes, tree_size, xsdt_bytes}
 use Rattle.acpi_writer.specs.MadtLaws.{apic_read, model_read, processors_read}
 use Rattle.acpi_writer.specs.Rsdp.{rsdp_bytes}
 use Rattle.acpi_writer.specs.SpcrLaws.{SaysConsole}
@@ -57,7 +57,6 @@ use Rattle.acpi_writer.specs.declared.contents.TableContents.TheVariants.{Bgrt, 
 use Rattle.acpi_writer.specs.declared.fadt.contents.FadtContents.{FadtContents}
 use Rattle.acpi_writer.specs.declared.ids.TableIds.{TableIds}
 use Rattle.acpi_writer.specs.declared.madt.MadtContents.{MadtContents}
-use Rattle.acpi_writer.specs.declared.machine.Machine.{Machine}
 
 -- ---- any valid tables, laid one after the other
 
@@ -82,10 +81,8 @@ LaidAreFound = (m : Memory) (a : ℕ) (ts : List (List ℕ)) → IsMemory m → 
 -- ---- a machine
 
 -- the machine can be written for an address: what `write_tables` says of it
-pub record IsWritable (a : ℕ) (x : Machine) : Type 0 where
-  pub checked : check_machine x ≡ Ok tt
-  pub fit : FitsMachine x
-  pub place : is_place a (tree_size x) ≡ true
+abbrev pub IsWritable : ℕ → Machine → Type 0
+IsWritable a x = CanLie contents_written FitsContents a x
 
 -- the first of the listed tables with this signature, and where it lies, if the first one lies at a
 abbrev pub first_of : Signature → List TableContents → Option TableContents

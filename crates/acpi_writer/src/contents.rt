@@ -1,9 +1,7 @@
 //! The tables that an XSDT can list, each from what it is to say.
-ghost use Rattle.std.specs.Prelude.{◌≡◌, ◌+◌, ◌^◌, ◌<◌, ◌≤◌, ◌++◌, length, take, drop, replicate, IfOk};
-ghost use Rattle.acpi_base.specs.Steps.{Gives};
-ghost use Rattle.acpi_writer.specs.Contents.{FitsContents, contents_written, most, placed, sized};
+ghost use Rattle.std.specs.Prelude.{◌≡◌, ◌+◌, ◌^◌, ◌<◌, ◌≤◌, ◌++◌, length, take, drop, replicate};
+ghost use Rattle.acpi_writer.specs.Contents.{FitsContents, contents_written};
 ghost use Rattle.acpi_writer.specs.Laid.{gap, rounded};
-ghost use Rattle.acpi_writer.specs.Table.{Keeps};
 
 use crate::aml::write_ssdt;
 use crate::bgrt::{BgrtContents, write_bgrt};
@@ -12,6 +10,7 @@ use crate::fadt::{FadtContents, fadt_size, write_fadt};
 use crate::gtdt::{GtdtContents, gtdt_size, write_gtdt};
 use crate::hpet::write_hpet;
 use crate::ids::TableIds;
+use crate::listed::Listed;
 use crate::madt::gic::{GicContents, gic_size, write_gic_madt};
 use crate::madt::{MadtContents, madt_size, write_madt};
 use crate::mcfg::{mcfg_size, write_mcfg};
@@ -88,13 +87,12 @@ pub(crate) fn fill_up(out: &mut [u8], size: usize) -> usize
     end
 }
 
-impl TableContents<'_> {
-    /// How many bytes the table has, or the first error.
-    pub(crate) fn size(&self, ids: &TableIds) -> Result<usize, WriterError>
-        ensures exact { result ≡ sized (contents_written most ids.now self.now) }
-        ensures short { IfOk result (λ n. n < 2 ^ 32) }
-        ensures fits { IfOk result (λ n. FitsContents self.now) }
-    {
+impl Listed for TableContents<'_> {
+    ghost written = { contents_written };
+
+    ghost fits = { FitsContents };
+
+    fn size(&self, ids: &TableIds) -> Result<usize, WriterError> {
         match self {
             TableContents::Madt(contents) => madt_size(ids, contents),
             TableContents::Mcfg(regions) => mcfg_size(ids, regions),
@@ -112,12 +110,7 @@ impl TableContents<'_> {
         }
     }
 
-    /// Writes the table to the front of a slice, as the function of its name does.
-    fn write(&self, out: &mut [u8], ids: &TableIds) -> Result<usize, WriterError>
-        ensures exact { Gives (λ n. take n out.new) result
-            (contents_written (length out.old) ids.now self.now) }
-        ensures keeps { Keeps result out.old out.new }
-    {
+    fn write(&self, out: &mut [u8], ids: &TableIds) -> Result<usize, WriterError> {
         match self {
             TableContents::Madt(contents) => write_madt(out, ids, contents),
             TableContents::Mcfg(regions) => write_mcfg(out, ids, regions),
@@ -133,28 +126,7 @@ impl TableContents<'_> {
         }
     }
 
-    /// Puts the table to the front of a slice, filled up with zeros to a multiple of 16, and returns how many bytes
-    /// these are. One that can't be written has none.
-    pub(crate) fn put(&self, out: &mut [u8], ids: &TableIds) -> usize
-        requires { length (placed ids.now self.now) ≤ length out.old }
-        ensures bytes { out.new ≡ placed ids.now self.now ++ drop (length (placed ids.now self.now)) out.old }
-        ensures size { result ≡ length (placed ids.now self.now) }
-    {
+    fn moves(&self, ids: &TableIds) {
         ids.fit();
-        match self.write(out, ids) {
-            Ok(size) => fill_up(out, size),
-            Err(_) => 0,
-        }
-    }
-
-    /// How many bytes `put` puts.
-    pub(crate) fn place(&self, ids: &TableIds) -> usize
-        ensures size { result ≡ length (placed ids.now self.now) }
-        ensures short { result ≤ 2 ^ 32 }
-    {
-        match self.size(ids) {
-            Ok(size) => rounded(size),
-            Err(_) => 0,
-        }
     }
 }

@@ -153,7 +153,7 @@ fn contents_size(
 }
 
 /// How many bytes the FADT has, or the first error of `write_fadt` in a slice of any length.
-pub(crate) fn fadt_size(ids: &TableIds, contents: &FadtContents) -> Result<usize, WriterError>
+pub fn fadt_size(ids: &TableIds, contents: &FadtContents) -> Result<usize, WriterError>
     ensures exact { result ≡ sized (bytes.fadt_written most ids.now contents.now) }
     ensures short { IfOk result (λ n. n < 2 ^ 32) }
     ensures fits { IfOk result (λ n. AreFitFor contents.now (bytes.fixed_of contents.now.hardware)) }

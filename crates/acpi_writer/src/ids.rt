@@ -29,7 +29,7 @@ impl TableIds {
     }
 
     /// The names and numbers are as long as their types say.
-    pub(crate) fn fit(&self)
+    pub fn fit(&self)
         ensures { AreIds self.now }
     {
         let _oem_id = self.oem_id;

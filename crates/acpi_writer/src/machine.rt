@@ -3,10 +3,9 @@ ghost use Rattle.std.specs.Prelude.{◌≡◌, ◌+◌, ◌*◌, ◌^◌, ◌<�
 ghost use Rattle.std.specs.List.{All};
 ghost use Rattle.acpi_base.specs.Bytes.{spelling};
 ghost use Rattle.acpi_base.specs.Steps.{Gives};
-ghost use Rattle.acpi_writer.specs.Contents.{FitsContents, bytes_of};
+ghost use Rattle.acpi_writer.specs.Contents.{bytes_by};
 ghost use Rattle.acpi_writer.specs.Laid.{addresses, laid, padded, rounded};
 ghost use Rattle.acpi_writer.specs.Machine as whole;
-ghost use Rattle.acpi_writer.specs.MachineLaws.{IsWritable};
 ghost use Rattle.acpi_writer.specs.Rsdp.{rsdp_bytes};
 ghost use Rattle.acpi_writer.specs.Table.{Keeps};
 
@@ -14,6 +13,7 @@ use crate::aml::write_dsdt;
 use crate::contents::{AmlContents, TableContents, fill_up, rounded};
 use crate::error::WriterError;
 use crate::ids::TableIds;
+use crate::listed::{self, Listed};
 use crate::numbers::qword;
 use crate::rsdp::rsdp_bytes;
 use crate::spelled::Bytes;
@@ -22,13 +22,13 @@ use acpi_base::Signature;
 
 /// A machine, as its tables describe it.
 #[derive(Clone, Copy)]
-pub struct Machine<'a> {
+pub struct Machine<'a, T = TableContents<'a>> {
     /// Who made the tables. Each table has them, and the RSDP has OEMID.
     pub ids: TableIds,
     /// The DSDT, if there is one.
     pub dsdt: Option<AmlContents<'a>>,
     /// The tables that the XSDT lists, in this order. Of two tables of one signature a reader finds the first.
-    pub tables: &'a [TableContents<'a>],
+    pub tables: &'a [T],
 }
 
 /// The physical address at which `write_tables` lays the DSDT of a machine that lists so many tables, if it is passed
@@ -44,11 +44,11 @@ pub fn dsdt_address(address: u64, tables: usize) -> Option<u64>
 }
 
 /// How many bytes the tables that the XSDT lists take, or the first error.
-fn listed_size(ids: &TableIds, tables: &[TableContents<'_>]) -> Result<usize, WriterError>
+fn listed_size<T: Listed>(ids: &TableIds, tables: &[T]) -> Result<usize, WriterError>
     requires { length tables.now < 2 ^ 29 }
-    ensures exact { result ≡ whole.listed_sized ids.now tables.now }
+    ensures exact { result ≡ whole.listed_sized T.written ids.now tables.now }
     ensures short { IfOk result (λ n. n ≤ 2 ^ 61) }
-    ensures fits { IfOk result (λ n. All FitsContents tables.now) }
+    ensures fits { IfOk result (λ n. All T.fits tables.now) }
 {
     let mut size = 0;
     for table in tables {
@@ -61,7 +61,7 @@ fn listed_size(ids: &TableIds, tables: &[TableContents<'_>]) -> Result<usize, Wr
 }
 
 /// How many bytes the DSDT takes, or its first error.
-fn dsdt_size(machine: &Machine<'_>) -> Result<usize, WriterError>
+fn dsdt_size<T>(machine: &Machine<'_, T>) -> Result<usize, WriterError>
     ensures exact { result ≡ whole.dsdt_sized machine.now.ids machine.now.dsdt }
     ensures short { IfOk result (λ n. n ≤ 2 ^ 32) }
 {
@@ -78,7 +78,7 @@ fn dsdt_size(machine: &Machine<'_>) -> Result<usize, WriterError>
 }
 
 /// How many bytes the DSDT takes. One that can't be written takes none.
-fn dsdt_place(machine: &Machine<'_>) -> usize
+fn dsdt_place<T>(machine: &Machine<'_, T>) -> usize
     ensures size { result ≡ length (padded (whole.dsdt_of machine.now)) }
     ensures short { result ≤ 2 ^ 32 }
 {
@@ -89,10 +89,10 @@ fn dsdt_place(machine: &Machine<'_>) -> usize
 }
 
 /// How many bytes there are without the RSDP, or the first error.
-fn tree_size(machine: &Machine<'_>) -> Result<usize, WriterError>
-    ensures exact { result ≡ whole.tree_sized machine.now }
+fn tree_size<T: Listed>(machine: &Machine<'_, T>) -> Result<usize, WriterError>
+    ensures exact { result ≡ whole.tree_sized T.written machine.now }
     ensures short { IfOk result (λ n. n < 2 ^ 62) }
-    ensures fits { IfOk result (λ n. whole.FitsMachine machine.now) }
+    ensures fits { IfOk result (λ n. whole.Fit T.fits machine.now) }
 {
     if !machine.ids.are_texts() {
         return Err(WriterError::BadName);
@@ -114,8 +114,8 @@ fn tree_size(machine: &Machine<'_>) -> Result<usize, WriterError>
 
 /// How many bytes `write_tables` writes, or the first error but for room and place. `write_tables_without_rsdp` writes
 /// 48 fewer.
-pub fn tables_size(machine: &Machine<'_>) -> Result<usize, WriterError>
-    ensures { result ≡ whole.machine_size machine.now }
+pub fn tables_size<T: Listed>(machine: &Machine<'_, T>) -> Result<usize, WriterError>
+    ensures { result ≡ whole.machine_size T.written machine.now }
 {
     match tree_size(machine) {
         Ok(size) => Ok(48 + size),
@@ -124,33 +124,33 @@ pub fn tables_size(machine: &Machine<'_>) -> Result<usize, WriterError>
 }
 
 /// Puts the addresses of tables, of which the first lies at this one.
-fn put_addresses(out: &mut [u8], start: u64, ids: &TableIds, tables: &[TableContents<'_>])
+fn put_addresses<T: Listed>(out: &mut [u8], start: u64, ids: &TableIds, tables: &[T])
     requires whole { length out.old ≡ 8 * length tables.now }
-    requires ends { start + length (laid (map (bytes_of ids.now) tables.now)) < 2 ^ 64 }
-    ensures { out.new ≡ flat_map (spelling 8) (addresses start (map (bytes_of ids.now) tables.now)) }
+    requires ends { start + length (laid (map (bytes_by T.written ids.now) tables.now)) < 2 ^ 64 }
+    ensures { out.new ≡ flat_map (spelling 8) (addresses start (map (bytes_by T.written ids.now) tables.now)) }
 {
     let mut place = start;
     let mut at = 0;
     for table in tables {
         out[at..at + 8].copy_from_slice(&qword(place));
-        place += table.place(ids) as u64;
+        place += listed::place(table, ids) as u64;
         at += 8;
     }
 }
 
 /// Puts the tables that the XSDT lists, one after the other.
-fn put_listed(out: &mut [u8], ids: &TableIds, tables: &[TableContents<'_>])
-    requires { length out.old ≡ length (laid (map (bytes_of ids.now) tables.now)) }
-    ensures { out.new ≡ laid (map (bytes_of ids.now) tables.now) }
+fn put_listed<T: Listed>(out: &mut [u8], ids: &TableIds, tables: &[T])
+    requires { length out.old ≡ length (laid (map (bytes_by T.written ids.now) tables.now)) }
+    ensures { out.new ≡ laid (map (bytes_by T.written ids.now) tables.now) }
 {
     let mut at = 0;
     for table in tables {
-        at += table.put(&mut out[at..], ids);
+        at += listed::put(table, &mut out[at..], ids);
     }
 }
 
 /// Puts the DSDT, if there is one.
-fn put_dsdt(out: &mut [u8], machine: &Machine<'_>)
+fn put_dsdt<T>(out: &mut [u8], machine: &Machine<'_, T>)
     requires { length out.old ≡ length (padded (whole.dsdt_of machine.now)) }
     ensures { out.new ≡ padded (whole.dsdt_of machine.now) }
 {
@@ -166,11 +166,11 @@ fn put_dsdt(out: &mut [u8], machine: &Machine<'_>)
 }
 
 /// Fills a slice with the XSDT of tables of which the first lies at this address.
-fn fill_xsdt(out: &mut [u8], start: u64, machine: &Machine<'_>)
+fn fill_xsdt<T: Listed>(out: &mut [u8], start: u64, machine: &Machine<'_, T>)
     requires whole { length out.old ≡ whole.xsdt_length machine.now }
     requires short { whole.xsdt_length machine.now < 2 ^ 32 }
-    requires ends { start + length (laid (whole.listed machine.now)) < 2 ^ 64 }
-    ensures { out.new ≡ whole.xsdt_from start machine.now }
+    requires ends { start + length (laid (whole.listed_by T.written machine.now)) < 2 ^ 64 }
+    ensures { out.new ≡ whole.xsdt_from T.written start machine.now }
 {
     let head = table_head(Signature::XSDT, 1, &machine.ids, out.len() as u32);
     put_addresses(&mut out[36..], start, &machine.ids, machine.tables);
@@ -178,11 +178,11 @@ fn fill_xsdt(out: &mut [u8], start: u64, machine: &Machine<'_>)
 }
 
 /// Puts the XSDT of tables of which the first lies at this address.
-fn put_xsdt(out: &mut [u8], start: u64, machine: &Machine<'_>)
+fn put_xsdt<T: Listed>(out: &mut [u8], start: u64, machine: &Machine<'_, T>)
     requires whole { length out.old ≡ rounded (whole.xsdt_length machine.now) }
     requires short { whole.xsdt_length machine.now < 2 ^ 32 }
-    requires ends { start + length (laid (whole.listed machine.now)) < 2 ^ 64 }
-    ensures { out.new ≡ padded (whole.xsdt_from start machine.now) }
+    requires ends { start + length (laid (whole.listed_by T.written machine.now)) < 2 ^ 64 }
+    ensures { out.new ≡ padded (whole.xsdt_from T.written start machine.now) }
 {
     let size = 36 + 8 * machine.tables.len();
     machine.ids.fit();
@@ -191,9 +191,9 @@ fn put_xsdt(out: &mut [u8], start: u64, machine: &Machine<'_>)
 }
 
 /// Puts the DSDT and the listed tables.
-fn put_rest(out: &mut [u8], machine: &Machine<'_>)
-    requires { length out.old ≡ length (whole.rest_bytes machine.now) }
-    ensures { out.new ≡ whole.rest_bytes machine.now }
+fn put_rest<T: Listed>(out: &mut [u8], machine: &Machine<'_, T>)
+    requires { length out.old ≡ length (whole.rest_bytes T.written machine.now) }
+    ensures { out.new ≡ whole.rest_bytes T.written machine.now }
 {
     let dsdt = dsdt_place(machine);
     put_dsdt(&mut out[..dsdt], machine);
@@ -201,12 +201,12 @@ fn put_rest(out: &mut [u8], machine: &Machine<'_>)
 }
 
 /// Puts all but the RSDP, from this address on.
-#[tactic(auto, unfolding(crate::specs::Machine::tree_size, crate::specs::Machine::tree_bytes))]
-fn put_tree(out: &mut [u8], address: u64, machine: &Machine<'_>)
-    requires whole { length out.old ≡ whole.tree_size machine.now }
+#[tactic(auto, unfolding(crate::specs::Machine::size_by, crate::specs::Machine::tree_by))]
+fn put_tree<T: Listed>(out: &mut [u8], address: u64, machine: &Machine<'_, T>)
+    requires whole { length out.old ≡ whole.size_by T.written machine.now }
     requires short { whole.xsdt_length machine.now < 2 ^ 32 }
-    requires ends { address + whole.tree_size machine.now < 2 ^ 64 }
-    ensures { out.new ≡ whole.tree_bytes address machine.now }
+    requires ends { address + whole.size_by T.written machine.now < 2 ^ 64 }
+    ensures { out.new ≡ whole.tree_by T.written address machine.now }
 {
     let xsdt = rounded(36 + 8 * machine.tables.len());
     let start = address + xsdt as u64 + dsdt_place(machine) as u64;
@@ -235,18 +235,18 @@ fn check_place(room: usize, address: u64, size: usize) -> Result<(), WriterError
 /// bytes or more, the first error of the DSDT or of a table in order, as its own function has it, `NoRoom` if the slice
 /// is shorter than all tables, and `NoAddress` if the address is 0 or no multiple of 16, or the last byte lies at
 /// 2^64 - 1 or above.
-pub fn write_tables_without_rsdp(
+pub fn write_tables_without_rsdp<T: Listed>(
     out: &mut [u8],
     address: u64,
-    machine: &Machine<'_>,
+    machine: &Machine<'_, T>,
 ) -> Result<usize, WriterError>
     // The bytes, or the first error, are those that are defined.
     ensures exact { Gives (λ n. take n out.new) result
-        (whole.tree_written (length out.old) address machine.now) }
+        (whole.tree_written T.written (length out.old) address machine.now) }
     // What stands after the tables is unchanged, and after an error the whole slice is.
     ensures keeps { Keeps result out.old out.new }
     // The machine can be written for this address, so that a reader finds it there (`machine_is_read`).
-    ensures fits { IfOk result (λ n. IsWritable address machine.now) }
+    ensures fits { IfOk result (λ n. whole.CanLie T.written T.fits address machine.now) }
 {
     match tree_size(machine) {
         Ok(size) => match check_place(out.len(), address, size) {
@@ -271,11 +271,11 @@ fn put_rsdp(out: &mut [u8], xsdt: u64, ids: &TableIds)
 }
 
 /// Puts the RSDP, and all that it leads to, from this address on.
-fn put_machine(out: &mut [u8], address: u64, machine: &Machine<'_>)
-    requires whole { length out.old ≡ 48 + whole.tree_size machine.now }
+fn put_machine<T: Listed>(out: &mut [u8], address: u64, machine: &Machine<'_, T>)
+    requires whole { length out.old ≡ 48 + whole.size_by T.written machine.now }
     requires short { whole.xsdt_length machine.now < 2 ^ 32 }
-    requires ends { address + (48 + whole.tree_size machine.now) < 2 ^ 64 }
-    ensures { out.new ≡ whole.machine_bytes address machine.now }
+    requires ends { address + (48 + whole.size_by T.written machine.now) < 2 ^ 64 }
+    ensures { out.new ≡ whole.machine_by T.written address machine.now }
 {
     put_rsdp(&mut out[..48], address + 48, &machine.ids);
     put_tree(&mut out[48..], address + 48, machine);
@@ -286,18 +286,18 @@ fn put_machine(out: &mut [u8], address: u64, machine: &Machine<'_>)
 /// bytes these are, as many as `tables_size` says.
 ///
 /// Returns the errors of `write_tables_without_rsdp`, in their order.
-pub fn write_tables(
+pub fn write_tables<T: Listed>(
     out: &mut [u8],
     address: u64,
-    machine: &Machine<'_>,
+    machine: &Machine<'_, T>,
 ) -> Result<usize, WriterError>
     // The bytes, or the first error, are those that are defined.
     ensures exact { Gives (λ n. take n out.new) result
-        (whole.machine_written (length out.old) address machine.now) }
+        (whole.machine_written T.written (length out.old) address machine.now) }
     // What stands after the tables is unchanged, and after an error the whole slice is.
     ensures keeps { Keeps result out.old out.new }
     // The machine can be written for this address, so that a reader finds it there (`machine_is_read`).
-    ensures fits { IfOk result (λ n. IsWritable (address + 48) machine.now) }
+    ensures fits { IfOk result (λ n. whole.CanLie T.written T.fits (address + 48) machine.now) }
 {
     match tree_size(machine) {
         Ok(tree) => {

@@ -155,6 +155,26 @@ pub fn write_madt_of<P: Spelled, I: Spelled, O: Spelled, S: Spelled, L: Spelled>
     write_table(out, Signature::MADT, 5, ids, &body)
 }
 
+/// How many bytes such a MADT has, or the first error of `write_madt_of` in a slice of any length.
+pub fn madt_size_of<P: Spelled, I: Spelled, O: Spelled, S: Spelled, L: Spelled>(
+    ids: &TableIds,
+    lists: &MadtLists<'_, P, I, O, S, L>,
+) -> Result<usize, WriterError>
+    ensures exact { result ≡ sized (table_written most MADT 5 ids.now
+        (bytes.madt_body_of lists.now.local_apic_address
+        lists.now.also_has_legacy_pics lists.now.wakeup_mailbox (record {
+          processors = flat_map P.spelled lists.now.processors.now;
+          io_apics = flat_map I.spelled lists.now.io_apics.now;
+          overrides = flat_map O.spelled lists.now.interrupt_source_overrides.now;
+          nmi_sources = flat_map S.spelled lists.now.nmi_sources.now;
+          nmi_lines = flat_map L.spelled lists.now.local_apic_nmi_lines.now;
+        }))) }
+    ensures short { IfOk result (λ n. n < 2 ^ 32) }
+{
+    let body = body_of!(lists);
+    table_size(Signature::MADT, 5, ids, &body)
+}
+
 /// Writes a MADT whose contents may be written.
 ///
 /// Returns, in this order, `BadName`, `NoRoom` and `TooLong`.

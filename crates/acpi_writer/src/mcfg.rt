@@ -72,11 +72,11 @@ pub fn write_mcfg_of<E: Spelled>(
     write_table(out, Signature::MCFG, 1, ids, &Then(Reserved, Each(regions)))
 }
 
-/// How many bytes the MCFG has, or the first error of `write_mcfg` in a slice of any length.
-pub(crate) fn mcfg_size(ids: &TableIds, regions: &[McfgEntry]) -> Result<usize, WriterError>
-    ensures exact { result ≡ sized (bytes.mcfg_written most ids.now regions.now) }
+/// How many bytes the MCFG has, or the first error of `write_mcfg_of` in a slice of any length.
+pub fn mcfg_size<E: Spelled>(ids: &TableIds, regions: &[E]) -> Result<usize, WriterError>
+    ensures exact { result ≡ sized (bytes.mcfg_written_of most ids.now (flat_map E.spelled regions.now)) }
     ensures short { IfOk result (λ n. n < 2 ^ 32) }
-    ensures fits { IfOk result (λ n. All FitsMcfg regions.now) }
+    ensures fits { IfOk result (λ n. All E.fits regions.now) }
 {
     table_size(Signature::MCFG, 1, ids, &Then(Reserved, Each(regions)))
 }

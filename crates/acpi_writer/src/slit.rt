@@ -22,11 +22,7 @@ fn is_square(localities: u64, distances: &[u8]) -> bool
 }
 
 /// How many bytes the SLIT has, or the first error of `write_slit` in a slice of any length.
-pub(crate) fn slit_size(
-    ids: &TableIds,
-    localities: u64,
-    distances: &[u8],
-) -> Result<usize, WriterError>
+pub fn slit_size(ids: &TableIds, localities: u64, distances: &[u8]) -> Result<usize, WriterError>
     ensures exact { result ≡ sized (slit_written most ids.now localities distances.now) }
     ensures short { IfOk result (λ n. n < 2 ^ 32) }
     ensures fits { IfOk result (λ n. localities < 2 ^ 64) }

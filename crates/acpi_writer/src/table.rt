@@ -62,7 +62,7 @@ fn has_letters(signature: Signature)
 }
 
 /// How many bytes a table has, or the first error of `write_table` in a slice of any length.
-pub(crate) fn table_size<B: Spelled>(
+pub fn table_size<B: Spelled>(
     signature: Signature,
     revision: u8,
     ids: &TableIds,

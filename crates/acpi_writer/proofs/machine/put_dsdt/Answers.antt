@@ -10,7 +10,7 @@ use Rattle.acpi_writer.proofs.Sized.{padded_long, put_bytes, put_none, to_the_en
 use Rattle.acpi_writer.proofs.machine.put_dsdt.Goals as goal
 
 pub fill_up-requires : goal.fill_up-requires
-fill_up-requires c =
+fill_up-requires g c =
     let ids = c.args.machine.now.ids in
     let d = c.in-Some.dsdt in
     let long = length-take-le c.in-Ok.size c.write_dsdt.new.out (omega (arith, c.in-Ok.ensures.keeps.0, c.in-Ok.ensures.keeps.2)) in
@@ -18,7 +18,7 @@ fill_up-requires c =
     omega (arith, c.requires, c.in-Ok.ensures.keeps.2, padded_long (dsdt_of c.args.machine.now) ∙ ap rounded (ap length is ∙ long))
 
 pub returns-in-Ok : goal.returns-in-Ok
-returns-in-Ok c =
+returns-in-Ok g c =
     let ids = c.args.machine.now.ids in
     let d = c.in-Some.dsdt in
     let long = length-take-le c.in-Ok.size c.write_dsdt.new.out (omega (arith, c.in-Ok.ensures.keeps.0, c.in-Ok.ensures.keeps.2)) in
@@ -27,7 +27,7 @@ returns-in-Ok c =
     (put_bytes c.args.out.now c.write_dsdt.new.out c.fill_up.new.out (dsdt_of c.args.machine.now) c.in-Ok.size c.in-Ok.ensures.keeps.0 c.in-Ok.ensures.keeps.1 c.in-Ok.ensures.keeps.2 is c.fill_up.ensures.bytes)
 
 pub returns-in-Err : goal.returns-in-Err
-returns-in-Err c =
+returns-in-Err g c =
     let ids = c.args.machine.now.ids in
     let d = c.in-Some.dsdt in
     let same = ap (λ o. or_none (dsdt_written ids o)) c.in-Some.is in

@@ -1,10 +1,10 @@
 use Rattle.std.proofs.Common.{◌≡◌, ◌+◌, ◌++◌, drop, take, length, map}
-use Rattle.acpi_writer.specs.Contents.{bytes_of}
+use Rattle.acpi_writer.specs.Contents.{bytes_by}
 use Rattle.acpi_writer.specs.Laid.{laid}
 use Rattle.acpi_writer.proofs.machine.put_listed.Given as goal
 
 -- what is put, and what is to come
 abbrev pub invariant-loop-table : goal.invariant-loop-table
-invariant-loop-table l =
-    let rest = map (bytes_of l.ids) (drop l.table-index l.tables) in
-    (take l.at l.out ++ laid rest ≡ laid (map (bytes_of l.ids) l.tables)) × (l.at + length (laid rest) ≡ length l.out) × (length l.out ≡ length l.fn.out)
+invariant-loop-table g l =
+    let rest = map (bytes_by g.T.Listed.written l.ids) (drop l.table-index l.tables) in
+    (take l.at l.out ++ laid rest ≡ laid (map (bytes_by g.T.Listed.written l.ids) l.tables)) × (l.at + length (laid rest) ≡ length l.out) × (length l.out ≡ length l.fn.out)

@@ -3,20 +3,20 @@ use Rattle.acpi_writer.proofs.Sized.{count, tree_bad_name, tree_dsdt_error, tree
 use Rattle.acpi_writer.proofs.machine.tree_size.Goals as goal
 
 pub returns-then-not-are_texts-clause-exact : goal.returns-then-not-are_texts-clause-exact
-returns-then-not-are_texts-clause-exact c = sym (tree_bad_name c.args.machine.now (sym c.are_texts.ensures ∙ c.if-not-are_texts.true))
+returns-then-not-are_texts-clause-exact g c = sym (tree_bad_name g.T.Listed.written c.args.machine.now (sym c.are_texts.ensures ∙ c.if-not-are_texts.true))
 
 pub returns-then-count-gt536870907-clause-exact : goal.returns-then-count-gt536870907-clause-exact
-returns-then-count-gt536870907-clause-exact c = sym (tree_too_long c.args.machine.now (sym c.are_texts.ensures ∙ c.if-not-are_texts.false) (omega (arith, c.if-count-gt536870907.true)))
+returns-then-count-gt536870907-clause-exact g c = sym (tree_too_long g.T.Listed.written c.args.machine.now (sym c.are_texts.ensures ∙ c.if-not-are_texts.false) (omega (arith, c.if-count-gt536870907.true)))
 
 pub returns-in-Err-clause-exact : goal.returns-in-Err-clause-exact
-returns-in-Err-clause-exact c =
-    sym (tree_dsdt_error c.args.machine.now c.in-Err.error (sym c.are_texts.ensures ∙ c.if-not-are_texts.false) (omega (arith, c.if-count-gt536870907.false)) (sym c.dsdt_size.ensures.exact ∙ c.in-Err.is))
+returns-in-Err-clause-exact g c =
+    sym (tree_dsdt_error g.T.Listed.written c.args.machine.now c.in-Err.error (sym c.are_texts.ensures ∙ c.if-not-are_texts.false) (omega (arith, c.if-count-gt536870907.false)) (sym c.dsdt_size.ensures.exact ∙ c.in-Err.is))
 
 pub returns-in-Ok-listed_size-clause-exact : goal.returns-in-Ok-listed_size-clause-exact
-returns-in-Ok-listed_size-clause-exact c =
+returns-in-Ok-listed_size-clause-exact g c =
     ap (λ n. count (n + c.in-Ok.size + c.in-Ok-listed_size.listed)) c.rounded.ensures
-    ∙ sym (tree_ok c.args.machine.now c.in-Ok.size c.in-Ok-listed_size.listed (sym c.are_texts.ensures ∙ c.if-not-are_texts.false) (omega (arith, c.if-count-gt536870907.false)) (sym c.dsdt_size.ensures.exact ∙ c.in-Ok.is) (sym c.listed_size.ensures.exact ∙ c.in-Ok-listed_size.is))
+    ∙ sym (tree_ok g.T.Listed.written c.args.machine.now c.in-Ok.size c.in-Ok-listed_size.listed (sym c.are_texts.ensures ∙ c.if-not-are_texts.false) (omega (arith, c.if-count-gt536870907.false)) (sym c.dsdt_size.ensures.exact ∙ c.in-Ok.is) (sym c.listed_size.ensures.exact ∙ c.in-Ok-listed_size.is))
 
 pub returns-in-Err-listed_size-clause-exact : goal.returns-in-Err-listed_size-clause-exact
-returns-in-Err-listed_size-clause-exact c =
-    sym (tree_error c.args.machine.now c.in-Ok.size c.in-Err-listed_size.error (sym c.are_texts.ensures ∙ c.if-not-are_texts.false) (omega (arith, c.if-count-gt536870907.false)) (sym c.dsdt_size.ensures.exact ∙ c.in-Ok.is) (sym c.listed_size.ensures.exact ∙ c.in-Err-listed_size.is))
+returns-in-Err-listed_size-clause-exact g c =
+    sym (tree_error g.T.Listed.written c.args.machine.now c.in-Ok.size c.in-Err-listed_size.error (sym c.are_texts.ensures ∙ c.if-not-are_texts.false) (omega (arith, c.if-count-gt536870907.false)) (sym c.dsdt_size.ensures.exact ∙ c.in-Ok.is) (sym c.listed_size.ensures.exact ∙ c.in-Err-listed_size.is))
