@@ -13,7 +13,8 @@ use Rattle.acpi_image_reader.specs.Image.{share, shares_any}
 use Rattle.acpi_image_reader.specs.Starts.{AreAllApart, ListsStarts, bytes_at}
 use Rattle.acpi_image_reader.proofs.Sharing.{all_apart, apart_is, inside, shares_none, within}
 use Rattle.std.proofs.Math.Seq.{take-length}
-use Rattle.acpi_image_reader.specs.Regions.{region_of}
+use Rattle.acpi_image_reader.specs.Regions.{region_of, regions_of}
+use Rattle.std.proofs.lemmas.List.{map-append}
 use Rattle.acpi_image_reader.specs.declared.record.Record.{Record}
 
 pub all_apart_in : (m : Memory) → IsMemory m → AreAllApart m
@@ -284,6 +285,10 @@ apart_with (s ∷ m) r h last = (all_with s r m h.0 last.0, apart_with m r h.1 l
 
 pub more_apart : (m : Memory) (r : Region) → AreAllApart m → shares_any m r ≡ false → AreAllApart (m ++ (r ∷ []))
 more_apart m r h none = apart_with m r h (all_apart m r none)
+
+-- as the regions of records
+pub record_apart : (rs : List Record) (r : Record) → AreAllApart (regions_of rs) → shares_any (regions_of rs) (region_of r) ≡ false → AreAllApart (regions_of (rs ++ (r ∷ [])))
+record_apart rs r h none = rw map-append (more_apart (regions_of rs) (region_of r) h none)
 
 -- a region without bytes is not listed
 pub starts_same : {X : Type 0} (view : X → List ℕ) (starts : BTreeMap ℕ X) (m : Memory) (r : Region) → length r.bytes ≡ 0 → ListsStarts view starts m → ListsStarts view starts (m ++ (r ∷ []))

@@ -1,8 +1,9 @@
 -- When regions share a byte.
-use Rattle.std.proofs.Common.{◌≡◌, ℕ, ◌<◌, ◌≤◌, true, false, ◌||◌, List, [], ◌∷◌, ◌++◌, length, refl, arith, inl, inr, ◌∙◌}
+use Rattle.std.proofs.Common.{◌≡◌, ℕ, ◌<◌, ◌≤◌, Bool, true, false, ◌||◌, sym, List, [], ◌∷◌, ◌++◌, length, refl, arith, inl, inr, ◌∙◌}
 use Rattle.std.proofs.lemmas.Bool.{and_parts, and_from, or_cases, or_parts, or_from, or_left, or_right, false_from_ne_true, leb-true, le-leb, ltb-true, lt-ltb, cases_lt}
 use Rattle.std.proofs.lemmas.List.{length-replicate}
 use Rattle.std.specs.List.{AllByRecursion}
+use Rattle.std.specs.Prelude.{◌↔◌}
 use Rattle.acpi_base.specs.Memory.{Memory, Region, AreApart, IsMemory, IsRegion, end_of, lies_in}
 use Rattle.acpi_base.specs.declared.range.AddressRange.{AddressRange}
 use Rattle.acpi_image_reader.specs.Image.{share, shares_any}
@@ -51,6 +52,10 @@ not_shared r s h t =
 
 pub share_is : (r s : Region) → AreApart r s → share r s ≡ false
 share_is r s h = false_from_ne_true _ (not_shared r s h)
+
+-- whatever says whether they do says whether an address lies in both
+pub share_law : (r s : Region) (b : Bool) → b ≡ share r s → (b ≡ false) ↔ AreApart r s
+share_law r s b e = (λ no. apart_is r s (sym e ∙ no), λ apart. e ∙ share_is r s apart)
 
 -- ---- it depends on starts and lengths alone
 

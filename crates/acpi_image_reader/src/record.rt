@@ -55,6 +55,7 @@ impl<'a> Record<'a> {
     }
 
     /// Whether some byte lies in this record and in another. One without bytes shares none.
+    #[tactic(auto, using(crate::proofs::Sharing::share_law), unfolding(crate::specs::Image::share))]
     pub(crate) fn shares_byte(&self, other: &Record<'_>) -> bool
         ensures exact { result ≡ share (region_of self.now) (region_of other.now) }
         // That is, no address lies in both exactly if the answer is no.

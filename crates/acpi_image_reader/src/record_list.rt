@@ -30,16 +30,17 @@ fn keep<'a, A: Allocator>(
     }
 }
 
-/// Keeps the start of one more record, which shares no byte with the others, if it has bytes.
+/// Keeps the start of one more record, which shares no byte with those of the list, if it has bytes.
 ///
 /// Fails with `OutOfMemory` if memory for it is refused.
 fn keep_start<'a, A: Allocator + Clone>(
     starts: &mut BTreeMap<u64, &'a [u8], A>,
+    list: &[Record<'a>],
     added: Record<'a>,
 ) -> Result<(), ImageError>
-    ensures kept { OnOk result ((m : Memory) → shares_any m (region_of added.entry) ≡ false
-        → ListsStarts (λ b. b.now) starts.old m
-        → ListsStarts (λ b. b.now) starts.new (m ++ (region_of added.entry ∷ []))) }
+    requires { shares_any (regions_of list.now) (region_of added) ≡ false }
+    ensures kept { OnOk result (ListsStarts (λ b. b.now) starts.old (regions_of list.now)
+        → ListsStarts (λ b. b.now) starts.new (regions_of (list.now ++ (added.entry ∷ [])))) }
     ensures refused { IfErr result (λ e. e ≡ OutOfMemory) }
 {
     if added.bytes.is_empty() {
@@ -69,6 +70,7 @@ impl<'a, A: Allocator> Records<'a, A> {
     ghost use Rattle.acpi_image_reader.specs.Starts.{bytes_at};
 
     /// No record.
+    #[tactic(auto, using(crate::proofs::Listing::apart_none, crate::proofs::Listing::starts_none))]
     pub(crate) fn none(alloc: A) -> Records<'a, A>
     where
         A: Copy,
@@ -83,6 +85,7 @@ impl<'a, A: Allocator> Records<'a, A> {
     /// These records, with one more after them.
     ///
     /// Fails with `OutOfMemory` if memory for it is refused.
+    #[tactic(auto, using(crate::proofs::Listing::record_apart))]
     pub(crate) fn with(self, added: Record<'a>) -> Result<Records<'a, A>, ImageError>
     where
         A: Clone,
@@ -95,8 +98,8 @@ impl<'a, A: Allocator> Records<'a, A> {
             mut list,
             mut starts,
         } = self;
+        keep_start(&mut starts, &list, added)?;
         keep(&mut list, added)?;
-        keep_start(&mut starts, added)?;
         Ok(Records { list, starts })
     }
 
@@ -117,6 +120,7 @@ impl<'a, A: Allocator> Records<'a, A> {
     }
 
     /// Whether a record shares a byte with one of these.
+    #[tactic(auto, using(crate::proofs::Listing::shares_by, crate::proofs::Listing::shares_empty, crate::proofs::Listing::shares_nothing))]
     pub(crate) fn shares_with_any(&self, added: &Record<'_>) -> bool
         requires { end_of (region_of added.now) < 2 ^ 64 }
         ensures { result ≡ shares_any (regions_of self.now.list.items) (region_of added.now) }
@@ -133,6 +137,7 @@ impl<'a, A: Allocator> Records<'a, A> {
 
     /// The bytes from a physical address to the end of the record that it lies in, or none if it lies in no
     /// record.
+    #[tactic(auto, using(crate::proofs::Listing::rest_found, crate::proofs::Listing::rest_nothing, crate::proofs::Listing::rest_past))]
     pub fn rest_at(&self, address: u64) -> &'a [u8]
         ensures { result.now ≡ rest_from (regions_of self.now.list.items) address }
     {
