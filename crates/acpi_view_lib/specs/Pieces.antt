@@ -1,17 +1,30 @@
 -- The pieces of a line, as they are printed.
-use Rattle.std.specs.Prelude.{ℕ, List, ◌++◌, decimal}
+use Rattle.std.specs.Prelude.{ℕ, List, [], ◌++◌, decimal}
 use Rattle.acpi_base.specs.ErrorText.{error_text}
 use Rattle.acpi_base.specs.Text.{signature_text}
-use Rattle.acpi_view_lib.specs.Lines.{address_text, number_words}
+use Rattle.acpi_view_lib.specs.Lines.{address_text}
 use Rattle.acpi_view_lib.specs.declared.lines.pieces.Piece.{Piece}
-use Rattle.acpi_view_lib.specs.declared.lines.pieces.Piece.TheVariants.{Text, Word, Number, Address, Name, Refusal, Setting}
+use Rattle.acpi_view_lib.specs.declared.lines.pieces.Piece.TheVariants.{Nothing, Text, Word, Number, Address, Name, Refusal}
 
--- a text, and what follows it; or a name with its number
+-- the text that a piece begins with
+abbrev pub first_text : Piece → List ℕ
+first_text Nothing = []
+first_text (Text text) = text.now
+first_text (Word text word) = text.now
+first_text (Number text number) = text.now
+first_text (Address text address) = text.now
+first_text (Name text signature) = text.now
+first_text (Refusal text error) = text.now
+
+-- the value that follows it
+abbrev pub value_text : Piece → List ℕ
+value_text Nothing = []
+value_text (Text text) = []
+value_text (Word text word) = word.now
+value_text (Number text number) = decimal number
+value_text (Address text address) = address_text address
+value_text (Name text signature) = signature_text signature
+value_text (Refusal text error) = error_text error
+
 abbrev pub piece_text : Piece → List ℕ
-piece_text (Text text) = text.now
-piece_text (Word text word) = text.now ++ word.now
-piece_text (Number text number) = text.now ++ decimal number
-piece_text (Address text address) = text.now ++ address_text address
-piece_text (Name text signature) = text.now ++ signature_text signature
-piece_text (Refusal text error) = text.now ++ error_text error
-piece_text (Setting name number) = number_words name.now number
+piece_text piece = first_text piece ++ value_text piece

@@ -1,16 +1,16 @@
 //! The lines that the program prints.
-ghost use Rattle.std.specs.Prelude.{◌≡◌, OnOk, codes, flat_map};
+ghost use Rattle.std.specs.Prelude.{◌≡◌, OnOk, codes, flat_map, map};
 ghost use Rattle.std.specs.Io.KnownBytes.{Appends};
 ghost use Rattle.acpi.specs.Lists.{faults_of};
-ghost use Rattle.acpi.specs.Pci.{shown_in};
 ghost use Rattle.acpi.specs.Tables.{memory_of, of_tables, pointers_of, revision_of};
 ghost use Rattle.acpi.specs.Opened.{opened_of};
 ghost use Rattle.acpi_view_lib.specs.Output.{IsLines, skipped_lines_of};
 ghost use Rattle.acpi_view_lib.specs.Writing.{AppendsSome};
 ghost use Rattle.acpi_view_lib.specs.Lines.{IsPciText, bgrt_lines, console_line, dsdt_lines};
-ghost use Rattle.acpi_view_lib.specs.Lines.{graphic_line, header_line, header_lines, hpet_line};
+ghost use Rattle.acpi_view_lib.specs.Lines.{graphic_line, header_lines, hpet_line, line};
 ghost use Rattle.acpi_view_lib.specs.Lines.{hpet_lines, lines_or_refusal, refused_line, region_lines};
-ghost use Rattle.acpi_view_lib.specs.Lines.{revision_line, shown_line, skipped_line, spcr_lines};
+ghost use Rattle.acpi_view_lib.specs.Lines.{revision_line, skipped_line, spcr_lines};
+ghost use Rattle.acpi_view_lib.specs.Pieces.{piece_text};
 ghost use Rattle.acpi_view_lib.specs.Lines.{ssdt_lines, stream_line, yes_or_no};
 
 mod listed;
@@ -29,7 +29,7 @@ use acpi::{
     PciConfigRegions, SdtHeaderIterator, SsdtIterator, TableFault, TableFaults,
 };
 pub(crate) use listed::{Line, Walk, print_each, print_walk};
-pub(crate) use pieces::{Piece, write_line};
+pub(crate) use pieces::{Piece, Pieces, setting, write_line};
 pub use platform::print_platform;
 use std::alloc::{Allocator, Global};
 use std::io;
@@ -48,15 +48,15 @@ pub fn print_parts<H: AcpiHandler, W: Write>(
     ensures { OnOk result (AppendsSome (IsLines (memory_of tables.now) (opened_of tables.now))
         (W.contents out.old) (W.contents out.new)) }
 {
-    print_revision(tables, out)?;
+    write_line(&revision_pieces(tables), out)?;
     print_headers(tables, out)?;
-    print_dsdt(tables, out)?;
+    write_line(&dsdt_pieces(tables), out)?;
     print_ssdts(tables, out)?;
     print_platform(alloc, tables, out)?;
-    print_hpet(tables, out)?;
+    write_line(&hpet_pieces(tables), out)?;
     print_pci(alloc, tables, out)?;
-    print_bgrt(tables, out)?;
-    print_spcr(tables, out)
+    write_line(&bgrt_pieces(tables), out)?;
+    write_line(&spcr_pieces(tables), out)
 }
 
 /// Prints a line for each table that a lookup passes over as faulty, with the refusal, for FADT, MADT, MCFG,
@@ -89,7 +89,7 @@ fn print_skipped<H: AcpiHandler, T: AcpiTable, E: Write>(
     print_walk(tables.faults::<T>(), err)
 }
 
-/// Prints `skipped SIG ADDRESS: REFUSAL` for each fault.
+/// `skipped SIG ADDRESS: REFUSAL` for each fault.
 impl<H: Lender, T: AcpiTable> Walk for TableFaults<'_, '_, H, T> {
     ghost use Rattle.std.specs.Prelude.{flat_map};
     ghost use Rattle.std.proofs.Common.{ap};
@@ -100,16 +100,15 @@ impl<H: Lender, T: AcpiTable> Walk for TableFaults<'_, '_, H, T> {
 
     ghost lines = { λ s. flat_map (skipped_line T.SIGNATURE) (faults_left H.memory T.kind s) };
 
-    fn print_item<W: Write>(fault: TableFault, err: &mut W) -> io::Result<()>
-        ensures { OnOk result (Appends (W.contents err.old) (W.contents err.new)
-            (skipped_line T.SIGNATURE fault)) }
+    fn item_pieces(fault: TableFault) -> Pieces
+        ensures { line (map piece_text result) ≡ skipped_line T.SIGNATURE fault }
     {
-        let pieces = [
+        [
             Piece::Name("skipped ", T::SIGNATURE),
             Piece::Address(" ", fault.address),
             Piece::Refusal(": ", fault.error),
-        ];
-        write_line(&pieces, err)
+            Piece::Nothing,
+        ]
     }
 
     ghost next = { λ s t x e. ap (flat_map (skipped_line T.SIGNATURE)) e };
@@ -117,17 +116,13 @@ impl<H: Lender, T: AcpiTable> Walk for TableFaults<'_, '_, H, T> {
     ghost end = { λ s t e. ap (flat_map (skipped_line T.SIGNATURE)) e.0 };
 }
 
-/// Prints `revision R`, the one that the tables were opened with.
+/// `revision R`, the one that the tables were opened with.
 #[tactic(auto, unfolding(crate::specs::Lines::revision_line))]
-fn print_revision<H: AcpiHandler, W: Write>(
-    tables: &AcpiTables<'_, H>,
-    out: &mut W,
-) -> io::Result<()>
-    ensures { OnOk result (Appends (W.contents out.old) (W.contents out.new)
-        (revision_line (revision_of tables.now))) }
+fn revision_pieces<H: AcpiHandler>(tables: &AcpiTables<'_, H>) -> Pieces
+    ensures { line (map piece_text result) ≡ revision_line (revision_of tables.now) }
 {
-    let revision = tables.revision() as u64;
-    write_line(&[Piece::Number("revision ", revision)], out)
+    let revision = Piece::Number("revision ", tables.revision() as u64);
+    [revision, Piece::Nothing, Piece::Nothing, Piece::Nothing]
 }
 
 /// Prints `table SIG length L revision R` for each valid table.
@@ -141,7 +136,7 @@ fn print_headers<H: AcpiHandler, W: Write>(
     print_walk(tables.headers(), out)
 }
 
-/// Prints `table SIG length L revision R` for each header.
+/// `table SIG length L revision R` for each header.
 impl<H: Lender> Walk for SdtHeaderIterator<'_, '_, H> {
     ghost use Rattle.std.specs.Prelude.{flat_map};
     ghost use Rattle.std.proofs.Common.{ap};
@@ -152,16 +147,15 @@ impl<H: Lender> Walk for SdtHeaderIterator<'_, '_, H> {
 
     ghost lines = { λ s. flat_map header_line (headers_left H.memory s) };
 
-    fn print_item<W: Write>(header: SdtHeader, out: &mut W) -> io::Result<()>
-        ensures { OnOk result (Appends (W.contents out.old) (W.contents out.new)
-            (header_line header)) }
+    fn item_pieces(header: SdtHeader) -> Pieces
+        ensures { line (map piece_text result) ≡ header_line header }
     {
-        let pieces = [
+        [
             Piece::Name("table ", header.signature),
             Piece::Number(" length ", header.length as u64),
             Piece::Number(" revision ", header.revision as u64),
-        ];
-        write_line(&pieces, out)
+            Piece::Nothing,
+        ]
     }
 
     ghost next = { λ s t x e. ap (flat_map header_line) e };
@@ -169,14 +163,14 @@ impl<H: Lender> Walk for SdtHeaderIterator<'_, '_, H> {
     ghost end = { λ s t e. ap (flat_map header_line) e.0 };
 }
 
-/// Prints `dsdt ADDRESS length L` for the AML of the DSDT, or its refusal.
-fn print_dsdt<H: AcpiHandler, W: Write>(tables: &AcpiTables<'_, H>, out: &mut W) -> io::Result<()>
-    ensures { OnOk result (Appends (W.contents out.old) (W.contents out.new)
-        (dsdt_lines (memory_of tables.now) (pointers_of tables.now))) }
+/// `dsdt ADDRESS length L` for the AML of the DSDT, or its refusal.
+fn dsdt_pieces<H: AcpiHandler>(tables: &AcpiTables<'_, H>) -> Pieces
+    ensures { line (map piece_text result)
+        ≡ dsdt_lines (memory_of tables.now) (pointers_of tables.now) }
 {
     match tables.dsdt() {
-        Ok(stream) => print_stream("dsdt", stream, out),
-        Err(refusal) => print_refused("dsdt", refusal, out),
+        Ok(stream) => stream_pieces("dsdt", stream),
+        Err(refusal) => refused_pieces("dsdt", refusal),
     }
 }
 
@@ -188,7 +182,7 @@ fn print_ssdts<H: AcpiHandler, W: Write>(tables: &AcpiTables<'_, H>, out: &mut W
     print_walk(tables.ssdts(), out)
 }
 
-/// Prints `ssdt ADDRESS length L` for each stream.
+/// `ssdt ADDRESS length L` for each stream.
 impl<H: Lender> Walk for SsdtIterator<'_, '_, H> {
     ghost use Rattle.std.specs.Prelude.{codes, flat_map};
     ghost use Rattle.std.proofs.Common.{ap};
@@ -199,11 +193,10 @@ impl<H: Lender> Walk for SsdtIterator<'_, '_, H> {
 
     ghost lines = { λ s. flat_map (stream_line (codes "ssdt")) (ssdts_left H.memory s) };
 
-    fn print_item<W: Write>(stream: AmlTable, out: &mut W) -> io::Result<()>
-        ensures { OnOk result (Appends (W.contents out.old) (W.contents out.new)
-            (stream_line (codes "ssdt") stream)) }
+    fn item_pieces(stream: AmlTable) -> Pieces
+        ensures { line (map piece_text result) ≡ stream_line (codes "ssdt") stream }
     {
-        print_stream("ssdt", stream, out)
+        stream_pieces("ssdt", stream)
     }
 
     ghost next = { λ s t x e. ap (flat_map (stream_line (codes "ssdt"))) e };
@@ -211,28 +204,27 @@ impl<H: Lender> Walk for SsdtIterator<'_, '_, H> {
     ghost end = { λ s t e. ap (flat_map (stream_line (codes "ssdt"))) e.0 };
 }
 
-/// Prints the line of the event timer block, or its refusal.
-fn print_hpet<H: AcpiHandler, W: Write>(tables: &AcpiTables<'_, H>, out: &mut W) -> io::Result<()>
-    ensures { OnOk result (Appends (W.contents out.old) (W.contents out.new)
-        (hpet_lines (memory_of tables.now) (pointers_of tables.now))) }
+/// The line of the event timer block, or its refusal.
+fn hpet_pieces<H: AcpiHandler>(tables: &AcpiTables<'_, H>) -> Pieces
+    ensures { line (map piece_text result)
+        ≡ hpet_lines (memory_of tables.now) (pointers_of tables.now) }
 {
     match HpetInfo::new(tables) {
-        Ok(info) => print_timers(&info, out),
-        Err(refusal) => print_refused("hpet", refusal, out),
+        Ok(info) => timers_pieces(&info),
+        Err(refusal) => refused_pieces("hpet", refusal),
     }
 }
 
-/// Prints `hpet ADDRESS number N tick T`.
-fn print_timers<W: Write>(info: &HpetInfo, out: &mut W) -> io::Result<()>
-    ensures { OnOk result (Appends (W.contents out.old) (W.contents out.new)
-        (hpet_line info.now)) }
+/// `hpet ADDRESS number N tick T`.
+fn timers_pieces(info: &HpetInfo) -> Pieces
+    ensures { line (map piece_text result) ≡ hpet_line info.now }
 {
-    let pieces = [
+    [
         Piece::Address("hpet ", info.base_address),
         Piece::Number(" number ", info.hpet_number as u64),
         Piece::Number(" tick ", info.clock_tick_unit as u64),
-    ];
-    write_line(&pieces, out)
+        Piece::Nothing,
+    ]
 }
 
 /// Prints the lines of the regions of PCI configuration space, or the one line of their refusal. Memory for
@@ -260,11 +252,11 @@ fn print_regions<A: Allocator, W: Write>(
 {
     match found {
         Ok(regions) => print_walk(regions.iter(), out),
-        Err(refusal) => print_refused("pci", refusal, out),
+        Err(refusal) => write_line(&refused_pieces("pci", refusal), out),
     }
 }
 
-/// Prints `pci SEGMENT FIRST LAST ADDRESS` for each region.
+/// `pci SEGMENT FIRST LAST ADDRESS` for each region.
 impl Walk for PciConfigEntryIterator<'_> {
     ghost use Rattle.std.specs.Prelude.{flat_map};
     ghost use Rattle.std.proofs.Common.{ap};
@@ -275,18 +267,16 @@ impl Walk for PciConfigEntryIterator<'_> {
 
     ghost lines = { λ s. flat_map shown_line (shown_left s) };
 
-    fn print_item<W: Write>(region: PciConfigEntry, out: &mut W) -> io::Result<()>
-        ensures { OnOk result (Appends (W.contents out.old) (W.contents out.new)
-            (shown_line (shown_in region))) }
+    fn item_pieces(region: PciConfigEntry) -> Pieces
+        ensures { line (map piece_text result) ≡ shown_line (shown_in region) }
     {
         let (first, last) = region.bus_range.into_inner();
-        let pieces = [
+        [
             Piece::Number("pci ", region.segment_group as u64),
             Piece::Number(" ", first as u64),
             Piece::Number(" ", last as u64),
             Piece::Address(" ", region.physical_address),
-        ];
-        write_line(&pieces, out)
+        ]
     }
 
     ghost next = { λ s t x e. ap (flat_map shown_line) e };
@@ -294,32 +284,30 @@ impl Walk for PciConfigEntryIterator<'_> {
     ghost end = { λ s t e. ap (flat_map shown_line) e.0 };
 }
 
-/// Prints the line of the boot graphic, or its refusal.
-fn print_bgrt<H: AcpiHandler, W: Write>(tables: &AcpiTables<'_, H>, out: &mut W) -> io::Result<()>
-    ensures { OnOk result (Appends (W.contents out.old) (W.contents out.new)
-        (bgrt_lines (memory_of tables.now) (pointers_of tables.now))) }
+/// The line of the boot graphic, or its refusal.
+fn bgrt_pieces<H: AcpiHandler>(tables: &AcpiTables<'_, H>) -> Pieces
+    ensures { line (map piece_text result)
+        ≡ bgrt_lines (memory_of tables.now) (pointers_of tables.now) }
 {
     match tables.find_table::<Bgrt>() {
-        Ok(graphic) => print_graphic(&graphic, out),
-        Err(refusal) => print_refused("bgrt", refusal, out),
+        Ok(graphic) => graphic_pieces(&graphic),
+        Err(refusal) => refused_pieces("bgrt", refusal),
     }
 }
 
-/// Prints `bgrt displayed yes|no angle A offset X Y`.
-fn print_graphic<W: Write>(graphic: &Bgrt, out: &mut W) -> io::Result<()>
-    ensures { OnOk result (Appends (W.contents out.old) (W.contents out.new)
-        (graphic_line graphic.now)) }
+/// `bgrt displayed yes|no angle A offset X Y`.
+fn graphic_pieces(graphic: &Bgrt) -> Pieces
+    ensures { line (map piece_text result) ≡ graphic_line graphic.now }
 {
     let displayed = yes_or_no(graphic.was_displayed());
     let angle = graphic.orientation_offset();
     let (x, y) = graphic.image_offset();
-    let pieces = [
+    [
         Piece::Word("bgrt displayed ", displayed),
         Piece::Number(" angle ", angle as u64),
         Piece::Number(" offset ", x as u64),
         Piece::Number(" ", y as u64),
-    ];
-    write_line(&pieces, out)
+    ]
 }
 
 /// `yes` if it holds, else `no`.
@@ -329,29 +317,27 @@ fn yes_or_no(holds: bool) -> &'static str
     if holds { "yes" } else { "no" }
 }
 
-/// Prints the line of the serial console, or its refusal.
-fn print_spcr<H: AcpiHandler, W: Write>(tables: &AcpiTables<'_, H>, out: &mut W) -> io::Result<()>
-    ensures { OnOk result (Appends (W.contents out.old) (W.contents out.new)
-        (spcr_lines (memory_of tables.now) (pointers_of tables.now))) }
+/// The line of the serial console, or its refusal.
+fn spcr_pieces<H: AcpiHandler>(tables: &AcpiTables<'_, H>) -> Pieces
+    ensures { line (map piece_text result)
+        ≡ spcr_lines (memory_of tables.now) (pointers_of tables.now) }
 {
     match tables.find_table::<Spcr>() {
-        Ok(console) => print_console(&console, out),
-        Err(refusal) => print_refused("spcr", refusal, out),
+        Ok(console) => console_pieces(&console),
+        Err(refusal) => refused_pieces("spcr", refusal),
     }
 }
 
-/// Prints `spcr baud B irq I gsi G`.
-fn print_console<W: Write>(console: &Spcr, out: &mut W) -> io::Result<()>
-    ensures { OnOk result (Appends (W.contents out.old) (W.contents out.new)
-        (console_line console.now)) }
+/// `spcr baud B irq I gsi G`.
+fn console_pieces(console: &Spcr) -> Pieces
+    ensures { line (map piece_text result) ≡ console_line console.now }
 {
-    let pieces = [
+    [
         Piece::Text("spcr"),
-        Piece::Setting("baud", console.baud_rate()),
-        Piece::Setting("irq", widened(console.irq())),
-        Piece::Setting("gsi", console.global_system_interrupt()),
-    ];
-    write_line(&pieces, out)
+        setting(" baud ", console.baud_rate()),
+        setting(" irq ", widened(console.irq())),
+        setting(" gsi ", console.global_system_interrupt()),
+    ]
 }
 
 /// The number in four bytes.
@@ -364,24 +350,22 @@ fn widened(number: Option<u8>) -> Option<u32>
     }
 }
 
-/// Prints `PART ADDRESS length L` for a stream of AML.
-fn print_stream<W: Write>(part: &str, stream: AmlTable, out: &mut W) -> io::Result<()>
-    ensures { OnOk result (Appends (W.contents out.old) (W.contents out.new)
-        (stream_line part.now stream)) }
+/// `PART ADDRESS length L` for a stream of AML.
+fn stream_pieces(part: &'static str, stream: AmlTable) -> Pieces
+    ensures { line (map piece_text result) ≡ stream_line part.now stream }
 {
-    let pieces = [
+    [
         Piece::Text(part),
         Piece::Address(" ", stream.address),
         Piece::Number(" length ", stream.length as u64),
-    ];
-    write_line(&pieces, out)
+        Piece::Nothing,
+    ]
 }
 
-/// Prints `PART: REFUSAL`, if this part is refused.
-fn print_refused<W: Write>(part: &str, refusal: AcpiError, out: &mut W) -> io::Result<()>
-    ensures { OnOk result (Appends (W.contents out.old) (W.contents out.new)
-        (refused_line part.now refusal)) }
+/// `PART: REFUSAL`, if this part is refused.
+fn refused_pieces(part: &'static str, refusal: AcpiError) -> Pieces
+    ensures { line (map piece_text result) ≡ refused_line part.now refusal }
 {
-    let pieces = [Piece::Text(part), Piece::Refusal(": ", refusal)];
-    write_line(&pieces, out)
+    let refusal = Piece::Refusal(": ", refusal);
+    [Piece::Text(part), refusal, Piece::Nothing, Piece::Nothing]
 }

@@ -5,12 +5,15 @@ ghost use Rattle.std.specs.Io.KnownBytes.{Appends, Keeps};
 ghost use Rattle.std.specs.Option.{option_copied};
 ghost use Rattle.acpi_cli.specs.Root.{opened_for};
 ghost use Rattle.acpi_view_lib.specs.Command.{root_for};
-ghost use Rattle.acpi_view_lib.specs.Output.{EndsWith, Prints, found_for, found_in, refusal_line};
+ghost use Rattle.acpi.specs.Opened.{opened_of};
+ghost use Rattle.acpi.specs.Tables.{memory_of};
+ghost use Rattle.acpi_view_lib.specs.Output.{EndsWith, IsLines, Prints, found_for, found_in, refusal_line, skipped_lines_of};
 ghost use Rattle.acpi_view_lib.specs.Status.{status_for, status_of};
+ghost use Rattle.acpi_view_lib.specs.Writing.{AppendsSome};
 
 use crate::arguments::parse_command;
 use crate::lines::{print_parts, print_skipped_tables};
-use acpi::AcpiHandler;
+use acpi::{AcpiHandler, AcpiTables};
 use acpi_cli::root::Root;
 use acpi_image_reader::MemoryImage;
 use std::alloc::Global;
@@ -163,10 +166,25 @@ fn print_image<H: AcpiHandler, W: Write, E: Write>(
 {
     match root.open(handler) {
         Ok(tables) => {
-            print_parts(alloc, &tables, out)?;
-            print_skipped_tables(&tables, err)?;
+            print_tables(alloc, &tables, out, err)?;
             Ok(0)
         }
         Err(refusal) => refuse(refusal, err),
     }
+}
+
+/// Prints the lines of the tables, and then of those that are passed over.
+fn print_tables<H: AcpiHandler, W: Write, E: Write>(
+    alloc: Global,
+    tables: &AcpiTables<'_, H>,
+    out: &mut W,
+    err: &mut E,
+) -> io::Result<()>
+    ensures lines { OnOk result (AppendsSome (IsLines (memory_of tables.now) (opened_of tables.now))
+        (W.contents out.old) (W.contents out.new)) }
+    ensures skipped { OnOk result (Appends (E.contents err.old) (E.contents err.new)
+        (skipped_lines_of (memory_of tables.now) (opened_of tables.now))) }
+{
+    print_parts(alloc, tables, out)?;
+    print_skipped_tables(tables, err)
 }

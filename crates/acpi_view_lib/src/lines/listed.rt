@@ -1,8 +1,11 @@
 //! Items that are printed as one line each, as lists and walks give them.
-ghost use Rattle.std.specs.Prelude.{◌≡◌, ◌++◌, ℕ, List, [], None, OnOk, Some, flat_map};
+ghost use Rattle.std.specs.Prelude.{◌≡◌, ◌++◌, ℕ, List, [], None, OnOk, Some, flat_map, map};
 ghost use Rattle.std.specs.Iterator.{IsFinite};
 ghost use Rattle.std.specs.Io.KnownBytes.{Appends};
+ghost use Rattle.acpi_view_lib.specs.Lines.{line};
+ghost use Rattle.acpi_view_lib.specs.Pieces.{piece_text};
 
+use super::{Pieces, write_line};
 use std::io;
 use std::io::Write;
 use std::slice::Iter;
@@ -10,14 +13,11 @@ use std::slice::Iter;
 /// An item that is printed as one line.
 pub trait Line {
     // The line, with its newline.
-    ghost line: { Self → List ℕ };
+    ghost item_text: { Self → List ℕ };
 
-    /// Prints the item's line, with its newline.
-    ///
-    /// Fails if a write fails.
-    fn print<W: Write>(&self, out: &mut W) -> io::Result<()>
-        ensures { OnOk result (Appends (W.contents out.old) (W.contents out.new)
-            (line self.now)) };
+    /// The pieces of the item's line.
+    fn pieces(&self) -> Pieces
+        ensures { line (map piece_text result) ≡ item_text self.now };
 }
 
 /// A walk whose items are printed as one line each.
@@ -28,12 +28,9 @@ pub trait Walk: Iterator {
     // The lines of the items that are still to come.
     ghost lines: { Self → List ℕ };
 
-    /// Prints an item's line, with its newline.
-    ///
-    /// Fails if a write fails.
-    fn print_item<W: Write>(item: Self::Item, out: &mut W) -> io::Result<()>
-        ensures { OnOk result (Appends (W.contents out.old) (W.contents out.new)
-            (item_line item)) };
+    /// The pieces of an item's line.
+    fn item_pieces(item: Self::Item) -> Pieces
+        ensures { line (map piece_text result) ≡ item_line item };
 
     ghost next: { (s t : Self) (x : Self.Item) → Self.next_gives s (Some x) t
         → lines s ≡ item_line x ++ lines t };
@@ -50,7 +47,7 @@ pub fn print_walk<I: Walk, W: Write>(items: I, out: &mut W) -> io::Result<()>
     ensures { OnOk result (Appends (W.contents out.old) (W.contents out.new) (I.lines items)) }
 {
     for item in items {
-        I::print_item(item, out)?;
+        write_line(&I::item_pieces(item), out)?;
     }
     Ok(())
 }
@@ -62,17 +59,17 @@ impl<L: Line> Walk for Iter<'_, L> {
     ghost use Rattle.std.proofs.Common.{ap};
     ghost use Rattle.std.proofs.lemmas.List.{nil_from_length};
 
-    ghost item_line = { λ item. L.line item.now };
+    ghost item_line = { λ item. L.item_text item.now };
 
-    ghost lines = { λ s. flat_map L.line (iter_rest s) };
+    ghost lines = { λ s. flat_map L.item_text (iter_rest s) };
 
-    fn print_item<W: Write>(item: &L, out: &mut W) -> io::Result<()> {
-        item.print(out)
+    fn item_pieces(item: &L) -> Pieces {
+        item.pieces()
     }
 
-    ghost next = { λ s t x e. ap (flat_map L.line) e };
+    ghost next = { λ s t x e. ap (flat_map L.item_text) e };
 
-    ghost end = { λ s t e. ap (flat_map L.line) (nil_from_length (iter_rest s) e.0) };
+    ghost end = { λ s t e. ap (flat_map L.item_text) (nil_from_length (iter_rest s) e.0) };
 }
 
 /// Prints the line of each item, in order.
@@ -80,7 +77,7 @@ impl<L: Line> Walk for Iter<'_, L> {
 /// Fails with the error of the first write that is refused.
 pub fn print_each<L: Line, W: Write>(items: &[L], out: &mut W) -> io::Result<()>
     ensures { OnOk result (Appends (W.contents out.old) (W.contents out.new)
-        (flat_map L.line items.now)) }
+        (flat_map L.item_text items.now)) }
 {
     print_walk(items.iter(), out)
 }

@@ -1,9 +1,10 @@
 //! The lines of the platform.
-ghost use Rattle.std.specs.Prelude.{◌≡◌, ℕ, OnOk, codes, flat_map};
+ghost use Rattle.std.specs.Prelude.{◌≡◌, ℕ, OnOk, codes, map};
 ghost use Rattle.std.specs.Io.KnownBytes.{Appends};
 ghost use Rattle.acpi_fixed.specs.Fadt.{profile_for};
 ghost use Rattle.acpi.specs.Tables.{memory_of, pointers_of};
-ghost use Rattle.acpi_view_lib.specs.Lines.{lines_or_refusal};
+ghost use Rattle.acpi_view_lib.specs.Lines.{line, lines_or_refusal};
+ghost use Rattle.acpi_view_lib.specs.Pieces.{piece_text};
 ghost use Rattle.acpi_view_lib.specs.PlatformLines.{IsPlatformText, apic_line, apic_lines, info_lines};
 ghost use Rattle.acpi_view_lib.specs.PlatformLines.{input_word, io_apic_line, model_lines};
 ghost use Rattle.acpi_view_lib.specs.PlatformLines.{nmi_input_line, nmi_source_line, override_line};
@@ -12,7 +13,7 @@ ghost use Rattle.acpi_view_lib.specs.PlatformLines.{profile_line, profile_number
 ghost use Rattle.acpi_view_lib.specs.PlatformLines.{timer_line, trigger_word};
 ghost use Rattle.acpi_view_lib.specs.Writing.{AppendsSome};
 
-use super::{Line, Piece, print_each, print_refused, write_line, yes_or_no};
+use super::{Line, Piece, Pieces, print_each, refused_pieces, write_line, yes_or_no};
 use acpi::platform::interrupt::{
     Apic, InterruptModel, InterruptSourceOverride, IoApic, LocalInterruptLine, NmiLine,
     NmiProcessor, NmiSource, Polarity, TriggerMode,
@@ -49,7 +50,7 @@ fn print_found<A: Allocator, W: Write>(
 {
     match found {
         Ok(platform) => print_info(&platform, out),
-        Err(refusal) => print_refused("platform", refusal, out),
+        Err(refusal) => write_line(&refused_pieces("platform", refusal), out),
     }
 }
 
@@ -58,20 +59,19 @@ fn print_info<A: Allocator, W: Write>(platform: &PlatformInfo<A>, out: &mut W) -
     ensures { OnOk result (Appends (W.contents out.old) (W.contents out.new)
         (info_lines platform.now)) }
 {
-    print_profile(platform.power_profile, out)?;
+    write_line(&profile_pieces(platform.power_profile), out)?;
     print_model(&platform.interrupt_model, out)?;
     print_processors(&platform.processor_info, out)?;
-    print_timer(platform.pm_timer, out)
+    write_line(&timer_pieces(platform.pm_timer), out)
 }
 
-/// Prints `platform profile N`.
+/// `platform profile N`.
 #[tactic(auto, unfolding(crate::specs::PlatformLines::profile_line))]
-fn print_profile<W: Write>(profile: PowerProfile, out: &mut W) -> io::Result<()>
-    ensures { OnOk result (Appends (W.contents out.old) (W.contents out.new)
-        (profile_line profile)) }
+fn profile_pieces(profile: PowerProfile) -> Pieces
+    ensures { line (map piece_text result) ≡ profile_line profile }
 {
-    let number = profile_number(profile) as u64;
-    write_line(&[Piece::Number("platform profile ", number)], out)
+    let profile = Piece::Number("platform profile ", profile_number(profile) as u64);
+    [profile, Piece::Nothing, Piece::Nothing, Piece::Nothing]
 }
 
 /// The code of Preferred_PM_Profile that stands for a profile.
@@ -110,66 +110,62 @@ fn print_apic<A: Allocator, W: Write>(apic: &Apic<A>, out: &mut W) -> io::Result
     ensures { OnOk result (Appends (W.contents out.old) (W.contents out.new)
         (apic_lines apic.now)) }
 {
-    print_local_apic(apic, out)?;
+    write_line(&local_apic_pieces(apic), out)?;
     print_each(apic.io_apics.as_slice(), out)?;
     print_each(apic.interrupt_source_overrides.as_slice(), out)?;
     print_each(apic.nmi_sources.as_slice(), out)?;
     print_each(apic.local_apic_nmi_lines.as_slice(), out)
 }
 
-/// Prints `model apic ADDRESS pics yes|no`.
+/// `model apic ADDRESS pics yes|no`.
 #[tactic(auto, unfolding(crate::specs::PlatformLines::apic_line))]
-fn print_local_apic<A: Allocator, W: Write>(apic: &Apic<A>, out: &mut W) -> io::Result<()>
-    ensures { OnOk result (Appends (W.contents out.old) (W.contents out.new)
-        (apic_line apic.now)) }
+fn local_apic_pieces<A: Allocator>(apic: &Apic<A>) -> Pieces
+    ensures { line (map piece_text result) ≡ apic_line apic.now }
 {
-    let pieces = [
-        Piece::Address("model apic ", apic.local_apic_address),
-        Piece::Word(" pics ", yes_or_no(apic.also_has_legacy_pics)),
-    ];
-    write_line(&pieces, out)
+    let address = Piece::Address("model apic ", apic.local_apic_address);
+    let pics = Piece::Word(" pics ", yes_or_no(apic.also_has_legacy_pics));
+    [address, pics, Piece::Nothing, Piece::Nothing]
 }
 
-/// Prints `ioapic ID ADDRESS BASE`.
+/// `ioapic ID ADDRESS BASE`.
 impl Line for IoApic {
-    ghost line = { io_apic_line };
+    ghost item_text = { io_apic_line };
 
-    fn print<W: Write>(&self, out: &mut W) -> io::Result<()> {
-        let pieces = [
+    fn pieces(&self) -> Pieces {
+        [
             Piece::Number("ioapic ", self.id as u64),
             Piece::Address(" ", self.address as u64),
             Piece::Number(" ", self.global_system_interrupt_base as u64),
-        ];
-        write_line(&pieces, out)
+            Piece::Nothing,
+        ]
     }
 }
 
-/// Prints `override SOURCE GSI POLARITY TRIGGER`.
+/// `override SOURCE GSI POLARITY TRIGGER`.
 impl Line for InterruptSourceOverride {
-    ghost line = { override_line };
+    ghost item_text = { override_line };
 
-    fn print<W: Write>(&self, out: &mut W) -> io::Result<()> {
-        let pieces = [
+    fn pieces(&self) -> Pieces {
+        [
             Piece::Number("override ", self.isa_source as u64),
             Piece::Number(" ", self.global_system_interrupt as u64),
             Piece::Word(" ", polarity_word(self.polarity)),
             Piece::Word(" ", trigger_word(self.trigger_mode)),
-        ];
-        write_line(&pieces, out)
+        ]
     }
 }
 
-/// Prints `nmi GSI POLARITY TRIGGER`.
+/// `nmi GSI POLARITY TRIGGER`.
 impl Line for NmiSource {
-    ghost line = { nmi_source_line };
+    ghost item_text = { nmi_source_line };
 
-    fn print<W: Write>(&self, out: &mut W) -> io::Result<()> {
-        let pieces = [
+    fn pieces(&self) -> Pieces {
+        [
             Piece::Number("nmi ", self.global_system_interrupt as u64),
             Piece::Word(" ", polarity_word(self.polarity)),
             Piece::Word(" ", trigger_word(self.trigger_mode)),
-        ];
-        write_line(&pieces, out)
+            Piece::Nothing,
+        ]
     }
 }
 
@@ -195,16 +191,17 @@ fn trigger_word(trigger: TriggerMode) -> &'static str
     }
 }
 
-/// Prints `line all|UID lint0|lint1`.
+/// `line all|UID lint0|lint1`.
 impl Line for NmiLine {
-    ghost line = { nmi_input_line };
+    ghost item_text = { nmi_input_line };
 
-    fn print<W: Write>(&self, out: &mut W) -> io::Result<()> {
+    fn pieces(&self) -> Pieces {
         let whose = match self.processor {
             NmiProcessor::All => Piece::Text("line all"),
             NmiProcessor::ProcessorUid(uid) => Piece::Number("line ", uid as u64),
         };
-        write_line(&[whose, Piece::Word(" ", input_word(self.line))], out)
+        let line = Piece::Word(" ", input_word(self.line));
+        [whose, line, Piece::Nothing, Piece::Nothing]
     }
 }
 
@@ -229,21 +226,21 @@ fn print_processors<A: Allocator, W: Write>(
     let Some(info) = listed else {
         return Ok(());
     };
-    info.boot_processor.print(out)?;
+    write_line(&info.boot_processor.pieces(), out)?;
     print_each(info.application_processors.as_slice(), out)
 }
 
-/// Prints `processor UID ID running|waiting|disabled`.
+/// `processor UID ID running|waiting|disabled`.
 impl Line for Processor {
-    ghost line = { processor_line };
+    ghost item_text = { processor_line };
 
-    fn print<W: Write>(&self, out: &mut W) -> io::Result<()> {
-        let pieces = [
+    fn pieces(&self) -> Pieces {
+        [
             Piece::Number("processor ", self.processor_uid as u64),
             Piece::Number(" ", self.local_apic_id as u64),
             Piece::Word(" ", state_word(self.state)),
-        ];
-        write_line(&pieces, out)
+            Piece::Nothing,
+        ]
     }
 }
 
@@ -258,17 +255,17 @@ fn state_word(state: ProcessorState) -> &'static str
     }
 }
 
-/// Prints `timer none`, or `timer ADDRESS bits 24|32`.
-fn print_timer<W: Write>(timer: Option<PmTimer>, out: &mut W) -> io::Result<()>
-    ensures { OnOk result (Appends (W.contents out.old) (W.contents out.new)
-        (timer_line timer)) }
+/// `timer none`, or `timer ADDRESS bits 24|32`.
+fn timer_pieces(timer: Option<PmTimer>) -> Pieces
+    ensures { line (map piece_text result) ≡ timer_line timer }
 {
-    let Some(timer) = timer else {
-        return write_line(&[Piece::Text("timer none")], out);
+    let (base, bits) = match timer {
+        Some(timer) => {
+            let bits = if timer.supports_32bit { "32" } else { "24" };
+            let base = Piece::Address("timer ", timer.base.address);
+            (base, Piece::Word(" bits ", bits))
+        }
+        None => (Piece::Text("timer none"), Piece::Nothing),
     };
-    let pieces = [
-        Piece::Address("timer ", timer.base.address),
-        Piece::Word(" bits ", if timer.supports_32bit { "32" } else { "24" }),
-    ];
-    write_line(&pieces, out)
+    [base, bits, Piece::Nothing, Piece::Nothing]
 }

@@ -12,20 +12,22 @@ pub returns : goal.returns
 returns g c =
     let held = g.W.Write.contents in
     let tables = c.args.tables.now in
-    let before = held c.print_bgrt.new.out in
-    let after = held c.print_spcr.new.out in
-    on_ok c.print_spcr.result
+    let before = held c.write_line-4.new.out in
+    let after = held c.write_line-5.new.out in
+    on_ok c.write_line-5.result
     (Appends before after (spcr_lines (memory_of tables) (pointers_of tables)))
     (AppendsSome (IsLines (memory_of tables) (opened_of tables)) (held c.args.out.now) after)
     (all_lines (memory_of tables) (opened_of tables) (held c.args.out.now)
-    (held c.print_revision.new.out)
+    (held c.write_line.new.out)
     (held c.print_headers.new.out)
-    (held c.print_dsdt.new.out)
+    (held c.write_line-2.new.out)
     (held c.print_ssdts.new.out)
     (held c.print_platform.new.out)
-    (held c.print_hpet.new.out)
+    (held c.write_line-3.new.out)
     (held c.print_pci.new.out)
-    (held c.print_bgrt.new.out) after
-    c.in_ok-print_revision.ensures c.in_ok-print_headers.ensures c.in_ok-print_dsdt.ensures c.in_ok-print_ssdts.ensures
-    c.in_ok-print_platform.ensures c.in_ok-print_hpet.ensures c.in_ok-print_pci.ensures c.in_ok-print_bgrt.ensures)
-    c.print_spcr.ensures
+    (held c.write_line-4.new.out) after
+    (rw c.revision_pieces.ensures at c.in_ok-write_line.ensures) c.in_ok-print_headers.ensures
+    (rw c.dsdt_pieces.ensures at c.in_ok-write_line-2.ensures) c.in_ok-print_ssdts.ensures
+    c.in_ok-print_platform.ensures (rw c.hpet_pieces.ensures at c.in_ok-write_line-3.ensures)
+    c.in_ok-print_pci.ensures (rw c.bgrt_pieces.ensures at c.in_ok-write_line-4.ensures))
+    (rw c.spcr_pieces.ensures at c.write_line-5.ensures)

@@ -11,11 +11,11 @@ pub loop-item-preserved : goal.loop-item-preserved
 loop-item-preserved g c =
     let held = g.W.Write.contents in
     let all = g.I.Walk.lines c.into_iter-item-iterator.result in
-    still_less (held c.args.out.now) (held c.loop-item.out) (held c.print_item.new.out)
+    still_less (held c.args.out.now) (held c.loop-item.out) (held c.write_line.new.out)
     (g.I.Walk.item_line c.in-Some.item) (g.I.Walk.lines c.next.new.self) all
     (subst (λ left. Still (held c.args.out.now) (held c.loop-item.out) left all)
     (g.met.I.Walk.next _ _ _ c.in-Some.ensures.steps) c.loop-item.invariant)
-    c.in_ok-print_item.ensures
+    (rw c.item_pieces.ensures at c.in_ok-write_line.ensures)
 
 pub returns : goal.returns
 returns g c =
