@@ -7,7 +7,8 @@ ghost use Rattle.acpi_cli.specs.Root.{opened_for};
 ghost use Rattle.acpi_view_lib.specs.Command.{root_for};
 ghost use Rattle.acpi.specs.Opened.{opened_of};
 ghost use Rattle.acpi.specs.Tables.{memory_of};
-ghost use Rattle.acpi_view_lib.specs.Output.{EndsWith, IsLines, Prints, found_for, found_in, refusal_line, skipped_lines_of};
+ghost use Rattle.acpi_view_lib.specs.Output.{EndsWith, IsLines, Prints, found_for, found_in};
+ghost use Rattle.acpi_view_lib.specs.Output.{refusal_line, skipped_lines_of};
 ghost use Rattle.acpi_view_lib.specs.Status.{status_for, status_of};
 ghost use Rattle.acpi_view_lib.specs.Writing.{AppendsSome};
 
