@@ -175,5 +175,14 @@ pub two_placed : (r s : Region) (starts more all : BTreeMap ℕ ℕ) → starts.
 two_placed r s starts more all empty apart first second =
     second (r ∷ []) (or_from _ _ (sym apart) refl) (first [] refl (none_placed starts empty))
 
+-- what each of the tables is asked by its place
+pub all_fit : (tables : List PlacedTable) → list_all (λ r. nat_lt (end_of r) (2 ^ 64)) (places_of tables) ≡ list_all (λ t. nat_lt (t.address + length t.bytes.now) (2 ^ 64)) tables
+all_fit [] = refl
+all_fit (t ∷ tables) = rw (length-replicate {A = ℕ} (length t.bytes.now) 0, all_fit tables) refl
+
+pub all_low : (tables : List PlacedTable) → list_all (λ a. nat_lt a (2 ^ 32)) (starts_of (placed tables)) ≡ list_all (λ t. nat_lt t.address (2 ^ 32)) tables
+all_low [] = refl
+all_low (t ∷ tables) = rw (all_low tables) refl
+
 pub two_share : (r s : Region) (rest : Memory) → true ≡ share r s → true ≡ some_share (r ∷ s ∷ rest)
 two_share r s rest e = sym (some_found (r ∷ []) s rest (or_left _ _ (sym e)))

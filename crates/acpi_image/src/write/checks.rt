@@ -41,17 +41,13 @@ fn check_tables(tables: &[PlacedTable<'_>]) -> Result<(), WriteError>
 
 /// Whether each table's address is below 2^32.
 fn all_low(tables: &[PlacedTable<'_>]) -> bool
-    ensures { result ≡ list_all (λ a. nat_lt a (2 ^ 32)) (starts_of (placed tables.now)) }
+    ensures { result ≡ list_all (λ t. nat_lt t.address (2 ^ 32)) tables.now }
 {
-    for table in tables {
-        if table.address > u32::MAX as u64 {
-            return false;
-        }
-    }
-    true
+    tables.iter().all(|table| table.address < 1 << 32)
 }
 
 /// Whether a root table of this revision can name its own address and those of the tables.
+#[tactic(auto, using(crate::proofs::Places::all_low))]
 fn pointers_fit(revision: u8, root_address: u64, tables: &[PlacedTable<'_>]) -> bool
     ensures { result ≡ checks.pointers_fit revision
         (root_address ∷ starts_of (placed tables.now)) }

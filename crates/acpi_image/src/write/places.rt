@@ -1,5 +1,5 @@
 //! The places that the records of a written image are to lie at.
-ghost use Rattle.std.specs.Prelude.{◌≡◌, ◌^◌, ◌<◌, ◌∷◌, ◌++◌, [], true, false, nat_lt, length, IfOk, OnOk};
+ghost use Rattle.std.specs.Prelude.{◌≡◌, ◌+◌, ◌^◌, ◌<◌, ◌∷◌, ◌++◌, [], true, false, nat_lt, length, IfOk, OnOk};
 ghost use Rattle.std.specs.List.{list_all};
 ghost use Rattle.acpi_base.specs.Memory.{Memory, end_of};
 ghost use Rattle.acpi_image_reader.specs.Image.{shares_any};
@@ -145,20 +145,15 @@ fn some_share_by_pairs(rsdp: AddressRange, root: AddressRange, tables: &[PlacedT
 
 /// Whether each of the tables ends below 2^64.
 fn all_fit(tables: &[PlacedTable<'_>]) -> bool
-    ensures { result ≡ list_all (λ r. nat_lt (end_of r) (2 ^ 64)) (places_of tables.now) }
+    ensures { result ≡ list_all (λ t. nat_lt (t.address + length t.bytes.now) (2 ^ 64)) tables.now }
 {
-    for table in tables {
-        if !fits(range_of(table)) {
-            return false;
-        }
-    }
-    true
+    tables.iter().all(|table| table.address as u128 + (table.bytes.len() as u128) < 1 << 64)
 }
 
 /// Tests the places that the records are to lie at.
 ///
 /// Fails, in this order, with `EndTooLarge` and `Overlap`.
-#[tactic(auto, unfolding(crate::specs::WriteChecks::check_places))]
+#[tactic(auto, using(crate::proofs::Places::all_fit), unfolding(crate::specs::WriteChecks::check_places))]
 pub(super) fn check_places<A: Allocator + Clone>(
     alloc: A,
     rsdp: AddressRange,

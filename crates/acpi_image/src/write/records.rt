@@ -226,6 +226,7 @@ fn put_table<A: Allocator>(file: &mut Vec<u8, A>, table: &PlacedTable<'_>) -> Re
 /// Puts the records of an image: of the RSDP, of the root table, and of each table in order.
 ///
 /// Fails with `OutOfMemory`.
+#[tactic(auto, using(crate::proofs::WrittenMemory::each_fits))]
 pub(super) fn put_records<A: Allocator>(
     file: &mut Vec<u8, A>,
     rsdp_address: u64,
