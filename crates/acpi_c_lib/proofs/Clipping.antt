@@ -2,7 +2,7 @@
 use Rattle.std.proofs.Common.{◌≡◌, ℕ, ◌+◌, ◌^◌, ◌-◌, ◌<◌, ◌≤◌, List, [], ◌∷◌, true, refl, arith, ◌⊎◌, inl, inr, length, slice_set, Bool, false, sym, subst, ◌∙◌}
 use Rattle.std.proofs.lemmas.Bool.{and_parts, ltb-true, and_left, and_right, and_from, both_ways, cases_lt, le-leb, lt-leb, lt-ltb, le-ltb, or_from}
 use Rattle.std.proofs.lemmas.Bool.Decides.{nat_tests}
-use Rattle.acpi_c_lib.specs.Clip.{any_holds, change_in, change_of, holds, wanted, AreInOrder, FillsClipped, IsEnd, IsFirst, NoneFrom}
+use Rattle.acpi_c_lib.specs.Clip.{any_holds, change_in, change_of, holds, wanted, AreInOrder, FillsClipped, IsNext}
 use Rattle.acpi_c_lib.specs.declared.records.Range.{Range}
 use Rattle.std.specs.Prelude.{◌||◌, nat_le, nat_lt}
 use Rattle.std.specs.List.{AllByRecursion}
@@ -96,29 +96,52 @@ second_of : (s t u : Bool) → s ≡ false → t ≡ u → (s || t) ≡ u
 second_of true t u e f = absurd cc
 second_of false t u e f = f
 
-module _ (ranges without : List Range) (window : Range) (low start end : ℕ) (le : low ≤ start) (less : start < end) (first : IsFirst ranges without window low start) (last : IsEnd ranges without window start end) where
-  -- a range after this one begins at a wanted byte, and the byte after this one isn't
-  apart : (a : ℕ) → wanted ranges without window a ≡ true → a ≡ end → ⊥
-  apart a there e = both_ways (wanted ranges without window end) last.not_there (subst (λ x. wanted ranges without window x ≡ true) e there)
+-- after the window nothing is wanted
+pub none_past : (ranges without : List Range) (window : Range) (a : ℕ) → window.address + window.length ≤ a → wanted ranges without window a ≡ false
+none_past ranges without window a past = and_left (holds a window) _ (held_not_above window a past)
 
-  same_with : (xs : List Range) (a : ℕ) → IsTail ranges without window end xs → low ≤ a → (a < start) ⊎ (start ≤ a) → (a < end) ⊎ (end ≤ a)
-      → any_holds a (range_at start end ∷ xs) ≡ wanted ranges without window a
-  same_with xs a t from (inl under) _ =
-      second_of (holds a (range_at start end)) _ _ (held_not_below (range_at start end) a under)
-      (none_below xs a (all_more xs (λ x h. omega (arith, h.0, under, less)) t.begun) ∙ sym (first.none_before a from under))
-  same_with xs a t from (inr over) (inl under) =
-      first_of (holds a (range_at start end)) _ _ (held_inside (range_at start end) a over (omega (arith, under, less))) (last.all_before a over under)
-  same_with xs a t from (inr over) (inr past) =
-      second_of (holds a (range_at start end)) _ _ (held_not_above (range_at start end) a (omega (arith, past, less))) (t.same a past)
+module _ (ranges without : List Range) (window : Range) (low start : ℕ) (first : IsNext ranges without window true low start) where
+  same_from : (xs : List Range) (a : ℕ) → IsTail ranges without window start xs → low ≤ a → (a < start) ⊎ (start ≤ a) → any_holds a xs ≡ wanted ranges without window a
+  same_from xs a t from (inl under) =
+      none_below xs a (all_more xs (λ x h. omega (arith, h.0, under)) t.begun) ∙ sym (first.before a from under)
+  same_from xs a t from (inr over) = t.same a over
 
-  tail_with : (xs : List Range) → IsTail ranges without window end xs → IsTail ranges without window low (range_at start end ∷ xs)
-  tail_with xs t = record {
-    ordered = (omega (arith, less), all_more xs (λ x h. omega (arith, h.0, less, apart x.address h.1)) t.begun, t.ordered);
-    begun = ((le, first.wanted_there), all_more xs (λ x h. (omega (arith, h.0, le, less), h.1)) t.begun);
-    same = (λ a from. same_with xs a t from (cases_lt a start) (cases_lt a end));
+  -- up to the first wanted byte nothing is to be written
+  pub writing_from : (old new : List Range) (count : ℕ) → IsWriting ranges without window old new count low → IsWriting ranges without window old new count start
+  writing_from old new count w = record {
+    whole = (λ ys t. w.whole ys (record {
+      ordered = t.ordered;
+      begun = all_more ys (λ x h. (omega (arith, h.0, first.later), h.1)) t.begun;
+      same = (λ a from. same_from ys a t from (cases_lt a start));
+    }));
   }
 
-  pub writing_more : (old new : List Range) (count : ℕ) → IsWriting ranges without window old new count low
+module _ (ranges without : List Range) (window : Range) (start end : ℕ) (inside : start < window.address + window.length) (there : wanted ranges without window start ≡ true) (next : IsNext ranges without window false start end) where
+  gone : (end < window.address + window.length) ⊎ (window.address + window.length ≤ end) → wanted ranges without window end ≡ false
+  gone (inl less) = next.there less
+  gone (inr past) = none_past ranges without window end past
+
+  -- a range after this one begins at a wanted byte, and the byte after this one isn't
+  apart : (a : ℕ) → wanted ranges without window a ≡ true → a ≡ end → ⊥
+  apart a here e = both_ways (wanted ranges without window end) (gone (cases_lt end (window.address + window.length))) (subst (λ x. wanted ranges without window x ≡ true) e here)
+
+  pub longer : start < end
+  longer = omega (arith, next.later, apart start there)
+
+  same_with : (xs : List Range) (a : ℕ) → IsTail ranges without window end xs → start ≤ a → (a < end) ⊎ (end ≤ a) → any_holds a (range_at start end ∷ xs) ≡ wanted ranges without window a
+  same_with xs a t over (inl under) =
+      first_of (holds a (range_at start end)) _ _ (held_inside (range_at start end) a over (omega (arith, under, longer))) (next.before a over under)
+  same_with xs a t over (inr past) =
+      second_of (holds a (range_at start end)) _ _ (held_not_above (range_at start end) a (omega (arith, past, longer))) (t.same a past)
+
+  tail_with : (xs : List Range) → IsTail ranges without window end xs → IsTail ranges without window start (range_at start end ∷ xs)
+  tail_with xs t = record {
+    ordered = (omega (arith, longer), all_more xs (λ x h. omega (arith, h.0, longer, apart x.address h.1)) t.begun, t.ordered);
+    begun = ((omega arith, there), all_more xs (λ x h. (omega (arith, h.0, longer), h.1)) t.begun);
+    same = (λ a over. same_with xs a t over (cases_lt a end));
+  }
+
+  pub writing_more : (old new : List Range) (count : ℕ) → IsWriting ranges without window old new count start
       → IsWriting ranges without window old (slice_set new count (range_at start end)) (count + 1) end
   writing_more old new count w = record {
     whole = (λ ys t. let all = w.whole (range_at start end ∷ ys) (tail_with ys t) in (all.0, all.1, all.2, omega (arith, all.3)));
@@ -127,8 +150,9 @@ module _ (ranges without : List Range) (window : Range) (low start end : ℕ) (l
 pub writing_none : (ranges without : List Range) (window : Range) (old : List Range) → IsWriting ranges without window old old 0 0
 writing_none ranges without window old = record { whole = (λ ys t. (ys, t, refl, omega arith)) }
 
-pub all_written : (ranges without : List Range) (window : Range) (old new : List Range) (count low : ℕ) → IsWriting ranges without window old new count low → NoneFrom ranges without window low
+pub all_written : (ranges without : List Range) (window : Range) (old new : List Range) (count low : ℕ) → IsWriting ranges without window old new count low → window.address + window.length ≤ low
     → FillsClipped old new count ranges without window
-all_written ranges without window old new count low w none =
-    let all = w.whole [] (record { ordered = tt; begun = tt; same = (λ a from. sym (none a from)) }) in
+all_written ranges without window old new count low w past =
+    let none = λ (a : ℕ) (from : low ≤ a). sym (none_past ranges without window a (omega (arith, past, from))) in
+    let all = w.whole [] (record { ordered = tt; begun = tt; same = none }) in
     (all.0, record { ordered = all.1.ordered; same = (λ a. all.1.same a (omega arith)) }, all.2, omega (arith, all.3))

@@ -73,16 +73,8 @@ change_of r a limit =
 abbrev pub change_in : List Range → ℕ → ℕ → ℕ
 change_in rs a limit = fold (λ first r. change_of r a first) limit rs
 
--- no byte from an address on is wanted
-abbrev pub NoneFrom : List Range → List Range → Range → ℕ → Type 0
-NoneFrom ranges without window from = (b : ℕ) → from ≤ b → wanted ranges without window b ≡ false
-
--- the first wanted byte from an address on
-pub record IsFirst (ranges without : List Range) (window : Range) (from a : ℕ) : Type 0 where
-  pub wanted_there : wanted ranges without window a ≡ true
-  pub none_before : (b : ℕ) → from ≤ b → b < a → wanted ranges without window b ≡ false
-
--- the first byte from an address on that is not wanted
-pub record IsEnd (ranges without : List Range) (window : Range) (from a : ℕ) : Type 0 where
-  pub not_there : wanted ranges without window a ≡ false
-  pub all_before : (b : ℕ) → from ≤ b → b < a → wanted ranges without window b ≡ true
+-- the next address from one on at which a byte is wanted, or isn't, or an address after the window
+pub record IsNext (ranges without : List Range) (window : Range) (is_wanted : Bool) (from a : ℕ) : Type 0 where
+  pub later : from ≤ a
+  pub before : (b : ℕ) → from ≤ b → b < a → wanted ranges without window b ≡ not is_wanted
+  pub there : a < window.address + window.length → wanted ranges without window a ≡ is_wanted

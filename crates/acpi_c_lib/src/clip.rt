@@ -97,8 +97,8 @@ fn change_in(ranges: &[Range], address: u64, limit: u64) -> u64
 }
 
 impl Wanted<'_> {
-    ghost use Rattle.std.specs.Prelude.{◌+◌, ◌-◌, ◌^◌, ◌<◌, ◌≤◌, ℕ, IfNone, IfSome};
-    ghost use Rattle.acpi_c_lib.specs.Clip.{NoneFrom, IsEnd, IsFirst, wanted};
+    ghost use Rattle.std.specs.Prelude.{◌+◌, ◌-◌, ◌^◌, ◌<◌, ◌≤◌, ℕ};
+    ghost use Rattle.acpi_c_lib.specs.Clip.{IsNext, wanted};
 
     /// Whether a byte is one that is asked for.
     #[tactic(auto, using(crate::proofs::Clipping::is_inside))]
@@ -125,37 +125,15 @@ impl Wanted<'_> {
         change_in(self.ranges, address, limit)
     }
 
-    /// The first byte from an address on that is asked for.
-    fn first(self, from: u64) -> Option<u64>
+    /// The next address from one on at which a byte is asked for, or isn't, or an address after the window.
+    #[tactic(auto, using(crate::proofs::Clipping::none_past))]
+    fn next(self, from: u64, is_asked: bool) -> u64
         requires { self.window.address + self.window.length < 2 ^ 64 }
-        ensures later { IfSome result (λ a. from ≤ a) }
-        ensures inside { IfSome result (λ a. a < self.entry.window.address + self.entry.window.length) }
-        ensures found { IfSome result (λ a. IsFirst self.entry.ranges.now self.entry.without.now
-            self.entry.window from a) }
-        ensures none { IfNone result (NoneFrom self.entry.ranges.now self.entry.without.now
-            self.entry.window from) }
+        ensures { IsNext self.entry.ranges.now self.entry.without.now self.entry.window is_asked from result }
     {
         let end = self.window.address + self.window.length;
         let mut at = from;
-        while at < end {
-            if self.has(at) {
-                return Some(at);
-            }
-            at = self.change(at);
-        }
-        None
-    }
-
-    /// The first byte after one that is asked for that isn't.
-    fn end(self, from: u64) -> u64
-        requires ends { self.window.address + self.window.length < 2 ^ 64 }
-        requires inside { from < self.window.address + self.window.length }
-        requires asked { wanted self.ranges.now self.without.now self.window from ≡ true }
-        ensures later { from < result }
-        ensures end { IsEnd self.entry.ranges.now self.entry.without.now self.entry.window from result }
-    {
-        let mut at = self.change(from);
-        while self.has(at) {
+        while at < end && self.has(at) != is_asked {
             at = self.change(at);
         }
         at
@@ -168,20 +146,21 @@ fn fill(wanted: Wanted<'_>, out: &mut [Range]) -> usize
     ensures { FillsClipped out.old out.new result wanted.entry.ranges.now wanted.entry.without.now
         wanted.entry.window }
 {
+    let end = wanted.window.address + wanted.window.length;
     let mut count = 0;
-    let mut low = 0;
-    while let Some(address) = wanted.first(low) {
-        let end = wanted.end(address);
+    let mut address = wanted.next(0, true);
+    while address < end {
+        let next = wanted.next(address, false);
         put(
             out,
             count,
             Range {
                 address,
-                length: end - address,
+                length: next - address,
             },
         );
         count += 1;
-        low = end;
+        address = wanted.next(next, true);
     }
     count
 }

@@ -1,10 +1,14 @@
-use Rattle.std.proofs.Common.{◌-◌, ◌^◌, ◌≤◌}
+use Rattle.std.proofs.Common.{◌≡◌, ◌-◌, ◌<◌, ◌≤◌, true}
+use Rattle.acpi_c_lib.specs.Clip.{wanted}
 use Rattle.acpi_c_lib.proofs.Clipping.{IsWriting}
 use Rattle.acpi_c_lib.proofs.clip.fill.Given as goal
 
+-- the next range begins here, unless all are written
 abbrev pub invariant-loop-address : goal.invariant-loop-address
 invariant-loop-address l =
-    IsWriting l.wanted.ranges.now l.wanted.without.now l.wanted.window l.initial.out l.out l.count l.low × (l.count ≤ l.low)
+    IsWriting l.wanted.ranges.now l.wanted.without.now l.wanted.window l.initial.out l.out l.count l.address
+    × (l.address < l.end → wanted l.wanted.ranges.now l.wanted.without.now l.wanted.window l.address ≡ true)
+    × (l.count ≤ l.address)
 
 abbrev pub decreases-loop-address : goal.decreases-loop-address
-decreases-loop-address l = 2 ^ 64 - l.low
+decreases-loop-address l = l.end - l.address
