@@ -1,6 +1,6 @@
 -- What regions in ascending order are, and where an address lies in them.
 use Rattle.acpi_base.specs.Memory as memory
-use Rattle.std.proofs.Common.{◌≡◌, ℕ, ◌+◌, ◌^◌, ◌<◌, ◌≤◌, List, [], ◌∷◌, ◌++◌, length, take, drop, refl, arith, true, get_or, add-one, ◌⊎◌, inl, inr, zero, suc, ◌-◌, Bool, false, length-drop, leb, ltb, sym, ap, ◌∙◌, None, Some}
+use Rattle.std.proofs.Common.{◌≡◌, ℕ, ◌+◌, ◌^◌, ◌<◌, ◌≤◌, List, [], ◌∷◌, ◌++◌, length, take, drop, refl, arith, true, get_or, add-one, ◌⊎◌, inl, inr, zero, suc, ◌-◌, Bool, false, leb, sym, ap, ◌∙◌, None, Some}
 use Rattle.std.proofs.lemmas.List.{map-append, drop_more}
 use Rattle.std.proofs.lemmas.Bool.{le-leb, lt-ltb, and_parts, leb-true, ltb-true, cases_lt, lt-leb, both_ways, le-ltb, and_from, and_left, and_right}
 use Rattle.std.proofs.Math.Seq.{take-suc, take-length}
@@ -10,10 +10,10 @@ use Rattle.acpi_base.specs.Memory.{Memory, AreApart, IsMemory, IsRegion, end_of,
 use Rattle.acpi.specs.Regions.{IsAscending}
 use Rattle.acpi_c_lib.specs.Regions.{check_from, check_regions, memory_of, region_of}
 use Rattle.acpi_c_lib.specs.declared.regions.Region.{Region}
-use Rattle.std.specs.Prelude.{slice_get, Option, if◌then◌else◌, nat_le}
+use Rattle.std.specs.Prelude.{slice_get, Option, if◌then◌else◌}
 use Rattle.std.proofs.lemmas.Option.{slice_get-get_or}
 use Rattle.std.specs.List.Sorted.{IsPartitionPoint}
-use Rattle.acpi_c_lib.specs.Located.{LiesOnlyAt, place_from, spot_from}
+use Rattle.acpi_c_lib.specs.Located.{LiesOnlyAt, spot_from}
 use Rattle.acpi_c_lib.specs.declared.records.Place.{Place}
 
 -- ---- in ascending order they are a memory
@@ -180,34 +180,6 @@ seen_from k (r ∷ m) a = grind (arith, seen_from (k + 1) m a)
 
 pub rest_seen : (m : Memory) (a : ℕ) → rest_from m a ≡ seen (spot_from 0 m a)
 rest_seen m a = seen_from 0 m a
-
-abbrev pub placed : Option (Place × List ℕ) → ℕ → Option Place
-placed (Some spot) n = if nat_le n (length spot.1) then Some spot.0 else None
-placed None n = None
-
--- no bytes lie where all regions begin above them
-no_place : (k : ℕ) (m : Memory) (end a n : ℕ) → AllByRecursion (λ s. end ≤ s.start) m → a < end → place_from k m a n ≡ None
-no_place k [] end a n h low = refl
-no_place k (r ∷ m) end a n h low =
-    let below : a < r.start = omega (arith, h.0, low) in
-    let outside : lies_in r a ≡ false = and_left _ _ (lt-leb _ _ below) in
-    rw outside (no_place (k + 1) m end a n h.1 low)
-
-place_first : (k : ℕ) (r : memory.Region) (m : Memory) (a n : ℕ) (b : Bool) → lies_in r a ≡ b → (end_of r < a + n) ⊎ (a + n ≤ end_of r) → AllByRecursion (λ s. end_of r ≤ s.start) m
-    → place_from (k + 1) m a n ≡ placed (spot_from (k + 1) m a) n → place_from k (r ∷ m) a n ≡ placed (spot_from k (r ∷ m) a) n
-place_first k r m a n false e fits later rest = rw e rest
-place_first k r m a n true e (inl short) later rest =
-    let there = inside r a e in
-    let less : length (drop (a - r.start) r.bytes) < n = omega (arith, length-drop (a - r.start) r.bytes, there.0, short) in
-    rw (e, lt-leb _ _ short, lt-leb _ _ less, no_place (k + 1) m (end_of r) a n later there.1) refl
-place_first k r m a n true e (inr fits) later rest =
-    let there = inside r a e in
-    let most : n ≤ length (drop (a - r.start) r.bytes) = omega (arith, length-drop (a - r.start) r.bytes, there.0, fits) in
-    rw (e, le-leb _ _ fits, le-leb _ _ most) refl
-
-pub place_seen : (k : ℕ) (m : Memory) (a n : ℕ) → IsAscending m → place_from k m a n ≡ placed (spot_from k m a) n
-place_seen k [] a n h = refl
-place_seen k (r ∷ m) a n h = place_first k r m a n _ refl (cases_lt (end_of r) (a + n)) h.0 (place_seen (k + 1) m a n h.1)
 
 -- ---- where an address lies, and what is lent there
 

@@ -5,7 +5,7 @@ ghost use Rattle.acpi_base.specs.Bytes.{IsBytes};
 ghost use Rattle.acpi_base.specs.Memory.{IsMemory, IsMemory-prop, rest_from};
 ghost use Rattle.acpi_base.specs.Steps.{Gives};
 ghost use Rattle.acpi.specs.Regions.{IsAscending, IsAscending-prop};
-ghost use Rattle.acpi_c_lib.specs.Located.{LiesOnlyAt, located, place_from, spot_from};
+ghost use Rattle.acpi_c_lib.specs.Located.{LiesOnlyAt, located, spot_from};
 ghost use Rattle.acpi_c_lib.specs.Regions.{check_regions, memory_of, region_of};
 
 use crate::records::Place;
@@ -111,19 +111,6 @@ fn rest_at<'k>(regions: &[Region<'k>], address: u64) -> &'k [u8]
     }
 }
 
-/// Where so many bytes from an address lie, if they lie in one region.
-#[tactic(auto, using(crate::proofs::Ascending::place_seen))]
-fn place_for(regions: &[Region<'_>], address: u64, length: u64) -> Option<Place>
-    requires { IsAscending (memory_of regions.now) }
-    ensures { result ≡ place_from 0 (memory_of regions.now) address length }
-{
-    let (place, rest) = spot(regions, address)?;
-    if length > rest.len() as u64 {
-        return None;
-    }
-    Some(place)
-}
-
 /// Where so many bytes from an address lie.
 ///
 /// Fails as `check` does, and then with `MapFailed` if the address lies in no region, or the bytes reach past the end
@@ -132,7 +119,10 @@ pub fn locate(regions: &[Region<'_>], address: u64, length: u64) -> Result<Place
     ensures { result ≡ located regions.now address length }
 {
     check(regions)?;
-    place_for(regions, address, length).ok_or(Refusal::Acpi(AcpiError::MapFailed))
+    match spot(regions, address) {
+        Some((place, rest)) if length <= rest.len() as u64 => Ok(place),
+        _ => Err(Refusal::Acpi(AcpiError::MapFailed)),
+    }
 }
 
 /// Checks that regions stand in ascending order, and share no address.
@@ -155,7 +145,7 @@ fn check(regions: &[Region<'_>]) -> Result<(), Refusal>
 }
 
 /// Regions that are a memory.
-#[derive(Drop)]
+#[derive(Clone, Copy, Drop)]
 pub(crate) struct Mapped<'k> {
     regions: &'k [Region<'k>],
     ghost ascending: { IsAscending (memory_of regions.now) } by { IsAscending-prop _ },
