@@ -1,8 +1,6 @@
 -- The ISA interrupts' pins, found by one walk along the I/O APICs.
-use Rattle.std.proofs.Common.{◌≡◌, ℕ, ◌+◌, ◌<◌, ◌≤◌, ◌⊎◌, inl, inr, Bool, true, false, List, [], ◌∷◌, length, get_or, set, get_or-set_same, get_or-set_other, arith, map, drop, refl, sym, subst, ◌∙◌, ap, Option, Some, None, Result, Ok, Err}
-use Rattle.std.specs.Prelude.{◌==◌}
+use Rattle.std.proofs.Common.{◌≡◌, ℕ, ◌<◌, List, [], ◌∷◌, length, get_or, arith, map, refl, sym, subst, ◌∙◌, ap, Option, Some, None, Result, Ok, Err}
 use Rattle.std.specs.List.{filter_map}
-use Rattle.std.proofs.lemmas.Bool.Decides.{nat_tests}
 use Rattle.std.proofs.lemmas.List.FromFn.{fill_by_all, get_or-map-range_with_len}
 use Rattle.acpi_base.specs.Pin.{io_apic_for, nearest}
 use Rattle.acpi_base.specs.declared.model.interrupt.IoApic.{IoApic}
@@ -10,22 +8,16 @@ use Rattle.acpi_base.specs.declared.model.isa.IsaInterrupt.{IsaInterrupt}
 use Rattle.acpi_base.specs.declared.model.item.MadtItem.{MadtItem}
 use Rattle.acpi_base.specs.declared.model.item.MadtItem.TheVariants as items
 use Rattle.acpi_base.proofs.Pin.{kept, one_nearer, or_nearer}
-use Rattle.acpi_base.specs.Memory.{Memory}
 use Rattle.acpi_base.specs.Model.{io_apic_in}
 use Rattle.acpi_base.specs.Steps.{◌>>=◌}
 use Rattle.acpi_base.specs.Isa.{isa_interrupt}
 use Rattle.acpi_base.specs.declared.model.interrupt.Apic.{Apic}
-use Rattle.acpi.specs.Opened.{Opened}
-use Rattle.acpi.specs.Root.{pointers, width_of}
-use Rattle.acpi_c_lib.specs.Below.{below, opened_in}
+use Rattle.acpi_c_lib.specs.Below.{Refusal}
 use Rattle.acpi_c_lib.specs.IsaList.{ItemsAreAnswers, isa_list, isa_numbers, isa_route, nearer_of, no_route, number_of, route_by, route_of}
-use Rattle.acpi_c_lib.specs.Regions.{memory_in}
-use Rattle.acpi_c_lib.specs.Routes.{apics_in, interrupt_or, pin_below, pin_or}
+use Rattle.acpi_c_lib.specs.Routes.{interrupt_or, known_apics, pin_or}
 use Rattle.acpi_c_lib.specs.declared.interrupt_records.Interrupt.{Interrupt}
 use Rattle.acpi_c_lib.specs.declared.interrupt_records.IsaInterrupts.{IsaInterrupts}
 use Rattle.acpi_c_lib.specs.declared.interrupt_records.IoApicPin.{IoApicPin}
-use Rattle.acpi_c_lib.specs.declared.records.Source.{Source}
-use Rattle.acpi_c_lib.specs.declared.refusal.Refusal.{Refusal}
 use Rattle.acpi_c_lib.specs.declared.interrupt_records.IsaRoute.{IsaRoute}
 
 -- ---- a walk along the I/O APICs
@@ -84,26 +76,6 @@ same_answer io_apics None = refl
 
 -- ---- the law
 
--- what is made of the APICs is made of them where they are found, or the refusal
-shown_in : {A : Type 0} (f : Apic (Unit {0}) → Result A Refusal) (m : Memory) (o : Result Opened Refusal)
-    → (o >>= λ o. apics_in m (pointers (width_of o.kind) (drop 36 o.root)) >>= f)
-    ≡ ((o >>= λ o. apics_in m (pointers (width_of o.kind) (drop 36 o.root))) >>= f)
-shown_in f m (Ok o) = refl
-shown_in f m (Err e) = refl
-
-shown_over : {A : Type 0} (f : Apic (Unit {0}) → Result A Refusal) (s : Source) (m : Result Memory Refusal)
-    → (m >>= λ m. opened_in m s >>= λ o. apics_in m (pointers (width_of o.kind) (drop 36 o.root)) >>= f)
-    ≡ ((m >>= λ m. opened_in m s >>= λ o. apics_in m (pointers (width_of o.kind) (drop 36 o.root))) >>= f)
-shown_over f s (Ok m) = shown_in f m (opened_in m s)
-shown_over f s (Err e) = refl
-
-shown : {A : Type 0} (f : Apic (Unit {0}) → Result A Refusal) (s : Source) → below s (λ m ps. apics_in m ps >>= f) ≡ (below s apics_in >>= f)
-shown f s = shown_over f s (memory_in s.regions.now)
-
-same_pins : (one two : ℕ → Result IoApicPin Refusal) (r : Result Interrupt Refusal) → ((n : ℕ) → one n ≡ two n) → route_by one r ≡ route_by two r
-same_pins one two (Ok i) same = rw (same i.global_system_interrupt)
-same_pins one two (Err e) same = refl
-
 abbrev isa_by : ℕ → Apic (Unit {0}) → Result Interrupt Refusal
 isa_by irq apic = interrupt_or (isa_interrupt apic.interrupt_source_overrides irq)
 
@@ -126,7 +98,4 @@ item_of (Ok apic) list irq is small =
 item_of (Err e) list irq is small = absurd cc
 
 pub items_are_answers : ItemsAreAnswers
-items_are_answers s list is irq small =
-    item_of (below s apics_in) list irq (sym (shown list_by s) ∙ is) small
-    ∙ same_pins _ (pin_below s) _ (λ n. sym (shown (pin_by n) s))
-    ∙ ap (route_by (pin_below s)) (sym (shown (isa_by irq) s))
+items_are_answers s list is irq small = item_of (known_apics s) list irq is small

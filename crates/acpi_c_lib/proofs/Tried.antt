@@ -7,7 +7,6 @@ use Rattle.std.specs.Str.{bytes_eq}
 use Rattle.acpi_base.specs.Memory.{Memory}
 use Rattle.acpi_base.specs.Ranges.{Ranges}
 use Rattle.acpi_base.specs.Steps.{lent}
-use Rattle.acpi_base.specs.declared.error.AcpiError.{AcpiError}
 use Rattle.acpi_base.specs.declared.error.AcpiError.TheVariants.{MapFailed, NoValidRsdp}
 use Rattle.acpi_base.specs.declared.range.AddressRange.{AddressRange}
 use Rattle.acpi.specs.Areas.{count_in, ebda_area, end_of, first_in, found_in_areas, range}
@@ -18,7 +17,7 @@ use Rattle.acpi.specs.Rsdp.{check_first, extended_length_of, checked_length, rsd
 use Rattle.acpi.specs.Search.{area, count_of, room_of, second_area, walk, word_in}
 use Rattle.acpi.specs.declared.rsdp.Rsdp.{Rsdp}
 use Rattle.acpi_c_lib.specs.Answers.{Writes, put_from}
-use Rattle.acpi_c_lib.specs.Below.{ebda_in}
+use Rattle.acpi_c_lib.specs.Below.{AcpiError, ebda_in}
 use Rattle.acpi_c_lib.specs.Missing.{areas_holes, candidate_hole, has_valid, hole, last_range, walk_holes}
 use Rattle.acpi_c_lib.specs.declared.candidates.Areas.{Areas}
 use Rattle.acpi_c_lib.proofs.Written.{one_part, two_parts}

@@ -11,7 +11,6 @@ use Rattle.acpi_base.specs.Memory.{Memory, at}
 use Rattle.acpi_base.specs.Ranges.{Ranges}
 use Rattle.acpi_base.specs.Steps.{◌>>=◌, lent}
 use Rattle.acpi_base.specs.Table.{table_at}
-use Rattle.acpi_base.specs.declared.error.AcpiError.{AcpiError}
 use Rattle.acpi_base.specs.declared.error.AcpiError.TheVariants.{MapFailed, NoValidRsdp}
 use Rattle.acpi_base.specs.declared.table.header.SdtHeader.{SdtHeader}
 use Rattle.acpi_base.specs.declared.table.signature.Signature.{Signature}
@@ -21,14 +20,12 @@ use Rattle.acpi.specs.OpenedRanges.{area_ranges, opened_by_rsdp_ranges, opened_b
 use Rattle.acpi.specs.Root.{root_of_revision}
 use Rattle.acpi.specs.Rsdp.{check_first, check_sum, extended_length_of, checked_length, root_of_rsdp, rsdp_at, rsdp_of}
 use Rattle.acpi.specs.Search.{first_area, found_in, found_rsdp, or_else, room_of, second_area, word_in}
-use Rattle.acpi_c_lib.specs.Below.{ebda_in, opened_as_lent, refused_as, opened_in}
+use Rattle.acpi_c_lib.specs.Below.{AcpiError, Refusal, Source, ebda_in, opened_as_lent, opened_in, refused_as}
 use Rattle.acpi_c_lib.specs.declared.records.Range.{Range}
-use Rattle.acpi_c_lib.specs.declared.refusal.Refusal.{Refusal}
 use Rattle.acpi_c_lib.specs.declared.refusal.Refusal.TheVariants.{Acpi, UnknownStart}
 use Rattle.acpi_c_lib.specs.Missing.{IsUnlent, OpeningHasHole, candidate_holes, has_valid, hole, last_range, missing_below, missing_in, opened_as_lent_ranges, range_of, walk_holes}
 use Rattle.acpi_c_lib.specs.Answers.{Fills, Writes, items_said, put_from, result_map}
 use Rattle.acpi_c_lib.specs.Regions.{memory_in}
-use Rattle.acpi_c_lib.specs.declared.records.Source.{Source}
 use Rattle.acpi_c_lib.proofs.Written.{two_parts}
 
 -- ---- the checks, which refuse by other errors

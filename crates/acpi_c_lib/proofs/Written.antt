@@ -3,17 +3,9 @@ use Rattle.acpi_arm.specs.Timers as arm
 use Rattle.acpi_c_lib.specs.Records as records
 use Rattle.std.proofs.Common.{◌≡◌, ◌∙◌, ◌+◌, ℕ, List, [], ◌∷◌, ◌++◌, length, length-append, slice_set, ap, sym, arith, drop, zero, suc, map, Some, None, true, refl, add-one, ◌<◌, ◌*◌, ◌≤◌, Bool, false, Option, length-drop, inl, inr}
 use Rattle.std.proofs.lemmas.List.{append-nil, length-map}
-use Rattle.acpi_c_lib.specs.Answers.{Writes, put_from, Fills, result_map}
-use Rattle.std.specs.Prelude.{Result, Ok, nat_lt, ◌==◌, ◌&&◌, ◌||◌, not, nat_le, map, if◌then◌else◌}
-use Rattle.acpi_base.specs.Memory.{Memory}
+use Rattle.acpi_c_lib.specs.Answers.{Writes, put_from}
+use Rattle.std.specs.Prelude.{nat_lt, ◌==◌, ◌&&◌, ◌||◌, not, nat_le, map, if◌then◌else◌}
 use Rattle.acpi.proofs.First.{filter_map_few}
-use Rattle.acpi.specs.Opened.{Opened}
-use Rattle.acpi.specs.Root as root
-use Rattle.acpi.specs.Root.{pointers}
-use Rattle.acpi_c_lib.specs.Below.{below, opened_in}
-use Rattle.acpi_c_lib.specs.Regions.{memory_in}
-use Rattle.acpi_c_lib.specs.declared.records.Source.{Source}
-use Rattle.acpi_c_lib.specs.declared.refusal.Refusal.{Refusal}
 use Rattle.std.specs.List.{filter_map, concat, AllByRecursion, cons_option}
 use Rattle.std.specs.Option.{option_map}
 use Rattle.acpi_base.specs.Model.{processor_in, processors_of}
@@ -47,13 +39,6 @@ two_parts old mid new xs ys n k first counted second all = (
 
 pub one_part : {X : Type 0} (old new xs : List X) (n : ℕ) → new ≡ put_from old 0 xs → n ≡ 0 + length xs → Writes n old new (xs ++ [])
 one_part old new xs n first counted = rw (append-nil xs) (omega (arith, counted), first)
-
--- ---- of what is said of the tables that a caller names
-
-pub fills_said : {A X : Type 0} (s : Source) (m : Memory) (o : Opened) (answer : Memory → List ℕ → Result A Refusal) (show : A → List X) (x : A) (n : ℕ) (old new : List X)
-    → memory_in s.regions.now ≡ Ok m → opened_in m s ≡ Ok o → answer m (pointers (root.width_of o.kind) (drop 36 o.root)) ≡ Ok x → Writes n old new (show x)
-    → Fills (Ok n) old new (result_map show (below s answer))
-fills_said s m o answer show x n old new a b c written = rw (a, b, c) (ap Ok written.0, written.1)
 
 -- ---- processors: the first is the boot processor
 

@@ -2,9 +2,9 @@
 use Rattle.std.specs.Prelude.{ℕ, List, map, Option, Some, None, Result}
 use Rattle.std.specs.Option.{ok_or, unwrap_or}
 use Rattle.acpi_base.specs.Interrupts.{trigger_code}
-use Rattle.acpi_base.specs.Memory.{Memory}
 use Rattle.acpi_base.specs.Steps.{◌>>=◌}
-use Rattle.acpi_arm.specs.Gic.{found_gic}
+use Rattle.acpi.specs.Platform.{madt_kind}
+use Rattle.acpi_arm.specs.Gic.{gic_of}
 use Rattle.acpi_arm.specs.declared.gic.GicModel.{GicModel}
 use Rattle.acpi_arm.specs.declared.gic.part.GicCpuInterface.{GicCpuInterface}
 use Rattle.acpi_arm.specs.declared.gic.part.GicDistributor.{GicDistributor}
@@ -13,12 +13,10 @@ use Rattle.acpi_arm.specs.declared.gic.part.GicRedistributors.{GicRedistributors
 use Rattle.acpi_arm.specs.declared.gic.part.GicTranslationService.{GicTranslationService}
 use Rattle.acpi_arm.specs.declared.gic.part.SpiRange.{SpiRange}
 use Rattle.acpi_c_lib.specs.Answers.{result_map}
-use Rattle.acpi_c_lib.specs.Below.{below, refused_as}
+use Rattle.acpi_c_lib.specs.Below.{Refusal, Source, first_table, refused_as}
 use Rattle.acpi_c_lib.specs.Devices.{flag}
 use Rattle.acpi_c_lib.specs.Records as records
 use Rattle.acpi_c_lib.specs.declared.records.Range.{Range}
-use Rattle.acpi_c_lib.specs.declared.records.Source.{Source}
-use Rattle.acpi_c_lib.specs.declared.refusal.Refusal.{Refusal}
 use Rattle.acpi_c_lib.specs.declared.refusal.Refusal.TheVariants.{NoGic}
 
 -- a GIC, of no allocator
@@ -26,14 +24,15 @@ abbrev pub Gic : Type 0
 Gic = GicModel (Unit {0})
 
 -- the GIC that the first valid MADT describes
-abbrev pub gic_in : Memory → List ℕ → Result Gic Refusal
-gic_in m ps = do
-  found ← refused_as (found_gic m ps)
+unfoldable pub known_gic : Source → Result Gic Refusal
+known_gic s = do
+  table ← first_table madt_kind s
+  found ← refused_as (gic_of table)
   ok_or found NoGic
 
 -- what is shown of it
 abbrev pub below_gic : {A : Type 0} → Source → (Gic → A) → Result A Refusal
-below_gic s show = result_map show (below s gic_in)
+below_gic s show = result_map show (known_gic s)
 
 -- ---- the distributor (section 5.2.12.15)
 

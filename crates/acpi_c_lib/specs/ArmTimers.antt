@@ -10,13 +10,11 @@ use Rattle.acpi_arm.specs.declared.frames.GtFrame.{GtFrame}
 use Rattle.acpi_arm.specs.declared.gtdt.ArmTimer.{ArmTimer}
 use Rattle.acpi_arm.specs.declared.gtdt.Gtdt.{Gtdt}
 use Rattle.acpi_arm.specs.declared.timers.SbsaWatchdog.{SbsaWatchdog}
-use Rattle.acpi_c_lib.specs.Below.{below_first}
+use Rattle.acpi_c_lib.specs.Below.{Refusal, Source, below_first}
 use Rattle.acpi_c_lib.specs.Devices.{flag}
 use Rattle.acpi_c_lib.specs.Records as records
 use Rattle.acpi_c_lib.specs.declared.arm_records.ArmTimers.{ArmTimers}
 use Rattle.acpi_c_lib.specs.declared.arm_records.Watchdog.{Watchdog}
-use Rattle.acpi_c_lib.specs.declared.records.Source.{Source}
-use Rattle.acpi_c_lib.specs.declared.refusal.Refusal.{Refusal}
 
 -- what is shown of the bytes of the first valid GTDT
 abbrev pub gtdt_below : {A : Type 0} → Source → (List ℕ → A) → Result A Refusal

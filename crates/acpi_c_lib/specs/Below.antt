@@ -5,7 +5,7 @@ use Rattle.std.specs.Result.{result_ok}
 use Rattle.acpi_base.specs.Memory.{Memory}
 use Rattle.acpi_base.specs.Steps.{◌>>=◌}
 use Rattle.acpi_base.specs.Table.{Kind}
-use Rattle.acpi_base.specs.declared.error.AcpiError.{AcpiError}
+pub use Rattle.acpi_base.specs.declared.error.AcpiError.{AcpiError}
 use Rattle.acpi.specs.Areas.{bios_areas, opened_in_areas}
 use Rattle.acpi.specs.Lookup.{lookup}
 use Rattle.acpi.specs.Opened.{Opened, opened_at, opened_by_rsdp, opened_by_search}
@@ -13,8 +13,8 @@ use Rattle.acpi.specs.Root.{pointers, width_of}
 use Rattle.acpi.specs.Search.{word_in}
 use Rattle.acpi_c_lib.specs.Answers.{result_map}
 use Rattle.acpi_c_lib.specs.Regions.{memory_in}
-use Rattle.acpi_c_lib.specs.declared.records.Source.{Source}
-use Rattle.acpi_c_lib.specs.declared.refusal.Refusal.{Refusal}
+pub use Rattle.acpi_c_lib.specs.declared.records.Source.{Source}
+pub use Rattle.acpi_c_lib.specs.declared.refusal.Refusal.{Refusal}
 use Rattle.acpi_c_lib.specs.declared.refusal.Refusal.TheVariants.{Acpi, UnknownStart}
 
 -- a refusal of the library's is one of the call's
@@ -57,6 +57,9 @@ abbrev pub below_source : {A : Type 0} → Source → (Memory → List ℕ → R
     → Result A Refusal
 below_source s answer = below s (λ m ps. refused_as (answer m ps))
 
--- what is shown of the bytes of the first valid table of a kind
+-- the bytes of the first valid table of a kind, and what is shown of them
+unfoldable pub first_table : Kind → Source → Result (List ℕ) Refusal
+first_table kind s = below_source s (λ m ps. result_map (λ found. found.1) (lookup m kind ps))
+
 abbrev pub below_first : {A : Type 0} → Kind → Source → (List ℕ → A) → Result A Refusal
-below_first kind s show = below_source s (λ m ps. result_map (λ found. show found.1) (lookup m kind ps))
+below_first kind s show = result_map show (first_table kind s)

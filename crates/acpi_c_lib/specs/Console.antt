@@ -6,11 +6,9 @@ use Rattle.acpi_base.specs.Spcr.{base_of, baud_of, bus_of, clock_of, device_id_o
 use Rattle.acpi_base.specs.Table.{Kind, sdt_kind}
 use Rattle.acpi_base.specs.declared.table.signature.TheConstants.Signature.{SPCR}
 use Rattle.acpi_base.specs.declared.tables.spcr.Spcr.{Spcr}
-use Rattle.acpi_c_lib.specs.Below.{below_first}
+use Rattle.acpi_c_lib.specs.Below.{Refusal, Source, below_first}
 use Rattle.acpi_c_lib.specs.Devices.{flag, register_if}
 use Rattle.acpi_c_lib.specs.declared.fixed_records.Console.{Console}
-use Rattle.acpi_c_lib.specs.declared.records.Source.{Source}
-use Rattle.acpi_c_lib.specs.declared.refusal.Refusal.{Refusal}
 
 -- a table's fixed fields, and its Interface Type
 abbrev pub console_record : Spcr → ℕ → Console

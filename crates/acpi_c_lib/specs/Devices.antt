@@ -6,7 +6,6 @@ use Rattle.acpi_base.specs.Memory.{Memory}
 use Rattle.acpi_base.specs.Steps.{◌>>=◌}
 use Rattle.acpi_base.specs.Table.{Kind, sdt_kind}
 use Rattle.acpi_base.specs.declared.address.GenericAddress.{GenericAddress}
-use Rattle.acpi_base.specs.declared.error.AcpiError.{AcpiError}
 use Rattle.acpi_base.specs.declared.table.signature.TheConstants.Signature.{BGRT}
 use Rattle.acpi_fixed.specs.Bgrt.{bgrt_at, image_type_of, offset_of, rank_of, status_of}
 use Rattle.acpi_fixed.specs.Fadt.{fadt_at}
@@ -16,12 +15,10 @@ use Rattle.acpi.specs.Lookup.{lookup}
 use Rattle.acpi.specs.Timer.{timer_of}
 use Rattle.acpi.specs.declared.platform.timer.PmTimer.{PmTimer}
 use Rattle.acpi_c_lib.specs.Answers.{result_map}
-use Rattle.acpi_c_lib.specs.Below.{below_first, below_source}
+use Rattle.acpi_c_lib.specs.Below.{AcpiError, Refusal, Source, below_first, below_source}
 use Rattle.acpi_c_lib.specs.Records as records
 use Rattle.acpi_c_lib.specs.declared.records.BootGraphic.{BootGraphic}
 use Rattle.acpi_c_lib.specs.declared.records.Register.{Register}
-use Rattle.acpi_c_lib.specs.declared.records.Source.{Source}
-use Rattle.acpi_c_lib.specs.declared.refusal.Refusal.{Refusal}
 
 abbrev pub flag : Bool → ℕ
 flag true = 1

@@ -9,11 +9,10 @@ use Rattle.acpi_base.specs.declared.entries.Grammar.{Grammar}
 use Rattle.acpi_base.specs.declared.entries.Width.{Width}
 use Rattle.acpi_base.specs.declared.entries.Width.TheVariants.{One, Two}
 use Rattle.acpi_base.specs.declared.error.AcpiError.TheVariants.{SdtInvalidLength}
-use Rattle.acpi_c_lib.specs.Below.{refused_as}
+use Rattle.acpi_c_lib.specs.Below.{Refusal, refused_as}
 use Rattle.acpi_c_lib.specs.Devices.{flag}
 use Rattle.acpi_c_lib.specs.Regions.{memory_in}
 use Rattle.acpi_c_lib.specs.declared.records.Entry.{Entry}
-use Rattle.acpi_c_lib.specs.declared.refusal.Refusal.{Refusal}
 use Rattle.acpi_c_lib.specs.declared.refusal.Refusal.TheVariants.{Acpi, UnknownWidth}
 use Rattle.acpi_c_lib.specs.declared.regions.Region.{Region}
 

@@ -6,13 +6,11 @@ use Rattle.acpi_base.specs.declared.table.signature.Signature.{Signature}
 use Rattle.acpi_base.specs.declared.table.signature.TheConstants.Signature.{BGRT, DMAR, FADT, GTDT, HPET, IVRS, MADT, MCFG, SLIT, SPCR, SRAT}
 use Rattle.acpi.specs.Lists.{faults_of}
 use Rattle.acpi.specs.declared.records.TableFault.{TableFault}
-use Rattle.acpi_c_lib.specs.Below.{below_source}
+use Rattle.acpi_c_lib.specs.Below.{Refusal, Source, below_source}
 use Rattle.acpi_c_lib.specs.Codes.{acpi_code}
 use Rattle.acpi_c_lib.specs.Records as records
 use Rattle.acpi_c_lib.specs.Shown.{signature_named}
 use Rattle.acpi_c_lib.specs.declared.records.Fault.{Fault}
-use Rattle.acpi_c_lib.specs.declared.records.Source.{Source}
-use Rattle.acpi_c_lib.specs.declared.refusal.Refusal.{Refusal}
 
 abbrev pub fault_record : TableFault → Fault
 fault_record f = record { address = f.address; status = acpi_code f.error }

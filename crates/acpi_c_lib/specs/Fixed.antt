@@ -2,7 +2,6 @@
 use Rattle.std.specs.Prelude.{ℕ, Option, Some, None, Result, Ok, Err}
 use Rattle.std.specs.Result.{result_unwrap_or}
 use Rattle.acpi_base.specs.Address.{generic_address_of, space_code}
-use Rattle.acpi_base.specs.declared.error.AcpiError.{AcpiError}
 use Rattle.acpi_fixed.specs.Fadt.{dsdt_address_of, facs_address_of, fadt_at, pm_timer_of, profile_of, registers_of}
 use Rattle.acpi_fixed.specs.Flags.{arm_bits, feature_bits, pc_bits}
 use Rattle.acpi_fixed.specs.Gpe.{gpe_of}
@@ -12,12 +11,10 @@ use Rattle.acpi_fixed.specs.declared.fadt.PowerProfile.{PowerProfile}
 use Rattle.acpi_fixed.specs.declared.fadt.PowerProfile.TheVariants as profiles
 use Rattle.acpi_fixed.specs.declared.fadt.registers.gpe.GpeBlock.{GpeBlock}
 use Rattle.acpi.specs.Lists.{fadt_kind}
-use Rattle.acpi_c_lib.specs.Below.{below_first}
+use Rattle.acpi_c_lib.specs.Below.{AcpiError, Refusal, Source, below_first}
 use Rattle.acpi_c_lib.specs.Devices.{optional_register, required_register}
 use Rattle.acpi_c_lib.specs.Records as records
 use Rattle.acpi_c_lib.specs.declared.fixed_records.FixedHardware.{FixedHardware}
-use Rattle.acpi_c_lib.specs.declared.records.Source.{Source}
-use Rattle.acpi_c_lib.specs.declared.refusal.Refusal.{Refusal}
 
 abbrev pub profile_code : PowerProfile → ℕ
 profile_code profiles.Unspecified = 0

@@ -15,7 +15,7 @@ use Rattle.acpi_iommu.specs.declared.error.IommuError.TheVariants as iommu
 use Rattle.acpi_iommu.specs.declared.ivrs.block.Ivhd.{Ivhd}
 use Rattle.acpi_iommu.specs.declared.ivrs.block.Ivmd.{Ivmd}
 use Rattle.acpi_iommu.specs.declared.ivrs.blocks.DeviceUnit.{DeviceUnit}
-use Rattle.acpi_c_lib.specs.Below.{below_first}
+use Rattle.acpi_c_lib.specs.Below.{Refusal, Source, first_table}
 use Rattle.acpi_c_lib.specs.Devices.{flag}
 use Rattle.acpi_c_lib.specs.declared.iommu_records.DmarReserved.{DmarReserved}
 use Rattle.acpi_c_lib.specs.declared.iommu_records.DmarSource.{DmarSource}
@@ -23,8 +23,6 @@ use Rattle.acpi_c_lib.specs.declared.iommu_records.DmarUnit.{DmarUnit}
 use Rattle.acpi_c_lib.specs.declared.iommu_records.IvrsDevice.{IvrsDevice}
 use Rattle.acpi_c_lib.specs.declared.iommu_records.IvrsMemory.{IvrsMemory}
 use Rattle.acpi_c_lib.specs.declared.iommu_records.IvrsUnit.{IvrsUnit}
-use Rattle.acpi_c_lib.specs.declared.records.Source.{Source}
-use Rattle.acpi_c_lib.specs.declared.refusal.Refusal.{Refusal}
 use Rattle.acpi_c_lib.specs.declared.refusal.Refusal.TheVariants.{InvalidIommuMemoryRange, InvalidIommuStructureLength, NoIommu}
 
 -- ---- answers
@@ -48,7 +46,7 @@ found show (Err e) = Err (iommu_refusal e)
 
 -- the bytes of the first valid DMAR
 abbrev pub dmar_in : Source → Result (List ℕ) Refusal
-dmar_in s = below_first (sdt_kind DMAR 48) s (λ table. table)
+dmar_in s = first_table (sdt_kind DMAR 48) s
 
 abbrev pub unit_record : Drhd → DmarUnit
 unit_record d = record {
@@ -104,7 +102,7 @@ dmar_reserved_below s segment bus hops = do
 
 -- the bytes of the first valid IVRS
 abbrev pub ivrs_in : Source → Result (List ℕ) Refusal
-ivrs_in s = below_first (sdt_kind IVRS 48) s (λ table. table)
+ivrs_in s = first_table (sdt_kind IVRS 48) s
 
 abbrev pub image_or : Option ℕ → ℕ
 image_or (Some n) = n

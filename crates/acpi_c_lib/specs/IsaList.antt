@@ -3,20 +3,17 @@ use Rattle.std.specs.Prelude.{◌≡◌, ℕ, ◌-◌, ◌<◌, ◌&&◌, nat_le
 use Rattle.std.specs.List.{range_with_len}
 use Rattle.std.specs.Option.{option_map}
 use Rattle.acpi_base.specs.Isa.{isa_interrupt}
-use Rattle.acpi_base.specs.Memory.{Memory}
 use Rattle.acpi_base.specs.Pin.{base_of, io_apic_for}
 use Rattle.acpi_base.specs.Steps.{◌>>=◌}
 use Rattle.acpi_base.specs.declared.model.interrupt.InterruptSourceOverride.{InterruptSourceOverride}
 use Rattle.acpi_base.specs.declared.model.interrupt.IoApic.{IoApic}
 use Rattle.acpi_base.specs.declared.model.isa.IsaInterrupt.{IsaInterrupt}
-use Rattle.acpi_c_lib.specs.Below.{below}
-use Rattle.acpi_c_lib.specs.Routes.{apics_in, interrupt_or, interrupt_record, is_nearer, isa_below, pin_below, pin_or}
+use Rattle.acpi_c_lib.specs.Below.{Refusal, Source}
+use Rattle.acpi_c_lib.specs.Routes.{known_apics, interrupt_or, interrupt_record, is_nearer, isa_below, pin_below, pin_or}
 use Rattle.acpi_c_lib.specs.declared.interrupt_records.Interrupt.{Interrupt}
 use Rattle.acpi_c_lib.specs.declared.interrupt_records.IsaInterrupts.{IsaInterrupts}
 use Rattle.acpi_c_lib.specs.declared.interrupt_records.IsaRoute.{IsaRoute}
 use Rattle.acpi_c_lib.specs.declared.interrupt_records.IoApicPin.{IoApicPin}
-use Rattle.acpi_c_lib.specs.declared.records.Source.{Source}
-use Rattle.acpi_c_lib.specs.declared.refusal.Refusal.{Refusal}
 
 abbrev pub no_interrupt : Interrupt
 no_interrupt = record { global_system_interrupt = 0; polarity = 0; trigger = 0 }
@@ -52,14 +49,11 @@ isa_numbers = range_with_len 0 16
 abbrev pub isa_list : List InterruptSourceOverride → List IoApic → IsaInterrupts
 isa_list overrides io_apics = record { routes = map (isa_route overrides io_apics) isa_numbers }
 
--- the list of a model of APICs
-abbrev pub isa_list_in : Memory → List ℕ → Result IsaInterrupts Refusal
-isa_list_in m ps = do
-  apic ← apics_in m ps
-  Ok (isa_list apic.interrupt_source_overrides apic.io_apics)
-
+-- the list of the tables that a caller names
 abbrev pub isa_list_below : Source → Result IsaInterrupts Refusal
-isa_list_below s = below s isa_list_in
+isa_list_below s = do
+  apic ← known_apics s
+  Ok (isa_list apic.interrupt_source_overrides apic.io_apics)
 
 -- the law: each item is what the calls for one answer
 abbrev pub ItemsAreAnswers : Type 0

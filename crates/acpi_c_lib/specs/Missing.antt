@@ -7,7 +7,6 @@ use Rattle.acpi_base.specs.Memory.{Memory, at}
 use Rattle.acpi_base.specs.Ranges.{Ranges, own_table_ranges}
 use Rattle.acpi_base.specs.Steps.{◌>>=◌, lent}
 use Rattle.acpi_base.specs.Table.{own_table_at}
-use Rattle.acpi_base.specs.declared.error.AcpiError.{AcpiError}
 use Rattle.acpi_base.specs.declared.error.AcpiError.TheVariants.{MapFailed}
 use Rattle.acpi_base.specs.declared.range.AddressRange.{AddressRange}
 use Rattle.acpi_fixed.specs.Fadt.{fadt_at}
@@ -22,13 +21,11 @@ use Rattle.acpi.specs.Places.{dsdt_place, dsdt_place_ranges, facs_place, facs_pl
 use Rattle.acpi.specs.Root.{pointers, root_of_revision, width_of}
 use Rattle.acpi.specs.Rsdp.{rsdp_at}
 use Rattle.acpi.specs.Search.{count_of, first_area, room_of, second_area, walk, word_in}
-use Rattle.acpi_c_lib.specs.Below.{ebda_in, opened_in}
+use Rattle.acpi_c_lib.specs.Below.{AcpiError, Refusal, Source, ebda_in, opened_in}
 use Rattle.acpi_c_lib.specs.Regions.{memory_in}
 use Rattle.acpi_c_lib.specs.declared.candidates.Areas.{Areas}
 use Rattle.acpi_c_lib.specs.declared.candidates.Candidates.{Candidates}
 use Rattle.acpi_c_lib.specs.declared.records.Range.{Range}
-use Rattle.acpi_c_lib.specs.declared.records.Source.{Source}
-use Rattle.acpi_c_lib.specs.declared.refusal.Refusal.{Refusal}
 use Rattle.acpi_c_lib.specs.declared.refusal.Refusal.TheVariants.{Acpi}
 
 abbrev pub range_of : ℕ × ℕ → Range

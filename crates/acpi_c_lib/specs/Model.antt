@@ -5,7 +5,6 @@ use Rattle.acpi_base.specs.Interrupts.{line_code, polarity_code, trigger_code}
 use Rattle.acpi_base.specs.Madt.{madt_at}
 use Rattle.acpi_base.specs.Memory.{Memory}
 use Rattle.acpi_base.specs.Model as base
-use Rattle.acpi_base.specs.declared.error.AcpiError.{AcpiError}
 use Rattle.acpi_base.specs.declared.model.interrupt.Apic.{Apic}
 use Rattle.acpi_base.specs.declared.model.interrupt.InterruptModel.TheVariants as model
 use Rattle.acpi_base.specs.declared.model.interrupt.InterruptSourceOverride.{InterruptSourceOverride}
@@ -22,12 +21,10 @@ use Rattle.acpi_base.specs.declared.model.processor.ProcessorState.TheVariants.{
 use Rattle.acpi.specs.Platform.{platform_of}
 use Rattle.acpi.specs.declared.platform.PlatformInfo.{PlatformInfo}
 use Rattle.acpi_c_lib.specs.Answers.{result_map}
-use Rattle.acpi_c_lib.specs.Below.{below_source}
+use Rattle.acpi_c_lib.specs.Below.{AcpiError, Refusal, Source, below_source}
 use Rattle.acpi_c_lib.specs.Devices.{flag}
 use Rattle.acpi_c_lib.specs.Records as records
 use Rattle.acpi_c_lib.specs.declared.interrupt_records.InterruptModel.{InterruptModel}
-use Rattle.acpi_c_lib.specs.declared.records.Source.{Source}
-use Rattle.acpi_c_lib.specs.declared.refusal.Refusal.{Refusal}
 
 -- a model and its processors, of no allocator
 abbrev pub Platform : Type 0

@@ -1,23 +1,20 @@
 -- Domains and distances as C gets them.
 use Rattle.std.specs.Prelude.{◌≡◌, ◌≤◌, ◌↔◌, ℕ, List, map, Result, Ok, Err}
 use Rattle.std.specs.Option.{ok_or}
-use Rattle.acpi_base.specs.Memory.{Memory}
 use Rattle.acpi_base.specs.Steps.{◌>>=◌}
 use Rattle.acpi_base.specs.Table.{Kind, sdt_kind}
 use Rattle.acpi_base.specs.declared.table.signature.TheConstants.Signature.{SLIT}
-use Rattle.acpi_numa.specs.Affinities.{domain_at, found_affinities, srat_kind}
+use Rattle.acpi_numa.specs.Affinities.{affinities_of, domain_at, srat_kind}
 use Rattle.acpi_numa.specs.Slit.{IsSane, distance_of, localities_of}
 use Rattle.acpi_numa.specs.Srat.{domain_of_apic, domain_of_processor}
 use Rattle.acpi_numa.specs.declared.error.NumaError.{NumaError}
 use Rattle.acpi_numa.specs.declared.error.NumaError.TheVariants as numa
 use Rattle.acpi_numa.specs.declared.srat.affinities.MemoryRange.{MemoryRange}
 use Rattle.acpi_c_lib.specs.Answers.{result_map}
-use Rattle.acpi_c_lib.specs.Below.{below, below_first, refused_as}
+use Rattle.acpi_c_lib.specs.Below.{Refusal, Source, below_first, first_table}
 use Rattle.acpi_c_lib.specs.Devices.{flag}
 use Rattle.acpi_c_lib.specs.declared.numa_records.Localities.{Localities}
 use Rattle.acpi_c_lib.specs.declared.numa_records.MemoryAffinity.{MemoryAffinity}
-use Rattle.acpi_c_lib.specs.declared.records.Source.{Source}
-use Rattle.acpi_c_lib.specs.declared.refusal.Refusal.{Refusal}
 use Rattle.acpi_c_lib.specs.declared.refusal.Refusal.TheVariants.{Acpi, InvalidMemoryRange, InvalidSratEntryLength, NoDistance, NoDomain}
 
 -- a refusal of the crate for domains is one of the call's
@@ -33,10 +30,10 @@ numa_refused (Err e) = Err (numa_refusal e)
 -- ---- ranges of memory
 
 -- the ranges of memory that the first valid SRAT puts into domains (section 5.2.16.2)
-abbrev pub affinities_in : Memory → List ℕ → Result (List MemoryRange) Refusal
-affinities_in m ps = do
-  said ← refused_as (found_affinities m ps)
-  numa_refused said
+abbrev pub affinities_in : Source → Result (List MemoryRange) Refusal
+affinities_in s = do
+  table ← first_table srat_kind s
+  numa_refused (affinities_of table)
 
 abbrev pub affinity_record : MemoryRange → MemoryAffinity
 affinity_record r = record {
@@ -48,14 +45,14 @@ affinity_record r = record {
 }
 
 abbrev pub affinities_below : Source → Result (List MemoryAffinity) Refusal
-affinities_below s = result_map (map affinity_record) (below s affinities_in)
+affinities_below s = result_map (map affinity_record) (affinities_in s)
 
 -- ---- domains
 
 -- the domain of the first range in which an address lies
 abbrev pub domain_of_address_below : Source → ℕ → Result ℕ Refusal
 domain_of_address_below s address = do
-  ranges ← below s affinities_in
+  ranges ← affinities_in s
   ok_or (domain_at ranges address) NoDomain
 
 abbrev pub domain_of_apic_below : Source → ℕ → Result ℕ Refusal
@@ -85,4 +82,4 @@ IsLocalities table r =
 
 -- the bytes of the first valid SLIT
 abbrev pub slit_in : Source → Result (List ℕ) Refusal
-slit_in s = below_first slit_kind s (λ table. table)
+slit_in s = first_table slit_kind s

@@ -13,12 +13,10 @@ use Rattle.acpi_fixed.specs.Fadt.{fadt_at}
 use Rattle.acpi.specs.Lists.{fadt_kind}
 use Rattle.acpi.specs.Lookup.{lookup}
 use Rattle.acpi_c_lib.specs.Answers.{result_map}
-use Rattle.acpi_c_lib.specs.Below.{below, refused_as}
+use Rattle.acpi_c_lib.specs.Below.{Refusal, Source, below, refused_as}
 use Rattle.acpi_c_lib.specs.Model.{Apics, Platform, io_apic_record, platform_model}
 use Rattle.acpi_c_lib.specs.declared.interrupt_records.Interrupt.{Interrupt}
 use Rattle.acpi_c_lib.specs.declared.interrupt_records.IoApicPin.{IoApicPin}
-use Rattle.acpi_c_lib.specs.declared.records.Source.{Source}
-use Rattle.acpi_c_lib.specs.declared.refusal.Refusal.{Refusal}
 use Rattle.acpi_c_lib.specs.declared.refusal.Refusal.TheVariants.{NoApics, NoSuchInterrupt, NoSuchIoApic}
 
 abbrev pub interrupt_record : IsaInterrupt → Interrupt
@@ -46,12 +44,18 @@ platform_in m ps = do
   _ ← apics_of platform
   Ok platform
 
--- what is shown of the APICs, and of the platform that has some, of the tables that a caller names
+-- the APICs, and the platform that has some, of the tables that a caller names, and what is shown of them
+unfoldable pub known_apics : Source → Result Apics Refusal
+known_apics s = below s apics_in
+
+unfoldable pub known_platform : Source → Result Platform Refusal
+known_platform s = below s platform_in
+
 abbrev pub below_apics : {A : Type 0} → Source → (Apics → A) → Result A Refusal
-below_apics s show = result_map show (below s apics_in)
+below_apics s show = result_map show (known_apics s)
 
 abbrev pub below_known : {A : Type 0} → Source → (Platform → A) → Result A Refusal
-below_known s show = result_map show (below s platform_in)
+below_known s show = result_map show (known_platform s)
 
 -- an interrupt, or that there is none such
 abbrev pub interrupt_or : Option IsaInterrupt → Result Interrupt Refusal
@@ -60,13 +64,10 @@ interrupt_or o = do
   Ok (interrupt_record found)
 
 -- an ISA interrupt
-abbrev pub isa_in : ℕ → Memory → List ℕ → Result Interrupt Refusal
-isa_in irq m ps = do
-  apic ← apics_in m ps
-  interrupt_or (isa_interrupt apic.interrupt_source_overrides irq)
-
 abbrev pub isa_below : Source → ℕ → Result Interrupt Refusal
-isa_below s irq = below s (isa_in irq)
+isa_below s irq = do
+  apic ← known_apics s
+  interrupt_or (isa_interrupt apic.interrupt_source_overrides irq)
 
 -- the interrupt of the machine's events, SCI_INT of the first valid FADT (section 5.2.9)
 abbrev pub sci_in : Memory → List ℕ → Result Interrupt Refusal
@@ -91,10 +92,7 @@ pin_or o = do
   Ok (record { io_apic = io_apic_record found.0; pin = found.1 })
 
 -- the I/O APIC that an interrupt comes to, and the pin there
-abbrev pub pin_in : ℕ → Memory → List ℕ → Result IoApicPin Refusal
-pin_in interrupt m ps = do
-  apic ← apics_in m ps
-  pin_or (io_apic_for apic.io_apics interrupt)
-
 abbrev pub pin_below : Source → ℕ → Result IoApicPin Refusal
-pin_below s interrupt = below s (pin_in interrupt)
+pin_below s interrupt = do
+  apic ← known_apics s
+  pin_or (io_apic_for apic.io_apics interrupt)

@@ -4,11 +4,11 @@ use Rattle.std.specs.Option.{ok_or}
 use Rattle.std.specs.Result.{result_ok}
 use Rattle.acpi_base.specs.Ecam.{ecam_range}
 use Rattle.acpi_base.specs.Header.{header_at}
+use Rattle.acpi_base.specs.Mcfg.{mcfg_entries_of}
 use Rattle.acpi_base.specs.Memory.{Memory}
 use Rattle.acpi_base.specs.Steps.{◌>>=◌}
 use Rattle.acpi_base.specs.Table.{own_table_at, plain_kind}
 use Rattle.acpi_base.specs.Text.{letters_of}
-use Rattle.acpi_base.specs.declared.error.AcpiError.{AcpiError}
 use Rattle.acpi_base.specs.declared.range.AddressRange.{AddressRange}
 use Rattle.acpi_base.specs.declared.table.signature.Signature.{Signature}
 use Rattle.acpi_base.specs.declared.tables.mcfg.McfgEntry.{McfgEntry}
@@ -17,21 +17,19 @@ use Rattle.acpi.specs.Hpet.{hpet_of}
 use Rattle.acpi.specs.Lists.{dsdt_stream}
 use Rattle.acpi.specs.Lookup.{lookup}
 use Rattle.acpi.specs.Opened.{Opened}
-use Rattle.acpi.specs.Pci.{found_regions}
+use Rattle.acpi.specs.Pci.{mcfg_kind}
 use Rattle.acpi.specs.Root.{width_of}
 use Rattle.acpi.specs.declared.hpet.HpetInfo.{HpetInfo}
 use Rattle.acpi.specs.declared.hpet.PageProtection.{PageProtection}
 use Rattle.acpi.specs.declared.hpet.PageProtection.TheVariants as protection
 use Rattle.acpi.specs.declared.records.AmlTable.{AmlTable}
 use Rattle.acpi_c_lib.specs.Answers.{result_map}
-use Rattle.acpi_c_lib.specs.Below.{below_source, opened_below}
+use Rattle.acpi_c_lib.specs.Below.{AcpiError, Refusal, Source, below_first, below_source, first_table, opened_below}
 use Rattle.acpi_c_lib.specs.Records as records
 use Rattle.acpi_c_lib.specs.declared.fixed_records.EcamRange.{EcamRange}
 use Rattle.acpi_c_lib.specs.declared.records.PciRegion.{PciRegion}
 use Rattle.acpi_c_lib.specs.declared.records.Root.{Root}
-use Rattle.acpi_c_lib.specs.declared.records.Source.{Source}
 use Rattle.acpi_c_lib.specs.declared.records.Table.{Table}
-use Rattle.acpi_c_lib.specs.declared.refusal.Refusal.{Refusal}
 use Rattle.acpi_c_lib.specs.declared.refusal.Refusal.TheVariants.{NoSuchFunction}
 
 -- ---- the root table
@@ -93,7 +91,7 @@ pci_record e = record {
 }
 
 abbrev pub pci_regions_below : Source → Result (List PciRegion) Refusal
-pci_regions_below s = below_source s (λ m ps. result_map (map pci_record) (found_regions m ps))
+pci_regions_below s = below_first mcfg_kind s (λ table. map pci_record (mcfg_entries_of table))
 
 -- a segment group and the memory of its buses, or zeros
 abbrev pub span_record : ℕ → Option AddressRange → EcamRange
@@ -107,12 +105,12 @@ ecam_record e = span_record e.pci_segment_group (ecam_range e)
 
 -- the memory of each region of the first valid MCFG, in order
 abbrev pub ecam_ranges_below : Source → Result (List EcamRange) Refusal
-ecam_ranges_below s = below_source s (λ m ps. result_map (map ecam_record) (found_regions m ps))
+ecam_ranges_below s = below_first mcfg_kind s (λ table. map ecam_record (mcfg_entries_of table))
 
 abbrev pub ecam_below : Source → ℕ → ℕ → ℕ → ℕ → Result ℕ Refusal
 ecam_below s segment bus device function = do
-  regions ← below_source s found_regions
-  ok_or (ecam_address regions segment bus device function) NoSuchFunction
+  table ← first_table mcfg_kind s
+  ok_or (ecam_address (mcfg_entries_of table) segment bus device function) NoSuchFunction
 
 -- ---- devices
 

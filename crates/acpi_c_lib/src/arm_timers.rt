@@ -8,7 +8,7 @@ ghost use Rattle.acpi_c_lib.specs.ArmTimers.{frames_shown, gtdt_below, timers_sh
 use crate::arm_records as records;
 use crate::arm_records::{ArmTimers, Watchdog};
 use crate::lists::put;
-use crate::opening::open;
+use crate::opening::first;
 use crate::records::Source;
 use crate::refusal::Refusal;
 use crate::regions::Mapped;
@@ -20,9 +20,8 @@ use acpi_arm::gtdt::{
 pub fn arm_timers(source: &Source<'_>) -> Result<ArmTimers, Refusal>
     ensures { result ≡ gtdt_below source.now timers_shown }
 {
-    let memory = Mapped::new(source.regions)?;
-    let tables = open(&memory, source)?;
-    let gtdt = tables.find_table::<Gtdt>()?;
+    let memory = Mapped::new(source.regions);
+    let gtdt = first::<Gtdt>(&memory, source)?;
     let is_malformed = end_malformed(gtdt.platform_timers());
     Ok(timers_record(&gtdt, is_malformed))
 }
@@ -90,9 +89,8 @@ fn timer_or(timer: Option<ArmTimer>) -> records::ArmTimer
 pub fn frames(source: &Source<'_>, out: &mut [records::GtFrame]) -> Result<usize, Refusal>
     ensures { Fills result out.old out.new (gtdt_below source.now frames_shown) }
 {
-    let memory = Mapped::new(source.regions)?;
-    let tables = open(&memory, source)?;
-    let gtdt = tables.find_table::<Gtdt>()?;
+    let memory = Mapped::new(source.regions);
+    let gtdt = first::<Gtdt>(&memory, source)?;
     Ok(fill_frames(gtdt.bytes(), out))
 }
 
@@ -151,9 +149,8 @@ fn frame_record(block: u64, frame: &GtFrame) -> records::GtFrame
 pub fn watchdogs(source: &Source<'_>, out: &mut [Watchdog]) -> Result<usize, Refusal>
     ensures { Fills result out.old out.new (gtdt_below source.now watchdogs_shown) }
 {
-    let memory = Mapped::new(source.regions)?;
-    let tables = open(&memory, source)?;
-    let gtdt = tables.find_table::<Gtdt>()?;
+    let memory = Mapped::new(source.regions);
+    let gtdt = first::<Gtdt>(&memory, source)?;
     Ok(fill_watchdogs(gtdt.bytes(), out))
 }
 

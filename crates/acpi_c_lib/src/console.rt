@@ -4,7 +4,7 @@ ghost use Rattle.acpi_c_lib.specs.Console.{console_below, console_record};
 
 use crate::devices::register_if;
 use crate::fixed_records::Console;
-use crate::opening::open;
+use crate::opening::first;
 use crate::records::Source;
 use crate::refusal::Refusal;
 use crate::regions::Mapped;
@@ -15,9 +15,8 @@ use acpi_base::bytes::field;
 pub fn console(source: &Source<'_>) -> Result<Console, Refusal>
     ensures { result ≡ console_below source.now }
 {
-    let memory = Mapped::new(source.regions)?;
-    let tables = open(&memory, source)?;
-    let spcr = tables.find_table::<Spcr>()?;
+    let memory = Mapped::new(source.regions);
+    let spcr = first::<Spcr>(&memory, source)?;
     let interface = field(spcr.bytes(), 36, 1) as u8; // Interface Type
     Ok(console_record(&spcr, interface))
 }

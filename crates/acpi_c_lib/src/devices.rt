@@ -5,7 +5,7 @@ ghost use Rattle.acpi_c_lib.specs.Devices.{graphic_below, timer_below};
 ghost use Rattle.acpi_c_lib.specs.Devices as devices;
 ghost use Rattle.acpi_c_lib.specs.Shown.{hpet_below, protection_code};
 
-use crate::opening::open;
+use crate::opening::{first, open};
 use crate::records::{self, BootGraphic, Register, Source};
 use crate::refusal::Refusal;
 use crate::regions::Mapped;
@@ -176,9 +176,8 @@ fn access_code(size: AccessSize) -> u8
 pub fn graphic(source: &Source<'_>) -> Result<BootGraphic, Refusal>
     ensures { result ≡ graphic_below source.now }
 {
-    let memory = Mapped::new(source.regions)?;
-    let tables = open(&memory, source)?;
-    let bgrt = tables.find_table::<Bgrt>()?;
+    let memory = Mapped::new(source.regions);
+    let bgrt = first::<Bgrt>(&memory, source)?;
     Ok(graphic_record(&bgrt))
 }
 

@@ -8,7 +8,7 @@ ghost use Rattle.acpi_c_lib.specs.Fixed.{fixed_below, fixed_record};
 use crate::devices::{optional_register, required_register, space_code};
 use crate::fixed_records as records;
 use crate::fixed_records::FixedHardware;
-use crate::opening::open;
+use crate::opening::first;
 use crate::records::Source;
 use crate::refusal::Refusal;
 use crate::regions::Mapped;
@@ -20,9 +20,8 @@ use acpi_base::bytes::{field, u16_in, u32_in};
 pub fn fixed(source: &Source<'_>) -> Result<FixedHardware, Refusal>
     ensures { result ≡ fixed_below source.now }
 {
-    let memory = Mapped::new(source.regions)?;
-    let tables = open(&memory, source)?;
-    let fadt = tables.find_table::<Fadt>()?;
+    let memory = Mapped::new(source.regions);
+    let fadt = first::<Fadt>(&memory, source)?;
     let flags = flags_in(fadt.bytes());
     Ok(fixed_record(&fadt, flags))
 }

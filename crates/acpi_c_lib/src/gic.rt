@@ -3,19 +3,20 @@
 ghost use Rattle.std.specs.Prelude.{◌≡◌, map, refl};
 ghost use Rattle.acpi_base.specs.Mapping.{bytes_of};
 ghost use Rattle.acpi_base.specs.Steps.{Gives};
-ghost use Rattle.acpi.specs.Tables.{of_tables};
 ghost use Rattle.acpi_arm.specs.Gic.{items_of, model_beside};
 ghost use Rattle.acpi_c_lib.specs.Answers.{Fills, Writes};
-ghost use Rattle.acpi_c_lib.specs.Arm.{below_gic, distributor_shown, gic_in, cpu_interface_record, cpu_interfaces_shown, msi_frame_record, msi_frames_shown, redistributors_record, redistributors_shown, translation_service_record, translation_services_shown};
+ghost use Rattle.acpi_c_lib.specs.Held.{mapped_memory};
+ghost use Rattle.acpi_c_lib.specs.Regions.{memory_in};
+ghost use Rattle.acpi_c_lib.specs.Arm.{below_gic, distributor_shown, known_gic, cpu_interface_record, cpu_interfaces_shown, msi_frame_record, msi_frames_shown, redistributors_record, redistributors_shown, translation_service_record, translation_services_shown};
 
 use crate::arm_records as records;
 use crate::lists::put;
-use crate::opening::open;
+use crate::opening::first;
 use crate::records::{Range, Source};
 use crate::refusal::Refusal;
 use crate::regions::Mapped;
 use acpi::madt::Madt;
-use acpi::{AcpiHandler, AcpiTables, Lender, PhysicalMapping};
+use acpi::{Lender, PhysicalMapping};
 use acpi_arm::gic::{
     GicCpuInterface, GicDistributor, GicMsiFrame, GicPart, GicRedistributors,
     GicTranslationService, distributor_of,
@@ -32,13 +33,17 @@ struct GicMadt<'h, H: Lender> {
 
 /// The first valid MADT, if it describes a GIC.
 ///
-/// Fails with `TableMissing` if no valid MADT is listed, with `InvalidMadt(InvalidEntryLength)` if its entries end
+/// Fails as `first` does, with `InvalidMadt(InvalidEntryLength)` if its entries end
 /// malformed, and with `NoGic` if none of them describes a distributor.
-fn gic_madt<'h, H: AcpiHandler>(tables: &AcpiTables<'h, H>) -> Result<GicMadt<'h, H>, Refusal>
-    ensures { Gives (λ x. model_beside (bytes_of x.madt) x.distributor) result
-        (of_tables tables.now gic_in) }
+#[tactic(auto, unfolding(crate::specs::Arm::known_gic))]
+fn gic_madt<'h, 'k>(
+    memory: &'h Result<Mapped<'k>, Refusal>,
+    source: &Source<'_>,
+) -> Result<GicMadt<'h, Mapped<'k>>, Refusal>
+    requires { Gives (λ m. mapped_memory m) memory.now (memory_in source.now.regions.now) }
+    ensures { Gives (λ x. model_beside (bytes_of x.madt) x.distributor) result (known_gic source.now) }
 {
-    let madt = tables.find_table::<Madt>()?;
+    let madt = first::<Madt>(memory, source)?;
     let distributor = distributor_of(madt.bytes())?.ok_or(Refusal::NoGic)?;
     Ok(GicMadt { madt, distributor })
 }
@@ -47,9 +52,8 @@ fn gic_madt<'h, H: AcpiHandler>(tables: &AcpiTables<'h, H>) -> Result<GicMadt<'h
 pub fn distributor(source: &Source<'_>) -> Result<records::GicDistributor, Refusal>
     ensures { result ≡ below_gic source.now distributor_shown }
 {
-    let memory = Mapped::new(source.regions)?;
-    let tables = open(&memory, source)?;
-    let distributor = gic_madt(&tables)?.distributor;
+    let memory = Mapped::new(source.regions);
+    let distributor = gic_madt(&memory, source)?.distributor;
     Ok(records::GicDistributor {
         address: distributor.address,
         id: distributor.id,
@@ -87,9 +91,8 @@ pub trait GicRecord: Copy {
 pub fn parts<R: GicRecord>(source: &Source<'_>, out: &mut [R]) -> Result<usize, Refusal>
     ensures { Fills result out.old out.new (below_gic source.now R.shown) }
 {
-    let memory = Mapped::new(source.regions)?;
-    let tables = open(&memory, source)?;
-    let found = gic_madt(&tables)?;
+    let memory = Mapped::new(source.regions);
+    let found = gic_madt(&memory, source)?;
     Ok(fill_parts(found.madt.bytes(), out))
 }
 

@@ -11,7 +11,9 @@ ghost use Rattle.acpi.specs.Platform.{model_in};
 ghost use Rattle.acpi.specs.Tables.{of_tables};
 ghost use Rattle.acpi_c_lib.specs.Answers.{Fills, Writes};
 ghost use Rattle.acpi_c_lib.specs.Model.{apics_by, io_apic_record, model_by, platform_model, io_apics_of, nmi_line_record, nmi_lines_of, nmi_source_record, nmi_sources_of, override_record, overrides_of};
-ghost use Rattle.acpi_c_lib.specs.Routes.{apics_in, below_apics, platform_in};
+ghost use Rattle.acpi_c_lib.specs.Held.{mapped_memory};
+ghost use Rattle.acpi_c_lib.specs.Regions.{memory_in};
+ghost use Rattle.acpi_c_lib.specs.Routes.{below_apics, known_apics, known_platform};
 
 use crate::interrupt_records as records;
 use crate::lists::put;
@@ -54,18 +56,26 @@ pub(crate) fn apic_madt<'h, H: AcpiHandler>(
     Ok(found)
 }
 
-/// The MADT that describes the machine's APICs, with how much there is of each sort.
+/// The MADT that describes the machine's APICs, with how much there is of each sort, by the tables that a source leads
+/// to in the memory of its regions.
 ///
-/// Fails as `apic_madt` does, and then with `NoApics` if there is none.
-pub(crate) fn known_madt<'h, H: AcpiHandler>(
-    tables: &AcpiTables<'h, H>,
-) -> Result<ApicMadt<'h, H>, Refusal>
-    ensures apics { Gives (λ x. apics_by (bytes_of x.madt)) result (of_tables tables.now apics_in) }
-    ensures platform { Gives (λ x. model_by (Some (bytes_of x.madt))) result
-        (of_tables tables.now platform_in) }
+/// Fails as `Mapped::new` does, then as `open` and `apic_madt` do, and then with `NoApics` if there is none.
+#[tactic(auto, unfolding(crate::specs::Routes::known_apics, crate::specs::Routes::known_platform))]
+pub(crate) fn known_madt<'h, 'k>(
+    memory: &'h Result<Mapped<'k>, Refusal>,
+    source: &Source<'_>,
+) -> Result<ApicMadt<'h, Mapped<'k>>, Refusal>
+    requires { Gives (λ m. mapped_memory m) memory.now (memory_in source.now.regions.now) }
+    ensures apics { Gives (λ x. apics_by (bytes_of x.madt)) result (known_apics source.now) }
+    ensures platform { Gives (λ x. model_by (Some (bytes_of x.madt))) result (known_platform source.now) }
     ensures counts { IfOk result (λ x. x.counts ≡ counts_of (items_of (bytes_of x.madt))) }
 {
-    apic_madt(tables)?.ok_or(Refusal::NoApics)
+    let memory = match memory {
+        Ok(memory) => memory,
+        Err(refusal) => return Err(*refusal),
+    };
+    let tables = open(memory, source)?;
+    apic_madt(&tables)?.ok_or(Refusal::NoApics)
 }
 
 /// The first valid MADT, if it describes APICs, with how much there is of each sort, or `None` if no valid one is
@@ -134,9 +144,8 @@ pub trait MadtRecord: Copy {
 pub fn entries<R: MadtRecord>(source: &Source<'_>, out: &mut [R]) -> Result<usize, Refusal>
     ensures { Fills result out.old out.new (below_apics source.now R.shown) }
 {
-    let memory = Mapped::new(source.regions)?;
-    let tables = open(&memory, source)?;
-    let found = known_madt(&tables)?;
+    let memory = Mapped::new(source.regions);
+    let found = known_madt(&memory, source)?;
     Ok(fill_entries(items_of(&found.madt), out))
 }
 

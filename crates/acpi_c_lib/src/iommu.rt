@@ -10,7 +10,7 @@ use crate::iommu_records::{
     DmarReserved, DmarSource, DmarUnit, Hop, IvrsDevice, IvrsMemory, IvrsUnit,
 };
 use crate::lists::{Shown, Walk, fill};
-use crate::opening::open;
+use crate::opening::first;
 use crate::records::Source;
 use crate::refusal::Refusal;
 use crate::regions::Mapped;
@@ -40,9 +40,8 @@ pub fn dmar_unit(
 ) -> Result<DmarUnit, Refusal>
     ensures { result ≡ dmar_unit_below source.now segment bus hops.now }
 {
-    let memory = Mapped::new(source.regions)?;
-    let tables = open(&memory, source)?;
-    let dmar = tables.find_table::<Dmar>()?;
+    let memory = Mapped::new(source.regions);
+    let dmar = first::<Dmar>(&memory, source)?;
     found_unit(dmar.unit_for(segment, bus, hops))
 }
 
@@ -50,9 +49,8 @@ pub fn dmar_unit(
 pub fn dmar_io_apic(source: &Source<'_>, id: u8) -> Result<DmarSource, Refusal>
     ensures { result ≡ dmar_io_apic_below source.now id }
 {
-    let memory = Mapped::new(source.regions)?;
-    let tables = open(&memory, source)?;
-    let dmar = tables.find_table::<Dmar>()?;
+    let memory = Mapped::new(source.regions);
+    let dmar = first::<Dmar>(&memory, source)?;
     found_source(dmar.unit_of_io_apic(id))
 }
 
@@ -60,9 +58,8 @@ pub fn dmar_io_apic(source: &Source<'_>, id: u8) -> Result<DmarSource, Refusal>
 pub fn dmar_hpet(source: &Source<'_>, number: u8) -> Result<DmarSource, Refusal>
     ensures { result ≡ dmar_hpet_below source.now number }
 {
-    let memory = Mapped::new(source.regions)?;
-    let tables = open(&memory, source)?;
-    let dmar = tables.find_table::<Dmar>()?;
+    let memory = Mapped::new(source.regions);
+    let dmar = first::<Dmar>(&memory, source)?;
     found_source(dmar.unit_of_hpet(number))
 }
 
@@ -126,9 +123,8 @@ pub fn dmar_reserved(
 ) -> Result<usize, Refusal>
     ensures { Fills result out.old out.new (dmar_reserved_below source.now segment bus hops.now) }
 {
-    let memory = Mapped::new(source.regions)?;
-    let tables = open(&memory, source)?;
-    let dmar = tables.find_table::<Dmar>()?;
+    let memory = Mapped::new(source.regions);
+    let dmar = first::<Dmar>(&memory, source)?;
     fill_reserved(dmar.bytes(), segment, bus, hops, out)
 }
 
@@ -176,9 +172,8 @@ impl Shown<DmarReserved> for Rmrr {
 pub fn ivrs_unit(source: &Source<'_>, segment: u16, device_id: u16) -> Result<IvrsDevice, Refusal>
     ensures { result ≡ ivrs_unit_below source.now segment device_id }
 {
-    let memory = Mapped::new(source.regions)?;
-    let tables = open(&memory, source)?;
-    let ivrs = tables.find_table::<Ivrs>()?;
+    let memory = Mapped::new(source.regions);
+    let ivrs = first::<Ivrs>(&memory, source)?;
     found_device(ivrs.block_for(segment, device_id))
 }
 
@@ -225,9 +220,8 @@ pub fn ivrs_memory(
 ) -> Result<usize, Refusal>
     ensures { Fills result out.old out.new (ivrs_memory_below source.now device_id) }
 {
-    let memory = Mapped::new(source.regions)?;
-    let tables = open(&memory, source)?;
-    let ivrs = tables.find_table::<Ivrs>()?;
+    let memory = Mapped::new(source.regions);
+    let ivrs = first::<Ivrs>(&memory, source)?;
     fill_memory(ivrs.bytes(), device_id, out)
 }
 

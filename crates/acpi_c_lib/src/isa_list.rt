@@ -13,7 +13,6 @@ ghost use Rattle.acpi_c_lib.specs.IsaList.{isa_list_below, nearer_of, number_of,
 use crate::interrupt_records as records;
 use crate::interrupt_records::{Interrupt, IoApicPin, IsaInterrupts, IsaRoute};
 use crate::interrupts::{io_apic_record, known_madt};
-use crate::opening::open;
 use crate::records::Source;
 use crate::refusal::Refusal;
 use crate::regions::Mapped;
@@ -28,9 +27,8 @@ pub fn isa_list(source: &Source<'_>, out: &mut IsaInterrupts) -> Result<(), Refu
     ensures status { result ≡ result_map (λ _. tt) (isa_list_below source.now) }
     ensures written { out.new ≡ result_unwrap_or (isa_list_below source.now) out.old }
 {
-    let memory = Mapped::new(source.regions)?;
-    let tables = open(&memory, source)?;
-    let found = known_madt(&tables)?;
+    let memory = Mapped::new(source.regions);
+    let found = known_madt(&memory, source)?;
     write_routes(&found.madt, &mut out.routes);
     Ok(())
 }

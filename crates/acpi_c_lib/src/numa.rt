@@ -7,7 +7,7 @@ ghost use Rattle.acpi_c_lib.specs.Numa.{domain_of_address_below, domain_of_apic_
 
 use crate::lists::put;
 use crate::numa_records::{Localities, MemoryAffinity};
-use crate::opening::open;
+use crate::opening::first;
 use crate::records::Source;
 use crate::refusal::Refusal;
 use crate::regions::Mapped;
@@ -32,9 +32,8 @@ impl From<NumaError> for Refusal {
 pub fn affinities(source: &Source<'_>, out: &mut [MemoryAffinity]) -> Result<usize, Refusal>
     ensures { Fills result out.old out.new (affinities_below source.now) }
 {
-    let memory = Mapped::new(source.regions)?;
-    let tables = open(&memory, source)?;
-    let srat = tables.find_table::<Srat>()?;
+    let memory = Mapped::new(source.regions);
+    let srat = first::<Srat>(&memory, source)?;
     affinities_count(srat.bytes())?;
     Ok(fill_affinities(srat.bytes(), out))
 }
@@ -71,9 +70,8 @@ fn affinity_record(range: &MemoryRange) -> MemoryAffinity
 pub fn domain_of_address(source: &Source<'_>, address: u64) -> Result<u32, Refusal>
     ensures { result ≡ domain_of_address_below source.now address }
 {
-    let memory = Mapped::new(source.regions)?;
-    let tables = open(&memory, source)?;
-    let srat = tables.find_table::<Srat>()?;
+    let memory = Mapped::new(source.regions);
+    let srat = first::<Srat>(&memory, source)?;
     affinities_count(srat.bytes())?;
     domain_in(srat.bytes(), address).ok_or(Refusal::NoDomain)
 }
@@ -97,9 +95,8 @@ fn domain_in(table: &[u8], address: u64) -> Option<u32>
 pub fn domain_of_apic(source: &Source<'_>, local_apic_id: u32) -> Result<u32, Refusal>
     ensures { result ≡ domain_of_apic_below source.now local_apic_id }
 {
-    let memory = Mapped::new(source.regions)?;
-    let tables = open(&memory, source)?;
-    let srat = tables.find_table::<Srat>()?;
+    let memory = Mapped::new(source.regions);
+    let srat = first::<Srat>(&memory, source)?;
     srat.domain_of_apic(local_apic_id).ok_or(Refusal::NoDomain)
 }
 
@@ -107,9 +104,8 @@ pub fn domain_of_apic(source: &Source<'_>, local_apic_id: u32) -> Result<u32, Re
 pub fn domain_of_processor(source: &Source<'_>, uid: u32) -> Result<u32, Refusal>
     ensures { result ≡ domain_of_processor_below source.now uid }
 {
-    let memory = Mapped::new(source.regions)?;
-    let tables = open(&memory, source)?;
-    let srat = tables.find_table::<Srat>()?;
+    let memory = Mapped::new(source.regions);
+    let srat = first::<Srat>(&memory, source)?;
     srat.domain_of_processor(uid).ok_or(Refusal::NoDomain)
 }
 
@@ -117,9 +113,8 @@ pub fn domain_of_processor(source: &Source<'_>, uid: u32) -> Result<u32, Refusal
 pub fn distance(source: &Source<'_>, from: u64, to: u64) -> Result<u8, Refusal>
     ensures { result ≡ distance_below source.now from to }
 {
-    let memory = Mapped::new(source.regions)?;
-    let tables = open(&memory, source)?;
-    let slit = tables.find_table::<Slit>()?;
+    let memory = Mapped::new(source.regions);
+    let slit = first::<Slit>(&memory, source)?;
     slit.distance(from, to).ok_or(Refusal::NoDistance)
 }
 
@@ -127,9 +122,8 @@ pub fn distance(source: &Source<'_>, from: u64, to: u64) -> Result<u8, Refusal>
 pub fn localities(source: &Source<'_>) -> Result<Localities, Refusal>
     ensures { GivesSome IsLocalities result (slit_in source.now) }
 {
-    let memory = Mapped::new(source.regions)?;
-    let tables = open(&memory, source)?;
-    let slit = tables.find_table::<Slit>()?;
+    let memory = Mapped::new(source.regions);
+    let slit = first::<Slit>(&memory, source)?;
     let distances = slit.distances();
     Ok(Localities {
         localities: distances.localities(),

@@ -1,17 +1,20 @@
 //! How the tables that a caller names are opened.
 ghost use Rattle.std.specs.Prelude.{◌≡◌, Ok, IfOk};
+ghost use Rattle.acpi_base.specs.Mapping.{bytes_of};
 ghost use Rattle.acpi_base.specs.Steps.{Gives};
 ghost use Rattle.acpi.specs.Opened.{opened_of};
 ghost use Rattle.acpi.specs.Search.{word_in};
 ghost use Rattle.acpi.specs.Tables.{lender_of};
-ghost use Rattle.acpi_c_lib.specs.Below.{ebda_in, opened_as_lent, opened_in};
+ghost use Rattle.acpi_c_lib.specs.Below.{ebda_in, first_table, opened_as_lent, opened_in};
+ghost use Rattle.acpi_c_lib.specs.Held.{mapped_memory};
+ghost use Rattle.acpi_c_lib.specs.Regions.{memory_in};
 ghost use Rattle.acpi_c_lib.specs.Shown.{root_below};
 
 use crate::records::{Root, Source};
 use crate::refusal::Refusal;
 use crate::regions::Mapped;
 use acpi::rsdp::bios_areas;
-use acpi::{AcpiHandler, AcpiResult, AcpiTables, PhysicalMapping};
+use acpi::{AcpiHandler, AcpiResult, AcpiTable, AcpiTables, PhysicalMapping};
 
 /// The tables below what a source's start says: 0 the RSDP at its address (section 5.2.5.3), 1 the RSDT there (section
 /// 5.2.7), 2 the XSDT there (section 5.2.8), 3 the RSDP that the BIOS areas hold (section 5.2.5.1), and 4 that which
@@ -62,6 +65,26 @@ pub(crate) fn ebda<H: AcpiHandler>(handler: &H) -> Option<u64>
         Ok(segment) => Some(16 * segment as u64),
         Err(_) => None,
     }
+}
+
+/// The first valid table of a type that a source leads to, in the memory of its regions.
+///
+/// Fails as `Mapped::new` does, then as `open` does, and then with `TableMissing` if no valid one is listed.
+#[tactic(auto, unfolding(crate::specs::Below::first_table))]
+pub(crate) fn first<'h, 'k, T: AcpiTable>(
+    memory: &'h Result<Mapped<'k>, Refusal>,
+    source: &Source<'_>,
+) -> Result<PhysicalMapping<'h, Mapped<'k>, T>, Refusal>
+    requires { Gives (λ m. mapped_memory m) memory.now (memory_in source.now.regions.now) }
+    ensures { Gives (λ t. bytes_of t) result (first_table T.kind source.now) }
+{
+    let memory = match memory {
+        Ok(memory) => memory,
+        Err(refusal) => return Err(*refusal),
+    };
+    let tables = open(memory, source)?;
+    let table = tables.find_table::<T>()?;
+    Ok(table)
 }
 
 /// The root table that a source leads to.

@@ -8,7 +8,7 @@ ghost use Rattle.acpi_c_lib.specs.Shown.{ecam_below, ecam_ranges_below, pci_regi
 
 use crate::fixed_records::EcamRange;
 use crate::lists::{Shown, Walk, fill};
-use crate::opening::open;
+use crate::opening::first;
 use crate::records::{PciRegion, Source};
 use crate::refusal::Refusal;
 use crate::regions::Mapped;
@@ -19,9 +19,8 @@ use acpi::mcfg::{Mcfg, McfgEntry, McfgEntryIter};
 pub fn pci_regions(source: &Source<'_>, out: &mut [PciRegion]) -> Result<usize, Refusal>
     ensures { Fills result out.old out.new (pci_regions_below source.now) }
 {
-    let memory = Mapped::new(source.regions)?;
-    let tables = open(&memory, source)?;
-    let mcfg = tables.find_table::<Mcfg>()?;
+    let memory = Mapped::new(source.regions);
+    let mcfg = first::<Mcfg>(&memory, source)?;
     Ok(fill(mcfg.entries(), out))
 }
 
@@ -89,9 +88,8 @@ pub fn ecam_address(
 ) -> Result<u64, Refusal>
     ensures { result ≡ ecam_below source.now segment bus device function }
 {
-    let memory = Mapped::new(source.regions)?;
-    let tables = open(&memory, source)?;
-    let mcfg = tables.find_table::<Mcfg>()?;
+    let memory = Mapped::new(source.regions);
+    let mcfg = first::<Mcfg>(&memory, source)?;
     ecam_in(mcfg.entries(), segment, bus, device, function).ok_or(Refusal::NoSuchFunction)
 }
 
@@ -99,9 +97,8 @@ pub fn ecam_address(
 pub fn ecam_ranges(source: &Source<'_>, out: &mut [EcamRange]) -> Result<usize, Refusal>
     ensures { Fills result out.old out.new (ecam_ranges_below source.now) }
 {
-    let memory = Mapped::new(source.regions)?;
-    let tables = open(&memory, source)?;
-    let mcfg = tables.find_table::<Mcfg>()?;
+    let memory = Mapped::new(source.regions);
+    let mcfg = first::<Mcfg>(&memory, source)?;
     Ok(fill(mcfg.entries(), out))
 }
 

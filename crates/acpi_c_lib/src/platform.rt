@@ -14,7 +14,6 @@ use crate::interrupt_records::{
 };
 use crate::interrupts::{MadtRecord, items_of, known_madt};
 use crate::lists::put;
-use crate::opening::open;
 use crate::processors::{known_model, processor_of};
 use crate::records::Source;
 use crate::refusal::Refusal;
@@ -42,9 +41,8 @@ pub fn platform(
     ensures nmi_lines { nmi_lines.new
         ≡ put_from nmi_lines.old 0 (items_said (below_apics source.now nmi_lines_of)) }
 {
-    let memory = Mapped::new(source.regions)?;
-    let tables = open(&memory, source)?;
-    let found = known_madt(&tables)?;
+    let memory = Mapped::new(source.regions);
+    let found = known_madt(&memory, source)?;
     let address = write_all(
         items_of(&found.madt),
         found.madt.local_apic_address as u64,

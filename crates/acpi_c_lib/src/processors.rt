@@ -84,9 +84,8 @@ fn local_apic_address(items: MadtItems<'_>, address: u64) -> u64
 pub fn processors(source: &Source<'_>, out: &mut [Processor]) -> Result<usize, Refusal>
     ensures { Fills result out.old out.new (below_known source.now processors_of) }
 {
-    let memory = Mapped::new(source.regions)?;
-    let tables = open(&memory, source)?;
-    let found = known_madt(&tables)?;
+    let memory = Mapped::new(source.regions);
+    let found = known_madt(&memory, source)?;
     Ok(fill_processors(items_of(&found.madt), out))
 }
 

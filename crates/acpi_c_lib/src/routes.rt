@@ -26,9 +26,8 @@ use acpi_base::model::{MadtItem, straight, wired};
 pub fn isa(source: &Source<'_>, irq: u8) -> Result<Interrupt, Refusal>
     ensures { result ≡ isa_below source.now irq }
 {
-    let memory = Mapped::new(source.regions)?;
-    let tables = open(&memory, source)?;
-    let found = known_madt(&tables)?;
+    let memory = Mapped::new(source.regions);
+    let found = known_madt(&memory, source)?;
     let interrupt = isa_in(&found.madt, irq).ok_or(Refusal::NoSuchInterrupt)?;
     Ok(interrupt_record(interrupt))
 }
@@ -49,9 +48,8 @@ pub fn sci(source: &Source<'_>) -> Result<Interrupt, Refusal>
 pub fn pin(source: &Source<'_>, interrupt: u32) -> Result<IoApicPin, Refusal>
     ensures { result ≡ pin_below source.now interrupt }
 {
-    let memory = Mapped::new(source.regions)?;
-    let tables = open(&memory, source)?;
-    let found = known_madt(&tables)?;
+    let memory = Mapped::new(source.regions);
+    let found = known_madt(&memory, source)?;
     let io_apic = nearest(&found.madt, interrupt).ok_or(Refusal::NoSuchIoApic)?;
     Ok(IoApicPin {
         io_apic: io_apic_record(&io_apic),
