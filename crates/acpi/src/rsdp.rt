@@ -273,7 +273,7 @@ fn check_mapped<H: Lender>(handler: &H, rsdp: &PhysicalMapping<'_, H, Rsdp>) -> 
 /// 0 it goes on with `RsdpInvalidChecksum` if the length is under 36, `MapFailed` if that
 /// many bytes aren't lent, and `RsdpInvalidChecksum` if they do not sum to 0 modulo 256.
 #[tactic(auto, unfolding(crate::specs::Rsdp::rsdp_at))]
-pub(crate) fn map_rsdp<'h, H: Lender>(
+pub fn map_rsdp<'h, H: Lender>(
     handler: &'h H,
     address: u64,
 ) -> AcpiResult<PhysicalMapping<'h, H, Rsdp>>

@@ -1,75 +1,37 @@
 -- What isn't lent of the candidates of a search, one at a time.
 use Rattle.std.proofs.Common.{◌≡◌, ◌∙◌, ℕ, zero, suc, ◌+◌, ◌-◌, ◌*◌, ◌/◌, ◌<◌, ◌≤◌, ◌^◌, List, [], ◌∷◌, length, drop, Bool, true, false, Option, Some, None, Result, Ok, Err, arith, refl, sym, ap, if◌then◌else◌}
 use Rattle.std.specs.List.{cons_option}
-use Rattle.std.specs.Option.{is_some, ok_or, option_map, option_or}
+use Rattle.std.specs.Option.{is_some, option_map}
 use Rattle.std.specs.Result.{is_ok, result_ok}
-use Rattle.std.specs.Str.{bytes_eq}
 use Rattle.acpi_base.specs.Memory.{Memory}
-use Rattle.acpi_base.specs.Ranges.{Ranges}
 use Rattle.acpi_base.specs.Steps.{lent}
-use Rattle.acpi_base.specs.declared.error.AcpiError.TheVariants.{MapFailed, NoValidRsdp}
+use Rattle.acpi_base.specs.declared.error.AcpiError.TheVariants.{MapFailed}
 use Rattle.acpi_base.specs.declared.range.AddressRange.{AddressRange}
-use Rattle.acpi.specs.Areas.{count_in, ebda_area, end_of, first_in, found_in_areas, range}
+use Rattle.acpi.specs.Areas.{count_in, ebda_area, end_of, first_in, range}
 use Rattle.acpi.specs.Later.{or_later}
-use Rattle.acpi.specs.Opened.{Opened, opened_by_rsdp}
 use Rattle.acpi.specs.OpenedRanges.{length_ranges, rsdp_ranges}
-use Rattle.acpi.specs.Rsdp.{check_first, extended_length_of, checked_length, rsd_ptr, rsdp_at, rsdp_of}
+use Rattle.acpi.specs.Rsdp.{extended_length_of, rsdp_at, rsdp_of}
 use Rattle.acpi.specs.Search.{area, count_of, room_of, second_area, walk, word_in}
 use Rattle.acpi.specs.declared.rsdp.Rsdp.{Rsdp}
 use Rattle.acpi_c_lib.specs.Answers.{Writes, put_from}
 use Rattle.acpi_c_lib.specs.Below.{AcpiError, ebda_in}
-use Rattle.acpi_c_lib.specs.Missing.{areas_holes, candidate_hole, has_valid, hole, last_range, walk_holes}
+use Rattle.acpi_c_lib.specs.Missing.{areas_holes, candidate_hole, has_valid, last_range, walk_holes}
 use Rattle.acpi_c_lib.specs.declared.candidates.Areas.{Areas}
 use Rattle.acpi_c_lib.proofs.Written.{one_part, two_parts}
 use Rattle.acpi_c_lib.specs.declared.records.Range.{Range}
-use Rattle.acpi_c_lib.proofs.Unlent.{no_hole, rsdp_length, rsdp_not, sum_not}
+use Rattle.acpi_c_lib.proofs.Unlent.{rsdp_length, rsdp_not, sum_not}
 
 -- ---- one candidate
-
-pub head_refused : (m : Memory) (a : ℕ) (e : AcpiError) → lent m a 36 ≡ Err e → is_ok (rsdp_at m a) ≡ false
-unfolding rsdp_at
-head_refused m a e is = grind arith
-
-pub head_hole : (m : Memory) (a : ℕ) (e : AcpiError) → lent m a 36 ≡ Err e → candidate_hole m a ≡ None
-unfolding candidate_hole
-head_hole m a e is = rw is (no_hole (rsdp_at m a))
-
-pub unsigned_refused : (m : Memory) (a : ℕ) (b : List ℕ) → lent m a 36 ≡ Ok b → bytes_eq (rsdp_of b).signature rsd_ptr ≡ false → is_ok (rsdp_at m a) ≡ false
-unfolding rsdp_at checked_length check_first
-unsigned_refused m a b is other = grind arith
-
-pub unsigned_hole : (m : Memory) (a : ℕ) (b : List ℕ) → lent m a 36 ≡ Ok b → bytes_eq (rsdp_of b).signature rsd_ptr ≡ false → candidate_hole m a ≡ None
-unfolding candidate_hole rsdp_at checked_length check_first
-unsigned_hole m a b is other = grind arith
-
--- only if something isn't lent do the ranges count
-same_hole : (e : AcpiError) (xs ys : Ranges) → (e ≡ MapFailed → xs ≡ ys) → hole {A = Unit {0}} (Err e) xs ≡ hole {A = List ℕ} (Err e) ys
-same_hole MapFailed xs ys f = ap last_range (f refl)
-same_hole _ xs ys f = refl
 
 long_ranges : (m : Memory) (a : ℕ) (b : List ℕ) → lent m a 36 ≡ Ok b → rsdp_at m a ≡ Err MapFailed → drop 1 (rsdp_ranges m a) ≡ length_ranges a (extended_length_of (rsdp_of b))
 unfolding rsdp_at
 long_ranges m a b is refused = grind (arith, rsdp_not, rsdp_length, sum_not)
 
-pub ok_value : (r : Result (List ℕ) AcpiError) → is_ok r ≡ true → (b : List ℕ) × (r ≡ Ok b)
-ok_value (Ok b) e = (b, refl)
-ok_value (Err x) e = absurd cc
-
-abbrev refusal : AcpiError → Result Opened AcpiError
-refusal e = Err e
-
-pub whole_is : (m : Memory) (a : ℕ) (b : List ℕ) (r : Rsdp) (e : AcpiError) (o : Result (List ℕ) AcpiError) → lent m a 36 ≡ Ok b → r ≡ rsdp_of b → rsdp_at m a ≡ o → is_ok o ≡ false → opened_by_rsdp m a ≡ Err e
-    → hole {A = Unit {0}} (Err e) (length_ranges a (extended_length_of r)) ≡ candidate_hole m a
+pub length_said : (m : Memory) (a : ℕ) (b : List ℕ) (r : Rsdp) → lent m a 36 ≡ Ok b → r ≡ rsdp_of b → rsdp_at m a ≡ Err MapFailed
+    → last_range (length_ranges a (extended_length_of r)) ≡ candidate_hole m a
 unfolding candidate_hole
-whole_is m a b r e (Ok x) is read at_a refused opened = absurd cc
-whole_is m a b r e (Err x) is read at_a refused opened =
-    let same : refusal x ≡ refusal e = (rw at_a at opened) in
-    let same_error : x ≡ e = cc in
-    let ranges : e ≡ MapFailed → length_ranges a (extended_length_of r) ≡ drop 1 (rsdp_ranges m a) = (λ f. ap (λ q. length_ranges a (extended_length_of q)) read ∙ sym (long_ranges m a b is (at_a ∙ ap (λ y. Err y) (same_error ∙ f)))) in
-    rw (at_a, same_error) (same_hole e _ _ ranges)
-
-pub never_opened : (m : Memory) (a : ℕ) (x : Opened) → is_ok (rsdp_at m a) ≡ false → opened_by_rsdp m a ≡ Ok x → ⊥
-never_opened m a x refused opened = grind arith
+length_said m a b r is read refused =
+    ap (λ q. last_range (length_ranges a (extended_length_of q))) read ∙ sym (rw refused (ap last_range (long_ranges m a b is refused)))
 
 -- ---- areas that begin at a multiple of 16
 
@@ -81,25 +43,6 @@ end_is s h = grind (arith, h)
 
 pub count_is : (s : AddressRange) → s.address / 16 * 16 ≡ s.address → s.address + s.length ≤ 2 ^ 64 → count_in s ≡ (s.length - 4) / 16
 count_is s e h = rw (end_is s h, first_is s e) (omega arith)
-
-abbrev or_nothing : ℕ → Result (List ℕ) AcpiError → Option (ℕ × List ℕ)
-or_nothing a r = or_later (λ b. Some (a, b)) r None
-
-is_tried : (a : ℕ) (r : Result (List ℕ) AcpiError) → is_ok (ok_or (option_or (or_nothing a r) None) NoValidRsdp) ≡ is_ok r
-is_tried a (Ok b) = refl
-is_tried a (Err e) = refl
-
-one_tried : (m : Memory) (s : AddressRange) → s.address / 16 * 16 ≡ s.address → s.address + 20 < 2 ^ 64 → s.length ≡ 20 → is_ok (found_in_areas m (s ∷ [])) ≡ is_ok (rsdp_at m s.address)
-unfolding found_in_areas
-one_tried m s begins low long =
-    let one : count_in s ≡ 1 = count_is s begins (omega (arith, low, long)) ∙ omega (arith, long) in
-    rw (one, first_is s begins) (is_tried s.address (rsdp_at m s.address))
-
-pub one_valid : (m : Memory) (a : ℕ) (x : ℕ × List ℕ) → a / 16 * 16 ≡ a → a + 20 < 2 ^ 64 → found_in_areas m (range a 20 ∷ []) ≡ Ok x → true ≡ is_ok (rsdp_at m a)
-one_valid m a x begins low e = sym (ap is_ok e) ∙ one_tried m (range a 20) begins low refl
-
-pub one_refused : (m : Memory) (a : ℕ) (x : AcpiError) → a / 16 * 16 ≡ a → a + 20 < 2 ^ 64 → found_in_areas m (range a 20 ∷ []) ≡ Err x → is_ok (rsdp_at m a) ≡ false
-one_refused m a x begins low e = sym (one_tried m (range a 20) begins low refl) ∙ ap is_ok e
 
 -- ---- so many candidates
 
@@ -178,14 +121,14 @@ pub bios_fits : IsLow (range 0xe0000 0x20000)
 bios_fits = (refl, omega arith)
 
 abbrev pub SecondFits : ℕ → Type 0
-SecondFits word = let s = second_area word in (s.start / 16 * 16 ≡ s.start) × (s.start + 16 * ((room_of s - 20) / 16) ≤ 2 ^ 20) × (count_of s ≡ (room_of s - 20) / 16) × (20 ≤ room_of s) × (room_of s < 2 ^ 32)
+SecondFits word = let s = second_area word in (s.start + 16 * ((room_of s - 20) / 16) ≤ 2 ^ 20) × (count_of s ≡ (room_of s - 20) / 16) × (20 ≤ room_of s) × (room_of s < 2 ^ 32)
 
-by_start : (a : ℕ) (b : Bool) → a / 16 * 16 ≡ a → (b ≡ true → a < 0x9ffff) → let s = (if b then area a (a + 1024) else area 0x80000 0xa0000) in
-    (s.start / 16 * 16 ≡ s.start) × (s.start + 16 * ((room_of s - 20) / 16) ≤ 2 ^ 20) × (count_of s ≡ (room_of s - 20) / 16) × (20 ≤ room_of s) × (room_of s < 2 ^ 32)
-by_start a true begins low =
+by_start : (a : ℕ) (b : Bool) → (b ≡ true → a < 0x9ffff) → let s = (if b then area a (a + 1024) else area 0x80000 0xa0000) in
+    (s.start + 16 * ((room_of s - 20) / 16) ≤ 2 ^ 20) × (count_of s ≡ (room_of s - 20) / 16) × (20 ≤ room_of s) × (room_of s < 2 ^ 32)
+by_start a true low =
     let under = low refl in
-    (begins, omega (arith, under), omega arith, omega arith, omega arith)
-by_start a false begins low = (refl, omega arith, refl, omega arith, omega arith)
+    (omega (arith, under), omega arith, omega arith, omega arith)
+by_start a false low = (omega arith, refl, omega arith, omega arith)
 
 pub second_fits : (word : ℕ) → SecondFits word
-second_fits word = by_start (16 * word) _ (omega arith) (λ e. grind (arith, e))
+second_fits word = by_start (16 * word) _ (λ e. grind (arith, e))

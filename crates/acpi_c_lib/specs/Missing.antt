@@ -1,5 +1,5 @@
 -- The ranges of memory that a caller has to map before the calls can read all tables.
-use Rattle.std.specs.Prelude.{◌≡◌, ℕ, zero, suc, ◌+◌, ◌*◌, ◌/◌, ◌^◌, ◌≤◌, ◌==◌, List, [], ◌∷◌, ◌++◌, drop, filter_map, Bool, Option, Some, None, Result, Ok, Err, if◌then◌else◌}
+use Rattle.std.specs.Prelude.{◌≡◌, ℕ, zero, suc, ◌+◌, ◌*◌, ◌^◌, ◌≤◌, ◌==◌, List, [], ◌∷◌, ◌++◌, drop, filter_map, Bool, Option, Some, None, Result, Ok, Err, if◌then◌else◌}
 use Rattle.std.specs.List.{cons_option, last_or}
 use Rattle.std.specs.Option.{is_some, option_map}
 use Rattle.std.specs.Result.{is_ok}
@@ -105,9 +105,9 @@ areas_of m s =
     else if s.start == 4 then stretches (bios_areas (ebda_in m))
     else no_areas
 
--- they begin at a multiple of 16, in the first MiB
+-- they lie in the first MiB
 abbrev pub Fits : Candidates → Type 0
-Fits c = (c.first / 16 * 16 ≡ c.first) × (c.first + 16 * c.count ≤ 2 ^ 20)
+Fits c = c.first + 16 * c.count ≤ 2 ^ 20
 
 -- those of the first area, and if none is valid there those of the second
 abbrev pub areas_holes : Memory → Areas → List Range

@@ -1,20 +1,19 @@
 //! What isn't lent of the RSDPs that a search comes to (section 5.2.5.1): each is tried as the search tries it.
-ghost use Rattle.std.specs.Prelude.{◌≡◌, ◌+◌, ◌*◌, ◌/◌, ◌<◌, ◌≤◌, ◌^◌, length, false, true, Ok, Err, IfErr};
+ghost use Rattle.std.specs.Prelude.{◌≡◌, ◌+◌, ◌*◌, ◌/◌, ◌<◌, ◌≤◌, ◌^◌, length, Err, IfErr};
 ghost use Rattle.std.specs.Result.{is_ok};
-ghost use Rattle.std.specs.Str.{bytes_eq};
-ghost use Rattle.acpi_base.specs.Steps.{lent};
+ghost use Rattle.acpi_base.specs.declared.error.AcpiError.TheVariants.{MapFailed};
 ghost use Rattle.acpi.specs.OpenedRanges.{length_ranges};
-ghost use Rattle.acpi.specs.Rsdp.{rsd_ptr, rsdp_at, rsdp_of};
+ghost use Rattle.acpi.specs.Rsdp.{rsdp_at};
 ghost use Rattle.acpi.specs.Search.{word_in};
 ghost use Rattle.acpi_c_lib.specs.Answers.{Writes, put_from};
 ghost use Rattle.acpi_c_lib.specs.Missing as missing;
-ghost use Rattle.acpi_c_lib.specs.Missing.{Fits, areas_of, candidate_hole, has_valid, hole, pieces, stretch, walk_holes};
+ghost use Rattle.acpi_c_lib.specs.Missing.{Fits, areas_of, candidate_hole, has_valid, last_range, pieces, stretch, walk_holes};
 
 use crate::missing::{is_lent, put_pair, range, second_hole};
 use crate::opening::{ebda, ebda_segment};
 use crate::records::{Range, Source};
-use acpi::rsdp::{Rsdp, bios_areas};
-use acpi::{AcpiError, AcpiHandler, AcpiTables, AddressRange, PhysicalMapping};
+use acpi::rsdp::{Rsdp, bios_areas, map_rsdp};
+use acpi::{AcpiError, AcpiHandler, AddressRange, PhysicalMapping};
 
 /// Candidates of a search: the address of the first, and how many there are, 16 bytes apart.
 #[derive(Clone, Copy)]
@@ -156,57 +155,36 @@ fn walk<H: AcpiHandler>(
 
 /// Tries a candidate: whether it is valid, or else as many bytes of it as its Length says, if its 36 bytes are lent and
 /// these aren't.
-#[tactic(auto, using(crate::proofs::Tried::head_hole, crate::proofs::Tried::head_refused, crate::proofs::Tried::one_refused, crate::proofs::Tried::one_valid, crate::proofs::Tried::unsigned_hole, crate::proofs::Tried::unsigned_refused))]
+#[tactic(auto, unfolding(crate::specs::Missing::candidate_hole))]
 fn tried<H: AcpiHandler>(handler: &H, address: u64) -> Result<(), Option<Range>>
-    requires begins { address / 16 * 16 ≡ address }
-    requires low { address + 20 < 2 ^ 64 }
     ensures valid { is_ok result ≡ is_ok (rsdp_at (H.memory handler.now) address) }
     ensures hole { IfErr result (λ o. o ≡ candidate_hole (H.memory handler.now) address) }
 {
-    let Ok(rsdp) = PhysicalMapping::<'_, H, Rsdp>::map(handler, address, 36) else {
-        return Err(None);
-    };
-    // Nearly all lack the signature.
-    if !is_signed(&rsdp) {
-        return Err(None);
-    }
-    let area = AddressRange {
-        address,
-        length: 20,
-    };
-    match Rsdp::search_in(handler, &[area]) {
-        Ok(_found) => Ok(()),
-        Err(_) => Err(whole_hole(handler, address, &rsdp)),
+    match map_rsdp(handler, address) {
+        Ok(_rsdp) => Ok(()),
+        Err(AcpiError::MapFailed) => Err(length_hole(handler, address)),
+        Err(_) => Err(None),
     }
 }
 
-/// Of an RSDP that isn't valid, as many bytes as its Length says, if they are asked for and aren't lent.
-#[tactic(auto, using(crate::proofs::Tried::never_opened))]
-fn whole_hole<H: AcpiHandler>(handler: &H, address: u64, rsdp: &Rsdp) -> Option<Range>
-    requires lent { is_ok (lent (H.memory handler.now) address 36) ≡ true }
-    requires read { (b : _) → lent (H.memory handler.now) address 36 ≡ Ok b → rsdp.now ≡ rsdp_of b }
-    requires refused { is_ok (rsdp_at (H.memory handler.now) address) ≡ false }
+/// Of an RSDP that isn't lent, as many bytes as its Length says, if its 36 bytes are lent.
+#[tactic(auto, unfolding(crate::specs::Missing::candidate_hole))]
+fn length_hole<H: AcpiHandler>(handler: &H, address: u64) -> Option<Range>
+    requires { rsdp_at (H.memory handler.now) address ≡ Err MapFailed }
     ensures { result ≡ candidate_hole (H.memory handler.now) address }
 {
-    match AcpiTables::from_rsdp(handler, address) {
-        Err(error) => hole_by(error, address, rsdp.length()),
-        Ok(_tables) => None,
-    }
+    let Ok(rsdp) = PhysicalMapping::<'_, H, Rsdp>::map(handler, address, 36) else {
+        return None;
+    };
+    whole(address, rsdp.length())
 }
 
-/// That many bytes from an address, if they are asked for, and the error is that they aren't lent.
-fn hole_by(error: AcpiError, address: u64, length: Option<u32>) -> Option<Range>
-    ensures { result ≡ hole {A = Unit {0}} (Err error) (length_ranges address length) }
+/// As many bytes from an address as a length says, if there is one.
+fn whole(address: u64, length: Option<u32>) -> Option<Range>
+    ensures { result ≡ last_range (length_ranges address length) }
 {
-    match (error, length) {
-        (AcpiError::MapFailed, Some(length)) => Some(range(address, length)),
+    match length {
+        Some(length) => Some(range(address, length)),
         _ => None,
     }
-}
-
-/// Whether the signature of an RSDP is right.
-fn is_signed(rsdp: &Rsdp) -> bool
-    ensures { result ≡ bytes_eq rsdp.now.signature rsd_ptr }
-{
-    rsdp.signature() == *b"RSD PTR "
 }

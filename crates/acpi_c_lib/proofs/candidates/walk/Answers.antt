@@ -8,7 +8,6 @@ loop-left-preserved g c =
       rw (c.put_pair-next.ensures.items, c.put_pair-next.ensures.count) (walked_more _ _ _ _ _ o _ _ _ c.loop-left-test.true (sym c.in-Err.ensures.valid) c.in-Err.ensures.hole c.loop-left.invariant.0),
       omega (arith, c.put_pair-next.ensures.count, few_holes o),
       omega arith,
-      omega arith,
     )
 
 pub returns-in-Ok-clause-written : goal.returns-in-Ok-clause-written

@@ -1,4 +1,4 @@
-use Rattle.std.proofs.Common.{◌≡◌, ◌+◌, ◌*◌, ◌/◌, ◌^◌, ◌≤◌, length}
+use Rattle.std.proofs.Common.{◌+◌, ◌*◌, ◌^◌, ◌≤◌, length}
 use Rattle.acpi_c_lib.specs.Answers.{put_from}
 use Rattle.acpi_c_lib.specs.Missing.{has_valid, walk_holes}
 use Rattle.acpi_c_lib.proofs.Tried.{Walked}
@@ -11,7 +11,6 @@ invariant-loop-left g l =
     let all = walk_holes m l.fn.candidates.count l.fn.candidates.first in
     Walked m l.left l.address l.out l.next (put_from l.initial.out l.from all) (l.from + length all) (has_valid m l.fn.candidates.count l.fn.candidates.first)
     × (l.next + l.left ≤ l.from + l.fn.candidates.count)
-    × (l.address / 16 * 16 ≡ l.address)
     × (l.address + 16 * l.left ≤ 2 ^ 20)
 
 abbrev pub decreases-loop-left : goal.decreases-loop-left
