@@ -241,17 +241,17 @@ fn is_of_kind(kinds: &[u8], kind: Option<u64>) -> bool {
 pub(crate) fn field_of(text: &'static [u8], rest: &'static [u8]) -> (Meaning, &'static str) {
     let (word, rest) = next_word(rest);
     let (name, items) = cut_at(rest, b'|');
-    let meaning = match word {
-        b"dec" => Meaning::Decimal,
-        b"text" => Meaning::Text,
-        b"wide" => Meaning::Wide,
-        b"row" => Meaning::Row,
-        b"guid" => Meaning::Guid,
-        b"fn" => Meaning::Function,
-        b"path" => Meaning::Path,
-        b"gas" => Meaning::Register,
-        b"codes" => Meaning::Codes(items_of(text, items)),
-        b"flags" => Meaning::Flags(items_of(text, items)),
+    let meaning = match text_of(word) {
+        "dec" => Meaning::Decimal,
+        "text" => Meaning::Text,
+        "wide" => Meaning::Wide,
+        "row" => Meaning::Row,
+        "guid" => Meaning::Guid,
+        "fn" => Meaning::Function,
+        "path" => Meaning::Path,
+        "gas" => Meaning::Register,
+        "codes" => Meaning::Codes(items_of(text, items)),
+        "flags" => Meaning::Flags(items_of(text, items)),
         _ => Meaning::Plain,
     };
     (meaning, text_of(before_blanks(after_blanks(name))))

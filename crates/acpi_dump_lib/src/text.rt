@@ -61,32 +61,37 @@ fn print_group<W: Write>(group: &Group, depth: usize, out: &mut Out<W>) {
     writeln!(out, ": {name}")
 }
 
+/// The words that say a fault, and its number if they have one: `@` stands for the offset, `#` for the number in
+/// hexadecimal digits, and `%` for it in decimal ones.
+fn words_of(fault: Fault) -> (&'static str, u64) {
+    match fault {
+        Fault::Length(length) => ("entry at @ has length %", length),
+        Fault::Past(length) => ("entry at @ has length %, more than is left", length),
+        Fault::Cut => ("too few bytes for an entry at @", 0),
+        Fault::Unknown(kind) => ("entry at @ has type #, whose length is unknown", kind),
+        Fault::Missing(count) => ("entries missing at @: %", count),
+        Fault::Before(start) => (
+            "offset # in the structure at @ is before the end of other fields",
+            start,
+        ),
+        Fault::Outside(start) => ("offset # in the structure at @ is past its end", start),
+        Fault::Beyond(end) => (
+            "offset #, the end of a part of the structure at @, is past its end",
+            end,
+        ),
+        Fault::Deep => ("the structure at @ lies too deep in others", 0),
+    }
+}
+
 /// Prints why a rest from an offset of the table on isn't shown by the layout.
 pub(crate) fn print_fault<W: Write>(offset: u64, fault: Fault, out: &mut Out<W>) {
-    match fault {
-        Fault::Length(length) => write!(out, "entry at 0x{offset:x} has length {length}"),
-        Fault::Past(length) => write!(
-            out,
-            "entry at 0x{offset:x} has length {length}, more than is left"
-        ),
-        Fault::Cut => write!(out, "too few bytes for an entry at 0x{offset:x}"),
-        Fault::Unknown(kind) => write!(
-            out,
-            "entry at 0x{offset:x} has type 0x{kind:x}, whose length is unknown"
-        ),
-        Fault::Missing(count) => write!(out, "entries missing at 0x{offset:x}: {count}"),
-        Fault::Before(start) => write!(
-            out,
-            "offset 0x{start:x} in the structure at 0x{offset:x} is before the end of other fields"
-        ),
-        Fault::Outside(start) => write!(
-            out,
-            "offset 0x{start:x} in the structure at 0x{offset:x} is past its end"
-        ),
-        Fault::Beyond(end) => write!(
-            out,
-            "offset 0x{end:x}, the end of a part of the structure at 0x{offset:x}, is past its end"
-        ),
-        Fault::Deep => write!(out, "the structure at 0x{offset:x} lies too deep in others"),
+    let (words, number) = words_of(fault);
+    for letter in words.as_bytes() {
+        match *letter {
+            b'@' => write!(out, "0x{offset:x}"),
+            b'#' => write!(out, "0x{number:x}"),
+            b'%' => write!(out, "{number}"),
+            letter => out.bytes(&[letter]),
+        }
     }
 }

@@ -5,7 +5,9 @@ mod parts;
 
 ghost use Rattle.std.specs.Prelude.{◌<◌, length};
 
-use crate::language::{Meaning, cut_at, is_number, lines_of, next_word, number_of, sum_of};
+use crate::language::{
+    Meaning, cut_at, is_number, lines_of, next_word, number_of, sum_of, text_of,
+};
 use crate::layouts::{header, layout_of};
 use acpi::sdt::Signature;
 use entry::{Entry, next_entry};
@@ -133,11 +135,11 @@ fn walk_lines<S: Show>(
         let (line, others) = cut_at(left, b'\n');
         left = others;
         let (word, rest) = next_word(line);
-        shown = match word {
-            b"" => shown,
-            b"if" => walk_lines(piece, chosen_lines(piece, rest), shown, depth - 1, show),
-            b"with" => walk_lines(piece, lines_of(piece.text, rest), shown, depth - 1, show),
-            b"then" => {
+        shown = match text_of(word) {
+            "" => shown,
+            "if" => walk_lines(piece, chosen_lines(piece, rest), shown, depth - 1, show),
+            "with" => walk_lines(piece, lines_of(piece.text, rest), shown, depth - 1, show),
+            "then" => {
                 let inner = walk_lines(
                     rest_of(piece, shown),
                     lines_of(piece.text, rest),

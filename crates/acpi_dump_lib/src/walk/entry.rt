@@ -22,8 +22,8 @@ pub(super) fn next_entry(
 ) -> Result<Entry, Fault> {
     let (word, how) = next_word(how);
     let (first, how) = next_word(how);
-    match word {
-        b"each" => {
+    match text_of(word) {
+        "each" => {
             let length = if matches!(first, b"z") {
                 after_zero(rest, 0)
             } else {
@@ -35,8 +35,8 @@ pub(super) fn next_entry(
                 how,
             )
         }
-        b"own" => plain_entry(piece.text, own_length(rest, first, 1)?, how),
-        b"typed" => {
+        "own" => plain_entry(piece.text, own_length(rest, first, 1)?, how),
+        "typed" => {
             let kind = sum_of(first, rest);
             let (size, how) = next_word(how);
             let length = own_length(rest, size, kind.end)?;
