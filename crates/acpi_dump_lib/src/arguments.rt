@@ -4,8 +4,8 @@ use crate::input::kind::{Kind, parse_kind};
 use acpi::sdt::Signature;
 use acpi_cli::parse_address;
 use acpi_cli::root::{Root, parse_root};
-use clap::{Arg, ArgAction, ArgMatches, Command};
-use std::alloc::{AllocError, AllocFailed, Global};
+use clap::ArgMatches;
+use std::alloc::Global;
 
 /// The form in which the tables of a signature are shown.
 #[derive(Clone, Copy)]
@@ -25,12 +25,12 @@ pub(crate) struct Choice {
 }
 
 /// The part of an input that is shown.
-#[derive(Drop)]
+#[derive(Clone, Copy)]
 pub(crate) enum View {
     /// A line for each table.
     Lines,
-    /// The contents of some tables, in this order.
-    Tables(Vec<Choice>),
+    /// The contents of the tables that are chosen.
+    Tables,
     /// The RSDPs that there are.
     Candidates,
     /// The machine in short.
@@ -59,6 +59,8 @@ pub(crate) struct Asked<'w> {
     /// The way to the root table, if it is said.
     pub(crate) start: Option<Root>,
     pub(crate) view: View,
+    /// The tables whose contents are shown, in this order.
+    pub(crate) choices: Vec<Choice>,
     pub(crate) is_json: bool,
     pub(crate) is_strict: bool,
     pub(crate) color: Color,
@@ -73,7 +75,7 @@ pub(crate) struct WrongWord<'w> {
 }
 
 /// Why arguments ask for nothing.
-#[derive(Drop)]
+#[derive(Clone, Copy)]
 pub(crate) enum Mistake<'w> {
     /// A word is wrong.
     Word(WrongWord<'w>),
@@ -81,122 +83,44 @@ pub(crate) enum Mistake<'w> {
     OutOfMemory,
 }
 
-impl From<AllocError> for Mistake<'_> {
-    fn from(_refused: AllocError) -> Self {
-        Mistake::OutOfMemory
+/// The first mistake of those that the arguments have.
+#[derive(Clone, Copy)]
+struct Mistakes<'w> {
+    first: Option<Mistake<'w>>,
+}
+
+impl<'w> Mistakes<'w> {
+    /// Keeps a mistake, unless one was made before.
+    fn add(&mut self, mistake: Mistake<'w>) {
+        if self.first.is_none() {
+            self.first = Some(mistake);
+        }
     }
-}
 
-impl<T: Drop> From<AllocFailed<T>> for Mistake<'_> {
-    fn from(_refused: AllocFailed<T>) -> Self {
-        Mistake::OutOfMemory
+    /// Keeps that a word is wrong.
+    fn add_word(&mut self, option: &'static str, word: &'w str, usage: &'static str) {
+        self.add(Mistake::Word(WrongWord {
+            option,
+            word,
+            usage,
+        }));
     }
-}
 
-/// An option with a value.
-fn valued<'a>(
-    alloc: Global,
-    name: &'static str,
-    value: &'static str,
-    help: &'static str,
-) -> Arg<'a> {
-    Arg::new(alloc, name)
-        .long(name)
-        .value_name(value)
-        .help(help)
-        .action(ArgAction::Set)
-}
-
-/// An option with a value that may come several times, or with several values between commas.
-fn repeated<'a>(
-    alloc: Global,
-    name: &'static str,
-    value: &'static str,
-    help: &'static str,
-) -> Arg<'a> {
-    Arg::new(alloc, name)
-        .long(name)
-        .value_name(value)
-        .help(help)
-        .action(ArgAction::Append)
-        .value_delimiter(',')
-}
-
-/// An option without a value.
-fn flag<'a>(alloc: Global, name: &'static str, help: &'static str) -> Arg<'a> {
-    Arg::new(alloc, name)
-        .long(name)
-        .help(help)
-        .action(ArgAction::SetTrue)
-}
-
-/// The input words.
-fn inputs<'a>(alloc: Global) -> Arg<'a> {
-    Arg::new(alloc, "input")
-        .value_name("INPUT")
-        .help(
-            "Files of tables, a folder of them, acpidump's text, an image of acpi_pack, raw memory, or - for \
-             standard input; without one the machine's own tables",
-        )
-        .action(ArgAction::Append)
-}
-
-const AFTER: &str = "An image may also be followed by rsdt REVISION ADDRESS, rsdp ADDRESS or bios.
-ADDRESS is 0x and one to sixteen hexadecimal digits.
-Status: 0 shown, 1 something isn't there or can't be read or written, 2 usage, 3 shown but a table is invalid
-(--strict).";
-
-/// What the options are.
-pub(crate) fn command<'a>(alloc: Global) -> Result<Command<'a>, AllocError> {
-    let command = Command::new(alloc, "acpi_dump")
-        .version("5.2.0")
-        .about("Shows ACPI tables")
-        .after_help(AFTER)
-        .no_binary_name(true)
-        .arg(inputs(alloc))?
-        .arg(valued(
-            alloc,
-            "as",
-            "KIND",
-            "What the input is: image, memory, text or table",
-        ))?
-        .arg(valued(
-            alloc,
-            "at",
-            "ADDRESS",
-            "The address of raw memory's first byte",
-        ))?
-        .arg(valued(
-            alloc,
-            "start",
-            "START",
-            "The way to the root table: rsdt:REVISION:ADDRESS, rsdp:ADDRESS or bios",
-        ))?;
-    shown_options(alloc, command)
-}
-
-/// A command with the options that say what is shown.
-fn shown_options<'a>(alloc: Global, command: Command<'a>) -> Result<Command<'a>, AllocError> {
-    let command = command
-        .arg(repeated(
-            alloc,
-            "table",
-            "SIG",
-            "The fields of the tables of a signature, or of all",
-        ))?
-        .arg(repeated(
-            alloc,
-            "hex",
-            "SIG",
-            "The bytes of the tables of a signature, or of all",
-        ))?
-        .arg(flag(alloc, "summary", "The machine in short"))?
-        .arg(flag(alloc, "find", "Every RSDP in memory, valid or not"))?
-        .arg(flag(alloc, "compare", "What differs between two inputs"))?;
-    command
-        .arg(flag(alloc, "json", "One JSON document of what is shown"))?
-        .arg(flag(alloc, "strict", "Status 3 if a table is invalid"))?
-        .arg(valued(alloc, "color", "WHEN", "auto, always or never"))
+    /// Keeps that the word of an option is wrong, if it is there and has no value. It answers the value.
+    fn checked<T: Copy>(
+        &mut self,
+        option: &'static str,
+        word: Option<&'w str>,
+        value: Option<T>,
+        usage: &'static str,
+    ) -> Option<T> {
+        if let Some(word) = word
+            && value.is_none()
+        {
+            self.add_word(option, word, usage);
+        }
+        value
+    }
 }
 
 /// A signature in either case: four bytes, in upper case if no table has lower-case letters.
@@ -210,49 +134,32 @@ fn parse_signature(word: &str) -> Option<Option<Signature>> {
     }
 }
 
-/// The choices that the values of an option make, added to others.
+/// Adds the choices that the values of an option make to others.
 fn push_choices<'w>(
     choices: &mut Vec<Choice>,
     matches: &ArgMatches<'w>,
     option: &'static str,
     contents: Contents,
-) -> Result<(), Mistake<'w>> {
+    mistakes: &mut Mistakes<'w>,
+) {
     let Some(words) = matches.get_strs(option) else {
-        return Ok(());
+        return;
     };
     for word in words {
-        let Some(signature) = parse_signature(*word) else {
-            return Err(Mistake::Word(WrongWord {
-                option,
-                word: *word,
-                usage: "SIG, four letters of either case, or all",
-            }));
-        };
-        choices.push(Choice {
-            signature,
-            contents,
-        })?;
-    }
-    Ok(())
-}
-
-/// The value that the word of an option has, if the option is there.
-///
-/// Fails with the word if it has none.
-fn checked<'w, T: Drop>(
-    option: &'static str,
-    word: Option<&'w str>,
-    value: Option<T>,
-    usage: &'static str,
-) -> Result<Option<T>, Mistake<'w>> {
-    match (word, value) {
-        (None, _) => Ok(None),
-        (Some(_), Some(value)) => Ok(Some(value)),
-        (Some(word), None) => Err(Mistake::Word(WrongWord {
-            option,
-            word,
-            usage,
-        })),
+        match parse_signature(*word) {
+            Some(signature) => {
+                let choice = Choice {
+                    signature,
+                    contents,
+                };
+                if choices.push(choice).is_err() {
+                    mistakes.add(Mistake::OutOfMemory);
+                }
+            }
+            None => {
+                mistakes.add_word(option, *word, "SIG, four letters of either case, or all");
+            }
+        }
     }
 }
 
@@ -278,57 +185,59 @@ fn parse_color(word: &str) -> Option<Color> {
 }
 
 /// The view that the options ask for, of which at most one kind may be there.
-fn view_of<'w>(alloc: Global, matches: &ArgMatches<'w>) -> Result<View, Mistake<'w>> {
-    let mut choices = Vec::new(alloc);
-    push_choices(&mut choices, matches, "table", Contents::Fields)?;
-    push_choices(&mut choices, matches, "hex", Contents::Bytes)?;
+fn view_of<'w>(matches: &ArgMatches<'w>, has_choices: bool, mistakes: &mut Mistakes<'w>) -> View {
     let views = [
         matches.get_flag("summary"),
         matches.get_flag("find"),
         matches.get_flag("compare"),
-        !choices.is_empty(),
+        has_choices,
     ];
     match views {
-        [true, false, false, false] => Ok(View::Summary),
-        [false, true, false, false] => Ok(View::Candidates),
-        [false, false, true, false] => Ok(View::Differences),
-        [false, false, false, true] => Ok(View::Tables(choices)),
-        [false, false, false, false] => Ok(View::Lines),
-        _ => Err(Mistake::Word(WrongWord {
-            option: "",
-            word: "two views",
-            usage: "[--table SIG].. [--hex SIG].. | --summary | --find | --compare",
-        })),
+        [true, false, false, false] => View::Summary,
+        [false, true, false, false] => View::Candidates,
+        [false, false, true, false] => View::Differences,
+        [false, false, false, true] => View::Tables,
+        [false, false, false, false] => View::Lines,
+        _ => {
+            mistakes.add_word(
+                "",
+                "two views",
+                "[--table SIG].. [--hex SIG].. | --summary | --find | --compare",
+            );
+            View::Lines
+        }
     }
 }
 
-/// The words that name inputs.
-fn input_words<'w>(alloc: Global, matches: &ArgMatches<'w>) -> Result<Vec<&'w str>, AllocError> {
-    let mut words = Vec::new(alloc);
+/// Adds the words that name inputs.
+fn push_inputs<'w>(
+    inputs: &mut Vec<&'w str>,
+    matches: &ArgMatches<'w>,
+    mistakes: &mut Mistakes<'w>,
+) {
     if let Some(given) = matches.get_strs("input") {
         for word in given {
-            words.push(*word)?;
+            if inputs.push(*word).is_err() {
+                mistakes.add(Mistake::OutOfMemory);
+            }
         }
     }
-    Ok(words)
 }
 
 /// The way to the root table that words after an image say, in place of more inputs.
-fn root_after<'w>(words: &[&'w str]) -> Result<Option<Root>, Mistake<'w>> {
+fn root_after<'w>(words: &[&'w str], mistakes: &mut Mistakes<'w>) -> Option<Root> {
     let [_, form, ..] = words else {
-        return Ok(None);
+        return None;
     };
     if !matches!(*form, "rsdt" | "rsdp" | "bios") {
-        return Ok(None);
+        return None;
     }
-    match parse_root(words.get(1..).unwrap_or(&[])) {
-        Some(root) => Ok(Some(root)),
-        None => Err(Mistake::Word(WrongWord {
-            option: "",
-            word: *form,
-            usage: "IMAGE rsdt REVISION ADDRESS | rsdp ADDRESS | bios",
-        })),
-    }
+    mistakes.checked(
+        "",
+        Some(*form),
+        parse_root(words.get(1..).unwrap_or(&[])),
+        "IMAGE rsdt REVISION ADDRESS | rsdp ADDRESS | bios",
+    )
 }
 
 const AT: &str = "ADDRESS, which is 0x and one to sixteen hexadecimal digits";
@@ -345,43 +254,60 @@ struct Said {
 }
 
 /// What the options with a word say.
-fn said_by<'w>(matches: &ArgMatches<'w>) -> Result<Said, Mistake<'w>> {
+fn said_by<'w>(matches: &ArgMatches<'w>, mistakes: &mut Mistakes<'w>) -> Said {
     let (kind, at) = (matches.get_str("as"), matches.get_str("at"));
     let (start, color) = (matches.get_str("start"), matches.get_str("color"));
-    Ok(Said {
-        kind: checked(
+    Said {
+        kind: mistakes.checked(
             "as",
             kind,
             kind.and_then(parse_kind),
             "image | memory | text | table",
-        )?,
-        at: checked("at", at, at.and_then(parse_address), AT)?,
-        start: checked("start", start, start.and_then(parse_start), START)?,
-        color: checked(
+        ),
+        at: mistakes.checked("at", at, at.and_then(parse_address), AT),
+        start: mistakes.checked("start", start, start.and_then(parse_start), START),
+        color: mistakes.checked(
             "color",
             color,
             color.and_then(parse_color),
             "auto | always | never",
-        )?,
-    })
+        ),
+    }
 }
 
 /// The request that matches make.
+///
+/// Fails with the first mistake, in this order: the words of options, memory for the inputs, the choices, the views,
+/// and the way to the root table.
 pub(crate) fn asked_by<'w>(
     alloc: Global,
     matches: &ArgMatches<'w>,
 ) -> Result<Asked<'w>, Mistake<'w>> {
+    let mut mistakes = Mistakes { first: None };
     let Said {
         kind,
         at,
         start,
         color,
-    } = said_by(matches)?;
-    let mut inputs = input_words(alloc, matches)?;
-    let view = view_of(alloc, matches)?;
-    let root = root_after(&inputs)?;
+    } = said_by(matches, &mut mistakes);
+    let mut inputs = Vec::new(alloc);
+    push_inputs(&mut inputs, matches, &mut mistakes);
+    let mut choices = Vec::new(alloc);
+    push_choices(
+        &mut choices,
+        matches,
+        "table",
+        Contents::Fields,
+        &mut mistakes,
+    );
+    push_choices(&mut choices, matches, "hex", Contents::Bytes, &mut mistakes);
+    let view = view_of(matches, !choices.is_empty(), &mut mistakes);
+    let root = root_after(&inputs, &mut mistakes);
     if root.is_some() {
         inputs.truncate(1);
+    }
+    if let Some(mistake) = mistakes.first {
+        return Err(mistake);
     }
     let is_image = root.is_some() && kind.is_none() && at.is_none();
     Ok(Asked {
@@ -390,6 +316,7 @@ pub(crate) fn asked_by<'w>(
         at,
         start: root.or(start),
         view,
+        choices,
         is_json: matches.get_flag("json"),
         is_strict: matches.get_flag("strict"),
         color: color.unwrap_or(Color::Auto),

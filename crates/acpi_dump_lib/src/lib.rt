@@ -18,6 +18,7 @@ mod json;
 mod language;
 mod layouts;
 mod listing;
+mod options;
 mod out;
 mod paint;
 pub mod run;

@@ -1,13 +1,15 @@
 //! The program over any files and any writers.
 
-use crate::arguments::{Asked, Color, Mistake, View, WrongWord, asked_by, command};
+use crate::arguments::{Asked, Color, Mistake, View, WrongWord, asked_by};
 use crate::errors::tell_word;
 use crate::input::gather::{Input, gather};
 use crate::input::read::Reading;
+use crate::options::command;
 use crate::out::Out;
 use crate::paint::Paint;
 use crate::sources::Sources;
 use crate::views::{Output, print_compared, print_input};
+use clap::ArgMatches;
 use std::alloc::{AllocError, Global};
 use std::io;
 use std::io::{BufWriter, Write};
@@ -47,17 +49,28 @@ fn print_asked<S: Sources, W: Write, E: Write>(
     out: &mut Out<W>,
     err: &mut Out<E>,
 ) -> Result<u8, AllocError> {
-    let command = command(alloc)?;
-    match &command.try_get_matches_from(arguments) {
-        Ok(matches) => match &asked_by(alloc, matches) {
-            Ok(asked) => print_inputs(alloc, asked, sources, out, err),
-            Err(Mistake::Word(wrong)) => {
-                tell_word(err, *wrong);
-                Ok(2)
-            }
-            Err(Mistake::OutOfMemory) => Err(AllocError),
-        },
+    let parsed = command(alloc)?.try_get_matches_from(arguments);
+    match &parsed {
+        Ok(matches) => print_matched(alloc, matches, sources, out, err),
         Err(refusal) => print_refusal(alloc, refusal, out, err),
+    }
+}
+
+/// Prints what the matches of arguments ask for.
+fn print_matched<S: Sources, W: Write, E: Write>(
+    alloc: Global,
+    matches: &ArgMatches<'_>,
+    sources: &mut S,
+    out: &mut Out<W>,
+    err: &mut Out<E>,
+) -> Result<u8, AllocError> {
+    match &asked_by(alloc, matches) {
+        Ok(asked) => print_inputs(alloc, asked, sources, out, err),
+        Err(Mistake::Word(wrong)) => {
+            tell_word(err, *wrong);
+            Ok(2)
+        }
+        Err(Mistake::OutOfMemory) => Err(AllocError),
     }
 }
 

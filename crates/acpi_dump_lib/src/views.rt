@@ -219,8 +219,9 @@ fn print_entries<W: Write, E: Write>(
     err: &mut Out<E>,
 ) -> Result<u8, AllocError> {
     let alloc = output.alloc;
-    match &output.asked.view {
-        View::Tables(choices) => {
+    let choices = output.asked.choices.as_slice();
+    match output.asked.view {
+        View::Tables => {
             if output.asked.is_json {
                 let shown = chosen_of(alloc, entries, choices);
                 output.document("contents", "tables", shown, out)?;
