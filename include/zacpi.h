@@ -187,24 +187,26 @@ enum zacpi_refusal {
                                             * 2^64 - 1 */
     ZACPI_NO_IOMMU = 40,                   /* the table has no unit for the device */
     /* From 41 on: why a table isn't written. */
-    ZACPI_UNKNOWN_CODE = 41,  /* a polarity, trigger mode or LINT pin by a number that isn't one */
+    ZACPI_UNKNOWN_CODE = 41,  /* a polarity, a trigger mode, a LINT pin, or in a register an address
+                               * space, an access size or `present` by a number that isn't one */
     ZACPI_NO_PROCESSOR = 42,  /* a MADT without a processor */
     ZACPI_ID_OF_ALL = 43,     /* a processor whose uid or id is 0xffffffff, which stands for all */
     ZACPI_UID_OF_ALL = 44,    /* an NMI line of the processor whose uid is 0xffffffff */
     ZACPI_BAD_MATRIX = 45,    /* a SLIT without a distance for each pair of localities */
-    ZACPI_NO_ADDRESS = 46,    /* an RSDP that leads to address 0 */
+    ZACPI_NO_ADDRESS = 46,    /* an RSDP or a FADT that leads to address 0; an address at which a
+                               * machine's tables can't lie */
     ZACPI_BAD_NAME = 47,      /* OEMID, OEM Table ID or Creator ID isn't UTF-8 */
     ZACPI_NO_ROOM = 48,       /* the buffer is shorter than the table */
     ZACPI_TOO_LONG = 49,      /* the table has 2^32 bytes or more, which Length can't say */
-    /* 50 to 56: no call of this header returns them: C has no call for their tables. */
-    ZACPI_BAD_PROFILE = 50,   /* a reserved power profile with the code of one that has a name */
-    ZACPI_BAD_REGISTER = 51,  /* a register at address 0 or in a reserved space, or events without
-                               * bytes */
+    ZACPI_BAD_PROFILE = 50,   /* no call of this header returns it: a profile is its code */
+    ZACPI_BAD_REGISTER = 51,  /* a register of a FADT at address 0, or events without bytes */
+    /* 52 to 56: no call of this header returns them: C has no call for their tables. */
     ZACPI_BAD_RANGE = 52,     /* a range of memory that has no byte, or ends above 2^64 - 1 */
     ZACPI_BAD_CODE = 53,      /* an interface or an address space with a code of another one */
     ZACPI_LONG_NAME = 54,     /* a name in the namespace of 65535 bytes or more */
     ZACPI_SAME_AS_BUS = 55,   /* a trigger mode or a polarity of an Arm machine as the bus has it */
-    ZACPI_TOO_MANY_FRAMES = 56 /* a GT Block with more frames than its Length can say */
+    ZACPI_TOO_MANY_FRAMES = 56, /* a GT Block with more frames than its Length can say */
+    ZACPI_UNKNOWN_TABLE = 57  /* a listed table of a kind that isn't one, or without its record */
 };
 
 /* The name of a status, as acpi_view prints it: "MapFailed". "Unknown" for any other number. */
@@ -221,7 +223,7 @@ static inline const char *zacpi_status_name(zacpi_status status) {
         "NoDomain", "NoDistance", "UnknownWidth", "InvalidIommu InvalidStructureLength",
         "InvalidIommu InvalidMemoryRange", "NoIommu", "UnknownCode", "NoProcessor", "IdOfAll", "UidOfAll",
         "BadMatrix", "NoAddress", "BadName", "NoRoom", "TooLong", "BadProfile", "BadRegister", "BadRange", "BadCode",
-        "LongName", "SameAsBus", "TooManyFrames"};
+        "LongName", "SameAsBus", "TooManyFrames", "UnknownTable"};
     return status < sizeof names / sizeof *names ? names[status] : "Unknown";
 }
 
@@ -1057,6 +1059,13 @@ struct zacpi_madt_contents {
     uint8_t also_has_8259;       /* PCAT_COMPAT */
     uint8_t has_wakeup_mailbox;
 };
+struct zacpi_facs_contents { /* section 5.2.10 */
+    uint64_t waking_vector_64;    /* X_Firmware_Waking_Vector */
+    uint32_t hardware_signature;  /* Hardware Signature */
+    uint32_t waking_vector;       /* Firmware_Waking_Vector */
+    uint8_t supports_s4bios;      /* S4BIOS_F, bit 0 of Flags */
+    uint8_t supports_64_bit_wake; /* 64BIT_WAKE_SUPPORTED_F, bit 1 of Flags */
+};
 
 /* An RSDP of revision 2 that leads to an XSDT (section 5.2.5.3): 36 bytes. Of `ids` it has OEMID
  * alone. Error before the last ones: ZACPI_NO_ADDRESS if `xsdt` is 0. */
@@ -1096,6 +1105,108 @@ zacpi_status zacpi_write_hpet(const struct zacpi_table_ids *ids,
 zacpi_status zacpi_write_slit(const struct zacpi_table_ids *ids, uint64_t localities,
                               const uint8_t *distances, size_t distances_length, uint8_t *out,
                               size_t room, size_t *length);
+
+/* ---- A whole machine that is written --------------------------------------------------------- */
+
+struct zacpi_slit_contents { /* as zacpi_write_slit is passed them */
+    uint64_t localities;
+    const uint8_t *distances;
+    size_t distances_length;
+};
+struct zacpi_aml_contents { /* as zacpi_write_dsdt and zacpi_write_ssdt are passed them */
+    const uint8_t *aml;
+    size_t aml_length;
+    uint8_t revision;
+};
+enum zacpi_table_kind {
+    ZACPI_KIND_FADT = 0, ZACPI_KIND_MADT = 1, ZACPI_KIND_MCFG = 2, ZACPI_KIND_HPET = 3, ZACPI_KIND_SLIT = 4,
+    ZACPI_KIND_SSDT = 5
+};
+/* A table that the XSDT lists: its kind, and its record, the first of the list for that kind (for
+ * an MCFG that list itself). The functions zacpi_table_... make one, with the other lists empty. */
+struct zacpi_listed_table {
+    uint32_t kind; /* of enum zacpi_table_kind */
+    const struct zacpi_fixed_hardware *fadts;
+    size_t fadts_length;
+    const struct zacpi_madt_contents *madts;
+    size_t madts_length;
+    const struct zacpi_pci_region *regions;
+    size_t regions_length;
+    const struct zacpi_hpet_info *hpets;
+    size_t hpets_length;
+    const struct zacpi_slit_contents *slits;
+    size_t slits_length;
+    const struct zacpi_aml_contents *ssdts;
+    size_t ssdts_length;
+};
+struct zacpi_machine {
+    struct zacpi_table_ids ids;
+    const struct zacpi_listed_table *tables; /* in the order of the XSDT */
+    size_t tables_length;
+    const struct zacpi_aml_contents *dsdts; /* the DSDT, if there is one: the first of them */
+    size_t dsdts_length;
+};
+
+static inline struct zacpi_listed_table zacpi_table_of(uint32_t kind) {
+    static const uint64_t nothing = 0; /* an empty list isn't null */
+    const void *none = &nothing;
+    struct zacpi_listed_table table;
+    table.kind = kind;
+    table.fadts = (const struct zacpi_fixed_hardware *)none, table.fadts_length = 0;
+    table.madts = (const struct zacpi_madt_contents *)none, table.madts_length = 0;
+    table.regions = (const struct zacpi_pci_region *)none, table.regions_length = 0;
+    table.hpets = (const struct zacpi_hpet_info *)none, table.hpets_length = 0;
+    table.slits = (const struct zacpi_slit_contents *)none, table.slits_length = 0;
+    table.ssdts = (const struct zacpi_aml_contents *)none, table.ssdts_length = 0;
+    return table;
+}
+static inline struct zacpi_listed_table zacpi_table_fadt(const struct zacpi_fixed_hardware *fadt) {
+    struct zacpi_listed_table table = zacpi_table_of(ZACPI_KIND_FADT);
+    table.fadts = fadt, table.fadts_length = 1;
+    return table;
+}
+static inline struct zacpi_listed_table zacpi_table_madt(const struct zacpi_madt_contents *madt) {
+    struct zacpi_listed_table table = zacpi_table_of(ZACPI_KIND_MADT);
+    table.madts = madt, table.madts_length = 1;
+    return table;
+}
+static inline struct zacpi_listed_table zacpi_table_mcfg(const struct zacpi_pci_region *regions,
+                                                         size_t regions_length) {
+    struct zacpi_listed_table table = zacpi_table_of(ZACPI_KIND_MCFG);
+    table.regions = regions, table.regions_length = regions_length;
+    return table;
+}
+static inline struct zacpi_listed_table zacpi_table_hpet(const struct zacpi_hpet_info *hpet) {
+    struct zacpi_listed_table table = zacpi_table_of(ZACPI_KIND_HPET);
+    table.hpets = hpet, table.hpets_length = 1;
+    return table;
+}
+static inline struct zacpi_listed_table zacpi_table_slit(const struct zacpi_slit_contents *slit) {
+    struct zacpi_listed_table table = zacpi_table_of(ZACPI_KIND_SLIT);
+    table.slits = slit, table.slits_length = 1;
+    return table;
+}
+static inline struct zacpi_listed_table zacpi_table_ssdt(const struct zacpi_aml_contents *ssdt) {
+    struct zacpi_listed_table table = zacpi_table_of(ZACPI_KIND_SSDT);
+    table.ssdts = ssdt, table.ssdts_length = 1;
+    return table;
+}
+/* A MADT of these processors, with its other lists empty and a pair of 8259s. */
+static inline struct zacpi_madt_contents zacpi_madt_of(const struct zacpi_processor *processors,
+                                                       size_t processors_length,
+                                                       uint64_t local_apic_address) {
+    static const uint64_t nothing = 0;
+    const void *none = &nothing;
+    struct zacpi_madt_contents madt;
+    madt.processors = processors, madt.processors_length = processors_length;
+    madt.io_apics = (const struct zacpi_io_apic *)none, madt.io_apics_length = 0;
+    madt.overrides = (const struct zacpi_interrupt_source_override *)none, madt.overrides_length = 0;
+    madt.nmi_sources = (const struct zacpi_nmi_source *)none, madt.nmi_sources_length = 0;
+    madt.nmi_lines = (const struct zacpi_nmi_line *)none, madt.nmi_lines_length = 0;
+    madt.local_apic_address = local_apic_address, madt.also_has_8259 = 1;
+    madt.wakeup_mailbox = 0, madt.has_wakeup_mailbox = 0;
+    return madt;
+}
 
 #ifdef __cplusplus
 }

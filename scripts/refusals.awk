@@ -51,7 +51,7 @@ file == 3 && match($0, /^ +[0-9]+ => [A-Za-z]+/) {
 END {
     # The bindings don't know those that no call answers them: 17, 18 and 30, 20 as their starts are all known, and
     # those of tables that are written, from 41 on.
-    split("17 18 20 30 41 42 43 44 45 46 47 48 49 50 51 52 53 54 55 56", n, " ")
+    split("17 18 20 30 41 42 43 44 45 46 47 48 49 50 51 52 53 54 55 56 57", n, " ")
     for (i in n) unknown[n[i]] = 1
     for (i = 1; i <= most; i++) {
         here = name_of[1, i]

@@ -6,3 +6,4 @@ pub mod Sdt
 pub mod Tried
 pub mod Unlent
 pub mod Written
+pub mod WrittenTables

@@ -77,6 +77,7 @@ code_of refusal.InvalidIommuStructureLength = 38
 code_of refusal.InvalidIommuMemoryRange = 39
 code_of refusal.NoIommu = 40
 code_of refusal.UnknownCode = 41
+code_of refusal.UnknownTable = 57
 code_of (refusal.Writer e) = writer_code e
 code_of (refusal.Acpi e) = acpi_code e
 

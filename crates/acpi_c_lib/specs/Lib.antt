@@ -22,3 +22,5 @@ pub mod Routes
 pub mod Shown
 pub mod Walked
 pub mod Writing
+pub mod WrittenFadt
+pub mod WrittenMachine

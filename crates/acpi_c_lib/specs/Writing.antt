@@ -166,17 +166,25 @@ sorts_of c = record {
 abbrev pub mailbox_of : MadtContents → Option ℕ
 mailbox_of c = if c.has_wakeup_mailbox == 0 then None else Some c.wakeup_mailbox
 
--- the checks of what a MADT is to say
-unfoldable pub check_madt : MadtContents → Result (Unit {0}) Refusal
-check_madt c = do
-  _ ← holds (has_codes c) UnknownCode
-  _ ← holds (nat_lt 0 (length c.processors.now)) (Writer NoProcessor)
-  _ ← holds (list_all (λ p. is_single (processor_of p)) c.processors.now) (Writer IdOfAll)
-  holds (list_all (λ x. names_one (nmi_line_of x).processor) c.nmi_lines.now) (Writer UidOfAll)
+-- the checks of its lists
+unfoldable pub check_lists : MadtContents → Result (Unit {0}) WriterError
+check_lists c = do
+  _ ← holds (nat_lt 0 (length c.processors.now)) NoProcessor
+  _ ← holds (list_all (λ p. is_single (processor_of p)) c.processors.now) IdOfAll
+  holds (list_all (λ x. names_one (nmi_line_of x).processor) c.nmi_lines.now) UidOfAll
+
+-- after the header
+abbrev pub madt_body : MadtContents → List ℕ
+madt_body c = madt_body_of c.local_apic_address (not (c.also_has_8259 == 0)) (mailbox_of c) (sorts_of c)
+
+-- the MADT of records whose codes there are, in so much room, or the first error
+abbrev pub madt_laid : ℕ → TableIds → MadtContents → Result (List ℕ) WriterError
+madt_laid room i c = do
+  _ ← check_lists c
+  table_written room MADT 5 i (madt_body c)
 
 -- the MADT of records, in so much room, or the first error
 abbrev pub madt_said : ℕ → ids.TableIds → MadtContents → Result (List ℕ) Refusal
 madt_said room i c = do
-  _ ← check_madt c
-  writer_refused (table_written room MADT 5 (ids_of i)
-      (madt_body_of c.local_apic_address (not (c.also_has_8259 == 0)) (mailbox_of c) (sorts_of c)))
+  _ ← holds (has_codes c) UnknownCode
+  writer_refused (madt_laid room (ids_of i) c)

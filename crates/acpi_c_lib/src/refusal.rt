@@ -45,6 +45,8 @@ pub enum Refusal {
     NoIommu,
     /// A polarity, trigger mode or LINT pin of a record has a number that stands for none.
     UnknownCode,
+    /// A table is of a kind that there isn't, or without its record.
+    UnknownTable,
     /// The error is one of a table that is written.
     Writer(WriterError),
     /// The refusal is one of the crate `acpi`: of memory, an RSDP, a table, a register or the MADT's entries.
@@ -95,6 +97,7 @@ impl Refusal {
             Refusal::InvalidIommuMemoryRange => 39,
             Refusal::NoIommu => 40,
             Refusal::UnknownCode => 41,
+            Refusal::UnknownTable => 57,
             Refusal::Writer(error) => writer_code(error),
             Refusal::Acpi(error) => acpi_code(error),
         }

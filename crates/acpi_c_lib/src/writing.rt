@@ -4,6 +4,8 @@ ghost use Rattle.acpi_base.specs.Steps.{Gives};
 ghost use Rattle.acpi_c_lib.specs.Writing as writing;
 ghost use Rattle.acpi_writer.specs.Table.{Keeps};
 
+mod fadt;
+mod machine;
 mod madt;
 
 use crate::records::{self, PciRegion};
@@ -16,8 +18,10 @@ use acpi_writer::mcfg::write_mcfg_of;
 use acpi_writer::spelled::Spelled;
 use acpi_writer::{TableIds, WriterError};
 pub use acpi_writer::{
-    write_dsdt, write_hpet, write_rsdp, write_rsdt, write_slit, write_ssdt, write_xsdt,
+    write_dsdt, write_facs, write_hpet, write_rsdp, write_rsdt, write_slit, write_ssdt, write_xsdt,
 };
+pub use fadt::write_fadt;
+pub use machine::{dsdt_place, tables_size, write_tables, write_tables_without_rsdp};
 pub use madt::write_madt;
 
 impl written_records::TableIds {
@@ -52,6 +56,19 @@ pub fn written_or_not(said: Result<usize, Refusal>, length: &mut usize) -> u32
     match said {
         Ok(count) => {
             *length = count;
+            0
+        }
+        Err(refusal) => refusal.code(),
+    }
+}
+
+/// The number that C gets: 0, with the address, or that of the error.
+pub fn said_address(said: Result<u64, Refusal>, out: &mut u64) -> u32
+    ensures { writing.SaysLength result out.old out.new said }
+{
+    match said {
+        Ok(address) => {
+            *out = address;
             0
         }
         Err(refusal) => refusal.code(),

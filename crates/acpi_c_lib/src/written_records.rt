@@ -1,6 +1,8 @@
 //! What C says of the tables that are to be written. What each field holds is said once, in `include/zacpi.h`.
 
+use crate::fixed_records::FixedHardware;
 use crate::interrupt_records::{InterruptSourceOverride, IoApic, NmiLine, NmiSource, Processor};
+use crate::records::{HpetInfo, PciRegion};
 
 /// Who made a table, as its header says (section 5.2.6).
 #[repr(C)]
@@ -26,4 +28,54 @@ pub struct MadtContents<'a> {
     pub wakeup_mailbox: u64,
     pub also_has_8259: u8,
     pub has_wakeup_mailbox: u8,
+}
+
+/// What a SLIT is to say (section 5.2.17).
+#[repr(C)]
+#[derive(Clone, Copy)]
+pub struct SlitContents<'a> {
+    pub localities: u64,
+    pub distances: &'a [u8],
+}
+
+/// What a table of AML is to have after its header (section 5.2.11).
+#[repr(C)]
+#[derive(Clone, Copy)]
+pub struct AmlContents<'a> {
+    pub aml: &'a [u8],
+    pub revision: u8,
+}
+
+/// A table that a machine lists: its kind, and what it is to say in the list for that kind, of which the others are
+/// empty.
+#[repr(C)]
+#[derive(Clone, Copy)]
+pub struct ListedTable<'a> {
+    pub kind: u32,
+    pub fadts: &'a [FixedHardware],
+    pub madts: &'a [MadtContents<'a>],
+    pub regions: &'a [PciRegion],
+    pub hpets: &'a [HpetInfo],
+    pub slits: &'a [SlitContents<'a>],
+    pub ssdts: &'a [AmlContents<'a>],
+}
+
+/// A machine, as its tables describe it.
+#[repr(C)]
+#[derive(Clone, Copy)]
+pub struct Machine<'a> {
+    pub ids: TableIds,
+    pub tables: &'a [ListedTable<'a>],
+    pub dsdts: &'a [AmlContents<'a>],
+}
+
+/// What a FACS is to say (section 5.2.10).
+#[repr(C)]
+#[derive(Clone, Copy)]
+pub struct FacsContents {
+    pub waking_vector_64: u64,
+    pub hardware_signature: u32,
+    pub waking_vector: u32,
+    pub supports_s4bios: u8,
+    pub supports_64_bit_wake: u8,
 }

@@ -1,17 +1,19 @@
 //! The MADT that is written for C (section 5.2.12), from its records of processors and interrupt controllers.
-ghost use Rattle.std.specs.Prelude.{◌≡◌, ◌&&◌, nat_le, length, take};
+ghost use Rattle.std.specs.Prelude.{◌≡◌, ◌&&◌, ◌^◌, ◌<◌, nat_le, length, take, IfOk};
 ghost use Rattle.std.specs.List.{list_all};
 ghost use Rattle.acpi_base.specs.Steps.{Gives};
 ghost use Rattle.acpi_c_lib.specs.Writing as writing;
 ghost use Rattle.acpi_c_lib.specs.Writing.{IsKeptOr};
+ghost use Rattle.acpi_writer.specs.Contents.{most, sized};
 ghost use Rattle.acpi_writer.specs.MadtBytes.{is_single, names_one};
+ghost use Rattle.acpi_writer.specs.Table.{Keeps};
 
 use crate::interrupt_records::{InterruptSourceOverride, IoApic, NmiLine, NmiSource, Processor};
 use crate::refusal::Refusal;
 use crate::written_records::{MadtContents, TableIds};
 use acpi_base::model;
 use acpi_base::model::{LocalInterruptLine, NmiProcessor, Polarity, TriggerMode};
-use acpi_writer::madt::{MadtLists, write_madt_of};
+use acpi_writer::madt::{MadtLists, madt_size_of, write_madt_of};
 use acpi_writer::spelled::Spelled;
 use acpi_writer::{MadtProcessor, WriterError};
 
@@ -228,7 +230,7 @@ fn lines_have_codes(lines: &[NmiLine]) -> bool
 }
 
 /// Whether each polarity, trigger mode and LINT pin is one that there is.
-fn has_codes(contents: &MadtContents<'_>) -> bool
+pub(crate) fn has_codes(contents: &MadtContents<'_>) -> bool
     ensures { result ≡ writing.has_codes contents.now }
 {
     overrides_have_codes(contents.overrides)
@@ -254,24 +256,71 @@ fn name_one(lines: &[NmiLine]) -> bool
         .all(|x| x.of_all != 0 || x.processor_uid < 0xffffffff)
 }
 
-/// Checks what a MADT is to say: the first error of `madt_said` but those of any table.
-#[tactic(auto, unfolding(crate::specs::Writing::check_madt))]
-fn check(contents: &MadtContents<'_>) -> Result<(), Refusal>
-    ensures { result ≡ writing.check_madt contents.now }
+/// Checks the lists of a MADT: the first error of `madt_laid` but those of any table.
+#[tactic(auto, unfolding(crate::specs::Writing::check_lists))]
+fn check_lists(contents: &MadtContents<'_>) -> Result<(), WriterError>
+    ensures { result ≡ writing.check_lists contents.now }
 {
-    if !has_codes(contents) {
-        return Err(Refusal::UnknownCode);
-    }
     if contents.processors.is_empty() {
-        return Err(Refusal::Writer(WriterError::NoProcessor));
+        return Err(WriterError::NoProcessor);
     }
     if !are_single(contents.processors) {
-        return Err(Refusal::Writer(WriterError::IdOfAll));
+        return Err(WriterError::IdOfAll);
     }
     if !name_one(contents.nmi_lines) {
-        return Err(Refusal::Writer(WriterError::UidOfAll));
+        return Err(WriterError::UidOfAll);
     }
     Ok(())
+}
+
+/// The lists of a MADT, as the writer has them.
+macro_rules! lists_of {
+    ($contents:expr) => {
+        MadtLists {
+            local_apic_address: $contents.local_apic_address,
+            also_has_legacy_pics: $contents.also_has_8259 != 0,
+            processors: $contents.processors,
+            io_apics: $contents.io_apics,
+            interrupt_source_overrides: $contents.overrides,
+            nmi_sources: $contents.nmi_sources,
+            local_apic_nmi_lines: $contents.nmi_lines,
+            wakeup_mailbox: if $contents.has_wakeup_mailbox == 0 {
+                None
+            } else {
+                Some($contents.wakeup_mailbox)
+            },
+        }
+    };
+}
+
+/// Writes a MADT of records whose codes there are.
+///
+/// Returns the errors of `acpi_writer::write_madt`, in its order.
+pub(crate) fn write_laid(
+    out: &mut [u8],
+    ids: &acpi_writer::TableIds,
+    contents: &MadtContents<'_>,
+) -> Result<usize, WriterError>
+    ensures exact { Gives (λ n. take n out.new) result
+        (writing.madt_laid (length out.old) ids.now contents.now) }
+    ensures keeps { Keeps result out.old out.new }
+{
+    check_lists(contents)?;
+    let lists = lists_of!(contents);
+    write_madt_of(out, ids, &lists)
+}
+
+/// How many bytes such a MADT has, or the first error.
+pub(crate) fn laid_size(
+    ids: &acpi_writer::TableIds,
+    contents: &MadtContents<'_>,
+) -> Result<usize, WriterError>
+    ensures exact { result ≡ sized (writing.madt_laid most ids.now contents.now) }
+    ensures short { IfOk result (λ n. n < 2 ^ 32) }
+{
+    check_lists(contents)?;
+    let lists = lists_of!(contents);
+    madt_size_of(ids, &lists)
 }
 
 /// Writes a MADT of records.
@@ -286,20 +335,8 @@ pub fn write_madt(
         (writing.madt_said (length out.old) ids.now contents.now) }
     ensures keeps { IsKeptOr result out.old out.new }
 {
-    check(contents)?;
-    let lists = MadtLists {
-        local_apic_address: contents.local_apic_address,
-        also_has_legacy_pics: contents.also_has_8259 != 0,
-        processors: contents.processors,
-        io_apics: contents.io_apics,
-        interrupt_source_overrides: contents.overrides,
-        nmi_sources: contents.nmi_sources,
-        local_apic_nmi_lines: contents.nmi_lines,
-        wakeup_mailbox: if contents.has_wakeup_mailbox == 0 {
-            None
-        } else {
-            Some(contents.wakeup_mailbox)
-        },
-    };
-    Ok(write_madt_of(out, &ids.ids(), &lists)?)
+    if !has_codes(contents) {
+        return Err(Refusal::UnknownCode);
+    }
+    Ok(write_laid(out, &ids.ids(), contents)?)
 }

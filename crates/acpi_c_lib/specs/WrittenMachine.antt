@@ -1,0 +1,107 @@
+-- The tables of a whole machine that are written for C.
+use Rattle.std.specs.Prelude.{ℕ, ◌==◌, List, [], ◌∷◌, flat_map, Option, Some, None, Result, Ok, Err, if◌then◌else◌}
+use Rattle.std.specs.Option.{ok_or}
+use Rattle.acpi_base.specs.Steps.{◌>>=◌, holds}
+use Rattle.acpi_base.specs.declared.table.signature.TheConstants.Signature.{SSDT}
+use Rattle.acpi_c_lib.specs.WrittenFadt as fadt
+use Rattle.acpi_c_lib.specs.Writing as writing
+use Rattle.acpi_c_lib.specs.Writing.{hpet_info_of, ids_of, madt_laid, region_of, writer_refused}
+use Rattle.acpi_c_lib.specs.declared.refusal.Refusal.{Refusal}
+use Rattle.acpi_c_lib.specs.declared.refusal.Refusal.TheVariants.{UnknownCode, UnknownTable, Writer}
+use Rattle.acpi_c_lib.specs.declared.writing.machine.Contents.{Contents}
+use Rattle.acpi_c_lib.specs.declared.writing.machine.Contents.TheVariants.{Fadt, Hpet, Madt, Mcfg, Nothing, Slit, Ssdt}
+use Rattle.acpi_c_lib.specs.declared.written_records.AmlContents as aml
+use Rattle.acpi_c_lib.specs.declared.written_records.ListedTable.{ListedTable}
+use Rattle.acpi_c_lib.specs.declared.written_records.Machine as record_of
+use Rattle.acpi_writer.specs.FadtBytes.{fadt_written}
+use Rattle.acpi_writer.specs.HpetBytes.{hpet_written}
+use Rattle.acpi_writer.specs.Machine.{MachineOf, dsdt_at, machine_size, machine_written, tree_written}
+use Rattle.acpi_writer.specs.McfgBytes.{mcfg_entry, mcfg_written_of}
+use Rattle.acpi_writer.specs.Slit.{slit_written}
+use Rattle.acpi_writer.specs.Table.{table_written}
+use Rattle.acpi_writer.specs.declared.contents.AmlContents.{AmlContents}
+use Rattle.acpi_writer.specs.declared.error.WriterError.{WriterError}
+use Rattle.acpi_writer.specs.declared.error.WriterError.TheVariants.{BadCode, NoAddress}
+use Rattle.acpi_writer.specs.declared.ids.TableIds.{TableIds}
+
+-- ---- a table
+
+-- the first of a list, if there is one
+abbrev pub first_as : {A : Type 0} → (A → Contents) → List A → Contents
+first_as f [] = Nothing
+first_as f (x ∷ xs) = f x
+
+-- the kinds: 0 FADT, 1 MADT, 2 MCFG, 3 HPET, 4 SLIT, 5 SSDT
+abbrev pub contents_of : ListedTable → Contents
+contents_of t =
+    if t.kind == 0 then first_as Fadt t.fadts.now
+    else if t.kind == 1 then first_as Madt t.madts.now
+    else if t.kind == 2 then Mcfg t.regions
+    else if t.kind == 3 then first_as Hpet t.hpets.now
+    else if t.kind == 4 then first_as Slit t.slits.now
+    else if t.kind == 5 then first_as Ssdt t.ssdts.now
+    else Nothing
+
+-- the table in so much room, or the first error; one of no kind is refused before
+abbrev pub written_as : ℕ → TableIds → Contents → Result (List ℕ) WriterError
+written_as room ids (Fadt h) = fadt_written room ids (fadt.contents h)
+written_as room ids (Madt c) = madt_laid room ids c
+written_as room ids (Mcfg rs) = mcfg_written_of room ids (flat_map (λ r. mcfg_entry (region_of r)) rs.now)
+written_as room ids (Hpet i) = hpet_written room ids (hpet_info_of i)
+written_as room ids (Slit c) = slit_written room ids c.localities c.distances.now
+written_as room ids (Ssdt c) = table_written room SSDT c.revision ids c.aml.now
+written_as room ids Nothing = Err BadCode
+
+abbrev pub listed_written : ℕ → TableIds → ListedTable → Result (List ℕ) WriterError
+listed_written room ids t = written_as room ids (contents_of t)
+
+-- ---- the machine
+
+abbrev pub dsdt_in : List aml.AmlContents → Option AmlContents
+dsdt_in [] = None
+dsdt_in (c ∷ cs) = Some (record { revision = c.revision; bytes = c.aml })
+
+abbrev pub machine_of : record_of.Machine → MachineOf ListedTable
+machine_of m = record { ids = ids_of m.ids; dsdt = dsdt_in m.dsdts.now; tables = m.tables }
+
+-- ---- codes
+
+abbrev pub check_contents : Contents → Result (Unit {0}) Refusal
+check_contents Nothing = Err UnknownTable
+check_contents (Fadt h) = holds (fadt.has_codes h) UnknownCode
+check_contents (Madt c) = holds (writing.has_codes c) UnknownCode
+check_contents _ = Ok tt
+
+abbrev pub check_table : ListedTable → Result (Unit {0}) Refusal
+check_table t = check_contents (contents_of t)
+
+-- the first error
+abbrev pub check_tables : List ListedTable → Result (Unit {0}) Refusal
+check_tables [] = Ok tt
+check_tables (t ∷ ts) = do
+  _ ← check_table t
+  check_tables ts
+
+-- ---- what calls give
+
+-- all tables with the RSDP, for an address, in so much room, or the first error
+abbrev pub machine_said : ℕ → ℕ → record_of.Machine → Result (List ℕ) Refusal
+machine_said room a m = do
+  _ ← check_tables m.tables.now
+  writer_refused (machine_written listed_written room a (machine_of m))
+
+-- and without it
+abbrev pub tree_said : ℕ → ℕ → record_of.Machine → Result (List ℕ) Refusal
+tree_said room a m = do
+  _ ← check_tables m.tables.now
+  writer_refused (tree_written listed_written room a (machine_of m))
+
+-- how many bytes there are with the RSDP
+abbrev pub size_said : record_of.Machine → Result ℕ Refusal
+size_said m = do
+  _ ← check_tables m.tables.now
+  writer_refused (machine_size listed_written (machine_of m))
+
+-- where the DSDT of so many tables lies
+abbrev pub dsdt_said : ℕ → ℕ → Result ℕ Refusal
+dsdt_said a n = ok_or (dsdt_at a n) (Writer NoAddress)

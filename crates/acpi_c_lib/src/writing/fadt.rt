@@ -1,0 +1,296 @@
+//! The FADT that is written for C (section 5.2.9), from the record as which C reads it, and the FACS (section 5.2.10).
+ghost use Rattle.std.specs.Prelude.{◌≡◌, length, take};
+ghost use Rattle.acpi_base.specs.Steps.{Gives};
+ghost use Rattle.acpi_c_lib.specs.Writing.{IsKeptOr};
+ghost use Rattle.acpi_c_lib.specs.WrittenFadt as written;
+
+use crate::fixed_records::{FixedHardware, GpeBlock};
+use crate::records;
+use crate::records::Register;
+use crate::refusal::Refusal;
+use crate::written_records::{FacsContents, TableIds};
+use acpi::fadt::PowerProfile;
+use acpi_base::address::{AccessSize, AddressSpace, GenericAddress};
+use acpi_base::bytes::has_bit;
+use acpi_writer::fadt::{
+    ArmBootFeatures, FadtContents, FadtHardware, FixedFeatures, LegacyFields, PcBootFeatures,
+};
+use acpi_writer::{fadt, write_fadt as written_fadt};
+
+/// The space of a code. That of a reserved code isn't looked at.
+fn space(code: u8) -> AddressSpace
+    ensures { result ≡ written.space code }
+{
+    AddressSpace::try_from(code).unwrap_or(AddressSpace::SystemMemory)
+}
+
+/// The access size of a code. That of a reserved code isn't looked at.
+fn access_size(code: u8) -> AccessSize
+    ensures { result ≡ written.access_size code }
+{
+    AccessSize::try_from(code).unwrap_or(AccessSize::Undefined)
+}
+
+fn is_space(code: u8) -> bool
+    ensures { result ≡ written.is_space code }
+{
+    AddressSpace::try_from(code).is_ok()
+}
+
+fn is_access_size(code: u8) -> bool
+    ensures { result ≡ written.is_access_size code }
+{
+    AccessSize::try_from(code).is_ok()
+}
+
+/// A register, as the writer has it.
+fn register(at: records::GenericAddress) -> GenericAddress
+    ensures { result ≡ written.register at }
+{
+    GenericAddress {
+        address_space: space(at.space),
+        bit_width: at.bit_width,
+        bit_offset: at.bit_offset,
+        access_size: access_size(at.access_size),
+        address: at.address,
+    }
+}
+
+/// A register that may not be there: it isn't at address 0.
+fn optional(given: Register) -> Option<GenericAddress>
+    ensures { result ≡ written.optional given }
+{
+    if given.present == 0 || given.at.address == 0 {
+        None
+    } else {
+        Some(register(given.at))
+    }
+}
+
+/// A block of general purpose events, if there is one.
+fn gpe(given: GpeBlock) -> Option<acpi::fadt::GpeBlock>
+    ensures { result ≡ written.gpe given }
+{
+    if given.present == 0 {
+        None
+    } else {
+        Some(acpi::fadt::GpeBlock {
+            space: space(given.space),
+            address: given.address,
+            byte_length: given.byte_length,
+        })
+    }
+}
+
+fn profile(code: u8) -> PowerProfile
+    ensures { result ≡ written.profile_for code }
+{
+    match code {
+        0 => PowerProfile::Unspecified,
+        1 => PowerProfile::Desktop,
+        2 => PowerProfile::Mobile,
+        3 => PowerProfile::Workstation,
+        4 => PowerProfile::EnterpriseServer,
+        5 => PowerProfile::SohoServer,
+        6 => PowerProfile::AppliancePc,
+        7 => PowerProfile::PerformanceServer,
+        8 => PowerProfile::Tablet,
+        _ => PowerProfile::Reserved(code),
+    }
+}
+
+/// Flags, by name.
+fn features(flags: u32) -> FixedFeatures
+    ensures { result ≡ written.features flags }
+{
+    let bits = flags as u64;
+    FixedFeatures {
+        supports_equivalent_to_wbinvd: has_bit(bits, 0),
+        wbinvd_flushes_all_caches: has_bit(bits, 1),
+        all_procs_support_c1_power_state: has_bit(bits, 2),
+        c2_configured_for_mp_system: has_bit(bits, 3),
+        power_button_is_control_method: has_bit(bits, 4),
+        sleep_button_is_control_method: has_bit(bits, 5),
+        no_rtc_wake_in_fixed_register_space: has_bit(bits, 6),
+        rtc_wakes_system_from_s4: has_bit(bits, 7),
+        pm_timer_is_32_bit: has_bit(bits, 8),
+        supports_docking: has_bit(bits, 9),
+        case_is_sealed: has_bit(bits, 11),
+        system_is_headless: has_bit(bits, 12),
+        use_instr_after_write_to_slp_typx: has_bit(bits, 13),
+        supports_pciexp_wake_in_pm1: has_bit(bits, 14),
+        use_pm_or_hpet_for_monotonically_decreasing_timers: has_bit(bits, 15),
+        rtc_sts_is_valid_after_wakeup_from_s4: has_bit(bits, 16),
+        ospm_may_leave_gpe_wake_events_armed_before_s5: has_bit(bits, 17),
+        lapics_must_use_cluster_model_for_logical_mode: has_bit(bits, 18),
+        local_xapics_must_use_physical_destination_mode: has_bit(bits, 19),
+        no_benefit_to_s3: has_bit(bits, 21),
+    }
+}
+
+/// IAPC_BOOT_ARCH, by name.
+fn pc_boot(flags: u16) -> PcBootFeatures
+    ensures { result ≡ written.pc_boot flags }
+{
+    let bits = flags as u64;
+    PcBootFeatures {
+        legacy_devices_are_accessible: has_bit(bits, 0),
+        motherboard_implements_8042: has_bit(bits, 1),
+        dont_probe_vga: has_bit(bits, 2),
+        dont_enable_msi: has_bit(bits, 3),
+        dont_enable_pcie_aspm: has_bit(bits, 4),
+        use_time_and_alarm_namespace_for_rtc: has_bit(bits, 5),
+    }
+}
+
+/// ARM_BOOT_ARCH, by name.
+fn arm_boot(flags: u16) -> ArmBootFeatures
+    ensures { result ≡ written.arm_boot flags }
+{
+    let bits = flags as u64;
+    ArmBootFeatures {
+        implements_psci: has_bit(bits, 0),
+        use_hvc_as_psci_conduit: has_bit(bits, 1),
+    }
+}
+
+/// The fixed hardware, unless HW_REDUCED_ACPI says that there is none.
+fn hardware(h: &FixedHardware) -> FadtHardware
+    ensures { result ≡ written.hardware h.now }
+{
+    if has_bit(h.flags as u64, 20) {
+        return FadtHardware::Reduced;
+    }
+    FadtHardware::Fixed(fadt::FixedHardware {
+        smi_cmd_port: h.smi_command,
+        acpi_enable: h.acpi_enable,
+        acpi_disable: h.acpi_disable,
+        s4bios_req: h.s4bios_request,
+        pstate_control: h.pstate_control,
+        c_state_control: h.c_state_control,
+        pm1a_event: register(h.pm1a_event.at),
+        pm1b_event: optional(h.pm1b_event),
+        pm1a_control: register(h.pm1a_control.at),
+        pm1b_control: optional(h.pm1b_control),
+        pm2_control: optional(h.pm2_control),
+        pm_timer: optional(h.pm_timer),
+        gpe0: gpe(h.gpe0_block),
+        gpe1: gpe(h.gpe1_block),
+        gpe1_base: h.gpe1_base,
+    })
+}
+
+fn legacy(h: &FixedHardware) -> LegacyFields
+    ensures { result ≡ written.legacy h.now }
+{
+    LegacyFields {
+        worst_c2_latency: h.c2_latency,
+        worst_c3_latency: h.c3_latency,
+        flush_size: h.flush_size,
+        flush_stride: h.flush_stride,
+        duty_offset: h.duty_offset,
+        duty_width: h.duty_width,
+        day_alarm: h.day_alarm,
+        month_alarm: h.month_alarm,
+        century: h.century,
+    }
+}
+
+/// The register that resets the machine, if RESET_REG_SUP says that there is one.
+fn reset(h: &FixedHardware) -> Option<GenericAddress>
+    ensures { result ≡ written.reset h.now }
+{
+    if has_bit(h.flags as u64, 10) {
+        Some(register(h.reset.at))
+    } else {
+        None
+    }
+}
+
+/// The FACS, unless its address is 0.
+fn facs(address: u64) -> Option<u64>
+    ensures { result ≡ written.facs address }
+{
+    if address == 0 { None } else { Some(address) }
+}
+
+/// What the FADT is to say, as the writer has it.
+pub(crate) fn contents(h: &FixedHardware) -> FadtContents
+    ensures { result ≡ written.contents h.now }
+{
+    FadtContents {
+        dsdt: h.dsdt_address,
+        facs: facs(h.facs_address),
+        power_profile: profile(h.power_profile),
+        sci_interrupt: h.sci_interrupt,
+        hardware: hardware(h),
+        reset_register: reset(h),
+        reset_value: h.reset_value,
+        sleep_control: optional(h.sleep_control),
+        sleep_status: optional(h.sleep_status),
+        features: features(h.flags),
+        pc_boot: pc_boot(h.x86_boot_flags),
+        arm_boot: arm_boot(h.arm_boot_flags),
+        legacy: legacy(h),
+    }
+}
+
+/// Whether a register is there or isn't, and its codes are none that are reserved.
+fn has_codes_at(given: Register) -> bool
+    ensures { result ≡ written.has_codes_at given }
+{
+    given.present <= 1 && is_space(given.at.space) && is_access_size(given.at.access_size)
+}
+
+/// Whether so is a block of general purpose events.
+fn has_gpe_codes(given: GpeBlock) -> bool
+    ensures { result ≡ written.has_gpe_codes given }
+{
+    given.present <= 1 && is_space(given.space)
+}
+
+/// Whether no register has a code that is reserved.
+pub(crate) fn has_codes(h: &FixedHardware) -> bool
+    ensures { result ≡ written.has_codes h.now }
+{
+    has_codes_at(h.pm1a_event)
+        && has_codes_at(h.pm1b_event)
+        && has_codes_at(h.pm1a_control)
+        && has_codes_at(h.pm1b_control)
+        && has_codes_at(h.pm2_control)
+        && has_codes_at(h.pm_timer)
+        && has_codes_at(h.reset)
+        && has_codes_at(h.sleep_control)
+        && has_codes_at(h.sleep_status)
+        && has_gpe_codes(h.gpe0_block)
+        && has_gpe_codes(h.gpe1_block)
+}
+
+/// Writes a FADT of a record.
+///
+/// Returns `UnknownCode`, and then the errors of `acpi_writer::write_fadt`, in its order.
+pub fn write_fadt(out: &mut [u8], ids: &TableIds, fadt: &FixedHardware) -> Result<usize, Refusal>
+    ensures exact { Gives (λ n. take n out.new) result
+        (written.fadt_said (length out.old) ids.now fadt.now) }
+    ensures keeps { IsKeptOr result out.old out.new }
+{
+    if !has_codes(fadt) {
+        return Err(Refusal::UnknownCode);
+    }
+    Ok(written_fadt(out, &ids.ids(), &contents(fadt))?)
+}
+
+impl FacsContents {
+    /// What the FACS is to say, as the writer has it.
+    pub fn contents(&self) -> acpi_writer::FacsContents
+        ensures { result ≡ written.facs_contents self.now }
+    {
+        acpi_writer::FacsContents {
+            hardware_signature: self.hardware_signature,
+            waking_vector: self.waking_vector,
+            x_waking_vector: self.waking_vector_64,
+            supports_s4bios: self.supports_s4bios != 0,
+            supports_64_bit_wake: self.supports_64_bit_wake != 0,
+        }
+    }
+}

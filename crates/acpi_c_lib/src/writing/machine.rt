@@ -1,0 +1,202 @@
+//! The tables of a whole machine that are written for C, from the records of each table.
+ghost use Rattle.std.specs.Prelude.{◌≡◌, length, take};
+ghost use Rattle.acpi_base.specs.Steps.{Gives};
+ghost use Rattle.acpi_c_lib.specs.Writing.{IsKeptOr};
+ghost use Rattle.acpi_c_lib.specs.WrittenMachine as whole;
+
+use crate::fixed_records::FixedHardware;
+use crate::records::{HpetInfo, PciRegion};
+use crate::refusal::Refusal;
+use crate::writing::{fadt, madt};
+use crate::written_records::{AmlContents, ListedTable, Machine, MadtContents, SlitContents};
+use acpi_base::Signature;
+use acpi_writer::fadt::fadt_size;
+use acpi_writer::mcfg::{mcfg_size, write_mcfg_of};
+use acpi_writer::slit::slit_size;
+use acpi_writer::spelled::Bytes;
+use acpi_writer::{
+    Listed, TableIds, WriterError, dsdt_address, table_size, write_fadt, write_hpet, write_slit,
+    write_ssdt,
+};
+
+/// What a listed table is to say, or `Nothing` if there is no such kind, or its list is empty.
+#[derive(Clone, Copy)]
+pub(crate) enum Contents<'a> {
+    Fadt(FixedHardware),
+    Madt(MadtContents<'a>),
+    Mcfg(&'a [PciRegion]),
+    Hpet(HpetInfo),
+    Slit(SlitContents<'a>),
+    Ssdt(AmlContents<'a>),
+    Nothing,
+}
+
+impl<'a> ListedTable<'a> {
+    /// What the table is to say.
+    fn contents(&self) -> Contents<'a>
+        ensures { result ≡ whole.contents_of self.now }
+    {
+        match self.kind {
+            0 => match self.fadts {
+                [first, ..] => Contents::Fadt(*first),
+                [] => Contents::Nothing,
+            },
+            1 => match self.madts {
+                [first, ..] => Contents::Madt(*first),
+                [] => Contents::Nothing,
+            },
+            2 => Contents::Mcfg(self.regions),
+            3 => match self.hpets {
+                [first, ..] => Contents::Hpet(*first),
+                [] => Contents::Nothing,
+            },
+            4 => match self.slits {
+                [first, ..] => Contents::Slit(*first),
+                [] => Contents::Nothing,
+            },
+            5 => match self.ssdts {
+                [first, ..] => Contents::Ssdt(*first),
+                [] => Contents::Nothing,
+            },
+            _ => Contents::Nothing,
+        }
+    }
+}
+
+impl Listed for ListedTable<'_> {
+    ghost use Rattle.acpi_c_lib.specs.WrittenMachine.{listed_written};
+
+    ghost written = { listed_written };
+
+    ghost fits = { λ _. Unit {0} };
+
+    fn size(&self, ids: &TableIds) -> Result<usize, WriterError> {
+        match self.contents() {
+            Contents::Fadt(hardware) => fadt_size(ids, &fadt::contents(&hardware)),
+            Contents::Madt(lists) => madt::laid_size(ids, &lists),
+            Contents::Mcfg(regions) => mcfg_size(ids, regions),
+            Contents::Hpet(info) => table_size(Signature::HPET, 1, ids, &info.info()),
+            Contents::Slit(slit) => slit_size(ids, slit.localities, slit.distances),
+            Contents::Ssdt(aml) => {
+                table_size(Signature::SSDT, aml.revision, ids, &Bytes(aml.aml))
+            }
+            Contents::Nothing => Err(WriterError::BadCode),
+        }
+    }
+
+    fn write(&self, out: &mut [u8], ids: &TableIds) -> Result<usize, WriterError> {
+        match self.contents() {
+            Contents::Fadt(hardware) => write_fadt(out, ids, &fadt::contents(&hardware)),
+            Contents::Madt(lists) => madt::write_laid(out, ids, &lists),
+            Contents::Mcfg(regions) => write_mcfg_of(out, ids, regions),
+            Contents::Hpet(info) => write_hpet(out, ids, &info.info()),
+            Contents::Slit(slit) => write_slit(out, ids, slit.localities, slit.distances),
+            Contents::Ssdt(aml) => write_ssdt(out, ids, aml.revision, aml.aml),
+            Contents::Nothing => Err(WriterError::BadCode),
+        }
+    }
+
+    fn moves(&self, ids: &TableIds) {
+        ids.fit();
+    }
+}
+
+impl<'a> Machine<'a> {
+    /// The machine, as the writer has it. Of several DSDTs the first counts.
+    pub fn whole(&self) -> acpi_writer::Machine<'a, ListedTable<'a>>
+        ensures { result ≡ whole.machine_of self.now }
+    {
+        acpi_writer::Machine {
+            ids: self.ids.ids(),
+            dsdt: match self.dsdts {
+                [first, ..] => Some(acpi_writer::AmlContents {
+                    revision: first.revision,
+                    bytes: first.aml,
+                }),
+                [] => None,
+            },
+            tables: self.tables,
+        }
+    }
+}
+
+/// Checks that there is such a kind of table with its record, and that this has no code that is reserved.
+fn check_table(table: &ListedTable<'_>) -> Result<(), Refusal>
+    ensures { result ≡ whole.check_table table.now }
+{
+    match table.contents() {
+        Contents::Nothing => Err(Refusal::UnknownTable),
+        Contents::Fadt(hardware) => {
+            if fadt::has_codes(&hardware) {
+                Ok(())
+            } else {
+                Err(Refusal::UnknownCode)
+            }
+        }
+        Contents::Madt(lists) => {
+            if madt::has_codes(&lists) {
+                Ok(())
+            } else {
+                Err(Refusal::UnknownCode)
+            }
+        }
+        _ => Ok(()),
+    }
+}
+
+/// Checks all tables: the first error.
+fn check_tables(tables: &[ListedTable<'_>]) -> Result<(), Refusal>
+    ensures { result ≡ whole.check_tables tables.now }
+{
+    for table in tables {
+        match check_table(table) {
+            Ok(()) => {}
+            Err(refusal) => return Err(refusal),
+        }
+    }
+    Ok(())
+}
+
+/// Writes all tables of a machine to the front of a buffer that is to lie at this physical address.
+///
+/// Returns the first error of `check_tables`, and then those of `acpi_writer::write_tables`, in its order.
+pub fn write_tables(out: &mut [u8], address: u64, machine: &Machine<'_>) -> Result<usize, Refusal>
+    ensures exact { Gives (λ n. take n out.new) result
+        (whole.machine_said (length out.old) address machine.now) }
+    ensures keeps { IsKeptOr result out.old out.new }
+{
+    check_tables(machine.tables)?;
+    Ok(acpi_writer::write_tables(out, address, &machine.whole())?)
+}
+
+/// The same but for the RSDP.
+pub fn write_tables_without_rsdp(
+    out: &mut [u8],
+    address: u64,
+    machine: &Machine<'_>,
+) -> Result<usize, Refusal>
+    ensures exact { Gives (λ n. take n out.new) result
+        (whole.tree_said (length out.old) address machine.now) }
+    ensures keeps { IsKeptOr result out.old out.new }
+{
+    check_tables(machine.tables)?;
+    Ok(acpi_writer::write_tables_without_rsdp(out, address, &machine.whole())?)
+}
+
+/// How many bytes `write_tables` writes, or the first error but for room and place.
+pub fn tables_size(machine: &Machine<'_>) -> Result<usize, Refusal>
+    ensures { result ≡ whole.size_said machine.now }
+{
+    check_tables(machine.tables)?;
+    Ok(acpi_writer::tables_size(&machine.whole())?)
+}
+
+/// Where `write_tables` lays the DSDT of a machine with so many tables, or `NoAddress`.
+pub fn dsdt_place(address: u64, tables: usize) -> Result<u64, Refusal>
+    ensures { result ≡ whole.dsdt_said address tables }
+{
+    match dsdt_address(address, tables) {
+        Some(place) => Ok(place),
+        None => Err(Refusal::Writer(WriterError::NoAddress)),
+    }
+}
