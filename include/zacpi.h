@@ -1105,6 +1105,21 @@ zacpi_status zacpi_write_hpet(const struct zacpi_table_ids *ids,
 zacpi_status zacpi_write_slit(const struct zacpi_table_ids *ids, uint64_t localities,
                               const uint8_t *distances, size_t distances_length, uint8_t *out,
                               size_t room, size_t *length);
+/* A FADT of version 6.4, 276 bytes, from the record as which zacpi_fixed_hardware reads it (section
+ * 5.2.9). Each address and block stands in its X_ field, and if it fits in its field of 32 bits, a
+ * block if it is one of ports; PM1_EVT_LEN, PM1_CNT_LEN and PM2_CNT_LEN are the whole bytes of
+ * bit_width. gpe0 and gpe1 aren't looked at (the blocks are), nor is `present` of pm1a and reset: by
+ * bit 10 of `flags` (RESET_REG_SUP) there is a reset, and by bit 20 (HW_REDUCED_ACPI) no fixed
+ * hardware. Any other register is there if `present` is 1 and its address isn't 0. Reserved flags
+ * are 0. Errors before the last ones: ZACPI_UNKNOWN_CODE, ZACPI_NO_ADDRESS if dsdt_address is 0,
+ * ZACPI_BAD_REGISTER. */
+zacpi_status zacpi_write_fadt(const struct zacpi_table_ids *ids,
+                              const struct zacpi_fixed_hardware *fadt, uint8_t *out, size_t room,
+                              size_t *length);
+/* A FACS of version 2, 64 bytes, with a Global Lock of 0 (section 5.2.10). Its one error is
+ * ZACPI_NO_ROOM. */
+zacpi_status zacpi_write_facs(const struct zacpi_facs_contents *contents, uint8_t *out,
+                              size_t room, size_t *length);
 
 /* ---- A whole machine that is written --------------------------------------------------------- */
 
@@ -1207,6 +1222,24 @@ static inline struct zacpi_madt_contents zacpi_madt_of(const struct zacpi_proces
     madt.wakeup_mailbox = 0, madt.has_wakeup_mailbox = 0;
     return madt;
 }
+
+/* All tables of a machine, for memory that begins at `address`: the RSDP there, and 48 bytes on the
+ * XSDT, the DSDT, and the listed tables in order, each at a multiple of 16 and filled up with zeros
+ * to the next. Errors, in this order: ZACPI_UNKNOWN_TABLE and ZACPI_UNKNOWN_CODE of the tables,
+ * table by table; ZACPI_BAD_NAME; ZACPI_TOO_LONG if the XSDT is; those of the DSDT and of each
+ * table, as its own call has them but for ZACPI_NO_ROOM; ZACPI_NO_ROOM; ZACPI_NO_ADDRESS if the
+ * address is 0 or no multiple of 16, or the address after the last byte is above 2^64 - 1. */
+zacpi_status zacpi_write_tables(const struct zacpi_machine *machine, uint64_t address,
+                                uint8_t *out, size_t room, size_t *length);
+/* The same without the RSDP and its 48 bytes: the XSDT lies at `address`. */
+zacpi_status zacpi_write_tables_without_rsdp(const struct zacpi_machine *machine, uint64_t address,
+                                             uint8_t *out, size_t room, size_t *length);
+/* How many bytes zacpi_write_tables writes. Its errors but the last two. */
+zacpi_status zacpi_tables_size(const struct zacpi_machine *machine, size_t *length);
+/* Where zacpi_write_tables lays the DSDT for this address if the machine lists so many tables, as
+ * the FADT has to say. Error: ZACPI_NO_ADDRESS if the sum is above 2^64 - 1, or an XSDT can't list
+ * so many. */
+zacpi_status zacpi_dsdt_address(uint64_t address, size_t tables_length, uint64_t *out);
 
 #ifdef __cplusplus
 }

@@ -12,7 +12,9 @@ static const struct zacpi_table_ids no_creator = {{'G'}, {'M'}, 0, {'Z', 0xc3, '
 static const struct zacpi_table_ids *ids = &makers;
 
 /* Signature, Length, Revision, Checksum; OEMID, OEM Table ID; OEM Revision, Creator ID, Creator Revision. */
-#define HEAD(a, b, c, d, length, revision, checksum) a, b, c, d, length, 0, 0, 0, revision, checksum, \
+#define HEAD(a, b, c, d, length, revision, checksum) LONG_HEAD(a, b, c, d, length, 0, revision, checksum)
+#define LONG_HEAD(a, b, c, d, length, length_256, revision, checksum) a, b, c, d, length, length_256, 0, 0, revision, \
+    checksum, \
     'G', 'U', 'E', 'S', 'T', ' ', 'M', 'A', 'C', 'H', 'I', 'N', 'E', ' ', \
     4, 3, 2, 1, 'Z', 'U', 'G', 'Z', 8, 7, 6, 5
 
@@ -110,6 +112,8 @@ static const uint8_t madt_bytes[] = {HEAD('A', 'P', 'I', 'C', 200, 5, 0x3f), 0, 
 static const uint8_t small_madt_bytes[] = {HEAD('A', 'P', 'I', 'C', 52, 5, 0x89), 0, 0, 0xe0, 0xfe, 0, 0, 0, 0,
     0, 8, 7, 2, 1, 0, 0, 0};
 
+#include "rows_machine.h"
+
 /* ---- Rows ----------------------------------------------------------------------------------------------- */
 
 #define WRITE(verb, call, ...) \
@@ -139,18 +143,30 @@ WRITE(bad_trigger, madt, &madt_no_trigger)
 WRITE(bad_source_trigger, madt, &madt_no_source_trigger)
 WRITE(bad_source_polarity, madt, &madt_no_source_polarity)
 WRITE(bad_lint, madt, &madt_no_lint)
+WRITE(a_fadt, fadt, &pc_fadt)
+WRITE(a_reduced_fadt, fadt, &reduced_fadt)
+WRITE(a_fadt_without_dsdt, fadt, &fadt_without_dsdt)
+WRITE(a_fadt_without_pm1a, fadt, &fadt_without_pm1a)
+WRITE(a_fadt_without_control, fadt, &fadt_without_control)
+WRITE(a_fadt_without_reset, fadt, &fadt_without_reset)
+WRITE(a_fadt_without_events, fadt, &fadt_without_events)
+WRITE(a_fadt_events_at_0, fadt, &fadt_events_at_0)
+static zacpi_status a_facs(uint8_t *to, size_t room, size_t *length) {
+    return zacpi_write_facs(&facs, to, room, length);
+}
 
-/* What is written, or the error, whatever room there is, also if a name isn't UTF-8: it comes before those of a
- * table. */
+/* What is written, or the error, whatever room there is; and the status if a name isn't UTF-8: that error comes after
+ * those of one table's contents, and in a machine before those of its tables. A FACS has no names. */
 static const struct written_row {
     const char *name;
     zacpi_status (*run)(uint8_t *to, size_t room, size_t *length);
     const uint8_t *bytes;
     size_t length;
-    zacpi_status status;
+    zacpi_status status, badly_named;
 } written[] = {
-#define WRITTEN(verb, bytes) {#verb, verb, bytes, sizeof bytes, ZACPI_OK}
-#define NOT_WRITTEN(verb, status) {#verb, verb, NULL, 0, status}
+#define WRITTEN(verb, bytes) {#verb, verb, bytes, sizeof bytes, ZACPI_OK, ZACPI_BAD_NAME}
+#define NOT_WRITTEN(verb, status) {#verb, verb, NULL, 0, status, status}
+#define NOT_LISTED(verb, status) {#verb, verb, NULL, 0, status, ZACPI_BAD_NAME}
     WRITTEN(an_rsdp, rsdp_bytes), WRITTEN(an_rsdt, rsdt_bytes), WRITTEN(an_xsdt, xsdt_bytes),
     WRITTEN(a_dsdt, dsdt_bytes), WRITTEN(an_ssdt, ssdt_bytes), WRITTEN(an_mcfg, mcfg_bytes),
     WRITTEN(an_mcfg_of_none, no_region_bytes), WRITTEN(an_hpet, hpet_bytes),
@@ -162,7 +178,16 @@ static const struct written_row {
     NOT_WRITTEN(all_ids, ZACPI_ID_OF_ALL), NOT_WRITTEN(all_lines, ZACPI_UID_OF_ALL),
     NOT_WRITTEN(bad_polarity, ZACPI_UNKNOWN_CODE), NOT_WRITTEN(bad_trigger, ZACPI_UNKNOWN_CODE),
     NOT_WRITTEN(bad_source_trigger, ZACPI_UNKNOWN_CODE), NOT_WRITTEN(bad_source_polarity, ZACPI_UNKNOWN_CODE),
-    NOT_WRITTEN(bad_lint, ZACPI_UNKNOWN_CODE)};
+    NOT_WRITTEN(bad_lint, ZACPI_UNKNOWN_CODE),
+    WRITTEN(a_fadt, fadt_bytes), WRITTEN(a_reduced_fadt, reduced_fadt_bytes),
+    {"a_facs", a_facs, facs_bytes, sizeof facs_bytes, ZACPI_OK, ZACPI_OK},
+    NOT_WRITTEN(a_fadt_without_dsdt, ZACPI_NO_ADDRESS), NOT_WRITTEN(a_fadt_without_pm1a, ZACPI_BAD_REGISTER),
+    NOT_WRITTEN(a_fadt_without_control, ZACPI_BAD_REGISTER), NOT_WRITTEN(a_fadt_without_reset, ZACPI_BAD_REGISTER),
+    NOT_WRITTEN(a_fadt_without_events, ZACPI_BAD_REGISTER), NOT_WRITTEN(a_fadt_events_at_0, ZACPI_BAD_REGISTER),
+    WRITTEN(a_machine, machine_bytes), WRITTEN(a_tree, tree_bytes), WRITTEN(an_empty_machine, empty_machine_bytes),
+    NOT_LISTED(no_matrix_listed, ZACPI_BAD_MATRIX), NOT_LISTED(no_processor_listed, ZACPI_NO_PROCESSOR),
+    NOT_LISTED(no_dsdt_listed, ZACPI_NO_ADDRESS), NOT_WRITTEN(code_before_kind, ZACPI_UNKNOWN_CODE),
+    NOT_WRITTEN(kind_before_code, ZACPI_UNKNOWN_TABLE)};
 
 static void check_written(const struct written_row *row, size_t room, zacpi_status status) {
     size_t length = UNCOUNTED, i, size = status ? 0 : row->length;
@@ -181,6 +206,7 @@ static void check_written(const struct written_row *row, size_t room, zacpi_stat
 static void check_all_written(void) {
     static const struct zacpi_table_ids *const not_texts[] = {&no_oem, &no_table_id, &no_creator};
     size_t i, k;
+    lay_machines();
     for (i = 0; i < sizeof written / sizeof *written; i++) {
         const struct written_row *row = written + i;
         const size_t rooms[] = {0, row->length ? row->length - 1 : 35, row->length, row->length + 40};
@@ -188,10 +214,12 @@ static void check_all_written(void) {
             check_written(row, rooms[k], row->status ? row->status : k < 2 ? (zacpi_status)ZACPI_NO_ROOM : ZACPI_OK);
         for (k = 0; k < 3; k++) {
             ids = not_texts[k];
-            check_written(row, row->length, row->status ? row->status : (zacpi_status)ZACPI_BAD_NAME);
-            check_written(row, 0, row->status ? row->status : (zacpi_status)ZACPI_BAD_NAME);
+            check_written(row, row->length, row->badly_named);
+            check_written(row, 0, row->badly_named ? row->badly_named : (zacpi_status)ZACPI_NO_ROOM);
             ids = &makers;
         }
     }
+    check_codes();
+    check_places();
 }
 #endif

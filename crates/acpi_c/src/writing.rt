@@ -2,19 +2,24 @@
 ghost use Rattle.std.specs.Prelude.{◌≡◌, length};
 ghost use Rattle.acpi.specs.declared.root.RootKind.TheVariants.{Rsdt, Xsdt};
 ghost use Rattle.acpi_base.specs.declared.table.signature.TheConstants.Signature.{DSDT, SSDT};
-ghost use Rattle.acpi_c_lib.specs.Writing.{WritesTable, hpet_info_of, ids_of, madt_said, regions_written, writer_refused};
+ghost use Rattle.acpi_c_lib.specs.Writing.{SaysLength, WritesTable, hpet_info_of, ids_of, madt_said, regions_written, writer_refused};
+ghost use Rattle.acpi_c_lib.specs.WrittenFadt.{facs_contents, fadt_said};
+ghost use Rattle.acpi_c_lib.specs.WrittenMachine.{dsdt_said, machine_said, size_said, tree_said};
+ghost use Rattle.acpi_writer.specs.Facs.{facs_written};
 ghost use Rattle.acpi_writer.specs.HpetBytes.{hpet_written};
 ghost use Rattle.acpi_writer.specs.Root.{root_written};
 ghost use Rattle.acpi_writer.specs.Rsdp.{rsdp_written};
 ghost use Rattle.acpi_writer.specs.Slit.{slit_written};
 ghost use Rattle.acpi_writer.specs.Table.{table_written};
 
+use acpi_c_lib::fixed_records::FixedHardware;
 use acpi_c_lib::records::{HpetInfo, PciRegion};
 use acpi_c_lib::writing::{
-    write_dsdt, write_hpet, write_madt, write_regions, write_rsdp, write_rsdt, write_slit,
-    write_ssdt, write_xsdt, written, written_or_not,
+    dsdt_place, said_address, tables_size, write_dsdt, write_facs, write_fadt, write_hpet,
+    write_madt, write_regions, write_rsdp, write_rsdt, write_slit, write_ssdt, write_tables,
+    write_tables_without_rsdp, write_xsdt, written, written_or_not,
 };
-use acpi_c_lib::written_records::{MadtContents, TableIds};
+use acpi_c_lib::written_records::{FacsContents, Machine, MadtContents, TableIds};
 
 /// An RSDP of revision 2 that leads to an XSDT (section 5.2.5.3).
 #[unsafe(no_mangle)]
@@ -143,4 +148,75 @@ pub extern "C" fn zacpi_write_madt(
         (madt_said (length out.old) ids.now contents.now) }
 {
     written_or_not(write_madt(out, ids, contents), count)
+}
+
+/// A FADT (section 5.2.9).
+#[unsafe(no_mangle)]
+pub extern "C" fn zacpi_write_fadt(
+    ids: &TableIds,
+    fadt: &FixedHardware,
+    out: &mut [u8],
+    count: &mut usize,
+) -> u32
+    ensures { WritesTable result out.old out.new count.old count.new
+        (fadt_said (length out.old) ids.now fadt.now) }
+{
+    written_or_not(write_fadt(out, ids, fadt), count)
+}
+
+/// A FACS (section 5.2.10).
+#[unsafe(no_mangle)]
+pub extern "C" fn zacpi_write_facs(
+    contents: &FacsContents,
+    out: &mut [u8],
+    count: &mut usize,
+) -> u32
+    ensures { WritesTable result out.old out.new count.old count.new
+        (writer_refused (facs_written (length out.old) (facs_contents contents.now))) }
+{
+    written(write_facs(out, &contents.contents()), count)
+}
+
+/// All tables of a machine.
+#[unsafe(no_mangle)]
+pub extern "C" fn zacpi_write_tables(
+    machine: &Machine<'_>,
+    address: u64,
+    out: &mut [u8],
+    count: &mut usize,
+) -> u32
+    ensures { WritesTable result out.old out.new count.old count.new
+        (machine_said (length out.old) address machine.now) }
+{
+    written_or_not(write_tables(out, address, machine), count)
+}
+
+/// All tables of a machine but the RSDP.
+#[unsafe(no_mangle)]
+pub extern "C" fn zacpi_write_tables_without_rsdp(
+    machine: &Machine<'_>,
+    address: u64,
+    out: &mut [u8],
+    count: &mut usize,
+) -> u32
+    ensures { WritesTable result out.old out.new count.old count.new
+        (tree_said (length out.old) address machine.now) }
+{
+    written_or_not(write_tables_without_rsdp(out, address, machine), count)
+}
+
+/// How many bytes all tables of a machine have.
+#[unsafe(no_mangle)]
+pub extern "C" fn zacpi_tables_size(machine: &Machine<'_>, count: &mut usize) -> u32
+    ensures { SaysLength result count.old count.new (size_said machine.now) }
+{
+    written_or_not(tables_size(machine), count)
+}
+
+/// Where the DSDT of a machine lies.
+#[unsafe(no_mangle)]
+pub extern "C" fn zacpi_dsdt_address(address: u64, tables: usize, out: &mut u64) -> u32
+    ensures { SaysLength result out.old out.new (dsdt_said address tables) }
+{
+    said_address(dsdt_place(address, tables), out)
 }

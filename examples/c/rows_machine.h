@@ -1,0 +1,225 @@
+/* Rows of the calls that write a FADT, a FACS and a whole machine, with each byte worked out by hand from the layouts.
+ * For rows_written.h. */
+#ifndef ROWS_MACHINE_H
+#define ROWS_MACHINE_H
+
+/* ---- The FADT and the FACS (sections 5.2.9 and 5.2.10) --------------------------------------------------- */
+
+/* With every other flag, and reserved ones. gpe0 and gpe1, and `present` of pm1a and reset, aren't looked at; pm1b has
+ * no control block, since that is at address 0. */
+#define PORT(address, width, access) {{address, 1, width, 0, access}, 1}
+#define PC(...) { \
+    .facs_address = 0x7ff00040, .dsdt_address = 0x7fe00090, .pm1a_event = {{0x600, 1, 32, 0, 2}, 0}, \
+    .pm1b_event = {{0x610, 1, 32, 0, 2}, 0}, .pm1a_control = PORT(0x604, 16, 2), .pm1b_control = PORT(0, 16, 2), \
+    .pm2_control = PORT(0x650, 8, 1), .pm_timer = PORT(0x608, 32, 3), .gpe0 = {{1, 0x0b, 1, 1, 9}, 7}, \
+    .gpe1 = {{1, 0x0b, 1, 1, 9}, 7}, .reset = {{0xcf9, 1, 8, 0, 1}, 0}, .gpe0_block = {0x620, 1, 16, 1}, \
+    .gpe1_block = {0x100000000, 0, 40, 1}, .smi_command = 0xb2, .flags = 0xffe55555, .sci_interrupt = 0x1409, \
+    .x86_boot_flags = 0xffd5, .arm_boot_flags = 0xfffd, .c2_latency = 101, .c3_latency = 1001, .flush_size = 0x400, \
+    .flush_stride = 0x40, .power_profile = 2, .acpi_enable = 0xa0, .acpi_disable = 0xa1, .s4bios_request = 0xa2, \
+    .pstate_control = 0xa3, .c_state_control = 0xa4, .gpe1_base = 0x20, .duty_offset = 1, .duty_width = 3, \
+    .day_alarm = 13, .month_alarm = 14, .century = 0x32, .reset_value = 6}
+static const struct zacpi_fixed_hardware pc_fadt = PC();
+/* With every other of the other flags. Its fixed hardware isn't written, nor is the register that resets. */
+static const struct zacpi_fixed_hardware reduced_fadt = {
+    .dsdt_address = 0x100000010, .facs_address = 0x200000040, .pm1b_event = PORT(0x610, 32, 2),
+    .gpe0_block = {0x620, 1, 16, 1}, .reset = PORT(0xcf9, 8, 1), .sleep_control = {{0xfed00000, 0, 8, 0, 1}, 1},
+    .sleep_status = {{0x0807060504030201, 0x7f, 64, 3, 4}, 1}, .smi_command = 0xb2, .flags = 0x001aaaaa,
+    .sci_interrupt = 9, .x86_boot_flags = 0x2a, .arm_boot_flags = 2, .power_profile = 200, .acpi_enable = 1,
+    .reset_value = 0x77};
+static const struct zacpi_facs_contents facs = {0x3132333435363738, 0x11121314, 0x21222324, 1, 1};
+
+static const uint8_t fadt_bytes[] = {LONG_HEAD('F', 'A', 'C', 'P', 0x14, 1, 6, 0x03),
+    0x40, 0, 0xf0, 0x7f, 0x90, 0, 0xe0, 0x7f,       /* FIRMWARE_CTRL, DSDT */
+    0, 2, 0x09, 0x14, 0xb2, 0, 0, 0,                /* Reserved, Preferred_PM_Profile, SCI_INT, SMI_CMD */
+    0xa0, 0xa1, 0xa2, 0xa3,                         /* ACPI_ENABLE, ACPI_DISABLE, S4BIOS_REQ, PSTATE_CNT */
+    0x00, 6, 0, 0, 0, 0, 0, 0, 0x04, 6, 0, 0, 0, 0, 0, 0, /* PM1a_EVT_BLK to PM1b_CNT_BLK */
+    0x50, 6, 0, 0, 0x08, 6, 0, 0, 0x20, 6, 0, 0, 0, 0, 0, 0, /* PM2_CNT_BLK, PM_TMR_BLK, GPE0_BLK, GPE1_BLK */
+    4, 2, 1, 4, 16, 40, 0x20, 0xa4,                 /* PM1_EVT_LEN to GPE1_BLK_LEN, GPE1_BASE, CST_CNT */
+    101, 0, 0xe9, 3, 0, 4, 0x40, 0,                 /* P_LVL2_LAT, P_LVL3_LAT, FLUSH_SIZE, FLUSH_STRIDE */
+    1, 3, 13, 14, 0x32, 0x15, 0, 0,                 /* DUTY_OFFSET to CENTURY, IAPC_BOOT_ARCH, Reserved */
+    0x55, 0x55, 0x25, 0,                            /* Flags */
+    1, 8, 0, 1, 0xf9, 0x0c, 0, 0, 0, 0, 0, 0,       /* RESET_REG */
+    6, 1, 0, 4,                                     /* RESET_VALUE, ARM_BOOT_ARCH, FADT Minor Version */
+    0x40, 0, 0xf0, 0x7f, 0, 0, 0, 0, 0x90, 0, 0xe0, 0x7f, 0, 0, 0, 0, /* X_FIRMWARE_CTRL, X_DSDT */
+    1, 32, 0, 2, 0x00, 6, 0, 0, 0, 0, 0, 0,         /* X_PM1a_EVT_BLK */
+    0, 0, 0, 0, 0, 0, 0, 0, 0, 0, 0, 0,             /* X_PM1b_EVT_BLK */
+    1, 16, 0, 2, 0x04, 6, 0, 0, 0, 0, 0, 0,         /* X_PM1a_CNT_BLK */
+    0, 0, 0, 0, 0, 0, 0, 0, 0, 0, 0, 0,             /* X_PM1b_CNT_BLK */
+    1, 8, 0, 1, 0x50, 6, 0, 0, 0, 0, 0, 0,          /* X_PM2_CNT_BLK */
+    1, 32, 0, 3, 0x08, 6, 0, 0, 0, 0, 0, 0,         /* X_PM_TMR_BLK */
+    1, 128, 0, 0, 0x20, 6, 0, 0, 0, 0, 0, 0,        /* X_GPE0_BLK: 8 bits for each of 16 bytes */
+    0, 255, 0, 0, 0, 0, 0, 0, 1, 0, 0, 0,           /* X_GPE1_BLK: as wide as a width can say */
+    0, 0, 0, 0, 0, 0, 0, 0, 0, 0, 0, 0, 0, 0, 0, 0, 0, 0, 0, 0, 0, 0, 0, 0, /* SLEEP_CONTROL_REG, SLEEP_STATUS_REG */
+    0, 0, 0, 0, 0, 0, 0, 0};                        /* Hypervisor Vendor Identity */
+#define ZEROS_12 0, 0, 0, 0, 0, 0, 0, 0, 0, 0, 0, 0
+static const uint8_t reduced_fadt_bytes[] = {LONG_HEAD('F', 'A', 'C', 'P', 0x14, 1, 6, 0xa0),
+    0, 0, 0, 0, 0, 0, 0, 0, 0, 200, 9, 0,           /* up to SCI_INT */
+    ZEROS_12, ZEROS_12, ZEROS_12, ZEROS_12, ZEROS_12, 0, /* SMI_CMD to CENTURY */
+    0x2a, 0, 0, 0xaa, 0xaa, 0x1a, 0,                /* IAPC_BOOT_ARCH, Reserved, Flags */
+    ZEROS_12, 0x77, 2, 0, 4,                        /* RESET_REG, RESET_VALUE, ARM_BOOT_ARCH, FADT Minor Version */
+    0x40, 0, 0, 0, 2, 0, 0, 0, 0x10, 0, 0, 0, 1, 0, 0, 0, /* X_FIRMWARE_CTRL, X_DSDT */
+    ZEROS_12, ZEROS_12, ZEROS_12, ZEROS_12, ZEROS_12, ZEROS_12, ZEROS_12, ZEROS_12, /* X_PM1a_EVT_BLK to X_GPE1_BLK */
+    0, 8, 0, 1, 0, 0, 0xd0, 0xfe, 0, 0, 0, 0,       /* SLEEP_CONTROL_REG */
+    0x7f, 64, 3, 4, 1, 2, 3, 4, 5, 6, 7, 8,         /* SLEEP_STATUS_REG */
+    0, 0, 0, 0, 0, 0, 0, 0};
+static const uint8_t facs_bytes[64] = {'F', 'A', 'C', 'S', 64, 0, 0, 0, 0x14, 0x13, 0x12, 0x11, /* Hardware Signature */
+    0x24, 0x23, 0x22, 0x21, 0, 0, 0, 0, 3, 0, 0, 0, /* Firmware_Waking_Vector, Global_Lock, Flags */
+    0x38, 0x37, 0x36, 0x35, 0x34, 0x33, 0x32, 0x31, 2}; /* X_Firmware_Waking_Vector, Version */
+
+/* Without what a FADT has to have. */
+#define REGISTERS(name, dsdt, event, control, flag_bits, reset_at, events) \
+    static const struct zacpi_fixed_hardware name = {.dsdt_address = dsdt, .pm1a_event = PORT(event, 32, 2), \
+        .pm1a_control = PORT(control, 16, 2), .flags = flag_bits, .reset = PORT(reset_at, 8, 1), \
+        .gpe0_block = events};
+#define EVENTS(address, length) {address, 1, length, 1}
+REGISTERS(fadt_without_dsdt, 0, 0, 0x604, 0, 0, EVENTS(0x620, 16))
+REGISTERS(fadt_without_pm1a, 16, 0, 0x604, 0, 0, EVENTS(0x620, 16))
+REGISTERS(fadt_without_control, 16, 0x600, 0, 0, 0, EVENTS(0x620, 16))
+REGISTERS(fadt_without_reset, 16, 0x600, 0x604, 1 << 10, 0, EVENTS(0x620, 16))
+REGISTERS(fadt_without_events, 16, 0x600, 0x604, 0, 0, EVENTS(0x620, 0))
+REGISTERS(fadt_events_at_0, 16, 0x600, 0x604, 0, 0, EVENTS(0, 16))
+
+/* ---- Whole machines -------------------------------------------------------------------------------------- */
+
+/* The RSDP at 0x7fe00000, the XSDT 0x30 on, the DSDT 0x90 on, the tables 0xc0, 0x1e0, 0x220, 0x270, 0x2b0 and 0x2e0 on;
+ * and without the RSDP each 0x30 less. */
+static uint8_t machine_bytes[0x310], tree_bytes[0x2e0];
+static const uint8_t machine_rsdp[] = {'R', 'S', 'D', ' ', 'P', 'T', 'R', ' ', 0x37, 'G', 'U', 'E', 'S', 'T', ' ', 2,
+    0, 0, 0, 0, 36, 0, 0, 0, 0x30, 0, 0xe0, 0x7f, 0, 0, 0, 0, 0x4d, 0, 0, 0};
+#define LISTED_AT(low, high) low, high, 0xe0, 0x7f, 0, 0, 0, 0
+static const uint8_t machine_xsdt[] = {HEAD('X', 'S', 'D', 'T', 84, 1, 0x34), LISTED_AT(0xc0, 0), LISTED_AT(0xe0, 1),
+    LISTED_AT(0x20, 2), LISTED_AT(0x70, 2), LISTED_AT(0xb0, 2), LISTED_AT(0xe0, 2)};
+static const uint8_t tree_xsdt[] = {HEAD('X', 'S', 'D', 'T', 84, 1, 0x55), LISTED_AT(0x90, 0), LISTED_AT(0xb0, 1),
+    LISTED_AT(0xf0, 1), LISTED_AT(0x40, 2), LISTED_AT(0x80, 2), LISTED_AT(0xb0, 2)};
+static const uint8_t empty_machine_bytes[96] = {'R', 'S', 'D', ' ', 'P', 'T', 'R', ' ', 0x37, 'G', 'U', 'E', 'S', 'T',
+    ' ', 2, 0, 0, 0, 0, 36, 0, 0, 0, 0x30, 0, 0xe0, 0x7f, 0, 0, 0, 0, 0x4d, 0, 0, 0, ZEROS_12,
+    HEAD('X', 'S', 'D', 'T', 36, 1, 0x67)};
+
+static uint8_t *lay(uint8_t *to, const uint8_t *bytes, size_t length) {
+    memcpy(to, bytes, length);
+    return to + (length + 15) / 16 * 16;
+}
+static void lay_tree(uint8_t *to, const uint8_t *xsdt) {
+    to = lay(to, xsdt, sizeof machine_xsdt);
+    to = lay(to, dsdt_bytes, sizeof dsdt_bytes);
+    to = lay(to, fadt_bytes, sizeof fadt_bytes);
+    to = lay(to, small_madt_bytes, sizeof small_madt_bytes);
+    to = lay(to, mcfg_bytes, sizeof mcfg_bytes);
+    to = lay(to, hpet_bytes, sizeof hpet_bytes);
+    to = lay(to, slit_bytes, sizeof slit_bytes);
+    lay(to, ssdt_bytes, sizeof ssdt_bytes);
+}
+static void lay_machines(void) {
+    lay_tree(lay(machine_bytes, machine_rsdp, sizeof machine_rsdp), machine_xsdt);
+    lay_tree(tree_bytes, tree_xsdt);
+}
+
+static const struct zacpi_slit_contents matrix = {2, LISTED(distances)}, no_matrix = {3, LISTED(distances)};
+static const struct zacpi_listed_table not_listed;
+static const struct zacpi_aml_contents some_aml = {LISTED(code), 2}, no_aml = {NONE(code), 1};
+
+/* What a call of machines gives for these tables, and the machine's size. */
+static zacpi_status on_machine(const struct zacpi_listed_table *tables, size_t count, size_t dsdts, uint64_t address,
+                               int has_rsdp, uint8_t *to, size_t room, size_t *length) {
+    const struct zacpi_machine machine = {*ids, tables, count, &some_aml, dsdts};
+    return has_rsdp ? zacpi_write_tables(&machine, address, to, room, length)
+                    : zacpi_write_tables_without_rsdp(&machine, address, to, room, length);
+}
+static zacpi_status on_six(uint64_t address, int has_rsdp, uint8_t *to, size_t room, size_t *length) {
+    const struct zacpi_listed_table tables[] = {zacpi_table_fadt(&pc_fadt), zacpi_table_madt(&small_madt),
+        zacpi_table_mcfg(LISTED(buses)), zacpi_table_hpet(&timers_block), zacpi_table_slit(&matrix),
+        zacpi_table_ssdt(&no_aml)};
+    return on_machine(LISTED(tables), 1, address, has_rsdp, to, room, length);
+}
+static zacpi_status on_two(struct zacpi_listed_table a, struct zacpi_listed_table b, uint8_t *to, size_t room,
+                           size_t *length) {
+    const struct zacpi_listed_table tables[] = {a, b};
+    return on_machine(LISTED(tables), 0, 0x7fe00000, 1, to, room, length);
+}
+#define MACHINE(verb, answer) static zacpi_status verb(uint8_t *to, size_t room, size_t *length) { return answer; }
+MACHINE(a_machine, on_six(0x7fe00000, 1, to, room, length))
+MACHINE(a_tree, on_six(0x7fe00000, 0, to, room, length))
+MACHINE(an_empty_machine, on_machine(&not_listed, 0, 0, 0x7fe00000, 1, to, room, length))
+MACHINE(no_matrix_listed, on_two(zacpi_table_slit(&no_matrix), zacpi_table_madt(&no_madt_processor), to, room, length))
+MACHINE(no_processor_listed, on_two(zacpi_table_hpet(&timers_block), zacpi_table_madt(&no_madt_processor), to, room,
+                                    length))
+MACHINE(no_dsdt_listed, on_two(zacpi_table_fadt(&fadt_without_dsdt), zacpi_table_slit(&no_matrix), to, room, length))
+MACHINE(code_before_kind, on_two(zacpi_table_madt(&madt_no_lint), zacpi_table_of(6), to, room, length))
+MACHINE(kind_before_code, on_two(zacpi_table_of(6), zacpi_table_madt(&madt_no_lint), to, room, length))
+
+/* Whether a call refuses and writes nothing, and so does the call for the size. */
+static void check_machine(const char *name, int row, const struct zacpi_listed_table *table, zacpi_status status) {
+    const struct zacpi_machine machine = {*ids, table, 1, &some_aml, 0};
+    size_t length = UNCOUNTED;
+    zacpi_status got = zacpi_tables_size(&machine, &length);
+    result(got == status && length == UNCOUNTED, name, row, 0, got);
+    got = zacpi_write_tables(&machine, 0x7fe00000, out.bytes, sizeof out.bytes, &length);
+    result(got == status && length == UNCOUNTED, name, row, sizeof out.bytes, got);
+}
+/* Kinds that aren't any, or without a record; and each code of a register that is reserved, in a FADT alone and in a
+ * machine. */
+static void check_codes(void) {
+    static const struct zacpi_fixed_hardware no_codes[] = {
+        PC(), PC(), PC(), PC(), PC(), PC(), PC(), PC(), PC(), PC(), PC(), PC(), PC(), PC()};
+    struct zacpi_fixed_hardware fadt;
+    int i;
+    for (i = 0; i < 8; i++) {
+        const struct zacpi_listed_table table = zacpi_table_of(i == 2 ? 0xffffffff : (uint32_t)i);
+        check_machine("a machine of an unknown table", i, &table, ZACPI_UNKNOWN_TABLE);
+    }
+    for (i = 0; i < (int)(sizeof no_codes / sizeof *no_codes); i++) {
+        struct zacpi_listed_table table;
+        size_t length = UNCOUNTED;
+        zacpi_status got;
+        fadt = no_codes[i];
+        switch (i) {
+        case 0: fadt.pm1a_event.at.space = 0x0b; break;
+        case 1: fadt.pm1b_event.at.space = 0xbf; break;
+        case 2: fadt.pm1a_control.at.access_size = 5; break;
+        case 3: fadt.pm1b_control.present = 2; break;
+        case 4: fadt.pm2_control.at.space = 0x7e; break;
+        case 5: fadt.pm_timer.at.access_size = 255; break;
+        case 6: fadt.reset.at.space = 0x80; break;
+        case 7: fadt.sleep_control.at.space = 0x0b; break;
+        case 8: fadt.sleep_status.present = 255; break;
+        case 9: fadt.gpe0_block.space = 0x0b; break;
+        case 10: fadt.gpe1_block.present = 2; break;
+        case 11: fadt.pm1a_event.present = 2; break;
+        case 12: fadt.gpe1_block.space = 0xbf; break;
+        default: fadt.reset.at.access_size = 5; break;
+        }
+        table = zacpi_table_fadt(&fadt);
+        check_machine("a machine with a reserved code", i, &table, ZACPI_UNKNOWN_CODE);
+        got = zacpi_write_fadt(ids, &fadt, out.bytes, sizeof out.bytes, &length);
+        result(got == ZACPI_UNKNOWN_CODE && length == UNCOUNTED, "a FADT with a reserved code", i, 0, got);
+    }
+}
+/* Where a machine can lie, how long it is, and where its DSDT lies: tables' addresses end at 2^64 - 1 at most, and an
+ * XSDT of 2^32 bytes and more can't be. */
+static void check_places(void) {
+    static const struct {
+        uint64_t address, room;
+        zacpi_status status;
+    } places[] = {{0, 0x310, ZACPI_NO_ADDRESS}, {0x7fe00008, 0x310, ZACPI_NO_ADDRESS}, {0, 0x30f, ZACPI_NO_ROOM},
+                  {0xfffffffffffffcf0, 0x310, ZACPI_NO_ADDRESS}, {0xfffffffffffffce0, 0x310, ZACPI_OK},
+                  {16, 0x400, ZACPI_OK}};
+    static const struct {
+        uint64_t address, tables, dsdt;
+        zacpi_status status;
+    } dsdts[] = {{0x7fe00000, 6, 0x7fe00090, ZACPI_OK}, {0x7fe00000, 0, 0x7fe00060, ZACPI_OK}, {0, 1, 96, ZACPI_OK},
+                 {0xffffffffffffff90, 2, 0, ZACPI_NO_ADDRESS}, {0xffffffffffffff8f, 2, 0xffffffffffffffff, ZACPI_OK},
+                 {0, 0x1ffffffb, 0x100000030, ZACPI_OK}, {0, 0x1ffffffc, 0, ZACPI_NO_ADDRESS},
+                 {0, 0x2000000000000000, 0, ZACPI_NO_ADDRESS}};
+    size_t i;
+    for (i = 0; i < sizeof places / sizeof *places; i++) {
+        size_t length = UNCOUNTED;
+        zacpi_status got = on_six(places[i].address, 1, out.bytes, places[i].room, &length);
+        result(got == places[i].status && length == (got ? UNCOUNTED : 0x310), "a place", (int)i, places[i].room, got);
+    }
+    for (i = 0; i < sizeof dsdts / sizeof *dsdts; i++) {
+        uint64_t dsdt = UNCOUNTED;
+        zacpi_status got = zacpi_dsdt_address(dsdts[i].address, dsdts[i].tables, &dsdt);
+        result(got == dsdts[i].status && dsdt == (got ? UNCOUNTED : dsdts[i].dsdt), "a DSDT", (int)i, 0, got);
+    }
+}
+#endif
