@@ -15,8 +15,7 @@ use acpi_view_lib::arguments::{files_named, parse_command};
 use acpi_view_lib::run::run;
 use heaps::{over_heaps, without_memory};
 use std::alloc::{AllocError, Global};
-use std::io::Write;
-use std::{io, str};
+use std::str;
 use writes::refused_writes;
 
 /// What a run answers, as it is debugged.
@@ -50,14 +49,17 @@ fn written(alloc: Global, table: &[u8], kind: &str) -> Option<Vec<u8>> {
 /// The lines of a run with words, each of them after a `|`.
 fn shown_run(alloc: Global, file: Option<&[u8]>, question: &str) -> Result<String, AllocError> {
     let (asks, words) = question.split_once(" of run").unwrap_or((question, ""));
+    let words = split_words(alloc, words)?;
+    shown(alloc, &lines(alloc, &words, file, asks)?)
+}
+
+/// The words, without what stands before the first `|`.
+fn split_words(alloc: Global, words: &str) -> Result<Vec<&str>, AllocError> {
     let mut split = Vec::new(alloc);
     for word in words.split('|').skip(1) {
         split.push(word)?;
     }
-    match lines(alloc, &split, file, asks) {
-        Ok(text) => shown(alloc, &text),
-        Err(_) => Err(AllocError),
-    }
+    Ok(split)
 }
 
 /// The lines of an answer that are asked for. Each is of the parts that it begins with: `out bgrt`
@@ -66,8 +68,8 @@ fn shown_run(alloc: Global, file: Option<&[u8]>, question: &str) -> Result<Strin
 struct Chosen<'a> {
     asks: &'a str,
     text: String,
-    /// The last refusal of memory or of a write.
-    refused: Option<io::Error>,
+    /// Whether memory or a write was refused. `finish` refuses then, so that nothing has to give up before.
+    is_refused: bool,
 }
 
 impl Chosen<'_> {
@@ -82,13 +84,11 @@ impl Chosen<'_> {
         false
     }
 
-    /// Adds each line of a text, where it is asked for. A refusal is kept for `finish`.
-    fn add(&mut self, kind: &str, text: io::Result<Vec<u8>>) {
+    /// Adds each line of a text, where it is asked for, if no write of it was refused.
+    fn add(&mut self, kind: &str, text: Option<Vec<u8>>) {
         match text {
-            Ok(text) => {
-                self.write(kind, str::from_utf8(&text).unwrap_or("no text"));
-            }
-            Err(refusal) => self.refused = Some(refusal),
+            Some(text) => self.write(kind, str::from_utf8(&text).unwrap_or("no text")),
+            None => self.is_refused = true,
         }
     }
 
@@ -96,25 +96,38 @@ impl Chosen<'_> {
     fn add_text(&mut self, kind: &str, text: Result<String, AllocError>) {
         match text {
             Ok(text) => self.write(kind, text.as_str()),
-            Err(refusal) => self.refused = Some(io::Error::from(refusal)),
+            Err(_) => self.is_refused = true,
         }
     }
 
-    /// The lines, or a refusal that was kept.
-    fn finish(self) -> io::Result<String> {
-        match self.refused {
-            Some(refusal) => Err(refusal),
-            None => Ok(self.text),
+    /// The lines, or the refusal that was kept.
+    fn finish(self) -> Result<String, AllocError> {
+        if self.is_refused {
+            Err(AllocError)
+        } else {
+            Ok(self.text)
         }
     }
 
     /// Writes each line of a text, where it is asked for.
     fn write(&mut self, kind: &str, text: &str) {
         for line in text.split_inclusive('\n') {
-            if self.is_asked(kind, line) && write!(self.text, "{kind} {line}").is_err() {
-                self.refused = Some(io::Error::from(AllocError));
+            if self.is_asked(kind, line) {
+                let is_written = write!(self.text, "{kind} {line}").is_ok();
+                self.is_refused |= !is_written;
             }
         }
+    }
+
+    /// Adds the status of a run, and what it prints.
+    fn add_run(&mut self, alloc: Global, words: &[&str], image: Option<&[u8]>) {
+        let mut out = Vec::new(alloc);
+        let mut err = Vec::new(alloc);
+        let status = run(alloc, words, image, &mut out, &mut err);
+        let is_written = write!(self.text, "status {status}\n").is_ok();
+        self.is_refused |= !is_written;
+        self.add("out", Some(out));
+        self.add("err", Some(err));
     }
 }
 
@@ -130,26 +143,26 @@ fn is_of(line: &str, part: &str) -> bool {
 /// What is answered to words and a file: `status`, then what is asked for, of `out` and `err` what a
 /// run prints, `file` and `command` how the words are taken, `writes` (`refused_writes`), `full` and
 /// `ample` (`over_heaps`) and `memory` (`without_memory`).
-fn lines(alloc: Global, words: &[&str], image: Option<&[u8]>, asks: &str) -> io::Result<String> {
-    let mut out = Vec::new(alloc);
-    let mut err = Vec::new(alloc);
-    let status = run(alloc, words, image, &mut out, &mut err);
-    let text = format!(in alloc; "status {status}\n")?;
+fn lines(
+    alloc: Global,
+    words: &[&str],
+    image: Option<&[u8]>,
+    asks: &str,
+) -> Result<String, AllocError> {
     let mut lines = Chosen {
         asks,
-        text,
-        refused: None,
+        text: String::new(alloc),
+        is_refused: false,
     };
-    lines.add("out", Ok(out));
-    lines.add("err", Ok(err));
+    lines.add_run(alloc, words, image);
     lines.add_text("file", taken_file(alloc, words));
     lines.add_text("command", taken_command(alloc, words));
     // Each of these takes several runs, or heaps.
     if asks.contains("writes") {
-        lines.add("writes", refused_writes(alloc, words, image));
+        lines.add_text("writes", refused_writes(alloc, words, image));
     }
     if asks.contains("full") {
-        over_heaps(alloc, image, &mut lines)?;
+        over_heaps(alloc, image, &mut lines);
     }
     lines.add("memory", without_memory(alloc));
     lines.finish()

@@ -3,24 +3,57 @@
 use super::refusing::{Refused, Refusing};
 use acpi_view_lib::arguments::parse_command;
 use acpi_view_lib::run::run_gathered;
-use std::alloc::Global;
-use std::io;
-use std::io::Write;
+use std::alloc::{AllocError, Global};
 
-/// Runs over two writers that refuse what is named, and answers the status and both.
-fn run_over(
+/// A run over two writers, and what they took.
+#[derive(Drop)]
+struct Run {
+    status: u8,
+    out: Refusing,
+    err: Refusing,
+}
+
+/// What is run: words, and the file.
+#[derive(Clone, Copy)]
+struct Program<'a> {
     alloc: Global,
-    words: &[&str],
-    image: Option<&[u8]>,
-    (out, err): (Refused, Refused),
-) -> (u8, Refusing, Refusing) {
-    let mut out = Refusing::new(alloc, out);
-    let mut err = Refusing::new(alloc, err);
-    let status = match run_gathered(alloc, parse_command(words), image, &mut out, &mut err) {
-        Ok((status, _, _)) => status,
-        Err(_) => 1,
-    };
-    (status, out, err)
+    words: &'a [&'a str],
+    image: Option<&'a [u8]>,
+}
+
+impl Program<'_> {
+    /// Runs over two writers that refuse what is named.
+    fn run(&self, out: Refused, err: Refused) -> Run {
+        let mut out = Refusing::new(self.alloc, out);
+        let mut err = Refusing::new(self.alloc, err);
+        let asked = parse_command(self.words);
+        let status = match run_gathered(self.alloc, asked, self.image, &mut out, &mut err) {
+            Ok((status, _, _)) => status,
+            Err(_) => 1,
+        };
+        Run { status, out, err }
+    }
+
+    /// Whether a run with what is refused ends with status 1, and each output has a front of what it has otherwise.
+    fn leaves_fronts(&self, whole: &Run, out: Refused, err: Refused) -> bool {
+        let run = self.run(out, err);
+        run.status == 1
+            && whole.out.bytes().starts_with(run.out.bytes())
+            && whole.err.bytes().starts_with(run.err.bytes())
+    }
+
+    /// Whether it does if any one write is refused, or the flush of either output alone.
+    fn always_leaves_fronts(&self, whole: &Run) -> bool {
+        let mut is_right = self.leaves_fronts(whole, Refused::Flush, Refused::Nothing)
+            && self.leaves_fronts(whole, Refused::Nothing, Refused::Flush);
+        for n in 0..whole.out.writes() {
+            is_right &= self.leaves_fronts(whole, Refused::Write(n), Refused::Nothing);
+        }
+        for n in 0..whole.err.writes() {
+            is_right &= self.leaves_fronts(whole, Refused::Nothing, Refused::Write(n));
+        }
+        is_right
+    }
 }
 
 /// The status of a run where nothing is refused, and after how many writes of standard output and of
@@ -30,28 +63,16 @@ pub(super) fn refused_writes(
     alloc: Global,
     words: &[&str],
     image: Option<&[u8]>,
-) -> io::Result<Vec<u8>> {
-    let ample = (Refused::Nothing, Refused::Nothing);
-    let (status, out, err) = run_over(alloc, words, image, ample);
-    let leaves_fronts = |refused: (Refused, Refused)| {
-        let (answer, some, others) = run_over(alloc, words, image, refused);
-        answer == 1
-            && out.bytes().starts_with(some.bytes())
-            && err.bytes().starts_with(others.bytes())
+) -> Result<String, AllocError> {
+    let program = Program {
+        alloc,
+        words,
+        image,
     };
-    let mut is_right = leaves_fronts((Refused::Flush, Refused::Nothing))
-        && leaves_fronts((Refused::Nothing, Refused::Flush));
-    for n in 0..out.writes() {
-        is_right = is_right && leaves_fronts((Refused::Write(n), Refused::Nothing));
+    let whole = program.run(Refused::Nothing, Refused::Nothing);
+    if !program.always_leaves_fronts(&whole) {
+        return String::from_str(alloc, "wrong\n");
     }
-    for n in 0..err.writes() {
-        is_right = is_right && leaves_fronts((Refused::Nothing, Refused::Write(n)));
-    }
-    let mut text = Vec::new(alloc);
-    if is_right {
-        writeln!(text, "{status} {} {}", out.writes(), err.writes())?;
-    } else {
-        writeln!(text, "wrong")?;
-    }
-    Ok(text)
+    let (status, written) = (whole.status, whole.out.writes());
+    format!(in alloc; "{status} {written} {}\n", whole.err.writes())
 }
