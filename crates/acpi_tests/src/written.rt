@@ -1,6 +1,7 @@
 //! Tests of the tables that `acpi_writer` writes: their bytes, and what is refused, worked out by hand from the layouts.
 
 mod affinities;
+mod calls;
 mod devices;
 mod fadt;
 mod gic;

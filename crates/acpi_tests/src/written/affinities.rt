@@ -1,9 +1,10 @@
 //! A SRAT with an entry of each kind, byte by byte, and what isn't written (ACPI 6.4, section 5.2.16).
 
+use super::calls::{Call, Contents, check_calls};
 use super::refused::BAD;
-use super::samples::{IDS, check};
+use super::samples::IDS;
 use acpi_numa::MemoryRange;
-use acpi_writer::{ApicDomain, GiccDomain, SratContents, WriterError, write_srat};
+use acpi_writer::{ApicDomain, GiccDomain, SratContents, WriterError};
 
 /// Ids at the edge of what a Processor Local APIC/SAPIC Affinity holds: 255 stands for all there.
 const APICS: [ApicDomain; 2] = [
@@ -63,21 +64,15 @@ pub(super) const SRAT_BYTES: [u8; 186] = [
     0, 0, 0, 0, 5, 0, 0, 0, 0, 0, 0, 0, 0, 0, 0, 0, // Flags: Enabled, NonVolatile
 ];
 
+#[rattlefmt::skip]
+static FILLED: [Call; 2] = [
+    ("SRAT", &IDS, Contents::Srat(SRAT), 186, Ok(&SRAT_BYTES)),
+    ("less", &IDS, Contents::Srat(SRAT), 185, Err(WriterError::NoRoom)),
+];
+
 #[test]
 fn affinities_fill_their_room(rt: HostRuntime) {
-    let mut out = [7; 186];
-    let found = write_srat(&mut out, &IDS, &SRAT);
-    check(&rt, "SRAT", found, Ok(186), &out, &SRAT_BYTES);
-    let mut out = [7; 185];
-    let found = write_srat(&mut out, &IDS, &SRAT);
-    check(
-        &rt,
-        "less",
-        found,
-        Err(WriterError::NoRoom),
-        &out,
-        &[7; 185],
-    );
+    check_calls(&rt, &FILLED);
 }
 
 /// No byte.
@@ -89,52 +84,45 @@ const PAST_END: MemoryRange = MemoryRange {
     ..HIGH
 };
 
+const OF_ALL_APICS: SratContents<'static> = SratContents {
+    apics: &[ApicDomain {
+        local_apic_id: 0xffffffff,
+        domain: 0,
+    }],
+    ranges: &[EMPTY],
+    ..SRAT
+};
+
+const OF_ALL_GICCS: SratContents<'static> = SratContents {
+    giccs: &[GiccDomain {
+        processor_uid: 0xffffffff,
+        domain: 0,
+    }],
+    ranges: &[EMPTY],
+    ..SRAT
+};
+
+const WITH_EMPTY: SratContents<'static> = SratContents {
+    ranges: &[LOW, EMPTY],
+    ..SRAT
+};
+
+const WITH_PAST_END: SratContents<'static> = SratContents {
+    ranges: &[LOW, PAST_END],
+    ..SRAT
+};
+
 /// Each with ids that aren't valid UTF-8 too.
-const NOT_WRITTEN: [(SratContents<'static>, WriterError); 5] = [
-    (
-        SratContents {
-            apics: &[ApicDomain {
-                local_apic_id: 0xffffffff,
-                domain: 0,
-            }],
-            ranges: &[EMPTY],
-            ..SRAT
-        },
-        WriterError::IdOfAll,
-    ),
-    (
-        SratContents {
-            giccs: &[GiccDomain {
-                processor_uid: 0xffffffff,
-                domain: 0,
-            }],
-            ranges: &[EMPTY],
-            ..SRAT
-        },
-        WriterError::IdOfAll,
-    ),
-    (
-        SratContents {
-            ranges: &[LOW, EMPTY],
-            ..SRAT
-        },
-        WriterError::BadRange,
-    ),
-    (
-        SratContents {
-            ranges: &[LOW, PAST_END],
-            ..SRAT
-        },
-        WriterError::BadRange,
-    ),
-    (SRAT, WriterError::BadName),
+#[rattlefmt::skip]
+static REFUSED: [Call; 5] = [
+    ("APICs", &BAD, Contents::Srat(OF_ALL_APICS), 185, Err(WriterError::IdOfAll)),
+    ("GICCs", &BAD, Contents::Srat(OF_ALL_GICCS), 185, Err(WriterError::IdOfAll)),
+    ("empty", &BAD, Contents::Srat(WITH_EMPTY), 185, Err(WriterError::BadRange)),
+    ("past the end", &BAD, Contents::Srat(WITH_PAST_END), 185, Err(WriterError::BadRange)),
+    ("names", &BAD, Contents::Srat(SRAT), 185, Err(WriterError::BadName)),
 ];
 
 #[test]
 fn affinities_are_of_one_processor_and_of_bytes(rt: HostRuntime) {
-    for (contents, error) in &NOT_WRITTEN {
-        let mut out = [7; 185];
-        let found = write_srat(&mut out, &BAD, contents);
-        check(&rt, "SRAT", found, Err(*error), &out, &[7; 185]);
-    }
+    check_calls(&rt, &REFUSED);
 }

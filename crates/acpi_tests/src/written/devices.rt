@@ -1,12 +1,11 @@
 //! An SPCR and a BGRT, byte by byte, and what isn't written (ACPI 6.4, section 5.2.22; the SPCR's layout is Microsoft's).
 
+use super::calls::{Call, Contents, check_calls};
 use super::refused::BAD;
-use super::samples::{IDS, check};
+use super::samples::IDS;
 use acpi_base::address::{AccessSize, AddressSpace, GenericAddress};
 use acpi_base::spcr::{SpcrFlowControl, SpcrInterfaceType, SpcrInterruptType, SpcrTerminalType};
-use acpi_writer::{
-    BgrtContents, BgrtOrientation, SpcrContents, SpcrPciDevice, WriterError, write_bgrt, write_spcr,
-};
+use acpi_writer::{BgrtContents, BgrtOrientation, SpcrContents, SpcrPciDevice, WriterError};
 
 const COM: GenericAddress = GenericAddress {
     address_space: AddressSpace::SystemIo,
@@ -106,37 +105,28 @@ pub(super) const BGRT_BYTES: [u8; 56] = [
     2, 1, 0, 0, 5, 4, 3, 0, // Image Offset X, Image Offset Y
 ];
 
+#[rattlefmt::skip]
+static FILLED: [Call; 3] = [
+    ("SPCR", &IDS, Contents::Spcr(PORT), 98, Ok(&SPCR_BYTES)),
+    ("none", &IDS, Contents::Spcr(NONE), 90, Ok(&NONE_BYTES)),
+    ("BGRT", &IDS, Contents::Bgrt(IMAGE), 56, Ok(&BGRT_BYTES)),
+];
+
 #[test]
 fn devices_fill_their_room(rt: HostRuntime) {
-    let mut out = [7; 98];
-    let found = write_spcr(&mut out, &IDS, &PORT);
-    check(&rt, "SPCR", found, Ok(98), &out, &SPCR_BYTES);
-    let mut out = [7; 90];
-    let found = write_spcr(&mut out, &IDS, &NONE);
-    check(&rt, "none", found, Ok(90), &out, &NONE_BYTES);
-    let mut out = [7; 56];
-    let found = write_bgrt(&mut out, &IDS, &IMAGE);
-    check(&rt, "BGRT", found, Ok(56), &out, &BGRT_BYTES);
+    check_calls(&rt, &FILLED);
 }
+
+#[rattlefmt::skip]
+static SHORT: [Call; 3] = [
+    ("SPCR", &IDS, Contents::Spcr(PORT), 97, Err(WriterError::NoRoom)),
+    ("BGRT", &IDS, Contents::Bgrt(IMAGE), 55, Err(WriterError::NoRoom)),
+    ("name", &BAD, Contents::Bgrt(IMAGE), 55, Err(WriterError::BadName)),
+];
 
 #[test]
 fn devices_need_their_room(rt: HostRuntime) {
-    let no_room = Err(WriterError::NoRoom);
-    let mut out = [7; 97];
-    let found = write_spcr(&mut out, &IDS, &PORT);
-    check(&rt, "SPCR", found, no_room, &out, &[7; 97]);
-    let mut out = [7; 55];
-    let found = write_bgrt(&mut out, &IDS, &IMAGE);
-    check(&rt, "BGRT", found, no_room, &out, &[7; 55]);
-    let found = write_bgrt(&mut out, &BAD, &IMAGE);
-    check(
-        &rt,
-        "name",
-        found,
-        Err(WriterError::BadName),
-        &out,
-        &[7; 55],
-    );
+    check_calls(&rt, &SHORT);
 }
 
 const NOWHERE: SpcrContents<'static> = SpcrContents {
@@ -144,35 +134,30 @@ const NOWHERE: SpcrContents<'static> = SpcrContents {
     ..PORT
 };
 
+const NO_INTERFACE: SpcrContents<'static> = SpcrContents {
+    interface_type: SpcrInterfaceType::Unknown(0x15),
+    ..NOWHERE
+};
+
+const NO_SPACE: SpcrContents<'static> = SpcrContents {
+    base_address: Some(GenericAddress {
+        address_space: AddressSpace::OemDefined(0xbf),
+        address: 0,
+        ..COM
+    }),
+    ..PORT
+};
+
 /// Each with ids that aren't valid UTF-8 too.
-const NOT_WRITTEN: [(SpcrContents<'static>, WriterError); 4] = [
-    (
-        SpcrContents {
-            interface_type: SpcrInterfaceType::Unknown(0x15),
-            ..NOWHERE
-        },
-        WriterError::BadCode,
-    ),
-    (
-        SpcrContents {
-            base_address: Some(GenericAddress {
-                address_space: AddressSpace::OemDefined(0xbf),
-                address: 0,
-                ..COM
-            }),
-            ..PORT
-        },
-        WriterError::BadCode,
-    ),
-    (NOWHERE, WriterError::NoAddress),
-    (PORT, WriterError::BadName),
+#[rattlefmt::skip]
+static REFUSED: [Call; 4] = [
+    ("interface", &BAD, Contents::Spcr(NO_INTERFACE), 98, Err(WriterError::BadCode)),
+    ("space", &BAD, Contents::Spcr(NO_SPACE), 98, Err(WriterError::BadCode)),
+    ("nowhere", &BAD, Contents::Spcr(NOWHERE), 98, Err(WriterError::NoAddress)),
+    ("names", &BAD, Contents::Spcr(PORT), 98, Err(WriterError::BadName)),
 ];
 
 #[test]
 fn ports_have_codes_and_an_address(rt: HostRuntime) {
-    for (contents, error) in &NOT_WRITTEN {
-        let mut out = [7; 98];
-        let found = write_spcr(&mut out, &BAD, contents);
-        check(&rt, "SPCR", found, Err(*error), &out, &[7; 98]);
-    }
+    check_calls(&rt, &REFUSED);
 }

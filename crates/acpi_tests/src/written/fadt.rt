@@ -1,13 +1,14 @@
 //! A FADT of fixed hardware, one of reduced hardware, and a FACS, byte by byte, in their room and in a byte less (ACPI
 //! 6.4, sections 5.2.9 and 5.2.10).
 
-use super::samples::{IDS, check};
+use super::calls::{Call, Contents, check_calls};
+use super::samples::IDS;
 use acpi_base::address::{AccessSize, AddressSpace, GenericAddress};
 use acpi_fixed::fadt::{GpeBlock, PowerProfile};
 use acpi_writer::fadt::{
     ArmBootFeatures, FixedFeatures, FixedHardware, LegacyFields, PcBootFeatures,
 };
-use acpi_writer::{FacsContents, FadtContents, FadtHardware, WriterError, write_facs, write_fadt};
+use acpi_writer::{FacsContents, FadtContents, FadtHardware, WriterError};
 
 /// A register of ports.
 const PORT: GenericAddress = GenericAddress {
@@ -212,61 +213,6 @@ const FACS_BYTES: [u8; 64] = [
     0, 0, 0, 0, 0, 0, 0, 0, 0, 0, 0, 0, 0, 0, 0, 0, 0, 0, 0, 0, 0, 0, 0, 0, // Reserved
 ];
 
-/// Contents that no FADT has, each with its error, but for `FIXED`.
-const REFUSED: [(FadtContents, WriterError); 7] = [
-    (FadtContents { dsdt: 0, ..FIXED }, WriterError::NoAddress),
-    (
-        FadtContents {
-            facs: Some(0),
-            power_profile: PowerProfile::Reserved(8),
-            ..FIXED
-        },
-        WriterError::NoAddress,
-    ),
-    (
-        FadtContents {
-            power_profile: PowerProfile::Reserved(8),
-            sleep_status: NOWHERE,
-            ..FIXED
-        },
-        WriterError::BadProfile,
-    ),
-    (
-        FadtContents {
-            sleep_status: NOWHERE,
-            ..REDUCED
-        },
-        WriterError::BadRegister,
-    ),
-    (
-        FadtContents {
-            reset_register: UNNAMED,
-            ..REDUCED
-        },
-        WriterError::BadRegister,
-    ),
-    (
-        FadtContents {
-            hardware: FadtHardware::Fixed(FixedHardware {
-                pm_timer: NOWHERE,
-                ..HARDWARE
-            }),
-            ..FIXED
-        },
-        WriterError::BadRegister,
-    ),
-    (
-        FadtContents {
-            hardware: FadtHardware::Fixed(FixedHardware {
-                gpe0: EMPTY,
-                ..HARDWARE
-            }),
-            ..FIXED
-        },
-        WriterError::BadRegister,
-    ),
-];
-
 const NOWHERE: Option<GenericAddress> = Some(GenericAddress { address: 0, ..PORT });
 
 const UNNAMED: Option<GenericAddress> = Some(GenericAddress {
@@ -280,34 +226,81 @@ const EMPTY: Option<GpeBlock> = Some(GpeBlock {
     byte_length: 0,
 });
 
+#[rattlefmt::skip]
+static FILLED: [Call; 3] = [
+    ("fixed", &IDS, Contents::Fadt(FIXED), 276, Ok(&FIXED_BYTES)),
+    ("reduced", &IDS, Contents::Fadt(REDUCED), 276, Ok(&REDUCED_BYTES)),
+    ("FACS", &IDS, Contents::Facs(FACS), 64, Ok(&FACS_BYTES)),
+];
+
 #[test]
 fn fadt_and_facs_fill_their_room(rt: HostRuntime) {
-    let mut out = [7; 276];
-    let found = write_fadt(&mut out, &IDS, &FIXED);
-    check(&rt, "fixed", found, Ok(276), &out, &FIXED_BYTES);
-    let found = write_fadt(&mut out, &IDS, &REDUCED);
-    check(&rt, "reduced", found, Ok(276), &out, &REDUCED_BYTES);
-    let mut out = [7; 64];
-    let found = write_facs(&mut out, &FACS);
-    check(&rt, "FACS", found, Ok(64), &out, &FACS_BYTES);
+    check_calls(&rt, &FILLED);
 }
+
+#[rattlefmt::skip]
+static SHORT: [Call; 2] = [
+    ("FADT", &IDS, Contents::Fadt(FIXED), 275, Err(WriterError::NoRoom)),
+    ("FACS", &IDS, Contents::Facs(FACS), 63, Err(WriterError::NoRoom)),
+];
 
 #[test]
 fn fadt_and_facs_need_their_room(rt: HostRuntime) {
-    let mut out = [7; 275];
-    let found = write_fadt(&mut out, &IDS, &FIXED);
-    let no_room = Err(WriterError::NoRoom);
-    check(&rt, "FADT", found, no_room, &out, &[7; 275]);
-    let mut out = [7; 63];
-    let found = write_facs(&mut out, &FACS);
-    check(&rt, "FACS", found, no_room, &out, &[7; 63]);
+    check_calls(&rt, &SHORT);
 }
+
+const NO_DSDT: FadtContents = FadtContents { dsdt: 0, ..FIXED };
+
+const FACS_AT_0: FadtContents = FadtContents {
+    facs: Some(0),
+    power_profile: PowerProfile::Reserved(8),
+    ..FIXED
+};
+
+const NO_PROFILE: FadtContents = FadtContents {
+    power_profile: PowerProfile::Reserved(8),
+    sleep_status: NOWHERE,
+    ..FIXED
+};
+
+const STATUS_NOWHERE: FadtContents = FadtContents {
+    sleep_status: NOWHERE,
+    ..REDUCED
+};
+
+const RESET_UNNAMED: FadtContents = FadtContents {
+    reset_register: UNNAMED,
+    ..REDUCED
+};
+
+const TIMER_NOWHERE: FadtContents = FadtContents {
+    hardware: FadtHardware::Fixed(FixedHardware {
+        pm_timer: NOWHERE,
+        ..HARDWARE
+    }),
+    ..FIXED
+};
+
+const EVENTS_EMPTY: FadtContents = FadtContents {
+    hardware: FadtHardware::Fixed(FixedHardware {
+        gpe0: EMPTY,
+        ..HARDWARE
+    }),
+    ..FIXED
+};
+
+#[rattlefmt::skip]
+static REFUSED: [Call; 7] = [
+    ("DSDT", &IDS, Contents::Fadt(NO_DSDT), 8, Err(WriterError::NoAddress)),
+    ("FACS", &IDS, Contents::Fadt(FACS_AT_0), 8, Err(WriterError::NoAddress)),
+    ("profile", &IDS, Contents::Fadt(NO_PROFILE), 8, Err(WriterError::BadProfile)),
+    ("status", &IDS, Contents::Fadt(STATUS_NOWHERE), 8, Err(WriterError::BadRegister)),
+    ("reset", &IDS, Contents::Fadt(RESET_UNNAMED), 8, Err(WriterError::BadRegister)),
+    ("timer", &IDS, Contents::Fadt(TIMER_NOWHERE), 8, Err(WriterError::BadRegister)),
+    ("events", &IDS, Contents::Fadt(EVENTS_EMPTY), 8, Err(WriterError::BadRegister)),
+];
 
 #[test]
 fn bad_contents_come_before_room(rt: HostRuntime) {
-    let mut out = [7; 8];
-    for (contents, error) in &REFUSED {
-        let found = write_fadt(&mut out, &IDS, contents);
-        check(&rt, "refused", found, Err(*error), &out, &[7; 8]);
-    }
+    check_calls(&rt, &REFUSED);
 }

@@ -1,12 +1,13 @@
 //! The MADT of an Arm machine, byte by byte, in its room and in a byte less (ACPI 6.4, sections 5.2.12.14 to 5.2.12.18).
 
-use super::samples::{IDS, check};
+use super::calls::{Call, Contents, check_calls};
+use super::samples::IDS;
 use acpi_arm::gic::{
     GicCpuInterface, GicDistributor, GicMsiFrame, GicRedistributors, GicTranslationService,
     SpiRange,
 };
 use acpi_base::model::TriggerMode;
-use acpi_writer::{GicContents, WriterError, write_gic_madt};
+use acpi_writer::{GicContents, WriterError};
 
 /// A processor by an entry of ACPI 6.4.
 const PROCESSOR: GicCpuInterface = GicCpuInterface {
@@ -113,50 +114,40 @@ pub(super) const GIC_BYTES: [u8; 314] = [
     13, 24, 0, 0, 8, 0, 0, 0, 0, 0, 0x1d, 0x2c, 0, 0, 0, 0, 0, 0, 0, 0, 0, 0, 0, 0, // GIC MSI Frame: its registers tell its interrupts
 ];
 
-#[test]
-fn gic_fills_its_room(rt: HostRuntime) {
-    let mut out = [7; 314];
-    let found = write_gic_madt(&mut out, &IDS, &GIC);
-    check(&rt, "GIC", found, Ok(314), &out, &GIC_BYTES);
-    let mut out = [7; 313];
-    let found = write_gic_madt(&mut out, &IDS, &GIC);
-    check(&rt, "GIC", found, Err(WriterError::NoRoom), &out, &[7; 313]);
-}
+#[rattlefmt::skip]
+static FILLED: [Call; 2] = [
+    ("GIC", &IDS, Contents::GicMadt(GIC), 314, Ok(&GIC_BYTES)),
+    ("GIC", &IDS, Contents::GicMadt(GIC), 313, Err(WriterError::NoRoom)),
+];
 
 #[test]
-fn gic_needs_a_processor_and_no_bus(rt: HostRuntime) {
-    let mut out = [7; 8];
-    let empty = GicContents {
-        cpu_interfaces: &[],
-        ..GIC
-    };
-    let found = write_gic_madt(&mut out, &IDS, &empty);
-    check(
-        &rt,
-        "empty",
-        found,
-        Err(WriterError::NoProcessor),
-        &out,
-        &[7; 8],
-    );
-    let by_bus = [
+fn gic_fills_its_room(rt: HostRuntime) {
+    check_calls(&rt, &FILLED);
+}
+
+const NO_PROCESSOR: GicContents<'static> = GicContents {
+    cpu_interfaces: &[],
+    ..GIC
+};
+
+const BY_BUS: GicContents<'static> = GicContents {
+    cpu_interfaces: &[
         PROCESSOR,
         GicCpuInterface {
             maintenance_trigger: TriggerMode::SameAsBus,
             ..PROCESSOR
         },
-    ];
-    let bus = GicContents {
-        cpu_interfaces: &by_bus,
-        ..GIC
-    };
-    let found = write_gic_madt(&mut out, &IDS, &bus);
-    check(
-        &rt,
-        "bus",
-        found,
-        Err(WriterError::SameAsBus),
-        &out,
-        &[7; 8],
-    );
+    ],
+    ..GIC
+};
+
+#[rattlefmt::skip]
+static REFUSED: [Call; 2] = [
+    ("empty", &IDS, Contents::GicMadt(NO_PROCESSOR), 8, Err(WriterError::NoProcessor)),
+    ("bus", &IDS, Contents::GicMadt(BY_BUS), 8, Err(WriterError::SameAsBus)),
+];
+
+#[test]
+fn gic_needs_a_processor_and_no_bus(rt: HostRuntime) {
+    check_calls(&rt, &REFUSED);
 }

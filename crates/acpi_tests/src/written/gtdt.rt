@@ -1,10 +1,10 @@
 //! The GTDT of an Arm machine, byte by byte, in its room and in a byte less (ACPI 6.4, section 5.2.24).
 
-use super::samples::{IDS, check};
+use super::calls::{Call, Contents, check_calls};
+use super::samples::IDS;
 use acpi_arm::gtdt::{ArmTimer, GtFrame, SbsaWatchdog, TimerInterrupt};
 use acpi_base::model::{Polarity, TriggerMode};
-use acpi_writer::{GtBlockContents, GtdtContents, PlatformTimerContents, WriterError, write_gtdt};
-use std::process::Abort;
+use acpi_writer::{GtBlockContents, GtdtContents, PlatformTimerContents, WriterError};
 
 /// A frame that EL0 doesn't see, of secure software.
 const SECURE: GtFrame = GtFrame {
@@ -117,48 +117,78 @@ pub(super) const GTDT_BYTES: [u8; 232] = [
     1, 28, 0, 0, 0, 0, 0x45, 0x2a, 0, 0, 0, 0, 0, 0, 0x44, 0x2a, 1, 0, 0, 0, 61, 3, 0, 0, 6, 0, 0, 0, // Arm Generic Watchdog
 ];
 
+#[rattlefmt::skip]
+static FILLED: [Call; 2] = [
+    ("GTDT", &IDS, Contents::Gtdt(GTDT), 232, Ok(&GTDT_BYTES)),
+    ("GTDT", &IDS, Contents::Gtdt(GTDT), 231, Err(WriterError::NoRoom)),
+];
+
 #[test]
 fn timers_fill_their_room(rt: HostRuntime) {
-    let mut out = [7; 232];
-    let found = write_gtdt(&mut out, &IDS, &GTDT);
-    check(&rt, "GTDT", found, Ok(232), &out, &GTDT_BYTES);
-    let mut out = [7; 231];
-    let found = write_gtdt(&mut out, &IDS, &GTDT);
-    check(
-        &rt,
-        "GTDT",
-        found,
-        Err(WriterError::NoRoom),
-        &out,
-        &[7; 231],
-    );
+    check_calls(&rt, &FILLED);
 }
 
-/// Checks that a GTDT of one block of these frames isn't written.
-fn refused(rt: &impl Abort, name: &str, frames: &[GtFrame], error: WriterError) {
-    let mut out = [7; 8];
-    let timers = [PlatformTimerContents::GtBlock(GtBlockContents {
+/// The second frame has the base that stands for none.
+const ALL_ONES: GtdtContents<'static> = GtdtContents {
+    platform_timers: &[PlatformTimerContents::GtBlock(GtBlockContents {
         address: 0x2a810000,
-        frames,
-    })];
-    let contents = GtdtContents {
-        platform_timers: &timers,
-        ..GTDT
-    };
-    let found = write_gtdt(&mut out, &IDS, &contents);
-    check(rt, name, found, Err(error), &out, &[7; 8]);
-}
+        frames: &[
+            SECURE,
+            GtFrame {
+                el0_base: Some(u64::MAX),
+                ..SECURE
+            },
+        ],
+    })],
+    ..GTDT
+};
+
+/// A timer of the second frame is as its bus has it.
+const BY_BUS: GtdtContents<'static> = GtdtContents {
+    platform_timers: &[PlatformTimerContents::GtBlock(GtBlockContents {
+        address: 0x2a810000,
+        frames: &[
+            SECURE,
+            GtFrame {
+                virtual_timer: TimerInterrupt {
+                    interrupt: 572,
+                    trigger_mode: TriggerMode::Level,
+                    polarity: Polarity::SameAsBus,
+                },
+                ..SECURE
+            },
+        ],
+    })],
+    ..GTDT
+};
+
+/// As many frames as a block of less than 64 KiB has.
+const MOST_FRAMES: GtdtContents<'static> = GtdtContents {
+    platform_timers: &[PlatformTimerContents::GtBlock(GtBlockContents {
+        address: 0x2a810000,
+        frames: &[SECURE; 1637],
+    })],
+    ..GTDT
+};
+
+/// One more.
+const TOO_MANY: GtdtContents<'static> = GtdtContents {
+    platform_timers: &[PlatformTimerContents::GtBlock(GtBlockContents {
+        address: 0x2a810000,
+        frames: &[SECURE; 1638],
+    })],
+    ..GTDT
+};
+
+#[rattlefmt::skip]
+static REFUSED: [Call; 4] = [
+    ("all ones", &IDS, Contents::Gtdt(ALL_ONES), 8, Err(WriterError::NoAddress)),
+    ("bus", &IDS, Contents::Gtdt(BY_BUS), 8, Err(WriterError::SameAsBus)),
+    ("1637", &IDS, Contents::Gtdt(MOST_FRAMES), 8, Err(WriterError::NoRoom)),
+    ("1638", &IDS, Contents::Gtdt(TOO_MANY), 8, Err(WriterError::TooManyFrames)),
+];
 
 #[test]
 fn timers_need_their_modes_and_bases(rt: HostRuntime) {
-    let ones = GtFrame {
-        el0_base: Some(u64::MAX),
-        ..SECURE
-    };
-    refused(&rt, "all ones", &[SECURE, ones], WriterError::NoAddress);
-    let mut bus = SECURE;
-    bus.virtual_timer.polarity = Polarity::SameAsBus;
-    refused(&rt, "bus", &[SECURE, bus], WriterError::SameAsBus);
-    refused(&rt, "1637", &[SECURE; 1637], WriterError::NoRoom);
-    refused(&rt, "1638", &[SECURE; 1638], WriterError::TooManyFrames);
+    check_calls(&rt, &REFUSED);
 }

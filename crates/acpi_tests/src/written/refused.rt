@@ -1,12 +1,9 @@
 //! What is refused for other reasons than room, in order. `TooLong` isn't tried: it needs a slice of 4 GiB.
 
-use super::samples::{HPET, IDS, MADT, PROCESSORS, REGIONS, check};
+use super::calls::{Call, Contents, check_calls};
+use super::samples::{HPET, IDS, MADT, PROCESSOR, REGIONS};
 use acpi_base::model::{LocalInterruptLine, NmiLine, NmiProcessor};
-use acpi_writer::{
-    MadtContents, MadtProcessor, TableIds, WriterError, write_dsdt, write_hpet, write_madt,
-    write_mcfg, write_rsdp, write_rsdt, write_slit, write_ssdt, write_xsdt,
-};
-use std::process::Abort;
+use acpi_writer::{MadtContents, MadtProcessor, TableIds, WriterError};
 
 /// A byte that begins no text.
 pub(super) const BAD: TableIds = TableIds {
@@ -29,78 +26,86 @@ const OF_ALL: [NmiLine; 1] = [NmiLine {
     line: LocalInterruptLine::Lint0,
 }];
 
-/// Processors of the id and of the uid that stand for all.
-const ALL_PROCESSORS: [MadtProcessor; 2] = [
-    MadtProcessor {
-        processor_uid: 1,
-        local_apic_id: 0xffffffff,
-        is_enabled: true,
-        is_online_capable: false,
-    },
-    MadtProcessor {
-        processor_uid: 0xffffffff,
-        local_apic_id: 1,
-        is_enabled: true,
-        is_online_capable: false,
-    },
-];
+const UID_OF_ALL: MadtContents<'static> = MadtContents {
+    local_apic_nmi_lines: &OF_ALL,
+    ..MADT
+};
 
-/// Checks that a call was refused by this error, and left a slice of sevens as it was.
-fn left_alone(
-    rt: &impl Abort,
-    name: &str,
-    found: Result<usize, WriterError>,
-    error: WriterError,
-    out: &[u8],
-) {
-    check(rt, name, found, Err(error), out, &[7; 8]);
-}
+const NO_PROCESSOR: MadtContents<'static> = MadtContents {
+    processors: &[],
+    ..UID_OF_ALL
+};
+
+/// The second processor has the id that stands for all.
+const ID_OF_ALL: MadtContents<'static> = MadtContents {
+    processors: &[
+        PROCESSOR,
+        MadtProcessor {
+            processor_uid: 1,
+            local_apic_id: 0xffffffff,
+            is_enabled: true,
+            is_online_capable: false,
+        },
+    ],
+    ..UID_OF_ALL
+};
+
+/// The second processor has the uid that stands for all.
+const PROCESSOR_OF_ALL: MadtContents<'static> = MadtContents {
+    processors: &[
+        PROCESSOR,
+        MadtProcessor {
+            processor_uid: 0xffffffff,
+            local_apic_id: 1,
+            is_enabled: true,
+            is_online_capable: false,
+        },
+    ],
+    ..UID_OF_ALL
+};
+
+#[rattlefmt::skip]
+static IN_ORDER: [Call; 8] = [
+    ("empty", &BAD, Contents::Madt(NO_PROCESSOR), 8, Err(WriterError::NoProcessor)),
+    ("id of all", &BAD, Contents::Madt(ID_OF_ALL), 8, Err(WriterError::IdOfAll)),
+    ("id of all", &BAD, Contents::Madt(PROCESSOR_OF_ALL), 8, Err(WriterError::IdOfAll)),
+    ("uid of all", &BAD, Contents::Madt(UID_OF_ALL), 8, Err(WriterError::UidOfAll)),
+    ("MADT", &BAD, Contents::Madt(MADT), 8, Err(WriterError::BadName)),
+    ("MCFG", &BAD, Contents::Mcfg(&REGIONS), 8, Err(WriterError::BadName)),
+    ("HPET", &BAD, Contents::Hpet(HPET), 8, Err(WriterError::BadName)),
+    ("room", &IDS, Contents::Hpet(HPET), 8, Err(WriterError::NoRoom)),
+];
 
 #[test]
 fn contents_come_before_names_and_names_before_room(rt: HostRuntime) {
-    let mut out = [7; 8];
-    let of_all = MadtContents {
-        local_apic_nmi_lines: &OF_ALL,
-        ..MADT
-    };
-    let empty = MadtContents {
-        processors: &[],
-        ..of_all
-    };
-    let found = write_madt(&mut out, &BAD, &empty);
-    left_alone(&rt, "empty", found, WriterError::NoProcessor, &out);
-    for bad in &ALL_PROCESSORS {
-        let bad_processor = MadtContents {
-            processors: &[PROCESSORS[0], *bad],
-            ..of_all
-        };
-        let found = write_madt(&mut out, &BAD, &bad_processor);
-        left_alone(&rt, "id of all", found, WriterError::IdOfAll, &out);
-    }
-    let found = write_madt(&mut out, &BAD, &of_all);
-    left_alone(&rt, "uid of all", found, WriterError::UidOfAll, &out);
-    let bad = WriterError::BadName;
-    left_alone(&rt, "MADT", write_madt(&mut out, &BAD, &MADT), bad, &out);
-    left_alone(&rt, "MCFG", write_mcfg(&mut out, &BAD, &REGIONS), bad, &out);
-    left_alone(&rt, "HPET", write_hpet(&mut out, &BAD, &HPET), bad, &out);
-    let found = write_hpet(&mut out, &IDS, &HPET);
-    left_alone(&rt, "room", found, WriterError::NoRoom, &out);
+    check_calls(&rt, &IN_ORDER);
 }
+
+#[rattlefmt::skip]
+static BAD_NAMES: [Call; 20] = [
+    ("RSDP", &BAD, Contents::Rsdp(0x1000), 8, Err(WriterError::BadName)),
+    ("RSDT", &BAD, Contents::Rsdt(&[0x1000]), 8, Err(WriterError::BadName)),
+    ("XSDT", &BAD, Contents::Xsdt(&[0x1000]), 8, Err(WriterError::BadName)),
+    ("DSDT", &BAD, Contents::Dsdt(2, &[]), 8, Err(WriterError::BadName)),
+    ("SSDT", &BAD, Contents::Ssdt(2, &[]), 8, Err(WriterError::BadName)),
+    ("SLIT", &BAD, Contents::Slit(1, &[10]), 8, Err(WriterError::BadName)),
+    ("RSDP", &BAD_OEM, Contents::Rsdp(0x1000), 8, Err(WriterError::BadName)),
+    ("RSDT", &BAD_OEM, Contents::Rsdt(&[0x1000]), 8, Err(WriterError::BadName)),
+    ("XSDT", &BAD_OEM, Contents::Xsdt(&[0x1000]), 8, Err(WriterError::BadName)),
+    ("DSDT", &BAD_OEM, Contents::Dsdt(2, &[]), 8, Err(WriterError::BadName)),
+    ("SSDT", &BAD_OEM, Contents::Ssdt(2, &[]), 8, Err(WriterError::BadName)),
+    ("SLIT", &BAD_OEM, Contents::Slit(1, &[10]), 8, Err(WriterError::BadName)),
+    ("RSDP", &BAD_TABLE, Contents::Rsdp(0x1000), 8, Err(WriterError::BadName)),
+    ("RSDT", &BAD_TABLE, Contents::Rsdt(&[0x1000]), 8, Err(WriterError::BadName)),
+    ("XSDT", &BAD_TABLE, Contents::Xsdt(&[0x1000]), 8, Err(WriterError::BadName)),
+    ("DSDT", &BAD_TABLE, Contents::Dsdt(2, &[]), 8, Err(WriterError::BadName)),
+    ("SSDT", &BAD_TABLE, Contents::Ssdt(2, &[]), 8, Err(WriterError::BadName)),
+    ("SLIT", &BAD_TABLE, Contents::Slit(1, &[10]), 8, Err(WriterError::BadName)),
+    ("no square", &BAD, Contents::Slit(2, &[10]), 8, Err(WriterError::BadMatrix)),
+    ("address 0", &BAD, Contents::Rsdp(0), 8, Err(WriterError::NoAddress)),
+];
 
 #[test]
 fn each_name_is_asked_of_each_table(rt: HostRuntime) {
-    let mut out = [7; 8];
-    let bad = WriterError::BadName;
-    for ids in &[BAD, BAD_OEM, BAD_TABLE] {
-        left_alone(&rt, "RSDP", write_rsdp(&mut out, ids, 0x1000), bad, &out);
-        left_alone(&rt, "RSDT", write_rsdt(&mut out, ids, &[0x1000]), bad, &out);
-        left_alone(&rt, "XSDT", write_xsdt(&mut out, ids, &[0x1000]), bad, &out);
-        left_alone(&rt, "DSDT", write_dsdt(&mut out, ids, 2, &[]), bad, &out);
-        left_alone(&rt, "SSDT", write_ssdt(&mut out, ids, 2, &[]), bad, &out);
-        left_alone(&rt, "SLIT", write_slit(&mut out, ids, 1, &[10]), bad, &out);
-    }
-    let found = write_slit(&mut out, &BAD, 2, &[10]);
-    left_alone(&rt, "no square", found, WriterError::BadMatrix, &out);
-    let found = write_rsdp(&mut out, &BAD, 0);
-    left_alone(&rt, "address 0", found, WriterError::NoAddress, &out);
+    check_calls(&rt, &BAD_NAMES);
 }

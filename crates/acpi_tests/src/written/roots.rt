@@ -1,10 +1,9 @@
 //! The RSDP, root tables, tables of AML and distances, byte by byte, in their room and in a byte less (ACPI 6.4,
 //! sections 5.2.5.3, 5.2.7, 5.2.8, 5.2.11 and 5.2.17).
 
-use super::samples::{IDS, check};
-use acpi_writer::{
-    WriterError, write_dsdt, write_rsdp, write_rsdt, write_slit, write_ssdt, write_xsdt,
-};
+use super::calls::{Call, Contents, check_calls};
+use super::samples::IDS;
+use acpi_writer::WriterError;
 
 /// An RSDP that leads to an XSDT at 0x1_00001000.
 #[rattlefmt::skip]
@@ -69,77 +68,44 @@ const SLIT_BYTES: [u8; 48] = [
     10, 21, 22, 10, // Entry[0][0], Entry[0][1], Entry[1][0], Entry[1][1]
 ];
 
+#[rattlefmt::skip]
+static WRITTEN: [Call; 6] = [
+    ("RSDP", &IDS, Contents::Rsdp(0x1_00001000), 36, Ok(&RSDP_BYTES)),
+    ("XSDT", &IDS, Contents::Xsdt(&[0x1_00002000, 0x3000]), 52, Ok(&XSDT_BYTES)),
+    ("RSDT", &IDS, Contents::Rsdt(&[0x2000, 0x3000]), 44, Ok(&RSDT_BYTES)),
+    ("DSDT", &IDS, Contents::Dsdt(2, &AML), 42, Ok(&DSDT_BYTES)),
+    ("SSDT", &IDS, Contents::Ssdt(2, &AML), 42, Ok(&SSDT_BYTES)),
+    ("SLIT", &IDS, Contents::Slit(2, &[10, 21, 22, 10]), 48, Ok(&SLIT_BYTES)),
+];
+
 #[test]
 fn roots_fill_their_room(rt: HostRuntime) {
-    let mut out = [7; 36];
-    let found = write_rsdp(&mut out, &IDS, 0x1_00001000);
-    check(&rt, "RSDP", found, Ok(36), &out, &RSDP_BYTES);
-    let mut out = [7; 52];
-    let found = write_xsdt(&mut out, &IDS, &[0x1_00002000, 0x3000]);
-    check(&rt, "XSDT", found, Ok(52), &out, &XSDT_BYTES);
-    let mut out = [7; 44];
-    let found = write_rsdt(&mut out, &IDS, &[0x2000, 0x3000]);
-    check(&rt, "RSDT", found, Ok(44), &out, &RSDT_BYTES);
-    let mut out = [7; 42];
-    let found = write_dsdt(&mut out, &IDS, 2, &AML);
-    check(&rt, "DSDT", found, Ok(42), &out, &DSDT_BYTES);
-    let mut out = [7; 42];
-    let found = write_ssdt(&mut out, &IDS, 2, &AML);
-    check(&rt, "SSDT", found, Ok(42), &out, &SSDT_BYTES);
-    let mut out = [7; 48];
-    let found = write_slit(&mut out, &IDS, 2, &[10, 21, 22, 10]);
-    check(&rt, "SLIT", found, Ok(48), &out, &SLIT_BYTES);
+    check_calls(&rt, &WRITTEN);
 }
+
+#[rattlefmt::skip]
+static REFUSED: [Call; 7] = [
+    ("RSDP", &IDS, Contents::Rsdp(0x1000), 35, Err(WriterError::NoRoom)),
+    ("address 0", &IDS, Contents::Rsdp(0), 35, Err(WriterError::NoAddress)),
+    ("XSDT", &IDS, Contents::Xsdt(&[0x2000, 0x3000]), 51, Err(WriterError::NoRoom)),
+    ("RSDT", &IDS, Contents::Rsdt(&[0x2000, 0x3000]), 43, Err(WriterError::NoRoom)),
+    ("DSDT", &IDS, Contents::Dsdt(2, &AML), 41, Err(WriterError::NoRoom)),
+    ("SSDT", &IDS, Contents::Ssdt(2, &AML), 41, Err(WriterError::NoRoom)),
+    ("SLIT", &IDS, Contents::Slit(2, &[10, 21, 22, 10]), 47, Err(WriterError::NoRoom)),
+];
 
 #[test]
 fn roots_need_their_room(rt: HostRuntime) {
-    let mut out = [7; 35];
-    let found = write_rsdp(&mut out, &IDS, 0x1000);
-    check(&rt, "RSDP", found, Err(WriterError::NoRoom), &out, &[7; 35]);
-    let found = write_rsdp(&mut out, &IDS, 0);
-    check(
-        &rt,
-        "address 0",
-        found,
-        Err(WriterError::NoAddress),
-        &out,
-        &[7; 35],
-    );
-    let mut out = [7; 51];
-    let found = write_xsdt(&mut out, &IDS, &[0x2000, 0x3000]);
-    check(&rt, "XSDT", found, Err(WriterError::NoRoom), &out, &[7; 51]);
-    let mut out = [7; 43];
-    let found = write_rsdt(&mut out, &IDS, &[0x2000, 0x3000]);
-    check(&rt, "RSDT", found, Err(WriterError::NoRoom), &out, &[7; 43]);
-    let mut out = [7; 41];
-    let found = write_dsdt(&mut out, &IDS, 2, &AML);
-    check(&rt, "DSDT", found, Err(WriterError::NoRoom), &out, &[7; 41]);
-    let found = write_ssdt(&mut out, &IDS, 2, &AML);
-    check(&rt, "SSDT", found, Err(WriterError::NoRoom), &out, &[7; 41]);
-    let mut out = [7; 47];
-    let found = write_slit(&mut out, &IDS, 2, &[10, 21, 22, 10]);
-    check(&rt, "SLIT", found, Err(WriterError::NoRoom), &out, &[7; 47]);
+    check_calls(&rt, &REFUSED);
 }
+
+#[rattlefmt::skip]
+static NO_PAIRS: [Call; 2] = [
+    ("no square", &IDS, Contents::Slit(2, &[10, 21, 22]), 47, Err(WriterError::BadMatrix)),
+    ("2^64 pairs", &IDS, Contents::Slit(0x1_00000000, &[]), 47, Err(WriterError::BadMatrix)),
+];
 
 #[test]
 fn distances_are_of_pairs(rt: HostRuntime) {
-    let mut out = [7; 47];
-    let found = write_slit(&mut out, &IDS, 2, &[10, 21, 22]);
-    check(
-        &rt,
-        "no square",
-        found,
-        Err(WriterError::BadMatrix),
-        &out,
-        &[7; 47],
-    );
-    let found = write_slit(&mut out, &IDS, 0x1_00000000, &[]);
-    check(
-        &rt,
-        "2^64 pairs",
-        found,
-        Err(WriterError::BadMatrix),
-        &out,
-        &[7; 47],
-    );
+    check_calls(&rt, &NO_PAIRS);
 }

@@ -18,14 +18,16 @@ pub(super) const IDS: TableIds = TableIds {
     creator_revision: 0x05060708,
 };
 
+pub(super) const PROCESSOR: MadtProcessor = MadtProcessor {
+    processor_uid: 7,
+    local_apic_id: 2,
+    is_enabled: true,
+    is_online_capable: false,
+};
+
 /// The second one's ids are too large for a Processor Local APIC.
 pub(super) const PROCESSORS: [MadtProcessor; 2] = [
-    MadtProcessor {
-        processor_uid: 7,
-        local_apic_id: 2,
-        is_enabled: true,
-        is_online_capable: false,
-    },
+    PROCESSOR,
     MadtProcessor {
         processor_uid: 255,
         local_apic_id: 0x1234,

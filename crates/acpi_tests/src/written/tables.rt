@@ -1,10 +1,11 @@
 //! Tables that are written, byte by byte, with what stands after them, and the least room that each needs.
 
+use super::calls::{Call, Contents, check_calls};
 use super::madt::{EDGES_BYTES, MADT_BYTES};
 use super::samples::{EDGES, HPET, IDS, MADT, REGIONS, check};
 use acpi::HpetInfo;
 use acpi::hpet::PageProtection;
-use acpi_writer::{WriterError, write_hpet, write_madt, write_mcfg};
+use acpi_writer::{WriterError, write_hpet};
 
 /// An MCFG of `samples::REGIONS` (PCI Firmware Specification, section 4.1.2).
 #[rattlefmt::skip]
@@ -50,67 +51,39 @@ const PROTECTIONS: [(PageProtection, u8, u8); 4] = [
     (PageProtection::Other, 3, 0xa2),
 ];
 
-/// What a slice of sevens is after a table: the table, and sevens.
-fn before_sevens(table: &[u8]) -> [u8; 200] {
-    let mut left = [7; 200];
-    for (byte, there) in left.iter_mut().zip(table) {
-        *byte = *there;
-    }
-    left
-}
+/// Calls with room for more than the table.
+#[rattlefmt::skip]
+static AT_THE_FRONT: [Call; 3] = [
+    ("MADT", &IDS, Contents::Madt(MADT), 200, Ok(&MADT_BYTES)),
+    ("MCFG", &IDS, Contents::Mcfg(&REGIONS), 200, Ok(&MCFG_BYTES)),
+    ("HPET", &IDS, Contents::Hpet(HPET), 200, Ok(&HPET_BYTES)),
+];
 
 #[test]
 fn tables_stand_at_the_front(rt: HostRuntime) {
-    let mut out = [7; 200];
-    let found = write_madt(&mut out, &IDS, &MADT);
-    check(
-        &rt,
-        "MADT",
-        found,
-        Ok(144),
-        &out,
-        &before_sevens(&MADT_BYTES),
-    );
-    let mut out = [7; 200];
-    let found = write_mcfg(&mut out, &IDS, &REGIONS);
-    check(
-        &rt,
-        "MCFG",
-        found,
-        Ok(76),
-        &out,
-        &before_sevens(&MCFG_BYTES),
-    );
-    let mut out = [7; 200];
-    let found = write_hpet(&mut out, &IDS, &HPET);
-    check(
-        &rt,
-        "HPET",
-        found,
-        Ok(56),
-        &out,
-        &before_sevens(&HPET_BYTES),
-    );
+    check_calls(&rt, &AT_THE_FRONT);
 }
+
+#[rattlefmt::skip]
+static FILLED: [Call; 3] = [
+    ("MADT", &IDS, Contents::Madt(MADT), 144, Ok(&MADT_BYTES)),
+    ("MCFG", &IDS, Contents::Mcfg(&REGIONS), 76, Ok(&MCFG_BYTES)),
+    ("HPET", &IDS, Contents::Hpet(HPET), 56, Ok(&HPET_BYTES)),
+];
 
 #[test]
 fn tables_fill_their_room(rt: HostRuntime) {
-    let mut out = [7; 144];
-    let found = write_madt(&mut out, &IDS, &MADT);
-    check(&rt, "MADT", found, Ok(144), &out, &MADT_BYTES);
-    let mut out = [7; 76];
-    let found = write_mcfg(&mut out, &IDS, &REGIONS);
-    check(&rt, "MCFG", found, Ok(76), &out, &MCFG_BYTES);
-    let mut out = [7; 56];
-    let found = write_hpet(&mut out, &IDS, &HPET);
-    check(&rt, "HPET", found, Ok(56), &out, &HPET_BYTES);
+    check_calls(&rt, &FILLED);
 }
+
+#[rattlefmt::skip]
+static AT_THE_EDGES: [Call; 1] = [
+    ("edges", &IDS, Contents::Madt(EDGES), 142, Ok(&EDGES_BYTES)),
+];
 
 #[test]
 fn madt_at_the_edges(rt: HostRuntime) {
-    let mut out = [7; 142];
-    let found = write_madt(&mut out, &IDS, &EDGES);
-    check(&rt, "edges", found, Ok(142), &out, &EDGES_BYTES);
+    check_calls(&rt, &AT_THE_EDGES);
 }
 
 #[test]
@@ -131,22 +104,14 @@ fn each_protection_has_its_code(rt: HostRuntime) {
     }
 }
 
+#[rattlefmt::skip]
+static SHORT: [Call; 3] = [
+    ("MADT", &IDS, Contents::Madt(MADT), 143, Err(WriterError::NoRoom)),
+    ("MCFG", &IDS, Contents::Mcfg(&REGIONS), 75, Err(WriterError::NoRoom)),
+    ("HPET", &IDS, Contents::Hpet(HPET), 55, Err(WriterError::NoRoom)),
+];
+
 #[test]
 fn one_byte_less_is_refused(rt: HostRuntime) {
-    let mut out = [7; 143];
-    let found = write_madt(&mut out, &IDS, &MADT);
-    check(
-        &rt,
-        "MADT",
-        found,
-        Err(WriterError::NoRoom),
-        &out,
-        &[7; 143],
-    );
-    let mut out = [7; 75];
-    let found = write_mcfg(&mut out, &IDS, &REGIONS);
-    check(&rt, "MCFG", found, Err(WriterError::NoRoom), &out, &[7; 75]);
-    let mut out = [7; 55];
-    let found = write_hpet(&mut out, &IDS, &HPET);
-    check(&rt, "HPET", found, Err(WriterError::NoRoom), &out, &[7; 55]);
+    check_calls(&rt, &SHORT);
 }
