@@ -1,7 +1,8 @@
 #!/usr/bin/env python3
-"""machines.py KERNEL ACPI_VIEW ACPI_PACK [PART]: boots the kernel on every machine below, or on those whose
+"""machines.py KERNEL ACPI_VIEW ACPI_PACK GUEST [PART]: boots the kernel on every machine below, or on those whose
 names have PART, takes memory from the same machine while the kernel holds, and compares what the kernel
-printed with what acpi_view prints of an image of that memory, line by line, and with checks.py.
+printed with what acpi_view prints of an image of that memory, line by line, and with checks.py. On one machine the
+tables are those that GUEST, the program of `guest`, wrote, and the lines have to be those of the machine it wrote.
 
 machines.py KERNEL --faults: boots a kernel on one machine, on which it has to end with an invalid opcode."""
 import os
@@ -18,7 +19,7 @@ sys.path.append(os.path.join(os.path.dirname(os.path.abspath(__file__)), '..'))
 from checks import check, rsdp_in
 from qemu import Memory, connect, lines_until, save
 
-KERNEL, VIEW, PACK, PART = (sys.argv[1:] + [''] * 3)[:4]
+KERNEL, VIEW, PACK, GUEST, PART = (sys.argv[1:] + [''] * 4)[:5]
 FILES = tempfile.TemporaryDirectory()
 NUMA = ['-object', 'memory-backend-ram,id=m0,size=64M', '-object', 'memory-backend-ram,id=m1,size=64M',
         '-numa', 'node,nodeid=0,memdev=m0,cpus=0-1', '-numa', 'node,nodeid=1,memdev=m1,cpus=2-3']
@@ -27,6 +28,8 @@ SECOND_ROOT = ['-device', 'pxb-pcie,id=root2,bus_nr=32,bus=pcie.0',
                '-device', 'pcie-root-port,id=port2,bus=root2,chassis=1']
 # What the kernel says of the first PCI function: that of q35 is made by Intel, and pc has no MCFG.
 Q35_ECAM, NO_MCFG = 'ecam 0xb0000000 vendor 0x8086', 'ecam: TableMissing MCFG'
+# Where the tables of the guest's program lie.
+TABLES = 0x7000000
 # What it says of the unit that remaps this function: that of the DMAR has a device scope of an endpoint for it, and
 # registers of one page; that of the IVRS has an entry of type 2 for it.
 UNITS = {'q35 intel-iommu': ['unit of 0:00.0 dmar 0xfed90000 0x1000'],
@@ -96,8 +99,8 @@ def spans(lines):
     return answer
 
 
-def boot(args, folder, writes=None, words='hold', kernel=KERNEL):
-    """What the kernel prints, the dumps, and QEMU's status."""
+def boot(args, folder, writes=None, words='hold', kernel=KERNEL, more=()):
+    """What the kernel prints, the dumps, with those of more memory, and QEMU's status."""
     monitor, gdb = os.path.join(folder, 'monitor'), os.path.join(folder, 'gdb')
     command = ['qemu-system-x86_64', '-nodefaults', '-no-user-config', '-display', 'none', '-no-reboot',
                '-accel', 'tcg', '-serial', 'stdio', '-monitor', 'unix:%s,server=on,wait=off' % monitor,
@@ -112,7 +115,7 @@ def boot(args, folder, writes=None, words='hold', kernel=KERNEL):
         lines = lines_until(p, b'end', 180)
         files = []
         if p.poll() is None and lines and lines[-1] == 'end':
-            files = save(monitor, spans(lines), folder)
+            files = save(monitor, spans(lines) + list(more), folder)
             p.stdin.write(b'\n')
             p.stdin.flush()
         return lines, files, p.wait(60)
@@ -211,14 +214,26 @@ def told(lines, memory):
     }
 
 
-def tried(name, args, ecam, writes=None, words='hold', kernel=KERNEL, told=None):
+def asked(memory):
+    """A machine whose kernel is told of the tables that the guest's program wrote, which lie in free memory."""
+    path = os.path.join(FILES.name, 'guest')
+    lines = os.path.join(os.path.dirname(os.path.abspath(__file__)), '..', 'guest', 'lines')
+    subprocess.run([GUEST, '4', path], check=True, stdout=subprocess.DEVNULL)
+    return {'the tables of guest.c': {
+        'writes': [(rsdp_in(memory), bytes(8))], 'words': 'hold rsdp=%#x' % TABLES, 'told': TABLES,
+        'args': ['-device', 'loader,file=%s,addr=%#x,force-raw=on' % (path, TABLES)],
+        'more': [(TABLES, os.path.getsize(path))],
+        'asked': subprocess.run([lines, '4'], check=True, capture_output=True, text=True).stdout.splitlines()}}
+
+
+def tried(name, machine, ecam, writes=None, words='hold', kernel=KERNEL, told=None, args=(), more=(), asked=None):
     """Boots a machine, prints whether all is right, and answers that with the lines and the memory."""
     with tempfile.TemporaryDirectory() as folder:
         began = time.time()
         lines, files = [], []
         try:
-            lines, files, status = boot(args, folder, writes, words, kernel)
-            wrong = check(lines, files, status, folder, (VIEW, PACK), IMAGE, ecam, UNITS.get(name, ()), told)
+            lines, files, status = boot(machine + list(args), folder, writes, words, kernel, more)
+            wrong = check(lines, files, status, folder, (VIEW, PACK), IMAGE, ecam, UNITS.get(name, ()), told, asked)
         except Exception as error:  # QEMU didn't start, or a line can't be read: the other machines still run
             wrong = [repr(error)]
         depth = max([int(l.split()[3]) for l in lines if l.startswith('call')] or [0])
@@ -258,7 +273,7 @@ def main():
             good, lines, memory = tried(name, args, Q35_ECAM if name.startswith('q35') else NO_MCFG)
             passed, failed = passed + good, failed + (not good)
             if good and name == 'q35 4 128M':
-                changed = {**cases(lines, memory), **told(lines, memory)}
+                changed = {**cases(lines, memory), **told(lines, memory), **asked(memory)}
     for name, change in changed.items():
         good, _, _ = tried('q35 with ' + name, machines()['q35 4 128M'], ECAM.get(name, Q35_ECAM), **change)
         passed, failed = passed + good, failed + (not good)
