@@ -31,6 +31,7 @@ pub mod FadtFeatures
 pub mod FadtWritten
 pub mod FadtRead
 pub mod FacsRead
+pub mod FacsLaid
 pub mod GicRead
 pub mod GtdtStructures
 pub mod GtdtRead

@@ -1,12 +1,12 @@
 -- What a reader finds of a machine that is laid out in memory.
 use Rattle.std.proofs.Common.{◌≡◌, ℕ, ◌+◌, ◌%◌, ◌^◌, ◌<◌, ◌≤◌, true, false, List, [], ◌∷◌, ◌++◌, length, Option, Some, None, Result, Ok, Err, refl, sym, ap, subst, ◌∙◌, arith, lit≤, eq-eqb, length-append}
-use Rattle.std.specs.Prelude.{◌&&◌, ◌==◌, nat_lt, not, replicate}
+use Rattle.std.specs.Prelude.{◌*◌, ◌&&◌, ◌==◌, nat_lt, not, replicate}
 use Rattle.std.specs.List.{AllByRecursion}
 use Rattle.std.specs.Result.{result_ok}
 use Rattle.std.specs.Str.{bytes_eq}
-use Rattle.std.proofs.lemmas.Bool.{and_from, and_parts, le-leb, ltb-true}
+use Rattle.std.proofs.lemmas.Bool.{and_from, and_parts, le-leb, lt-ltb, ltb-true}
 use Rattle.std.proofs.lemmas.List.Elements.{All-from_recursion, recursion_from_All}
-use Rattle.acpi_base.proofs.Steps.{bind_ok, holds_ok}
+use Rattle.acpi_base.proofs.Steps.{bind_ok, holds_ok, same_ok}
 use Rattle.acpi_base.specs.Memory.{Memory, IsMemory, at}
 use Rattle.acpi_base.specs.Steps.{◌>>=◌, holds}
 use Rattle.acpi_base.specs.Table.{plain_kind, sdt_kind, table_at}
@@ -17,14 +17,16 @@ use Rattle.acpi_base.specs.declared.table.signature.TheConstants.Signature.{DSDT
 use Rattle.acpi.proofs.Search.{whole_there}
 use Rattle.acpi.specs.Lists.{dsdt_stream, stream_at, stream_of}
 use Rattle.acpi.specs.Lookup.{lookup}
+use Rattle.acpi.specs.Places.{facs_place, led_by, range}
 use Rattle.acpi.specs.Rsdp.{at_hand, check_rsdp, check_whole, checked_length, rsdp_at}
 use Rattle.acpi.specs.declared.root.RootKind.TheVariants.{Xsdt}
 use Rattle.acpi_image.proofs.WrittenTables.{table_is}
-use Rattle.acpi_writer.specs.Contents.{FitsContents, bytes_of, contents_written, or_none}
+use Rattle.acpi_writer.specs.Contents.{FitsContents, bytes_of, contents_written, most, or_none}
+use Rattle.acpi_writer.specs.Facs.{FitsFacs}
 use Rattle.acpi_writer.specs.ImageLaws.{is_named}
 use Rattle.acpi_writer.specs.Laid.{addresses, gap, laid, padded, rounded}
-use Rattle.acpi_writer.specs.Machine.{Machine, check_by, check_tables, dsdt_address, dsdt_of, dsdt_written, listed, machine_by, pointers_of, size_by, tables_address, tree_by, tree_bytes, tree_size, xsdt_bytes, xsdt_length}
-use Rattle.acpi_writer.specs.MachineLaws.{IsOpened, IsWritable, MachineIsRead, TreeIsRead, first_at, first_of, place_of}
+use Rattle.acpi_writer.specs.Machine.{FacsFits, Machine, after_dsdt, check_by, check_tables, dsdt_address, dsdt_at, dsdt_end, dsdt_length, dsdt_of, dsdt_written, facs_address, facs_at, facs_from, facs_gap, facs_laid, facs_room, listed, machine_by, pointers_of, rest_bytes, size_by, tables_address, tree_by, tree_bytes, tree_size, xsdt_bytes, xsdt_length}
+use Rattle.acpi_writer.specs.MachineLaws.{HasFacs, IsOpened, IsWritable, MachineIsRead, TreeIsRead, first_at, first_of, place_of}
 use Rattle.acpi_writer.specs.Root.{IsRoot}
 use Rattle.acpi_writer.specs.Rsdp.{Leads, rsdp_bytes}
 use Rattle.acpi_writer.specs.Table.{AreIds, IsValid, are_texts}
@@ -32,12 +34,15 @@ use Rattle.acpi_writer.specs.declared.contents.AmlContents.{AmlContents}
 use Rattle.acpi_writer.specs.declared.contents.TableContents.{TableContents}
 use Rattle.acpi_writer.specs.declared.contents.TableContents.TheVariants.{Fadt}
 use Rattle.acpi_writer.specs.declared.error.WriterError.TheVariants.{BadName, TooLong}
+use Rattle.acpi_writer.specs.declared.facs.FacsContents.{FacsContents}
 use Rattle.acpi_writer.specs.declared.fadt.contents.FadtContents.{FadtContents}
 use Rattle.acpi_writer.specs.declared.ids.TableIds.{TableIds}
 use Rattle.acpi_writer.proofs.ContentsRead.{IsContents, all_contents, all_valid, first_found, letters_are, not_true, table_of}
+use Rattle.acpi_writer.proofs.FacsLaid.{has_facs, laid_long}
 use Rattle.acpi_writer.proofs.LaidRead.{front_lent, laid_found, rest_lent, there}
 use Rattle.acpi_writer.proofs.MachineSays.{fadt_found, says}
 use Rattle.acpi_writer.proofs.Plain.{dsdt_read, root_read, root_valid}
+use Rattle.acpi_writer.proofs.Room.{table_length, wrote}
 use Rattle.acpi_writer.proofs.RsdpRead.{rsdp_long, rsdp_read}
 use Rattle.acpi_writer.proofs.Sized.{padded_long, root_long, tree_size_is, xsdt_long}
 
@@ -114,22 +119,35 @@ module _ (m : Memory) (rsdp a : ℕ) (x : Machine) (h : IsMemory m) (is : IsWrit
   xsdt_is : length xsdt ≡ xsdt_length x
   xsdt_is = xsdt_long contents_written (tables_address a x) x is.fit.ids
 
-  whole_lent : at m a (length (padded xsdt ++ (padded (dsdt_of x) ++ laid (listed x)))) ≡ Some (padded xsdt ++ (padded (dsdt_of x) ++ laid (listed x)))
+  abbrev rest : List ℕ
+  rest = rest_bytes contents_written (dsdt_address a x) x
+
+  abbrev after : List ℕ
+  after = after_dsdt contents_written (dsdt_end a x) x
+
+  whole_lent : at m a (length (padded xsdt ++ rest)) ≡ Some (padded xsdt ++ rest)
   unfolding tree_by
   whole_lent = ap (at m a) (tree_size_is contents_written a x is.fit.ids) ∙ e
 
   xsdt_lent : at m a (length xsdt) ≡ Some xsdt
-  xsdt_lent = front_lent m a xsdt (replicate (gap (length xsdt)) 0) (front_lent m a (padded xsdt) (padded (dsdt_of x) ++ laid (listed x)) whole_lent)
+  xsdt_lent = front_lent m a xsdt (replicate (gap (length xsdt)) 0) (front_lent m a (padded xsdt) rest whole_lent)
 
-  rest_there : at m (dsdt_address a x) (length (padded (dsdt_of x) ++ laid (listed x))) ≡ Some (padded (dsdt_of x) ++ laid (listed x))
-  rest_there =
-      ap (λ n. at m (a + n) (length (padded (dsdt_of x) ++ laid (listed x)))) (sym (padded_long xsdt ∙ ap rounded xsdt_is)) ∙ rest_lent m a (padded xsdt) (padded (dsdt_of x) ++ laid (listed x)) h whole_lent
+  rest_there : at m (dsdt_address a x) (length rest) ≡ Some rest
+  rest_there = ap (λ n. at m (a + n) (length rest)) (sym (padded_long xsdt ∙ ap rounded xsdt_is)) ∙ rest_lent m a (padded xsdt) rest h whole_lent
 
   dsdt_lent : at m (dsdt_address a x) (length (dsdt_of x)) ≡ Some (dsdt_of x)
-  dsdt_lent = front_lent m (dsdt_address a x) (dsdt_of x) (replicate (gap (length (dsdt_of x))) 0) (front_lent m (dsdt_address a x) (padded (dsdt_of x)) (laid (listed x)) rest_there)
+  dsdt_lent = front_lent m (dsdt_address a x) (dsdt_of x) (replicate (gap (length (dsdt_of x))) 0) (front_lent m (dsdt_address a x) (padded (dsdt_of x)) after rest_there)
+
+  after_there : at m (dsdt_end a x) (length after) ≡ Some after
+  after_there = rest_lent m (dsdt_address a x) (padded (dsdt_of x)) after h rest_there
+
+  facs_lent : at m (dsdt_end a x) (length (facs_laid (dsdt_end a x) x.facs)) ≡ Some (facs_laid (dsdt_end a x) x.facs)
+  facs_lent = front_lent m (dsdt_end a x) (facs_laid (dsdt_end a x) x.facs) (laid (listed x)) after_there
 
   listed_lent : at m (tables_address a x) (length (laid (listed x))) ≡ Some (laid (listed x))
-  listed_lent = rest_lent m (dsdt_address a x) (padded (dsdt_of x)) (laid (listed x)) h rest_there
+  listed_lent =
+      ap (λ n. at m (dsdt_end a x + n) (length (laid (listed x)))) (sym (laid_long (dsdt_end a x) x.facs))
+      ∙ rest_lent m (dsdt_end a x) (facs_laid (dsdt_end a x) x.facs) (laid (listed x)) h after_there
 
   -- ---- what is opened
 
@@ -172,12 +190,27 @@ module _ (m : Memory) (rsdp a : ℕ) (x : Machine) (h : IsMemory m) (is : IsWrit
       let leads_there = fadt.2.fields.dsdt in
       rw (fadt.1, leads_there, same, dsdt_found d some) refl
 
+  facs_found : (f : FacsContents) → x.facs ≡ Some f → HasFacs m (facs_address a x) f
+  facs_found f some =
+      let p = dsdt_end a x in
+      let fits : FitsFacs f = subst FacsFits some is.fit.facs in
+      has_facs m p f h fits (subst (λ o. at m p (length (facs_laid p o)) ≡ Some (facs_laid p o)) some facs_lent)
+
+  led_there : (c : FadtContents) (f : FacsContents) → first_of FADT x.tables.now ≡ Some (Fadt c) → x.facs ≡ Some f → c.facs ≡ Some (facs_address a x)
+      → led_by facs_place m (pointers_of a x) ≡ Ok (range (facs_address a x) 64)
+  led_there c f is_first some same =
+      let fadt = fadt_found x.ids m (pointers_of a x) (λ s. place_of x.ids s (tables_address a x) x.tables.now) x.tables.now known.tables found c is_first in
+      let leads_there = fadt.2.fields.facs in
+      rw (fadt.1, leads_there, same, (facs_found f some).found) refl
+
   opened : IsOpened m rsdp a x
   opened = record {
     rsdp_is = rsdp_found;
     opened = rw (rsdp_found, leads.leads, root_found) refl;
     listed = root_read Xsdt x.ids (pointers_of a x) xsdt root;
     found = found;
+    facs = facs_found;
+    led_to = led_there;
     dsdt = dsdt_found;
     aml = aml_found;
   }
@@ -187,6 +220,49 @@ tree_read {A = A} m rsdp a x h is first e = (
   opened m rsdp a x h is first e,
   says x.ids m (pointers_of a x) (λ s. place_of x.ids s (tables_address a x) x.tables.now) x.tables.now (facts a x is).tables (found m rsdp a x h is first e) {A = A},
 )
+
+-- ---- what is known before
+
+abbrev some_address : ℕ → Option ℕ
+some_address p = Some p
+
+dsdt_room : (ids : TableIds) (d : Option AmlContents) (t : List ℕ) → AreIds ids → dsdt_written ids d ≡ Ok t → (length (padded t) ≡ rounded (dsdt_length d)) × (dsdt_length d < 2 ^ 32)
+dsdt_room ids None t are e = (ap (λ b. length (padded b)) (sym (same_ok [] t e)), lit≤ tt)
+dsdt_room ids (Some d) t are e =
+    let w = wrote most DSDT d.revision ids d.bytes.now t e in
+    (padded_long t ∙ ap rounded (ap length w.bytes ∙ table_length DSDT d.revision ids d.bytes.now refl are), w.short)
+
+module _ (a : ℕ) (x : Machine) (is : IsWritable (a + 48) x) where
+  abbrev facts_of : Facts (a + 48) x
+  facts_of = facts (a + 48) x is
+
+  abbrev count : ℕ
+  count = length x.tables.now
+
+  abbrev ends_at : ℕ
+  ends_at = facs_from a count (dsdt_length x.dsdt)
+
+  dsdt_is : (length (padded (dsdt_of x)) ≡ rounded (dsdt_length x.dsdt)) × (dsdt_length x.dsdt < 2 ^ 32)
+  dsdt_is =
+      let room = dsdt_room x.ids x.dsdt facts_of.dsdt is.fit.ids facts_of.dsdt_is in
+      (ap (λ w. length (padded (or_none w))) facts_of.dsdt_is ∙ room.0, room.1)
+
+  ends_is : ends_at ≡ dsdt_end (a + 48) x
+  ends_is = omega (arith, dsdt_is.0)
+
+  dsdt_known : dsdt_at a count ≡ Some (dsdt_address (a + 48) x)
+  unfolding size_by
+  dsdt_known =
+      rw (lt-ltb (36 + 8 * count) (2 ^ 32) facts_of.short, lt-ltb (a + (48 + rounded (36 + 8 * count))) (2 ^ 64) (omega (arith, facts_of.ends)))
+      (ap some_address (omega arith))
+
+  facs_known : (f : FacsContents) → x.facs ≡ Some f → facs_at a count x.dsdt ≡ Some (facs_address (a + 48) x)
+  unfolding size_by
+  facs_known f some =
+      let room : facs_room x.facs ≡ 128 = ap facs_room some in
+      let within : ends_at + facs_gap ends_at < 2 ^ 64 = omega (arith, facts_of.ends, room, ends_is) in
+      rw (lt-ltb (36 + 8 * count) (2 ^ 32) facts_of.short, lt-ltb (dsdt_length x.dsdt) (2 ^ 32) dsdt_is.1, lt-ltb (ends_at + facs_gap ends_at) (2 ^ 64) within)
+      (ap (λ p. some_address (p + facs_gap p)) ends_is)
 
 pub machine_read : {A : Type 0} → MachineIsRead A
 unfolding machine_by
@@ -199,4 +275,5 @@ machine_read {A = A} m a x h is e =
     ap (at m a) (omega (arith, length-append (padded rsdp) (tree_bytes (a + 48) x), filled, tree)) ∙ e in
     let front = front_lent m a rsdp (replicate (gap (length rsdp)) 0) (front_lent m a (padded rsdp) (tree_bytes (a + 48) x) all) in
     let rest = rest_lent m a (padded rsdp) (tree_bytes (a + 48) x) h all in
-    tree_read {A = A} m a (a + 48) x h is (ap (at m a) (sym long) ∙ front) (ap (λ n. at m (a + n) (tree_size x)) (sym filled) ∙ ap (at m (a + length (padded rsdp))) (sym tree) ∙ rest)
+    let both = tree_read {A = A} m a (a + 48) x h is (ap (at m a) (sym long) ∙ front) (ap (λ n. at m (a + n) (tree_size x)) (sym filled) ∙ ap (at m (a + length (padded rsdp))) (sym tree) ∙ rest) in
+    (both.0, both.1, record { dsdt = dsdt_known a x is; facs = facs_known a x is })

@@ -18,12 +18,13 @@ use Rattle.acpi_base.specs.declared.table.signature.Signature.{Signature}
 use Rattle.acpi_base.specs.declared.table.signature.TheConstants.Signature.{XSDT}
 use Rattle.acpi_writer.specs.Contents.{Written, bytes_by, most, or_none, placed_by, sized}
 use Rattle.acpi_writer.specs.Laid.{addresses, gap, laid, padded, rounded}
-use Rattle.acpi_writer.specs.Machine.{MachineOf, check_by, check_each, check_place, dsdt_of, dsdt_sized, dsdt_written, listed_by, listed_sized, machine_size, region_written, size_by, tables_address, tree_by, tree_sized, xsdt_by, xsdt_from, xsdt_length}
+use Rattle.acpi_writer.specs.Machine.{MachineOf, after_dsdt, check_by, check_each, check_place, dsdt_address, dsdt_end, dsdt_of, dsdt_sized, dsdt_written, facs_laid, facs_room, listed_by, listed_sized, machine_size, region_written, rest_bytes, size_by, tables_address, tree_by, tree_sized, xsdt_by, xsdt_from, xsdt_length}
 use Rattle.acpi_writer.specs.Root.{root_body}
 use Rattle.acpi_writer.specs.Table.{AreIds, are_texts, table_written}
 use Rattle.acpi_writer.specs.declared.error.WriterError.{WriterError}
 use Rattle.acpi_writer.specs.declared.error.WriterError.TheVariants.{BadName, TooLong}
 use Rattle.acpi_writer.specs.declared.ids.TableIds.{TableIds}
+use Rattle.acpi_writer.proofs.FacsLaid.{laid_long}
 use Rattle.acpi_writer.proofs.Room.{table_length}
 use Rattle.acpi_writer.proofs.Tables.{it_fits}
 
@@ -185,7 +186,15 @@ unfolding tree_by size_by
 tree_size_is w a x are =
     let xsdt = xsdt_by w a x in
     let first : length (padded xsdt) ≡ rounded (xsdt_length x) = padded_long xsdt ∙ ap rounded (xsdt_long w (tables_address a x) x are) in
-    omega (arith, length-append (padded xsdt) (padded (dsdt_of x) ++ laid (listed_by w x)), length-append (padded (dsdt_of x)) (laid (listed_by w x)), first)
+    let facs = facs_laid (dsdt_end a x) x.facs in
+    omega (
+      arith,
+      first,
+      laid_long (dsdt_end a x) x.facs,
+      length-append (padded xsdt) (rest_bytes w (dsdt_address a x) x),
+      length-append (padded (dsdt_of x)) (after_dsdt w (dsdt_end a x) x),
+      length-append facs (laid (listed_by w x)),
+    )
 
 -- ---- whether the machine can be written
 
@@ -232,12 +241,12 @@ check_count (Ok t) m n is = same_count m n is
 check_count (Err d) m n is = absurd cc
 
 pub tree_ok : {A : Type 0} (w : Written A) (x : MachineOf A) (d l : ℕ) → are_texts x.ids ≡ true → xsdt_length x < 2 ^ 32 → dsdt_sized x.ids x.dsdt ≡ Ok d → listed_sized w x.ids x.tables.now ≡ Ok l
-    → tree_sized w x ≡ Ok (rounded (xsdt_length x) + d + l)
+    → tree_sized w x ≡ Ok (rounded (xsdt_length x) + d + facs_room x.facs + l)
 unfolding check_by size_by
 tree_ok w x d l texts short dsdt is =
     let first = bind_ok (dsdt_written x.ids x.dsdt) (λ t. count (length (padded t))) d dsdt in
     let passed = check_done (check_each w x.ids x.tables.now) (length (laid (listed_by w x))) l is in
-    let size : size_by w x ≡ rounded (xsdt_length x) + d + l =
+    let size : size_by w x ≡ rounded (xsdt_length x) + d + facs_room x.facs + l =
     omega (arith, dsdt_long (dsdt_written x.ids x.dsdt) d dsdt, check_count (check_each w x.ids x.tables.now) (length (laid (listed_by w x))) l is) in
     let checked : check_by w x ≡ Ok tt = rw (texts, lt-ltb (xsdt_length x) (2 ^ 32) short, first.1, passed) refl in
     ap (λ r. r >>= λ _. count (size_by w x)) checked ∙ ap count size

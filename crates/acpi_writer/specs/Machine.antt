@@ -1,12 +1,13 @@
--- A whole machine in one region of memory: the RSDP, the XSDT, a DSDT, and the tables that the XSDT lists, which are
--- things that are written as tables.
-use Rattle.std.specs.Prelude.{◌≡◌, ℕ, ◌+◌, ◌*◌, ◌^◌, ◌%◌, ◌<◌, ◌==◌, ◌&&◌, Bool, true, not, if◌then◌else◌, List, [], ◌∷◌, ◌++◌, length, map, nat_le, nat_lt}
-use Rattle.std.specs.Prelude.{Option, Some, None, Result, Ok, Err}
+-- A whole machine in one region of memory: the RSDP, the XSDT, a DSDT, a FACS, and the tables that the XSDT lists,
+-- which are things that are written as tables.
+use Rattle.std.specs.Prelude.{◌≡◌, ℕ, ◌+◌, ◌-◌, ◌*◌, ◌^◌, ◌%◌, ◌<◌, ◌==◌, ◌&&◌, Bool, true, not, if◌then◌else◌, List, [], ◌∷◌, ◌++◌, length, map, nat_le, nat_lt, replicate}
+use Rattle.std.specs.Prelude.{Option, Some, None, Result, Ok}
 use Rattle.std.specs.List.{All}
 use Rattle.acpi.specs.declared.root.RootKind.TheVariants.{Xsdt}
 use Rattle.acpi_base.specs.Steps.{◌>>=◌, holds}
 use Rattle.acpi_base.specs.declared.table.signature.TheConstants.Signature.{DSDT, XSDT}
 use Rattle.acpi_writer.specs.Contents.{FitsContents, Written, bytes_by, contents_written, most, or_none}
+use Rattle.acpi_writer.specs.Facs.{FitsFacs, facs_bytes}
 use Rattle.acpi_writer.specs.Laid.{addresses, laid, padded, rounded}
 use Rattle.acpi_writer.specs.Root.{root_body}
 use Rattle.acpi_writer.specs.Rsdp.{rsdp_bytes}
@@ -15,6 +16,7 @@ use Rattle.acpi_writer.specs.declared.contents.AmlContents.{AmlContents}
 use Rattle.acpi_writer.specs.declared.contents.TableContents.{TableContents}
 use Rattle.acpi_writer.specs.declared.error.WriterError.{WriterError}
 use Rattle.acpi_writer.specs.declared.error.WriterError.TheVariants.{BadName, NoAddress, NoRoom, TooLong}
+use Rattle.acpi_writer.specs.declared.facs.FacsContents.{FacsContents}
 use Rattle.acpi_writer.specs.declared.ids.TableIds.{TableIds}
 use Rattle.acpi_writer.specs.declared.machine.Machine as declared
 
@@ -35,6 +37,19 @@ dsdt_written ids (Some c) = table_written most DSDT c.revision ids c.bytes.now
 abbrev pub dsdt_of : {A : Type 0} → MachineOf A → List ℕ
 dsdt_of m = or_none (dsdt_written m.ids m.dsdt)
 
+-- how many bytes there are up to the next multiple of 64, at which a FACS lies (section 5.2.10)
+abbrev pub facs_gap : ℕ → ℕ
+facs_gap a = (64 - a % 64) % 64
+
+-- the FACS in 128 bytes at a, which has no bytes if there is none
+abbrev pub facs_laid : ℕ → Option FacsContents → List ℕ
+facs_laid a None = []
+facs_laid a (Some c) = replicate (facs_gap a) 0 ++ (facs_bytes c ++ replicate (64 - facs_gap a) 0)
+
+abbrev pub facs_room : Option FacsContents → ℕ
+facs_room None = 0
+facs_room (Some c) = 128
+
 -- the tables that the XSDT lists, in order
 abbrev pub listed_by : {A : Type 0} → Written A → MachineOf A → List (List ℕ)
 listed_by written m = map (bytes_by written m.ids) m.tables.now
@@ -43,7 +58,7 @@ listed_by written m = map (bytes_by written m.ids) m.tables.now
 abbrev pub xsdt_length : {A : Type 0} → MachineOf A → ℕ
 xsdt_length m = 36 + 8 * length m.tables.now
 
--- where the DSDT lies, or would lie, and where the listed tables begin, if the XSDT lies at a
+-- where the DSDT and the FACS lie, or would lie, and where the listed tables begin, if the XSDT lies at a
 abbrev pub dsdt_address : {A : Type 0} → ℕ → MachineOf A → ℕ
 dsdt_address a m = a + rounded (xsdt_length m)
 
@@ -53,8 +68,28 @@ dsdt_at a n =
     if nat_lt (36 + 8 * n) (2 ^ 32) && nat_lt (a + (48 + rounded (36 + 8 * n))) (2 ^ 64) then Some (a + (48 + rounded (36 + 8 * n)))
     else None
 
+-- and the FACS, after this DSDT
+abbrev pub dsdt_length : Option AmlContents → ℕ
+dsdt_length None = 0
+dsdt_length (Some c) = 36 + length c.bytes.now
+
+abbrev pub facs_from : ℕ → ℕ → ℕ → ℕ
+facs_from a n dsdt = a + (48 + rounded (36 + 8 * n) + rounded dsdt)
+
+abbrev pub facs_at : ℕ → ℕ → Option AmlContents → Option ℕ
+facs_at a n dsdt =
+    let end = facs_from a n (dsdt_length dsdt) in
+    if nat_lt (36 + 8 * n) (2 ^ 32) && (nat_lt (dsdt_length dsdt) (2 ^ 32) && nat_lt (end + facs_gap end) (2 ^ 64)) then Some (end + facs_gap end)
+    else None
+
+abbrev pub dsdt_end : {A : Type 0} → ℕ → MachineOf A → ℕ
+dsdt_end a m = dsdt_address a m + length (padded (dsdt_of m))
+
+abbrev pub facs_address : {A : Type 0} → ℕ → MachineOf A → ℕ
+facs_address a m = dsdt_end a m + facs_gap (dsdt_end a m)
+
 abbrev pub tables_address : {A : Type 0} → ℕ → MachineOf A → ℕ
-tables_address a m = dsdt_address a m + length (padded (dsdt_of m))
+tables_address a m = dsdt_end a m + facs_room m.facs
 
 -- where each of them lies
 abbrev pub pointers_by : {A : Type 0} → Written A → ℕ → MachineOf A → List ℕ
@@ -67,12 +102,15 @@ xsdt_from written start m = table_bytes XSDT 1 m.ids (root_body Xsdt (addresses 
 abbrev pub xsdt_by : {A : Type 0} → Written A → ℕ → MachineOf A → List ℕ
 xsdt_by written a m = xsdt_from written (tables_address a m) m
 
--- the DSDT and the listed tables, and before them the XSDT, at a
-abbrev pub rest_bytes : {A : Type 0} → Written A → MachineOf A → List ℕ
-rest_bytes written m = padded (dsdt_of m) ++ laid (listed_by written m)
+-- the FACS at an address, and the listed tables; before them the DSDT; and before these the XSDT, at a
+abbrev pub after_dsdt : {A : Type 0} → Written A → ℕ → MachineOf A → List ℕ
+after_dsdt written p m = facs_laid p m.facs ++ laid (listed_by written m)
+
+abbrev pub rest_bytes : {A : Type 0} → Written A → ℕ → MachineOf A → List ℕ
+rest_bytes written p m = padded (dsdt_of m) ++ after_dsdt written (p + length (padded (dsdt_of m))) m
 
 unfoldable pub tree_by : {A : Type 0} → Written A → ℕ → MachineOf A → List ℕ
-tree_by written a m = padded (xsdt_by written a m) ++ rest_bytes written m
+tree_by written a m = padded (xsdt_by written a m) ++ rest_bytes written (dsdt_address a m) m
 
 -- and before that the RSDP, at a
 unfoldable pub machine_by : {A : Type 0} → Written A → ℕ → MachineOf A → List ℕ
@@ -80,12 +118,18 @@ machine_by written a m = padded (rsdp_bytes m.ids.oem_id (a + 48)) ++ tree_by wr
 
 -- how many bytes there are without the RSDP, which takes 48 more
 unfoldable pub size_by : {A : Type 0} → Written A → MachineOf A → ℕ
-size_by written m = rounded (xsdt_length m) + (length (padded (dsdt_of m)) + length (laid (listed_by written m)))
+size_by written m =
+    rounded (xsdt_length m) + (length (padded (dsdt_of m)) + (facs_room m.facs + length (laid (listed_by written m))))
 
--- the numbers have a place
+-- the numbers have a place: of a FACS, if there is one, and of a machine
+abbrev pub FacsFits : Option FacsContents → Type 0
+FacsFits None = Unit {0}
+FacsFits (Some c) = FitsFacs c
+
 pub record Fit {A : Type 0} (Fits : A → Type 0) (m : MachineOf A) : Type 0 where
   pub ids : AreIds m.ids
   pub short : xsdt_length m < 2 ^ 32
+  pub facs : FacsFits m.facs
   pub tables : All Fits m.tables.now
 
 -- ---- errors

@@ -5,11 +5,11 @@
 --   * the RSDP is valid, tables are opened by it, and their root table is the XSDT;
 --   * the XSDT's pointers are the addresses of the listed tables, in the order in which these were passed in;
 --   * of each signature the first of the listed tables is found, at its address, with its bytes;
---   * a FADT is read as it was passed in, and if it has the DSDT's address, the DSDT's AML is found;
+--   * a FADT is read as it was passed in, and if it has the addresses of the DSDT and the FACS, they are found;
 --   * so the platform with its interrupt model and its processors, the regions of the configuration space, the event
 --     timer block, the domains, the distances, the console's serial port, the boot image, the generic timers and the
 --     GIC are exactly those that were passed in; and the DSDT is valid at its address.
-use Rattle.std.specs.Prelude.{◌≡◌, ℕ, ◌+◌, ◌*◌, ◌<◌, ◌≤◌, ◌&&◌, true, List, [], ◌∷◌, length, drop, nat_le, slice_get, if◌then◌else◌}
+use Rattle.std.specs.Prelude.{◌≡◌, ℕ, ◌+◌, ◌*◌, ◌%◌, ◌<◌, ◌≤◌, ◌&&◌, List, [], ◌∷◌, length, drop, nat_le, slice_get, if◌then◌else◌}
 use Rattle.std.specs.Prelude.{Option, Some, None, Result, Ok, Err}
 use Rattle.std.specs.List.{AllByRecursion}
 use Rattle.std.specs.Str.{bytes_eq}
@@ -18,6 +18,8 @@ use Rattle.acpi.specs.Lists.{dsdt_stream, fadt_kind, stream_of}
 use Rattle.acpi.specs.Lookup.{lookup}
 use Rattle.acpi.specs.Opened.{opened_by_rsdp}
 use Rattle.acpi.specs.Pci.{found_regions}
+use Rattle.acpi.specs.Places as places
+use Rattle.acpi.specs.Places.{facs_place, led_by, range}
 use Rattle.acpi.specs.Platform.{model_in, platform_of}
 use Rattle.acpi.specs.Root.{pointers}
 use Rattle.acpi.specs.Rsdp.{rsdp_at}
@@ -40,12 +42,14 @@ use Rattle.acpi_numa.specs.Affinities.{srat_kind}
 use Rattle.acpi_numa.specs.Slit.{distance_of}
 use Rattle.acpi_writer.specs.Bgrt.{SaysImage}
 use Rattle.acpi_writer.specs.Contents.{FitsContents, bytes_of, contents_written, placed, signature_of}
+use Rattle.acpi_writer.specs.Facs as structure
+use Rattle.acpi_writer.specs.Facs.{facs_bytes}
 use Rattle.acpi_writer.specs.FadtLaws.{IsReadAs, timer_read}
 use Rattle.acpi_writer.specs.GicMadt.{gic_read}
 use Rattle.acpi_writer.specs.Gtdt.{SaysTimers}
 use Rattle.acpi_writer.specs.ImageLaws.{HasPlatform, is_named}
 use Rattle.acpi_writer.specs.Laid.{addresses, laid, padded}
-use Rattle.acpi_writer.specs.Machine.{CanLie, Machine, dsdt_address, dsdt_of, machine_bytes, pointers_of, tables_address, tree_bytes, tree_size, xsdt_bytes}
+use Rattle.acpi_writer.specs.Machine.{CanLie, Machine, dsdt_address, dsdt_at, dsdt_of, facs_address, facs_at, machine_bytes, pointers_of, tables_address, tree_bytes, tree_size, xsdt_bytes}
 use Rattle.acpi_writer.specs.MadtLaws.{apic_read, model_read, processors_read}
 use Rattle.acpi_writer.specs.Rsdp.{rsdp_bytes}
 use Rattle.acpi_writer.specs.SpcrLaws.{SaysConsole}
@@ -54,6 +58,7 @@ use Rattle.acpi_writer.specs.Table.{IsValid}
 use Rattle.acpi_writer.specs.declared.contents.AmlContents.{AmlContents}
 use Rattle.acpi_writer.specs.declared.contents.TableContents.{TableContents}
 use Rattle.acpi_writer.specs.declared.contents.TableContents.TheVariants.{Bgrt, Fadt, GicMadt, Gtdt, Hpet, Madt, Mcfg, Slit, Spcr, Srat}
+use Rattle.acpi_writer.specs.declared.facs.FacsContents.{FacsContents}
 use Rattle.acpi_writer.specs.declared.fadt.contents.FadtContents.{FadtContents}
 use Rattle.acpi_writer.specs.declared.ids.TableIds.{TableIds}
 use Rattle.acpi_writer.specs.declared.madt.MadtContents.{MadtContents}
@@ -96,6 +101,13 @@ place_of ids s a (c ∷ cs) =
     if bytes_eq (letters_of (signature_of c)) (letters_of s) then a
     else place_of ids s (a + length (placed ids c)) cs
 
+-- a FACS lies at a multiple of 64 (section 5.2.10), where a reader finds it with what was given
+pub record HasFacs (m : Memory) (p : ℕ) (c : FacsContents) : Type 0 where
+  pub aligned : p % 64 ≡ 0
+  pub bytes : at m p 64 ≡ Some (facs_bytes c)
+  pub fields : structure.IsReadAs c (facs_bytes c)
+  pub found : places.facs_at m p ≡ Ok (range p 64)
+
 -- what is opened by the RSDP at an address, if the XSDT lies at a
 pub record IsOpened (m : Memory) (rsdp a : ℕ) (x : Machine) : Type 0 where
   pub rsdp_is : rsdp_at m rsdp ≡ Ok (rsdp_bytes x.ids.oem_id a)
@@ -106,6 +118,11 @@ pub record IsOpened (m : Memory) (rsdp a : ℕ) (x : Machine) : Type 0 where
       → 36 ≤ least → least ≤ length (bytes_of x.ids c)
       → lookup m (sdt_kind s least) (pointers_of a x)
       ≡ Ok (place_of x.ids s (tables_address a x) x.tables.now, bytes_of x.ids c)
+  -- a FACS is read as it was passed in, and if the FADT has its address, it is found
+  pub facs : (f : FacsContents) → x.facs ≡ Some f → HasFacs m (facs_address a x) f
+  pub led_to : (c : FadtContents) (f : FacsContents) → first_of FADT x.tables.now ≡ Some (Fadt c) → x.facs ≡ Some f
+      → c.facs ≡ Some (facs_address a x)
+      → led_by facs_place m (pointers_of a x) ≡ Ok (range (facs_address a x) 64)
   pub dsdt : (d : AmlContents) → x.dsdt ≡ Some d
       → table_at m (plain_kind DSDT) (dsdt_address a x) ≡ Ok (dsdt_of x)
   -- if the FADT has its address, its AML is found
@@ -157,8 +174,14 @@ TreeIsRead A = (m : Memory) (rsdp a : ℕ) (x : Machine) → IsMemory m → IsWr
     → at m rsdp 36 ≡ Some (rsdp_bytes x.ids.oem_id a) → at m a (tree_size x) ≡ Some (tree_bytes a x)
     → IsOpened m rsdp a x × Says A m (pointers_of a x) x.tables.now
 
+-- the addresses that a caller asks for before a machine is written for an address are those in it
+pub record AreKnown (a : ℕ) (x : Machine) : Type 0 where
+  pub dsdt : dsdt_at a (length x.tables.now) ≡ Some (dsdt_address (a + 48) x)
+  pub facs : (f : FacsContents) → x.facs ≡ Some f
+      → facs_at a (length x.tables.now) x.dsdt ≡ Some (facs_address (a + 48) x)
+
 -- and for one at the front of the region
 abbrev pub MachineIsRead : Type 0 → Type 0
 MachineIsRead A = (m : Memory) (a : ℕ) (x : Machine) → IsMemory m → IsWritable (a + 48) x
     → at m a (48 + tree_size x) ≡ Some (machine_bytes a x)
-    → IsOpened m a (a + 48) x × Says A m (pointers_of (a + 48) x) x.tables.now
+    → IsOpened m a (a + 48) x × Says A m (pointers_of (a + 48) x) x.tables.now × AreKnown a x

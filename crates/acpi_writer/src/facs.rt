@@ -23,9 +23,20 @@ pub struct FacsContents {
     pub supports_64_bit_wake: bool,
 }
 
+impl FacsContents {
+    /// Its numbers have a place.
+    pub(crate) fn fit(&self)
+        ensures { facs.FitsFacs self.now }
+    {
+        let _signature = self.hardware_signature;
+        let _vector = self.waking_vector;
+        let _x_vector = self.x_waking_vector;
+    }
+}
+
 /// A FACS of version 2.
 #[tactic(auto, unfolding(crate::specs::Facs::facs_bytes, acpi_base::specs::Bytes::spelling))]
-fn facs_bytes(contents: &FacsContents) -> [u8; 64]
+pub(crate) fn facs_bytes(contents: &FacsContents) -> [u8; 64]
     ensures bytes { result ≡ facs.facs_bytes contents.now }
     ensures fits { facs.FitsFacs contents.now }
 {

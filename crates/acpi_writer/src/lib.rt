@@ -40,7 +40,9 @@ pub use gtdt::{GtBlockContents, GtdtContents, PlatformTimerContents, write_gtdt}
 pub use hpet::write_hpet;
 pub use ids::TableIds;
 pub use listed::Listed;
-pub use machine::{Machine, dsdt_address, tables_size, write_tables, write_tables_without_rsdp};
+pub use machine::{
+    Machine, dsdt_address, facs_address, tables_size, write_tables, write_tables_without_rsdp,
+};
 pub use madt::gic::{GicContents, write_gic_madt};
 pub use madt::{MadtContents, MadtProcessor, write_madt};
 pub use mcfg::write_mcfg;

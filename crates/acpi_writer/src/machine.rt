@@ -12,6 +12,7 @@ ghost use Rattle.acpi_writer.specs.Table.{Keeps};
 use crate::aml::write_dsdt;
 use crate::contents::{AmlContents, TableContents, fill_up, rounded};
 use crate::error::WriterError;
+use crate::facs::{FacsContents, facs_bytes};
 use crate::ids::TableIds;
 use crate::listed::{self, Listed};
 use crate::numbers::qword;
@@ -27,6 +28,8 @@ pub struct Machine<'a, T = TableContents<'a>> {
     pub ids: TableIds,
     /// The DSDT, if there is one.
     pub dsdt: Option<AmlContents<'a>>,
+    /// The FACS, if there is one.
+    pub facs: Option<FacsContents>,
     /// The tables that the XSDT lists, in this order. Of two tables of one signature a reader finds the first.
     pub tables: &'a [T],
 }
@@ -41,6 +44,33 @@ pub fn dsdt_address(address: u64, tables: usize) -> Option<u64>
         return None;
     }
     address.checked_add(48 + rounded(36 + 8 * tables) as u64)
+}
+
+/// How many bytes there are up to the next multiple of 64.
+fn facs_gap(address: u64) -> usize
+    ensures value { result ≡ whole.facs_gap address }
+    ensures short { result < 64 }
+{
+    ((64 - address % 64) % 64) as usize
+}
+
+/// The physical address at which `write_tables` lays the FACS of a machine that lists so many tables after this DSDT, a
+/// multiple of 64 (section 5.2.10), if it is passed this address itself, or `None` as `dsdt_address` has it, or if the
+/// DSDT can't be so long. A FADT among the tables is to have it.
+pub fn facs_address(address: u64, tables: usize, dsdt: Option<AmlContents<'_>>) -> Option<u64>
+    ensures { result ≡ whole.facs_at address tables dsdt.entry }
+{
+    let size = match dsdt {
+        Some(dsdt) => dsdt.bytes.len().saturating_add(36),
+        None => 0,
+    };
+    if tables > 0x1ffffffb || size > 0xffffffff {
+        return None;
+    }
+    match address.checked_add((48 + rounded(36 + 8 * tables) + rounded(size)) as u64) {
+        Some(end) => end.checked_add(facs_gap(end) as u64),
+        None => None,
+    }
 }
 
 /// How many bytes the tables that the XSDT lists take, or the first error.
@@ -88,6 +118,21 @@ fn dsdt_place<T>(machine: &Machine<'_, T>) -> usize
     }
 }
 
+/// How many bytes the FACS takes.
+fn facs_room(facs: &Option<FacsContents>) -> usize
+    ensures size { result ≡ whole.facs_room facs.now }
+    ensures short { result ≤ 128 }
+    ensures fits { whole.FacsFits facs.now }
+{
+    match facs {
+        Some(contents) => {
+            contents.fit();
+            128
+        }
+        None => 0,
+    }
+}
+
 /// How many bytes there are without the RSDP, or the first error.
 fn tree_size<T: Listed>(machine: &Machine<'_, T>) -> Result<usize, WriterError>
     ensures exact { result ≡ whole.tree_sized T.written machine.now }
@@ -107,7 +152,10 @@ fn tree_size<T: Listed>(machine: &Machine<'_, T>) -> Result<usize, WriterError>
     };
     machine.ids.fit();
     match listed_size(&machine.ids, machine.tables) {
-        Ok(listed) => Ok(rounded(36 + 8 * count) + dsdt + listed),
+        Ok(listed) => {
+            let facs = facs_room(&machine.facs);
+            Ok(rounded(36 + 8 * count) + dsdt + facs + listed)
+        }
         Err(error) => Err(error),
     }
 }
@@ -165,6 +213,18 @@ fn put_dsdt<T>(out: &mut [u8], machine: &Machine<'_, T>)
     }
 }
 
+/// Puts the FACS, if there is one, where these bytes begin at this address.
+fn put_facs(out: &mut [u8], address: u64, facs: &Option<FacsContents>)
+    requires { length out.old ≡ whole.facs_room facs.now }
+    ensures { out.new ≡ whole.facs_laid address facs.now }
+{
+    if let Some(contents) = facs {
+        let at = facs_gap(address);
+        out.fill(0);
+        out[at..at + 64].copy_from_slice(&facs_bytes(contents));
+    }
+}
+
 /// Fills a slice with the XSDT of tables of which the first lies at this address.
 fn fill_xsdt<T: Listed>(out: &mut [u8], start: u64, machine: &Machine<'_, T>)
     requires whole { length out.old ≡ whole.xsdt_length machine.now }
@@ -190,14 +250,27 @@ fn put_xsdt<T: Listed>(out: &mut [u8], start: u64, machine: &Machine<'_, T>)
     fill_up(out, size);
 }
 
-/// Puts the DSDT and the listed tables.
-fn put_rest<T: Listed>(out: &mut [u8], machine: &Machine<'_, T>)
-    requires { length out.old ≡ length (whole.rest_bytes T.written machine.now) }
-    ensures { out.new ≡ whole.rest_bytes T.written machine.now }
+/// Puts the FACS, from this address on, and the listed tables.
+fn put_after_dsdt<T: Listed>(out: &mut [u8], address: u64, machine: &Machine<'_, T>)
+    requires { length out.old ≡ whole.facs_room machine.now.facs
+        + length (laid (whole.listed_by T.written machine.now)) }
+    ensures { out.new ≡ whole.after_dsdt T.written address machine.now }
+{
+    let facs = facs_room(&machine.facs);
+    put_facs(&mut out[..facs], address, &machine.facs);
+    put_listed(&mut out[facs..], &machine.ids, machine.tables);
+}
+
+/// Puts the DSDT, from this address on, the FACS and the listed tables.
+fn put_rest<T: Listed>(out: &mut [u8], address: u64, machine: &Machine<'_, T>)
+    requires whole { length out.old ≡ length (padded (whole.dsdt_of machine.now))
+        + (whole.facs_room machine.now.facs + length (laid (whole.listed_by T.written machine.now))) }
+    requires ends { address + length out.old < 2 ^ 64 }
+    ensures { out.new ≡ whole.rest_bytes T.written address machine.now }
 {
     let dsdt = dsdt_place(machine);
     put_dsdt(&mut out[..dsdt], machine);
-    put_listed(&mut out[dsdt..], &machine.ids, machine.tables);
+    put_after_dsdt(&mut out[dsdt..], address + dsdt as u64, machine);
 }
 
 /// Puts all but the RSDP, from this address on.
@@ -209,9 +282,10 @@ fn put_tree<T: Listed>(out: &mut [u8], address: u64, machine: &Machine<'_, T>)
     ensures { out.new ≡ whole.tree_by T.written address machine.now }
 {
     let xsdt = rounded(36 + 8 * machine.tables.len());
-    let start = address + xsdt as u64 + dsdt_place(machine) as u64;
+    let dsdt = address + xsdt as u64;
+    let start = dsdt + dsdt_place(machine) as u64 + facs_room(&machine.facs) as u64;
     put_xsdt(&mut out[..xsdt], start, machine);
-    put_rest(&mut out[xsdt..], machine);
+    put_rest(&mut out[xsdt..], dsdt, machine);
 }
 
 /// Whether so many bytes have room, and can lie at this address.
@@ -228,8 +302,9 @@ fn check_place(room: usize, address: u64, size: usize) -> Result<(), WriterError
 }
 
 /// Writes all tables of a machine but the RSDP to the front of a slice, which is to lie at this physical address: the
-/// XSDT, the DSDT, and the tables that the XSDT lists, in order, each at a multiple of 16 and filled up with zeros to
-/// the next. Returns how many bytes these are. `write_rsdp` with this address writes an RSDP for them.
+/// XSDT, the DSDT, 128 bytes that have the FACS at a multiple of 64, and the tables that the XSDT lists, in order, each
+/// table at a multiple of 16 and filled up with zeros to the next. Returns how many bytes these are. `write_rsdp` with
+/// this address writes an RSDP for them.
 ///
 /// Returns, in this order, `BadName` if a name of the ids is not valid UTF-8, `TooLong` if the XSDT would have 2^32
 /// bytes or more, the first error of the DSDT or of a table in order, as its own function has it, `NoRoom` if the slice

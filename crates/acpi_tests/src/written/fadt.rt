@@ -197,7 +197,7 @@ const REDUCED_BYTES: [u8; 276] = [
     0, 0, 0, 0, 0, 0, 0, 0, // Hypervisor Vendor Identity
 ];
 
-const FACS: FacsContents = FacsContents {
+pub(super) const FACS: FacsContents = FacsContents {
     hardware_signature: 0x12345678,
     waking_vector: 0x9abcd,
     x_waking_vector: 0x1_02030405,
@@ -206,7 +206,7 @@ const FACS: FacsContents = FacsContents {
 };
 
 #[rattlefmt::skip]
-const FACS_BYTES: [u8; 64] = [
+pub(super) const FACS_BYTES: [u8; 64] = [
     b'F', b'A', b'C', b'S', 64, 0, 0, 0, 0x78, 0x56, 0x34, 0x12, // Signature, Length, Hardware Signature
     0xcd, 0xab, 9, 0, 0, 0, 0, 0, 2, 0, 0, 0, // Firmware Waking Vector, Global Lock, Flags
     5, 4, 3, 2, 1, 0, 0, 0, 2, 0, 0, 0, 0, 0, 0, 0, // X_Firmware_Waking_Vector, Version, Reserved, OSPM Flags

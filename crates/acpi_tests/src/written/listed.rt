@@ -35,6 +35,7 @@ fn alone(
     let machine = Machine {
         ids: IDS,
         dsdt: None,
+        facs: None,
         tables,
     };
     let mut out = [7; 416];

@@ -27,6 +27,7 @@ const MACHINE: Machine<'static> = Machine {
         revision: 2,
         bytes: &AML,
     }),
+    facs: None,
     tables: &TABLES,
 };
 
