@@ -31,7 +31,7 @@ use Rattle.acpi_writer.specs.McfgLaws.{IsMcfg}
 use Rattle.acpi_writer.specs.Slit.{IsSlit, slit_body, slit_written}
 use Rattle.acpi_writer.specs.Spcr.{is_base, is_interface, is_somewhere, spcr_body, spcr_written}
 use Rattle.acpi_writer.specs.SpcrLaws.{FitsSpcr, IsSpcr}
-use Rattle.acpi_writer.specs.Srat.{is_one_apic, is_one_gicc, is_range, srat_body, srat_written}
+use Rattle.acpi_writer.specs.Srat.{SratContents, is_one_apic, is_one_gicc, is_range, srat_body, srat_written, srat_written_by}
 use Rattle.acpi_writer.specs.SratLaws as srat
 use Rattle.acpi_writer.specs.Table.{AreIds, IsTableOf, IsValid, table_written}
 use Rattle.acpi_writer.specs.declared.contents.TableContents.{TableContents}
@@ -43,7 +43,6 @@ use Rattle.acpi_writer.specs.declared.ids.TableIds.{TableIds}
 use Rattle.acpi_writer.specs.declared.madt.gic.GicContents.{GicContents}
 use Rattle.acpi_writer.specs.declared.madt.MadtContents.{MadtContents}
 use Rattle.acpi_writer.specs.declared.spcr.SpcrContents.{SpcrContents}
-use Rattle.acpi_writer.specs.declared.srat.SratContents.{SratContents}
 use Rattle.acpi_writer.proofs.BgrtRead.{bgrt_valid}
 use Rattle.acpi_writer.proofs.FadtRead.{fadt_valid}
 use Rattle.acpi_writer.proofs.GicRead.{gic_madt_valid}
@@ -118,7 +117,7 @@ fadt_of ids c t are fit e =
     record { written = table_of FADT 6 ids (fadt_body c) t are three.1; fit = fit; placed = one.0; profile = two.0; registers = three.0 }
 
 srat_of : (ids : TableIds) (c : SratContents) (t : List ℕ) → AreIds ids → srat.AreFit c → srat_written most ids c ≡ Ok t → srat.IsSrat ids c t
-unfolding srat_written
+unfolding srat_written_by
 srat_of ids c t are fit e =
     let giccs = list_all is_one_gicc c.giccs.now in
     let ranges = list_all is_range c.ranges.now in

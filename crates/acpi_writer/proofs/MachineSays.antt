@@ -36,7 +36,7 @@ use Rattle.acpi_writer.specs.McfgLaws.{IsMcfg}
 use Rattle.acpi_writer.specs.Slit.{IsSlit, slit_body}
 use Rattle.acpi_writer.specs.Spcr.{spcr_body}
 use Rattle.acpi_writer.specs.SpcrLaws.{IsSpcr, SaysConsole}
-use Rattle.acpi_writer.specs.Srat.{srat_body, srat_entries, srat_reserved}
+use Rattle.acpi_writer.specs.Srat.{SratContents, srat_body, srat_entries, srat_reserved}
 use Rattle.acpi_writer.specs.SratLaws.{IsSrat, SaysDomains}
 use Rattle.acpi_writer.specs.declared.bgrt.BgrtContents.{BgrtContents}
 use Rattle.acpi_writer.specs.declared.contents.SlitContents.{SlitContents}
@@ -48,7 +48,6 @@ use Rattle.acpi_writer.specs.declared.ids.TableIds.{TableIds}
 use Rattle.acpi_writer.specs.declared.madt.gic.GicContents.{GicContents}
 use Rattle.acpi_writer.specs.declared.madt.MadtContents.{MadtContents}
 use Rattle.acpi_writer.specs.declared.spcr.SpcrContents.{SpcrContents}
-use Rattle.acpi_writer.specs.declared.srat.SratContents.{SratContents}
 use Rattle.acpi_writer.proofs.BgrtRead.{bgrt_long, bgrt_name, bgrt_read}
 use Rattle.acpi_writer.proofs.ContentsRead.{IsContents, first_is}
 use Rattle.acpi_writer.proofs.FadtParts.{body_long}

@@ -1,5 +1,5 @@
 -- That the room for a table changes only whether it fits.
-use Rattle.std.proofs.Common.{◌≡◌, ℕ, ◌+◌, ◌-◌, ◌^◌, ◌<◌, ◌≤◌, Bool, true, false, List, [], length, Result, Ok, Err, refl, sym, ap, ◌∙◌, arith, length-append}
+use Rattle.std.proofs.Common.{◌≡◌, ℕ, ◌+◌, ◌^◌, ◌<◌, ◌≤◌, true, List, [], length, Result, Ok, Err, refl, sym, ap, ◌∙◌, arith, length-append}
 use Rattle.std.specs.Prelude.{◌*◌, ◌==◌, ◌&&◌, nat_le, nat_lt, not, replicate}
 use Rattle.std.specs.List.{list_all}
 use Rattle.std.proofs.lemmas.Bool.{leb-true, ltb-true}
@@ -8,6 +8,7 @@ use Rattle.acpi_base.specs.Steps.{◌>>=◌, holds}
 use Rattle.acpi_base.specs.Text.{letters_of}
 use Rattle.acpi_base.specs.declared.table.signature.Signature.{Signature}
 use Rattle.acpi_base.specs.declared.table.signature.TheConstants.Signature.{BGRT, FADT, GTDT, HPET, MADT, MCFG, SLIT, SPCR, SRAT, SSDT}
+use Rattle.acpi_numa.specs.declared.srat.affinities.MemoryRange.{MemoryRange}
 use Rattle.acpi_image.proofs.Written.{length-with_sum}
 use Rattle.acpi_writer.specs.Bgrt.{bgrt_body}
 use Rattle.acpi_writer.specs.Checked.{all_checked}
@@ -21,7 +22,7 @@ use Rattle.acpi_writer.specs.MadtBytes.{is_empty, is_single, madt_body, madt_wri
 use Rattle.acpi_writer.specs.McfgBytes.{mcfg_body}
 use Rattle.acpi_writer.specs.Slit.{slit_body, slit_written}
 use Rattle.acpi_writer.specs.Spcr.{is_base, is_interface, is_somewhere, spcr_body, spcr_written}
-use Rattle.acpi_writer.specs.Srat.{is_one_apic, is_one_gicc, is_range, srat_body, srat_written}
+use Rattle.acpi_writer.specs.Srat.{ContentsOf, is_one_apic, is_one_gicc, is_range, srat_body_by, srat_written_by}
 use Rattle.acpi_writer.specs.Table.{AreIds, are_texts, table_bytes, table_head, table_written, unsummed}
 use Rattle.acpi_writer.specs.declared.contents.TableContents.{TableContents}
 use Rattle.acpi_writer.specs.declared.contents.TableContents.TheVariants.{Bgrt, Fadt, GicMadt, Gtdt, Hpet, Madt, Mcfg, Slit, Spcr, Srat, Ssdt}
@@ -33,7 +34,6 @@ use Rattle.acpi_writer.specs.declared.madt.gic.GicContents.{GicContents}
 use Rattle.acpi_writer.specs.declared.madt.MadtContents.{MadtContents}
 use Rattle.acpi_writer.specs.declared.ids.TableIds.{TableIds}
 use Rattle.acpi_writer.specs.declared.spcr.SpcrContents.{SpcrContents}
-use Rattle.acpi_writer.specs.declared.srat.SratContents.{SratContents}
 use Rattle.acpi_writer.proofs.Tables.{head_length, it_fits}
 
 pub table_length : (s : Signature) (revision : ℕ) (ids : TableIds) (body : List ℕ) → length (letters_of s) ≡ 4 → AreIds ids → length (table_bytes s revision ids body) ≡ 36 + length body
@@ -110,16 +110,16 @@ moved_fadt ids c are room other t e fits =
     (through (holds profile BadProfile) (holds registers BadRegister >>= λ _. here room) (holds registers BadRegister >>= λ _. here other) t
     (through (holds registers BadRegister) (here room) (here other) t (λ p. moved_table FADT 6 ids (fadt_body c) refl are room other t p fits))) e
 
-pub moved_srat : (ids : TableIds) (c : SratContents) → AreIds ids → Moves (λ room. srat_written room ids c)
-unfolding srat_written
-moved_srat ids c are room other t e fits =
+pub moved_srat : {R : Type 0} (range : R → MemoryRange) (ids : TableIds) (c : ContentsOf R) → AreIds ids → Moves (λ room. srat_written_by range room ids c)
+unfolding srat_written_by
+moved_srat range ids c are room other t e fits =
     let apics = list_all is_one_apic c.apics.now in
     let giccs = list_all is_one_gicc c.giccs.now in
-    let ranges = list_all is_range c.ranges.now in
-    let here : ℕ → Result (List ℕ) WriterError = λ n. table_written n SRAT 3 ids (srat_body c) in
+    let ranges = list_all (λ r. is_range (range r)) c.ranges.now in
+    let here : ℕ → Result (List ℕ) WriterError = λ n. table_written n SRAT 3 ids (srat_body_by range c) in
     through (holds apics IdOfAll) (holds giccs IdOfAll >>= λ _. holds ranges BadRange >>= λ _. here room) (holds giccs IdOfAll >>= λ _. holds ranges BadRange >>= λ _. here other) t
     (through (holds giccs IdOfAll) (holds ranges BadRange >>= λ _. here room) (holds ranges BadRange >>= λ _. here other) t
-    (through (holds ranges BadRange) (here room) (here other) t (λ p. moved_table SRAT 3 ids (srat_body c) refl are room other t p fits))) e
+    (through (holds ranges BadRange) (here room) (here other) t (λ p. moved_table SRAT 3 ids (srat_body_by range c) refl are room other t p fits))) e
 
 pub moved_spcr : (ids : TableIds) (c : SpcrContents) → AreIds ids → Moves (λ room. spcr_written room ids c)
 unfolding spcr_written
@@ -154,7 +154,7 @@ moved_contents ids (Hpet info) are = moved_table HPET 1 ids (hpet_body info) ref
 moved_contents ids (Slit c) are = moved_slit ids c.localities c.distances.now are
 moved_contents ids (Ssdt c) are = moved_table SSDT c.revision ids c.bytes.now refl are
 moved_contents ids (Fadt c) are = moved_fadt ids c are
-moved_contents ids (Srat c) are = moved_srat ids c are
+moved_contents ids (Srat c) are = moved_srat (λ r. r) ids c are
 moved_contents ids (Spcr c) are = moved_spcr ids c are
 moved_contents ids (Bgrt c) are = moved_table BGRT 1 ids (bgrt_body c) refl are
 moved_contents ids (Gtdt c) are = moved_gtdt ids c are

@@ -18,15 +18,14 @@ use Rattle.acpi_numa.specs.Srat.{apic_domain, cut_of, entries_of, entry_of, proc
 use Rattle.acpi_numa.specs.declared.srat.affinities.MemoryRange.{MemoryRange}
 use Rattle.acpi_numa.specs.declared.srat.entry.SratEntry.{SratEntry}
 use Rattle.acpi_numa.specs.declared.srat.entry.SratEntry.TheVariants as kinds
-use Rattle.acpi_writer.specs.Srat.{apic_entry, gicc_entry, is_one_apic, is_one_gicc, is_range, is_small, local_apic_entry, local_x2apic_entry, memory_entry, range_flags, srat_body, srat_entries, srat_reserved, srat_written}
-use Rattle.acpi_writer.specs.SratLaws.{AreFit, FitsApic, FitsGicc, FitsRange, IsSrat, SaysDomains, SratIsRead, SratIsValid}
+use Rattle.acpi_writer.specs.Srat.{ContentsOf, SratContents, apic_entry, gicc_entry, is_one_apic, is_one_gicc, is_range, is_small, local_apic_entry, local_x2apic_entry, memory_entry, range_flags, srat_body, srat_body_by, srat_entries, srat_reserved, srat_written_by}
+use Rattle.acpi_writer.specs.SratLaws.{AreFit, AreFitBy, FitsApic, FitsGicc, FitsRange, IsSrat, IsSratBy, SaysDomains, SratIsRead, SratIsValid}
 use Rattle.acpi_writer.specs.Table.{IsTableOf, bit_of, table_written}
 use Rattle.acpi_writer.specs.declared.error.WriterError.{WriterError}
 use Rattle.acpi_writer.specs.declared.error.WriterError.TheVariants.{BadRange, IdOfAll}
 use Rattle.acpi_writer.specs.declared.ids.TableIds.{TableIds}
 use Rattle.acpi_writer.specs.declared.srat.ApicDomain.{ApicDomain}
 use Rattle.acpi_writer.specs.declared.srat.GiccDomain.{GiccDomain}
-use Rattle.acpi_writer.specs.declared.srat.SratContents.{SratContents}
 use Rattle.acpi_writer.proofs.IdsRead.{ids_are_read}
 use Rattle.acpi_writer.proofs.Tables as table
 
@@ -279,23 +278,24 @@ srat_valid ids c t is = table.valid SRAT srat_name 3 ids (srat_body c) t is.writ
 
 -- ---- whether it is written
 
-pub written_of_apic : (room : ℕ) (ids : TableIds) (c : SratContents) → list_all is_one_apic c.apics.now ≡ false → srat_written room ids c ≡ Err IdOfAll
-unfolding srat_written
-written_of_apic room ids c bad = rw bad refl
+module _ {R : Type 0} (range : R → MemoryRange) (room : ℕ) (ids : TableIds) (c : ContentsOf R) where
+  pub written_of_apic : list_all is_one_apic c.apics.now ≡ false → srat_written_by range room ids c ≡ Err IdOfAll
+  unfolding srat_written_by
+  written_of_apic bad = rw bad refl
 
-pub written_of_gicc : (room : ℕ) (ids : TableIds) (c : SratContents) → list_all is_one_apic c.apics.now ≡ true → list_all is_one_gicc c.giccs.now ≡ false → srat_written room ids c ≡ Err IdOfAll
-unfolding srat_written
-written_of_gicc room ids c apics bad = rw (apics, bad) refl
+  pub written_of_gicc : list_all is_one_apic c.apics.now ≡ true → list_all is_one_gicc c.giccs.now ≡ false → srat_written_by range room ids c ≡ Err IdOfAll
+  unfolding srat_written_by
+  written_of_gicc apics bad = rw (apics, bad) refl
 
-pub written_of_range : (room : ℕ) (ids : TableIds) (c : SratContents) → list_all is_one_apic c.apics.now ≡ true → list_all is_one_gicc c.giccs.now ≡ true → list_all is_range c.ranges.now ≡ false → srat_written room ids c ≡ Err BadRange
-unfolding srat_written
-written_of_range room ids c apics giccs bad = rw (apics, giccs, bad) refl
+  pub written_of_range : list_all is_one_apic c.apics.now ≡ true → list_all is_one_gicc c.giccs.now ≡ true → list_all (λ r. is_range (range r)) c.ranges.now ≡ false → srat_written_by range room ids c ≡ Err BadRange
+  unfolding srat_written_by
+  written_of_range apics giccs bad = rw (apics, giccs, bad) refl
 
-pub written_is : (room : ℕ) (ids : TableIds) (c : SratContents) → list_all is_one_apic c.apics.now ≡ true → list_all is_one_gicc c.giccs.now ≡ true → list_all is_range c.ranges.now ≡ true → srat_written room ids c ≡ table_written room SRAT 3 ids (srat_body c)
-unfolding srat_written
-written_is room ids c apics giccs ranges = rw (apics, giccs, ranges) refl
+  pub written_is : list_all is_one_apic c.apics.now ≡ true → list_all is_one_gicc c.giccs.now ≡ true → list_all (λ r. is_range (range r)) c.ranges.now ≡ true → srat_written_by range room ids c ≡ table_written room SRAT 3 ids (srat_body_by range c)
+  unfolding srat_written_by
+  written_is apics giccs ranges = rw (apics, giccs, ranges) refl
 
-pub answer_is : (r : Result ℕ WriterError) (ids : TableIds) (c : SratContents) (new : List ℕ) → list_all is_range c.ranges.now ≡ true
-    → IfOk r (λ n. IsTableOf SRAT 3 ids (srat_body c) (take n new)) → IfOk r (λ n. AreFit c) → IfOk r (λ n. IsSrat ids c (take n new))
-answer_is (Ok n) ids c new ranges written fit = record { written = written; fit = fit; ranges = ranges }
-answer_is (Err e) ids c new ranges written fit = tt
+pub answer_is : {R : Type 0} (range : R → MemoryRange) (r : Result ℕ WriterError) (ids : TableIds) (c : ContentsOf R) (new : List ℕ) → list_all (λ r. is_range (range r)) c.ranges.now ≡ true
+    → IfOk r (λ n. IsTableOf SRAT 3 ids (srat_body_by range c) (take n new)) → IfOk r (λ n. AreFitBy range c) → IfOk r (λ n. IsSratBy range ids c (take n new))
+answer_is range (Ok n) ids c new ranges written fit = record { written = written; fit = fit; ranges = ranges }
+answer_is range (Err e) ids c new ranges written fit = tt

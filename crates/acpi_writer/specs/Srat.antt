@@ -13,7 +13,15 @@ use Rattle.acpi_writer.specs.declared.error.WriterError.TheVariants.{BadRange, I
 use Rattle.acpi_writer.specs.declared.ids.TableIds.{TableIds}
 use Rattle.acpi_writer.specs.declared.srat.ApicDomain.{ApicDomain}
 use Rattle.acpi_writer.specs.declared.srat.GiccDomain.{GiccDomain}
-use Rattle.acpi_writer.specs.declared.srat.SratContents.{SratContents}
+use Rattle.acpi_writer.specs.declared.srat.SratContents as declared
+
+-- ---- contents: with ranges themselves, and with things of a type that stand for ranges
+
+abbrev pub ContentsOf : Type 0 → Type 0
+ContentsOf R = declared.SratContents R
+
+abbrev pub SratContents : Type 0
+SratContents = ContentsOf MemoryRange
 
 -- ---- entries, each of which has bit 0 of Flags set: Enabled
 
@@ -62,13 +70,20 @@ abbrev pub srat_reserved : List ℕ
 srat_reserved = 1 ∷ 0 ∷ 0 ∷ 0 ∷ 0 ∷ 0 ∷ 0 ∷ 0 ∷ 0 ∷ 0 ∷ 0 ∷ 0 ∷ []
 
 -- all entries, sort by sort
+abbrev pub srat_entries_by : {R : Type 0} → (R → MemoryRange) → ContentsOf R → List ℕ
+srat_entries_by range c =
+    flat_map apic_entry c.apics.now
+    ++ (flat_map gicc_entry c.giccs.now ++ flat_map (λ r. memory_entry (range r)) c.ranges.now)
+
 abbrev pub srat_entries : SratContents → List ℕ
-srat_entries c =
-    flat_map apic_entry c.apics.now ++ (flat_map gicc_entry c.giccs.now ++ flat_map memory_entry c.ranges.now)
+srat_entries c = srat_entries_by (λ r. r) c
 
 -- after the header
+abbrev pub srat_body_by : {R : Type 0} → (R → MemoryRange) → ContentsOf R → List ℕ
+srat_body_by range c = srat_reserved ++ srat_entries_by range c
+
 abbrev pub srat_body : SratContents → List ℕ
-srat_body c = srat_reserved ++ srat_entries c
+srat_body c = srat_body_by (λ r. r) c
 
 -- ---- errors
 
@@ -84,9 +99,13 @@ abbrev pub is_range : MemoryRange → Bool
 is_range r = nat_lt 0 r.length && ends_below r
 
 -- the table, of revision 3, in so much room, or the first error
-unfoldable pub srat_written : ℕ → TableIds → SratContents → Result (List ℕ) WriterError
-srat_written room ids c = do
+unfoldable pub srat_written_by : {R : Type 0} → (R → MemoryRange) → ℕ → TableIds → ContentsOf R
+    → Result (List ℕ) WriterError
+srat_written_by range room ids c = do
   _ ← holds (list_all is_one_apic c.apics.now) IdOfAll
   _ ← holds (list_all is_one_gicc c.giccs.now) IdOfAll
-  _ ← holds (list_all is_range c.ranges.now) BadRange
-  table_written room SRAT 3 ids (srat_body c)
+  _ ← holds (list_all (λ r. is_range (range r)) c.ranges.now) BadRange
+  table_written room SRAT 3 ids (srat_body_by range c)
+
+abbrev pub srat_written : ℕ → TableIds → SratContents → Result (List ℕ) WriterError
+srat_written room ids c = srat_written_by (λ r. r) room ids c

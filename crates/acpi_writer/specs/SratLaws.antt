@@ -5,12 +5,11 @@ use Rattle.acpi_base.specs.declared.table.signature.TheConstants.Signature.{SRAT
 use Rattle.acpi_numa.specs.Affinities.{affinities_of}
 use Rattle.acpi_numa.specs.Srat.{domain_of_apic, domain_of_processor}
 use Rattle.acpi_numa.specs.declared.srat.affinities.MemoryRange.{MemoryRange}
-use Rattle.acpi_writer.specs.Srat.{is_range, srat_body}
+use Rattle.acpi_writer.specs.Srat.{ContentsOf, SratContents, is_range, srat_body_by}
 use Rattle.acpi_writer.specs.Table.{IsTableOf, IsValid}
 use Rattle.acpi_writer.specs.declared.ids.TableIds.{TableIds}
 use Rattle.acpi_writer.specs.declared.srat.ApicDomain.{ApicDomain}
 use Rattle.acpi_writer.specs.declared.srat.GiccDomain.{GiccDomain}
-use Rattle.acpi_writer.specs.declared.srat.SratContents.{SratContents}
 
 -- ---- which numbers have a place in an entry
 
@@ -27,16 +26,23 @@ pub record FitsRange (r : MemoryRange) : Type 0 where
   pub base : r.base < 2 ^ 64
   pub length : r.length < 2 ^ 64
 
-pub record AreFit (c : SratContents) : Type 0 where
+pub record AreFitBy {R : Type 0} (range : R → MemoryRange) (c : ContentsOf R) : Type 0 where
   pub apics : All FitsApic c.apics.now
   pub giccs : All FitsGicc c.giccs.now
-  pub ranges : All FitsRange c.ranges.now
+  pub ranges : All (λ r. FitsRange (range r)) c.ranges.now
+
+abbrev pub AreFit : SratContents → Type 0
+AreFit c = AreFitBy (λ r. r) c
 
 -- the bytes are the table of contents whose numbers have a place, and whose ranges are some
-pub record IsSrat (ids : TableIds) (c : SratContents) (table : List ℕ) : Type 0 where
-  pub written : IsTableOf SRAT 3 ids (srat_body c) table
-  pub fit : AreFit c
-  pub ranges : list_all is_range c.ranges.now ≡ true
+pub record IsSratBy {R : Type 0} (range : R → MemoryRange) (ids : TableIds) (c : ContentsOf R) (table : List ℕ)
+    : Type 0 where
+  pub written : IsTableOf SRAT 3 ids (srat_body_by range c) table
+  pub fit : AreFitBy range c
+  pub ranges : list_all (λ r. is_range (range r)) c.ranges.now ≡ true
+
+abbrev pub IsSrat : TableIds → SratContents → List ℕ → Type 0
+IsSrat ids c table = IsSratBy (λ r. r) ids c table
 
 -- ---- what is to be read
 

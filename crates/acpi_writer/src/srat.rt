@@ -1,8 +1,9 @@
 //! The System Resource Affinity Table (SRAT, section 5.2.16), from the domains of processors and of ranges of memory.
-ghost use Rattle.std.specs.Prelude.{◌≡◌, ◌^◌, ◌<◌, length, take, IfOk};
-ghost use Rattle.std.specs.List.{list_all};
+ghost use Rattle.std.specs.Prelude.{◌≡◌, ◌^◌, ◌<◌, flat_map, length, take, IfOk};
+ghost use Rattle.std.specs.List.{All, list_all};
 ghost use Rattle.acpi_base.specs.Steps.{Gives};
 ghost use Rattle.acpi_base.specs.declared.table.signature.TheConstants.Signature.{SRAT};
+ghost use Rattle.acpi_numa.specs.declared.srat.affinities.MemoryRange.{MemoryRange};
 ghost use Rattle.acpi_writer.specs.Contents.{most, sized};
 ghost use Rattle.acpi_writer.specs.Srat as srat;
 ghost use Rattle.acpi_writer.specs.SratLaws as laws;
@@ -17,6 +18,7 @@ use acpi_base::Signature;
 use acpi_numa::MemoryRange;
 
 /// A processor with a local APIC, and the proximity domain that it is in (sections 5.2.16.1 and 5.2.16.3).
+#[repr(C)]
 #[derive(Clone, Copy, Debug)]
 pub struct ApicDomain {
     /// APIC ID or X2APIC ID.
@@ -26,6 +28,7 @@ pub struct ApicDomain {
 }
 
 /// A processor with an interface to the GIC, and the proximity domain that it is in (section 5.2.16.4).
+#[repr(C)]
 #[derive(Clone, Copy, Debug)]
 pub struct GiccDomain {
     /// ACPI Processor UID.
@@ -36,13 +39,31 @@ pub struct GiccDomain {
 
 /// What a SRAT is to say, in the words of `Domains` and `MemoryAffinities`, as which it is read.
 #[derive(Clone, Copy)]
-pub struct SratContents<'a> {
+pub struct SratContents<'a, R = MemoryRange> {
     /// The domains of processors with a local APIC.
     pub apics: &'a [ApicDomain],
     /// The domains of processors with an interface to the GIC.
     pub giccs: &'a [GiccDomain],
-    /// The ranges of memory, with their domains.
-    pub ranges: &'a [MemoryRange],
+    /// The ranges of memory, with their domains, or what stands for them.
+    pub ranges: &'a [R],
+}
+
+/// What stands for a range of memory: the range itself, or a record of a caller's own.
+pub trait StandsForRange {
+    // The range.
+    ghost range_of: { Self → MemoryRange };
+
+    /// The range.
+    fn range(&self) -> MemoryRange
+        ensures { result ≡ range_of self.now };
+}
+
+impl StandsForRange for MemoryRange {
+    ghost range_of = { λ r. r };
+
+    fn range(&self) -> MemoryRange {
+        *self
+    }
 }
 
 /// Whether the id has a place in a Processor Local APIC/SAPIC Affinity.
@@ -133,6 +154,43 @@ impl Spelled for MemoryRange {
     }
 }
 
+/// The ranges that things of a list stand for, one after the other.
+#[derive(Clone, Copy)]
+struct Ranges<'a, R>(&'a [R]);
+
+impl<'a, R: StandsForRange> Spelled for Ranges<'a, R> {
+    ghost spelled = { λ s. flat_map (λ r. srat.memory_entry (R.range_of r)) s.0.now };
+
+    ghost fits = { λ s. All (λ r. laws.FitsRange (R.range_of r)) s.0.now };
+
+    fn measure(&self, room: usize) -> Option<usize> {
+        let xs = self.0;
+        let mut size = 0;
+        for x in xs {
+            match x.range().measure(room - size) {
+                Some(more) => size += more,
+                None => return None,
+            }
+        }
+        Some(size)
+    }
+
+    fn put(&self, out: &mut [u8]) {
+        let xs = self.0;
+        let mut at = 0;
+        for x in xs {
+            let range = x.range();
+            match range.measure(out.len() - at) {
+                Some(size) => {
+                    range.put(&mut out[at..at + size]);
+                    at += size;
+                }
+                None => return,
+            }
+        }
+    }
+}
+
 /// Whether no processor has the id that stands for all.
 fn apics_fit(apics: &[ApicDomain]) -> bool
     ensures { result ≡ list_all srat.is_one_apic apics.now }
@@ -155,16 +213,16 @@ fn is_range(range: &MemoryRange) -> bool
 }
 
 /// Whether each range does.
-fn ranges_fit(ranges: &[MemoryRange]) -> bool
-    ensures { result ≡ list_all srat.is_range ranges.now }
+fn ranges_fit<R: StandsForRange>(ranges: &[R]) -> bool
+    ensures { result ≡ list_all (λ r. srat.is_range (R.range_of r)) ranges.now }
 {
-    ranges.iter().all(|range| is_range(range))
+    ranges.iter().all(|range| is_range(&range.range()))
 }
 
 /// All after the header of a SRAT.
 macro_rules! body_of {
     ($contents:expr) => {{
-        let others = Then(Each($contents.giccs), Each($contents.ranges));
+        let others = Then(Each($contents.giccs), Ranges($contents.ranges));
         let entries = Then(Each($contents.apics), others);
         // Reserved, of which the first is 1.
         let reserved = Bytes(&[1, 0, 0, 0, 0, 0, 0, 0, 0, 0, 0, 0]);
@@ -175,37 +233,44 @@ macro_rules! body_of {
 /// Writes a SRAT whose contents may be written.
 ///
 /// Returns, in this order, `BadName`, `NoRoom` and `TooLong`.
-fn write_contents(
+fn write_contents<R: StandsForRange>(
     out: &mut [u8],
     ids: &TableIds,
-    contents: &SratContents<'_>,
+    contents: &SratContents<'_, R>,
 ) -> Result<usize, WriterError>
     ensures exact { Gives (λ n. take n out.new) result
-        (table_written (length out.old) SRAT 3 ids.now (srat.srat_body contents.now)) }
+        (table_written (length out.old) SRAT 3 ids.now (srat.srat_body_by R.range_of contents.now)) }
     ensures keeps { Keeps result out.old out.new }
     ensures table { IfOk result (λ n.
-        IsTableOf SRAT 3 ids.now (srat.srat_body contents.now) (take n out.new)) }
-    ensures fits { IfOk result (λ n. laws.AreFit contents.now) }
+        IsTableOf SRAT 3 ids.now (srat.srat_body_by R.range_of contents.now) (take n out.new)) }
+    ensures fits { IfOk result (λ n. laws.AreFitBy R.range_of contents.now) }
 {
     let body = body_of!(contents);
     write_table(out, Signature::SRAT, 3, ids, &body)
 }
 
 /// How many bytes the SRAT of contents that may be written has, or the first error.
-fn contents_size(ids: &TableIds, contents: &SratContents<'_>) -> Result<usize, WriterError>
-    ensures exact { result ≡ sized (table_written most SRAT 3 ids.now (srat.srat_body contents.now)) }
+fn contents_size<R: StandsForRange>(
+    ids: &TableIds,
+    contents: &SratContents<'_, R>,
+) -> Result<usize, WriterError>
+    ensures exact { result ≡ sized (table_written most SRAT 3 ids.now
+        (srat.srat_body_by R.range_of contents.now)) }
     ensures short { IfOk result (λ n. n < 2 ^ 32) }
-    ensures fits { IfOk result (λ n. laws.AreFit contents.now) }
+    ensures fits { IfOk result (λ n. laws.AreFitBy R.range_of contents.now) }
 {
     let body = body_of!(contents);
     table_size(Signature::SRAT, 3, ids, &body)
 }
 
-/// How many bytes the SRAT has, or the first error of `write_srat` in a slice of any length.
-pub(crate) fn srat_size(ids: &TableIds, contents: &SratContents<'_>) -> Result<usize, WriterError>
-    ensures exact { result ≡ sized (srat.srat_written most ids.now contents.now) }
+/// How many bytes the SRAT has, or the first error of `write_srat_of` in a slice of any length.
+pub fn srat_size_of<R: StandsForRange>(
+    ids: &TableIds,
+    contents: &SratContents<'_, R>,
+) -> Result<usize, WriterError>
+    ensures exact { result ≡ sized (srat.srat_written_by R.range_of most ids.now contents.now) }
     ensures short { IfOk result (λ n. n < 2 ^ 32) }
-    ensures fits { IfOk result (λ n. laws.AreFit contents.now) }
+    ensures fits { IfOk result (λ n. laws.AreFitBy R.range_of contents.now) }
 {
     if !apics_fit(contents.apics) {
         return Err(WriterError::IdOfAll);
@@ -217,6 +282,38 @@ pub(crate) fn srat_size(ids: &TableIds, contents: &SratContents<'_>) -> Result<u
         return Err(WriterError::BadRange);
     }
     contents_size(ids, contents)
+}
+
+/// How many bytes the SRAT has, or the first error of `write_srat` in a slice of any length.
+pub(crate) fn srat_size(ids: &TableIds, contents: &SratContents<'_>) -> Result<usize, WriterError>
+    ensures exact { result ≡ sized (srat.srat_written most ids.now contents.now) }
+    ensures short { IfOk result (λ n. n < 2 ^ 32) }
+    ensures fits { IfOk result (λ n. laws.AreFit contents.now) }
+{
+    srat_size_of(ids, contents)
+}
+
+/// Writes a SRAT, as `write_srat` does, of the ranges that these things stand for.
+pub fn write_srat_of<R: StandsForRange>(
+    out: &mut [u8],
+    ids: &TableIds,
+    contents: &SratContents<'_, R>,
+) -> Result<usize, WriterError>
+    ensures exact { Gives (λ n. take n out.new) result
+        (srat.srat_written_by R.range_of (length out.old) ids.now contents.now) }
+    ensures keeps { Keeps result out.old out.new }
+    ensures fits { IfOk result (λ n. laws.IsSratBy R.range_of ids.now contents.now (take n out.new)) }
+{
+    if !apics_fit(contents.apics) {
+        return Err(WriterError::IdOfAll);
+    }
+    if !giccs_fit(contents.giccs) {
+        return Err(WriterError::IdOfAll);
+    }
+    if !ranges_fit(contents.ranges) {
+        return Err(WriterError::BadRange);
+    }
+    write_contents(out, ids, contents)
 }
 
 /// Writes a SRAT of revision 3 to the front of a slice, and returns how many bytes it has: 48, and those of its
@@ -241,14 +338,5 @@ pub fn write_srat(
     // The numbers that were given fit, so that what was given is what is read (`tables_are_read`).
     ensures fits { IfOk result (λ n. laws.IsSrat ids.now contents.now (take n out.new)) }
 {
-    if !apics_fit(contents.apics) {
-        return Err(WriterError::IdOfAll);
-    }
-    if !giccs_fit(contents.giccs) {
-        return Err(WriterError::IdOfAll);
-    }
-    if !ranges_fit(contents.ranges) {
-        return Err(WriterError::BadRange);
-    }
-    write_contents(out, ids, contents)
+    write_srat_of(out, ids, contents)
 }
