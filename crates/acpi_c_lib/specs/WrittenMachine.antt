@@ -62,7 +62,7 @@ dsdt_in [] = None
 dsdt_in (c ∷ cs) = Some (record { revision = c.revision; bytes = c.aml })
 
 abbrev pub machine_of : record_of.Machine → MachineOf ListedTable
-machine_of m = record { ids = ids_of m.ids; dsdt = dsdt_in m.dsdts.now; tables = m.tables }
+machine_of m = record { ids = ids_of m.ids; dsdt = dsdt_in m.dsdts.now; facs = None; tables = m.tables }
 
 -- ---- codes
 

@@ -115,6 +115,7 @@ impl<'a> Machine<'a> {
                 }),
                 [] => None,
             },
+            facs: None,
             tables: self.tables,
         }
     }
