@@ -1,6 +1,6 @@
 -- What a reader finds in a GTDT that is written.
 use Rattle.std.proofs.Common.{◌≡◌, ℕ, ◌+◌, Bool, true, false, List, [], length, drop, Option, Some, Ok, Err, refl, sym, ap, ◌∙◌, arith, if◌then◌else◌}
-use Rattle.std.specs.Prelude.{◌-◌, ◌==◌, flat_map, nat_le, nat_lt}
+use Rattle.std.specs.Prelude.{◌==◌, flat_map, nat_le, nat_lt}
 use Rattle.std.specs.List.{AllByRecursion}
 use Rattle.std.specs.Str.{chars, is_utf8}
 use Rattle.std.proofs.Math.Bool.{or-true}

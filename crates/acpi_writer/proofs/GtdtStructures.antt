@@ -8,7 +8,7 @@ use Rattle.std.proofs.lemmas.List.{drop_at, length-map}
 use Rattle.std.proofs.lemmas.List.Elements.{recursion_from_All}
 use Rattle.acpi_base.proofs.Spelling.{number-spelling}
 use Rattle.acpi_base.specs.Bits.{has_bit}
-use Rattle.acpi_base.specs.Bytes.{field_of, number, spelling}
+use Rattle.acpi_base.specs.Bytes.{field_of, spelling}
 use Rattle.acpi_base.specs.Entries.{IsEntry, IsFew, number_at}
 use Rattle.acpi_base.specs.Steps.{◌>>=◌, holds}
 use Rattle.acpi_base.specs.declared.model.interrupt.Polarity.{Polarity}
@@ -17,7 +17,6 @@ use Rattle.acpi_arm.specs.Gtdt.{polarity_in, trigger_in, unless_ones}
 use Rattle.acpi_arm.specs.Timers as read
 use Rattle.acpi_arm.specs.declared.frames.GtFrame.{GtFrame}
 use Rattle.acpi_arm.specs.declared.frames.TimerInterrupt.{TimerInterrupt}
-use Rattle.acpi_arm.specs.declared.gtdt.ArmTimer.{ArmTimer}
 use Rattle.acpi_arm.specs.declared.timers.SbsaWatchdog.{SbsaWatchdog}
 use Rattle.acpi_writer.specs.Arm.{base_checked, is_edge, is_low, modes_checked}
 use Rattle.acpi_writer.specs.Gtdt.{FitsFrame, FitsStructure, FitsWatchdog, base_of, block_head, frame_bytes, frame_checked, structure_bytes, structure_checked, timer_read, watchdog_bytes}

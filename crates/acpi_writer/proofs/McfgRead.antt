@@ -6,7 +6,7 @@ use Rattle.std.specs.Str.{chars, is_utf8}
 use Rattle.std.proofs.lemmas.List.{drop_at, drop-drop}
 use Rattle.std.proofs.lemmas.List.Elements.{recursion_from_All}
 use Rattle.acpi_base.proofs.Spelling.{number-spelling}
-use Rattle.acpi_base.specs.Bytes.{field_of, number, spelling}
+use Rattle.acpi_base.specs.Bytes.{field_of, spelling}
 use Rattle.acpi_base.specs.Mcfg.{mcfg_entries_in, mcfg_entry_at, whole_mcfg_entries}
 use Rattle.acpi_base.specs.declared.table.signature.TheConstants.Signature.{MCFG}
 use Rattle.acpi_base.specs.declared.tables.mcfg.McfgEntry.{McfgEntry}

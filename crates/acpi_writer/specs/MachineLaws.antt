@@ -1,7 +1,7 @@
 -- A machine that is laid out in memory is found there by a reader.
 --
--- Let a memory lend the 36 bytes of the RSDP, and the bytes of the XSDT with all tables, each from the address that they
--- were written for. Then
+-- Let a memory lend the 36 bytes of the RSDP, and the bytes of the XSDT with all tables, each from the address that
+-- they were written for. Then
 --   * the RSDP is valid, tables are opened by it, and their root table is the XSDT;
 --   * the XSDT's pointers are the addresses of the listed tables, in the order in which these were passed in;
 --   * of each signature the first of the listed tables is found, at its address, with its bytes;
