@@ -200,8 +200,8 @@ enum zacpi_refusal {
     ZACPI_TOO_LONG = 49,      /* the table has 2^32 bytes or more, which Length can't say */
     ZACPI_BAD_PROFILE = 50,   /* no call of this header returns it: a profile is its code */
     ZACPI_BAD_REGISTER = 51,  /* a register of a FADT at address 0, or events without bytes */
-    /* 52 to 56: no call of this header returns them: C has no call for their tables. */
     ZACPI_BAD_RANGE = 52,     /* a range of memory that has no byte, or ends above 2^64 - 1 */
+    /* 53 to 56: no call of this header returns them: C has no call for their tables. */
     ZACPI_BAD_CODE = 53,      /* an interface or an address space with a code of another one */
     ZACPI_LONG_NAME = 54,     /* a name in the namespace of 65535 bytes or more */
     ZACPI_SAME_AS_BUS = 55,   /* a trigger mode or a polarity of an Arm machine as the bus has it */
@@ -1059,6 +1059,22 @@ struct zacpi_madt_contents {
     uint8_t also_has_8259;       /* PCAT_COMPAT */
     uint8_t has_wakeup_mailbox;
 };
+struct zacpi_apic_domain { /* sections 5.2.16.1 and 5.2.16.3 */
+    uint32_t local_apic_id; /* APIC ID or X2APIC ID */
+    uint32_t domain;        /* Proximity Domain */
+};
+struct zacpi_gicc_domain { /* section 5.2.16.4 */
+    uint32_t processor_uid; /* ACPI Processor UID */
+    uint32_t domain;        /* Proximity Domain */
+};
+struct zacpi_srat_contents {
+    const struct zacpi_apic_domain *apics;
+    size_t apics_length;
+    const struct zacpi_gicc_domain *giccs;
+    size_t giccs_length;
+    const struct zacpi_memory_affinity *ranges;
+    size_t ranges_length;
+};
 struct zacpi_facs_contents { /* section 5.2.10 */
     uint64_t waking_vector_64;    /* X_Firmware_Waking_Vector */
     uint32_t hardware_signature;  /* Hardware Signature */
@@ -1105,6 +1121,13 @@ zacpi_status zacpi_write_hpet(const struct zacpi_table_ids *ids,
 zacpi_status zacpi_write_slit(const struct zacpi_table_ids *ids, uint64_t localities,
                               const uint8_t *distances, size_t distances_length, uint8_t *out,
                               size_t room, size_t *length);
+/* A SRAT of revision 3 (section 5.2.16), with its entries sort by sort, all enabled. A processor
+ * whose APIC id is below 255 is a Processor Local APIC/SAPIC Affinity, any other a Processor Local
+ * x2APIC Affinity. Each Clock Domain is 0. Errors before the last ones: ZACPI_ID_OF_ALL,
+ * ZACPI_BAD_RANGE. */
+zacpi_status zacpi_write_srat(const struct zacpi_table_ids *ids,
+                              const struct zacpi_srat_contents *contents, uint8_t *out,
+                              size_t room, size_t *length);
 /* A FADT of version 6.4, 276 bytes, from the record as which zacpi_fixed_hardware reads it (section
  * 5.2.9). Each address and block stands in its X_ field, and if it fits in its field of 32 bits, a
  * block if it is one of ports; PM1_EVT_LEN, PM1_CNT_LEN and PM2_CNT_LEN are the whole bytes of
@@ -1135,7 +1158,7 @@ struct zacpi_aml_contents { /* as zacpi_write_dsdt and zacpi_write_ssdt are pass
 };
 enum zacpi_table_kind {
     ZACPI_KIND_FADT = 0, ZACPI_KIND_MADT = 1, ZACPI_KIND_MCFG = 2, ZACPI_KIND_HPET = 3, ZACPI_KIND_SLIT = 4,
-    ZACPI_KIND_SSDT = 5
+    ZACPI_KIND_SSDT = 5, ZACPI_KIND_SRAT = 6
 };
 /* A table that the XSDT lists: its kind, and its record, the first of the list for that kind (for
  * an MCFG that list itself). The functions zacpi_table_... make one, with the other lists empty. */
@@ -1153,6 +1176,8 @@ struct zacpi_listed_table {
     size_t slits_length;
     const struct zacpi_aml_contents *ssdts;
     size_t ssdts_length;
+    const struct zacpi_srat_contents *srats;
+    size_t srats_length;
 };
 struct zacpi_machine {
     struct zacpi_table_ids ids;
@@ -1173,6 +1198,7 @@ static inline struct zacpi_listed_table zacpi_table_of(uint32_t kind) {
     table.hpets = (const struct zacpi_hpet_info *)none, table.hpets_length = 0;
     table.slits = (const struct zacpi_slit_contents *)none, table.slits_length = 0;
     table.ssdts = (const struct zacpi_aml_contents *)none, table.ssdts_length = 0;
+    table.srats = (const struct zacpi_srat_contents *)none, table.srats_length = 0;
     return table;
 }
 static inline struct zacpi_listed_table zacpi_table_fadt(const struct zacpi_fixed_hardware *fadt) {
@@ -1206,6 +1232,11 @@ static inline struct zacpi_listed_table zacpi_table_ssdt(const struct zacpi_aml_
     table.ssdts = ssdt, table.ssdts_length = 1;
     return table;
 }
+static inline struct zacpi_listed_table zacpi_table_srat(const struct zacpi_srat_contents *srat) {
+    struct zacpi_listed_table table = zacpi_table_of(ZACPI_KIND_SRAT);
+    table.srats = srat, table.srats_length = 1;
+    return table;
+}
 /* A MADT of these processors, with its other lists empty and a pair of 8259s. */
 static inline struct zacpi_madt_contents zacpi_madt_of(const struct zacpi_processor *processors,
                                                        size_t processors_length,
@@ -1221,6 +1252,19 @@ static inline struct zacpi_madt_contents zacpi_madt_of(const struct zacpi_proces
     madt.local_apic_address = local_apic_address, madt.also_has_8259 = 1;
     madt.wakeup_mailbox = 0, madt.has_wakeup_mailbox = 0;
     return madt;
+}
+/* A SRAT of these processors with local APICs and these ranges of memory. */
+static inline struct zacpi_srat_contents zacpi_srat_of(const struct zacpi_apic_domain *apics,
+                                                       size_t apics_length,
+                                                       const struct zacpi_memory_affinity *ranges,
+                                                       size_t ranges_length) {
+    static const uint64_t nothing = 0;
+    const void *none = &nothing;
+    struct zacpi_srat_contents srat;
+    srat.apics = apics, srat.apics_length = apics_length;
+    srat.giccs = (const struct zacpi_gicc_domain *)none, srat.giccs_length = 0;
+    srat.ranges = ranges, srat.ranges_length = ranges_length;
+    return srat;
 }
 
 /* All tables of a machine, for memory that begins at `address`: the RSDP there, and 48 bytes on the

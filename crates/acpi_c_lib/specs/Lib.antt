@@ -24,3 +24,4 @@ pub mod Walked
 pub mod Writing
 pub mod WrittenFadt
 pub mod WrittenMachine
+pub mod WrittenSrat

@@ -7,6 +7,7 @@ ghost use Rattle.acpi_writer.specs.Table.{Keeps};
 mod fadt;
 mod machine;
 mod madt;
+mod srat;
 
 use crate::records::{self, PciRegion};
 use crate::refusal::Refusal;
@@ -23,6 +24,7 @@ pub use acpi_writer::{
 pub use fadt::write_fadt;
 pub use machine::{dsdt_place, tables_size, write_tables, write_tables_without_rsdp};
 pub use madt::write_madt;
+pub use srat::write_srat;
 
 impl written_records::TableIds {
     /// The ids, as the writer has them.

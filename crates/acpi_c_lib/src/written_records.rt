@@ -2,7 +2,9 @@
 
 use crate::fixed_records::FixedHardware;
 use crate::interrupt_records::{InterruptSourceOverride, IoApic, NmiLine, NmiSource, Processor};
+use crate::numa_records::MemoryAffinity;
 use crate::records::{HpetInfo, PciRegion};
+pub use acpi_writer::{ApicDomain, GiccDomain};
 
 /// Who made a table, as its header says (section 5.2.6).
 #[repr(C)]
@@ -38,6 +40,15 @@ pub struct SlitContents<'a> {
     pub distances: &'a [u8],
 }
 
+/// What a SRAT is to say (section 5.2.16).
+#[repr(C)]
+#[derive(Clone, Copy)]
+pub struct SratContents<'a> {
+    pub apics: &'a [ApicDomain],
+    pub giccs: &'a [GiccDomain],
+    pub ranges: &'a [MemoryAffinity],
+}
+
 /// What a table of AML is to have after its header (section 5.2.11).
 #[repr(C)]
 #[derive(Clone, Copy)]
@@ -58,6 +69,7 @@ pub struct ListedTable<'a> {
     pub hpets: &'a [HpetInfo],
     pub slits: &'a [SlitContents<'a>],
     pub ssdts: &'a [AmlContents<'a>],
+    pub srats: &'a [SratContents<'a>],
 }
 
 /// A machine, as its tables describe it.

@@ -8,12 +8,15 @@ use crate::fixed_records::FixedHardware;
 use crate::records::{HpetInfo, PciRegion};
 use crate::refusal::Refusal;
 use crate::writing::{fadt, madt};
-use crate::written_records::{AmlContents, ListedTable, Machine, MadtContents, SlitContents};
+use crate::written_records::{
+    AmlContents, ListedTable, Machine, MadtContents, SlitContents, SratContents,
+};
 use acpi_base::Signature;
 use acpi_writer::fadt::fadt_size;
 use acpi_writer::mcfg::{mcfg_size, write_mcfg_of};
 use acpi_writer::slit::slit_size;
 use acpi_writer::spelled::Bytes;
+use acpi_writer::srat::{srat_size_of, write_srat_of};
 use acpi_writer::{
     Listed, TableIds, WriterError, dsdt_address, table_size, write_fadt, write_hpet, write_slit,
     write_ssdt,
@@ -28,6 +31,7 @@ pub(crate) enum Contents<'a> {
     Hpet(HpetInfo),
     Slit(SlitContents<'a>),
     Ssdt(AmlContents<'a>),
+    Srat(SratContents<'a>),
     Nothing,
 }
 
@@ -58,6 +62,10 @@ impl<'a> ListedTable<'a> {
                 [first, ..] => Contents::Ssdt(*first),
                 [] => Contents::Nothing,
             },
+            6 => match self.srats {
+                [first, ..] => Contents::Srat(*first),
+                [] => Contents::Nothing,
+            },
             _ => Contents::Nothing,
         }
     }
@@ -80,6 +88,7 @@ impl Listed for ListedTable<'_> {
             Contents::Ssdt(aml) => {
                 table_size(Signature::SSDT, aml.revision, ids, &Bytes(aml.aml))
             }
+            Contents::Srat(domains) => srat_size_of(ids, &domains.contents()),
             Contents::Nothing => Err(WriterError::BadCode),
         }
     }
@@ -92,6 +101,7 @@ impl Listed for ListedTable<'_> {
             Contents::Hpet(info) => write_hpet(out, ids, &info.info()),
             Contents::Slit(slit) => write_slit(out, ids, slit.localities, slit.distances),
             Contents::Ssdt(aml) => write_ssdt(out, ids, aml.revision, aml.aml),
+            Contents::Srat(domains) => write_srat_of(out, ids, &domains.contents()),
             Contents::Nothing => Err(WriterError::BadCode),
         }
     }
