@@ -81,16 +81,16 @@ REGISTERS(fadt_events_at_0, 16, 0x600, 0x604, 0, 0, EVENTS(0, 16))
 
 /* ---- Whole machines -------------------------------------------------------------------------------------- */
 
-/* The RSDP at 0x7fe00000, the XSDT 0x30 on, the DSDT 0x90 on, the tables 0xc0, 0x1e0, 0x220, 0x270, 0x2b0 and 0x2e0 on;
- * and without the RSDP each 0x30 less. */
-static uint8_t machine_bytes[0x310], tree_bytes[0x2e0];
+/* The RSDP at 0x7fe00000, the XSDT 0x30 on, the DSDT 0x90 on, the tables 0xc0, 0x1e0, 0x220, 0x270, 0x2b0, 0x2e0 and
+ * 0x310 on; and without the RSDP each 0x30 less. */
+static uint8_t machine_bytes[0x3c0], tree_bytes[0x390];
 static const uint8_t machine_rsdp[] = {'R', 'S', 'D', ' ', 'P', 'T', 'R', ' ', 0x37, 'G', 'U', 'E', 'S', 'T', ' ', 2,
     0, 0, 0, 0, 36, 0, 0, 0, 0x30, 0, 0xe0, 0x7f, 0, 0, 0, 0, 0x4d, 0, 0, 0};
 #define LISTED_AT(low, high) low, high, 0xe0, 0x7f, 0, 0, 0, 0
-static const uint8_t machine_xsdt[] = {HEAD('X', 'S', 'D', 'T', 84, 1, 0x34), LISTED_AT(0xc0, 0), LISTED_AT(0xe0, 1),
-    LISTED_AT(0x20, 2), LISTED_AT(0x70, 2), LISTED_AT(0xb0, 2), LISTED_AT(0xe0, 2)};
-static const uint8_t tree_xsdt[] = {HEAD('X', 'S', 'D', 'T', 84, 1, 0x55), LISTED_AT(0x90, 0), LISTED_AT(0xb0, 1),
-    LISTED_AT(0xf0, 1), LISTED_AT(0x40, 2), LISTED_AT(0x80, 2), LISTED_AT(0xb0, 2)};
+static const uint8_t machine_xsdt[] = {HEAD('X', 'S', 'D', 'T', 92, 1, 0xba), LISTED_AT(0xc0, 0), LISTED_AT(0xe0, 1),
+    LISTED_AT(0x20, 2), LISTED_AT(0x70, 2), LISTED_AT(0xb0, 2), LISTED_AT(0xe0, 2), LISTED_AT(0x10, 3)};
+static const uint8_t tree_xsdt[] = {HEAD('X', 'S', 'D', 'T', 92, 1, 0x0c), LISTED_AT(0x90, 0), LISTED_AT(0xb0, 1),
+    LISTED_AT(0xf0, 1), LISTED_AT(0x40, 2), LISTED_AT(0x80, 2), LISTED_AT(0xb0, 2), LISTED_AT(0xe0, 2)};
 static const uint8_t empty_machine_bytes[96] = {'R', 'S', 'D', ' ', 'P', 'T', 'R', ' ', 0x37, 'G', 'U', 'E', 'S', 'T',
     ' ', 2, 0, 0, 0, 0, 36, 0, 0, 0, 0x30, 0, 0xe0, 0x7f, 0, 0, 0, 0, 0x4d, 0, 0, 0, ZEROS_12,
     HEAD('X', 'S', 'D', 'T', 36, 1, 0x67)};
@@ -107,7 +107,8 @@ static void lay_tree(uint8_t *to, const uint8_t *xsdt) {
     to = lay(to, mcfg_bytes, sizeof mcfg_bytes);
     to = lay(to, hpet_bytes, sizeof hpet_bytes);
     to = lay(to, slit_bytes, sizeof slit_bytes);
-    lay(to, ssdt_bytes, sizeof ssdt_bytes);
+    to = lay(to, ssdt_bytes, sizeof ssdt_bytes);
+    lay(to, srat_without_giccs, sizeof srat_without_giccs);
 }
 static void lay_machines(void) {
     lay_tree(lay(machine_bytes, machine_rsdp, sizeof machine_rsdp), machine_xsdt);
@@ -125,10 +126,11 @@ static zacpi_status on_machine(const struct zacpi_listed_table *tables, size_t c
     return has_rsdp ? zacpi_write_tables(&machine, address, to, room, length)
                     : zacpi_write_tables_without_rsdp(&machine, address, to, room, length);
 }
-static zacpi_status on_six(uint64_t address, int has_rsdp, uint8_t *to, size_t room, size_t *length) {
+static zacpi_status on_seven(uint64_t address, int has_rsdp, uint8_t *to, size_t room, size_t *length) {
+    const struct zacpi_srat_contents srat = zacpi_srat_of(LISTED(domains_of_apics), LISTED(domains_of_memory));
     const struct zacpi_listed_table tables[] = {zacpi_table_fadt(&pc_fadt), zacpi_table_madt(&small_madt),
         zacpi_table_mcfg(LISTED(buses)), zacpi_table_hpet(&timers_block), zacpi_table_slit(&matrix),
-        zacpi_table_ssdt(&no_aml)};
+        zacpi_table_ssdt(&no_aml), zacpi_table_srat(&srat)};
     return on_machine(LISTED(tables), 1, address, has_rsdp, to, room, length);
 }
 static zacpi_status on_two(struct zacpi_listed_table a, struct zacpi_listed_table b, uint8_t *to, size_t room,
@@ -137,15 +139,17 @@ static zacpi_status on_two(struct zacpi_listed_table a, struct zacpi_listed_tabl
     return on_machine(LISTED(tables), 0, 0x7fe00000, 1, to, room, length);
 }
 #define MACHINE(verb, answer) static zacpi_status verb(uint8_t *to, size_t room, size_t *length) { return answer; }
-MACHINE(a_machine, on_six(0x7fe00000, 1, to, room, length))
-MACHINE(a_tree, on_six(0x7fe00000, 0, to, room, length))
+MACHINE(a_machine, on_seven(0x7fe00000, 1, to, room, length))
+MACHINE(a_tree, on_seven(0x7fe00000, 0, to, room, length))
 MACHINE(an_empty_machine, on_machine(&not_listed, 0, 0, 0x7fe00000, 1, to, room, length))
 MACHINE(no_matrix_listed, on_two(zacpi_table_slit(&no_matrix), zacpi_table_madt(&no_madt_processor), to, room, length))
 MACHINE(no_processor_listed, on_two(zacpi_table_hpet(&timers_block), zacpi_table_madt(&no_madt_processor), to, room,
                                     length))
 MACHINE(no_dsdt_listed, on_two(zacpi_table_fadt(&fadt_without_dsdt), zacpi_table_slit(&no_matrix), to, room, length))
-MACHINE(code_before_kind, on_two(zacpi_table_madt(&madt_no_lint), zacpi_table_of(6), to, room, length))
-MACHINE(kind_before_code, on_two(zacpi_table_of(6), zacpi_table_madt(&madt_no_lint), to, room, length))
+MACHINE(no_range_listed, on_two(zacpi_table_srat(&srat_of_no_byte), zacpi_table_slit(&no_matrix), to, room, length))
+MACHINE(all_ids_listed, on_two(zacpi_table_slit(&matrix), zacpi_table_srat(&srat_of_all_ids), to, room, length))
+MACHINE(code_before_kind, on_two(zacpi_table_madt(&madt_no_lint), zacpi_table_of(7), to, room, length))
+MACHINE(kind_before_code, on_two(zacpi_table_of(7), zacpi_table_madt(&madt_no_lint), to, room, length))
 
 /* Whether a call refuses and writes nothing, and so does the call for the size. */
 static void check_machine(const char *name, int row, const struct zacpi_listed_table *table, zacpi_status status) {
@@ -163,7 +167,7 @@ static void check_codes(void) {
         PC(), PC(), PC(), PC(), PC(), PC(), PC(), PC(), PC(), PC(), PC(), PC(), PC(), PC()};
     struct zacpi_fixed_hardware fadt;
     int i;
-    for (i = 0; i < 8; i++) {
+    for (i = 0; i < 9; i++) {
         const struct zacpi_listed_table table = zacpi_table_of(i == 2 ? 0xffffffff : (uint32_t)i);
         check_machine("a machine of an unknown table", i, &table, ZACPI_UNKNOWN_TABLE);
     }
@@ -200,8 +204,8 @@ static void check_places(void) {
     static const struct {
         uint64_t address, room;
         zacpi_status status;
-    } places[] = {{0, 0x310, ZACPI_NO_ADDRESS}, {0x7fe00008, 0x310, ZACPI_NO_ADDRESS}, {0, 0x30f, ZACPI_NO_ROOM},
-                  {0xfffffffffffffcf0, 0x310, ZACPI_NO_ADDRESS}, {0xfffffffffffffce0, 0x310, ZACPI_OK},
+    } places[] = {{0, 0x3c0, ZACPI_NO_ADDRESS}, {0x7fe00008, 0x3c0, ZACPI_NO_ADDRESS}, {0, 0x3bf, ZACPI_NO_ROOM},
+                  {0xfffffffffffffc40, 0x3c0, ZACPI_NO_ADDRESS}, {0xfffffffffffffc30, 0x3c0, ZACPI_OK},
                   {16, 0x400, ZACPI_OK}};
     static const struct {
         uint64_t address, tables, dsdt;
@@ -213,8 +217,8 @@ static void check_places(void) {
     size_t i;
     for (i = 0; i < sizeof places / sizeof *places; i++) {
         size_t length = UNCOUNTED;
-        zacpi_status got = on_six(places[i].address, 1, out.bytes, places[i].room, &length);
-        result(got == places[i].status && length == (got ? UNCOUNTED : 0x310), "a place", (int)i, places[i].room, got);
+        zacpi_status got = on_seven(places[i].address, 1, out.bytes, places[i].room, &length);
+        result(got == places[i].status && length == (got ? UNCOUNTED : 0x3c0), "a place", (int)i, places[i].room, got);
     }
     for (i = 0; i < sizeof dsdts / sizeof *dsdts; i++) {
         uint64_t dsdt = UNCOUNTED;

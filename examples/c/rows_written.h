@@ -46,6 +46,15 @@ static const struct zacpi_nmi_source no_source_trigger[] = {{21, ZACPI_POLARITY_
 static const struct zacpi_nmi_source no_source_polarity[] = {{21, 4, ZACPI_TRIGGER_BUS}};
 static const struct zacpi_nmi_line no_lint[] = {{9, 0, 2}};
 static const struct zacpi_nmi_line line_of_all[] = {{0xffffffff, 0, 1}};
+/* The second one's id is too large for a Processor Local APIC/SAPIC Affinity; the second range ends at 2^64 - 1. */
+static const struct zacpi_apic_domain domains_of_apics[] = {{254, 0x04030201}, {300, 1}};
+static const struct zacpi_gicc_domain domains_of_giccs[] = {{0x0a0b0c0d, 0x01020304}};
+static const struct zacpi_memory_affinity domains_of_memory[] = {
+    {0, 0x80000000, 0, 1, 0}, {0xfefdfcfbfaf9f8f7, 0x0102030405060708, 0x04030201, 0, 255}};
+static const struct zacpi_apic_domain domain_of_all_ids[] = {{0, 0}, {0xffffffff, 0}};
+static const struct zacpi_gicc_domain domain_of_all_uids[] = {{0, 0}, {0xffffffff, 0}};
+static const struct zacpi_memory_affinity domain_of_no_byte[] = {{0x1000, 1, 0, 0, 0}, {0x2000, 0, 0, 0, 0}};
+static const struct zacpi_memory_affinity domain_past_end[] = {{0xfefdfcfbfaf9f8f8, 0x0102030405060708, 0, 0, 0}};
 
 #define LISTED(items) items, sizeof(items) / sizeof *(items)
 #define NONE(items) items, 0
@@ -73,6 +82,18 @@ MADT(madt_no_source_polarity, listed, 1, NONE(controllers), NONE(wirings), LISTE
      NONE(lines_of_nmis), 0xfee00000, 0, 0, 0)
 MADT(madt_no_lint, listed, 1, NONE(controllers), NONE(wirings), NONE(sources_of_nmis), LISTED(no_lint),
      0xfee00000, 0, 0, 0)
+static const struct zacpi_srat_contents whole_srat = {
+    LISTED(domains_of_apics), LISTED(domains_of_giccs), LISTED(domains_of_memory)};
+static const struct zacpi_srat_contents empty_srat = {
+    NONE(domains_of_apics), NONE(domains_of_giccs), NONE(domains_of_memory)};
+static const struct zacpi_srat_contents srat_of_all_ids = {
+    LISTED(domain_of_all_ids), NONE(domains_of_giccs), LISTED(domain_of_no_byte)};
+static const struct zacpi_srat_contents srat_of_all_uids = {
+    NONE(domains_of_apics), LISTED(domain_of_all_uids), LISTED(domain_of_no_byte)};
+static const struct zacpi_srat_contents srat_of_no_byte = {
+    LISTED(domains_of_apics), NONE(domains_of_giccs), LISTED(domain_of_no_byte)};
+static const struct zacpi_srat_contents srat_past_end = {
+    NONE(domains_of_apics), LISTED(domains_of_giccs), LISTED(domain_past_end)};
 
 /* ---- What is written ------------------------------------------------------------------------------------ */
 
@@ -111,6 +132,22 @@ static const uint8_t madt_bytes[] = {HEAD('A', 'P', 'I', 'C', 200, 5, 0x3f), 0, 
     16, 16, 0, 0, 0, 0, 0, 0, 0, 0x70, 0, 0, 0, 0, 0, 0};    /* Multiprocessor Wakeup */
 static const uint8_t small_madt_bytes[] = {HEAD('A', 'P', 'I', 'C', 52, 5, 0x89), 0, 0, 0xe0, 0xfe, 0, 0, 0, 0,
     0, 8, 7, 2, 1, 0, 0, 0};
+/* Reserved, of which the first is 1, and then the entries. */
+#define SRAT_RESERVED 1, 0, 0, 0, 0, 0, 0, 0, 0, 0, 0, 0
+/* Processor Local APIC/SAPIC Affinity: id 254; Processor Local x2APIC Affinity: id 300. */
+#define SRAT_APICS 0, 16, 1, 254, 1, 0, 0, 0, 0, 2, 3, 4, 0, 0, 0, 0, \
+    2, 24, 0, 0, 1, 0, 0, 0, 0x2c, 1, 0, 0, 1, 0, 0, 0, 0, 0, 0, 0, 0, 0, 0, 0
+/* Memory Affinity: enabled and hot-pluggable; enabled and non-volatile. */
+#define SRAT_MEMORY 1, 40, 0, 0, 0, 0, 0, 0, 0, 0, 0, 0, 0, 0, 0, 0, 0, 0, 0, 0x80, 0, 0, 0, 0, 0, 0, 0, 0, \
+    3, 0, 0, 0, 0, 0, 0, 0, 0, 0, 0, 0, \
+    1, 40, 1, 2, 3, 4, 0, 0, 0xf7, 0xf8, 0xf9, 0xfa, 0xfb, 0xfc, 0xfd, 0xfe, 8, 7, 6, 5, 4, 3, 2, 1, 0, 0, 0, 0, \
+    5, 0, 0, 0, 0, 0, 0, 0, 0, 0, 0, 0
+static const uint8_t srat_bytes[] = {HEAD('S', 'R', 'A', 'T', 186, 3, 0x4b), SRAT_RESERVED, SRAT_APICS,
+    3, 18, 4, 3, 2, 1, 0x0d, 0x0c, 0x0b, 0x0a, 1, 0, 0, 0, 0, 0, 0, 0, /* GICC Affinity */
+    SRAT_MEMORY};
+static const uint8_t srat_without_giccs[] = {HEAD('S', 'R', 'A', 'T', 168, 3, 0xab), SRAT_RESERVED, SRAT_APICS,
+    SRAT_MEMORY};
+static const uint8_t empty_srat_bytes[] = {HEAD('S', 'R', 'A', 'T', 48, 3, 0x61), SRAT_RESERVED};
 
 #include "rows_machine.h"
 
@@ -143,6 +180,12 @@ WRITE(bad_trigger, madt, &madt_no_trigger)
 WRITE(bad_source_trigger, madt, &madt_no_source_trigger)
 WRITE(bad_source_polarity, madt, &madt_no_source_polarity)
 WRITE(bad_lint, madt, &madt_no_lint)
+WRITE(a_srat, srat, &whole_srat)
+WRITE(an_empty_srat, srat, &empty_srat)
+WRITE(domain_of_ids, srat, &srat_of_all_ids)
+WRITE(domain_of_uids, srat, &srat_of_all_uids)
+WRITE(range_of_no_byte, srat, &srat_of_no_byte)
+WRITE(range_past_end, srat, &srat_past_end)
 WRITE(a_fadt, fadt, &pc_fadt)
 WRITE(a_reduced_fadt, fadt, &reduced_fadt)
 WRITE(a_fadt_without_dsdt, fadt, &fadt_without_dsdt)
@@ -171,7 +214,9 @@ static const struct written_row {
     WRITTEN(a_dsdt, dsdt_bytes), WRITTEN(an_ssdt, ssdt_bytes), WRITTEN(an_mcfg, mcfg_bytes),
     WRITTEN(an_mcfg_of_none, no_region_bytes), WRITTEN(an_hpet, hpet_bytes),
     WRITTEN(a_reserved_hpet, reserved_hpet_bytes), WRITTEN(a_slit, slit_bytes), WRITTEN(a_madt, madt_bytes),
-    WRITTEN(a_small_madt, small_madt_bytes),
+    WRITTEN(a_small_madt, small_madt_bytes), WRITTEN(a_srat, srat_bytes), WRITTEN(an_empty_srat, empty_srat_bytes),
+    NOT_WRITTEN(domain_of_ids, ZACPI_ID_OF_ALL), NOT_WRITTEN(domain_of_uids, ZACPI_ID_OF_ALL),
+    NOT_WRITTEN(range_of_no_byte, ZACPI_BAD_RANGE), NOT_WRITTEN(range_past_end, ZACPI_BAD_RANGE),
     NOT_WRITTEN(an_rsdp_to_0, ZACPI_NO_ADDRESS), NOT_WRITTEN(a_slit_of_3, ZACPI_BAD_MATRIX),
     NOT_WRITTEN(a_slit_of_many, ZACPI_BAD_MATRIX), /* 2^63 + 2, whose square is 4 modulo 2^64 */
     NOT_WRITTEN(no_processor, ZACPI_NO_PROCESSOR), NOT_WRITTEN(all_uids, ZACPI_ID_OF_ALL),
@@ -186,7 +231,8 @@ static const struct written_row {
     NOT_WRITTEN(a_fadt_without_events, ZACPI_BAD_REGISTER), NOT_WRITTEN(a_fadt_events_at_0, ZACPI_BAD_REGISTER),
     WRITTEN(a_machine, machine_bytes), WRITTEN(a_tree, tree_bytes), WRITTEN(an_empty_machine, empty_machine_bytes),
     NOT_LISTED(no_matrix_listed, ZACPI_BAD_MATRIX), NOT_LISTED(no_processor_listed, ZACPI_NO_PROCESSOR),
-    NOT_LISTED(no_dsdt_listed, ZACPI_NO_ADDRESS), NOT_WRITTEN(code_before_kind, ZACPI_UNKNOWN_CODE),
+    NOT_LISTED(no_dsdt_listed, ZACPI_NO_ADDRESS), NOT_LISTED(no_range_listed, ZACPI_BAD_RANGE),
+    NOT_LISTED(all_ids_listed, ZACPI_ID_OF_ALL), NOT_WRITTEN(code_before_kind, ZACPI_UNKNOWN_CODE),
     NOT_WRITTEN(kind_before_code, ZACPI_UNKNOWN_TABLE)};
 
 static void check_written(const struct written_row *row, size_t room, zacpi_status status) {

@@ -5,6 +5,7 @@ ghost use Rattle.acpi_base.specs.declared.table.signature.TheConstants.Signature
 ghost use Rattle.acpi_c_lib.specs.Writing.{SaysLength, WritesTable, hpet_info_of, ids_of, madt_said, regions_written, writer_refused};
 ghost use Rattle.acpi_c_lib.specs.WrittenFadt.{facs_contents, fadt_said};
 ghost use Rattle.acpi_c_lib.specs.WrittenMachine.{dsdt_said, machine_said, size_said, tree_said};
+ghost use Rattle.acpi_c_lib.specs.WrittenSrat.{srat_laid};
 ghost use Rattle.acpi_writer.specs.Facs.{facs_written};
 ghost use Rattle.acpi_writer.specs.HpetBytes.{hpet_written};
 ghost use Rattle.acpi_writer.specs.Root.{root_written};
@@ -16,10 +17,10 @@ use acpi_c_lib::fixed_records::FixedHardware;
 use acpi_c_lib::records::{HpetInfo, PciRegion};
 use acpi_c_lib::writing::{
     dsdt_place, said_address, tables_size, write_dsdt, write_facs, write_fadt, write_hpet,
-    write_madt, write_regions, write_rsdp, write_rsdt, write_slit, write_ssdt, write_tables,
-    write_tables_without_rsdp, write_xsdt, written, written_or_not,
+    write_madt, write_regions, write_rsdp, write_rsdt, write_slit, write_srat, write_ssdt,
+    write_tables, write_tables_without_rsdp, write_xsdt, written, written_or_not,
 };
-use acpi_c_lib::written_records::{FacsContents, Machine, MadtContents, TableIds};
+use acpi_c_lib::written_records::{FacsContents, Machine, MadtContents, SratContents, TableIds};
 
 /// An RSDP of revision 2 that leads to an XSDT (section 5.2.5.3).
 #[unsafe(no_mangle)]
@@ -148,6 +149,20 @@ pub extern "C" fn zacpi_write_madt(
         (madt_said (length out.old) ids.now contents.now) }
 {
     written_or_not(write_madt(out, ids, contents), count)
+}
+
+/// A SRAT of processors and of ranges of memory (section 5.2.16).
+#[unsafe(no_mangle)]
+pub extern "C" fn zacpi_write_srat(
+    ids: &TableIds,
+    contents: &SratContents<'_>,
+    out: &mut [u8],
+    count: &mut usize,
+) -> u32
+    ensures { WritesTable result out.old out.new count.old count.new
+        (writer_refused (srat_laid (length out.old) (ids_of ids.now) contents.now)) }
+{
+    written(write_srat(out, ids, contents), count)
 }
 
 /// A FADT (section 5.2.9).
