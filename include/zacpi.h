@@ -187,8 +187,9 @@ enum zacpi_refusal {
                                             * 2^64 - 1 */
     ZACPI_NO_IOMMU = 40,                   /* the table has no unit for the device */
     /* From 41 on: why a table isn't written. */
-    ZACPI_UNKNOWN_CODE = 41,  /* a polarity, a trigger mode, a LINT pin, or in a register an address
-                               * space, an access size or `present` by a number that isn't one */
+    ZACPI_UNKNOWN_CODE = 41,  /* a polarity, a trigger mode, a LINT pin, an image's orientation or
+                               * type, or in a register an address space, an access size or
+                               * `present` by a number that isn't one */
     ZACPI_NO_PROCESSOR = 42,  /* a MADT without a processor */
     ZACPI_ID_OF_ALL = 43,     /* a processor whose uid or id is 0xffffffff, which stands for all */
     ZACPI_UID_OF_ALL = 44,    /* an NMI line of the processor whose uid is 0xffffffff */
@@ -1128,6 +1129,12 @@ zacpi_status zacpi_write_slit(const struct zacpi_table_ids *ids, uint64_t locali
 zacpi_status zacpi_write_srat(const struct zacpi_table_ids *ids,
                               const struct zacpi_srat_contents *contents, uint8_t *out,
                               size_t room, size_t *length);
+/* A BGRT of revision 1, 56 bytes, from the record as which zacpi_boot_graphic reads it (section
+ * 5.2.22). Error before the last ones: ZACPI_UNKNOWN_CODE if `orientation` is none of its numbers,
+ * or image_type isn't 0. */
+zacpi_status zacpi_write_bgrt(const struct zacpi_table_ids *ids,
+                              const struct zacpi_boot_graphic *graphic, uint8_t *out, size_t room,
+                              size_t *length);
 /* A FADT of version 6.4, 276 bytes, from the record as which zacpi_fixed_hardware reads it (section
  * 5.2.9). Each address and block stands in its X_ field, and if it fits in its field of 32 bits, a
  * block if it is one of ports; PM1_EVT_LEN, PM1_CNT_LEN and PM2_CNT_LEN are the whole bytes of
@@ -1158,7 +1165,8 @@ struct zacpi_aml_contents { /* as zacpi_write_dsdt and zacpi_write_ssdt are pass
 };
 enum zacpi_table_kind {
     ZACPI_KIND_FADT = 0, ZACPI_KIND_MADT = 1, ZACPI_KIND_MCFG = 2, ZACPI_KIND_HPET = 3, ZACPI_KIND_SLIT = 4,
-    ZACPI_KIND_SSDT = 5, ZACPI_KIND_SRAT = 6
+    ZACPI_KIND_SSDT = 5, ZACPI_KIND_SRAT = 6,
+    ZACPI_KIND_BGRT = 7
 };
 /* A table that the XSDT lists: its kind, and its record, the first of the list for that kind (for
  * an MCFG that list itself). The functions zacpi_table_... make one, with the other lists empty. */
@@ -1178,6 +1186,8 @@ struct zacpi_listed_table {
     size_t ssdts_length;
     const struct zacpi_srat_contents *srats;
     size_t srats_length;
+    const struct zacpi_boot_graphic *bgrts;
+    size_t bgrts_length;
 };
 struct zacpi_machine {
     struct zacpi_table_ids ids;
@@ -1199,6 +1209,7 @@ static inline struct zacpi_listed_table zacpi_table_of(uint32_t kind) {
     table.slits = (const struct zacpi_slit_contents *)none, table.slits_length = 0;
     table.ssdts = (const struct zacpi_aml_contents *)none, table.ssdts_length = 0;
     table.srats = (const struct zacpi_srat_contents *)none, table.srats_length = 0;
+    table.bgrts = (const struct zacpi_boot_graphic *)none, table.bgrts_length = 0;
     return table;
 }
 static inline struct zacpi_listed_table zacpi_table_fadt(const struct zacpi_fixed_hardware *fadt) {
@@ -1235,6 +1246,11 @@ static inline struct zacpi_listed_table zacpi_table_ssdt(const struct zacpi_aml_
 static inline struct zacpi_listed_table zacpi_table_srat(const struct zacpi_srat_contents *srat) {
     struct zacpi_listed_table table = zacpi_table_of(ZACPI_KIND_SRAT);
     table.srats = srat, table.srats_length = 1;
+    return table;
+}
+static inline struct zacpi_listed_table zacpi_table_bgrt(const struct zacpi_boot_graphic *bgrt) {
+    struct zacpi_listed_table table = zacpi_table_of(ZACPI_KIND_BGRT);
+    table.bgrts = bgrt, table.bgrts_length = 1;
     return table;
 }
 /* A MADT of these processors, with its other lists empty and a pair of 8259s. */

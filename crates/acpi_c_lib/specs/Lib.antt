@@ -22,6 +22,7 @@ pub mod Routes
 pub mod Shown
 pub mod Walked
 pub mod Writing
+pub mod WrittenBgrt
 pub mod WrittenFadt
 pub mod WrittenMachine
 pub mod WrittenSrat

@@ -3,6 +3,7 @@ use Rattle.std.specs.Prelude.{ℕ, ◌==◌, List, [], ◌∷◌, flat_map, Opti
 use Rattle.std.specs.Option.{ok_or}
 use Rattle.acpi_base.specs.Steps.{◌>>=◌, holds}
 use Rattle.acpi_base.specs.declared.table.signature.TheConstants.Signature.{SSDT}
+use Rattle.acpi_c_lib.specs.WrittenBgrt as bgrt
 use Rattle.acpi_c_lib.specs.WrittenFadt as fadt
 use Rattle.acpi_c_lib.specs.WrittenSrat.{srat_laid}
 use Rattle.acpi_c_lib.specs.Writing as writing
@@ -10,10 +11,11 @@ use Rattle.acpi_c_lib.specs.Writing.{hpet_info_of, ids_of, madt_laid, region_of,
 use Rattle.acpi_c_lib.specs.declared.refusal.Refusal.{Refusal}
 use Rattle.acpi_c_lib.specs.declared.refusal.Refusal.TheVariants.{UnknownCode, UnknownTable, Writer}
 use Rattle.acpi_c_lib.specs.declared.writing.machine.Contents.{Contents}
-use Rattle.acpi_c_lib.specs.declared.writing.machine.Contents.TheVariants.{Fadt, Hpet, Madt, Mcfg, Nothing, Slit, Srat, Ssdt}
+use Rattle.acpi_c_lib.specs.declared.writing.machine.Contents.TheVariants.{Bgrt, Fadt, Hpet, Madt, Mcfg, Nothing, Slit, Srat, Ssdt}
 use Rattle.acpi_c_lib.specs.declared.written_records.AmlContents as aml
 use Rattle.acpi_c_lib.specs.declared.written_records.ListedTable.{ListedTable}
 use Rattle.acpi_c_lib.specs.declared.written_records.Machine as record_of
+use Rattle.acpi_writer.specs.Bgrt.{bgrt_written}
 use Rattle.acpi_writer.specs.FadtBytes.{fadt_written}
 use Rattle.acpi_writer.specs.HpetBytes.{hpet_written}
 use Rattle.acpi_writer.specs.Machine.{MachineOf, dsdt_at, machine_size, machine_written, tree_written}
@@ -32,7 +34,7 @@ abbrev pub first_as : {A : Type 0} → (A → Contents) → List A → Contents
 first_as f [] = Nothing
 first_as f (x ∷ xs) = f x
 
--- the kinds: 0 FADT, 1 MADT, 2 MCFG, 3 HPET, 4 SLIT, 5 SSDT, 6 SRAT
+-- the kinds: 0 FADT, 1 MADT, 2 MCFG, 3 HPET, 4 SLIT, 5 SSDT, 6 SRAT, 7 BGRT
 abbrev pub contents_of : ListedTable → Contents
 contents_of t =
     if t.kind == 0 then first_as Fadt t.fadts.now
@@ -42,6 +44,7 @@ contents_of t =
     else if t.kind == 4 then first_as Slit t.slits.now
     else if t.kind == 5 then first_as Ssdt t.ssdts.now
     else if t.kind == 6 then first_as Srat t.srats.now
+    else if t.kind == 7 then first_as Bgrt t.bgrts.now
     else Nothing
 
 -- the table in so much room, or the first error; one of no kind is refused before
@@ -53,6 +56,7 @@ written_as room ids (Hpet i) = hpet_written room ids (hpet_info_of i)
 written_as room ids (Slit c) = slit_written room ids c.localities c.distances.now
 written_as room ids (Ssdt c) = table_written room SSDT c.revision ids c.aml.now
 written_as room ids (Srat c) = srat_laid room ids c
+written_as room ids (Bgrt g) = bgrt_written room ids (bgrt.contents g)
 written_as room ids Nothing = Err BadCode
 
 abbrev pub listed_written : ℕ → TableIds → ListedTable → Result (List ℕ) WriterError
@@ -73,6 +77,7 @@ abbrev pub check_contents : Contents → Result (Unit {0}) Refusal
 check_contents Nothing = Err UnknownTable
 check_contents (Fadt h) = holds (fadt.has_codes h) UnknownCode
 check_contents (Madt c) = holds (writing.has_codes c) UnknownCode
+check_contents (Bgrt g) = holds (bgrt.has_codes g) UnknownCode
 check_contents _ = Ok tt
 
 abbrev pub check_table : ListedTable → Result (Unit {0}) Refusal

@@ -4,6 +4,7 @@ ghost use Rattle.acpi_base.specs.Steps.{Gives};
 ghost use Rattle.acpi_c_lib.specs.Writing as writing;
 ghost use Rattle.acpi_writer.specs.Table.{Keeps};
 
+mod bgrt;
 mod fadt;
 mod machine;
 mod madt;
@@ -21,6 +22,7 @@ use acpi_writer::{TableIds, WriterError};
 pub use acpi_writer::{
     write_dsdt, write_facs, write_hpet, write_rsdp, write_rsdt, write_slit, write_ssdt, write_xsdt,
 };
+pub use bgrt::write_bgrt;
 pub use fadt::write_fadt;
 pub use machine::{dsdt_place, tables_size, write_tables, write_tables_without_rsdp};
 pub use madt::write_madt;

@@ -3,7 +3,7 @@
 use crate::fixed_records::FixedHardware;
 use crate::interrupt_records::{InterruptSourceOverride, IoApic, NmiLine, NmiSource, Processor};
 use crate::numa_records::MemoryAffinity;
-use crate::records::{HpetInfo, PciRegion};
+use crate::records::{BootGraphic, HpetInfo, PciRegion};
 pub use acpi_writer::{ApicDomain, GiccDomain};
 
 /// Who made a table, as its header says (section 5.2.6).
@@ -70,6 +70,7 @@ pub struct ListedTable<'a> {
     pub slits: &'a [SlitContents<'a>],
     pub ssdts: &'a [AmlContents<'a>],
     pub srats: &'a [SratContents<'a>],
+    pub bgrts: &'a [BootGraphic],
 }
 
 /// A machine, as its tables describe it.

@@ -5,9 +5,9 @@ ghost use Rattle.acpi_c_lib.specs.Writing.{IsKeptOr};
 ghost use Rattle.acpi_c_lib.specs.WrittenMachine as whole;
 
 use crate::fixed_records::FixedHardware;
-use crate::records::{HpetInfo, PciRegion};
+use crate::records::{BootGraphic, HpetInfo, PciRegion};
 use crate::refusal::Refusal;
-use crate::writing::{fadt, madt};
+use crate::writing::{bgrt, fadt, madt};
 use crate::written_records::{
     AmlContents, ListedTable, Machine, MadtContents, SlitContents, SratContents,
 };
@@ -18,8 +18,8 @@ use acpi_writer::slit::slit_size;
 use acpi_writer::spelled::Bytes;
 use acpi_writer::srat::{srat_size_of, write_srat_of};
 use acpi_writer::{
-    Listed, TableIds, WriterError, dsdt_address, table_size, write_fadt, write_hpet, write_slit,
-    write_ssdt,
+    Listed, TableIds, WriterError, dsdt_address, table_size, write_bgrt, write_fadt, write_hpet,
+    write_slit, write_ssdt,
 };
 
 /// What a listed table is to say, or `Nothing` if there is no such kind, or its list is empty.
@@ -32,6 +32,7 @@ pub(crate) enum Contents<'a> {
     Slit(SlitContents<'a>),
     Ssdt(AmlContents<'a>),
     Srat(SratContents<'a>),
+    Bgrt(BootGraphic),
     Nothing,
 }
 
@@ -66,6 +67,10 @@ impl<'a> ListedTable<'a> {
                 [first, ..] => Contents::Srat(*first),
                 [] => Contents::Nothing,
             },
+            7 => match self.bgrts {
+                [first, ..] => Contents::Bgrt(*first),
+                [] => Contents::Nothing,
+            },
             _ => Contents::Nothing,
         }
     }
@@ -89,6 +94,9 @@ impl Listed for ListedTable<'_> {
                 table_size(Signature::SSDT, aml.revision, ids, &Bytes(aml.aml))
             }
             Contents::Srat(domains) => srat_size_of(ids, &domains.contents()),
+            Contents::Bgrt(graphic) => {
+                table_size(Signature::BGRT, 1, ids, &bgrt::contents(&graphic))
+            }
             Contents::Nothing => Err(WriterError::BadCode),
         }
     }
@@ -102,6 +110,7 @@ impl Listed for ListedTable<'_> {
             Contents::Slit(slit) => write_slit(out, ids, slit.localities, slit.distances),
             Contents::Ssdt(aml) => write_ssdt(out, ids, aml.revision, aml.aml),
             Contents::Srat(domains) => write_srat_of(out, ids, &domains.contents()),
+            Contents::Bgrt(graphic) => write_bgrt(out, ids, &bgrt::contents(&graphic)),
             Contents::Nothing => Err(WriterError::BadCode),
         }
     }
@@ -146,6 +155,13 @@ fn check_table(table: &ListedTable<'_>) -> Result<(), Refusal>
         }
         Contents::Madt(lists) => {
             if madt::has_codes(&lists) {
+                Ok(())
+            } else {
+                Err(Refusal::UnknownCode)
+            }
+        }
+        Contents::Bgrt(graphic) => {
+            if bgrt::has_codes(&graphic) {
                 Ok(())
             } else {
                 Err(Refusal::UnknownCode)

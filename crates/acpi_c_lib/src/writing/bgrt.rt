@@ -1,0 +1,62 @@
+//! The BGRT that is written for C (section 5.2.22), from the record as which C reads it.
+ghost use Rattle.std.specs.Prelude.{◌≡◌, length, take};
+ghost use Rattle.acpi_base.specs.Steps.{Gives};
+ghost use Rattle.acpi_c_lib.specs.Writing.{IsKeptOr};
+ghost use Rattle.acpi_c_lib.specs.WrittenBgrt as written;
+
+use crate::records::BootGraphic;
+use crate::refusal::Refusal;
+use crate::written_records::TableIds;
+use acpi_writer::bgrt::{BgrtContents, BgrtOrientation};
+use acpi_writer::write_bgrt as written_bgrt;
+
+/// The orientation of so many degrees. That of any other number isn't looked at.
+fn orientation(degrees: u16) -> BgrtOrientation
+    ensures { result ≡ written.orientation degrees }
+{
+    match degrees {
+        90 => BgrtOrientation::Degrees90,
+        180 => BgrtOrientation::Degrees180,
+        270 => BgrtOrientation::Degrees270,
+        _ => BgrtOrientation::Degrees0,
+    }
+}
+
+fn is_orientation(degrees: u16) -> bool
+    ensures { result ≡ written.is_orientation degrees }
+{
+    degrees == 0 || degrees == 90 || degrees == 180 || degrees == 270
+}
+
+/// Whether the image has an orientation that there is, and is a bitmap.
+pub(crate) fn has_codes(graphic: &BootGraphic) -> bool
+    ensures { result ≡ written.has_codes graphic.now }
+{
+    is_orientation(graphic.orientation) && graphic.image_type == 0
+}
+
+/// What the BGRT is to say, as the writer has it.
+pub(crate) fn contents(graphic: &BootGraphic) -> BgrtContents
+    ensures { result ≡ written.contents graphic.now }
+{
+    BgrtContents {
+        was_displayed: graphic.displayed != 0,
+        orientation_offset: orientation(graphic.orientation),
+        image_address: graphic.address,
+        image_offset: (graphic.x, graphic.y),
+    }
+}
+
+/// Writes a BGRT of a record.
+///
+/// Returns `UnknownCode`, and then the errors of `acpi_writer::write_bgrt`, in its order.
+pub fn write_bgrt(out: &mut [u8], ids: &TableIds, graphic: &BootGraphic) -> Result<usize, Refusal>
+    ensures exact { Gives (λ n. take n out.new) result
+        (written.bgrt_said (length out.old) ids.now graphic.now) }
+    ensures keeps { IsKeptOr result out.old out.new }
+{
+    if !has_codes(graphic) {
+        return Err(Refusal::UnknownCode);
+    }
+    Ok(written_bgrt(out, &ids.ids(), &contents(graphic))?)
+}
