@@ -94,6 +94,9 @@ static const uint8_t tree_xsdt[] = {HEAD('X', 'S', 'D', 'T', 92, 1, 0x0c), LISTE
 static const uint8_t empty_machine_bytes[96] = {'R', 'S', 'D', ' ', 'P', 'T', 'R', ' ', 0x37, 'G', 'U', 'E', 'S', 'T',
     ' ', 2, 0, 0, 0, 0, 36, 0, 0, 0, 0x30, 0, 0xe0, 0x7f, 0, 0, 0, 0, 0x4d, 0, 0, 0, ZEROS_12,
     HEAD('X', 'S', 'D', 'T', 36, 1, 0x67)};
+/* Without a DSDT: the XSDT 0x30 on, the BGRT 0x60 on. */
+static uint8_t firmware_machine_bytes[0xa0];
+static const uint8_t firmware_xsdt[] = {HEAD('X', 'S', 'D', 'T', 44, 1, 0xa0), LISTED_AT(0x60, 0)};
 
 static uint8_t *lay(uint8_t *to, const uint8_t *bytes, size_t length) {
     memcpy(to, bytes, length);
@@ -111,6 +114,9 @@ static void lay_tree(uint8_t *to, const uint8_t *xsdt) {
     lay(to, srat_without_giccs, sizeof srat_without_giccs);
 }
 static void lay_machines(void) {
+    uint8_t *to = lay(firmware_machine_bytes, machine_rsdp, sizeof machine_rsdp);
+    to = lay(to, firmware_xsdt, sizeof firmware_xsdt);
+    lay(to, bgrt_bytes, sizeof bgrt_bytes);
     lay_tree(lay(machine_bytes, machine_rsdp, sizeof machine_rsdp), machine_xsdt);
     lay_tree(tree_bytes, tree_xsdt);
 }
@@ -139,6 +145,10 @@ static zacpi_status on_two(struct zacpi_listed_table a, struct zacpi_listed_tabl
     return on_machine(LISTED(tables), 0, 0x7fe00000, 1, to, room, length);
 }
 #define MACHINE(verb, answer) static zacpi_status verb(uint8_t *to, size_t room, size_t *length) { return answer; }
+static zacpi_status on_firmware(uint8_t *to, size_t room, size_t *length) {
+    const struct zacpi_listed_table tables[] = {zacpi_table_bgrt(&image)};
+    return on_machine(LISTED(tables), 0, 0x7fe00000, 1, to, room, length);
+}
 MACHINE(a_machine, on_seven(0x7fe00000, 1, to, room, length))
 MACHINE(a_tree, on_seven(0x7fe00000, 0, to, room, length))
 MACHINE(an_empty_machine, on_machine(&not_listed, 0, 0, 0x7fe00000, 1, to, room, length))
@@ -148,8 +158,10 @@ MACHINE(no_processor_listed, on_two(zacpi_table_hpet(&timers_block), zacpi_table
 MACHINE(no_dsdt_listed, on_two(zacpi_table_fadt(&fadt_without_dsdt), zacpi_table_slit(&no_matrix), to, room, length))
 MACHINE(no_range_listed, on_two(zacpi_table_srat(&srat_of_no_byte), zacpi_table_slit(&no_matrix), to, room, length))
 MACHINE(all_ids_listed, on_two(zacpi_table_slit(&matrix), zacpi_table_srat(&srat_of_all_ids), to, room, length))
-MACHINE(code_before_kind, on_two(zacpi_table_madt(&madt_no_lint), zacpi_table_of(7), to, room, length))
-MACHINE(kind_before_code, on_two(zacpi_table_of(7), zacpi_table_madt(&madt_no_lint), to, room, length))
+MACHINE(code_before_kind, on_two(zacpi_table_madt(&madt_no_lint), zacpi_table_of(11), to, room, length))
+MACHINE(kind_before_code, on_two(zacpi_table_of(11), zacpi_table_madt(&madt_no_lint), to, room, length))
+MACHINE(a_machine_of_firmware, on_firmware(to, room, length))
+MACHINE(bad_45_listed, on_two(zacpi_table_bgrt(&image_at_45), zacpi_table_slit(&no_matrix), to, room, length))
 
 /* Whether a call refuses and writes nothing, and so does the call for the size. */
 static void check_machine(const char *name, int row, const struct zacpi_listed_table *table, zacpi_status status) {
@@ -167,7 +179,7 @@ static void check_codes(void) {
         PC(), PC(), PC(), PC(), PC(), PC(), PC(), PC(), PC(), PC(), PC(), PC(), PC(), PC()};
     struct zacpi_fixed_hardware fadt;
     int i;
-    for (i = 0; i < 9; i++) {
+    for (i = 0; i < 13; i++) {
         const struct zacpi_listed_table table = zacpi_table_of(i == 2 ? 0xffffffff : (uint32_t)i);
         check_machine("a machine of an unknown table", i, &table, ZACPI_UNKNOWN_TABLE);
     }

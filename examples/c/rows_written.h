@@ -55,6 +55,12 @@ static const struct zacpi_apic_domain domain_of_all_ids[] = {{0, 0}, {0xffffffff
 static const struct zacpi_gicc_domain domain_of_all_uids[] = {{0, 0}, {0xffffffff, 0}};
 static const struct zacpi_memory_affinity domain_of_no_byte[] = {{0x1000, 1, 0, 0, 0}, {0x2000, 0, 0, 0, 0}};
 static const struct zacpi_memory_affinity domain_past_end[] = {{0xfefdfcfbfaf9f8f8, 0x0102030405060708, 0, 0, 0}};
+/* No byte of the first one is another's; 360 degrees are not 0, and 1 is no type that is written. */
+static const struct zacpi_boot_graphic image = {0x0102030405060708, 0x11121314, 0x21222324, 90, 255, 0};
+static const struct zacpi_boot_graphic image_at_0 = {0, 0, 0, 0, 0, 0}, image_at_180 = {0, 0, 0xffffffff, 180, 0, 0};
+static const struct zacpi_boot_graphic image_at_270 = {0xffffffffffffffff, 0, 0, 270, 1, 0};
+static const struct zacpi_boot_graphic image_at_45 = {0, 0, 0, 45, 1, 0}, image_at_360 = {0, 0, 0, 360, 1, 0};
+static const struct zacpi_boot_graphic no_bitmap = {0, 0, 0, 90, 1, 1};
 
 #define LISTED(items) items, sizeof(items) / sizeof *(items)
 #define NONE(items) items, 0
@@ -148,6 +154,15 @@ static const uint8_t srat_bytes[] = {HEAD('S', 'R', 'A', 'T', 186, 3, 0x4b), SRA
 static const uint8_t srat_without_giccs[] = {HEAD('S', 'R', 'A', 'T', 168, 3, 0xab), SRAT_RESERVED, SRAT_APICS,
     SRAT_MEMORY};
 static const uint8_t empty_srat_bytes[] = {HEAD('S', 'R', 'A', 'T', 48, 3, 0x61), SRAT_RESERVED};
+/* Version, Status, Image Type; Image Address; Image Offset X; Image Offset Y. */
+static const uint8_t bgrt_bytes[] = {HEAD('B', 'G', 'R', 'T', 56, 1, 0x6b), 1, 0, 3, 0, 8, 7, 6, 5, 4, 3, 2, 1,
+    0x14, 0x13, 0x12, 0x11, 0x24, 0x23, 0x22, 0x21};
+static const uint8_t bgrt_0_bytes[] = {HEAD('B', 'G', 'R', 'T', 56, 1, 0x66), 1, 0, 0, 0, 0, 0, 0, 0, 0, 0, 0, 0,
+    0, 0, 0, 0, 0, 0, 0, 0};
+static const uint8_t bgrt_180_bytes[] = {HEAD('B', 'G', 'R', 'T', 56, 1, 0x66), 1, 0, 4, 0, 0, 0, 0, 0, 0, 0, 0, 0,
+    0, 0, 0, 0, 255, 255, 255, 255};
+static const uint8_t bgrt_270_bytes[] = {HEAD('B', 'G', 'R', 'T', 56, 1, 0x67), 1, 0, 7, 0,
+    255, 255, 255, 255, 255, 255, 255, 255, 0, 0, 0, 0, 0, 0, 0, 0};
 
 #include "rows_machine.h"
 
@@ -186,6 +201,13 @@ WRITE(domain_of_ids, srat, &srat_of_all_ids)
 WRITE(domain_of_uids, srat, &srat_of_all_uids)
 WRITE(range_of_no_byte, srat, &srat_of_no_byte)
 WRITE(range_past_end, srat, &srat_past_end)
+WRITE(a_bgrt, bgrt, &image)
+WRITE(a_bgrt_at_0, bgrt, &image_at_0)
+WRITE(a_bgrt_at_180, bgrt, &image_at_180)
+WRITE(a_bgrt_at_270, bgrt, &image_at_270)
+WRITE(bad_45, bgrt, &image_at_45)
+WRITE(bad_360, bgrt, &image_at_360)
+WRITE(bad_image_type, bgrt, &no_bitmap)
 WRITE(a_fadt, fadt, &pc_fadt)
 WRITE(a_reduced_fadt, fadt, &reduced_fadt)
 WRITE(a_fadt_without_dsdt, fadt, &fadt_without_dsdt)
@@ -224,6 +246,9 @@ static const struct written_row {
     NOT_WRITTEN(bad_polarity, ZACPI_UNKNOWN_CODE), NOT_WRITTEN(bad_trigger, ZACPI_UNKNOWN_CODE),
     NOT_WRITTEN(bad_source_trigger, ZACPI_UNKNOWN_CODE), NOT_WRITTEN(bad_source_polarity, ZACPI_UNKNOWN_CODE),
     NOT_WRITTEN(bad_lint, ZACPI_UNKNOWN_CODE),
+    WRITTEN(a_bgrt, bgrt_bytes), WRITTEN(a_bgrt_at_0, bgrt_0_bytes), WRITTEN(a_bgrt_at_180, bgrt_180_bytes),
+    WRITTEN(a_bgrt_at_270, bgrt_270_bytes), NOT_WRITTEN(bad_45, ZACPI_UNKNOWN_CODE),
+    NOT_WRITTEN(bad_360, ZACPI_UNKNOWN_CODE), NOT_WRITTEN(bad_image_type, ZACPI_UNKNOWN_CODE),
     WRITTEN(a_fadt, fadt_bytes), WRITTEN(a_reduced_fadt, reduced_fadt_bytes),
     {"a_facs", a_facs, facs_bytes, sizeof facs_bytes, ZACPI_OK, ZACPI_OK},
     NOT_WRITTEN(a_fadt_without_dsdt, ZACPI_NO_ADDRESS), NOT_WRITTEN(a_fadt_without_pm1a, ZACPI_BAD_REGISTER),
@@ -233,7 +258,8 @@ static const struct written_row {
     NOT_LISTED(no_matrix_listed, ZACPI_BAD_MATRIX), NOT_LISTED(no_processor_listed, ZACPI_NO_PROCESSOR),
     NOT_LISTED(no_dsdt_listed, ZACPI_NO_ADDRESS), NOT_LISTED(no_range_listed, ZACPI_BAD_RANGE),
     NOT_LISTED(all_ids_listed, ZACPI_ID_OF_ALL), NOT_WRITTEN(code_before_kind, ZACPI_UNKNOWN_CODE),
-    NOT_WRITTEN(kind_before_code, ZACPI_UNKNOWN_TABLE)};
+    NOT_WRITTEN(kind_before_code, ZACPI_UNKNOWN_TABLE),
+    WRITTEN(a_machine_of_firmware, firmware_machine_bytes), NOT_WRITTEN(bad_45_listed, ZACPI_UNKNOWN_CODE)};
 
 static void check_written(const struct written_row *row, size_t room, zacpi_status status) {
     size_t length = UNCOUNTED, i, size = status ? 0 : row->length;

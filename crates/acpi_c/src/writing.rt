@@ -3,6 +3,7 @@ ghost use Rattle.std.specs.Prelude.{◌≡◌, length};
 ghost use Rattle.acpi.specs.declared.root.RootKind.TheVariants.{Rsdt, Xsdt};
 ghost use Rattle.acpi_base.specs.declared.table.signature.TheConstants.Signature.{DSDT, SSDT};
 ghost use Rattle.acpi_c_lib.specs.Writing.{SaysLength, WritesTable, hpet_info_of, ids_of, madt_said, regions_written, writer_refused};
+ghost use Rattle.acpi_c_lib.specs.WrittenBgrt.{bgrt_said};
 ghost use Rattle.acpi_c_lib.specs.WrittenFadt.{facs_contents, fadt_said};
 ghost use Rattle.acpi_c_lib.specs.WrittenMachine.{dsdt_said, machine_said, size_said, tree_said};
 ghost use Rattle.acpi_c_lib.specs.WrittenSrat.{srat_laid};
@@ -14,11 +15,11 @@ ghost use Rattle.acpi_writer.specs.Slit.{slit_written};
 ghost use Rattle.acpi_writer.specs.Table.{table_written};
 
 use acpi_c_lib::fixed_records::FixedHardware;
-use acpi_c_lib::records::{HpetInfo, PciRegion};
+use acpi_c_lib::records::{BootGraphic, HpetInfo, PciRegion};
 use acpi_c_lib::writing::{
-    dsdt_place, said_address, tables_size, write_dsdt, write_facs, write_fadt, write_hpet,
-    write_madt, write_regions, write_rsdp, write_rsdt, write_slit, write_srat, write_ssdt,
-    write_tables, write_tables_without_rsdp, write_xsdt, written, written_or_not,
+    dsdt_place, said_address, tables_size, write_bgrt, write_dsdt, write_facs, write_fadt,
+    write_hpet, write_madt, write_regions, write_rsdp, write_rsdt, write_slit, write_srat,
+    write_ssdt, write_tables, write_tables_without_rsdp, write_xsdt, written, written_or_not,
 };
 use acpi_c_lib::written_records::{FacsContents, Machine, MadtContents, SratContents, TableIds};
 
@@ -163,6 +164,20 @@ pub extern "C" fn zacpi_write_srat(
         (writer_refused (srat_laid (length out.old) (ids_of ids.now) contents.now)) }
 {
     written(write_srat(out, ids, contents), count)
+}
+
+/// A BGRT (section 5.2.22).
+#[unsafe(no_mangle)]
+pub extern "C" fn zacpi_write_bgrt(
+    ids: &TableIds,
+    graphic: &BootGraphic,
+    out: &mut [u8],
+    count: &mut usize,
+) -> u32
+    ensures { WritesTable result out.old out.new count.old count.new
+        (bgrt_said (length out.old) ids.now graphic.now) }
+{
+    written_or_not(write_bgrt(out, ids, graphic), count)
 }
 
 /// A FADT (section 5.2.9).
