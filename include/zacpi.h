@@ -188,23 +188,25 @@ enum zacpi_refusal {
     ZACPI_NO_IOMMU = 40,                   /* the table has no unit for the device */
     /* From 41 on: why a table isn't written. */
     ZACPI_UNKNOWN_CODE = 41,  /* a polarity, a trigger mode, a LINT pin, an image's orientation or
-                               * type, or in a register an address space, an access size or
-                               * `present` by a number that isn't one */
+                               * type, a console's interrupt_controllers, or in a register an
+                               * address space, an access size or `present` by a number that isn't
+                               * one */
     ZACPI_NO_PROCESSOR = 42,  /* a MADT without a processor */
     ZACPI_ID_OF_ALL = 43,     /* a processor whose uid or id is 0xffffffff, which stands for all */
     ZACPI_UID_OF_ALL = 44,    /* an NMI line of the processor whose uid is 0xffffffff */
     ZACPI_BAD_MATRIX = 45,    /* a SLIT without a distance for each pair of localities */
-    ZACPI_NO_ADDRESS = 46,    /* an RSDP or a FADT that leads to address 0; an address at which a
-                               * machine's tables can't lie */
+    ZACPI_NO_ADDRESS = 46,    /* an RSDP or a FADT that leads to address 0; a console's registers
+                               * there; an address at which a machine's tables can't lie */
     ZACPI_BAD_NAME = 47,      /* OEMID, OEM Table ID or Creator ID isn't UTF-8 */
     ZACPI_NO_ROOM = 48,       /* the buffer is shorter than the table */
     ZACPI_TOO_LONG = 49,      /* the table has 2^32 bytes or more, which Length can't say */
     ZACPI_BAD_PROFILE = 50,   /* no call of this header returns it: a profile is its code */
     ZACPI_BAD_REGISTER = 51,  /* a register of a FADT at address 0, or events without bytes */
     ZACPI_BAD_RANGE = 52,     /* a range of memory that has no byte, or ends above 2^64 - 1 */
-    /* 53 to 56: no call of this header returns them: C has no call for their tables. */
+    /* 53 and 54: no call of this header returns them: no SPCR has them that C can ask for. */
     ZACPI_BAD_CODE = 53,      /* an interface or an address space with a code of another one */
     ZACPI_LONG_NAME = 54,     /* a name in the namespace of 65535 bytes or more */
+    /* 55 and 56: no call of this header returns them: C has no call for their tables. */
     ZACPI_SAME_AS_BUS = 55,   /* a trigger mode or a polarity of an Arm machine as the bus has it */
     ZACPI_TOO_MANY_FRAMES = 56, /* a GT Block with more frames than its Length can say */
     ZACPI_UNKNOWN_TABLE = 57  /* a listed table of a kind that isn't one, or without its record */
@@ -1076,6 +1078,14 @@ struct zacpi_srat_contents {
     const struct zacpi_memory_affinity *ranges;
     size_t ranges_length;
 };
+struct zacpi_spcr_contents {
+    struct zacpi_console console;
+    uint8_t interrupt_controllers; /* bits 1 to 4 of Interrupt Type: 2 an I/O APIC, 4 an I/O SAPIC,
+                                    * 8 a GIC, 16 a PLIC or an APLIC, or a sum of these. Isn't looked
+                                    * at unless has_global_system_interrupt */
+    uint8_t flow_control;          /* Flow Control, as it is */
+    uint8_t terminal_type;         /* Terminal Type, as it is */
+};
 struct zacpi_facs_contents { /* section 5.2.10 */
     uint64_t waking_vector_64;    /* X_Firmware_Waking_Vector */
     uint32_t hardware_signature;  /* Hardware Signature */
@@ -1135,6 +1145,14 @@ zacpi_status zacpi_write_srat(const struct zacpi_table_ids *ids,
 zacpi_status zacpi_write_bgrt(const struct zacpi_table_ids *ids,
                               const struct zacpi_boot_graphic *graphic, uint8_t *out, size_t room,
                               size_t *length);
+/* An SPCR of revision 4, 90 bytes, from the record as which zacpi_console reads it, and what that
+ * doesn't say; the layout is Microsoft's. Language is 0 and NamespaceString is ".", that of a port
+ * with no object in the namespace. A code of `interface`, `parity` or stop_bits that is reserved is
+ * written too. Errors before the last ones: ZACPI_UNKNOWN_CODE, ZACPI_NO_ADDRESS if `base` is
+ * present at address 0. */
+zacpi_status zacpi_write_spcr(const struct zacpi_table_ids *ids,
+                              const struct zacpi_spcr_contents *contents, uint8_t *out,
+                              size_t room, size_t *length);
 /* A FADT of version 6.4, 276 bytes, from the record as which zacpi_fixed_hardware reads it (section
  * 5.2.9). Each address and block stands in its X_ field, and if it fits in its field of 32 bits, a
  * block if it is one of ports; PM1_EVT_LEN, PM1_CNT_LEN and PM2_CNT_LEN are the whole bytes of
@@ -1166,7 +1184,7 @@ struct zacpi_aml_contents { /* as zacpi_write_dsdt and zacpi_write_ssdt are pass
 enum zacpi_table_kind {
     ZACPI_KIND_FADT = 0, ZACPI_KIND_MADT = 1, ZACPI_KIND_MCFG = 2, ZACPI_KIND_HPET = 3, ZACPI_KIND_SLIT = 4,
     ZACPI_KIND_SSDT = 5, ZACPI_KIND_SRAT = 6,
-    ZACPI_KIND_BGRT = 7
+    ZACPI_KIND_BGRT = 7, ZACPI_KIND_SPCR = 8
 };
 /* A table that the XSDT lists: its kind, and its record, the first of the list for that kind (for
  * an MCFG that list itself). The functions zacpi_table_... make one, with the other lists empty. */
@@ -1188,6 +1206,8 @@ struct zacpi_listed_table {
     size_t srats_length;
     const struct zacpi_boot_graphic *bgrts;
     size_t bgrts_length;
+    const struct zacpi_spcr_contents *spcrs;
+    size_t spcrs_length;
 };
 struct zacpi_machine {
     struct zacpi_table_ids ids;
@@ -1210,6 +1230,7 @@ static inline struct zacpi_listed_table zacpi_table_of(uint32_t kind) {
     table.ssdts = (const struct zacpi_aml_contents *)none, table.ssdts_length = 0;
     table.srats = (const struct zacpi_srat_contents *)none, table.srats_length = 0;
     table.bgrts = (const struct zacpi_boot_graphic *)none, table.bgrts_length = 0;
+    table.spcrs = (const struct zacpi_spcr_contents *)none, table.spcrs_length = 0;
     return table;
 }
 static inline struct zacpi_listed_table zacpi_table_fadt(const struct zacpi_fixed_hardware *fadt) {
@@ -1251,6 +1272,11 @@ static inline struct zacpi_listed_table zacpi_table_srat(const struct zacpi_srat
 static inline struct zacpi_listed_table zacpi_table_bgrt(const struct zacpi_boot_graphic *bgrt) {
     struct zacpi_listed_table table = zacpi_table_of(ZACPI_KIND_BGRT);
     table.bgrts = bgrt, table.bgrts_length = 1;
+    return table;
+}
+static inline struct zacpi_listed_table zacpi_table_spcr(const struct zacpi_spcr_contents *spcr) {
+    struct zacpi_listed_table table = zacpi_table_of(ZACPI_KIND_SPCR);
+    table.spcrs = spcr, table.spcrs_length = 1;
     return table;
 }
 /* A MADT of these processors, with its other lists empty and a pair of 8259s. */

@@ -6,4 +6,5 @@ pub mod Sdt
 pub mod Tried
 pub mod Unlent
 pub mod Written
+pub mod WrittenSpcr
 pub mod WrittenTables

@@ -5,12 +5,13 @@ use Rattle.acpi_base.specs.declared.table.signature.TheConstants.Signature.{BGRT
 use Rattle.acpi_c_lib.specs.WrittenBgrt as bgrt
 use Rattle.acpi_c_lib.specs.WrittenFadt as fadt
 use Rattle.acpi_c_lib.specs.WrittenMachine.{written_as}
+use Rattle.acpi_c_lib.specs.WrittenSpcr as spcr
 use Rattle.acpi_c_lib.specs.WrittenSrat as srat
 use Rattle.acpi_c_lib.specs.Writing.{check_lists, hpet_info_of, madt_body, madt_laid, nmi_line_of, processor_of, region_of}
 use Rattle.acpi_c_lib.specs.declared.writing.machine.Contents.{Contents}
-use Rattle.acpi_c_lib.specs.declared.writing.machine.Contents.TheVariants.{Bgrt, Fadt, Hpet, Madt, Mcfg, Nothing, Slit, Srat, Ssdt}
+use Rattle.acpi_c_lib.specs.declared.writing.machine.Contents.TheVariants.{Bgrt, Fadt, Hpet, Madt, Mcfg, Nothing, Slit, Spcr, Srat, Ssdt}
 use Rattle.acpi_c_lib.specs.declared.written_records.MadtContents.{MadtContents}
-use Rattle.acpi_writer.proofs.Room.{moved_fadt, moved_slit, moved_srat, moved_table, through}
+use Rattle.acpi_writer.proofs.Room.{moved_fadt, moved_slit, moved_spcr, moved_srat, moved_table, through}
 use Rattle.acpi_writer.specs.Bgrt.{bgrt_body}
 use Rattle.acpi_writer.specs.Contents.{Moves}
 use Rattle.acpi_writer.specs.HpetBytes.{hpet_body}
@@ -36,4 +37,5 @@ moved_listed ids (Slit c) are = moved_slit ids c.localities c.distances.now are
 moved_listed ids (Ssdt c) are = moved_table SSDT c.revision ids c.aml.now refl are
 moved_listed ids (Srat c) are = moved_srat srat.range_of ids (srat.contents c) are
 moved_listed ids (Bgrt g) are = moved_table BGRT 1 ids (bgrt_body (bgrt.contents g)) refl are
+moved_listed ids (Spcr c) are = moved_spcr ids (spcr.contents spcr.no_name c) are
 moved_listed ids Nothing are = λ room other t e fits. never _ t _ e

@@ -25,4 +25,5 @@ pub mod Writing
 pub mod WrittenBgrt
 pub mod WrittenFadt
 pub mod WrittenMachine
+pub mod WrittenSpcr
 pub mod WrittenSrat

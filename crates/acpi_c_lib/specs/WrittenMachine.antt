@@ -5,13 +5,14 @@ use Rattle.acpi_base.specs.Steps.{◌>>=◌, holds}
 use Rattle.acpi_base.specs.declared.table.signature.TheConstants.Signature.{SSDT}
 use Rattle.acpi_c_lib.specs.WrittenBgrt as bgrt
 use Rattle.acpi_c_lib.specs.WrittenFadt as fadt
+use Rattle.acpi_c_lib.specs.WrittenSpcr as spcr
 use Rattle.acpi_c_lib.specs.WrittenSrat.{srat_laid}
 use Rattle.acpi_c_lib.specs.Writing as writing
 use Rattle.acpi_c_lib.specs.Writing.{hpet_info_of, ids_of, madt_laid, region_of, writer_refused}
 use Rattle.acpi_c_lib.specs.declared.refusal.Refusal.{Refusal}
 use Rattle.acpi_c_lib.specs.declared.refusal.Refusal.TheVariants.{UnknownCode, UnknownTable, Writer}
 use Rattle.acpi_c_lib.specs.declared.writing.machine.Contents.{Contents}
-use Rattle.acpi_c_lib.specs.declared.writing.machine.Contents.TheVariants.{Bgrt, Fadt, Hpet, Madt, Mcfg, Nothing, Slit, Srat, Ssdt}
+use Rattle.acpi_c_lib.specs.declared.writing.machine.Contents.TheVariants.{Bgrt, Fadt, Hpet, Madt, Mcfg, Nothing, Slit, Spcr, Srat, Ssdt}
 use Rattle.acpi_c_lib.specs.declared.written_records.AmlContents as aml
 use Rattle.acpi_c_lib.specs.declared.written_records.ListedTable.{ListedTable}
 use Rattle.acpi_c_lib.specs.declared.written_records.Machine as record_of
@@ -34,7 +35,7 @@ abbrev pub first_as : {A : Type 0} → (A → Contents) → List A → Contents
 first_as f [] = Nothing
 first_as f (x ∷ xs) = f x
 
--- the kinds: 0 FADT, 1 MADT, 2 MCFG, 3 HPET, 4 SLIT, 5 SSDT, 6 SRAT, 7 BGRT
+-- the kinds: 0 FADT, 1 MADT, 2 MCFG, 3 HPET, 4 SLIT, 5 SSDT, 6 SRAT, 7 BGRT, 8 SPCR
 abbrev pub contents_of : ListedTable → Contents
 contents_of t =
     if t.kind == 0 then first_as Fadt t.fadts.now
@@ -45,6 +46,7 @@ contents_of t =
     else if t.kind == 5 then first_as Ssdt t.ssdts.now
     else if t.kind == 6 then first_as Srat t.srats.now
     else if t.kind == 7 then first_as Bgrt t.bgrts.now
+    else if t.kind == 8 then first_as Spcr t.spcrs.now
     else Nothing
 
 -- the table in so much room, or the first error; one of no kind is refused before
@@ -57,6 +59,7 @@ written_as room ids (Slit c) = slit_written room ids c.localities c.distances.no
 written_as room ids (Ssdt c) = table_written room SSDT c.revision ids c.aml.now
 written_as room ids (Srat c) = srat_laid room ids c
 written_as room ids (Bgrt g) = bgrt_written room ids (bgrt.contents g)
+written_as room ids (Spcr c) = spcr.spcr_laid room ids c
 written_as room ids Nothing = Err BadCode
 
 abbrev pub listed_written : ℕ → TableIds → ListedTable → Result (List ℕ) WriterError
@@ -78,6 +81,7 @@ check_contents Nothing = Err UnknownTable
 check_contents (Fadt h) = holds (fadt.has_codes h) UnknownCode
 check_contents (Madt c) = holds (writing.has_codes c) UnknownCode
 check_contents (Bgrt g) = holds (bgrt.has_codes g) UnknownCode
+check_contents (Spcr c) = holds (spcr.has_codes c) UnknownCode
 check_contents _ = Ok tt
 
 abbrev pub check_table : ListedTable → Result (Unit {0}) Refusal

@@ -8,6 +8,7 @@ mod bgrt;
 mod fadt;
 mod machine;
 mod madt;
+mod spcr;
 mod srat;
 
 use crate::records::{self, PciRegion};
@@ -26,6 +27,7 @@ pub use bgrt::write_bgrt;
 pub use fadt::write_fadt;
 pub use machine::{dsdt_place, tables_size, write_tables, write_tables_without_rsdp};
 pub use madt::write_madt;
+pub use spcr::write_spcr;
 pub use srat::write_srat;
 
 impl written_records::TableIds {

@@ -1,6 +1,6 @@
 //! What C says of the tables that are to be written. What each field holds is said once, in `include/zacpi.h`.
 
-use crate::fixed_records::FixedHardware;
+use crate::fixed_records::{Console, FixedHardware};
 use crate::interrupt_records::{InterruptSourceOverride, IoApic, NmiLine, NmiSource, Processor};
 use crate::numa_records::MemoryAffinity;
 use crate::records::{BootGraphic, HpetInfo, PciRegion};
@@ -49,6 +49,16 @@ pub struct SratContents<'a> {
     pub ranges: &'a [MemoryAffinity],
 }
 
+/// What an SPCR is to say.
+#[repr(C)]
+#[derive(Clone, Copy)]
+pub struct SpcrContents {
+    pub console: Console,
+    pub interrupt_controllers: u8,
+    pub flow_control: u8,
+    pub terminal_type: u8,
+}
+
 /// What a table of AML is to have after its header (section 5.2.11).
 #[repr(C)]
 #[derive(Clone, Copy)]
@@ -71,6 +81,7 @@ pub struct ListedTable<'a> {
     pub ssdts: &'a [AmlContents<'a>],
     pub srats: &'a [SratContents<'a>],
     pub bgrts: &'a [BootGraphic],
+    pub spcrs: &'a [SpcrContents],
 }
 
 /// A machine, as its tables describe it.

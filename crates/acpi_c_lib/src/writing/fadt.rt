@@ -44,7 +44,7 @@ fn is_access_size(code: u8) -> bool
 }
 
 /// A register, as the writer has it.
-fn register(at: records::GenericAddress) -> GenericAddress
+pub(crate) fn register(at: records::GenericAddress) -> GenericAddress
     ensures { result ≡ written.register at }
 {
     GenericAddress {
@@ -236,7 +236,7 @@ pub(crate) fn contents(h: &FixedHardware) -> FadtContents
 }
 
 /// Whether a register is there or isn't, and its codes are none that are reserved.
-fn has_codes_at(given: Register) -> bool
+pub(crate) fn has_codes_at(given: Register) -> bool
     ensures { result ≡ written.has_codes_at given }
 {
     given.present <= 1 && is_space(given.at.space) && is_access_size(given.at.access_size)

@@ -7,9 +7,9 @@ ghost use Rattle.acpi_c_lib.specs.WrittenMachine as whole;
 use crate::fixed_records::FixedHardware;
 use crate::records::{BootGraphic, HpetInfo, PciRegion};
 use crate::refusal::Refusal;
-use crate::writing::{bgrt, fadt, madt};
+use crate::writing::{bgrt, fadt, madt, spcr};
 use crate::written_records::{
-    AmlContents, ListedTable, Machine, MadtContents, SlitContents, SratContents,
+    AmlContents, ListedTable, Machine, MadtContents, SlitContents, SpcrContents, SratContents,
 };
 use acpi_base::Signature;
 use acpi_writer::fadt::fadt_size;
@@ -33,6 +33,7 @@ pub(crate) enum Contents<'a> {
     Ssdt(AmlContents<'a>),
     Srat(SratContents<'a>),
     Bgrt(BootGraphic),
+    Spcr(SpcrContents),
     Nothing,
 }
 
@@ -71,6 +72,10 @@ impl<'a> ListedTable<'a> {
                 [first, ..] => Contents::Bgrt(*first),
                 [] => Contents::Nothing,
             },
+            8 => match self.spcrs {
+                [first, ..] => Contents::Spcr(*first),
+                [] => Contents::Nothing,
+            },
             _ => Contents::Nothing,
         }
     }
@@ -97,6 +102,7 @@ impl Listed for ListedTable<'_> {
             Contents::Bgrt(graphic) => {
                 table_size(Signature::BGRT, 1, ids, &bgrt::contents(&graphic))
             }
+            Contents::Spcr(console) => spcr::laid_size(ids, &console),
             Contents::Nothing => Err(WriterError::BadCode),
         }
     }
@@ -111,6 +117,7 @@ impl Listed for ListedTable<'_> {
             Contents::Ssdt(aml) => write_ssdt(out, ids, aml.revision, aml.aml),
             Contents::Srat(domains) => write_srat_of(out, ids, &domains.contents()),
             Contents::Bgrt(graphic) => write_bgrt(out, ids, &bgrt::contents(&graphic)),
+            Contents::Spcr(console) => spcr::write_laid(out, ids, &console),
             Contents::Nothing => Err(WriterError::BadCode),
         }
     }
@@ -162,6 +169,13 @@ fn check_table(table: &ListedTable<'_>) -> Result<(), Refusal>
         }
         Contents::Bgrt(graphic) => {
             if bgrt::has_codes(&graphic) {
+                Ok(())
+            } else {
+                Err(Refusal::UnknownCode)
+            }
+        }
+        Contents::Spcr(console) => {
+            if spcr::has_codes(&console) {
                 Ok(())
             } else {
                 Err(Refusal::UnknownCode)

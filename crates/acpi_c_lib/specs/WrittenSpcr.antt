@@ -1,0 +1,87 @@
+-- The SPCR that is written for C, from the record as which it is read. The layout is Microsoft's.
+use Rattle.std.specs.Prelude.{ℕ, ◌==◌, ◌&&◌, ◌||◌, Bool, not, bit_or, codes, nat_lt, List, Option, Some, None, Result, if◌then◌else◌}
+use Rattle.std.specs.Borrow.{Bor}
+use Rattle.acpi_base.specs.Bits.{has_bit}
+use Rattle.acpi_base.specs.Spcr.{interface_of}
+use Rattle.acpi_base.specs.Steps.{◌>>=◌, holds}
+use Rattle.acpi_base.specs.declared.address.GenericAddress.{GenericAddress}
+use Rattle.acpi_c_lib.specs.WrittenFadt.{has_codes_at, register}
+use Rattle.acpi_c_lib.specs.Writing.{ids_of, writer_refused}
+use Rattle.acpi_c_lib.specs.declared.fixed_records.Console.{Console}
+use Rattle.acpi_c_lib.specs.declared.records.Register.{Register}
+use Rattle.acpi_c_lib.specs.declared.refusal.Refusal.{Refusal}
+use Rattle.acpi_c_lib.specs.declared.refusal.Refusal.TheVariants.{UnknownCode}
+use Rattle.acpi_c_lib.specs.declared.written_records.SpcrContents as spcr_record
+use Rattle.acpi_c_lib.specs.declared.written_records.TableIds as ids
+use Rattle.acpi_writer.specs.Spcr.{spcr_written}
+use Rattle.acpi_writer.specs.declared.error.WriterError.{WriterError}
+use Rattle.acpi_writer.specs.declared.ids.TableIds.{TableIds}
+use Rattle.acpi_writer.specs.declared.spcr.SpcrContents.{SpcrContents}
+use Rattle.acpi_writer.specs.declared.spcr.SpcrPciDevice.{SpcrPciDevice}
+
+abbrev pub base : Register → Option GenericAddress
+base r = if r.present == 0 then None else Some (register r.at)
+
+-- Interrupt Type: bits 1 to 4 are controllers of global system interrupts
+abbrev pub is_controllers : ℕ → Bool
+is_controllers n = not (has_bit n 0) && (nat_lt 0 n && nat_lt n 32)
+
+abbrev pub controllers : spcr_record.SpcrContents → ℕ
+controllers c = if c.console.has_global_system_interrupt == 0 then 0 else c.interrupt_controllers
+
+-- and bit 0 the 8259s
+abbrev pub interrupt_type : spcr_record.SpcrContents → ℕ
+interrupt_type c = if c.console.has_irq == 0 then controllers c else bit_or (controllers c) 1
+
+abbrev pub has_codes : spcr_record.SpcrContents → Bool
+has_codes c =
+    has_codes_at c.console.base
+    && (c.console.has_global_system_interrupt == 0 || is_controllers c.interrupt_controllers)
+
+abbrev pub device : Console → SpcrPciDevice
+device c = record {
+  device_id = c.pci_device_id;
+  vendor_id = c.pci_vendor_id;
+  bus = c.pci_bus;
+  device = c.pci_device;
+  function = c.pci_function;
+  flags = c.pci_flags;
+  segment = c.pci_segment;
+}
+
+-- or 0, by which it stays as it is
+abbrev pub baud_rate : Console → ℕ
+baud_rate c = if c.has_baud_rate == 0 then 0 else c.baud_rate
+
+-- with this NamespaceString
+abbrev pub contents : Bor (List ℕ) → spcr_record.SpcrContents → SpcrContents
+contents name c = record {
+  interface_type = interface_of c.console.interface;
+  base_address = base c.console.base;
+  interrupt_type = record { 0 = interrupt_type c };
+  irq = c.console.irq;
+  global_system_interrupt = c.console.global_system_interrupt;
+  baud_rate = baud_rate c.console;
+  parity = c.console.parity;
+  stop_bits = c.console.stop_bits;
+  flow_control = record { 0 = c.flow_control };
+  terminal_type = record { 0 = c.terminal_type };
+  language = 0;
+  pci_device = Some (device c.console);
+  uart_clock_frequency = c.console.clock_frequency;
+  namespace_string = name;
+}
+
+-- NamespaceString of a console with no object in the namespace, wherever it lies
+abbrev pub no_name : Bor (List ℕ)
+no_name = record { ref_ptr = (0, 0); now = codes "." }
+
+-- the SPCR of a record whose codes there are, in so much room, or the first error
+abbrev pub spcr_laid : ℕ → TableIds → spcr_record.SpcrContents → Result (List ℕ) WriterError
+spcr_laid room ids c = spcr_written room ids (contents no_name c)
+
+-- the SPCR of a record, in so much room, or the first error
+abbrev pub spcr_said : ℕ → ids.TableIds → spcr_record.SpcrContents → Result (List ℕ) Refusal
+spcr_said room i c = do
+  _ ← holds (has_codes c) UnknownCode
+  writer_refused (spcr_laid room (ids_of i) c)

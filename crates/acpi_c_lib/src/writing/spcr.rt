@@ -1,0 +1,150 @@
+//! The SPCR that is written for C, from the record as which C reads it. The layout is Microsoft's.
+ghost use Rattle.std.specs.Prelude.{◌≡◌, ◌^◌, ◌<◌, codes, length, take, IfOk};
+ghost use Rattle.acpi_base.specs.Steps.{Gives};
+ghost use Rattle.acpi_c_lib.specs.Writing.{IsKeptOr};
+ghost use Rattle.acpi_c_lib.specs.WrittenSpcr as written;
+ghost use Rattle.acpi_writer.specs.Contents.{most, sized};
+ghost use Rattle.acpi_writer.specs.Table.{Keeps};
+
+use crate::fixed_records::Console;
+use crate::records::Register;
+use crate::refusal::Refusal;
+use crate::writing::fadt::{has_codes_at, register};
+use crate::written_records::{SpcrContents, TableIds};
+use acpi_base::address::GenericAddress;
+use acpi_base::bytes::has_bit;
+use acpi_base::spcr::{SpcrFlowControl, SpcrInterfaceType, SpcrInterruptType, SpcrTerminalType};
+use acpi_writer::spcr::SpcrPciDevice;
+use acpi_writer::{Listed, TableContents, WriterError, write_spcr as written_spcr};
+use bitflags::Flags;
+
+/// Where the registers lie, if there are any.
+fn base(given: Register) -> Option<GenericAddress>
+    ensures { result ≡ written.base given }
+{
+    if given.present == 0 {
+        None
+    } else {
+        Some(register(given.at))
+    }
+}
+
+fn is_controllers(bits: u8) -> bool
+    ensures { result ≡ written.is_controllers bits }
+{
+    !has_bit(bits as u64, 0) && 0 < bits && bits < 32
+}
+
+/// Interrupt Type.
+fn interrupt_type(given: &SpcrContents) -> u8
+    ensures { result ≡ written.interrupt_type given.now }
+{
+    let controllers = if given.console.has_global_system_interrupt == 0 {
+        0
+    } else {
+        given.interrupt_controllers
+    };
+    if given.console.has_irq == 0 {
+        controllers
+    } else {
+        controllers | 1
+    }
+}
+
+/// Whether no register has a code that is reserved, and a global system interrupt has a controller.
+pub(crate) fn has_codes(given: &SpcrContents) -> bool
+    ensures { result ≡ written.has_codes given.now }
+{
+    has_codes_at(given.console.base)
+        && (given.console.has_global_system_interrupt == 0
+            || is_controllers(given.interrupt_controllers))
+}
+
+fn device(console: &Console) -> SpcrPciDevice
+    ensures { result ≡ written.device console.now }
+{
+    SpcrPciDevice {
+        device_id: console.pci_device_id,
+        vendor_id: console.pci_vendor_id,
+        bus: console.pci_bus,
+        device: console.pci_device,
+        function: console.pci_function,
+        flags: console.pci_flags,
+        segment: console.pci_segment,
+    }
+}
+
+/// The rate, or 0 if it is to stay as it is.
+fn baud_rate(console: &Console) -> u32
+    ensures { result ≡ written.baud_rate console.now }
+{
+    if console.has_baud_rate == 0 {
+        0
+    } else {
+        console.baud_rate
+    }
+}
+
+/// What the SPCR is to say, as the writer has it.
+fn contents<'a>(given: &SpcrContents) -> acpi_writer::SpcrContents<'a>
+    ensures said { result ≡ written.contents result.namespace_string given.now }
+    ensures name { result.namespace_string.now ≡ codes "." }
+{
+    let console = &given.console;
+    acpi_writer::SpcrContents {
+        interface_type: SpcrInterfaceType::from(console.interface),
+        base_address: base(console.base),
+        interrupt_type: SpcrInterruptType::from_bits_retain(interrupt_type(given)),
+        irq: console.irq,
+        global_system_interrupt: console.global_system_interrupt,
+        baud_rate: baud_rate(console),
+        parity: console.parity,
+        stop_bits: console.stop_bits,
+        flow_control: SpcrFlowControl::from_bits_retain(given.flow_control),
+        terminal_type: SpcrTerminalType::from_bits_retain(given.terminal_type),
+        language: 0,
+        pci_device: Some(device(console)),
+        uart_clock_frequency: console.clock_frequency,
+        namespace_string: ".",
+    }
+}
+
+/// Writes an SPCR of a record whose codes there are.
+#[tactic(auto, using(crate::proofs::WrittenSpcr::named), unfolding(acpi_writer::specs::Spcr::spcr_written, acpi_writer::specs::Spcr::port_fields))]
+pub(crate) fn write_laid(
+    out: &mut [u8],
+    ids: &acpi_writer::TableIds,
+    given: &SpcrContents,
+) -> Result<usize, WriterError>
+    ensures exact { Gives (λ n. take n out.new) result
+        (written.spcr_laid (length out.old) ids.now given.now) }
+    ensures keeps { Keeps result out.old out.new }
+{
+    written_spcr(out, ids, &contents(given))
+}
+
+/// How many bytes such an SPCR has, or the first error.
+#[tactic(auto, using(crate::proofs::WrittenSpcr::named), unfolding(acpi_writer::specs::Spcr::spcr_written, acpi_writer::specs::Spcr::port_fields))]
+pub(crate) fn laid_size(
+    ids: &acpi_writer::TableIds,
+    given: &SpcrContents,
+) -> Result<usize, WriterError>
+    ensures exact { result ≡ sized (written.spcr_laid most ids.now given.now) }
+    ensures short { IfOk result (λ n. n < 2 ^ 32) }
+{
+    TableContents::Spcr(contents(given)).size(ids)
+}
+
+/// Writes an SPCR of a record.
+///
+/// Returns `UnknownCode`, and then the errors of `acpi_writer::write_spcr`, in its order.
+pub fn write_spcr(out: &mut [u8], ids: &TableIds, spcr: &SpcrContents) -> Result<usize, Refusal>
+    ensures exact { Gives (λ n. take n out.new) result
+        (written.spcr_said (length out.old) ids.now spcr.now) }
+    ensures keeps { IsKeptOr result out.old out.new }
+{
+    if !has_codes(spcr) {
+        return Err(Refusal::UnknownCode);
+    }
+    Ok(write_laid(out, &ids.ids(), spcr)?)
+}
