@@ -94,9 +94,9 @@ static const uint8_t tree_xsdt[] = {HEAD('X', 'S', 'D', 'T', 92, 1, 0x0c), LISTE
 static const uint8_t empty_machine_bytes[96] = {'R', 'S', 'D', ' ', 'P', 'T', 'R', ' ', 0x37, 'G', 'U', 'E', 'S', 'T',
     ' ', 2, 0, 0, 0, 0, 36, 0, 0, 0, 0x30, 0, 0xe0, 0x7f, 0, 0, 0, 0, 0x4d, 0, 0, 0, ZEROS_12,
     HEAD('X', 'S', 'D', 'T', 36, 1, 0x67)};
-/* Without a DSDT: the XSDT 0x30 on, the BGRT 0x60 on. */
-static uint8_t firmware_machine_bytes[0xa0];
-static const uint8_t firmware_xsdt[] = {HEAD('X', 'S', 'D', 'T', 44, 1, 0xa0), LISTED_AT(0x60, 0)};
+/* Without a DSDT: the XSDT 0x30 on, the BGRT 0x70 on, the SPCR 0xb0 on. */
+static uint8_t firmware_machine_bytes[0x110];
+static const uint8_t firmware_xsdt[] = {HEAD('X', 'S', 'D', 'T', 52, 1, 0x79), LISTED_AT(0x70, 0), LISTED_AT(0xb0, 0)};
 
 static uint8_t *lay(uint8_t *to, const uint8_t *bytes, size_t length) {
     memcpy(to, bytes, length);
@@ -116,7 +116,8 @@ static void lay_tree(uint8_t *to, const uint8_t *xsdt) {
 static void lay_machines(void) {
     uint8_t *to = lay(firmware_machine_bytes, machine_rsdp, sizeof machine_rsdp);
     to = lay(to, firmware_xsdt, sizeof firmware_xsdt);
-    lay(to, bgrt_bytes, sizeof bgrt_bytes);
+    to = lay(to, bgrt_bytes, sizeof bgrt_bytes);
+    lay(to, spcr_bytes, sizeof spcr_bytes);
     lay_tree(lay(machine_bytes, machine_rsdp, sizeof machine_rsdp), machine_xsdt);
     lay_tree(tree_bytes, tree_xsdt);
 }
@@ -146,7 +147,7 @@ static zacpi_status on_two(struct zacpi_listed_table a, struct zacpi_listed_tabl
 }
 #define MACHINE(verb, answer) static zacpi_status verb(uint8_t *to, size_t room, size_t *length) { return answer; }
 static zacpi_status on_firmware(uint8_t *to, size_t room, size_t *length) {
-    const struct zacpi_listed_table tables[] = {zacpi_table_bgrt(&image)};
+    const struct zacpi_listed_table tables[] = {zacpi_table_bgrt(&image), zacpi_table_spcr(&gic_console)};
     return on_machine(LISTED(tables), 0, 0x7fe00000, 1, to, room, length);
 }
 MACHINE(a_machine, on_seven(0x7fe00000, 1, to, room, length))
@@ -161,6 +162,9 @@ MACHINE(all_ids_listed, on_two(zacpi_table_slit(&matrix), zacpi_table_srat(&srat
 MACHINE(code_before_kind, on_two(zacpi_table_madt(&madt_no_lint), zacpi_table_of(11), to, room, length))
 MACHINE(kind_before_code, on_two(zacpi_table_of(11), zacpi_table_madt(&madt_no_lint), to, room, length))
 MACHINE(a_machine_of_firmware, on_firmware(to, room, length))
+MACHINE(no_controller_listed, on_two(zacpi_table_spcr(&console_no_controller), zacpi_table_slit(&no_matrix), to, room,
+                                     length))
+MACHINE(console_at_0_listed, on_two(zacpi_table_spcr(&console_at_0), zacpi_table_slit(&no_matrix), to, room, length))
 MACHINE(bad_45_listed, on_two(zacpi_table_bgrt(&image_at_45), zacpi_table_slit(&no_matrix), to, room, length))
 
 /* Whether a call refuses and writes nothing, and so does the call for the size. */

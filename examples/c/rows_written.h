@@ -61,6 +61,28 @@ static const struct zacpi_boot_graphic image_at_0 = {0, 0, 0, 0, 0, 0}, image_at
 static const struct zacpi_boot_graphic image_at_270 = {0xffffffffffffffff, 0, 0, 270, 1, 0};
 static const struct zacpi_boot_graphic image_at_45 = {0, 0, 0, 45, 1, 0}, image_at_360 = {0, 0, 0, 360, 1, 0};
 static const struct zacpi_boot_graphic no_bitmap = {0, 0, 0, 90, 1, 1};
+/* Of the second console's registers, rate, interrupts and controllers none is there. */
+static const struct zacpi_spcr_contents gic_console = {
+    {.base = {{0x0807060504030201, 0, 32, 0, 3}, 1}, .baud_rate = 115200, .global_system_interrupt = 0x14131211,
+     .clock_frequency = 0x64636261, .pci_flags = 0x84838281, .pci_device_id = 0x2221, .pci_vendor_id = 0x3231,
+     .interface = 3, .irq = 4, .has_irq = 255, .has_global_system_interrupt = 255, .has_baud_rate = 255, .stop_bits = 1,
+     .pci_segment = 0x51, .pci_bus = 0x41, .pci_device = 0x1f, .pci_function = 7}, 8, 2, 3};
+static const struct zacpi_spcr_contents no_console = {
+    {.base = {{0x3f8, 1, 8, 0, 1}, 0}, .baud_rate = 9600, .global_system_interrupt = 6, .pci_device_id = 0xffff,
+     .pci_vendor_id = 0xffff, .interface = 0x16, .irq = 5, .parity = 0xfe, .stop_bits = 0xfd}, 255, 255, 255};
+static const struct zacpi_spcr_contents pc_console = {
+    {.base = {{0x3f8, 1, 8, 0, 1}, 1}, .baud_rate = 9600, .global_system_interrupt = 4, .clock_frequency = 1843200,
+     .pci_device_id = 0xffff, .pci_vendor_id = 0xffff, .irq = 4, .has_irq = 1, .has_global_system_interrupt = 1,
+     .has_baud_rate = 1, .stop_bits = 1}, 30, 0, 0};
+#define CONSOLE(name, address, space, access, present, controllers) static const struct zacpi_spcr_contents name = { \
+    {.base = {{address, space, 8, 0, access}, present}, .has_global_system_interrupt = 1}, controllers, 0, 0};
+CONSOLE(console_at_0, 0, 1, 1, 1, 2)
+CONSOLE(console_no_space, 0, 0x0b, 1, 1, 2)
+CONSOLE(console_no_access, 0x3f8, 1, 5, 1, 2)
+CONSOLE(console_no_present, 0x3f8, 1, 1, 2, 2)
+CONSOLE(console_no_controller, 0x3f8, 1, 1, 1, 0)
+CONSOLE(console_of_8259, 0x3f8, 1, 1, 1, 3)
+CONSOLE(console_of_bit_5, 0x3f8, 1, 1, 1, 34)
 
 #define LISTED(items) items, sizeof(items) / sizeof *(items)
 #define NONE(items) items, 0
@@ -163,6 +185,21 @@ static const uint8_t bgrt_180_bytes[] = {HEAD('B', 'G', 'R', 'T', 56, 1, 0x66), 
     0, 0, 0, 0, 255, 255, 255, 255};
 static const uint8_t bgrt_270_bytes[] = {HEAD('B', 'G', 'R', 'T', 56, 1, 0x67), 1, 0, 7, 0,
     255, 255, 255, 255, 255, 255, 255, 255, 0, 0, 0, 0, 0, 0, 0, 0};
+/* Interface Type, Reserved; Base Address; Interrupt Type, IRQ, Global System Interrupt; Configured Baud Rate, Parity,
+ * Stop Bits, Flow Control, Terminal Type, Language; PCI Device ID to PCI Segment; UART Clock Frequency, Precise Baud
+ * Rate, NamespaceStringLength, NamespaceStringOffset; NamespaceString. */
+static const uint8_t spcr_bytes[] = {HEAD('S', 'P', 'C', 'R', 90, 4, 0x4e), 3, 0, 0, 0,
+    0, 32, 0, 3, 1, 2, 3, 4, 5, 6, 7, 8, 9, 4, 0x11, 0x12, 0x13, 0x14, 7, 0, 1, 2, 3, 0,
+    0x21, 0x22, 0x31, 0x32, 0x41, 0x1f, 7, 0x81, 0x82, 0x83, 0x84, 0x51,
+    0x61, 0x62, 0x63, 0x64, 0, 0xc2, 1, 0, 2, 0, 88, 0, '.', 0};
+static const uint8_t no_spcr_bytes[] = {HEAD('S', 'P', 'C', 'R', 90, 4, 0x9b), 0x16, 0, 0, 0,
+    0, 0, 0, 0, 0, 0, 0, 0, 0, 0, 0, 0, 0, 5, 6, 0, 0, 0, 0, 0xfe, 0xfd, 255, 255, 0,
+    255, 255, 255, 255, 0, 0, 0, 0, 0, 0, 0, 0,
+    0, 0, 0, 0, 0, 0, 0, 0, 2, 0, 88, 0, '.', 0};
+static const uint8_t pc_spcr_bytes[] = {HEAD('S', 'P', 'C', 'R', 90, 4, 0xa4), 0, 0, 0, 0,
+    1, 8, 0, 1, 0xf8, 3, 0, 0, 0, 0, 0, 0, 31, 4, 4, 0, 0, 0, 3, 0, 1, 0, 0, 0,
+    255, 255, 255, 255, 0, 0, 0, 0, 0, 0, 0, 0,
+    0, 0x20, 0x1c, 0, 0x80, 0x25, 0, 0, 2, 0, 88, 0, '.', 0};
 
 #include "rows_machine.h"
 
@@ -208,6 +245,16 @@ WRITE(a_bgrt_at_270, bgrt, &image_at_270)
 WRITE(bad_45, bgrt, &image_at_45)
 WRITE(bad_360, bgrt, &image_at_360)
 WRITE(bad_image_type, bgrt, &no_bitmap)
+WRITE(an_spcr, spcr, &gic_console)
+WRITE(an_spcr_of_none, spcr, &no_console)
+WRITE(a_pc_spcr, spcr, &pc_console)
+WRITE(an_spcr_at_0, spcr, &console_at_0)
+WRITE(bad_console_space, spcr, &console_no_space)
+WRITE(bad_console_access, spcr, &console_no_access)
+WRITE(bad_console_present, spcr, &console_no_present)
+WRITE(bad_no_controller, spcr, &console_no_controller)
+WRITE(bad_8259, spcr, &console_of_8259)
+WRITE(bad_bit_5, spcr, &console_of_bit_5)
 WRITE(a_fadt, fadt, &pc_fadt)
 WRITE(a_reduced_fadt, fadt, &reduced_fadt)
 WRITE(a_fadt_without_dsdt, fadt, &fadt_without_dsdt)
@@ -249,6 +296,11 @@ static const struct written_row {
     WRITTEN(a_bgrt, bgrt_bytes), WRITTEN(a_bgrt_at_0, bgrt_0_bytes), WRITTEN(a_bgrt_at_180, bgrt_180_bytes),
     WRITTEN(a_bgrt_at_270, bgrt_270_bytes), NOT_WRITTEN(bad_45, ZACPI_UNKNOWN_CODE),
     NOT_WRITTEN(bad_360, ZACPI_UNKNOWN_CODE), NOT_WRITTEN(bad_image_type, ZACPI_UNKNOWN_CODE),
+    WRITTEN(an_spcr, spcr_bytes), WRITTEN(an_spcr_of_none, no_spcr_bytes), WRITTEN(a_pc_spcr, pc_spcr_bytes),
+    NOT_WRITTEN(an_spcr_at_0, ZACPI_NO_ADDRESS), NOT_WRITTEN(bad_console_space, ZACPI_UNKNOWN_CODE),
+    NOT_WRITTEN(bad_console_access, ZACPI_UNKNOWN_CODE), NOT_WRITTEN(bad_console_present, ZACPI_UNKNOWN_CODE),
+    NOT_WRITTEN(bad_no_controller, ZACPI_UNKNOWN_CODE), NOT_WRITTEN(bad_8259, ZACPI_UNKNOWN_CODE),
+    NOT_WRITTEN(bad_bit_5, ZACPI_UNKNOWN_CODE),
     WRITTEN(a_fadt, fadt_bytes), WRITTEN(a_reduced_fadt, reduced_fadt_bytes),
     {"a_facs", a_facs, facs_bytes, sizeof facs_bytes, ZACPI_OK, ZACPI_OK},
     NOT_WRITTEN(a_fadt_without_dsdt, ZACPI_NO_ADDRESS), NOT_WRITTEN(a_fadt_without_pm1a, ZACPI_BAD_REGISTER),
@@ -259,7 +311,8 @@ static const struct written_row {
     NOT_LISTED(no_dsdt_listed, ZACPI_NO_ADDRESS), NOT_LISTED(no_range_listed, ZACPI_BAD_RANGE),
     NOT_LISTED(all_ids_listed, ZACPI_ID_OF_ALL), NOT_WRITTEN(code_before_kind, ZACPI_UNKNOWN_CODE),
     NOT_WRITTEN(kind_before_code, ZACPI_UNKNOWN_TABLE),
-    WRITTEN(a_machine_of_firmware, firmware_machine_bytes), NOT_WRITTEN(bad_45_listed, ZACPI_UNKNOWN_CODE)};
+    WRITTEN(a_machine_of_firmware, firmware_machine_bytes), NOT_WRITTEN(bad_45_listed, ZACPI_UNKNOWN_CODE),
+    NOT_WRITTEN(no_controller_listed, ZACPI_UNKNOWN_CODE), NOT_LISTED(console_at_0_listed, ZACPI_NO_ADDRESS)};
 
 static void check_written(const struct written_row *row, size_t room, zacpi_status status) {
     size_t length = UNCOUNTED, i, size = status ? 0 : row->length;

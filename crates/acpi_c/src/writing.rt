@@ -6,6 +6,7 @@ ghost use Rattle.acpi_c_lib.specs.Writing.{SaysLength, WritesTable, hpet_info_of
 ghost use Rattle.acpi_c_lib.specs.WrittenBgrt.{bgrt_said};
 ghost use Rattle.acpi_c_lib.specs.WrittenFadt.{facs_contents, fadt_said};
 ghost use Rattle.acpi_c_lib.specs.WrittenMachine.{dsdt_said, machine_said, size_said, tree_said};
+ghost use Rattle.acpi_c_lib.specs.WrittenSpcr.{spcr_said};
 ghost use Rattle.acpi_c_lib.specs.WrittenSrat.{srat_laid};
 ghost use Rattle.acpi_writer.specs.Facs.{facs_written};
 ghost use Rattle.acpi_writer.specs.HpetBytes.{hpet_written};
@@ -18,10 +19,13 @@ use acpi_c_lib::fixed_records::FixedHardware;
 use acpi_c_lib::records::{BootGraphic, HpetInfo, PciRegion};
 use acpi_c_lib::writing::{
     dsdt_place, said_address, tables_size, write_bgrt, write_dsdt, write_facs, write_fadt,
-    write_hpet, write_madt, write_regions, write_rsdp, write_rsdt, write_slit, write_srat,
-    write_ssdt, write_tables, write_tables_without_rsdp, write_xsdt, written, written_or_not,
+    write_hpet, write_madt, write_regions, write_rsdp, write_rsdt, write_slit, write_spcr,
+    write_srat, write_ssdt, write_tables, write_tables_without_rsdp, write_xsdt, written,
+    written_or_not,
 };
-use acpi_c_lib::written_records::{FacsContents, Machine, MadtContents, SratContents, TableIds};
+use acpi_c_lib::written_records::{
+    FacsContents, Machine, MadtContents, SpcrContents, SratContents, TableIds,
+};
 
 /// An RSDP of revision 2 that leads to an XSDT (section 5.2.5.3).
 #[unsafe(no_mangle)]
@@ -178,6 +182,20 @@ pub extern "C" fn zacpi_write_bgrt(
         (bgrt_said (length out.old) ids.now graphic.now) }
 {
     written_or_not(write_bgrt(out, ids, graphic), count)
+}
+
+/// An SPCR, whose layout is Microsoft's.
+#[unsafe(no_mangle)]
+pub extern "C" fn zacpi_write_spcr(
+    ids: &TableIds,
+    spcr: &SpcrContents,
+    out: &mut [u8],
+    count: &mut usize,
+) -> u32
+    ensures { WritesTable result out.old out.new count.old count.new
+        (spcr_said (length out.old) ids.now spcr.now) }
+{
+    written_or_not(write_spcr(out, ids, spcr), count)
 }
 
 /// A FADT (section 5.2.9).
