@@ -202,11 +202,11 @@ enum zacpi_refusal {
     ZACPI_TOO_LONG = 49,      /* the table has 2^32 bytes or more, which Length can't say */
     ZACPI_BAD_PROFILE = 50,   /* no call of this header returns it: a profile is its code */
     ZACPI_BAD_REGISTER = 51,  /* a register of a FADT at address 0, or events without bytes */
-    ZACPI_BAD_RANGE = 52,     /* a range of memory that has no byte, or ends above 2^64 - 1 */
-    /* 53 and 54: no call of this header returns them: no SPCR has them that C can ask for. */
+    ZACPI_BAD_RANGE = 52,     /* a range of memory that has no byte, or ends above 2^64 - 1; one of
+                               * redistributors that has 2^32 bytes or more */
+    /* 53, 54 and 56: no call of this header returns them: no table has them that C can ask for. */
     ZACPI_BAD_CODE = 53,      /* an interface or an address space with a code of another one */
     ZACPI_LONG_NAME = 54,     /* a name in the namespace of 65535 bytes or more */
-    /* 55 and 56: no call of this header returns them: C has no call for their tables. */
     ZACPI_SAME_AS_BUS = 55,   /* a trigger mode or a polarity of an Arm machine as the bus has it */
     ZACPI_TOO_MANY_FRAMES = 56, /* a GT Block with more frames than its Length can say */
     ZACPI_UNKNOWN_TABLE = 57  /* a listed table of a kind that isn't one, or without its record */
@@ -1062,6 +1062,19 @@ struct zacpi_madt_contents {
     uint8_t also_has_8259;       /* PCAT_COMPAT */
     uint8_t has_wakeup_mailbox;
 };
+struct zacpi_gic_contents { /* the interrupts of an Arm machine */
+    struct zacpi_gic_distributor distributor;
+    const struct zacpi_gic_cpu_interface *cpu_interfaces; /* the processors: the first is the boot
+                                                           * processor */
+    size_t cpu_interfaces_length;
+    const struct zacpi_range *redistributors;
+    size_t redistributors_length;
+    const struct zacpi_gic_translation_service *translation_services;
+    size_t translation_services_length;
+    const struct zacpi_gic_msi_frame *msi_frames; /* spi_base and spi_count aren't looked at if
+                                                   * has_spis is 0 */
+    size_t msi_frames_length;
+};
 struct zacpi_apic_domain { /* sections 5.2.16.1 and 5.2.16.3 */
     uint32_t local_apic_id; /* APIC ID or X2APIC ID */
     uint32_t domain;        /* Proximity Domain */
@@ -1119,6 +1132,12 @@ zacpi_status zacpi_write_ssdt(const struct zacpi_table_ids *ids, uint8_t revisio
 zacpi_status zacpi_write_madt(const struct zacpi_table_ids *ids,
                               const struct zacpi_madt_contents *contents, uint8_t *out,
                               size_t room, size_t *length);
+/* A MADT of revision 6 of an Arm machine (sections 5.2.12.14 to 5.2.12.18), with its entries sort by
+ * sort. A GICC has 82 bytes, or 80 if trace_buffer_interrupt is 0. Errors before the last ones:
+ * ZACPI_UNKNOWN_CODE, ZACPI_NO_PROCESSOR, ZACPI_SAME_AS_BUS if a trigger is 0, ZACPI_BAD_RANGE. */
+zacpi_status zacpi_write_gic_madt(const struct zacpi_table_ids *ids,
+                                  const struct zacpi_gic_contents *contents, uint8_t *out,
+                                  size_t room, size_t *length);
 /* An MCFG of these regions, in order (PCI Firmware Specification, section 4.1.2). */
 zacpi_status zacpi_write_mcfg(const struct zacpi_table_ids *ids,
                               const struct zacpi_pci_region *regions, size_t regions_length,
@@ -1153,6 +1172,13 @@ zacpi_status zacpi_write_bgrt(const struct zacpi_table_ids *ids,
 zacpi_status zacpi_write_spcr(const struct zacpi_table_ids *ids,
                               const struct zacpi_spcr_contents *contents, uint8_t *out,
                               size_t room, size_t *length);
+/* A GTDT of revision 3, 104 bytes, from the record as which zacpi_arm_timers reads it, without timers
+ * of the platform (section 5.2.24). A virtual_el2 whose `present` is 0 is written as zeros; of the
+ * other timers `present` isn't looked at, nor is platform_timers_malformed. Errors before the last
+ * ones: ZACPI_UNKNOWN_CODE, ZACPI_SAME_AS_BUS if a polarity or a trigger of a timer is 0. */
+zacpi_status zacpi_write_gtdt(const struct zacpi_table_ids *ids,
+                              const struct zacpi_arm_timers *timers, uint8_t *out, size_t room,
+                              size_t *length);
 /* A FADT of version 6.4, 276 bytes, from the record as which zacpi_fixed_hardware reads it (section
  * 5.2.9). Each address and block stands in its X_ field, and if it fits in its field of 32 bits, a
  * block if it is one of ports; PM1_EVT_LEN, PM1_CNT_LEN and PM2_CNT_LEN are the whole bytes of
@@ -1184,7 +1210,7 @@ struct zacpi_aml_contents { /* as zacpi_write_dsdt and zacpi_write_ssdt are pass
 enum zacpi_table_kind {
     ZACPI_KIND_FADT = 0, ZACPI_KIND_MADT = 1, ZACPI_KIND_MCFG = 2, ZACPI_KIND_HPET = 3, ZACPI_KIND_SLIT = 4,
     ZACPI_KIND_SSDT = 5, ZACPI_KIND_SRAT = 6,
-    ZACPI_KIND_BGRT = 7, ZACPI_KIND_SPCR = 8
+    ZACPI_KIND_BGRT = 7, ZACPI_KIND_SPCR = 8, ZACPI_KIND_GTDT = 9, ZACPI_KIND_GIC_MADT = 10
 };
 /* A table that the XSDT lists: its kind, and its record, the first of the list for that kind (for
  * an MCFG that list itself). The functions zacpi_table_... make one, with the other lists empty. */
@@ -1208,6 +1234,10 @@ struct zacpi_listed_table {
     size_t bgrts_length;
     const struct zacpi_spcr_contents *spcrs;
     size_t spcrs_length;
+    const struct zacpi_arm_timers *gtdts;
+    size_t gtdts_length;
+    const struct zacpi_gic_contents *gics;
+    size_t gics_length;
 };
 struct zacpi_machine {
     struct zacpi_table_ids ids;
@@ -1231,6 +1261,8 @@ static inline struct zacpi_listed_table zacpi_table_of(uint32_t kind) {
     table.srats = (const struct zacpi_srat_contents *)none, table.srats_length = 0;
     table.bgrts = (const struct zacpi_boot_graphic *)none, table.bgrts_length = 0;
     table.spcrs = (const struct zacpi_spcr_contents *)none, table.spcrs_length = 0;
+    table.gtdts = (const struct zacpi_arm_timers *)none, table.gtdts_length = 0;
+    table.gics = (const struct zacpi_gic_contents *)none, table.gics_length = 0;
     return table;
 }
 static inline struct zacpi_listed_table zacpi_table_fadt(const struct zacpi_fixed_hardware *fadt) {
@@ -1277,6 +1309,16 @@ static inline struct zacpi_listed_table zacpi_table_bgrt(const struct zacpi_boot
 static inline struct zacpi_listed_table zacpi_table_spcr(const struct zacpi_spcr_contents *spcr) {
     struct zacpi_listed_table table = zacpi_table_of(ZACPI_KIND_SPCR);
     table.spcrs = spcr, table.spcrs_length = 1;
+    return table;
+}
+static inline struct zacpi_listed_table zacpi_table_gtdt(const struct zacpi_arm_timers *timers) {
+    struct zacpi_listed_table table = zacpi_table_of(ZACPI_KIND_GTDT);
+    table.gtdts = timers, table.gtdts_length = 1;
+    return table;
+}
+static inline struct zacpi_listed_table zacpi_table_gic_madt(const struct zacpi_gic_contents *gic) {
+    struct zacpi_listed_table table = zacpi_table_of(ZACPI_KIND_GIC_MADT);
+    table.gics = gic, table.gics_length = 1;
     return table;
 }
 /* A MADT of these processors, with its other lists empty and a pair of 8259s. */

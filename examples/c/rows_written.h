@@ -202,6 +202,7 @@ static const uint8_t pc_spcr_bytes[] = {HEAD('S', 'P', 'C', 'R', 90, 4, 0xa4), 0
     0, 0x20, 0x1c, 0, 0x80, 0x25, 0, 0, 2, 0, 88, 0, '.', 0};
 
 #include "rows_machine.h"
+#include "rows_arm.h"
 
 /* ---- Rows ----------------------------------------------------------------------------------------------- */
 
@@ -255,6 +256,14 @@ WRITE(bad_console_present, spcr, &console_no_present)
 WRITE(bad_no_controller, spcr, &console_no_controller)
 WRITE(bad_8259, spcr, &console_of_8259)
 WRITE(bad_bit_5, spcr, &console_of_bit_5)
+WRITE(a_gtdt, gtdt, &all_timers)
+WRITE(a_gtdt_without_virtual_el2, gtdt, &no_virtual_el2)
+WRITE(a_gtdt_of_zeros, gtdt, &virtual_el2_of_zeros)
+WRITE(a_gtdt_as_the_bus, gtdt, &timers_as_bus)
+WRITE(a_gic, gic_madt, &whole_gic)
+WRITE(a_small_gic, gic_madt, &small_gic)
+WRITE(no_interface, gic_madt, &gic_without_processor)
+WRITE(long_range, gic_madt, &gic_of_long_range)
 WRITE(a_fadt, fadt, &pc_fadt)
 WRITE(a_reduced_fadt, fadt, &reduced_fadt)
 WRITE(a_fadt_without_dsdt, fadt, &fadt_without_dsdt)
@@ -312,7 +321,13 @@ static const struct written_row {
     NOT_LISTED(all_ids_listed, ZACPI_ID_OF_ALL), NOT_WRITTEN(code_before_kind, ZACPI_UNKNOWN_CODE),
     NOT_WRITTEN(kind_before_code, ZACPI_UNKNOWN_TABLE),
     WRITTEN(a_machine_of_firmware, firmware_machine_bytes), NOT_WRITTEN(bad_45_listed, ZACPI_UNKNOWN_CODE),
-    NOT_WRITTEN(no_controller_listed, ZACPI_UNKNOWN_CODE), NOT_LISTED(console_at_0_listed, ZACPI_NO_ADDRESS)};
+    NOT_WRITTEN(no_controller_listed, ZACPI_UNKNOWN_CODE), NOT_LISTED(console_at_0_listed, ZACPI_NO_ADDRESS),
+    WRITTEN(a_gtdt, gtdt_bytes), WRITTEN(a_gtdt_without_virtual_el2, gtdt_without_virtual_el2),
+    WRITTEN(a_gtdt_of_zeros, gtdt_without_virtual_el2), WRITTEN(an_arm_machine, arm_machine_bytes),
+    NOT_WRITTEN(a_gtdt_as_the_bus, ZACPI_SAME_AS_BUS), NOT_LISTED(bus_timers_listed, ZACPI_SAME_AS_BUS),
+    WRITTEN(a_gic, gic_bytes), WRITTEN(a_small_gic, small_gic_bytes),
+    NOT_WRITTEN(no_interface, ZACPI_NO_PROCESSOR), NOT_WRITTEN(long_range, ZACPI_BAD_RANGE),
+    NOT_LISTED(no_interface_listed, ZACPI_NO_PROCESSOR), NOT_LISTED(long_range_listed, ZACPI_BAD_RANGE)};
 
 static void check_written(const struct written_row *row, size_t room, zacpi_status status) {
     size_t length = UNCOUNTED, i, size = status ? 0 : row->length;
@@ -332,6 +347,7 @@ static void check_all_written(void) {
     static const struct zacpi_table_ids *const not_texts[] = {&no_oem, &no_table_id, &no_creator};
     size_t i, k;
     lay_machines();
+    lay_arm_machine();
     for (i = 0; i < sizeof written / sizeof *written; i++) {
         const struct written_row *row = written + i;
         const size_t rooms[] = {0, row->length ? row->length - 1 : 35, row->length, row->length + 40};
@@ -345,6 +361,8 @@ static void check_all_written(void) {
         }
     }
     check_codes();
+    check_arm_codes();
+    check_gic_codes();
     check_places();
 }
 #endif

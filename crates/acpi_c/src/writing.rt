@@ -5,6 +5,8 @@ ghost use Rattle.acpi_base.specs.declared.table.signature.TheConstants.Signature
 ghost use Rattle.acpi_c_lib.specs.Writing.{SaysLength, WritesTable, hpet_info_of, ids_of, madt_said, regions_written, writer_refused};
 ghost use Rattle.acpi_c_lib.specs.WrittenBgrt.{bgrt_said};
 ghost use Rattle.acpi_c_lib.specs.WrittenFadt.{facs_contents, fadt_said};
+ghost use Rattle.acpi_c_lib.specs.WrittenGic.{gic_said};
+ghost use Rattle.acpi_c_lib.specs.WrittenGtdt.{gtdt_said};
 ghost use Rattle.acpi_c_lib.specs.WrittenMachine.{dsdt_said, machine_said, size_said, tree_said};
 ghost use Rattle.acpi_c_lib.specs.WrittenSpcr.{spcr_said};
 ghost use Rattle.acpi_c_lib.specs.WrittenSrat.{srat_laid};
@@ -15,16 +17,17 @@ ghost use Rattle.acpi_writer.specs.Rsdp.{rsdp_written};
 ghost use Rattle.acpi_writer.specs.Slit.{slit_written};
 ghost use Rattle.acpi_writer.specs.Table.{table_written};
 
+use acpi_c_lib::arm_records::ArmTimers;
 use acpi_c_lib::fixed_records::FixedHardware;
 use acpi_c_lib::records::{BootGraphic, HpetInfo, PciRegion};
 use acpi_c_lib::writing::{
     dsdt_place, said_address, tables_size, write_bgrt, write_dsdt, write_facs, write_fadt,
-    write_hpet, write_madt, write_regions, write_rsdp, write_rsdt, write_slit, write_spcr,
-    write_srat, write_ssdt, write_tables, write_tables_without_rsdp, write_xsdt, written,
-    written_or_not,
+    write_gic_madt, write_gtdt, write_hpet, write_madt, write_regions, write_rsdp, write_rsdt,
+    write_slit, write_spcr, write_srat, write_ssdt, write_tables, write_tables_without_rsdp,
+    write_xsdt, written, written_or_not,
 };
 use acpi_c_lib::written_records::{
-    FacsContents, Machine, MadtContents, SpcrContents, SratContents, TableIds,
+    FacsContents, GicContents, Machine, MadtContents, SpcrContents, SratContents, TableIds,
 };
 
 /// An RSDP of revision 2 that leads to an XSDT (section 5.2.5.3).
@@ -156,6 +159,20 @@ pub extern "C" fn zacpi_write_madt(
     written_or_not(write_madt(out, ids, contents), count)
 }
 
+/// A MADT of the GIC of an Arm machine (sections 5.2.12.14 to 5.2.12.18).
+#[unsafe(no_mangle)]
+pub extern "C" fn zacpi_write_gic_madt(
+    ids: &TableIds,
+    contents: &GicContents<'_>,
+    out: &mut [u8],
+    count: &mut usize,
+) -> u32
+    ensures { WritesTable result out.old out.new count.old count.new
+        (gic_said (length out.old) ids.now contents.now) }
+{
+    written_or_not(write_gic_madt(out, ids, contents), count)
+}
+
 /// A SRAT of processors and of ranges of memory (section 5.2.16).
 #[unsafe(no_mangle)]
 pub extern "C" fn zacpi_write_srat(
@@ -196,6 +213,20 @@ pub extern "C" fn zacpi_write_spcr(
         (spcr_said (length out.old) ids.now spcr.now) }
 {
     written_or_not(write_spcr(out, ids, spcr), count)
+}
+
+/// A GTDT of the timers of every processor (section 5.2.24).
+#[unsafe(no_mangle)]
+pub extern "C" fn zacpi_write_gtdt(
+    ids: &TableIds,
+    timers: &ArmTimers,
+    out: &mut [u8],
+    count: &mut usize,
+) -> u32
+    ensures { WritesTable result out.old out.new count.old count.new
+        (gtdt_said (length out.old) ids.now timers.now) }
+{
+    written_or_not(write_gtdt(out, ids, timers), count)
 }
 
 /// A FADT (section 5.2.9).

@@ -6,5 +6,6 @@ pub mod Sdt
 pub mod Tried
 pub mod Unlent
 pub mod Written
+pub mod WrittenGic
 pub mod WrittenSpcr
 pub mod WrittenTables

@@ -24,6 +24,8 @@ pub mod Walked
 pub mod Writing
 pub mod WrittenBgrt
 pub mod WrittenFadt
+pub mod WrittenGic
+pub mod WrittenGtdt
 pub mod WrittenMachine
 pub mod WrittenSpcr
 pub mod WrittenSrat

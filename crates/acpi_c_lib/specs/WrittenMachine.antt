@@ -5,6 +5,8 @@ use Rattle.acpi_base.specs.Steps.{◌>>=◌, holds}
 use Rattle.acpi_base.specs.declared.table.signature.TheConstants.Signature.{SSDT}
 use Rattle.acpi_c_lib.specs.WrittenBgrt as bgrt
 use Rattle.acpi_c_lib.specs.WrittenFadt as fadt
+use Rattle.acpi_c_lib.specs.WrittenGic as gic
+use Rattle.acpi_c_lib.specs.WrittenGtdt as gtdt
 use Rattle.acpi_c_lib.specs.WrittenSpcr as spcr
 use Rattle.acpi_c_lib.specs.WrittenSrat.{srat_laid}
 use Rattle.acpi_c_lib.specs.Writing as writing
@@ -12,7 +14,7 @@ use Rattle.acpi_c_lib.specs.Writing.{hpet_info_of, ids_of, madt_laid, region_of,
 use Rattle.acpi_c_lib.specs.declared.refusal.Refusal.{Refusal}
 use Rattle.acpi_c_lib.specs.declared.refusal.Refusal.TheVariants.{UnknownCode, UnknownTable, Writer}
 use Rattle.acpi_c_lib.specs.declared.writing.machine.Contents.{Contents}
-use Rattle.acpi_c_lib.specs.declared.writing.machine.Contents.TheVariants.{Bgrt, Fadt, Hpet, Madt, Mcfg, Nothing, Slit, Spcr, Srat, Ssdt}
+use Rattle.acpi_c_lib.specs.declared.writing.machine.Contents.TheVariants.{Bgrt, Fadt, Gic, Gtdt, Hpet, Madt, Mcfg, Nothing, Slit, Spcr, Srat, Ssdt}
 use Rattle.acpi_c_lib.specs.declared.written_records.AmlContents as aml
 use Rattle.acpi_c_lib.specs.declared.written_records.ListedTable.{ListedTable}
 use Rattle.acpi_c_lib.specs.declared.written_records.Machine as record_of
@@ -35,7 +37,7 @@ abbrev pub first_as : {A : Type 0} → (A → Contents) → List A → Contents
 first_as f [] = Nothing
 first_as f (x ∷ xs) = f x
 
--- the kinds: 0 FADT, 1 MADT, 2 MCFG, 3 HPET, 4 SLIT, 5 SSDT, 6 SRAT, 7 BGRT, 8 SPCR
+-- the kinds: 0 FADT, 1 MADT, 2 MCFG, 3 HPET, 4 SLIT, 5 SSDT, 6 SRAT, 7 BGRT, 8 SPCR, 9 GTDT, 10 MADT of a GIC
 abbrev pub contents_of : ListedTable → Contents
 contents_of t =
     if t.kind == 0 then first_as Fadt t.fadts.now
@@ -47,6 +49,8 @@ contents_of t =
     else if t.kind == 6 then first_as Srat t.srats.now
     else if t.kind == 7 then first_as Bgrt t.bgrts.now
     else if t.kind == 8 then first_as Spcr t.spcrs.now
+    else if t.kind == 9 then first_as Gtdt t.gtdts.now
+    else if t.kind == 10 then first_as Gic t.gics.now
     else Nothing
 
 -- the table in so much room, or the first error; one of no kind is refused before
@@ -60,6 +64,8 @@ written_as room ids (Ssdt c) = table_written room SSDT c.revision ids c.aml.now
 written_as room ids (Srat c) = srat_laid room ids c
 written_as room ids (Bgrt g) = bgrt_written room ids (bgrt.contents g)
 written_as room ids (Spcr c) = spcr.spcr_laid room ids c
+written_as room ids (Gtdt t) = gtdt.gtdt_laid room ids t
+written_as room ids (Gic c) = gic.gic_laid room ids c
 written_as room ids Nothing = Err BadCode
 
 abbrev pub listed_written : ℕ → TableIds → ListedTable → Result (List ℕ) WriterError
@@ -82,6 +88,8 @@ check_contents (Fadt h) = holds (fadt.has_codes h) UnknownCode
 check_contents (Madt c) = holds (writing.has_codes c) UnknownCode
 check_contents (Bgrt g) = holds (bgrt.has_codes g) UnknownCode
 check_contents (Spcr c) = holds (spcr.has_codes c) UnknownCode
+check_contents (Gtdt t) = holds (gtdt.has_codes t) UnknownCode
+check_contents (Gic c) = holds (gic.has_codes c) UnknownCode
 check_contents _ = Ok tt
 
 abbrev pub check_table : ListedTable → Result (Unit {0}) Refusal

@@ -6,6 +6,8 @@ ghost use Rattle.acpi_writer.specs.Table.{Keeps};
 
 mod bgrt;
 mod fadt;
+mod gic;
+mod gtdt;
 mod machine;
 mod madt;
 mod spcr;
@@ -25,6 +27,8 @@ pub use acpi_writer::{
 };
 pub use bgrt::write_bgrt;
 pub use fadt::write_fadt;
+pub use gic::write_gic_madt;
+pub use gtdt::write_gtdt;
 pub use machine::{dsdt_place, tables_size, write_tables, write_tables_without_rsdp};
 pub use madt::write_madt;
 pub use spcr::write_spcr;

@@ -1,9 +1,12 @@
 //! What C says of the tables that are to be written. What each field holds is said once, in `include/zacpi.h`.
 
+use crate::arm_records::{
+    ArmTimers, GicCpuInterface, GicDistributor, GicMsiFrame, GicTranslationService,
+};
 use crate::fixed_records::{Console, FixedHardware};
 use crate::interrupt_records::{InterruptSourceOverride, IoApic, NmiLine, NmiSource, Processor};
 use crate::numa_records::MemoryAffinity;
-use crate::records::{BootGraphic, HpetInfo, PciRegion};
+use crate::records::{BootGraphic, HpetInfo, PciRegion, Range};
 pub use acpi_writer::{ApicDomain, GiccDomain};
 
 /// Who made a table, as its header says (section 5.2.6).
@@ -30,6 +33,17 @@ pub struct MadtContents<'a> {
     pub wakeup_mailbox: u64,
     pub also_has_8259: u8,
     pub has_wakeup_mailbox: u8,
+}
+
+/// What the MADT of an Arm machine is to say (sections 5.2.12.14 to 5.2.12.18).
+#[repr(C)]
+#[derive(Clone, Copy)]
+pub struct GicContents<'a> {
+    pub distributor: GicDistributor,
+    pub cpu_interfaces: &'a [GicCpuInterface],
+    pub redistributors: &'a [Range],
+    pub translation_services: &'a [GicTranslationService],
+    pub msi_frames: &'a [GicMsiFrame],
 }
 
 /// What a SLIT is to say (section 5.2.17).
@@ -82,6 +96,8 @@ pub struct ListedTable<'a> {
     pub srats: &'a [SratContents<'a>],
     pub bgrts: &'a [BootGraphic],
     pub spcrs: &'a [SpcrContents],
+    pub gtdts: &'a [ArmTimers],
+    pub gics: &'a [GicContents<'a>],
 }
 
 /// A machine, as its tables describe it.

@@ -4,12 +4,14 @@ ghost use Rattle.acpi_base.specs.Steps.{Gives};
 ghost use Rattle.acpi_c_lib.specs.Writing.{IsKeptOr};
 ghost use Rattle.acpi_c_lib.specs.WrittenMachine as whole;
 
+use crate::arm_records::ArmTimers;
 use crate::fixed_records::FixedHardware;
 use crate::records::{BootGraphic, HpetInfo, PciRegion};
 use crate::refusal::Refusal;
-use crate::writing::{bgrt, fadt, madt, spcr};
+use crate::writing::{bgrt, fadt, gic, gtdt, madt, spcr};
 use crate::written_records::{
-    AmlContents, ListedTable, Machine, MadtContents, SlitContents, SpcrContents, SratContents,
+    AmlContents, GicContents, ListedTable, Machine, MadtContents, SlitContents, SpcrContents,
+    SratContents,
 };
 use acpi_base::Signature;
 use acpi_writer::fadt::fadt_size;
@@ -34,6 +36,8 @@ pub(crate) enum Contents<'a> {
     Srat(SratContents<'a>),
     Bgrt(BootGraphic),
     Spcr(SpcrContents),
+    Gtdt(ArmTimers),
+    Gic(GicContents<'a>),
     Nothing,
 }
 
@@ -76,6 +80,14 @@ impl<'a> ListedTable<'a> {
                 [first, ..] => Contents::Spcr(*first),
                 [] => Contents::Nothing,
             },
+            9 => match self.gtdts {
+                [first, ..] => Contents::Gtdt(*first),
+                [] => Contents::Nothing,
+            },
+            10 => match self.gics {
+                [first, ..] => Contents::Gic(*first),
+                [] => Contents::Nothing,
+            },
             _ => Contents::Nothing,
         }
     }
@@ -103,6 +115,8 @@ impl Listed for ListedTable<'_> {
                 table_size(Signature::BGRT, 1, ids, &bgrt::contents(&graphic))
             }
             Contents::Spcr(console) => spcr::laid_size(ids, &console),
+            Contents::Gtdt(timers) => gtdt::laid_size(ids, &timers),
+            Contents::Gic(parts) => gic::laid_size(ids, &parts),
             Contents::Nothing => Err(WriterError::BadCode),
         }
     }
@@ -118,6 +132,8 @@ impl Listed for ListedTable<'_> {
             Contents::Srat(domains) => write_srat_of(out, ids, &domains.contents()),
             Contents::Bgrt(graphic) => write_bgrt(out, ids, &bgrt::contents(&graphic)),
             Contents::Spcr(console) => spcr::write_laid(out, ids, &console),
+            Contents::Gtdt(timers) => gtdt::write_laid(out, ids, &timers),
+            Contents::Gic(parts) => gic::write_laid(out, ids, &parts),
             Contents::Nothing => Err(WriterError::BadCode),
         }
     }
@@ -174,8 +190,22 @@ fn check_table(table: &ListedTable<'_>) -> Result<(), Refusal>
                 Err(Refusal::UnknownCode)
             }
         }
+        Contents::Gtdt(timers) => {
+            if gtdt::has_codes(&timers) {
+                Ok(())
+            } else {
+                Err(Refusal::UnknownCode)
+            }
+        }
         Contents::Spcr(console) => {
             if spcr::has_codes(&console) {
+                Ok(())
+            } else {
+                Err(Refusal::UnknownCode)
+            }
+        }
+        Contents::Gic(parts) => {
+            if gic::has_codes(&parts) {
                 Ok(())
             } else {
                 Err(Refusal::UnknownCode)

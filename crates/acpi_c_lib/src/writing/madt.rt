@@ -18,13 +18,13 @@ use acpi_writer::spelled::Spelled;
 use acpi_writer::{MadtProcessor, WriterError};
 
 /// Whether a number is one of a polarity, and of a trigger mode.
-fn is_wiring(code: u8) -> bool
+pub(super) fn is_wiring(code: u8) -> bool
     ensures { result ≡ writing.is_wiring code }
 {
     code == 0 || code == 1 || code == 3
 }
 
-fn polarity(code: u8) -> Polarity
+pub(super) fn polarity(code: u8) -> Polarity
     ensures { result ≡ writing.polarity_of code }
 {
     match code {
@@ -34,7 +34,7 @@ fn polarity(code: u8) -> Polarity
     }
 }
 
-fn trigger(code: u8) -> TriggerMode
+pub(super) fn trigger(code: u8) -> TriggerMode
     ensures { result ≡ writing.trigger_of code }
 {
     match code {

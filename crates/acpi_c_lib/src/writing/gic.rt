@@ -1,0 +1,346 @@
+//! The MADT of an Arm machine that is written for C (sections 5.2.12.14 to 5.2.12.18), from its records of the GIC.
+ghost use Rattle.std.specs.Prelude.{◌≡◌, ◌&&◌, ◌^◌, ◌<◌, ◌≤◌, length, slice_set, take, IfOk};
+ghost use Rattle.std.specs.List.{list_all};
+ghost use Rattle.acpi_base.specs.Steps.{Gives};
+ghost use Rattle.acpi_base.specs.declared.table.signature.TheConstants.Signature.{MADT};
+ghost use Rattle.acpi_c_lib.specs.Writing.{IsKeptOr, is_wiring};
+ghost use Rattle.acpi_c_lib.specs.WrittenGic as written;
+ghost use Rattle.acpi_image.specs.Written.{with_sum};
+ghost use Rattle.acpi_writer.specs.Contents.{most, sized};
+ghost use Rattle.acpi_writer.specs.Table.{Keeps, table_written};
+
+use super::madt::{is_wiring, trigger};
+use crate::arm_records::{GicCpuInterface, GicDistributor, GicMsiFrame, GicTranslationService};
+use crate::records::Range;
+use crate::refusal::Refusal;
+use crate::written_records::{GicContents, TableIds};
+use acpi_arm::gic;
+use acpi_image::write::set_sum;
+use acpi_writer::WriterError;
+use acpi_writer::madt::{MadtLists, madt_size_of, write_madt_of};
+use acpi_writer::spelled::Spelled;
+
+impl GicDistributor {
+    /// The distributor, as the writer has it.
+    fn listed(&self) -> gic::GicDistributor
+        ensures { result ≡ written.distributor_of self.now }
+    {
+        gic::GicDistributor {
+            id: self.id,
+            address: self.address,
+            system_vector_base: self.system_vector_base,
+            version: self.version,
+        }
+    }
+}
+
+/// TRBE Interrupt, of which 0 is none.
+fn trace(interrupt: u16) -> Option<u16>
+    ensures { result ≡ written.trace_of interrupt }
+{
+    if interrupt == 0 {
+        None
+    } else {
+        Some(interrupt)
+    }
+}
+
+impl GicCpuInterface {
+    /// The processor's interface, as the writer has it.
+    fn listed(&self) -> gic::GicCpuInterface
+        ensures { result ≡ written.cpu_interface_of self.now }
+    {
+        gic::GicCpuInterface {
+            number: self.number,
+            processor_uid: self.processor_uid,
+            mpidr: self.mpidr,
+            is_enabled: self.is_enabled != 0,
+            is_online_capable: self.is_online_capable != 0,
+            performance_interrupt: self.performance_interrupt,
+            performance_trigger: trigger(self.performance_trigger),
+            parking_protocol_version: self.parking_protocol_version,
+            parked_address: self.parked_address,
+            address: self.address,
+            virtual_address: self.virtual_address,
+            hypervisor_address: self.hypervisor_address,
+            maintenance_interrupt: self.maintenance_interrupt,
+            maintenance_trigger: trigger(self.maintenance_trigger),
+            redistributor_address: self.redistributor_address,
+            efficiency_class: self.efficiency_class,
+            spe_overflow_interrupt: self.spe_overflow_interrupt,
+            trace_buffer_interrupt: trace(self.trace_buffer_interrupt),
+        }
+    }
+}
+
+/// A range of redistributors, as the writer has it.
+fn redistributors(range: &Range) -> gic::GicRedistributors
+    ensures { result ≡ written.redistributors_of range.now }
+{
+    gic::GicRedistributors {
+        address: range.address,
+        length: if range.length <= 0xffffffff {
+            range.length as u32
+        } else {
+            0
+        },
+    }
+}
+
+impl GicTranslationService {
+    /// The service, as the writer has it.
+    fn listed(&self) -> gic::GicTranslationService
+        ensures { result ≡ written.translation_service_of self.now }
+    {
+        gic::GicTranslationService {
+            id: self.id,
+            address: self.address,
+        }
+    }
+}
+
+impl GicMsiFrame {
+    /// The frame, as the writer has it.
+    fn listed(&self) -> gic::GicMsiFrame
+        ensures { result ≡ written.msi_frame_of self.now }
+    {
+        gic::GicMsiFrame {
+            id: self.id,
+            address: self.address,
+            spis: if self.has_spis == 0 {
+                None
+            } else {
+                Some(gic::SpiRange {
+                    base: self.spi_base,
+                    count: self.spi_count,
+                })
+            },
+        }
+    }
+}
+
+impl Spelled for GicDistributor {
+    ghost use Rattle.acpi_c_lib.specs.WrittenGic.{distributor_of};
+    ghost use Rattle.acpi_writer.specs.GicMadt.{FitsDistributor, gicd_entry};
+
+    ghost spelled = { λ x. gicd_entry (distributor_of x) };
+
+    ghost fits = { λ x. FitsDistributor (distributor_of x) };
+
+    fn measure(&self, room: usize) -> Option<usize> {
+        self.listed().measure(room)
+    }
+
+    fn put(&self, out: &mut [u8]) {
+        self.listed().put(out);
+    }
+}
+
+impl Spelled for GicCpuInterface {
+    ghost use Rattle.acpi_c_lib.specs.WrittenGic.{cpu_interface_of};
+    ghost use Rattle.acpi_writer.specs.GicMadt.{FitsInterface, gicc_entry};
+
+    ghost spelled = { λ x. gicc_entry (cpu_interface_of x) };
+
+    ghost fits = { λ x. FitsInterface (cpu_interface_of x) };
+
+    fn measure(&self, room: usize) -> Option<usize> {
+        self.listed().measure(room)
+    }
+
+    fn put(&self, out: &mut [u8]) {
+        self.listed().put(out);
+    }
+}
+
+impl Spelled for Range {
+    ghost use Rattle.acpi_c_lib.specs.WrittenGic.{redistributors_of};
+    ghost use Rattle.acpi_writer.specs.GicMadt.{FitsRedistributors, gicr_entry};
+
+    ghost spelled = { λ x. gicr_entry (redistributors_of x) };
+
+    ghost fits = { λ x. FitsRedistributors (redistributors_of x) };
+
+    fn measure(&self, room: usize) -> Option<usize> {
+        redistributors(self).measure(room)
+    }
+
+    fn put(&self, out: &mut [u8]) {
+        redistributors(self).put(out);
+    }
+}
+
+impl Spelled for GicTranslationService {
+    ghost use Rattle.acpi_c_lib.specs.WrittenGic.{translation_service_of};
+    ghost use Rattle.acpi_writer.specs.GicMadt.{FitsService, its_entry};
+
+    ghost spelled = { λ x. its_entry (translation_service_of x) };
+
+    ghost fits = { λ x. FitsService (translation_service_of x) };
+
+    fn measure(&self, room: usize) -> Option<usize> {
+        self.listed().measure(room)
+    }
+
+    fn put(&self, out: &mut [u8]) {
+        self.listed().put(out);
+    }
+}
+
+impl Spelled for GicMsiFrame {
+    ghost use Rattle.acpi_c_lib.specs.WrittenGic.{msi_frame_of};
+    ghost use Rattle.acpi_writer.specs.GicMadt.{FitsFrame, msi_entry};
+
+    ghost spelled = { λ x. msi_entry (msi_frame_of x) };
+
+    ghost fits = { λ x. FitsFrame (msi_frame_of x) };
+
+    fn measure(&self, room: usize) -> Option<usize> {
+        self.listed().measure(room)
+    }
+
+    fn put(&self, out: &mut [u8]) {
+        self.listed().put(out);
+    }
+}
+
+/// Whether each trigger mode is one that there is.
+pub(crate) fn has_codes(contents: &GicContents<'_>) -> bool
+    ensures { result ≡ written.has_codes contents.now }
+{
+    contents.cpu_interfaces.iter().all(|x| is_wiring(x.performance_trigger)
+        && is_wiring(x.maintenance_trigger))
+}
+
+fn have_modes(interfaces: &[GicCpuInterface]) -> bool
+    ensures { result ≡ list_all written.has_modes interfaces.now }
+{
+    interfaces.iter().all(|x| x.performance_trigger != 0 && x.maintenance_trigger != 0)
+}
+
+fn are_short(ranges: &[Range]) -> bool
+    ensures { result ≡ list_all written.is_short ranges.now }
+{
+    ranges.iter().all(|x| x.length < 0x100000000)
+}
+
+/// The first error of `gic_laid` but those of any table.
+#[tactic(auto, unfolding(crate::specs::WrittenGic::gic_checked))]
+fn check(contents: &GicContents<'_>) -> Result<(), WriterError>
+    ensures { result ≡ written.gic_checked contents.now }
+{
+    if contents.cpu_interfaces.is_empty() {
+        return Err(WriterError::NoProcessor);
+    }
+    if !have_modes(contents.cpu_interfaces) {
+        return Err(WriterError::SameAsBus);
+    }
+    if !are_short(contents.redistributors) {
+        return Err(WriterError::BadRange);
+    }
+    Ok(())
+}
+
+/// The entries of a GIC, in the places of those of APICs: `write_madt_of` writes whatever they say.
+macro_rules! lists_of {
+    ($contents:expr, $distributors:expr) => {
+        MadtLists {
+            local_apic_address: 0,
+            also_has_legacy_pics: false,
+            processors: $distributors,
+            io_apics: $contents.cpu_interfaces,
+            interrupt_source_overrides: $contents.redistributors,
+            nmi_sources: $contents.translation_services,
+            local_apic_nmi_lines: $contents.msi_frames,
+            wakeup_mailbox: None,
+        }
+    };
+}
+
+/// Makes a table one of revision 6.
+fn raise(table: &mut [u8])
+    requires { 36 ≤ length table.old }
+    ensures bytes { table.new ≡ with_sum 9 (slice_set table.old 8 6) }
+    ensures length { length table.new ≡ length table.old }
+{
+    table[8] = 6; // Revision
+    set_sum(table, 9); // Checksum
+}
+
+/// Writes a MADT of records that may be written.
+fn lay(
+    out: &mut [u8],
+    ids: &acpi_writer::TableIds,
+    contents: &GicContents<'_>,
+) -> Result<usize, WriterError>
+    ensures exact { Gives (λ n. take n out.new) result
+        (table_written (length out.old) MADT 6 ids.now (written.gic_body contents.now)) }
+    ensures keeps { Keeps result out.old out.new }
+{
+    let distributors = [contents.distributor];
+    let lists = lists_of!(contents, &distributors);
+    match write_madt_of(out, ids, &lists) {
+        Ok(size) => {
+            raise(&mut out[..size]);
+            Ok(size)
+        }
+        Err(error) => Err(error),
+    }
+}
+
+/// How many bytes such a MADT has, or the first error.
+fn size(ids: &acpi_writer::TableIds, contents: &GicContents<'_>) -> Result<usize, WriterError>
+    ensures exact { result ≡ sized (table_written most MADT 6 ids.now (written.gic_body contents.now)) }
+    ensures short { IfOk result (λ n. n < 2 ^ 32) }
+{
+    let distributors = [contents.distributor];
+    let lists = lists_of!(contents, &distributors);
+    madt_size_of(ids, &lists)
+}
+
+/// Writes a MADT of records whose codes there are.
+///
+/// Returns `NoProcessor`, `SameAsBus`, `BadRange` if a range of redistributors has 2^32 bytes or more, `BadName`,
+/// `NoRoom` and `TooLong`, in this order.
+pub(crate) fn write_laid(
+    out: &mut [u8],
+    ids: &acpi_writer::TableIds,
+    contents: &GicContents<'_>,
+) -> Result<usize, WriterError>
+    ensures exact { Gives (λ n. take n out.new) result
+        (written.gic_laid (length out.old) ids.now contents.now) }
+    ensures keeps { Keeps result out.old out.new }
+{
+    check(contents)?;
+    lay(out, ids, contents)
+}
+
+/// How many bytes such a MADT has, or the first error.
+pub(crate) fn laid_size(
+    ids: &acpi_writer::TableIds,
+    contents: &GicContents<'_>,
+) -> Result<usize, WriterError>
+    ensures exact { result ≡ sized (written.gic_laid most ids.now contents.now) }
+    ensures short { IfOk result (λ n. n < 2 ^ 32) }
+{
+    check(contents)?;
+    size(ids, contents)
+}
+
+/// Writes a MADT of records.
+///
+/// Returns `UnknownCode`, and then the errors of `write_laid`, in its order.
+pub fn write_gic_madt(
+    out: &mut [u8],
+    ids: &TableIds,
+    contents: &GicContents<'_>,
+) -> Result<usize, Refusal>
+    ensures exact { Gives (λ n. take n out.new) result
+        (written.gic_said (length out.old) ids.now contents.now) }
+    ensures keeps { IsKeptOr result out.old out.new }
+{
+    if !has_codes(contents) {
+        return Err(Refusal::UnknownCode);
+    }
+    Ok(write_laid(out, &ids.ids(), contents)?)
+}

@@ -1,0 +1,134 @@
+//! The GTDT that is written for C (section 5.2.24), from the record as which C reads it.
+ghost use Rattle.std.specs.Prelude.{◌≡◌, ◌^◌, ◌<◌, [], length, take, Ok, IfOk};
+ghost use Rattle.acpi_base.specs.Steps.{Gives};
+ghost use Rattle.acpi_c_lib.specs.Writing.{IsKeptOr};
+ghost use Rattle.acpi_c_lib.specs.WrittenGtdt as written;
+ghost use Rattle.acpi_writer.specs.Arm.{base_checked};
+ghost use Rattle.acpi_writer.specs.Contents.{most, sized};
+ghost use Rattle.acpi_writer.specs.Gtdt.{base_of, gtdt_body, gtdt_checked};
+ghost use Rattle.acpi_writer.specs.Table.{Keeps};
+
+use super::madt::{is_wiring, polarity, trigger};
+use crate::arm_records::{ArmTimer, ArmTimers};
+use crate::refusal::Refusal;
+use crate::written_records::TableIds;
+use acpi_arm::gtdt;
+use acpi_base::model::{Polarity, TriggerMode};
+use acpi_writer::{GtdtContents, WriterError, write_gtdt as written_gtdt};
+
+/// An address, of which all ones stand for none.
+fn base(address: u64) -> Option<u64>
+    ensures bytes { base_of result ≡ address }
+    ensures checked { base_checked result ≡ Ok tt }
+{
+    if address == u64::MAX {
+        None
+    } else {
+        Some(address)
+    }
+}
+
+/// A timer, as the writer has it.
+fn timer(given: &ArmTimer) -> gtdt::ArmTimer
+    ensures { result ≡ written.timer_of given.now }
+{
+    gtdt::ArmTimer {
+        interrupt: given.interrupt,
+        trigger_mode: trigger(given.trigger),
+        polarity: polarity(given.polarity),
+        always_on: given.always_on != 0,
+    }
+}
+
+/// The Virtual EL2 Timer, if it is present.
+fn virtual_el2(given: &ArmTimer) -> gtdt::ArmTimer
+    ensures { result ≡ written.virtual_el2_of given.now }
+{
+    if given.present == 0 {
+        gtdt::ArmTimer {
+            interrupt: 0,
+            trigger_mode: TriggerMode::Level,
+            polarity: Polarity::ActiveHigh,
+            always_on: false,
+        }
+    } else {
+        timer(given)
+    }
+}
+
+/// The timers, as the writer has them.
+#[tactic(auto, unfolding(crate::specs::WrittenGtdt::timers_body))]
+fn contents(timers: &ArmTimers) -> GtdtContents<'static>
+    ensures bytes { gtdt_body result ≡ written.timers_body timers.now }
+    ensures checked { gtdt_checked result ≡ written.timers_checked timers.now }
+{
+    GtdtContents {
+        counter_control_base: base(timers.control_base),
+        secure_el1_timer: timer(&timers.secure_el1),
+        non_secure_el1_timer: timer(&timers.non_secure_el1),
+        virtual_el1_timer: timer(&timers.virtual_el1),
+        el2_timer: timer(&timers.el2),
+        counter_read_base: base(timers.read_base),
+        virtual_el2_timer: virtual_el2(&timers.virtual_el2),
+        platform_timers: &[],
+    }
+}
+
+fn is_wired(timer: &ArmTimer) -> bool
+    ensures { result ≡ written.is_wired timer.now }
+{
+    is_wiring(timer.polarity) && is_wiring(timer.trigger)
+}
+
+/// Whether each polarity and trigger mode is one that there is.
+pub(crate) fn has_codes(timers: &ArmTimers) -> bool
+    ensures { result ≡ written.has_codes timers.now }
+{
+    is_wired(&timers.secure_el1)
+        && is_wired(&timers.non_secure_el1)
+        && is_wired(&timers.virtual_el1)
+        && is_wired(&timers.el2)
+        && is_wired(&timers.virtual_el2)
+}
+
+/// Writes a GTDT of timers whose codes there are.
+///
+/// Returns the errors of `acpi_writer::write_gtdt`, in its order.
+#[tactic(auto, unfolding(acpi_writer::specs::Gtdt::gtdt_written))]
+pub(crate) fn write_laid(
+    out: &mut [u8],
+    ids: &acpi_writer::TableIds,
+    timers: &ArmTimers,
+) -> Result<usize, WriterError>
+    ensures exact { Gives (λ n. take n out.new) result
+        (written.gtdt_laid (length out.old) ids.now timers.now) }
+    ensures keeps { Keeps result out.old out.new }
+{
+    written_gtdt(out, ids, &contents(timers))
+}
+
+/// How many bytes such a GTDT has, or the first error.
+pub(crate) fn laid_size(
+    ids: &acpi_writer::TableIds,
+    timers: &ArmTimers,
+) -> Result<usize, WriterError>
+    ensures exact { result ≡ sized (written.gtdt_laid most ids.now timers.now) }
+    ensures short { IfOk result (λ n. n < 2 ^ 32) }
+{
+    let mut table = [0; 104];
+    write_laid(&mut table, ids, timers)
+}
+
+/// Writes a GTDT of timers.
+///
+/// Returns `UnknownCode`, and then the errors of `acpi_writer::write_gtdt`, in its order.
+pub fn write_gtdt(out: &mut [u8], ids: &TableIds, timers: &ArmTimers) -> Result<usize, Refusal>
+    ensures exact { Gives (λ n. take n out.new) result
+        (written.gtdt_said (length out.old) ids.now timers.now) }
+    ensures keeps { IsKeptOr result out.old out.new }
+{
+    if !has_codes(timers) {
+        return Err(Refusal::UnknownCode);
+    }
+    Ok(write_laid(out, &ids.ids(), timers)?)
+}
