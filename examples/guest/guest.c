@@ -1,11 +1,19 @@
 /* guest PROCESSORS FILE: writes the ACPI tables of a guest's machine into a file, as a hypervisor writes them into the
- * guest's memory from 0x7000000 on, where the RSDP lies: so many processors and 128 MiB in two domains, an I/O APIC, PCI,
- * an HPET, and the fixed hardware of a q35. */
+ * guest's memory from 0x7000000 on, where the RSDP lies: so many processors and 128 MiB in two domains, an I/O APIC,
+ * PCI, an HPET, and the fixed hardware of a q35. */
 #include "zacpi.h"
 #include <stdio.h>
 #include <stdlib.h>
 
 enum { TABLES = 0x7000000, ROOM = 1 << 20, MOST = 4096, HALF = 64 << 20 };
+/* What the tables say, but for the processors. */
+static const struct zacpi_io_apic io_apic = {0xfec00000, 0, 0};
+static const struct zacpi_interrupt_source_override overrides[] = {{2, 0, 0, 0}, {9, 9, 1, 3}}; /* timer, SCI */
+static const struct zacpi_pci_region pci = {0xb0000000, 0, 0, 255};
+static const struct zacpi_hpet_info hpet = {0xfed00000, 0x8086a201, 100, 0, 0};
+static const struct zacpi_memory_affinity halves[] = {{0, HALF, 0, 0, 0}, {HALF, HALF, 1, 0, 0}};
+static const uint8_t distances[] = {10, 20, 20, 10};
+static const uint8_t soft_off[] = {0x08, '_', 'S', '5', '_', 0x12, 4, 2, 0, 0}; /* Name (_S5, Package {0, 0}) */
 static struct zacpi_processor processors[MOST];
 static struct zacpi_apic_domain domains[MOST];
 static uint8_t memory[ROOM];
@@ -24,7 +32,8 @@ static struct zacpi_register port(uint64_t address, uint8_t bits) {
 }
 static struct zacpi_fixed_hardware hardware(void) {
     struct zacpi_fixed_hardware answer = {0};
-    answer.power_profile = 1, answer.sci_interrupt = 9; /* a desktop */
+    answer.power_profile = 1; /* a desktop */
+    answer.sci_interrupt = 9;
     answer.pm1a_event = port(0x600, 32), answer.pm1a_control = port(0x604, 16), answer.pm_timer = port(0x608, 32);
     answer.gpe0_block.address = 0x620, answer.gpe0_block.space = 1, answer.gpe0_block.byte_length = 16;
     answer.gpe0_block.present = 1, answer.c2_latency = 101, answer.c3_latency = 1001; /* neither C2 nor C3 */
@@ -35,13 +44,6 @@ static struct zacpi_fixed_hardware hardware(void) {
 
 /* Writes the tables of a machine with so many processors into `memory`, and says how many bytes they have. */
 static zacpi_status write_machine(size_t count, size_t *length) {
-    static const struct zacpi_io_apic io_apic = {0xfec00000, 0, 0};
-    static const struct zacpi_interrupt_source_override overrides[] = {{2, 0, 0, 0}, {9, 9, 1, 3}}; /* timer, SCI */
-    static const struct zacpi_pci_region pci = {0xb0000000, 0, 0, 255};
-    static const struct zacpi_hpet_info hpet = {0xfed00000, 0x8086a201, 100, 0, 0};
-    static const struct zacpi_memory_affinity halves[] = {{0, HALF, 0, 0, 0}, {HALF, HALF, 1, 0, 0}};
-    static const uint8_t distances[] = {10, 20, 20, 10};
-    static const uint8_t soft_off[] = {0x08, '_', 'S', '5', '_', 0x12, 4, 2, 0, 0}; /* Name (_S5, Package {0, 0}) */
     const struct zacpi_slit_contents slit = {2, distances, sizeof distances};
     const struct zacpi_srat_contents srat = zacpi_srat_of(domains, count, halves, 2);
     const struct zacpi_aml_contents dsdt = {soft_off, sizeof soft_off, 2};
