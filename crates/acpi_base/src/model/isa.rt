@@ -1,7 +1,8 @@
 //! ISA interrupts, and the one that carries the machine's events, as Interrupt Source Overrides wire them
 //! (section 5.2.12.5).
 ghost use Rattle.std.specs.Prelude.{◌≡◌};
-ghost use Rattle.acpi_base.specs.Isa.{isa_interrupt, override_for, straight, wired};
+ghost use Rattle.acpi_base.specs.Isa.{straight, wired};
+ghost use Rattle.acpi_base.specs.IsaOverrides.{IsGathered};
 
 use super::interrupt::{Apic, InterruptSourceOverride, Polarity, TriggerMode};
 use super::isa_overrides::IsaOverrides;
@@ -21,7 +22,7 @@ pub struct IsaInterrupt {
 
 impl<A: Allocator> Apic<A> {
     ghost use Rattle.std.specs.Prelude.{IfSome};
-    ghost use Rattle.acpi_base.specs.Isa.{SharedByOverrides, sci_interrupt};
+    ghost use Rattle.acpi_base.specs.Isa.{SharedByOverrides, isa_interrupt, sci_interrupt};
 
     /// Global System Interrupt of one of the 16 ISA interrupts, by the Interrupt Source Overrides (section
     /// 5.2.12.5).
@@ -43,7 +44,7 @@ impl<A: Allocator> Apic<A> {
         ensures shared { IfSome result
             (SharedByOverrides self.now.interrupt_source_overrides irq) }
     {
-        isa_interrupt(self.interrupt_source_overrides.as_slice(), irq)
+        gathered(self.interrupt_source_overrides.as_slice()).isa_interrupt(irq)
     }
 
     /// Global System Interrupt of the SCI, the interrupt that carries the machine's events, of the number
@@ -56,42 +57,19 @@ impl<A: Allocator> Apic<A> {
     pub fn sci_interrupt(&self, sci: u16) -> IsaInterrupt
         ensures { result ≡ sci_interrupt self.now.interrupt_source_overrides sci }
     {
-        let overrides = self.interrupt_source_overrides.as_slice();
-        let (polarity, trigger_mode) = (Polarity::ActiveLow, TriggerMode::Level);
-        if sci < 16
-            && let Some(wiring) = override_for(overrides, sci as u8)
-        {
-            return wired(&wiring, polarity, trigger_mode);
-        }
-        straight(sci as u32, polarity, trigger_mode)
+        gathered(self.interrupt_source_overrides.as_slice()).sci_interrupt(sci)
     }
 }
 
-/// What `Apic::isa_interrupt` answers, out of the overrides.
-fn isa_interrupt(overrides: &[InterruptSourceOverride], irq: u8) -> Option<IsaInterrupt>
-    ensures { result ≡ isa_interrupt overrides.now irq }
+/// What the overrides say of the ISA interrupts.
+fn gathered(overrides: &[InterruptSourceOverride]) -> IsaOverrides
+    ensures { IsGathered overrides.now result }
 {
     let mut gathered = IsaOverrides::new();
     for wiring in overrides {
         gathered.add(wiring);
     }
-    gathered.isa_interrupt(irq)
-}
-
-/// The override of a source that counts: the last one.
-fn override_for(
-    overrides: &[InterruptSourceOverride],
-    source: u8,
-) -> Option<InterruptSourceOverride>
-    ensures { result ≡ override_for overrides.now source }
-{
-    let mut last = None;
-    for wiring in overrides {
-        if wiring.isa_source == source {
-            last = Some(*wiring);
-        }
-    }
-    last
+    gathered
 }
 
 /// The interrupt that an Interrupt Source Override gives (section 5.2.12.5). If its flags conform to the bus, it has

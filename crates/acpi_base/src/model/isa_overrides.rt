@@ -1,6 +1,6 @@
-//! Where the ISA interrupts come, by Interrupt Source Overrides that are passed one by one (section 5.2.12.5).
+//! Where ISA interrupts and the SCI come, by Interrupt Source Overrides that are passed one by one (section 5.2.12.5).
 ghost use Rattle.std.specs.Prelude.{◌≡◌, [], ◌∷◌, ◌++◌};
-ghost use Rattle.acpi_base.specs.Isa.{isa_interrupt};
+ghost use Rattle.acpi_base.specs.Isa.{isa_interrupt, sci_interrupt};
 ghost use Rattle.acpi_base.specs.IsaOverrides.{IsGathered};
 
 use super::interrupt::{InterruptSourceOverride, Polarity, TriggerMode};
@@ -76,5 +76,18 @@ impl IsaOverrides {
             return None;
         }
         Some(straight(irq as u32, polarity, trigger_mode))
+    }
+
+    /// What `Apic::sci_interrupt` returns for the SCI's number, if the overrides that were added are all.
+    pub fn sci_interrupt(&self, sci: u16) -> IsaInterrupt
+        ensures { (overrides : _) → IsGathered overrides self.now → result ≡ sci_interrupt overrides sci }
+    {
+        let (polarity, trigger_mode) = (Polarity::ActiveLow, TriggerMode::Level);
+        if sci < 16
+            && let Some(wiring) = self.own[sci as usize]
+        {
+            return wired(&wiring, polarity, trigger_mode);
+        }
+        straight(sci as u32, polarity, trigger_mode)
     }
 }

@@ -1,6 +1,6 @@
 use Rattle.std.proofs.Common.{take}
 use Rattle.acpi_base.specs.IsaOverrides.{IsGathered}
-use Rattle.acpi_base.proofs.model.isa.isa_interrupt.Given as goal
+use Rattle.acpi_base.proofs.model.isa.gathered.Given as goal
 
 -- those before the next one are gathered
 abbrev pub invariant-loop-wiring : goal.invariant-loop-wiring
