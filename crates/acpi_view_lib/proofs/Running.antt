@@ -1,16 +1,15 @@
--- What a run prints, and how it ends.
-use Rattle.std.proofs.Common.{ℕ, List, [], refl, inl, inr, ◌≡◌, ◌∙◌, IfOk, OnOk, ap, codes, subst, sym, ◌≢◌, ◌≤◌, ◌++◌, ◌∷◌, Bor, OnErr, arith, get_or, length, map}
-use Rattle.std.specs.Prelude.{Option, Err, Some, None, Result, Ok}
-use Rattle.std.specs.Global.{Global}
+-- What a run prints in steps, and how it ends.
+use Rattle.std.proofs.Common.{ℕ, List, [], ◌++◌, OnOk, refl, inl, inr, ◌≡◌, ◌∙◌, IfOk, ap, codes, subst, sym, ◌≢◌, ◌≤◌, ◌∷◌, Bor, OnErr, arith, get_or, length, map}
+use Rattle.std.specs.Prelude.{Option, Result, Ok, Err, Some, None}
 use Rattle.std.specs.Io.KnownBytes.{Appends, Keeps}
-use Rattle.std.proofs.KnownBytes.{Appends-nil, Appends-kept}
+use Rattle.std.proofs.KnownBytes.{Appends-nil, Appends-trans, Appends-kept}
+use Rattle.acpi_view_lib.specs.Writing.{Still, AppendsSome}
+use Rattle.std.specs.Global.{Global}
 use Rattle.acpi_base.specs.Memory.{Memory}
 use Rattle.acpi.specs.Opened.{Opened}
-use Rattle.acpi_view_lib.proofs.Writing.{then_more}
 use Rattle.acpi_view_lib.specs.Lines.{IsPciText, bgrt_lines, dsdt_lines, header_lines, hpet_lines, revision_line, spcr_lines, ssdt_lines}
 use Rattle.acpi_view_lib.specs.Output.{IsLines, IsOutput, lines_of, pointers_in, EndsWith, Found, Prints, found_over, found_with, refusal_line, usage_line, found_for}
 use Rattle.acpi_view_lib.specs.PlatformLines.{IsPlatformText}
-use Rattle.acpi_view_lib.specs.Writing.{AppendsSome}
 use Rattle.acpi_cli.specs.declared.root.Root.{Root}
 use Rattle.acpi_image_reader.specs.ErrorText.{image_error_text}
 use Rattle.acpi_image_reader.specs.Image.{Refuses, records_in}
@@ -21,6 +20,34 @@ use Rattle.std.specs.Result.{result_unwrap_or}
 use Rattle.acpi_cli.specs.Reads.{AsksFront, FileRead, contents_of, names_of}
 use Rattle.acpi_view_lib.specs.Command.{root_for, files_for, files_of}
 use Rattle.acpi_view_lib.specs.View.{Views, first_of}
+
+-- ---- writing in steps
+
+-- these bytes, and then those
+pub then_more : (a b c : Option (List ℕ)) (here rest : List ℕ)
+    → Appends a b here → Appends b c rest → Appends a c (here ++ rest)
+then_more a b c here rest = Appends-trans a b c here rest
+
+-- at first all are left
+pub still_all : (now : Option (List ℕ)) (all : List ℕ) → Still now now all all
+still_all now all = record { grows = λ after rest. rest }
+
+-- the first bytes that were left are written
+pub still_less : (first now next : Option (List ℕ)) (here left all : List ℕ)
+    → Still first now (here ++ left) all → Appends now next here → Still first next left all
+still_less first now next here left all still written = record {
+  grows = λ after rest. still.grows after (Appends-trans now next after here left written rest);
+}
+
+-- none are left
+pub still_none : (first now : Option (List ℕ)) (all : List ℕ)
+    → Still first now [] all → Appends first now all
+still_none first now all still = still.grows now (Appends-nil now)
+
+-- what follows if all went well
+pub on_ok : {T E : Type 0} (r : Result T E) (P Q : Type 0) → (P → Q) → OnOk r P → OnOk r Q
+on_ok (Ok x) P Q follows p = follows p
+on_ok (Err e) P Q follows p = tt
 
 -- ---- what the parts print is what all of it prints
 

@@ -1,8 +1,7 @@
 use Rattle.acpi.specs.Opened.{opened_of}
 use Rattle.acpi.specs.Tables.{memory_of, pointers_of}
 use Rattle.std.specs.Io.KnownBytes.{Appends}
-use Rattle.acpi_view_lib.proofs.Running.{all_lines}
-use Rattle.acpi_view_lib.proofs.Writing.{on_ok}
+use Rattle.acpi_view_lib.proofs.Running.{all_lines, on_ok}
 use Rattle.acpi_view_lib.specs.Lines.{spcr_lines}
 use Rattle.acpi_view_lib.specs.Output.{IsLines}
 use Rattle.acpi_view_lib.specs.Writing.{AppendsSome}

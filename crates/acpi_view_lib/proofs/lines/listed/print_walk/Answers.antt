@@ -1,6 +1,6 @@
 use Rattle.std.proofs.Common.{subst}
 use Rattle.std.specs.Io.KnownBytes.{Appends}
-use Rattle.acpi_view_lib.proofs.Writing.{still_all, still_less, still_none}
+use Rattle.acpi_view_lib.proofs.Running.{still_all, still_less, still_none}
 use Rattle.acpi_view_lib.specs.Writing.{Still}
 use Rattle.acpi_view_lib.proofs.lines.listed.print_walk.Goals as goal
 
