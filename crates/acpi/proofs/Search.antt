@@ -9,7 +9,7 @@ use Rattle.acpi_base.specs.Memory.{Memory, Region, HoldsRange, IsMemory, at, res
 use Rattle.acpi_base.specs.Steps.{lent, ◌>>=◌, Gives}
 use Rattle.std.specs.Option.{ok_or}
 use Rattle.acpi_base.specs.declared.error.AcpiError.TheVariants.{RsdpIncorrectSignature, MapFailed, NoValidRsdp}
-use Rattle.acpi_base.proofs.LentRanges.{lent_is_inside}
+use Rattle.acpi_base.proofs.LentRanges.{lent_is_inside, lent_front}
 use Rattle.acpi.specs.Rsdp.{check_first, checked_length, rsd_ptr, rsdp_at, rsdp_of, check_rsdp, check_whole, at_hand}
 use Rattle.acpi_base.specs.declared.error.AcpiError.{AcpiError}
 use Rattle.acpi.specs.Later.{or_later}
@@ -17,7 +17,6 @@ use Rattle.acpi.specs.Search.{walk, first_area, second_area, room_of, count_of, 
 use Rattle.acpi.specs.declared.rsdp.area.Area.{Area}
 use Rattle.std.specs.Prelude.{IsOk, IfOk, nat_le}
 use Rattle.acpi_base.proofs.Steps.{bind_ok, holds_ok}
-use Rattle.acpi_base.proofs.LentFronts.{lent_front}
 use Rattle.acpi_base.proofs.OwnTable.{part_within}
 
 there_is : {A E : Type 0} (o : Option A) (e : E) (x : A) → ok_or o e ≡ Ok x → o ≡ Some x

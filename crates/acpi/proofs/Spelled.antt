@@ -9,7 +9,7 @@ use Rattle.acpi_base.proofs.Spelling.{IsBytes-drop, IsBytes-take, length-spellin
 use Rattle.acpi_base.specs.Bytes.{IsBytes, number, spelling, field_of}
 use Rattle.acpi.specs.Laws.{OnePointers}
 use Rattle.acpi.specs.Root.{IsPointers, pieces, pointers, root_at, root_kind, width_of}
-use Rattle.acpi_base.proofs.LentBytes.{table_bytes}
+use Rattle.acpi_base.proofs.OwnTable.{table_bytes}
 use Rattle.acpi_base.specs.Memory.{Memory, IsMemory}
 use Rattle.acpi.specs.declared.root.RootKind.{RootKind}
 use Rattle.acpi.specs.declared.root.RootKind.TheVariants.{Rsdt, Xsdt}

@@ -1,10 +1,21 @@
--- What is lent of a memory is exactly a range that lies whole inside one of its regions.
-use Rattle.std.proofs.Common.{◌≡◌, ℕ, zero, suc, ◌-◌, ◌<◌, ◌≤◌, List, [], ◌∷◌, Bool, true, false, length, length-drop, take, drop, slice_index_or, Some, refl, sym, ap, ◌∙◌, arith}
-use Rattle.std.proofs.lemmas.Bool.{leb-true, ltb-true, le-leb, lt-ltb, and_from, and_parts}
+-- What a memory lends: exactly the ranges inside one region, bytes that end below 2^64, and the fronts of what is lent.
+use Rattle.std.proofs.Common.{◌≡◌, ℕ, zero, suc, ◌-◌, ◌<◌, ◌≤◌, List, [], ◌∷◌, Bool, true, false, length, length-drop, take, drop, slice_index_or, Some, refl, sym, ap, ◌∙◌, arith, ◌+◌, ◌^◌, Ok, get_or, subst, None, Err, inl, inr}
+use Rattle.std.proofs.lemmas.Bool.{leb-true, ltb-true, le-leb, lt-ltb, and_from, and_parts, cases_lt, lt-leb, le-ltb}
 use Rattle.std.proofs.lemmas.Option.{cond_some}
 use Rattle.std.specs.List.{AllByRecursion, Contains}
-use Rattle.acpi_base.specs.Memory.{Memory, Region, AreApart, IsMemory, HoldsRange, at, end_of, lies_in, rest_from}
+use Rattle.acpi_base.specs.Memory.{Memory, Region, AreApart, IsMemory, HoldsRange, at, end_of, lies_in, rest_from, IsRegion}
 use Rattle.acpi_base.specs.Laws.{LentIsInside}
+use Rattle.std.specs.Prelude.{if◌then◌else◌}
+use Rattle.std.proofs.lemmas.List.{get_or_past, length-take, length-take-le, take-take}
+use Rattle.acpi_base.proofs.Spelling.{IsBytes-drop, IsBytes-take}
+use Rattle.acpi_base.proofs.Steps.{some_lent}
+use Rattle.acpi_base.specs.Bytes.{IsBytes}
+use Rattle.acpi_base.specs.Steps.{lent}
+use Rattle.acpi_base.specs.declared.error.AcpiError.TheVariants.{MapFailed}
+use Rattle.std.proofs.Math.Seq.{take-length}
+use Rattle.acpi_base.specs.OneRegion.{one_region}
+
+-- ---- a range that is lent lies whole inside one region
 
 -- a region that has the bytes from an address on
 record IsFrom (m : Memory) (a : ℕ) : Type 0 where
@@ -106,3 +117,90 @@ inside_lent m a n bytes hm some r c h =
 
 pub lent_is_inside : LentIsInside
 lent_is_inside m a n bytes hm some = (lent_inside m a n bytes some, λ x. inside_lent m a n bytes hm some x.0 x.1 x.2)
+
+-- ---- what is lent are bytes, and they end below 2^64
+
+no_bytes : IsBytes []
+no_bytes i = let none = get_or_past {X = ℕ} [] i 0 (omega arith) in omega (arith, none)
+
+one_of : (b : Bool) (xs ys : List ℕ) → IsBytes xs → IsBytes ys → IsBytes (if b then xs else ys)
+one_of true xs ys hx hy = hx
+one_of false xs ys hx hy = hy
+
+rest_bytes : (m : Memory) (a : ℕ) → IsMemory m → IsBytes (rest_from m a)
+unfolding rest_from
+rest_bytes [] a h = no_bytes
+rest_bytes (r ∷ m) a h = one_of (lies_in r a) _ _ (IsBytes-drop (a - r.start) r.bytes h.0.1) (rest_bytes m a h.1.1)
+
+at_bytes : (m : Memory) (a n : ℕ) (bytes : List ℕ) → IsMemory m → at m a n ≡ Some bytes → IsBytes bytes
+unfolding at
+at_bytes m a n bytes h e =
+    let both = cond_some _ _ _ e in
+    subst (λ (b : List ℕ). IsBytes b) both.1 (IsBytes-take n (rest_from m a) (rest_bytes m a h))
+
+pub lent_bytes : (m : Memory) (a n : ℕ) (bytes : List ℕ) → IsMemory m → lent m a n ≡ Ok bytes → IsBytes bytes
+lent_bytes m a n bytes h e = at_bytes m a n bytes h (some_lent _ _ e)
+
+region_at : (m : Memory) (k : ℕ) (d : Region) → IsMemory m → k < length m → IsRegion (get_or m k d)
+region_at [] k d h less = absurd (omega arith)
+region_at (r ∷ m) zero d h less = h.0
+region_at (r ∷ m) (suc k) d h less = region_at m k d h.1.1 (omega arith)
+
+-- a range that is lent ends below 2^64
+pub lent_ends : (m : Memory) (a n : ℕ) (bytes : List ℕ) → IsMemory m → 0 < n → lent m a n ≡ Ok bytes → a + length bytes < 2 ^ 64
+lent_ends m a n bytes h some e =
+    let f = lent_inside m a n bytes some (some_lent _ _ e) in
+    let region : IsRegion f.0 = rw f.1.2 at (region_at m f.1.0 f.0 h f.1.1) in
+    let short : length bytes ≤ n = rw f.2.there (omega (arith, length-take n (drop (a - f.0.start) f.0.bytes))) in
+    omega (arith, f.2.ends, region.0)
+
+-- ---- what is lent of a longer range is lent of its fronts
+
+pub at-front : (m : Memory) (a n : ℕ) (s : List ℕ) → at m a (length s) ≡ Some s → n ≤ length s → at m a n ≡ Some (take n s)
+unfolding at
+at-front m a n s e h =
+    let both = cond_some _ _ _ e in
+    let whole : length s ≤ length (rest_from m a) = leb-true _ _ both.0 in
+    let fits : n ≤ length (rest_from m a) = omega arith in
+    let same : take n s ≡ take n (rest_from m a) = ap (take n) (sym both.1) ∙ take-take n (length s) (rest_from m a) h in
+    rw (le-leb _ _ fits, same) refl
+
+-- the front of what is lent is lent, by the front's own length
+pub at_front_of : (m : Memory) (a n : ℕ) (s : List ℕ) → at m a (length s) ≡ Some s → n ≤ length s → at m a (length (take n s)) ≡ Some (take n s)
+at_front_of m a n s e h = rw (length-take-le n s h) (at-front m a n s e h)
+
+pub lent_front : (m : Memory) (a n : ℕ) (s : List ℕ) → at m a (length s) ≡ Some s → n ≤ length s → lent m a n ≡ Ok (take n s)
+lent_front m a n s e h = rw (at-front m a n s e h) refl
+
+pub lent_none : (m : Memory) (a n : ℕ) → at m a n ≡ None → lent m a n ≡ Err MapFailed
+lent_none m a n e = rw e refl
+
+-- ---- what is lent of a memory of one region
+
+-- all from an address on is lent
+pub is_lent : (start a : ℕ) (b : List ℕ) → start ≤ a → a - start < length b → at (one_region start b) a (length (take (length b - (a - start)) (drop (a - start) b))) ≡ Some (take (length b - (a - start)) (drop (a - start) b))
+unfolding at rest_from
+is_lent start a b low high =
+    let below : a < start + length b = omega arith in
+    let all : take (length b - (a - start)) (drop (a - start) b) ≡ drop (a - start) b = rw (← length-drop (a - start) b) (take-length (drop (a - start) b)) in
+    let whole : length (drop (a - start) b) ≤ length (drop (a - start) b) = omega arith in
+    rw (all, le-leb _ _ low, lt-ltb _ _ below, le-leb _ _ whole, take-length (drop (a - start) b)) refl
+
+-- nothing is lent below the region
+pub starts_below : (start a n : ℕ) (b : List ℕ) → 0 < n → a < start → at (one_region start b) a n ≡ None
+unfolding at rest_from
+starts_below start a n b some low = rw (lt-leb _ _ low, lt-leb _ _ some) refl
+
+-- nor what reaches past its end
+pub ends_above : (start a n : ℕ) (b : List ℕ) → 0 < n → start ≤ a → length b < (a - start) + n → at (one_region start b) a n ≡ None
+unfolding at rest_from
+ends_above start a n b some low high =
+    elim (cases_lt a (start + length b)) [
+      | inl below ↦
+          let short : length (drop (a - start) b) < n = omega (arith, length-drop (a - start) b) in
+          rw (le-leb _ _ low, lt-ltb _ _ below, lt-leb _ _ short) refl
+      | inr above ↦ rw (le-leb _ _ low, le-ltb _ _ above, lt-leb _ _ some) refl
+    ]
+
+-- what a handler over one region needs of its memory
+pub ruleset one_region_lends = (is_lent, starts_below, ends_above)

@@ -3,10 +3,7 @@ pub mod Cuts
 pub mod EntryLists
 pub mod Equalities
 pub mod Isa
-pub mod LentBytes
 pub mod LentRanges
-pub mod LentFronts
-pub mod OneRegion
 pub mod Pin
 pub mod OwnTable
 pub mod Spelling

@@ -8,12 +8,12 @@ use Rattle.std.proofs.lemmas.Bool.{and_from, and_parts, leb-true, le-leb, ne_eqb
 use Rattle.std.proofs.lemmas.List.{drop-take, length-take-le, take-take}
 use Rattle.std.proofs.lemmas.Option.{cond_some}
 use Rattle.std.proofs.lemmas.Slice.Eq.{bytes_eq-Decides}
-use Rattle.acpi_base.proofs.LentFronts.{at-front}
+use Rattle.acpi_base.proofs.LentRanges.{at-front, lent_bytes}
 use Rattle.acpi_base.proofs.Steps.{bind_ok, holds_ok, some_lent, same_ok}
-use Rattle.acpi_base.specs.Bytes.{field_of, part, sum_of}
+use Rattle.acpi_base.specs.Bytes.{IsBytes, field_of, part, sum_of}
 use Rattle.acpi_base.specs.Claim.{unchecked}
 use Rattle.acpi_base.specs.Header.{check_names, check_table, header_at}
-use Rattle.acpi_base.specs.Memory.{Memory, at, rest_from}
+use Rattle.acpi_base.specs.Memory.{Memory, IsMemory, at, rest_from}
 use Rattle.acpi_base.specs.Ranges.{OwnTableDependsOn, TableDependsOn}
 use Rattle.acpi_base.specs.Steps.{◌>>=◌, holds, lent}
 use Rattle.acpi_base.specs.Table.{kind, own_table_at, plain_kind, table_at, Kind}
@@ -267,3 +267,9 @@ unfolding own_table_at
 same_own_table m n p h =
     rw (← h.0) (after (lent m p 36) _ _ (λ head front.
     same_table (plain_kind (header_at head).signature) m n p (h.0, rw front (rw front at h.1))))
+
+-- a table's bytes are bytes
+pub table_bytes : (m : Memory) (k : Kind) (p : ℕ) (table : List ℕ) → IsMemory m → table_at m k p ≡ Ok table → IsBytes table
+table_bytes m k p table h e =
+    let passes = passed m k p table e in
+    lent_bytes m p (header_at passes.head).length table h passes.whole

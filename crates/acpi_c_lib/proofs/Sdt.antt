@@ -6,7 +6,7 @@ use Rattle.acpi_base.specs.Text.{letters_of}
 use Rattle.acpi_base.specs.declared.table.signature.Signature.{Signature}
 use Rattle.std.proofs.lemmas.List.{length-take}
 use Rattle.std.proofs.lemmas.Option.{cond_some}
-use Rattle.acpi_base.proofs.LentBytes.{lent_ends}
+use Rattle.acpi_base.proofs.LentRanges.{lent_ends}
 use Rattle.acpi_base.proofs.OwnTable.{passed}
 use Rattle.acpi_base.proofs.Steps.{bind_ok, some_lent}
 use Rattle.acpi_base.specs.Header.{header_at}

@@ -2,7 +2,7 @@
 use Rattle.std.proofs.Common.{◌≡◌, ℕ, ◌+◌, ◌-◌, List, ◌++◌, length, Option, Some, None, refl, sym, ap, ◌∙◌, arith, length-append}
 use Rattle.std.specs.Prelude.{replicate}
 use Rattle.std.proofs.lemmas.List.{length-replicate}
-use Rattle.acpi_base.proofs.LentFronts.{at-front}
+use Rattle.acpi_base.proofs.LentRanges.{at-front}
 use Rattle.acpi_base.specs.Memory.{Memory, IsMemory, at}
 use Rattle.acpi_writer.specs.Facs.{FitsFacs, IsReadAs, facs_bytes}
 use Rattle.acpi_writer.specs.Machine.{facs_gap, facs_laid, facs_room}

@@ -4,8 +4,7 @@ use Rattle.std.specs.Prelude.{◌&&◌, ◌==◌, nat_le, replicate}
 use Rattle.std.specs.Result.{result_ok}
 use Rattle.std.proofs.lemmas.Bool.{eqb-true, le-leb}
 use Rattle.std.proofs.lemmas.List.{drop_at, drop-drop, drop-take, take_all, take_at}
-use Rattle.acpi_base.proofs.LentFronts.{at-front}
-use Rattle.acpi_base.proofs.LentRanges.{lent_inside, lent_is_inside}
+use Rattle.acpi_base.proofs.LentRanges.{at-front, lent_inside, lent_is_inside}
 use Rattle.acpi_base.proofs.OwnTable.{good_rest, header_front, own_table, own_table_is, passes, served}
 use Rattle.acpi_base.proofs.Steps.{bind_ok, holds_ok}
 use Rattle.acpi_base.specs.Bytes.{field_of, part, sum_of}

@@ -71,7 +71,7 @@ impl AcpiHandler for MappedRegion<'_> {
     /// Lends all bytes from a physical address to the end of the region.
     ///
     /// Fails with `MapFailed` if the region doesn't have `size` bytes from that address on.
-    #[tactic(auto, using(acpi_base::proofs::OneRegion::one_region_lends))]
+    #[tactic(auto, using(acpi_base::proofs::LentRanges::one_region_lends))]
     fn map_physical_region(&self, address: u64, size: usize) -> AcpiResult<&[u8]> {
         if address < self.start {
             return Err(AcpiError::MapFailed);

@@ -37,7 +37,7 @@ impl<'h, H: Lender> Claim<'h, H> {
     }
 
     /// A claim of the bytes that the handler lends at an address, of which the first `size` are shown.
-    #[tactic(auto, using(crate::proofs::LentFronts::lent_front, crate::proofs::LentFronts::lent_none))]
+    #[tactic(auto, using(crate::proofs::LentRanges::lent_front, crate::proofs::LentRanges::lent_none))]
     pub(crate) fn request(handler: &'h H, address: u64, size: usize) -> AcpiResult<Self>
         requires some { 0 < size }
         requires asked { H.may handler.now address size ≡ true }
@@ -53,7 +53,7 @@ impl<'h, H: Lender> Claim<'h, H> {
 
     /// A claim that shows the `size` bytes from this one's start on: of the bytes that are lent already, if
     /// these are as many, or else asked for anew, after the notice for what was lent.
-    #[tactic(auto, using(crate::proofs::LentFronts::lent_front))]
+    #[tactic(auto, using(crate::proofs::LentRanges::lent_front))]
     pub(crate) fn widen(self, size: usize) -> AcpiResult<Self>
         requires some { 0 < size }
         requires lent { IsLentOf (H.memory (claimed_from self)) self }

@@ -1,5 +1,5 @@
 use Rattle.std.proofs.Common.{◌≡◌, ℕ, ◌+◌, ◌^◌, ◌<◌, length, IfOk, Result, Ok, Err, arith}
-use Rattle.acpi_base.proofs.LentBytes.{lent_ends}
+use Rattle.acpi_base.proofs.LentRanges.{lent_ends}
 use Rattle.acpi_base.specs.Claim.{claimed_at, shown_by}
 use Rattle.acpi_base.specs.Memory.{Memory, IsMemory}
 use Rattle.acpi_base.specs.Steps.{Gives, lent}

@@ -1,4 +1,4 @@
-use Rattle.acpi_base.proofs.LentBytes.{lent_ends}
+use Rattle.acpi_base.proofs.LentRanges.{lent_ends}
 use Rattle.acpi_base.proofs.memory.mapping.PhysicalMapping.map.Goals as goal
 
 pub returns-clause-ends : goal.returns-clause-ends
