@@ -66,7 +66,7 @@ fn write(out: &mut [u8], ids: &TableIds, contents: &Contents) -> Result<usize, W
     }
 }
 
-/// So many sevens after a table, the table's bytes among them.
+/// A slice of sevens that begins with the bytes of a table.
 fn before_sevens(table: &[u8]) -> [u8; MOST] {
     let mut left = [7; MOST];
     for (byte, there) in left.iter_mut().zip(table) {
