@@ -1,11 +1,14 @@
--- Regions in ascending order: they are a memory, and an address lies in one half of them.
-use Rattle.std.proofs.Common.{◌≡◌, ℕ, zero, suc, ◌+◌, ◌<◌, ◌≤◌, List, [], ◌∷◌, ◌++◌, length, take, drop, refl, arith, true, false, get_or, add-one, None}
+-- Regions in ascending order: they are a memory, and an address lies in one of them at most.
+use Rattle.std.proofs.Common.{◌≡◌, ℕ, zero, suc, ◌+◌, ◌-◌, ◌<◌, ◌≤◌, Bool, leb, List, [], ◌∷◌, ◌++◌, length, take, drop, refl, arith, true, false, get_or, add-one, Option, Some, None}
+use Rattle.std.specs.Prelude.{IfNone, IfSome, MatchOption}
+use denote.Ref.{Bor}
 use Rattle.std.specs.List.{AllByRecursion}
-use Rattle.std.proofs.lemmas.List.{map-append, drop_more, drop-map, take-map}
+use Rattle.std.specs.List.Sorted.{IsPartitionPoint}
+use Rattle.std.proofs.lemmas.List.{map-append, drop_more}
 use Rattle.std.proofs.lemmas.Bool.{le-leb, lt-leb, le-ltb, and_parts, and_left, and_right, leb-true, ltb-true}
 use Rattle.std.proofs.Math.Seq.{take-suc}
 use Rattle.acpi_base.specs.Memory.{Memory, Region, AreApart, IsMemory, at, end_of, lies_in, rest_from}
-use Rattle.acpi.specs.Regions.{IsAscending, check_after, check_regions, region_of, regions_of}
+use Rattle.acpi.specs.Regions.{IsAscending, check_after, check_regions, region_memory, region_of, regions_of}
 use Rattle.acpi.specs.declared.handler.region.MappedRegion.{MappedRegion}
 
 -- ---- they are a memory
@@ -70,94 +73,72 @@ checked_more all i start end d r is h less up apart =
 
 -- ---- where an address lies
 
-all_take : {X : Type 0} (P : X → Type 0) (xs : List X) (n : ℕ) → AllByRecursion P xs → AllByRecursion P (take n xs)
-all_take P xs zero h = tt
-all_take P [] (suc n) h = tt
-all_take P (x ∷ xs) (suc n) h = (h.0, all_take P xs n h.1)
-
-all_at : {X : Type 0} (P : X → Type 0) (xs : List X) (n : ℕ) (y : X) (later : List X) → AllByRecursion P xs → drop n xs ≡ y ∷ later → P y
-all_at P [] zero y later h e = absurd cc
-all_at P [] (suc n) y later h e = absurd cc
-all_at P (x ∷ xs) zero y later h e =
-    let same : x ≡ y = cc in
-    rw same at h.0
-all_at P (x ∷ xs) (suc n) y later h e = all_at P xs n y later h.1 e
-
-ascending_take : (m : Memory) (n : ℕ) → IsAscending m → IsAscending (take n m)
-ascending_take m zero h = tt
-ascending_take [] (suc n) h = tt
-ascending_take (r ∷ m) (suc n) h = (all_take (λ s. end_of r ≤ s.start) m n h.0, ascending_take m n h.1)
-
-ascending_drop : (m : Memory) (n : ℕ) → IsAscending m → IsAscending (drop n m)
-ascending_drop m zero h = h
-ascending_drop [] (suc n) h = tt
-ascending_drop (r ∷ m) (suc n) h = ascending_drop m n h.1
-
-below_region : (r : Region) (a : ℕ) → a < r.start → lies_in r a ≡ false
-below_region r a low = and_left _ _ (lt-leb _ _ low)
-
-above_region : (r : Region) (a : ℕ) → end_of r ≤ a → lies_in r a ≡ false
-above_region r a high = and_right _ _ (le-ltb _ _ high)
-
-nothing_at : (m : Memory) (a : ℕ) → AllByRecursion (λ s. a < s.start) m → rest_from m a ≡ []
+-- no region starts at the address or below it
+nothing_at : (rs : List MappedRegion) (a : ℕ) → ((j : ℕ) (d : MappedRegion) → j < length rs → leb (get_or rs j d).start a ≡ false) → rest_from (regions_of rs) a ≡ []
 unfolding rest_from
 nothing_at [] a h = refl
-nothing_at (r ∷ m) a h = rw (below_region r a h.0) (nothing_at m a h.1)
+nothing_at (r ∷ rs) a h =
+    let out : lies_in (region_of r) a ≡ false = and_left _ _ (h 0 r (omega arith)) in
+    rw out (nothing_at rs a (λ j d inside. h (suc j) d (omega arith)))
 
-all_above : (m : Memory) (end a : ℕ) → a < end → AllByRecursion (λ s. end ≤ s.start) m → AllByRecursion (λ s. a < s.start) m
-all_above [] end a less h = tt
-all_above (s ∷ m) end a less h = (omega (arith, h.0), all_above m end a less h.1)
+-- a region ends where a later one starts, or below
+first_ends : (r : MappedRegion) (rs : List MappedRegion) (j : ℕ) (d : MappedRegion) → AllByRecursion (λ s. end_of (region_of r) ≤ s.start) (regions_of rs) → j < length rs
+    → end_of (region_of r) ≤ (get_or rs j d).start
+first_ends r [] j d h less = absurd (omega arith)
+first_ends r (s ∷ rs) zero d h less = h.0
+first_ends r (s ∷ rs) (suc j) d h less = first_ends r rs j d h.1 (omega arith)
 
--- an address below a region lies in none of those from it on
-rest_low : (m : Memory) (n a : ℕ) (s : Region) (later : Memory) → IsAscending m → drop n m ≡ s ∷ later → a < s.start → rest_from m a ≡ rest_from (take n m) a
+-- the test by which the regions are halved: if a region passes, so do those before it
+pub passes_before : (rs : List MappedRegion) (a i j : ℕ) (d : MappedRegion) → IsAscending (regions_of rs) → i ≤ j → j < length rs → leb (get_or rs j d).start a ≡ true → leb (get_or rs i d).start a ≡ true
+passes_before [] a i j d h le inside up = absurd (omega arith)
+passes_before (r ∷ rs) a zero zero d h le inside up = up
+passes_before (r ∷ rs) a zero (suc j) d h le inside up =
+    le-leb _ _ (omega (arith, first_ends r rs j d h.0 (omega arith), leb-true _ _ up))
+passes_before (r ∷ rs) a (suc i) zero d h le inside up = absurd (omega arith)
+passes_before (r ∷ rs) a (suc i) (suc j) d h le inside up = passes_before rs a i j d h.1 (omega arith) (omega arith) up
+
+abbrev Starts : ℕ → Bool → MappedRegion → Type 0
+Starts a b r = leb r.start a ≡ b
+
+-- the last region that passes decides, or else the first
+pub one_decides : (rs : List MappedRegion) (a after : ℕ) (d : MappedRegion) → IsAscending (regions_of rs) → 0 < length rs → after ≤ length rs
+    → IsPartitionPoint (Starts a true) (Starts a false) rs after → rest_from (regions_of rs) a ≡ rest_from (region_of (get_or rs (after - 1) d) ∷ []) a
 unfolding rest_from
-rest_low [] zero a s later h e low = refl
-rest_low [] (suc n) a s later h e low = refl
-rest_low (r ∷ m) zero a s later h e low =
-    let same : r ≡ s = cc in
-    let under : a < r.start = rw same low in
-    let over : a < end_of r = omega arith in
-    rw (below_region r a under) (nothing_at m a (all_above m (end_of r) a over h.0))
-rest_low (r ∷ m) (suc n) a s later h e low = rw (rest_low m n a s later h.1 e low) refl
+one_decides [] a after d h some bound point = absurd (omega arith)
+one_decides (r ∷ rs) a zero d h some bound point =
+    let out : lies_in (region_of r) a ≡ false = and_left _ _ (point.1 0 r (omega arith) (omega arith)) in
+    rw out (nothing_at rs a (λ j e inside. point.1 (suc j) e (omega arith) (omega arith)))
+one_decides (r ∷ rs) a (suc zero) d h some bound point =
+    let first : suc zero - 1 ≡ 0 = omega arith in
+    rw (first, nothing_at rs a (λ j e inside. point.1 (suc j) e (omega arith) (omega arith))) refl
+one_decides (r ∷ rs) a (suc (suc k)) d h some bound point =
+    let this : suc (suc k) - 1 ≡ suc k = omega arith in
+    let next : suc k - 1 ≡ k = omega arith in
+    let ends = first_ends r rs k d h.0 (omega arith) in
+    let passes : (get_or rs k d).start ≤ a = leb-true _ _ (point.0 (suc k) d (omega arith) (omega arith)) in
+    let past : end_of (region_of r) ≤ a = omega (arith, ends, passes) in
+    let out : lies_in (region_of r) a ≡ false = and_right _ _ (le-ltb _ _ past) in
+    let later = one_decides rs a (suc k) d h.1 (omega arith) (omega arith) (
+      (λ j e low high. point.0 (suc j) e (omega arith) (omega arith)),
+      (λ j e low high. point.1 (suc j) e (omega arith) (omega arith)),
+    ) in
+    rw (out, this) (rw next at later)
 
--- an address at a region's start or above it lies in none of those before it
-rest_high : (m : Memory) (n a : ℕ) (s : Region) (later : Memory) → IsAscending m → drop n m ≡ s ∷ later → s.start ≤ a → rest_from m a ≡ rest_from (drop n m) a
-unfolding rest_from
-rest_high m zero a s later h e high = refl
-rest_high [] (suc n) a s later h e high = refl
-rest_high (r ∷ m) (suc n) a s later h e high =
-    let before : end_of r ≤ s.start = all_at (λ x. end_of r ≤ x.start) m n s later h.0 e in
-    let past : end_of r ≤ a = omega (arith, before, high) in
-    rw (above_region r a past) (rest_high m n a s later h.1 e high)
+-- the one that is returned
+abbrev There : List MappedRegion → ℕ → Option (Bor MappedRegion) → Type 0
+There rs i o = MatchOption o (length rs ≤ i) (λ x. (i < length rs) × ((d : MappedRegion) → x.now ≡ get_or rs i d))
 
--- regions that are mapped and ascend, cut into those below and those above
-module _ (all low high : List MappedRegion) (n : ℕ) (h : IsAscending (regions_of all)) where
-  pub low_ascending : low ≡ take n all → IsAscending (regions_of low)
-  low_ascending front =
-      let some : IsAscending (regions_of (take n all)) = rw (take-map region_of n all) at (ascending_take (regions_of all) n h) in
-      rw front some
+pub decides : (rs : List MappedRegion) (a after : ℕ) (o : Option (Bor MappedRegion)) → IsAscending (regions_of rs) → after ≤ length rs
+    → IsPartitionPoint (Starts a true) (Starts a false) rs after → There rs (after - 1) o → IfSome o (λ r. rest_from (regions_of rs) a ≡ rest_from (region_memory r.now) a)
+decides rs a after None h bound point there = tt
+decides rs a after (Some x) h bound point there =
+    rw (← (there.1 x.now)) at (one_decides rs a after x.now h (omega (arith, there.0)) bound point)
 
-  pub high_ascending : high ≡ drop n all → IsAscending (regions_of high)
-  high_ascending back =
-      let some : IsAscending (regions_of (drop n all)) = rw (drop-map region_of n all) at (ascending_drop (regions_of all) n h) in
-      rw back some
-
-  pub low_rest : (a : ℕ) (s : Region) (later : Memory) → low ≡ take n all → high ≡ drop n all → regions_of high ≡ s ∷ later → a < s.start
-      → rest_from (regions_of all) a ≡ rest_from (regions_of low) a
-  low_rest a s later front back first less =
-      let cut : drop n (regions_of all) ≡ s ∷ later = rw (drop-map region_of n all, ← back) first in
-      rw (front, ← take-map region_of n all) (rest_low (regions_of all) n a s later h cut less)
-
-  pub high_rest : (a : ℕ) (s : Region) (later : Memory) → high ≡ drop n all → regions_of high ≡ s ∷ later → s.start ≤ a
-      → rest_from (regions_of all) a ≡ rest_from (regions_of high) a
-  high_rest a s later back first over =
-      let cut : drop n (regions_of all) ≡ s ∷ later = rw (drop-map region_of n all, ← back) first in
-      rw (back, ← drop-map region_of n all) (rest_high (regions_of all) n a s later h cut over)
-
--- the first of some regions
-pub first_of : (rs : List MappedRegion) (d : MappedRegion) → 0 < length rs → regions_of rs ≡ region_of (get_or rs 0 d) ∷ regions_of (drop 1 rs)
-first_of [] d some = absurd (omega arith)
-first_of (r ∷ rs) d some = refl
+pub no_regions : (rs : List MappedRegion) (after : ℕ) (o : Option (Bor MappedRegion)) → after ≤ length rs → There rs (after - 1) o → IfNone o (regions_of rs ≡ [])
+no_regions [] after None bound there = refl
+no_regions [] after (Some x) bound there = tt
+no_regions (r ∷ rs) after None bound there = absurd (omega (arith, there))
+no_regions (r ∷ rs) after (Some x) bound there = tt
 
 -- what is lent follows from the rest
 pub at_same : (m n : Memory) (a size : ℕ) → rest_from m a ≡ rest_from n a → at m a size ≡ at n a size

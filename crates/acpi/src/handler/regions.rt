@@ -66,15 +66,8 @@ fn region_for<'k>(regions: &'k [MappedRegion<'k>], address: u64) -> Option<&'k M
         ≡ rest_from (region_memory r.now) address) }
     ensures none { IfNone result (regions_of regions.now ≡ []) }
 {
-    if regions.len() < 2 {
-        return regions.first();
-    }
-    let (low, high) = regions.split_at(regions.len() / 2);
-    if address < high[0].start {
-        region_for(low, address)
-    } else {
-        region_for(high, address)
-    }
+    let after = regions.partition_point(|region| region.start <= address);
+    regions.get(after.saturating_sub(1))
 }
 
 /// Lends the regions' bytes.
