@@ -10,6 +10,8 @@ use Rattle.acpi_base.specs.Bytes.{part}
 use Rattle.acpi_base.specs.Memory.{Memory, IsMemory, at}
 use Rattle.acpi_base.specs.Steps.{Gives, lent}
 use Rattle.acpi_base.specs.declared.error.AcpiError.{AcpiError}
+use Rattle.acpi_base.specs.declared.memory.mapping.PhysicalMapping.{PhysicalMapping}
+use Rattle.acpi_base.specs.Mapping.{start_of}
 use Rattle.acpi_base.specs.declared.error.AcpiError.TheVariants.{NoValidRsdp}
 use Rattle.acpi_base.specs.declared.range.AddressRange.{AddressRange}
 use Rattle.acpi_base.specs.Ranges.{Allows}
@@ -17,7 +19,7 @@ use Rattle.acpi_base.proofs.AllowedRanges.{all_back, all_front}
 use Rattle.acpi.specs.Areas.{areas_ranges, opened_in_areas_ranges, IsCandidateIn, IsFirstIn, IsSearchedIn, NoneIn, count_in, end_of, first_in, found_among, found_in_areas, is_refused_in, walk_in}
 use Rattle.acpi.specs.OpenedRanges.{opened_ranges, or_else_ranges, walk_ranges}
 use Rattle.acpi.specs.Rsdp.{checked_length, root_of_rsdp, rsdp_at}
-use Rattle.acpi.specs.Search.{IsRefused, walk}
+use Rattle.acpi.specs.Search.{IsRefused, placed, walk}
 use Rattle.acpi.proofs.Asked.{asked_next}
 use Rattle.acpi.proofs.Search.{Says, lent_part, walk_later, walk_says}
 
@@ -230,5 +232,5 @@ valid_in : {X : Type 0} (m : Memory) (areas : List AddressRange) (view : X → �
 valid_in m areas view (Ok x) f = rw f.valid refl
 valid_in m areas view (Err e) h = tt
 
-pub found_valid_in : {X : Type 0} (m : Memory) (areas : List AddressRange) (place : X → ℕ) (bytes : X → List ℕ) (r : Result X AcpiError) → Gives (λ x. (place x, bytes x)) r (found_in_areas m areas) → IfOk r (λ x. IsOk (rsdp_at m (place x)))
-found_valid_in m areas place bytes r said = valid_in m areas (λ x. (place x, bytes x)) r (searched_in m areas (λ x. (place x, bytes x)) r said)
+pub found_valid_in : {H T : Type 0} {h t : _} (m : Memory) (areas : List AddressRange) (r : Result (PhysicalMapping H T h t) AcpiError) → Gives placed r (found_in_areas m areas) → IfOk r (λ x. IsOk (rsdp_at m (start_of x)))
+found_valid_in m areas r said = valid_in m areas placed r (searched_in m areas placed r said)

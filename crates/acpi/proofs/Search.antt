@@ -12,8 +12,10 @@ use Rattle.acpi_base.specs.declared.error.AcpiError.TheVariants.{RsdpIncorrectSi
 use Rattle.acpi_base.proofs.LentRanges.{lent_is_inside, lent_front}
 use Rattle.acpi.specs.Rsdp.{check_first, checked_length, rsd_ptr, rsdp_at, rsdp_of, check_rsdp, check_whole, at_hand}
 use Rattle.acpi_base.specs.declared.error.AcpiError.{AcpiError}
+use Rattle.acpi_base.specs.declared.memory.mapping.PhysicalMapping.{PhysicalMapping}
+use Rattle.acpi_base.specs.Mapping.{start_of}
 use Rattle.acpi.specs.Later.{or_later}
-use Rattle.acpi.specs.Search.{walk, first_area, second_area, room_of, count_of, found_in, found_rsdp, or_else, word_in, IsRefused, IsLeast, HasNone, IsLent, IsSecond, IsSearched, IsFound}
+use Rattle.acpi.specs.Search.{walk, first_area, second_area, room_of, count_of, found_in, found_rsdp, or_else, word_in, IsRefused, IsLeast, HasNone, IsLent, IsSecond, IsSearched, IsFound, placed}
 use Rattle.acpi.specs.declared.rsdp.area.Area.{Area}
 use Rattle.std.specs.Prelude.{IsOk, IfOk, nat_le}
 use Rattle.acpi_base.proofs.Steps.{bind_ok, holds_ok}
@@ -248,8 +250,8 @@ of_searched : {X : Type 0} (m : Memory) (view : X → ℕ × List ℕ) (r : Resu
 of_searched m view (Ok x) h = is_valid m (view x) h
 of_searched m view (Err e) h = tt
 
-pub found_valid : {X : Type 0} (m : Memory) (place : X → ℕ) (bytes : X → List ℕ) (r : Result X AcpiError) → Gives (λ x. (place x, bytes x)) r (found_rsdp m) → IfOk r (λ x. IsOk (rsdp_at m (place x)))
-found_valid m place bytes r said = of_searched m (λ x. (place x, bytes x)) r (searched m (λ x. (place x, bytes x)) r said)
+pub found_valid : {H T : Type 0} {h t : _} (m : Memory) (r : Result (PhysicalMapping H T h t) AcpiError) → Gives placed r (found_rsdp m) → IfOk r (λ x. IsOk (rsdp_at m (start_of x)))
+found_valid m r said = of_searched m placed r (searched m placed r said)
 
 -- ---- bytes that hold all checks of an RSDP are a valid RSDP if a memory has them
 

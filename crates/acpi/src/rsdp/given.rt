@@ -96,36 +96,6 @@ fn refused_front(bytes: &[u8], left: u64) -> u64
     left
 }
 
-/// An RSDP whose 36 bytes are mapped, if it is valid, or else how many candidates from there on are
-/// refused, as far as is known from what was lent there.
-fn valid_or_passed<'h, H: Lender>(
-    handler: &'h H,
-    address: u64,
-    rsdp: PhysicalMapping<'h, H, Rsdp>,
-    left: u64,
-) -> Result<PhysicalMapping<'h, H, Rsdp>, u64>
-    requires some { 0 < left }
-    requires low { 16 * left < 2 ^ 64 }
-    requires place { start_of rsdp ≡ address }
-    requires handler { handler_of rsdp ≡ handler.now }
-    requires all { IsOfMemory (H.memory handler.now) rsdp }
-    requires lent { lent (H.memory handler.now) address 36 ≡ Ok (bytes_of rsdp) }
-    requires asked { Allows (H.may handler.now) (rsdp_ranges (H.memory handler.now) address) }
-    ensures handler { IfOk result (λ m. handler_of m ≡ handler.now) }
-    ensures lent { IfOk result (λ m. IsOfMemory (H.memory handler.now) m) }
-    ensures place { IfOk result (λ m. start_of m ≡ address) }
-    ensures valid { IfOk result (λ m. rsdp_at (H.memory handler.now) address ≡ Ok (bytes_of m)) }
-    ensures some_passed { IfErr result (λ n. 0 < n) }
-    ensures most { IfErr result (λ n. n ≤ left) }
-    ensures refused { IfErr result (λ n. (i : ℕ) → i < n
-        → IsRefused (H.memory handler.now) (address + 16 * i)) }
-{
-    match check_mapped(handler, &rsdp) {
-        Ok(()) => Ok(rsdp),
-        Err(_) => Err(refused_front(rsdp.lent_bytes(), left)),
-    }
-}
-
 /// The RSDP at an address, if it is valid, or else how many candidates from there on are refused,
 /// as far as is known from what was lent there: each 16 bytes after the one before.
 fn tried<'h, H: Lender>(
@@ -146,7 +116,10 @@ fn tried<'h, H: Lender>(
         → IsRefused (H.memory handler.now) (address + 16 * i)) }
 {
     match PhysicalMapping::<'h, H, Rsdp>::map(handler, address, 36) {
-        Ok(rsdp) => valid_or_passed(handler, address, rsdp, left),
+        Ok(rsdp) => match check_mapped(handler, &rsdp) {
+            Ok(()) => Ok(rsdp),
+            Err(_) => Err(refused_front(rsdp.lent_bytes(), left)),
+        },
         Err(_) => Err(1),
     }
 }
@@ -227,6 +200,7 @@ impl Rsdp {
     /// that were lent for one before it hold its 36 bytes, and these show that it isn't valid.
     ///
     /// Fails with `NoValidRsdp` if no candidate is left, also if there are no areas.
+    #[tactic(auto, using(crate::proofs::Agreed::same_in_areas, crate::proofs::Among::found_valid_in, crate::proofs::Among::searched_in))]
     pub fn search_in<'h, H: Lender>(
         handler: &'h H,
         areas: &[AddressRange],

@@ -153,6 +153,7 @@ impl Rsdp {
     ///
     /// Fails with `MapFailed` if the word or an area that is asked for isn't lent, and with
     /// `NoValidRsdp` if no candidate is left.
+    #[tactic(auto, using(crate::proofs::Agreed::same_search, crate::proofs::Search::found_valid, crate::proofs::Search::searched))]
     pub fn search_for_on_bios<'h, H: Lender>(
         handler: &'h H,
     ) -> AcpiResult<PhysicalMapping<'h, H, Rsdp>>

@@ -181,6 +181,7 @@ impl<'h, H: Lender> AcpiTables<'h, H> {
     /// the signature isn't `RSDT` or `XSDT` by the kind, `SdtInvalidOemId` and `SdtInvalidTableId` if that
     /// id is not valid UTF-8, `SdtInvalidLength` if the length is under 36, `MapFailed` if that many bytes
     /// aren't lent, and `SdtInvalidChecksum` if they don't sum to 0 modulo 256.
+    #[tactic(auto, using(crate::proofs::Agreed::same_opened_at))]
     pub fn from_rsdt(handler: &'h H, revision: u8, address: u64) -> AcpiResult<Self>
         requires { Allows (H.may handler.now)
             (opened_ranges (H.memory handler.now) (root_of_revision revision address)) }
