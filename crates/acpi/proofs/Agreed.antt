@@ -1,6 +1,6 @@
 -- Memories that agree on the ranges of a definition have the same answer of it: below a root table, and of what leads
 -- to one.
-use Rattle.std.proofs.Common.{◌≡◌, ℕ, List, [], ◌∷◌, ◌++◌, Option, Some, Result, Ok, Err, refl, ap, ◌∙◌, zero, suc, ◌+◌, None}
+use Rattle.std.proofs.Common.{◌≡◌, ℕ, List, [], ◌∷◌, ◌++◌, Option, Some, Result, Ok, Err, refl, ap, ◌∙◌, length, zero, suc, ◌+◌, None}
 use Rattle.std.specs.Prelude.{filter_map, flat_map}
 use Rattle.std.specs.Result.{result_ok}
 use Rattle.acpi_base.proofs.AllowedRanges.{each_back, each_front}
@@ -11,25 +11,27 @@ use Rattle.acpi_base.specs.Madt.{mailbox_of}
 use Rattle.acpi_base.specs.Mcfg.{mcfg_entries_of}
 use Rattle.acpi_base.specs.Memory.{Memory, at}
 use Rattle.acpi_base.specs.Ranges.{AgreesOn, DependsOn, Footprint, Ranges, own_table_ranges, table_ranges, unless_found}
-use Rattle.acpi_base.specs.Steps.{◌>>=◌, GivesOrFull, lent}
+use Rattle.acpi_base.specs.Steps.{◌>>=◌, lent}
 use Rattle.acpi_base.specs.Table.{Kind, plain_kind, table_at}
-use Rattle.acpi_fixed.specs.Fadt.{dsdt_address_of, fadt_at}
+use Rattle.acpi_fixed.specs.Fadt.{dsdt_address_of, facs_address_of, fadt_at}
+use Rattle.acpi_fixed.specs.declared.fadt.Fadt.{Fadt}
 use Rattle.acpi.proofs.First.{here}
-use Rattle.acpi.specs.Footprint.{FootprintBelow, below, dsdt_ranges, lookup_ranges, platform_ranges, root_ranges}
+use Rattle.acpi.specs.Footprint.{FootprintBelow, below, dsdt_ranges, header_ranges, lookup_ranges, platform_ranges, root_ranges}
 use Rattle.acpi.specs.FootprintLaws.{DsdtDependsOn, FaultsDependOn, HeadersDependOn, HpetDependsOn, LookupDependsOn, MailboxDependsOn, PlatformDependsOn, RegionsDependOn, SsdtsDependOn, OpenedByRsdpDependsOn, OpenedBySearchDependsOn, OpenedDependsOn, RsdpDependsOn, SearchDependsOn}
 use Rattle.acpi.specs.Hpet.{hpet_at, hpet_kind, info_of}
 use Rattle.acpi.specs.Later.{or_later}
 use Rattle.acpi.specs.Lists.{dsdt_stream, fadt_kind, faults_of, own_header_at, stream_at, unless_valid}
 use Rattle.acpi.specs.Lookup.{lookup}
+use Rattle.acpi.specs.Members.{found_at, kind_ranges, members_of, tables_found}
 use Rattle.acpi.specs.Pci.{mcfg_kind}
+use Rattle.acpi.specs.Places.{both_place_ranges, dsdt_place, dsdt_place_ranges, facs_at, facs_length_in, facs_place, facs_place_ranges, facs_ranges, led_by, led_by_ranges, led_ranges, place_at, place_ranges, places_of, range}
 use Rattle.acpi.specs.Platform.{madt_kind, model_in, platform_of}
-use Rattle.acpi.specs.Root.{root_at, root_kind}
+use Rattle.acpi.specs.Root.{root_at, root_kind, root_of_revision}
 use Rattle.acpi.specs.Wake.{mailbox_found}
 use Rattle.acpi.specs.Tables.{kind_of, memory_of, pointers_of, root_address_of, root_of}
-use Rattle.acpi.specs.declared.platform.PlatformInfo.{PlatformInfo}
 use Rattle.acpi.specs.declared.tables.AcpiTables.{AcpiTables}
 use Rattle.acpi_base.specs.declared.error.AcpiError.TheVariants.{NoValidRsdp}
-use Rattle.acpi.specs.Opened.{opened_from}
+use Rattle.acpi.specs.Opened.{opened_at, opened_from}
 use Rattle.acpi.specs.OpenedRanges.{area_ranges, length_ranges, opened_ranges, or_else_ranges, rsdp_ranges, search_ranges, walk_ranges}
 use Rattle.acpi.specs.Rsdp.{check_whole, checked_length, root_of_rsdp, rsdp_at}
 use Rattle.acpi.specs.Search.{count_of, first_area, found_in, found_rsdp, or_else, room_of, second_area, walk, word_in}
@@ -95,6 +97,21 @@ same_stream m n p h = rw (same_table (plain_kind SSDT) m n p h) refl
 pub same_ssdts : SsdtsDependOn
 same_ssdts m n ps h = same_each m n (table_ranges m (plain_kind SSDT)) _ _ (same_stream m n) ps h
 
+pub same_members : DependsOn header_ranges members_of
+unfolding own_header_at
+same_members m n [] h = refl
+same_members m n (p ∷ ps) h =
+    let front = same_own_table m n p (each_front _ (own_table_ranges m p) _ h) in
+    let after = same_members m n ps (each_back _ (own_table_ranges m p) _ h) in
+    rw (front, after) refl
+
+same_found_at : (k : Kind) (m n : Memory) (p : ℕ) → AgreesOn m n (table_ranges m k p) → result_ok (found_at n k p) ≡ result_ok (found_at m k p)
+unfolding found_at
+same_found_at k m n p h = rw (same_table k m n p h) refl
+
+pub same_found : (k : Kind) → DependsOn (λ m. kind_ranges m k) (λ m. tables_found m k)
+same_found k m n ps h = same_each m n (table_ranges m k) _ _ (same_found_at k m n) ps h
+
 -- ---- the DSDT
 
 same_dsdt_at : (m n : Memory) (r : Result ℕ AcpiError)
@@ -104,16 +121,71 @@ unfolding stream_at
 same_dsdt_at m n (Ok a) h = rw (same_table (plain_kind DSDT) m n a h) refl
 same_dsdt_at m n (Err e) h = refl
 
-same_led : (m n : Memory) (r : Result (ℕ × List ℕ) AcpiError)
-    → AgreesOn m n (ranges.◌>>=◌ r (λ f. ranges.◌>>=◌ (dsdt_address_of (fadt_at f.1)) (λ a. table_ranges m (plain_kind DSDT) a)))
-    → (r >>= λ f. dsdt_address_of (fadt_at f.1) >>= λ a. stream_at n DSDT a) ≡ (r >>= λ f. dsdt_address_of (fadt_at f.1) >>= λ a. stream_at m DSDT a)
-same_led m n (Ok f) h = same_dsdt_at m n (dsdt_address_of (fadt_at f.1)) h
-same_led m n (Err e) h = refl
+-- what the first valid FADT leads to
+led_from : {A : Type 0} (place : Memory → Fadt → Result A AcpiError) (of : Memory → Fadt → Ranges) (m n : Memory) → ((f : Fadt) → AgreesOn m n (of m f) → place n f ≡ place m f)
+    → (r : Result (ℕ × List ℕ) AcpiError) → AgreesOn m n (ranges.◌>>=◌ r (λ found. of m (fadt_at found.1)))
+    → (r >>= λ found. place n (fadt_at found.1)) ≡ (r >>= λ found. place m (fadt_at found.1))
+led_from place of m n same (Ok found) h = same (fadt_at found.1) h
+led_from place of m n same (Err e) h = refl
+
+same_led : {A : Type 0} (place : Memory → Fadt → Result A AcpiError) (of : Memory → Fadt → Ranges) (m n : Memory) → ((f : Fadt) → AgreesOn m n (of m f) → place n f ≡ place m f)
+    → (ps : List ℕ) → AgreesOn m n (led_by_ranges of m ps) → led_by place n ps ≡ led_by place m ps
+same_led place of m n same ps h =
+    let front = same_lookup fadt_kind m n ps (each_front _ (lookup_ranges m fadt_kind ps) _ h) in
+    rw front (led_from place of m n same (lookup m fadt_kind ps) (each_back _ (lookup_ranges m fadt_kind ps) _ h))
 
 pub same_dsdt : DsdtDependsOn
 same_dsdt m n ps h =
-    let front = same_lookup fadt_kind m n ps (each_front _ (lookup_ranges m fadt_kind ps) _ h) in
-    rw front (same_led m n (lookup m fadt_kind ps) (each_back _ (lookup_ranges m fadt_kind ps) _ h))
+    same_led (λ o f. dsdt_address_of f >>= λ a. stream_at o DSDT a) dsdt_place_ranges m n (λ f. same_dsdt_at m n (dsdt_address_of f)) ps h
+
+-- ---- places
+
+same_place_at : (m n : Memory) (p : ℕ) → AgreesOn m n (own_table_ranges m p) → result_ok (place_at n p) ≡ result_ok (place_at m p)
+unfolding place_at
+same_place_at m n p h = rw (same_own_table m n p h) refl
+
+module _ (m n : Memory) where
+  dsdt_from : (r : Result ℕ AcpiError) → AgreesOn m n (ranges.◌>>=◌ r (λ a. table_ranges m (plain_kind DSDT) a))
+      → (r >>= λ a. table_at n (plain_kind DSDT) a >>= λ t. Ok (range a (length t))) ≡ (r >>= λ a. table_at m (plain_kind DSDT) a >>= λ t. Ok (range a (length t)))
+  dsdt_from (Ok a) h = rw (same_table (plain_kind DSDT) m n a h) refl
+  dsdt_from (Err e) h = refl
+
+  same_dsdt_place : (f : Fadt) → AgreesOn m n (dsdt_place_ranges m f) → dsdt_place n f ≡ dsdt_place m f
+  unfolding dsdt_place
+  same_dsdt_place f h = dsdt_from (dsdt_address_of f) h
+
+  long_from : (a : ℕ) (r : Result ℕ AcpiError) → AgreesOn m n (ranges.◌>>=◌ r (λ l. (a, l) ∷ []))
+      → (r >>= λ l. lent n a l >>= λ _. Ok (range a l)) ≡ (r >>= λ l. lent m a l >>= λ _. Ok (range a l))
+  long_from a (Ok l) h = rw h.0 refl
+  long_from a (Err e) h = refl
+
+  head_from : (a : ℕ) (r : Result (List ℕ) AcpiError) → AgreesOn m n (ranges.◌>>=◌ r (λ b. ranges.◌>>=◌ (facs_length_in b) (λ l. (a, l) ∷ [])))
+      → (r >>= λ b. facs_length_in b >>= λ l. lent n a l >>= λ _. Ok (range a l)) ≡ (r >>= λ b. facs_length_in b >>= λ l. lent m a l >>= λ _. Ok (range a l))
+  head_from a (Ok b) h = long_from a (facs_length_in b) h
+  head_from a (Err e) h = refl
+
+  same_facs_at : (a : ℕ) → AgreesOn m n (facs_ranges m a) → facs_at n a ≡ facs_at m a
+  unfolding facs_at
+  same_facs_at a h = rw (← h.0) (head_from a (lent m a 36) h.1)
+
+  facs_from : (r : Result ℕ AcpiError) → AgreesOn m n (ranges.◌>>=◌ r (λ a. facs_ranges m a)) → (r >>= λ a. facs_at n a) ≡ (r >>= λ a. facs_at m a)
+  facs_from (Ok a) h = same_facs_at a h
+  facs_from (Err e) h = refl
+
+pub same_facs : DependsOn (led_by_ranges facs_place_ranges) (led_by facs_place)
+same_facs m n ps h = same_led facs_place facs_place_ranges m n (λ f. facs_from m n (facs_address_of f)) ps h
+
+same_led_dsdt : DependsOn led_ranges (led_by dsdt_place)
+same_led_dsdt m n ps h = same_led dsdt_place both_place_ranges m n (λ f both. same_dsdt_place m n f (each_front _ (dsdt_place_ranges m f) _ both)) ps h
+
+same_led_facs : DependsOn led_ranges (led_by facs_place)
+same_led_facs m n ps h = same_led facs_place both_place_ranges m n (λ f both. facs_from m n (facs_address_of f) (each_back _ (dsdt_place_ranges m f) _ both)) ps h
+
+pub same_places : (root : AddressRange) → DependsOn place_ranges (places_of root)
+same_places root m n ps h =
+    let after = each_back _ (header_ranges m ps) _ h in
+    let members = same_each m n (own_table_ranges m) _ _ (same_place_at m n) ps (each_front _ (header_ranges m ps) _ h) in
+    rw (members, same_led_dsdt m n ps after, same_led_facs m n ps after) refl
 
 -- ---- summaries
 
@@ -166,10 +238,9 @@ done x = Ok x
 pub in_ok : {X A : Type 0} (ranges_of : Memory → X → Ranges) (defined : Memory → X → A) → DependsOn ranges_of defined → DependsOn ranges_of (λ m x. done (defined m x))
 in_ok ranges_of defined same m n x h = ap done (same m n x h)
 
-pub platform_from_tables : {H A : Type 0} {h : _} (t : AcpiTables H h) (Asks : Type 0) (r : Result (PlatformInfo A) AcpiError)
-    → result_ok (root_at (memory_of t) (kind_of t) (root_address_of t)) ≡ Some (root_of t)
-    → GivesOrFull Asks r (platform_of (memory_of t) (pointers_of t)) → FootprintBelow t platform_ranges platform_of (GivesOrFull Asks r)
-platform_from_tables t Asks r valid said n h = rw (from_tables t platform_ranges platform_of same_platform valid n h) said
+pub fadt_from_tables : {H : Type 0} {h : _} (t : AcpiTables H h) → result_ok (root_at (memory_of t) (kind_of t) (root_address_of t)) ≡ Some (root_of t)
+    → FootprintBelow t (λ m. lookup_ranges m fadt_kind) (λ m. lookup m fadt_kind) (λ said. lookup (memory_of t) fadt_kind (pointers_of t) ≡ said)
+fadt_from_tables t valid n h = rw (from_tables t (λ m. lookup_ranges m fadt_kind) (λ m. lookup m fadt_kind) (same_lookup fadt_kind) valid n h) refl
 
 pub dsdt_from_tables : {H : Type 0} {h : _} (t : AcpiTables H h) → result_ok (root_at (memory_of t) (kind_of t) (root_address_of t)) ≡ Some (root_of t)
     → FootprintBelow t dsdt_ranges dsdt_stream (λ said. dsdt_stream (memory_of t) (pointers_of t) ≡ said)
@@ -252,6 +323,9 @@ same_search m n h = rw (same_word m n h.0) (same_areas m n (word_in m) h.1)
 
 pub same_opened : OpenedDependsOn
 same_opened m n place h = rw (same_table (root_kind place.kind) m n place.address h) refl
+
+pub same_opened_at : (m n : Memory) (revision address : ℕ) → AgreesOn m n (opened_ranges m (root_of_revision revision address)) → opened_at n (revision, address) ≡ opened_at m (revision, address)
+same_opened_at m n revision address h = same_opened m n (root_of_revision revision address) h
 
 same_by_rsdp : (m n : Memory) (r : Result (List ℕ) AcpiError) → AgreesOn m n (ranges.◌>>=◌ r (λ b. opened_ranges m (root_of_rsdp b)))
     → (r >>= λ b. opened_from n (root_of_rsdp b)) ≡ (r >>= λ b. opened_from m (root_of_rsdp b))

@@ -11,7 +11,8 @@ use Rattle.acpi_base.specs.Ranges.{Allows, Ranges, table_ranges, unless_found}
 use Rattle.acpi_base.specs.Steps.{lent}
 use Rattle.acpi_base.specs.Table.{Kind, plain_kind, table_at}
 use Rattle.acpi_fixed.specs.Fadt.{dsdt_address_of, fadt_at}
-use Rattle.acpi.specs.Footprint.{dsdt_ranges, lookup_ranges, platform_ranges}
+use Rattle.acpi_fixed.specs.declared.fadt.Fadt.{Fadt}
+use Rattle.acpi.specs.Footprint.{dsdt_ranges, header_ranges, lookup_ranges}
 use Rattle.acpi.specs.Lists.{fadt_kind, faults_of, unless_valid}
 use Rattle.acpi.specs.Lookup.{lookup}
 use Rattle.acpi.specs.Opened.{Opened, opened_from}
@@ -19,7 +20,7 @@ use Rattle.acpi.specs.Root.{pointers, width_of}
 use Rattle.acpi.specs.declared.records.TableFault.{TableFault}
 use Rattle.acpi.specs.declared.root.RootPointer.{RootPointer}
 use Rattle.acpi.specs.OpenedRanges.{root_and_ranges, area_ranges, opened_by_rsdp_ranges, opened_by_search_ranges, opened_ranges, rsdp_ranges, search_ranges, walk_ranges}
-use Rattle.acpi.specs.Platform.{madt_kind}
+use Rattle.acpi.specs.Places.{both_place_ranges, dsdt_place_ranges, facs_place_ranges, led_by_ranges, led_ranges, place_ranges}
 use Rattle.acpi.specs.Rsdp.{root_of_rsdp, rsdp_at}
 use Rattle.acpi.specs.Search.{count_of, first_area, found_in, found_rsdp, room_of, second_area, word_in}
 use Rattle.acpi.specs.declared.rsdp.area.Area.{Area}
@@ -91,21 +92,32 @@ module _ (may : ℕ → ℕ → Bool) where
   asked_kept of all ps None is h = rw is.1 (rw is.0 at h)
   asked_kept of all ps (Some p) is h = asked_others of p all ps is h
 
-  -- ---- the DSDT and the platform
+  -- ---- the FADT, and what it leads to
 
-  pub asked_fadt : (m : Memory) (ps : List ℕ) → Allows may (dsdt_ranges m ps) → Allows may (lookup_ranges m fadt_kind ps)
-  asked_fadt m ps h = all_front may (lookup_ranges m fadt_kind ps) _ h
+  pub asked_fadt : (place : Memory → Fadt → Ranges) (m : Memory) (ps : List ℕ) → Allows may (led_by_ranges place m ps) → Allows may (lookup_ranges m fadt_kind ps)
+  asked_fadt place m ps h = all_front may (lookup_ranges m fadt_kind ps) _ h
+
+  pub asked_place : (place : Memory → Fadt → Ranges) (m : Memory) (ps : List ℕ) (found : ℕ × List ℕ) → Allows may (led_by_ranges place m ps) → lookup m fadt_kind ps ≡ Ok found
+      → Allows may (place m (fadt_at found.1))
+  asked_place place m ps found h there = rw there at (all_back may (lookup_ranges m fadt_kind ps) _ h)
 
   pub asked_dsdt : (m : Memory) (ps : List ℕ) (found : ℕ × List ℕ) (a : ℕ) → Allows may (dsdt_ranges m ps) → lookup m fadt_kind ps ≡ Ok found
       → dsdt_address_of (fadt_at found.1) ≡ Ok a → Allows may (table_ranges m (plain_kind DSDT) a)
-  asked_dsdt m ps found a h there address = rw (there, address) at (all_back may (lookup_ranges m fadt_kind ps) _ h)
+  asked_dsdt m ps found a h there address = rw address at (asked_place dsdt_place_ranges m ps found h there)
 
-  pub asked_profile : (m : Memory) (ps : List ℕ) → Allows may (platform_ranges m ps) → Allows may (lookup_ranges m fadt_kind ps)
-  asked_profile m ps h = all_front may (lookup_ranges m fadt_kind ps) _ h
+  pub asked_members : (m : Memory) (ps : List ℕ) → Allows may (place_ranges m ps) → Allows may (header_ranges m ps)
+  asked_members m ps h = all_front may (header_ranges m ps) _ h
 
-  pub asked_model : (m : Memory) (ps : List ℕ) (found : ℕ × List ℕ) → Allows may (platform_ranges m ps) → lookup m fadt_kind ps ≡ Ok found
-      → Allows may (lookup_ranges m madt_kind ps)
-  asked_model m ps found h there = rw there at (all_back may (lookup_ranges m fadt_kind ps) _ h)
+  pub asked_led : (m : Memory) (ps : List ℕ) → Allows may (place_ranges m ps) → Allows may (led_ranges m ps)
+  asked_led m ps h = all_back may (header_ranges m ps) _ h
+
+  pub asked_dsdt_place : (m : Memory) (ps : List ℕ) (found : ℕ × List ℕ) → Allows may (led_ranges m ps) → lookup m fadt_kind ps ≡ Ok found
+      → Allows may (dsdt_place_ranges m (fadt_at found.1))
+  asked_dsdt_place m ps found h there = all_front may (dsdt_place_ranges m (fadt_at found.1)) _ (asked_place both_place_ranges m ps found h there)
+
+  pub asked_facs_place : (m : Memory) (ps : List ℕ) (found : ℕ × List ℕ) → Allows may (led_ranges m ps) → lookup m fadt_kind ps ≡ Ok found
+      → Allows may (facs_place_ranges m (fadt_at found.1))
+  asked_facs_place m ps found h there = all_back may (dsdt_place_ranges m (fadt_at found.1)) _ (asked_place both_place_ranges m ps found h there)
 
   -- ---- the RSDP
 

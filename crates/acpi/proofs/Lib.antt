@@ -6,6 +6,5 @@ pub mod Calls
 pub mod First
 pub mod Moved
 pub mod Places
-pub mod Placing
 pub mod Search
 pub mod Spelled

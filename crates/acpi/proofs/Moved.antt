@@ -7,7 +7,7 @@ use Rattle.acpi_base.specs.Header.{check_table, header_at}
 use Rattle.acpi_base.specs.Mcfg.{mcfg_entries_of}
 use Rattle.acpi_base.specs.Memory.{Memory}
 use Rattle.acpi_base.specs.Model as model
-use Rattle.acpi_base.specs.Steps.{◌>>=◌, GivesOrFull}
+use Rattle.acpi_base.specs.Steps.{◌>>=◌}
 use Rattle.acpi_base.specs.Table.{kind, own_table_at, table_at}
 use Rattle.acpi_base.specs.declared.error.AcpiError.{AcpiError}
 use Rattle.acpi_base.specs.declared.error.AcpiError.TheVariants.{TableMissing}
@@ -22,10 +22,9 @@ use Rattle.acpi.specs.Later.{or_later}
 use Rattle.acpi.specs.Lists.{fadt_kind, own_header_at, valid_headers, valid_tables}
 use Rattle.acpi.specs.Lookup.{lookup}
 use Rattle.acpi.specs.Platform.{madt_kind, model_in, platform_of}
-use Rattle.acpi.specs.Relocation.{FollowsTables, HeadersFollow, HpetFollows, LookupFollows, PlatformFollows, RegionsFollow, Relocation, bytes_found}
+use Rattle.acpi.specs.Relocation.{FollowsTables, HeadersFollow, HpetFollows, LookupFollows, PlatformFollows, RegionsFollow, bytes_found}
 use Rattle.acpi.specs.Root.{pointers, root_at, width_of}
 use Rattle.acpi.specs.Tables.{memory_of, pointers_of}
-use Rattle.acpi.specs.declared.platform.PlatformInfo.{PlatformInfo}
 use Rattle.acpi.specs.declared.root.RootKind.{RootKind}
 use Rattle.acpi.specs.declared.tables.AcpiTables.{AcpiTables}
 
@@ -133,7 +132,3 @@ moved_tables t defined follows n kind address same =
 
 pub in_ok_follows : {A : Type 0} (defined : Memory → List ℕ → A) → FollowsTables defined → FollowsTables (λ m ps. done (defined m ps))
 in_ok_follows defined follows m n ps qs e = ap done (follows m n ps qs e)
-
-pub platform_moved : {H A : Type 0} {h : _} (t : AcpiTables H h) (Asks : Type 0) (r : Result (PlatformInfo A) AcpiError)
-    → GivesOrFull Asks r (platform_of (memory_of t) (pointers_of t)) → Relocation t platform_of (GivesOrFull Asks r)
-platform_moved t Asks r said n kind address same = rw (moved_tables t platform_of platform_follows n kind address same) said

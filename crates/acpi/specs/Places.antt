@@ -101,8 +101,11 @@ led_by_ranges place m ps = lookup_ranges m fadt_kind ps
     ++ ranges.◌>>=◌ (lookup m fadt_kind ps) (λ found. place m (fadt_at found.1))
 
 -- those of the DSDT and the FACS
+abbrev pub both_place_ranges : Memory → Fadt → Ranges
+both_place_ranges m f = dsdt_place_ranges m f ++ facs_place_ranges m f
+
 abbrev pub led_ranges : Memory → List ℕ → Ranges
-led_ranges = led_by_ranges (λ m f. dsdt_place_ranges m f ++ facs_place_ranges m f)
+led_ranges = led_by_ranges both_place_ranges
 
 -- those of `places_of`: each member's, under its own signature, and those of what the FADT leads to
 abbrev pub place_ranges : Memory → List ℕ → Ranges

@@ -103,14 +103,6 @@ impl<A: Allocator + Clone> PlatformInfo<A> {
         // It is the same wherever the valid tables lie.
         ensures relocation { PlatformRelocation tables.now result }
     {
-        PlatformInfo::new_in_exact(tables, allocator)
-    }
-
-    /// What `new_in` returns: it looks the first valid FADT up, and then the first valid MADT.
-    fn new_in_exact<H: Lender>(tables: &AcpiTables<'_, H>, allocator: A) -> AcpiResult<Self>
-        requires { AllowsBelow tables.now platform_ranges }
-        ensures { GivesPlatform tables.now result }
-    {
         let fadt = tables.find_fadt_exact()?;
         let (interrupt_model, processor_info) = found_model(tables, allocator)?;
         let pm_timer = PmTimer::of(&fadt)?;

@@ -136,6 +136,7 @@ impl<'h, H: Lender> AcpiTables<'h, H> {
     /// field of it is read when it is asked for.
     ///
     /// Fails as `find_table` does.
+    #[tactic(auto, using(crate::proofs::Agreed::fadt_from_tables))]
     pub fn find_fadt(&self) -> AcpiResult<FadtView<'h, H>>
         requires { AllowsBelow self.now (λ m. lookup_ranges m fadt_kind) }
         ensures handler { IfOk result (λ v. handler_of v.mapping ≡ lender_of self.now) }

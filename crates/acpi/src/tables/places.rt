@@ -118,17 +118,6 @@ impl<'h, H: Lender> AcpiTables<'h, H> {
             (λ n. lookup n (plain_kind signature))
             (Gives (λ m. (start_of m, bytes_of m)) result) }
     {
-        self.find_sdt_exact(signature)
-    }
-
-    /// What `find_sdt` answers: it walks the members to the first one that is valid so.
-    fn find_sdt_exact(&self, signature: Signature) -> AcpiResult<PhysicalMapping<'h, H, SdtHeader>>
-        requires { AllowsBelow self.now (λ m. lookup_ranges m (plain_kind signature)) }
-        ensures handler { IfOk result (λ m. handler_of m ≡ lender_of self.now) }
-        ensures lent { IfOk result (λ m. IsOfMemory (memory_of self.now) m) }
-        ensures exact { Gives (λ m. (start_of m, bytes_of m)) result
-            (of_tables self.now (λ m. lookup m (plain_kind signature))) }
-    {
         for address in self.pointers() {
             if let Ok(found) = map_sdt(self.root.handler(), address, signature) {
                 return Ok(found);
@@ -175,15 +164,6 @@ impl<'h, H: Lender> AcpiTables<'h, H> {
         ensures footprint { FootprintBelow self.now place_ranges
             (λ n ps. Ok (places_of (root_place self.now) n ps))
             (λ said. said ≡ Ok (places_left H.memory result)) }
-    {
-        self.ranges_exact()
-    }
-
-    /// What `ranges` answers: it looks the FADT up here, and each member when its range is asked for.
-    fn ranges_exact(&self) -> TableRanges<'_, 'h, H>
-        requires { AllowsBelow self.now place_ranges }
-        ensures { places_left H.memory result
-            ≡ of_tables self.now (places_of (root_place self.now)) }
     {
         let root = AddressRange {
             address: self.root_address(),

@@ -1,9 +1,42 @@
-use Rattle.acpi.proofs.Agreed.{platform_from_tables}
-use Rattle.acpi.proofs.Moved.{platform_moved}
+use Rattle.std.proofs.Common.{rules}
+use Rattle.acpi.proofs.Agreed.{from_tables, same_platform}
+use Rattle.acpi.proofs.Asked.{asked_fadt, asked_place}
+use Rattle.acpi.proofs.Moved.{moved_tables, platform_follows}
+use Rattle.acpi.specs.Footprint.{lookup_ranges}
+use Rattle.acpi.specs.Platform.{madt_kind}
+use Rattle.acpi.specs.Tables.{may_of, memory_of, pointers_of}
 use Rattle.acpi.proofs.platform.PlatformInfo.new_in.Goals as goal
 
+pub find_fadt_exact-requires : goal.find_fadt_exact-requires
+find_fadt_exact-requires g c =
+    let t = c.args.tables.now in
+    asked_fadt (may_of t) (λ m f. lookup_ranges m madt_kind (pointers_of t)) (memory_of t) (pointers_of t) c.requires
+
+pub found_model-requires : goal.found_model-requires
+found_model-requires g c =
+    let t = c.args.tables.now in
+    asked_place (may_of t) (λ m f. lookup_ranges m madt_kind (pointers_of t)) (memory_of t) (pointers_of t) _ c.requires c.in_ok-fadt.ensures.found
+
+pub returns-in_err-fadt-clause-footprint : goal.returns-in_err-fadt-clause-footprint
+returns-in_err-fadt-clause-footprint g c = λ n h. rw (from_tables c.args.tables.now _ _ (same_platform {A = g.row.A.Denot}) c.args.tables.now.valid n h) (search rules)
+
+pub returns-in_err-fadt-clause-relocation : goal.returns-in_err-fadt-clause-relocation
+returns-in_err-fadt-clause-relocation g c = λ n kind address same. rw (moved_tables c.args.tables.now _ (platform_follows {A = g.row.A.Denot}) n kind address same) (search rules)
+
+pub returns-in_err-interrupt_model-clause-footprint : goal.returns-in_err-interrupt_model-clause-footprint
+returns-in_err-interrupt_model-clause-footprint g c = λ n h. rw (from_tables c.args.tables.now _ _ (same_platform {A = g.row.A.Denot}) c.args.tables.now.valid n h) (search rules)
+
+pub returns-in_err-interrupt_model-clause-relocation : goal.returns-in_err-interrupt_model-clause-relocation
+returns-in_err-interrupt_model-clause-relocation g c = λ n kind address same. rw (moved_tables c.args.tables.now _ (platform_follows {A = g.row.A.Denot}) n kind address same) (search rules)
+
+pub returns-in_err-pm_timer-clause-footprint : goal.returns-in_err-pm_timer-clause-footprint
+returns-in_err-pm_timer-clause-footprint g c = λ n h. rw (from_tables c.args.tables.now _ _ (same_platform {A = g.row.A.Denot}) c.args.tables.now.valid n h) (search rules)
+
+pub returns-in_err-pm_timer-clause-relocation : goal.returns-in_err-pm_timer-clause-relocation
+returns-in_err-pm_timer-clause-relocation g c = λ n kind address same. rw (moved_tables c.args.tables.now _ (platform_follows {A = g.row.A.Denot}) n kind address same) (search rules)
+
 pub returns-clause-footprint : goal.returns-clause-footprint
-returns-clause-footprint g c = platform_from_tables c.args.tables.now _ _ c.args.tables.now.valid c.new_in_exact.ensures
+returns-clause-footprint g c = λ n h. rw (from_tables c.args.tables.now _ _ (same_platform {A = g.row.A.Denot}) c.args.tables.now.valid n h) (search rules)
 
 pub returns-clause-relocation : goal.returns-clause-relocation
-returns-clause-relocation g c = platform_moved c.args.tables.now _ _ c.new_in_exact.ensures
+returns-clause-relocation g c = λ n kind address same. rw (moved_tables c.args.tables.now _ (platform_follows {A = g.row.A.Denot}) n kind address same) (search rules)

@@ -3,13 +3,14 @@ use Rattle.acpi_base.specs.Ranges.{Allows, table_ranges}
 use Rattle.acpi_base.specs.Table.{plain_kind}
 use Rattle.acpi_base.specs.declared.table.signature.TheConstants.Signature.{DSDT}
 use Rattle.acpi.proofs.Asked.{asked_dsdt, asked_fadt}
+use Rattle.acpi.specs.Places.{dsdt_place_ranges}
 use Rattle.acpi.specs.Tables.{may_of, memory_of, pointers_of}
 use Rattle.acpi.proofs.tables.AcpiTables.dsdt_exact.Goals as goal
 
 pub find_fadt_exact-requires : goal.find_fadt_exact-requires
 find_fadt_exact-requires g c =
     let t = c.args.self.now in
-    asked_fadt (may_of t) (memory_of t) (pointers_of t) c.requires
+    asked_fadt (may_of t) dsdt_place_ranges (memory_of t) (pointers_of t) c.requires
 
 pub stream_at-requires : goal.stream_at-requires
 stream_at-requires g c =

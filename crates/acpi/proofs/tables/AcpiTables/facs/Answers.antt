@@ -1,6 +1,6 @@
 use Rattle.std.proofs.Common.{rules}
-use Rattle.acpi.proofs.Agreed.{from_tables}
-use Rattle.acpi.proofs.Placing.{asked_led_fadt, asked_place, same_facs}
+use Rattle.acpi.proofs.Agreed.{from_tables, same_facs}
+use Rattle.acpi.proofs.Asked.{asked_fadt, asked_place}
 use Rattle.acpi.specs.Places.{facs_place_ranges}
 use Rattle.acpi.specs.Tables.{may_of, memory_of, pointers_of}
 use Rattle.acpi.proofs.tables.AcpiTables.facs.Goals as goal
@@ -8,7 +8,7 @@ use Rattle.acpi.proofs.tables.AcpiTables.facs.Goals as goal
 pub find_fadt_exact-requires : goal.find_fadt_exact-requires
 find_fadt_exact-requires g c =
     let t = c.args.self.now in
-    asked_led_fadt (may_of t) facs_place_ranges (memory_of t) (pointers_of t) c.requires
+    asked_fadt (may_of t) facs_place_ranges (memory_of t) (pointers_of t) c.requires
 
 pub facs_place-requires : goal.facs_place-requires
 facs_place-requires g c =

@@ -1,11 +1,12 @@
-use Rattle.acpi.proofs.Placing.{asked_dsdt_place, asked_facs_place, asked_led_fadt, places_ranges}
+use Rattle.acpi.proofs.Asked.{asked_dsdt_place, asked_facs_place, asked_fadt}
+use Rattle.acpi.specs.Places.{both_place_ranges}
 use Rattle.acpi.specs.Tables.{may_of, memory_of, pointers_of}
 use Rattle.acpi.proofs.tables.AcpiTables.led.Goals as goal
 
 pub find_fadt_exact-requires : goal.find_fadt_exact-requires
 find_fadt_exact-requires g c =
     let t = c.args.self.now in
-    asked_led_fadt (may_of t) places_ranges (memory_of t) (pointers_of t) c.requires
+    asked_fadt (may_of t) both_place_ranges (memory_of t) (pointers_of t) c.requires
 
 pub dsdt_place-requires : goal.dsdt_place-requires
 dsdt_place-requires g c =

@@ -5,7 +5,7 @@ use Rattle.acpi.specs.Footprint.{lookup_ranges}
 use Rattle.acpi.specs.Lookup.{lookup}
 use Rattle.acpi.specs.Pointers.{pointers_left}
 use Rattle.acpi.specs.Tables.{lender_of, may_of, pointers_of}
-use Rattle.acpi.proofs.tables.AcpiTables.find_sdt_exact.Given as goal
+use Rattle.acpi.proofs.tables.AcpiTables.find_sdt.Given as goal
 
 -- no pointer that was passed leads to a valid table
 abbrev pub invariant-loop-address : goal.invariant-loop-address
