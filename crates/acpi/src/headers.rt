@@ -4,6 +4,7 @@ ghost use Rattle.acpi_base.specs.Ranges.{Allows};
 ghost use Rattle.acpi.specs.Footprint.{header_ranges};
 ghost use Rattle.acpi.specs.Pointers.{pointers_left};
 
+use crate::listed::{Listed, next_listed};
 use crate::members::own_header;
 use crate::pointers::Pointers;
 use acpi_base::Lender;
@@ -45,11 +46,20 @@ impl<H: Lender> Iterator for SdtHeaderIterator<'_, '_, H> {
     ghost remaining = { item_count (headers_left H.memory) };
 
     fn next(&mut self) -> Option<SdtHeader> {
-        while let Some(address) = self.pointers.next() {
-            if let Ok(header) = own_header(self.handler, address) {
-                return Some(header);
-            }
-        }
-        None
+        next_listed(self.handler, &mut self.pointers)
+    }
+}
+
+impl Listed for SdtHeader {
+    ghost use Rattle.std.specs.Result.{result_ok};
+    ghost use Rattle.acpi_base.specs.Ranges.{own_table_ranges};
+    ghost use Rattle.acpi.specs.Lists.{own_header_at};
+
+    ghost ranges = { own_table_ranges };
+
+    ghost found = { λ m p. result_ok (own_header_at m p) };
+
+    fn at<H: Lender>(handler: &H, address: u64) -> Option<SdtHeader> {
+        own_header(handler, address).ok()
     }
 }

@@ -9,6 +9,7 @@ mod found;
 pub mod handler;
 mod headers;
 pub mod hpet;
+mod listed;
 pub mod mcfg;
 mod members;
 pub mod platform;

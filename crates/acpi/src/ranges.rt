@@ -8,6 +8,7 @@ ghost use Rattle.acpi.specs.Footprint.{header_ranges};
 ghost use Rattle.acpi.specs.Places.{facs_at, facs_length, facs_ranges, place_at};
 ghost use Rattle.acpi.specs.Pointers.{pointers_left};
 
+use crate::listed::{Listed, next_listed};
 use crate::pointers::Pointers;
 use acpi_base::sdt::{SdtHeader, map_own_sdt};
 use acpi_base::{
@@ -70,10 +71,8 @@ impl<H: Lender> Iterator for TableRanges<'_, '_, H> {
         if let Some(root) = self.root.take() {
             return Some(root);
         }
-        while let Some(address) = self.pointers.next() {
-            if let Ok(place) = own_place(self.handler, address) {
-                return Some(place);
-            }
+        if let Some(place) = next_listed(self.handler, &mut self.pointers) {
+            return Some(place);
         }
         if let Some(dsdt) = self.dsdt.take() {
             return Some(dsdt);
@@ -82,18 +81,21 @@ impl<H: Lender> Iterator for TableRanges<'_, '_, H> {
     }
 }
 
-/// Where the table at an address lies, if it is valid under the signature that it has.
-#[tactic(auto, unfolding(crate::specs::Places::place_at))]
-fn own_place<H: Lender>(handler: &H, address: u64) -> AcpiResult<AddressRange>
-    requires { Allows (H.may handler.now) (own_table_ranges (H.memory handler.now) address) }
-    ensures { result ≡ place_at (H.memory handler.now) address }
-{
-    match map_own_sdt(handler, address) {
-        Ok(table) => Ok(AddressRange {
-            address,
-            length: table.region_length() as u64,
-        }),
-        Err(error) => Err(error),
+/// Where a table lies that is valid under the signature that it has.
+impl Listed for AddressRange {
+    ghost ranges = { own_table_ranges };
+
+    ghost found = { λ m p. result_ok (place_at m p) };
+
+    #[tactic(auto, unfolding(crate::specs::Places::place_at))]
+    fn at<H: Lender>(handler: &H, address: u64) -> Option<AddressRange> {
+        match map_own_sdt(handler, address) {
+            Ok(table) => Some(AddressRange {
+                address,
+                length: table.region_length() as u64,
+            }),
+            Err(_) => None,
+        }
     }
 }
 

@@ -4,6 +4,7 @@ ghost use Rattle.acpi_base.specs.Ranges.{Allows};
 ghost use Rattle.acpi.specs.Footprint.{ssdt_ranges};
 ghost use Rattle.acpi.specs.Pointers.{pointers_left};
 
+use crate::listed::{Listed, next_listed};
 use crate::pointers::Pointers;
 use crate::records::{AmlTable, stream_at};
 use acpi_base::Lender;
@@ -45,11 +46,23 @@ impl<H: Lender> Iterator for SsdtIterator<'_, '_, H> {
     ghost remaining = { item_count (ssdts_left H.memory) };
 
     fn next(&mut self) -> Option<AmlTable> {
-        while let Some(address) = self.pointers.next() {
-            if let Ok(table) = stream_at(self.handler, Signature::SSDT, address) {
-                return Some(table);
-            }
-        }
-        None
+        next_listed(self.handler, &mut self.pointers)
+    }
+}
+
+/// That of an SSDT.
+impl Listed for AmlTable {
+    ghost use Rattle.std.specs.Result.{result_ok};
+    ghost use Rattle.acpi_base.specs.Ranges.{table_ranges};
+    ghost use Rattle.acpi_base.specs.Table.{plain_kind};
+    ghost use Rattle.acpi_base.specs.declared.table.signature.TheConstants.Signature.{SSDT};
+    ghost use Rattle.acpi.specs.Lists as lists;
+
+    ghost ranges = { λ m. table_ranges m (plain_kind SSDT) };
+
+    ghost found = { λ m p. result_ok (lists.stream_at m SSDT p) };
+
+    fn at<H: Lender>(handler: &H, address: u64) -> Option<AmlTable> {
+        stream_at(handler, Signature::SSDT, address).ok()
     }
 }
