@@ -1,6 +1,6 @@
 -- What may be asked for below a root table: each part of the ranges of a definition.
 use Rattle.std.proofs.Common.{refl, ap, sym, drop, slice_get, ◌≡◌, ℕ, zero, suc, ◌+◌, ◌-◌, ◌*◌, ◌<◌, List, [], ◌∷◌, ◌++◌, Bool, subst, Option, Some, None, Result, Ok, Err, arith}
-use Rattle.std.specs.Prelude.{IsOk, MatchOption, flat_map}
+use Rattle.std.specs.Prelude.{IfSome, IsOk, MatchOption, flat_map}
 use Rattle.std.proofs.lemmas.Option.{get_or_from_slice_get}
 use Rattle.acpi_base.proofs.AllowedRanges.{all_back, all_front, all_rest}
 use Rattle.acpi_base.specs.declared.error.AcpiError.{AcpiError}
@@ -86,6 +86,11 @@ module _ (may : ℕ → ℕ → Bool) where
 
   pub asked_others : (of : ℕ → Ranges) (p : ℕ) (all ps : List ℕ) → all ≡ p ∷ ps → Allows may (flat_map of all) → Allows may (flat_map of ps)
   asked_others of p all ps is h = all_back may (of p) _ (rw is at h)
+
+  pub asked_now : (of : ℕ → Ranges) (all ps : List ℕ) (r : Option ℕ) → MatchOption r ((all ≡ []) × (ps ≡ [])) (λ p. all ≡ p ∷ ps)
+      → Allows may (flat_map of all) → IfSome r (λ p. Allows may (of p))
+  asked_now of all ps None is h = tt
+  asked_now of all ps (Some p) is h = asked_each of p all ps is h
 
   pub asked_kept : (of : ℕ → Ranges) (all ps : List ℕ) (r : Option ℕ) → MatchOption r ((all ≡ []) × (ps ≡ [])) (λ p. all ≡ p ∷ ps)
       → Allows may (flat_map of all) → Allows may (flat_map of ps)

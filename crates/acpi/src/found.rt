@@ -4,6 +4,7 @@ ghost use Rattle.acpi_base.specs.Ranges.{Allows};
 ghost use Rattle.acpi.specs.Members.{kind_ranges};
 ghost use Rattle.acpi.specs.Pointers.{pointers_left};
 
+use crate::listed::{Asked, next_asked};
 use crate::pointers::Pointers;
 use acpi_base::sdt::map_table;
 use acpi_base::{AcpiTable, Lender, PhysicalMapping};
@@ -53,11 +54,21 @@ impl<'h, H: Lender, T: AcpiTable> Iterator for FoundTables<'_, 'h, H, T> {
 
     #[tactic(auto, unfolding(crate::specs::Members::found_at))]
     fn next(&mut self) -> Option<PhysicalMapping<'h, H, T>> {
-        while let Some(address) = self.pointers.next() {
+        while let Some(address) = next_asked::<H, PhantomData<T>>(
+            self.handler,
+            &mut self.pointers,
+        ) {
             if let Ok(table) = map_table::<H, T>(self.handler, address) {
                 return Some(table);
             }
         }
         None
     }
+}
+
+/// A table that is valid for `T`.
+impl<T: AcpiTable> Asked for PhantomData<T> {
+    ghost use Rattle.acpi_base.specs.Ranges.{table_ranges};
+
+    ghost ranges = { λ m. table_ranges m T.kind };
 }

@@ -4,7 +4,7 @@ ghost use Rattle.acpi_base.specs.Ranges.{Allows};
 ghost use Rattle.acpi.specs.Footprint.{header_ranges};
 ghost use Rattle.acpi.specs.Pointers.{pointers_left};
 
-use crate::listed::{Listed, next_listed};
+use crate::listed::{Asked, Listed, next_listed};
 use crate::members::own_header;
 use crate::pointers::Pointers;
 use acpi_base::Lender;
@@ -50,12 +50,15 @@ impl<H: Lender> Iterator for SdtHeaderIterator<'_, '_, H> {
     }
 }
 
-impl Listed for SdtHeader {
-    ghost use Rattle.std.specs.Result.{result_ok};
+impl Asked for SdtHeader {
     ghost use Rattle.acpi_base.specs.Ranges.{own_table_ranges};
-    ghost use Rattle.acpi.specs.Lists.{own_header_at};
 
     ghost ranges = { own_table_ranges };
+}
+
+impl Listed for SdtHeader {
+    ghost use Rattle.std.specs.Result.{result_ok};
+    ghost use Rattle.acpi.specs.Lists.{own_header_at};
 
     ghost found = { λ m p. result_ok (own_header_at m p) };
 

@@ -1,26 +1,49 @@
 //! What the pointers of a root table lead to, without what isn't valid.
-ghost use Rattle.std.specs.Prelude.{◌≡◌, ◌∷◌, [], MatchOption, filter_map, flat_map};
+ghost use Rattle.std.specs.Prelude.{◌≡◌, ◌∷◌, [], IfSome, MatchOption, filter_map, flat_map};
+ghost use Rattle.std.specs.Iterator.{YieldsFirst};
 ghost use Rattle.acpi_base.specs.Ranges.{Allows};
 ghost use Rattle.acpi.specs.Pointers.{pointers_left};
 
 use crate::pointers::Pointers;
 use acpi_base::Lender;
 
-/// What a pointer may lead to.
-pub(crate) trait Listed: Sized {
-    ghost use Rattle.std.specs.Prelude.{ℕ, Option};
+/// What is asked for at the address that a pointer gives.
+pub(crate) trait Asked {
+    ghost use Rattle.std.specs.Prelude.{ℕ};
     ghost use Rattle.acpi_base.specs.Memory.{Memory};
     ghost use Rattle.acpi_base.specs.Ranges.{Ranges};
 
-    // The ranges that are asked for at an address.
+    // These ranges of a memory.
     ghost ranges: { Memory → ℕ → Ranges };
+}
+
+/// The pointer that comes next, which is passed: what it leads to may be asked for.
+#[inline(always)]
+pub(crate) fn next_asked<H: Lender, M: Asked>(
+    handler: &H,
+    pointers: &mut Pointers<'_>,
+) -> Option<u64>
+    requires { Allows (H.may handler.now)
+        (flat_map (M.ranges (H.memory handler.now)) (pointers_left pointers.old)) }
+    ensures here { IfSome result (λ p. Allows (H.may handler.now) (M.ranges (H.memory handler.now) p)) }
+    ensures left { Allows (H.may handler.now)
+        (flat_map (M.ranges (H.memory handler.now)) (pointers_left pointers.new)) }
+    ensures steps { YieldsFirst (λ s. pointers_left s) pointers.old result pointers.new }
+{
+    pointers.next()
+}
+
+/// What a pointer may lead to.
+pub(crate) trait Listed: Asked + Sized {
+    ghost use Rattle.std.specs.Prelude.{ℕ, Option};
+    ghost use Rattle.acpi_base.specs.Memory.{Memory};
 
     // What is there, if it is valid.
     ghost found: { Memory → ℕ → Option Self };
 
     /// What is at an address, if it is valid.
     fn at<H: Lender>(handler: &H, address: u64) -> Option<Self>
-        requires { Allows (H.may handler.now) (ranges (H.memory handler.now) address) }
+        requires { Allows (H.may handler.now) (Self.ranges (H.memory handler.now) address) }
         ensures { result ≡ found (H.memory handler.now) address };
 }
 
@@ -40,7 +63,7 @@ pub(crate) fn next_listed<H: Lender, M: Listed>(
         (λ x. filter_map (M.found (H.memory handler.now)) (pointers_left pointers.old)
         ≡ x ∷ filter_map (M.found (H.memory handler.now)) (pointers_left pointers.new)) }
 {
-    while let Some(address) = pointers.next() {
+    while let Some(address) = next_asked::<H, M>(handler, pointers) {
         if let Some(item) = M::at(handler, address) {
             return Some(item);
         }

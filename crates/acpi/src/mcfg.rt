@@ -1,5 +1,6 @@
 //! The addresses of the configuration space of PCI functions, by the MCFG.
 ghost use Rattle.std.specs.Prelude.{◌≡◌, ◌<◌, ◌≤◌, List, [], vec_capacity, vec_len, IfOk, IfSome, IsOk};
+ghost use Rattle.std.specs.Option.{option_copied};
 ghost use Rattle.acpi_base.specs.Mcfg.{mcfg_entries_left};
 ghost use Rattle.acpi.specs.Pci.{function_address, is_of, region_of};
 ghost use Rattle.acpi_base.specs.declared.tables.mcfg.McfgEntry.{McfgEntry};
@@ -136,7 +137,7 @@ impl<A: Allocator> PciConfigRegions<A> {
             return None;
         }
         match region_for(self.regions.as_slice(), segment, bus) {
-            Some(region) => function_address(&region, bus, device, function),
+            Some(region) => function_address(region, bus, device, function),
             None => None,
         }
     }
@@ -169,16 +170,11 @@ fn collected<A: Allocator>(
 
 /// The first region of a segment group that holds a bus.
 #[tactic(auto, unfolding(crate::specs::Pci::region_of))]
-fn region_for(regions: &[McfgEntry], segment: u16, bus: u8) -> Option<McfgEntry>
-    ensures found { result ≡ region_of regions.now segment bus }
-    ensures holds { IfSome result (λ e. (e.bus_number_start ≤ bus) × (bus ≤ e.bus_number_end)) }
+fn region_for(regions: &[McfgEntry], segment: u16, bus: u8) -> Option<&McfgEntry>
+    ensures found { option_copied result ≡ region_of regions.now segment bus }
+    ensures holds { IfSome result (λ e. (e.now.bus_number_start ≤ bus) × (bus ≤ e.now.bus_number_end)) }
 {
-    for region in regions {
-        if is_of(region, segment, bus) {
-            return Some(*region);
-        }
-    }
-    None
+    regions.iter().find(|region| is_of(region, segment, bus))
 }
 
 /// Whether a region is of a segment group and holds a bus.

@@ -4,6 +4,7 @@ ghost use Rattle.acpi_base.specs.Ranges.{Allows};
 ghost use Rattle.acpi.specs.Footprint.{header_ranges};
 ghost use Rattle.acpi.specs.Pointers.{pointers_left};
 
+use crate::listed::{Asked, next_asked};
 use crate::pointers::Pointers;
 use acpi_base::sdt::{SdtHeader, map_own_sdt};
 use acpi_base::{AcpiResult, Lender};
@@ -16,6 +17,12 @@ pub struct TableMember {
     /// The header of the table there (section 5.2.6), if that is valid under the signature that it has, or
     /// else the first error.
     pub header: AcpiResult<SdtHeader>,
+}
+
+impl Asked for TableMember {
+    ghost use Rattle.acpi_base.specs.Ranges.{own_table_ranges};
+
+    ghost ranges = { own_table_ranges };
 }
 
 /// The members of the root table, one for each pointer, in order, as `AcpiTables::members` gives them. A
@@ -54,7 +61,7 @@ impl<H: Lender> Iterator for TableMembers<'_, '_, H> {
     ghost remaining = { item_count (members_left H.memory) };
 
     fn next(&mut self) -> Option<TableMember> {
-        let address = self.pointers.next()?;
+        let address = next_asked::<H, TableMember>(self.handler, &mut self.pointers)?;
         let header = own_header(self.handler, address);
         Some(TableMember { address, header })
     }

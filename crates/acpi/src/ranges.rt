@@ -8,7 +8,7 @@ ghost use Rattle.acpi.specs.Footprint.{header_ranges};
 ghost use Rattle.acpi.specs.Places.{facs_at, facs_length, facs_ranges, place_at};
 ghost use Rattle.acpi.specs.Pointers.{pointers_left};
 
-use crate::listed::{Listed, next_listed};
+use crate::listed::{Asked, Listed, next_listed};
 use crate::pointers::Pointers;
 use acpi_base::sdt::{SdtHeader, map_own_sdt};
 use acpi_base::{
@@ -81,10 +81,12 @@ impl<H: Lender> Iterator for TableRanges<'_, '_, H> {
     }
 }
 
+impl Asked for AddressRange {
+    ghost ranges = { own_table_ranges };
+}
+
 /// Where a table lies that is valid under the signature that it has.
 impl Listed for AddressRange {
-    ghost ranges = { own_table_ranges };
-
     ghost found = { λ m p. result_ok (place_at m p) };
 
     #[tactic(auto, unfolding(crate::specs::Places::place_at))]

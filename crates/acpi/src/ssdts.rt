@@ -4,7 +4,7 @@ ghost use Rattle.acpi_base.specs.Ranges.{Allows};
 ghost use Rattle.acpi.specs.Footprint.{ssdt_ranges};
 ghost use Rattle.acpi.specs.Pointers.{pointers_left};
 
-use crate::listed::{Listed, next_listed};
+use crate::listed::{Asked, Listed, next_listed};
 use crate::pointers::Pointers;
 use crate::records::{AmlTable, stream_at};
 use acpi_base::Lender;
@@ -50,15 +50,19 @@ impl<H: Lender> Iterator for SsdtIterator<'_, '_, H> {
     }
 }
 
-/// That of an SSDT.
-impl Listed for AmlTable {
-    ghost use Rattle.std.specs.Result.{result_ok};
+impl Asked for AmlTable {
     ghost use Rattle.acpi_base.specs.Ranges.{table_ranges};
     ghost use Rattle.acpi_base.specs.Table.{plain_kind};
     ghost use Rattle.acpi_base.specs.declared.table.signature.TheConstants.Signature.{SSDT};
-    ghost use Rattle.acpi.specs.Lists as lists;
 
     ghost ranges = { λ m. table_ranges m (plain_kind SSDT) };
+}
+
+/// That of an SSDT.
+impl Listed for AmlTable {
+    ghost use Rattle.std.specs.Result.{result_ok};
+    ghost use Rattle.acpi_base.specs.declared.table.signature.TheConstants.Signature.{SSDT};
+    ghost use Rattle.acpi.specs.Lists as lists;
 
     ghost found = { λ m p. result_ok (lists.stream_at m SSDT p) };
 

@@ -8,7 +8,7 @@ abbrev pub invariant-loop-address : goal.invariant-loop-address
 invariant-loop-address g l =
     let m = g.H.Lender.memory l.handler in
     (filter_map (g.M.Listed.found m) (pointers_left l.pointers) ≡ filter_map (g.M.Listed.found m) (pointers_left l.fn.pointers))
-    × Allows (g.H.Lender.may l.handler) (flat_map (g.M.Listed.ranges m) (pointers_left l.pointers))
+    × Allows (g.H.Lender.may l.handler) (flat_map (g.M.Asked.ranges m) (pointers_left l.pointers))
 
 abbrev pub decreases-loop-address : goal.decreases-loop-address
 decreases-loop-address g l = length (pointers_left l.pointers)
