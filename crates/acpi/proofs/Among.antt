@@ -1,6 +1,6 @@
 -- The search in areas that a caller gives: candidate by candidate, and in the reader's words.
 use Rattle.std.proofs.Common.{◌≡◌, ℕ, zero, suc, ◌+◌, ◌-◌, ◌*◌, ◌/◌, ◌<◌, ◌≤◌, List, [], ◌∷◌, ◌++◌, length, drop, get_or, length-drop, Bool, true, false, arith, refl, ap, sym, subst, ◌∙◌, Option, Some, None, Result, Ok, Err}
-use Rattle.std.specs.Prelude.{◌&&◌, nat_le, IfOk, IsOk}
+use Rattle.std.specs.Prelude.{◌&&◌, nat_le, IfOk, IsOk, MatchOption, unwrap_or}
 use Rattle.std.specs.List.{AllByRecursion}
 use Rattle.std.specs.Option.{ok_or, option_or}
 use Rattle.std.specs.Result.{is_err}
@@ -65,6 +65,13 @@ pub front_refused : (m : Memory) (a n : ℕ) (b : List ℕ) → IsMemory m → a
     → ((i : ℕ) → 0 < i → i < n → is_refused_in b (16 * i) ≡ true) → (i : ℕ) → i < n → IsRefused m (a + 16 * i)
 front_refused m a n b hm e first rest zero less = moved m a (a + 16 * zero) (omega arith) first
 front_refused m a n b hm e first rest (suc i) less = shown_refused m a (16 * suc i) b hm (rw e refl) (rest (suc i) (omega arith) less)
+
+-- a number from 1 on, before the first that is other, or before the end if none is
+pub before_other : (Yes No : ℕ → Type 0) (n : ℕ) (r : Option ℕ)
+    → MatchOption r ((k : ℕ) → 1 ≤ k → k < n → No k) (λ i. (1 ≤ i) × (i < n) × Yes i × ((k : ℕ) → 1 ≤ k → k < i → No k))
+    → (i : ℕ) → 0 < i → i < unwrap_or r n → No i
+before_other Yes No n None none i some less = none i (omega arith) less
+before_other Yes No n (Some x) found i some less = found.3 i (omega arith) less
 
 module _ (m : Memory) (n start : ℕ) where
   next_refused : (k r : ℕ) → ((i : ℕ) → i < suc r → IsRefused m (start + 16 * k + 16 * i)) → (i : ℕ) → i < r → IsRefused m (start + 16 * (k + 1) + 16 * i)

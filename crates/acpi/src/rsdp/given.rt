@@ -79,23 +79,6 @@ fn is_refused_in(bytes: &[u8], offset: usize) -> bool
     Rsdp::read(candidate).summed_length(candidate).is_err()
 }
 
-/// How many candidates from a refused one on are known to be refused: that one, and those after it
-/// whose bytes were lent with its own.
-fn refused_front(bytes: &[u8], left: u64) -> u64
-    requires some { 0 < left }
-    requires low { 16 * left < 2 ^ 64 }
-    ensures some { 0 < result }
-    ensures most { result ≤ left }
-    ensures refused { (i : ℕ) → 0 < i → i < result → is_refused_in bytes.now (16 * i) ≡ true }
-{
-    for k in 1..left {
-        if !is_refused_in(bytes, 16 * k as usize) {
-            return k;
-        }
-    }
-    left
-}
-
 /// The RSDP at an address, if it is valid, or else how many candidates from there on are refused,
 /// as far as is known from what was lent there: each 16 bytes after the one before.
 fn tried<'h, H: Lender>(
@@ -118,7 +101,12 @@ fn tried<'h, H: Lender>(
     match PhysicalMapping::<'h, H, Rsdp>::map(handler, address, 36) {
         Ok(rsdp) => match check_mapped(handler, &rsdp) {
             Ok(()) => Ok(rsdp),
-            Err(_) => Err(refused_front(rsdp.lent_bytes(), left)),
+            Err(_) => {
+                // The bytes that were lent with its own may show that those after it are refused too.
+                let bytes = rsdp.lent_bytes();
+                let other = (1..left).find(|k| !is_refused_in(bytes, 16 * *k as usize));
+                Err(other.unwrap_or(left))
+            }
         },
         Err(_) => Err(1),
     }
