@@ -1,7 +1,7 @@
 -- A lookup answers a table exactly if that is the first valid one. Members that aren't valid change nothing, and lists
 -- over members are no longer than the members.
-use Rattle.std.proofs.Common.{◌≡◌, ℕ, List, [], ◌∷◌, ◌++◌, Result, Ok, Err, refl, ap, ◌∙◌, ◌+◌, ◌≤◌, length, Option, Some, None, arith, zero, suc, ◌^◌, ◌<◌, drop, length-append, length-drop}
-use Rattle.std.specs.Prelude.{IsErr, IfOk, IfErr, filter_map, map}
+use Rattle.std.proofs.Common.{◌≡◌, ℕ, List, [], ◌∷◌, ◌++◌, Result, Ok, Err, refl, ap, ◌∙◌, ◌+◌, ◌≤◌, length, Option, Some, None, arith, zero, suc, ◌^◌, ◌<◌, drop, length-drop}
+use Rattle.std.specs.Prelude.{IsErr, IfOk, IfErr, filter_map}
 use Rattle.acpi_base.specs.Memory.{Memory}
 use Rattle.acpi_base.specs.Steps.{Gives}
 use Rattle.acpi_base.specs.Table.{Kind, table_at}
@@ -12,12 +12,8 @@ use Rattle.acpi.specs.Laws.{LookupIsFirst, SkipsInvalid}
 use Rattle.acpi.specs.Later.{or_later}
 use Rattle.acpi.specs.Lookup.{IsFirstValid, NoneValid, lookup}
 use Rattle.std.specs.List.{cons_option}
-use Rattle.std.specs.Result.{result_ok}
 use Rattle.acpi.specs.Lists.{faults_of, unless_valid, with_fault}
-use Rattle.acpi.specs.Members.{members_of}
-use Rattle.acpi.specs.Places.{dsdt_place, facs_place, led_by, place_at, places_of}
 use Rattle.acpi.specs.Root.{pieces, pointers}
-use Rattle.acpi_base.specs.declared.range.AddressRange.{AddressRange}
 use Rattle.acpi.specs.declared.records.TableFault.{TableFault}
 use Rattle.acpi_base.specs.declared.error.AcpiError.TheVariants as refusal
 
@@ -119,15 +115,6 @@ pub filter_map_few : {X Y : Type 0} (f : X → Option Y) (xs : List X) → lengt
 filter_map_few f [] = omega arith
 filter_map_few f (x ∷ xs) = omega (arith, one_more (f x) (filter_map f xs) (length xs) (filter_map_few f xs))
 
--- the members' addresses are the pointers
-pub addresses_are : (m : Memory) (ps : List ℕ) → map (λ x. x.address) (members_of m ps) ≡ ps
-addresses_are m [] = refl
-addresses_are m (p ∷ ps) = ap (λ qs. p ∷ qs) (addresses_are m ps)
-
-pub members_few : (m : Memory) (ps : List ℕ) → length (members_of m ps) ≤ length ps
-members_few m [] = omega arith
-members_few m (p ∷ ps) = omega (arith, members_few m ps)
-
 fault_more : (p : ℕ) (e : AcpiError) (faults : List TableFault) → length (with_fault p e faults) ≤ length faults + 1
 fault_more p (refusal.SdtInvalidSignature s) faults = omega arith
 fault_more p e faults = omega arith
@@ -139,13 +126,6 @@ faults_more p (Err e) faults = fault_more p e faults
 pub faults_few : (m : Memory) (k : Kind) (ps : List ℕ) → length (faults_of m k ps) ≤ length ps
 faults_few m k [] = omega arith
 faults_few m k (p ∷ ps) = omega (arith, faults_more p (table_at m k p) (faults_of m k ps), faults_few m k ps)
-
-pub places_few : (root : AddressRange) (m : Memory) (ps : List ℕ) → length (places_of root m ps) ≤ length ps + 3
-places_few root m ps =
-    let members = filter_map (λ p. result_ok (place_at m p)) ps in
-    let facs = result_ok (led_by facs_place m ps) in
-    let dsdt = result_ok (led_by dsdt_place m ps) in
-    omega (arith, length-append members (cons_option dsdt (cons_option facs [])), filter_map_few (λ p. result_ok (place_at m p)) ps, one_more facs [] 0 (omega arith), one_more dsdt (cons_option facs []) 1 (one_more facs [] 0 (omega arith)))
 
 -- ---- a list over the pointers of a short root has few items
 
@@ -163,6 +143,3 @@ pointers_short w root short = omega (arith, pointers_few w (drop 36 root), lengt
 
 pub fits_root : (n w : ℕ) (root : List ℕ) → length root < 2 ^ 32 → n ≤ length (pointers w (drop 36 root)) → n < 2 ^ 32
 fits_root n w root short few = omega (arith, pointers_few w (drop 36 root), length-drop 36 root, short, few)
-
-pub fits_places : (n w : ℕ) (root : List ℕ) → length root < 2 ^ 32 → n ≤ length (pointers w (drop 36 root)) + 3 → n < 2 ^ 32
-fits_places n w root short few = omega (arith, pointers_few w (drop 36 root), length-drop 36 root, short, few)

@@ -5,6 +5,6 @@ pub mod Asked
 pub mod Calls
 pub mod First
 pub mod Moved
-pub mod Places
+pub mod Placing
 pub mod Search
 pub mod Spelled

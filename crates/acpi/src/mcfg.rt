@@ -113,7 +113,7 @@ impl<A: Allocator> PciConfigRegions<A> {
     /// It is `None` if no region holds the bus, if the device is above 31 or the function above 7, and
     /// if the sum is 2^64 or more; no later region is then tried. Of the 4096 bytes of configuration
     /// space only the first is promised to lie below 2^64. A base is taken as it is, aligned or not.
-    #[tactic(auto, using(crate::proofs::Places::if_apart))]
+    #[tactic(auto, using(crate::proofs::Placing::if_apart))]
     pub fn physical_address(
         &self,
         segment_group_no: u16,

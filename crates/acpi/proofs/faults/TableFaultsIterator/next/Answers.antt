@@ -1,4 +1,5 @@
 use Rattle.std.proofs.Common.{sym, refl, ◌∙◌}
+use Rattle.acpi_base.specs.Table.{table_at}
 use Rattle.acpi.proofs.Asked.{asked_passed, asked_peeked, faults_peeked, no_faults, valid_last}
 use Rattle.acpi.specs.Pointers.{pointers_left}
 use Rattle.acpi.proofs.faults.TableFaultsIterator.next.Goals as goal
@@ -31,7 +32,7 @@ returns-in-None-clause-steps g c =
     let s = c.loop-address.self in
     let here = faults_peeked (g.H.Lender.memory s.handler.now) g.T.AcpiTable.kind
     c.in-Some.address (pointers_left s.pointers) _ c.in-Some.ensures refl in
-    (sym c.loop-address.invariant ∙ here ∙ valid_last _ _ _ c.in-None.ensures, rw c.end.ensures refl)
+    (sym c.loop-address.invariant ∙ here ∙ valid_last c.in-Some.address (table_at (g.H.Lender.memory s.handler.now) g.T.AcpiTable.kind c.in-Some.address) _ c.in-None.ensures, rw c.end.ensures refl)
 
 pub returns-clause-steps : goal.returns-clause-steps
 returns-clause-steps g c =

@@ -1,11 +1,43 @@
--- Functions of one region lie apart, and each has two addresses.
-use Rattle.std.proofs.Common.{◌≡◌, ℕ, ◌+◌, ◌-◌, ◌*◌, ◌^◌, ◌≤◌, ◌<◌, List, [], ◌∷◌, Bool, true, false, sym, refl, arith, ◌∙◌, Option, Some, None}
-use Rattle.std.specs.Prelude.{find, Option, Some, None, IfSome, if◌then◌else◌, nat_lt, ◌&&◌, option_and_then}
+-- Where things lie: the members that the pointers lead to, the tables, and the functions of PCI, which lie apart in one
+-- region and have two addresses each.
+use Rattle.std.proofs.Common.{◌≡◌, ℕ, ◌+◌, ◌-◌, ◌*◌, ◌^◌, ◌≤◌, ◌<◌, List, [], ◌∷◌, length, length-append, length-drop, drop, Bool, true, false, sym, ap, refl, arith, ◌∙◌, Option, Some, None}
+use Rattle.std.specs.Prelude.{filter_map, find, map, Option, Some, None, IfSome, if◌then◌else◌, nat_lt, ◌&&◌, option_and_then}
+use Rattle.std.specs.List.{cons_option}
+use Rattle.std.specs.Result.{result_ok}
 use Rattle.std.proofs.lemmas.Bool.Decides.{nat_tests}
+use Rattle.acpi_base.specs.Memory.{Memory}
+use Rattle.acpi_base.specs.declared.range.AddressRange.{AddressRange}
 use Rattle.acpi_base.specs.declared.tables.mcfg.McfgEntry.{McfgEntry}
+use Rattle.acpi.proofs.First.{filter_map_few, one_more, pointers_few}
+use Rattle.acpi.specs.Members.{members_of}
+use Rattle.acpi.specs.Places.{dsdt_place, facs_place, led_by, place_at, places_of}
+use Rattle.acpi.specs.Root.{pointers}
 use Rattle.acpi.specs.Pci.{IsApart, function_address, is_of, pci_address, place_in, region_of}
 use Rattle.acpi_base.specs.Ecam.{ecam_in, ecam_place}
 use Rattle.acpi.specs.Ecam.{IsBeside, ecam_address}
+
+-- ---- members and tables
+
+-- the members' addresses are the pointers
+pub addresses_are : (m : Memory) (ps : List ℕ) → map (λ x. x.address) (members_of m ps) ≡ ps
+addresses_are m [] = refl
+addresses_are m (p ∷ ps) = ap (λ qs. p ∷ qs) (addresses_are m ps)
+
+pub members_few : (m : Memory) (ps : List ℕ) → length (members_of m ps) ≤ length ps
+members_few m [] = omega arith
+members_few m (p ∷ ps) = omega (arith, members_few m ps)
+
+pub places_few : (root : AddressRange) (m : Memory) (ps : List ℕ) → length (places_of root m ps) ≤ length ps + 3
+places_few root m ps =
+    let members = filter_map (λ p. result_ok (place_at m p)) ps in
+    let facs = result_ok (led_by facs_place m ps) in
+    let dsdt = result_ok (led_by dsdt_place m ps) in
+    omega (arith, length-append members (cons_option dsdt (cons_option facs [])), filter_map_few (λ p. result_ok (place_at m p)) ps, one_more facs [] 0 (omega arith), one_more dsdt (cons_option facs []) 1 (one_more facs [] 0 (omega arith)))
+
+pub fits_places : (n w : ℕ) (root : List ℕ) → length root < 2 ^ 32 → n ≤ length (pointers w (drop 36 root)) + 3 → n < 2 ^ 32
+fits_places n w root short few = omega (arith, pointers_few w (drop 36 root), length-drop 36 root, short, few)
+
+-- ---- functions of PCI
 
 -- what was found passes the test
 found : {X : Type 0} (p : X → Bool) (xs : List X) (e : X) → find p xs ≡ Some e → p e ≡ true
