@@ -109,6 +109,7 @@ pub fn special_device_equality(a: &SpecialDevice, b: &SpecialDevice) -> bool
 }
 
 /// A path is a front of hops exactly if these are the path and others after it.
+#[tactic(auto, using(crate::proofs::Cuts::front_is_front))]
 pub fn front_is_front()
     ensures { FrontIsFront }
 {}

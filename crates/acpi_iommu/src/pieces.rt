@@ -1,6 +1,7 @@
 //! Bytes that are pieces one after the other, each of which says by its first bytes how long it is: the structures and
 //! blocks of a table, the device scopes and entries of one.
-ghost use Rattle.std.specs.Prelude.{◌≡◌, IfSome, IfNone, [], false, not};
+ghost use Rattle.std.specs.Prelude.{◌≡◌, ◌&&◌, IfSome, IfNone, [], false, not};
+ghost use Rattle.std.specs.List.{list_all};
 ghost use Rattle.acpi_base.specs.Entries.{with_entry};
 ghost use Rattle.acpi_base.specs.MadtWalk.{is_left};
 ghost use Rattle.acpi_iommu.specs.Pieces.{front, has_ended, is_malformed, left, pieces, rest_after, said};
@@ -9,7 +10,7 @@ use std::marker::PhantomData;
 
 /// A kind of pieces.
 pub trait PieceKind<'a> {
-    ghost use Rattle.std.specs.Prelude.{◌≡◌, ℕ, List, Option};
+    ghost use Rattle.std.specs.Prelude.{◌≡◌, ℕ, Bool, List, Option};
 
     /// A piece.
     type Piece: Drop;
@@ -20,6 +21,9 @@ pub trait PieceKind<'a> {
     // What a piece shows: its bytes.
     ghost shown: { Self.Piece → List ℕ };
 
+    // Whether the pieces in a piece take all bytes that are theirs.
+    ghost whole: { List ℕ → Bool };
+
     /// How long a piece says it is with which bytes begin, or `None` if that is less than it can be.
     fn size_at(bytes: &[u8]) -> Option<usize>
         ensures { result ≡ size bytes.now };
@@ -27,6 +31,10 @@ pub trait PieceKind<'a> {
     /// The piece that has these bytes.
     fn piece(bytes: &'a [u8]) -> Self::Piece
         ensures { shown result ≡ bytes.now };
+
+    /// Whether the pieces in a piece take all bytes that are theirs.
+    fn is_whole(piece: &Self::Piece) -> bool
+        ensures { result ≡ whole (shown piece.now) };
 }
 
 /// The length that a piece says, or `None` if it is less than the least.
@@ -47,6 +55,7 @@ fn front<'a, K: PieceKind<'a>>(bytes: &[u8]) -> Option<usize>
 }
 
 /// The bytes of the piece with which bytes begin, and those after it, or `None` if none begins.
+#[tactic(auto, using(crate::proofs::Cuts::front_within, crate::proofs::Cuts::pieces_front, crate::proofs::Cuts::pieces_stuck))]
 fn split<'a, K: PieceKind<'a>>(bytes: &'a [u8]) -> Option<(&'a [u8], &'a [u8])>
     ensures found { IfSome result (λ x. pieces K.size bytes.now ≡ with_entry x.0.now (pieces K.size x.1.now)) }
     ensures none { IfNone result (pieces K.size bytes.now ≡ ([], bytes.now)) }
@@ -88,12 +97,16 @@ impl<'a, K: PieceKind<'a>> PieceIter<'a, K> {
         }
     }
 
-    /// Whether the pieces that are left take all bytes.
+    /// Whether the pieces that are left take all bytes, and the pieces in each all that are theirs.
     pub(crate) fn is_whole(mut self) -> bool
-        ensures { result ≡ not (is_left (rest_after K.size self.entry)) }
+        ensures { result ≡ (not (is_left (rest_after K.size self.entry))
+            && list_all K.whole (left K.size self.entry)) }
     {
-        while let Some(_piece) = self.next() {}
-        !self.ended_malformed()
+        let mut all_whole = true;
+        while let Some(piece) = self.next() {
+            all_whole = all_whole && K::is_whole(&piece);
+        }
+        !self.ended_malformed() && all_whole
     }
 }
 

@@ -1,15 +1,19 @@
 //! Texts in fields of a fixed place.
-ghost use Rattle.std.specs.Prelude.{◌≡◌};
+ghost use Rattle.std.specs.Prelude.{◌≡◌, ◌==◌, not};
+ghost use Rattle.std.specs.List.{prefix_len};
 ghost use Rattle.acpi_iommu.specs.Texts.{up_to_zero};
 
+/// How many bytes stand before the first zero, or how many there are.
+fn before_zero(bytes: &[u8]) -> usize
+    ensures { result ≡ prefix_len (λ b. not (b == 0)) bytes.now }
+{
+    bytes.iter().take_while(|byte| **byte != 0).count()
+}
+
 /// The bytes before the first zero, or all.
+#[tactic(auto, using(crate::proofs::Cuts::prefix_few))]
 pub(crate) fn up_to_zero(bytes: &[u8]) -> &[u8]
     ensures { result.now ≡ up_to_zero bytes.now }
 {
-    for at in 0..bytes.len() {
-        if bytes[at] == 0 {
-            return &bytes[..at];
-        }
-    }
-    bytes
+    &bytes[..before_zero(bytes)]
 }

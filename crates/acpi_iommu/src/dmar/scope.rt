@@ -168,6 +168,7 @@ fn front_length(path: HopIter<'_>, hops: &[Hop]) -> Option<usize>
 pub struct Scopes;
 
 impl<'a> PieceKind<'a> for Scopes {
+    ghost use Rattle.std.specs.Prelude.{true};
     ghost use Rattle.acpi_iommu.specs.DmarScopes.{bytes_of_scope, scope_size};
 
     type Piece = DeviceScope<'a>;
@@ -175,6 +176,8 @@ impl<'a> PieceKind<'a> for Scopes {
     ghost size = { scope_size };
 
     ghost shown = { bytes_of_scope };
+
+    ghost whole = { λ s. true };
 
     fn size_at(bytes: &[u8]) -> Option<usize>
         ensures { result ≡ scope_size bytes.now }
@@ -184,6 +187,10 @@ impl<'a> PieceKind<'a> for Scopes {
 
     fn piece(bytes: &'a [u8]) -> DeviceScope<'a> {
         DeviceScope { bytes }
+    }
+
+    fn is_whole(_scope: &DeviceScope<'a>) -> bool {
+        true
     }
 }
 

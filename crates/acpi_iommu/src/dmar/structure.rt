@@ -3,7 +3,7 @@ ghost use Rattle.std.specs.Prelude.{◌≡◌, false, Some, None, if◌then◌el
 ghost use Rattle.acpi_base.specs.Text.{IsTextOf};
 ghost use Rattle.acpi_iommu.specs.Dmar.{drhd_at, fields_of, kind_of, least_of, name_of, rmrr_at, scope_bytes, structure_bytes};
 ghost use Rattle.acpi_iommu.specs.DmarScopes.{names_device, scopes_left, scopes_of, scopes_rest};
-ghost use Rattle.acpi_iommu.specs.DmarUnits.{has_whole_scopes, is_reserved_for, is_unit_of, source_in};
+ghost use Rattle.acpi_iommu.specs.DmarUnits.{is_reserved_for, is_unit_of, source_in};
 ghost use Rattle.acpi_iommu.specs.Pieces.{has_ended};
 
 use super::Dmar;
@@ -70,13 +70,6 @@ impl<'a> DmarStructure<'a> {
             }
         }
         false
-    }
-
-    /// Whether the scopes take all bytes that are theirs.
-    pub(super) fn has_whole_scopes(&self) -> bool
-        ensures { result ≡ has_whole_scopes (structure_bytes self.now) }
-    {
-        self.scopes().is_whole()
     }
 
     /// The unit, if it is one of a segment.
@@ -155,12 +148,15 @@ pub struct Structures;
 
 impl<'a> PieceKind<'a> for Structures {
     ghost use Rattle.acpi_iommu.specs.Dmar.{structure_bytes, structure_size};
+    ghost use Rattle.acpi_iommu.specs.DmarUnits.{has_whole_scopes};
 
     type Piece = DmarStructure<'a>;
 
     ghost size = { structure_size };
 
     ghost shown = { structure_bytes };
+
+    ghost whole = { has_whole_scopes };
 
     fn size_at(bytes: &[u8]) -> Option<usize>
         ensures { result ≡ structure_size bytes.now }
@@ -171,6 +167,11 @@ impl<'a> PieceKind<'a> for Structures {
 
     fn piece(bytes: &'a [u8]) -> DmarStructure<'a> {
         DmarStructure { bytes }
+    }
+
+    #[tactic(auto, using(crate::proofs::Cuts::all_pass))]
+    fn is_whole(structure: &DmarStructure<'a>) -> bool {
+        structure.scopes().is_whole()
     }
 }
 

@@ -1,10 +1,9 @@
 //! Which unit remaps a device (section 8.3), and which memory is reserved for it (section 8.4).
 ghost use Rattle.std.specs.Prelude.{◌≡◌, false};
-ghost use Rattle.std.specs.Option.{option_map};
 ghost use Rattle.acpi_base.specs.Steps.{Gives};
-ghost use Rattle.acpi_iommu.specs.Dmar.{cut_of, drhd_at, rest_left, structures_left, structures_of};
+ghost use Rattle.acpi_iommu.specs.Dmar.{cut_of, rest_left, structures_left, structures_of};
 ghost use Rattle.acpi_iommu.specs.DmarUnits.{dmar_bytes, is_whole, reserved_for, reserved_left, source_of};
-ghost use Rattle.acpi_iommu.specs.DmarUnits.{unit_for, unit_of_hpet, unit_of_io_apic, unit_of_others, unit_that_names};
+ghost use Rattle.acpi_iommu.specs.DmarUnits.{unit_for, unit_of_hpet, unit_of_io_apic};
 ghost use Rattle.acpi_iommu.specs.Pieces.{has_ended};
 
 use super::Dmar;
@@ -54,42 +53,7 @@ impl<'a> DmarUnits<'a> {
     fn is_whole(&self) -> bool
         ensures { result ≡ is_whole (dmar_bytes self.now) }
     {
-        let mut all_whole = true;
-        let mut structures = self.structures();
-        while let Some(structure) = structures.next() {
-            all_whole = all_whole && structure.has_whole_scopes();
-        }
-        !structures.ended_malformed() && all_whole
-    }
-
-    /// The first unit of a segment that names the device.
-    fn unit_that_names(&self, segment: u16, bus: u8, hops: &[Hop]) -> Option<Drhd>
-        ensures { result ≡ option_map drhd_at (unit_that_names (dmar_bytes self.now) segment bus hops.now) }
-    {
-        let mut structures = self.structures();
-        while let Some(structure) = structures.next() {
-            if let Some(unit) = structure.unit_of(segment) {
-                if structure.names(bus, hops) {
-                    return Some(unit);
-                }
-            }
-        }
-        None
-    }
-
-    /// The first unit of a segment with INCLUDE_PCI_ALL.
-    fn unit_of_others(&self, segment: u16) -> Option<Drhd>
-        ensures { result ≡ option_map drhd_at (unit_of_others (dmar_bytes self.now) segment) }
-    {
-        let mut structures = self.structures();
-        while let Some(structure) = structures.next() {
-            if let Some(unit) = structure.unit_of(segment) {
-                if unit.includes_pci_all() {
-                    return Some(unit);
-                }
-            }
-        }
-        None
+        self.structures().is_whole()
     }
 
     /// The unit that remaps a device (section 8.3), which is named by its segment, its root bus, and the hops from
@@ -104,10 +68,19 @@ impl<'a> DmarUnits<'a> {
         if !self.is_whole() {
             return Err(IommuError::InvalidStructureLength);
         }
-        match self.unit_that_names(segment, bus, hops) {
-            Some(unit) => Ok(Some(unit)),
-            None => Ok(self.unit_of_others(segment)),
+        let mut of_others = None;
+        let mut structures = self.structures();
+        while let Some(structure) = structures.next() {
+            if let Some(unit) = structure.unit_of(segment) {
+                if structure.names(bus, hops) {
+                    return Ok(Some(unit));
+                }
+                if of_others.is_none() && unit.includes_pci_all() {
+                    of_others = Some(unit);
+                }
+            }
         }
+        Ok(of_others)
     }
 
     /// The unit that remaps the interrupts of the I/O APIC with this id (section 8.3.1): the first DRHD with a scope of

@@ -2,7 +2,7 @@
 ghost use Rattle.std.specs.Prelude.{◌≡◌, Some, None, false, if◌then◌else◌};
 ghost use Rattle.acpi_iommu.specs.Ivrs.{block_bytes, block_fields, block_kind};
 ghost use Rattle.acpi_iommu.specs.Ivrs.{is_ivhd, is_ivmd, ivhd_at, ivmd_at, least_of};
-ghost use Rattle.acpi_iommu.specs.IvrsUnits.{has_whole_entries, is_memory_for, unit_in};
+ghost use Rattle.acpi_iommu.specs.IvrsUnits.{is_memory_for, unit_in};
 ghost use Rattle.acpi_iommu.specs.Pieces.{has_ended};
 
 use super::Ivrs;
@@ -190,13 +190,6 @@ impl<'a> IvrsBlock<'a> {
         })
     }
 
-    /// Whether the entries take all bytes that are theirs.
-    pub(super) fn has_whole_entries(&self) -> bool
-        ensures { result ≡ has_whole_entries (block_bytes self.now) }
-    {
-        self.entries().is_whole()
-    }
-
     /// What the first entry says that covers a device, if this is a block of a type and a segment that has one.
     pub(super) fn unit(&self, kind: u8, segment: u16, device_id: u16) -> Option<DeviceUnit>
         ensures { result ≡ unit_in kind segment device_id (block_bytes self.now) }
@@ -240,12 +233,15 @@ pub struct Blocks;
 
 impl<'a> PieceKind<'a> for Blocks {
     ghost use Rattle.acpi_iommu.specs.Ivrs.{block_bytes, block_size};
+    ghost use Rattle.acpi_iommu.specs.IvrsUnits.{has_whole_entries};
 
     type Piece = IvrsBlock<'a>;
 
     ghost size = { block_size };
 
     ghost shown = { block_bytes };
+
+    ghost whole = { has_whole_entries };
 
     fn size_at(bytes: &[u8]) -> Option<usize>
         ensures { result ≡ block_size bytes.now }
@@ -256,6 +252,11 @@ impl<'a> PieceKind<'a> for Blocks {
 
     fn piece(bytes: &'a [u8]) -> IvrsBlock<'a> {
         IvrsBlock { bytes }
+    }
+
+    #[tactic(auto, using(crate::proofs::Cuts::all_pass))]
+    fn is_whole(block: &IvrsBlock<'a>) -> bool {
+        block.entries().is_whole()
     }
 }
 

@@ -104,25 +104,16 @@ impl<'a> IvrsBlocks<'a> {
     fn is_whole(&self) -> bool
         ensures { result ≡ is_whole (ivrs_bytes self.now) }
     {
-        let mut all_whole = true;
-        let mut blocks = self.blocks();
-        while let Some(block) = blocks.next() {
-            all_whole = all_whole && block.has_whole_entries();
-        }
-        !blocks.ended_malformed() && all_whole
+        self.blocks().is_whole()
     }
 
     /// Whether there is a block of a type.
+    #[tactic(auto, using(crate::proofs::Cuts::some_passes))]
     fn has_kind(&self, kind: u8) -> bool
         ensures { result ≡ list_any (is_of_kind kind) (blocks_of (ivrs_bytes self.now)) }
     {
-        let mut blocks = self.blocks();
-        while let Some(block) = blocks.next() {
-            if block.kind() == kind {
-                return true;
-            }
-        }
-        false
+        let blocks = self.blocks();
+        BestBlockIter { blocks, kind }.next().is_some()
     }
 
     /// The greatest type of an IVHD that the table has, or 0x10 if it has none.

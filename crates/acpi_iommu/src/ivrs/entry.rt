@@ -209,6 +209,7 @@ fn own_size(entry: &[u8]) -> usize
 pub struct Entries;
 
 impl<'a> PieceKind<'a> for Entries {
+    ghost use Rattle.std.specs.Prelude.{true};
     ghost use Rattle.acpi_iommu.specs.IvrsEntries.{bytes_of_entry, entry_size};
 
     type Piece = DeviceEntry<'a>;
@@ -216,6 +217,8 @@ impl<'a> PieceKind<'a> for Entries {
     ghost size = { entry_size };
 
     ghost shown = { bytes_of_entry };
+
+    ghost whole = { λ e. true };
 
     fn size_at(bytes: &[u8]) -> Option<usize>
         ensures { result ≡ entry_size bytes.now }
@@ -237,6 +240,10 @@ impl<'a> PieceKind<'a> for Entries {
 
     fn piece(bytes: &'a [u8]) -> DeviceEntry<'a> {
         DeviceEntry { bytes }
+    }
+
+    fn is_whole(_entry: &DeviceEntry<'a>) -> bool {
+        true
     }
 }
 
