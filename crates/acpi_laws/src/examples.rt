@@ -60,9 +60,10 @@ pub fn dsdt_instance()
     ensures { DsdtInstance }
 {}
 
-/// The two memories that differ agree on the ranges of the platform.
-pub fn platform_instance<A: Allocator>()
-    ensures { PlatformInstance A }
+/// The two memories that differ agree on the ranges of the platform, which is the same if its tables lie elsewhere.
+pub fn platform_instances<A: Allocator>()
+    ensures agreed { PlatformInstance A }
+    ensures moved { PlatformMoved A }
 {}
 
 /// The two memories that differ agree on the ranges of the HPET's lookup.
@@ -119,11 +120,6 @@ pub fn headers_moved()
     ensures { HeadersMoved }
 {}
 
-/// If the same tables lie elsewhere, the platform is the same.
-pub fn platform_moved<A: Allocator>()
-    ensures { PlatformMoved A }
-{}
-
 /// If the same tables lie elsewhere, the event timer block of the HPET is the same.
 #[tactic(auto, using(crate::proofs::Instances::hpet_moved))]
 pub fn hpet_moved()
@@ -137,13 +133,13 @@ pub fn regions_moved()
 {}
 
 /// The two memories that differ agree on the ranges of the search, which finds the RSDP.
-#[tactic(auto, using(crate::proofs::Searched::search_instance))]
+#[tactic(auto, using(crate::proofs::Instances::search_instance))]
 pub fn search_instance()
     ensures { SearchInstance }
 {}
 
 /// The two memories that differ agree on the ranges of the root table of the RSDP that the search finds.
-#[tactic(auto, using(crate::proofs::Searched::opened_by_search_instance))]
+#[tactic(auto, using(crate::proofs::Instances::opened_by_search_instance))]
 pub fn opened_by_search_instance()
     ensures { OpenedBySearchInstance }
 {}

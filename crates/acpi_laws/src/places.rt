@@ -33,11 +33,8 @@ pub fn found_by_signature()
 /// begin at a member that `members` refuses, or at the address of the DSDT in the first valid FADT, if no
 /// valid DSDT is there.
 pub fn tables_lie_in_ranges()
-    ensures { TablesLieInRanges }
-{}
-
-/// Each range that opening a root table depends on or asks for at the table's address lies in the
-/// first that `ranges` gives.
-pub fn root_lies_in_range()
-    ensures { RootLiesInRange }
+    ensures tables { TablesLieInRanges }
+    // Each range that opening a root table depends on or asks for at the table's address lies in the first that
+    // `ranges` gives.
+    ensures root { RootLiesInRange }
 {}

@@ -18,7 +18,7 @@ pub fn aml_table_equality(a: &AmlTable, b: &AmlTable) -> bool
 }
 
 /// Two `TableFault`s compare as equal exactly if all their fields are equal.
-#[tactic(auto, using(crate::proofs::Equalities::faults_are))]
+#[tactic(auto, using(crate::proofs::Values::faults_are))]
 pub fn table_fault_equality(a: &TableFault, b: &TableFault) -> bool
     ensures { IsEquality result a.now b.now }
 {
@@ -33,7 +33,7 @@ pub fn sdt_equality(a: &Sdt, b: &Sdt) -> bool
 }
 
 /// Two `PmTimer`s compare as equal exactly if all their fields are equal.
-#[tactic(auto, using(crate::proofs::Equalities::timers_are))]
+#[tactic(auto, using(crate::proofs::Values::timers_are))]
 pub fn pm_timer_equality(a: &PmTimer, b: &PmTimer) -> bool
     ensures { IsEquality result a.now b.now }
 {
