@@ -1,10 +1,4 @@
-pub mod Checked
-pub mod Placed
-pub mod Places
-pub mod Summed
+pub mod Checks
 pub mod Written
 pub mod WrittenLaws
-pub mod WrittenMemory
 pub mod WrittenRoot
-pub mod WrittenRsdp
-pub mod WrittenTables

@@ -1,19 +1,33 @@
--- How many bytes are written, and how numbers are encoded there.
-use Rattle.std.proofs.Common.{◌≡◌, ℕ, zero, suc, ◌+◌, ◌-◌, ◌*◌, ◌/◌, ◌%◌, ◌^◌, ◌<◌, ◌≤◌, Bool, true, false, List, [], ◌∷◌, ◌++◌, length, take, drop, refl, sym, ap, ◌∙◌, arith, if◌then◌else◌, w64}
-use Rattle.std.specs.Prelude.{OnOk, Result, Ok, Err, flat_map, replicate}
+-- What is written: how long it is, how numbers are encoded, sums, and the tables, which are found at the start of their
+-- regions.
+use Rattle.std.proofs.Common.{◌≡◌, ℕ, zero, suc, ◌+◌, ◌-◌, ◌*◌, ◌/◌, ◌%◌, ◌^◌, ◌<◌, ◌≤◌, Bool, true, false, List, [], ◌∷◌, ◌++◌, length, take, drop, refl, sym, ap, ◌∙◌, arith, if◌then◌else◌, w64, get_or, inl, inr, set, sum, subst, Some, Ok, lit≤, map, lit<, eq-eqb}
+use Rattle.std.specs.Prelude.{Ok, flat_map}
 use Rattle.acpi_image_reader.specs.Image.{record_spelling}
-use Rattle.acpi_image.specs.declared.error.WriteError.{WriteError}
 use Rattle.std.specs.Int.{from_le_bytes, to_le_bytes}
 use Rattle.std.proofs.lemmas.Nat.{le_bytes_8}
-use Rattle.std.proofs.lemmas.List.{length-append, length-set, append_assoc, append-nil, take-append-drop, take_all}
-use Rattle.acpi_base.specs.Bytes.{IsBytes, filled_part, spelling}
-use Rattle.acpi_base.specs.Text.{letters_of}
+use Rattle.std.proofs.lemmas.List.{length-append, length-map, length-set, append-nil, take-append-drop, take_all, get_or_past, drop-set-add, drop-set-lt, take-set-le}
+use Rattle.acpi_base.specs.Bytes.{IsBytes, filled_part, spelling, part, sum_of, field_of, number}
 use Rattle.acpi_base.specs.declared.table.signature.Signature.{Signature}
 use Rattle.acpi_base.proofs.Spelling.{length-spelling, number-spelling, number_filled}
 use Rattle.acpi.specs.Root.{signature_of, width_of}
 use Rattle.acpi.specs.declared.root.RootKind.{RootKind}
 use Rattle.acpi.specs.declared.root.RootKind.TheVariants.{Rsdt, Xsdt}
-use Rattle.acpi_image.specs.Written.{root_header, root_length, root_record, root_to, root_unsummed, rsdp_to, rsdp_unsummed, spaces, sum_byte, with_first_sum, with_sum}
+use Rattle.acpi_image.specs.Written.{root_header, root_length, root_to, root_unsummed, rsdp_to, rsdp_unsummed, sum_byte, with_first_sum, with_sum, placed, placed_region, starts_of, summed}
+use Rattle.std.proofs.lemmas.Bool.{cases_lt, le-leb, and_from, and_parts, eqb-true, leb-true}
+use Rattle.std.specs.List.{AllByRecursion, Contains}
+use Rattle.acpi_base.specs.Memory.{Memory, Region, IsMemory, at}
+use Rattle.std.proofs.lemmas.List.Sums.{sum_by-set}
+use Rattle.acpi_image.specs.WriteLaws.{SumIsSet}
+use Rattle.acpi_base.proofs.LentRanges.{lent_is_inside}
+use Rattle.acpi_base.proofs.OwnTable.{header_front}
+use Rattle.acpi_base.specs.Header.{check_names, check_table, header_at}
+use Rattle.acpi_base.specs.Steps.{lent}
+use Rattle.acpi_base.specs.Table.{own_table_at, plain_kind, table_at}
+use Rattle.std.specs.Str.{bytes_eq, is_utf8}
+use Rattle.acpi_base.specs.declared.table.header.SdtHeader.{SdtHeader}
+use Rattle.acpi.specs.Lists.{valid_tables}
+use Rattle.acpi_image.specs.WriteChecks.{is_table}
+use Rattle.acpi_image.specs.declared.write.PlacedTable.{PlacedTable}
 
 pub length-with_sum : (offset : ℕ) (bytes : List ℕ) → length (with_sum offset bytes) ≡ length bytes
 unfolding with_sum
@@ -47,14 +61,6 @@ unfolding root_header spelling
 length-root_header Rsdt count = refl
 length-root_header Xsdt count = refl
 
--- the header from its signature on
-pub header_from : (s : Signature) (n : ℕ) → root_header s n ≡ letters_of s ++ (spelling 4 n ++ ((1 ∷ (0 ∷ spaces 6)) ++ (spaces 8 ++ replicate 12 0)))
-unfolding root_header
-header_from s n =
-    append_assoc ((letters_of s ++ spelling 4 n) ++ (1 ∷ (0 ∷ spaces 6))) (spaces 8) (replicate 12 0)
-    ∙ append_assoc (letters_of s ++ spelling 4 n) (1 ∷ (0 ∷ spaces 6)) (spaces 8 ++ replicate 12 0)
-    ∙ append_assoc (letters_of s) (spelling 4 n) ((1 ∷ (0 ∷ spaces 6)) ++ (spaces 8 ++ replicate 12 0))
-
 pub length-root_unsummed : (kind : RootKind) (ps : List ℕ) → length (root_unsummed kind ps) ≡ root_length kind (length ps)
 length-root_unsummed kind ps =
     length-append (root_header (signature_of kind) (root_length kind (length ps))) (flat_map (spelling (width_of kind)) ps)
@@ -64,13 +70,13 @@ length-root_unsummed kind ps =
 pub length-root_to : (kind : RootKind) (ps : List ℕ) → length (root_to kind ps) ≡ root_length kind (length ps)
 length-root_to kind ps = length-with_sum 9 (root_unsummed kind ps) ∙ length-root_unsummed kind ps
 
--- a root table after what its record begins with
-pub root_record_put : {R : Type 0} (r : Result R WriteError) (kind : RootKind) (a : ℕ) (ps before head now : List ℕ)
-    → head ≡ before ++ spelling 8 a ++ spelling 8 (root_length kind (length ps)) → OnOk r (now ≡ head ++ root_to kind ps)
-    → OnOk r (now ≡ before ++ record_spelling (root_record kind a ps))
-root_record_put (Ok x) kind a ps before head now e put =
-    put ∙ rw (e, length-root_to, append_assoc, append_assoc) refl
-root_record_put (Err x) kind a ps before head now e put = tt
+-- that of tables has a pointer for each
+pub root_long : (kind : RootKind) (tables : List PlacedTable) → length (root_to kind (starts_of (placed tables))) ≡ root_length kind (length tables)
+root_long kind tables =
+    length-root_to kind (starts_of (placed tables)) ∙ ap (root_length kind) (length-map (placed tables) (λ t. t.start) ∙ length-map tables placed_region)
+
+-- what is known of lengths while a root table is put
+pub ruleset lengths = (length-root_header, root_long)
 
 -- ---- numbers
 
@@ -86,7 +92,7 @@ whole_part bytes e =
     let none : 8 - length bytes ≡ 0 = omega arith in
     rw (all, none) (append-nil bytes)
 
-le_bytes : (n : ℕ) → n < 2 ^ 64 → to_le_bytes w64 n ≡ spelling 8 n
+pub le_bytes : (n : ℕ) → n < 2 ^ 64 → to_le_bytes w64 n ≡ spelling 8 n
 le_bytes n small =
     let long = length-spelling 8 n in
     let whole = whole_part (spelling 8 n) long in
@@ -102,3 +108,160 @@ spelling_front (suc w) (suc v) n le = ap (λ bs. n % 256 ∷ bs) (spelling_front
 -- the low bytes that a number is written as
 pub low_bytes : (w n : ℕ) → w ≤ 8 → n < 2 ^ 64 → take w (to_le_bytes w64 n) ≡ spelling w n
 low_bytes w n le small = ap (take w) (le_bytes n small) ∙ spelling_front w 8 n le
+
+pub low_four : (n : ℕ) → n < 2 ^ 64 → take 4 (to_le_bytes w64 n) ≡ spelling 4 n
+low_four n small = low_bytes 4 n (lit≤ tt) small
+
+-- ---- bytes
+
+-- what fits at each place
+pub each_fits : (xs : List ℕ) → ((i d : ℕ) → i < length xs → get_or xs i d < 256) → IsBytes xs
+each_fits xs h i =
+    elim (cases_lt i (length xs)) [
+      | inl lt ↦ h i 0 lt
+      | inr le ↦ rw (get_or_past xs i 0 le) (omega arith)
+    ]
+
+front_bytes : (xs ys : List ℕ) → IsBytes (xs ++ ys) → IsBytes xs
+front_bytes [] ys h i = let none = get_or_past {X = ℕ} [] i 0 (omega arith) in omega (arith, none)
+front_bytes (x ∷ xs) ys h zero = h 0
+front_bytes (x ∷ xs) ys h (suc i) = front_bytes xs ys (λ j. h (suc j)) i
+
+rest_bytes : (xs ys : List ℕ) → IsBytes (xs ++ ys) → IsBytes ys
+rest_bytes [] ys h = h
+rest_bytes (x ∷ xs) ys h = rest_bytes xs ys (λ j. h (suc j))
+
+pub record_bytes : (rs : Memory) → IsBytes (flat_map record_spelling rs) → AllByRecursion (λ r. IsBytes r.bytes) rs
+record_bytes [] h = tt
+record_bytes (r ∷ rs) h =
+    let this = front_bytes (record_spelling r) (flat_map record_spelling rs) h in
+    let behind = rest_bytes (spelling 8 r.start) (spelling 8 (length r.bytes) ++ r.bytes) this in
+    (rest_bytes (spelling 8 (length r.bytes)) r.bytes behind, record_bytes rs (rest_bytes (record_spelling r) (flat_map record_spelling rs) h))
+
+-- ---- a byte that is set so that the sum is 0
+
+pub sum_is_set : SumIsSet
+unfolding with_sum sum_byte sum_of
+sum_is_set offset bytes within =
+    let none : sum (set bytes offset 0) + get_or bytes offset 0 ≡ sum bytes + 0 = sum_by-set (λ x. x) bytes offset 0 0 within in
+    let some = sum_by-set (λ x. x) bytes offset ((256 - sum (set bytes offset 0) % 256) % 256) 0 within in
+    omega (arith, none, some)
+
+-- parts before and after the byte stay
+
+pub part_behind : (bytes : List ℕ) (k x o n : ℕ) → k < o → part (set bytes k x) o n ≡ part bytes o n
+part_behind bytes k x o n less = ap (take n) (drop-set-lt o bytes k x less)
+
+pub part_front : (bytes : List ℕ) (k x n : ℕ) → n ≤ k → part (set bytes k x) 0 n ≡ part bytes 0 n
+part_front bytes k x n le = take-set-le n bytes k x le
+
+pub part_before : (bytes : List ℕ) (k x o n : ℕ) → o + n ≤ k → part (set bytes k x) o n ≡ part bytes o n
+part_before bytes k x o n le =
+    let k_is : o + (k - o) ≡ k = omega arith in
+    let moved : drop o (set bytes k x) ≡ set (drop o bytes) (k - o) x = subst (λ (i : ℕ). drop o (set bytes i x) ≡ set (drop o bytes) (k - o) x) k_is (drop-set-add o bytes (k - o) x) in
+    ap (take n) moved ∙ take-set-le n (drop o bytes) (k - o) x (omega arith)
+
+-- ---- members of a memory
+
+shifted : (r : Region) (m rs : Memory) → AllByRecursion (Contains m) rs → AllByRecursion (Contains (r ∷ m)) rs
+shifted r m [] all = tt
+shifted r m (x ∷ rs) all = ((suc all.0.0, omega (arith, all.0.1), all.0.2), shifted r m rs all.1)
+
+pub every_in : (m : Memory) → AllByRecursion (Contains m) m
+every_in [] = tt
+every_in (r ∷ m) = ((0, omega arith, refl), shifted r m m (every_in m))
+
+length_is : (bytes : List ℕ) → (header_at bytes).length ≡ field_of bytes 4 4
+unfolding header_at
+length_is bytes = refl
+
+-- ---- what is lent at a region's start
+
+module _ (m : Memory) (r : Region) (h : IsMemory m) (c : Contains m r) where
+  at_start : (n : ℕ) → 0 < n → n ≤ length r.bytes → at m r.start n ≡ Some (take n r.bytes)
+  at_start n some fits =
+      let none : r.start - r.start ≡ 0 = omega arith in
+      (lent_is_inside m r.start n (take n r.bytes) h some).1 (r, c, record { starts = omega arith; ends = omega arith; there = rw none refl })
+
+  pub lent_start : (n : ℕ) → 0 < n → n ≤ length r.bytes → lent m r.start n ≡ Ok (take n r.bytes)
+  lent_start n some fits = rw (at_start n some fits) refl
+
+  -- a table that fills the region
+  module _ (s : Signature) (names : check_names s (header_at r.bytes) ≡ Ok tt) (long : 36 ≤ length r.bytes) (whole : field_of r.bytes 4 4 ≡ length r.bytes) (zero_sum : sum_of r.bytes ≡ 0) where
+    checked : check_table s r.bytes ≡ Ok tt
+    unfolding check_table
+    checked =
+        let all : take (field_of r.bytes 4 4) r.bytes ≡ r.bytes = take_all _ r.bytes (omega (arith, whole)) in
+        rw (names, le-leb 36 (field_of r.bytes 4 4) (omega arith), le-leb (field_of r.bytes 4 4) (length r.bytes) (omega arith), all, zero_sum) refl
+
+    pub table_there : table_at m (plain_kind s) r.start ≡ Ok r.bytes
+    unfolding table_at
+    table_there =
+        let all : take (length r.bytes) r.bytes ≡ r.bytes = take_all _ r.bytes (omega arith) in
+        let enough = le-leb 36 (length r.bytes) long in
+        rw (lent_start 36 (lit≤ tt) long, header_front r.bytes, names, length_is r.bytes, whole, enough, lent_start (length r.bytes) (omega arith) (omega arith), all, checked) refl
+
+  pub own_table_there : check_names (header_at r.bytes).signature (header_at r.bytes) ≡ Ok tt → 36 ≤ length r.bytes → field_of r.bytes 4 4 ≡ length r.bytes → sum_of r.bytes ≡ 0
+      → own_table_at m r.start ≡ Ok r.bytes
+  unfolding own_table_at
+  own_table_there names long whole zero_sum =
+      rw (lent_start 36 (lit≤ tt) long, header_front r.bytes) (table_there (header_at r.bytes).signature names long whole zero_sum)
+
+-- ---- tables that are written are valid, and no others are listed
+
+same_bytes : (xs : List ℕ) → bytes_eq xs xs ≡ true
+same_bytes [] = refl
+same_bytes (x ∷ xs) = and_from _ _ (eq-eqb x x refl) (same_bytes xs)
+
+names_hold : (h : SdtHeader) → is_utf8 h.signature.0 ≡ true → is_utf8 h.oem_id ≡ true → is_utf8 h.oem_table_id ≡ true → check_names h.signature h ≡ Ok tt
+unfolding check_names
+names_hold h s o t = rw (same_bytes h.signature.0, s, o, t) refl
+
+-- the names of a header lie in parts of the bytes
+pub header_names : (b : List ℕ) → is_utf8 (part b 0 4) ≡ true → is_utf8 (part b 10 6) ≡ true → is_utf8 (part b 16 8) ≡ true → check_names (header_at b).signature (header_at b) ≡ Ok tt
+unfolding header_at
+header_names b s o t = names_hold _ s o t
+
+-- what is tested of a table's bytes, apart
+pub record IsTable (b : List ℕ) : Type 0 where
+  pub long : 36 ≤ length b
+  pub whole : field_of b 4 4 ≡ length b
+  pub signature : is_utf8 (part b 0 4) ≡ true
+  pub id : is_utf8 (part b 10 6) ≡ true
+  pub table_id : is_utf8 (part b 16 8) ≡ true
+
+pub table_is : (b : List ℕ) → is_table b ≡ true → IsTable b
+unfolding is_table
+table_is b e =
+    let p = and_parts _ _ e in
+    let q = and_parts _ _ p.1 in
+    let r = and_parts _ _ q.1 in
+    let s = and_parts _ _ r.1 in
+    record { long = leb-true _ _ p.0; whole = eqb-true _ _ q.0; signature = r.0; id = s.0; table_id = s.1 }
+
+-- a table stays one if byte 9 is set
+pub still : (b : List ℕ) → IsTable b → IsTable (with_sum 9 b)
+unfolding with_sum field_of
+still b is = record {
+  long = omega (arith, is.long, length-with_sum 9 b);
+  whole = ap number (part_before b 9 (sum_byte 9 b) 4 4 (lit≤ tt)) ∙ is.whole ∙ sym (length-with_sum 9 b);
+  signature = rw (part_front b 9 (sum_byte 9 b) 4 (lit≤ tt)) is.signature;
+  id = rw (part_behind b 9 (sum_byte 9 b) 10 6 (lit< tt)) is.id;
+  table_id = rw (part_behind b 9 (sum_byte 9 b) 16 8 (lit< tt)) is.table_id;
+}
+
+table_sum : (b : List ℕ) → is_table b ≡ true → sum_of (with_sum 9 b) ≡ 0
+table_sum b e = sum_is_set 9 b (omega (arith, (table_is b e).long))
+
+pub sums_are_set : (ts : Memory) → AllByRecursion (λ t. is_table t.bytes ≡ true) ts → AllByRecursion (λ table. sum_of table ≡ 0) (map (λ t. with_sum 9 t.bytes) ts)
+sums_are_set [] all = tt
+sums_are_set (t ∷ ts) all = (table_sum t.bytes all.0, sums_are_set ts all.1)
+
+pub tables_there : (m ts : Memory) → IsMemory m → AllByRecursion (Contains m) (map summed ts) → AllByRecursion (λ t. is_table t.bytes ≡ true) ts
+    → valid_tables m (starts_of ts) ≡ map (λ t. with_sum 9 t.bytes) ts
+tables_there m [] h within all = refl
+tables_there m (t ∷ ts) h within all =
+    let is = still t.bytes (table_is t.bytes all.0) in
+    let this : own_table_at m t.start ≡ Ok (with_sum 9 t.bytes) =
+    own_table_there m (summed t) h within.0 (header_names (with_sum 9 t.bytes) is.signature is.id is.table_id) is.long is.whole (table_sum t.bytes all.0) in
+    rw (this, tables_there m ts h within.1 all.1) refl

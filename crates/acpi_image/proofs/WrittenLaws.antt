@@ -1,13 +1,22 @@
--- What is written is read back, opened, and has the tables that were placed.
-use Rattle.std.proofs.Common.{◌≡◌, ℕ, ◌^◌, ◌<◌, Bool, List, ◌∷◌, drop, length, Result, Ok, Err, refl, sym, subst, ◌∙◌, arith, true, false}
-use Rattle.std.specs.Prelude.{◌==◌, IfOk, flat_map, not}
-use Rattle.std.specs.List.{AllByRecursion}
-use Rattle.std.proofs.lemmas.Bool.{ltb-true}
-use Rattle.std.proofs.lemmas.List.{length-map}
-use Rattle.acpi_base.proofs.Steps.{bind_ok}
+-- Records that can lie where they are placed are a memory; what is written is read back, opened, and has the tables that
+-- were placed.
+use Rattle.std.proofs.Common.{◌≡◌, ℕ, ◌^◌, ◌<◌, Bool, true, false, List, [], ◌∷◌, length, map, Result, Ok, refl, arith, drop, Err, sym, subst, ◌∙◌}
+use Rattle.std.specs.Prelude.{◌||◌, flat_map, if◌then◌else◌, nat_lt, not, ◌==◌, IfOk}
+use Rattle.std.specs.List.{AllByRecursion, list_all}
+use Rattle.std.proofs.lemmas.Bool.{and_parts, ltb-true, or_parts}
+use Rattle.acpi_base.proofs.Steps.{holds_ok, bind_ok}
 use Rattle.acpi_base.specs.Bytes.{IsBytes}
-use Rattle.acpi_base.specs.Memory.{Memory, IsMemory}
-use Rattle.acpi_base.specs.Steps.{◌>>=◌}
+use Rattle.acpi_base.specs.Memory.{Memory, Region, AreApart, IsMemory, end_of}
+use Rattle.acpi_base.specs.Steps.{holds, ◌>>=◌}
+use Rattle.acpi.specs.Root.{width_of, pointers, root_at}
+use Rattle.acpi.specs.declared.root.RootKind.TheVariants.{Rsdt, Xsdt}
+use Rattle.acpi_image_reader.proofs.Sharing.{all_apart}
+use Rattle.acpi_image_reader.specs.Image.{record_spelling}
+use Rattle.acpi_image.specs.WriteChecks.{check_places, some_share, WritesOrRunsOut, check_plan, written}
+use Rattle.acpi_image.specs.Written.{starts_of, summed, Plan, kind_of, pointers_of, records_of, root_length, root_to, rsdp_record, rsdp_to, tables_of}
+use Rattle.acpi_image.specs.declared.error.WriteError.{WriteError}
+use Rattle.acpi_image.specs.declared.error.WriteError.TheVariants.{Overlap}
+use Rattle.std.proofs.lemmas.List.{length-map}
 use Rattle.acpi_base.specs.declared.error.AcpiError.{AcpiError}
 use Rattle.acpi.proofs.Moved.{headers_follow, hpet_follows, in_ok_follows, platform_follows, regions_follow}
 use Rattle.acpi.specs.Hpet.{hpet_of}
@@ -16,21 +25,83 @@ use Rattle.acpi.specs.Pci.{found_regions}
 use Rattle.acpi.specs.Platform.{platform_of}
 use Rattle.acpi.specs.Relocation.{FollowsTables}
 use Rattle.acpi.specs.Opened.{opened_by_rsdp}
-use Rattle.acpi.specs.Root.{pointers, root_at, width_of}
 use Rattle.acpi.specs.Rsdp.{rsdp_at}
-use Rattle.acpi_image.proofs.Checked.{Passed, are_tables, passed}
 use Rattle.acpi_image_reader.proofs.Images.{image_again}
-use Rattle.acpi_image.proofs.Placed.{every_in}
-use Rattle.acpi_image.proofs.Written.{length-rsdp_to}
-use Rattle.acpi_image.proofs.WrittenMemory.{Ends, low_ones, places_are, places_end, pointers_narrow}
-use Rattle.acpi_image.proofs.WrittenRoot.{pointers_are, root_there}
-use Rattle.acpi_image.proofs.WrittenRsdp.{IsRsdp, is_rsdp, rsdp_there}
-use Rattle.acpi_image.proofs.WrittenTables.{sums_are_set, tables_there}
-use Rattle.acpi_image_reader.specs.Image.{record_spelling}
-use Rattle.acpi_image.specs.WriteChecks.{WritesOrRunsOut, check_plan, written}
+use Rattle.acpi_image.proofs.Written.{length-rsdp_to, every_in, record_bytes, sums_are_set, tables_there}
+use Rattle.acpi_image.proofs.WrittenRoot.{IsRsdp, is_rsdp, pointers_are, root_there, rsdp_there}
 use Rattle.acpi_image.specs.WriteLaws.{IsWritten, SaysOfTables, WrittenIsRead, opened_of, said_of}
-use Rattle.acpi_image.specs.declared.error.WriteError.{WriteError}
-use Rattle.acpi_image.specs.Written.{Plan, kind_of, pointers_of, records_of, root_length, root_to, rsdp_record, rsdp_to, tables_of}
+use Rattle.acpi_image.proofs.Checks.{Passed, are_tables, passed}
+
+-- ---- places
+
+abbrev pub Ends : Memory → Type 0
+Ends m = AllByRecursion (λ r. end_of r < 2 ^ 64) m
+
+ends_are : (m : Memory) → list_all (λ r. nat_lt (end_of r) (2 ^ 64)) m ≡ true → Ends m
+ends_are [] e = tt
+ends_are (r ∷ m) e =
+    let p = and_parts _ _ e in
+    (ltb-true _ _ p.0, ends_are m p.1)
+
+turned : (m : Memory) (r : Region) → AllByRecursion (λ s. AreApart s r) m → AllByRecursion (AreApart r) m
+turned [] r h = tt
+turned (s ∷ m) r h = (λ a x y. h.0 a y x, turned m r h.1)
+
+memory_is : (m : Memory) → Ends m → some_share m ≡ false → AllByRecursion (λ r. IsBytes r.bytes) m → IsMemory m
+memory_is [] ends apart bytes = tt
+memory_is (r ∷ m) ends apart bytes =
+    let p = or_parts _ _ apart in
+    ((ends.0, bytes.0), (turned m r (all_apart m r p.0), memory_is m ends.1 p.1 bytes.1))
+
+not_true : (b : Bool) → not b ≡ true → b ≡ false
+not_true true e = absurd cc
+not_true false e = refl
+
+last_holds : (b : Bool) (d : WriteError) (x : Unit {0}) → holds b d ≡ Ok x → b ≡ true
+last_holds true d x e = refl
+last_holds false d x e = absurd cc
+
+abbrev passes : Unit {0} → Result (Unit {0}) WriteError
+passes x = Ok x
+
+module _ (m : Memory) (e : check_places m ≡ Ok tt) where
+  parts : (list_all (λ r. nat_lt (end_of r) (2 ^ 64)) m ≡ true) × (holds (not (some_share m)) Overlap ≡ passes tt)
+  unfolding check_places
+  parts = holds_ok _ _ _ tt e
+
+  pub places_end : Ends m
+  places_end = ends_are m parts.0
+
+  pub places_are : IsBytes (flat_map record_spelling m) → IsMemory m
+  places_are bytes = memory_is m places_end (not_true _ (last_holds _ _ tt parts.1)) (record_bytes m bytes)
+
+-- ---- pointers
+
+starts_below : (ts : Memory) → Ends (map summed ts) → AllByRecursion (λ a. a < 2 ^ 64) (starts_of ts)
+starts_below [] ends = tt
+starts_below (t ∷ ts) ends = (omega (arith, ends.0), starts_below ts ends.1)
+
+all_below : (limit : ℕ) (ps : List ℕ) → list_all (λ a. nat_lt a limit) ps ≡ true → AllByRecursion (λ a. a < limit) ps
+all_below limit [] e = tt
+all_below limit (a ∷ ps) e =
+    let p = and_parts _ _ e in
+    (ltb-true _ _ p.0, all_below limit ps p.1)
+
+-- for revision 0 they are below 2^32
+pub low_ones : (first : Bool) (ps : List ℕ) → (not first || list_all (λ a. nat_lt a (2 ^ 32)) ps) ≡ true → first ≡ true → AllByRecursion (λ a. a < 2 ^ 32) ps
+low_ones true ps e f = all_below (2 ^ 32) ps e
+low_ones false ps e f = absurd cc
+
+wide_by : (first : Bool) (ps : List ℕ) → AllByRecursion (λ a. a < 2 ^ 64) ps → (first ≡ true → AllByRecursion (λ a. a < 2 ^ 32) ps)
+    → AllByRecursion (λ a. a < 256 ^ width_of (if first then Rsdt else Xsdt)) ps
+wide_by true ps wide low = low refl
+wide_by false ps wide low = wide
+
+pub pointers_narrow : (first : Bool) (ts : Memory) → Ends (map summed ts) → (first ≡ true → AllByRecursion (λ a. a < 2 ^ 32) (starts_of ts))
+    → AllByRecursion (λ a. a < 256 ^ width_of (if first then Rsdt else Xsdt)) (starts_of ts)
+pointers_narrow first ts ends low = wide_by first (starts_of ts) (starts_below ts ends) low
+
+-- ---- what is written is read back, opened, and has the tables that were placed
 
 -- what is known if the file is written
 record Facts (p : Plan) (file : List ℕ) : Type 0 where
@@ -55,10 +126,6 @@ facts p file e =
     let parts = bind_ok (check_plan p) _ file e in
     record { ok = passed p parts.0 parts.1; image = same_file _ _ parts.2 }
 
-not_zero : (b : Bool) → not b ≡ true → b ≡ false
-not_zero false e = refl
-not_zero true e = absurd cc
-
 module _ (p : Plan) (ok : Passed p) (memory : IsMemory (records_of p)) where
   ends : Ends (records_of p)
   ends = places_end (records_of p) ok.places
@@ -78,7 +145,7 @@ module _ (p : Plan) (ok : Passed p) (memory : IsMemory (records_of p)) where
   pointers_there = pointers_are (kind_of p) (pointers_of p) (pointers_narrow (p.revision == 0) p.tables ends.1.1 (λ first. (low first).1))
 
   rsdp_tested : IsRsdp p.revision p.root (rsdp_to p.revision p.root)
-  rsdp_tested = is_rsdp p.revision p.root (not_zero (p.root == 0) ok.some) (omega (arith, ends.1.0)) (λ first. (low first).0)
+  rsdp_tested = is_rsdp p.revision p.root (not_true (p.root == 0) ok.some) (omega (arith, ends.1.0)) (λ first. (low first).0)
 
   rsdp_is : rsdp_at (records_of p) p.rsdp ≡ Ok (rsdp_to p.revision p.root)
   rsdp_is = rsdp_there (records_of p) (rsdp_record p.rsdp p.revision p.root) memory (every_in (records_of p)).0 (length-rsdp_to p.revision p.root) p.revision p.root rsdp_tested

@@ -1,14 +1,16 @@
 -- Where records lie: their starts and lengths, whatever their bytes are.
 use Rattle.std.specs.Prelude.{ℕ, List, length, map, replicate}
 use Rattle.std.specs.BTreeMap.{BTreeMap}
-use Rattle.acpi_base.specs.Memory.{Memory}
+use Rattle.acpi_base.specs.Memory.{Memory, Region}
 use Rattle.acpi_image_reader.specs.Starts.{AreAllApart, ListsStarts}
 use Rattle.acpi_image.specs.declared.write.PlacedTable.{PlacedTable}
 
--- regions where tables are to lie
+-- the region where a table is to lie
+abbrev pub place_of : PlacedTable → Region
+place_of t = record { start = t.address; bytes = replicate (length t.bytes.now) 0 }
+
 abbrev pub places_of : List PlacedTable → Memory
-places_of tables =
-    map (λ t. record { start = t.address; bytes = replicate (length t.bytes.now) 0 }) tables
+places_of tables = map place_of tables
 
 -- the places are apart, and a map lists them: at each address the length of the one that starts
 -- there

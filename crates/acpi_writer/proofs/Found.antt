@@ -13,8 +13,7 @@ use Rattle.acpi_base.specs.declared.table.signature.Signature.{Signature}
 use Rattle.acpi.proofs.Moved.{first_of, lookup_is}
 use Rattle.acpi.specs.Lookup.{lookup}
 use Rattle.acpi.specs.Relocation.{bytes_found}
-use Rattle.acpi_image.proofs.Summed.{part_front}
-use Rattle.acpi_image.proofs.Written.{length-with_sum}
+use Rattle.acpi_image.proofs.Written.{part_front, length-with_sum}
 use Rattle.acpi_image.proofs.WrittenLaws.{written_is_read}
 use Rattle.acpi_image.specs.Written.{Plan, pointers_of, records_of, sum_byte, with_sum}
 use Rattle.acpi_writer.specs.ImageLaws.{HasFirst, is_named}

@@ -6,7 +6,7 @@ use Rattle.acpi_base.specs.Bytes.{field_of, number, part, spelling}
 use Rattle.acpi_base.specs.Header.{header_at}
 use Rattle.acpi_base.specs.Text.{letters_of}
 use Rattle.acpi_base.specs.declared.table.signature.Signature.{Signature}
-use Rattle.acpi_image.proofs.Summed.{part_before, part_behind}
+use Rattle.acpi_image.proofs.Written.{part_before, part_behind}
 use Rattle.acpi_image.specs.Written.{sum_byte, with_sum}
 use Rattle.acpi_writer.specs.Table.{AreIds, HasIds, IdsAreRead, table_bytes, table_head, unsummed}
 use Rattle.acpi_writer.specs.declared.ids.TableIds.{TableIds}

@@ -18,7 +18,7 @@ use Rattle.acpi_base.specs.declared.error.AcpiError.TheVariants.{SdtInvalidCheck
 use Rattle.acpi_base.specs.declared.table.signature.Signature.{Signature}
 use Rattle.acpi.proofs.First.{here}
 use Rattle.acpi.specs.Later.{or_later}
-use Rattle.acpi_image.proofs.WrittenTables.{header_names, table_is}
+use Rattle.acpi_image.proofs.Written.{header_names, table_is}
 use Rattle.acpi_writer.specs.ImageLaws.{is_named}
 use Rattle.acpi_writer.specs.Laid.{gap, laid, padded}
 use Rattle.acpi_writer.specs.MachineLaws.{LaidAreFound}

@@ -20,7 +20,7 @@ use Rattle.acpi.specs.Lookup.{lookup}
 use Rattle.acpi.specs.Places.{facs_place, led_by, range}
 use Rattle.acpi.specs.Rsdp.{at_hand, check_rsdp, check_whole, checked_length, rsdp_at}
 use Rattle.acpi.specs.declared.root.RootKind.TheVariants.{Xsdt}
-use Rattle.acpi_image.proofs.WrittenTables.{table_is}
+use Rattle.acpi_image.proofs.Written.{table_is}
 use Rattle.acpi_writer.specs.Contents.{FitsContents, bytes_of, contents_written, most, or_none}
 use Rattle.acpi_writer.specs.Facs.{FitsFacs}
 use Rattle.acpi_writer.specs.ImageLaws.{is_named}

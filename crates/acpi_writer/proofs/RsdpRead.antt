@@ -8,8 +8,7 @@ use Rattle.acpi_base.specs.Bytes.{field_of, spelling, sum_of}
 use Rattle.acpi.specs.Root.{root_pointer}
 use Rattle.acpi.specs.Rsdp.{check_first, check_rsdp, check_sum, checked_length, root_of_rsdp, rsd_ptr, rsdp_of}
 use Rattle.acpi.specs.declared.root.RootKind.TheVariants.{Xsdt}
-use Rattle.acpi_image.proofs.Summed.{sum_is_set}
-use Rattle.acpi_image.proofs.Written.{length-with_first_sum, length-with_sum}
+use Rattle.acpi_image.proofs.Written.{sum_is_set, length-with_first_sum, length-with_sum}
 use Rattle.acpi_image.specs.Written.{sum_byte, with_first_sum, with_sum}
 use Rattle.acpi_writer.specs.Rsdp.{Leads, RsdpIsRead, rsdp_bytes, rsdp_unsummed, rsdp_written}
 use Rattle.acpi_writer.specs.Table.{are_texts}

@@ -8,9 +8,7 @@ use Rattle.acpi_base.specs.Bytes.{field_of, number, part, spelling, sum_of}
 use Rattle.acpi_base.specs.Header.{check_names, check_table, header_at}
 use Rattle.acpi_base.specs.Text.{letters_of}
 use Rattle.acpi_base.specs.declared.table.signature.Signature.{Signature}
-use Rattle.acpi_image.proofs.Summed.{part_front, sum_is_set}
-use Rattle.acpi_image.proofs.Written.{length-with_sum}
-use Rattle.acpi_image.proofs.WrittenTables.{IsTable, still}
+use Rattle.acpi_image.proofs.Written.{part_front, sum_is_set, length-with_sum, IsTable, still}
 use Rattle.acpi_image.specs.WriteChecks.{is_table}
 use Rattle.acpi_image.specs.Written.{sum_byte, with_sum}
 use Rattle.acpi_writer.specs.ImageLaws.{is_named}

@@ -47,7 +47,7 @@ fn all_low(tables: &[PlacedTable<'_>]) -> bool
 }
 
 /// Whether a root table of this revision can name its own address and those of the tables.
-#[tactic(auto, using(crate::proofs::Places::all_low))]
+#[tactic(auto, using(crate::proofs::Checks::all_low))]
 fn pointers_fit(revision: u8, root_address: u64, tables: &[PlacedTable<'_>]) -> bool
     ensures { result ≡ checks.pointers_fit revision
         (root_address ∷ starts_of (placed tables.now)) }

@@ -1,10 +1,10 @@
 //! The places that the records of a written image are to lie at.
 ghost use Rattle.std.specs.Prelude.{◌≡◌, ◌+◌, ◌^◌, ◌<◌, ◌∷◌, ◌++◌, [], true, false, nat_lt, length, IfOk, OnOk};
-ghost use Rattle.std.specs.List.{list_all};
+ghost use Rattle.std.specs.List.{list_all, list_any};
 ghost use Rattle.acpi_base.specs.Memory.{Memory, end_of};
-ghost use Rattle.acpi_image_reader.specs.Image.{shares_any};
+ghost use Rattle.acpi_image_reader.specs.Image.{share, shares_any};
 ghost use Rattle.acpi_image_reader.specs.Regions.{region_in};
-ghost use Rattle.acpi_image.specs.Places.{IsPlaced, places_of};
+ghost use Rattle.acpi_image.specs.Places.{IsPlaced, place_of, places_of};
 ghost use Rattle.acpi_image.specs.WriteChecks as checks;
 
 use crate::error::WriteError;
@@ -28,17 +28,15 @@ pub fn range_of(table: &PlacedTable<'_>) -> AddressRange
 
 /// Whether some byte lies in a place and in one of the tables.
 fn shares_with_any(place: AddressRange, tables: &[PlacedTable<'_>]) -> bool
-    ensures { result ≡ shares_any (places_of tables.now) (region_in place) }
+    ensures { result ≡ list_any (λ t. share (place_of t) (region_in place)) tables.now }
 {
-    for table in tables {
-        if shares_byte(range_of(table), place) {
-            return true;
-        }
-    }
-    false
+    tables
+        .iter()
+        .any(|table| shares_byte(range_of(table), place))
 }
 
 /// Whether some byte lies in two of the tables.
+#[tactic(auto, using(std::proofs::lemmas::Grind::common_steps, crate::proofs::Checks::any_shares))]
 fn some_share(tables: &[PlacedTable<'_>]) -> bool
     ensures { result ≡ checks.some_share (places_of tables.now) }
 {
@@ -133,6 +131,7 @@ fn some_share_by_starts<A: Allocator + Clone>(
 }
 
 /// Whether some byte lies in two of the places, pair by pair: it takes longer, and no memory.
+#[tactic(auto, using(crate::proofs::Checks::any_shares))]
 fn some_share_by_pairs(rsdp: AddressRange, root: AddressRange, tables: &[PlacedTable<'_>]) -> bool
     ensures { result ≡ checks.some_share
         (region_in rsdp ∷ region_in root ∷ places_of tables.now) }
@@ -153,7 +152,7 @@ fn all_fit(tables: &[PlacedTable<'_>]) -> bool
 /// Tests the places that the records are to lie at.
 ///
 /// Fails, in this order, with `EndTooLarge` and `Overlap`.
-#[tactic(auto, using(crate::proofs::Places::all_fit), unfolding(crate::specs::WriteChecks::check_places))]
+#[tactic(auto, using(crate::proofs::Checks::all_fit), unfolding(crate::specs::WriteChecks::check_places))]
 pub(super) fn check_places<A: Allocator + Clone>(
     alloc: A,
     rsdp: AddressRange,

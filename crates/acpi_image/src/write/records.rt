@@ -25,18 +25,36 @@ pub fn set_sum(bytes: &mut [u8], offset: usize)
     bytes[offset] = 0u8.wrapping_sub(byte_sum(bytes));
 }
 
+/// The low four bytes of a number, the lowest first.
+#[tactic(auto, using(crate::proofs::Written::low_four))]
+fn dword(number: u64) -> [u8; 4]
+    ensures { result ≡ spelling 4 number }
+{
+    let mut bytes = [0; 4];
+    bytes.copy_from_slice(&number.to_le_bytes()[..4]);
+    bytes
+}
+
+/// The eight bytes of a number, the lowest first.
+#[tactic(auto, using(crate::proofs::Written::le_bytes))]
+fn qword(number: u64) -> [u8; 8]
+    ensures { result ≡ spelling 8 number }
+{
+    number.to_le_bytes()
+}
+
 /// An RSDP whose checksums are 0 (section 5.2.5.3).
-#[tactic(auto, unfolding(crate::specs::Written::rsdp_unsummed))]
+#[tactic(auto, unfolding(crate::specs::Written::rsdp_unsummed, acpi_base::specs::Bytes::spelling))]
 fn rsdp_unsummed(revision: u8, rsdt: u64, count: u64, xsdt: u64) -> [u8; 36]
     ensures { result ≡ rsdp_unsummed revision rsdt count xsdt }
 {
     let mut rsdp = [0; 36];
-    rsdp[..8].copy_from_slice(b"RSD PTR "); // Signature
-    rsdp[9..15].copy_from_slice(b"      "); // OEMID
+    rsdp[24..32].copy_from_slice(&qword(xsdt)); // XsdtAddress
+    rsdp[20..24].copy_from_slice(&dword(count)); // Length
+    rsdp[16..20].copy_from_slice(&dword(rsdt)); // RsdtAddress
     rsdp[15] = revision; // Revision
-    rsdp[16..20].copy_from_slice(&rsdt.to_le_bytes()[..4]); // RsdtAddress
-    rsdp[20..24].copy_from_slice(&count.to_le_bytes()[..4]); // Length
-    rsdp[24..32].copy_from_slice(&xsdt.to_le_bytes()); // XsdtAddress
+    rsdp[9..15].copy_from_slice(b"      "); // OEMID
+    rsdp[..8].copy_from_slice(b"RSD PTR "); // Signature
     rsdp
 }
 
@@ -118,13 +136,14 @@ pub fn put_rsdp<A: Allocator>(
 
 /// A root table's header, whose checksum is 0 (section 5.2.6): an RSDT's for revision 0, otherwise
 /// an XSDT's.
+#[tactic(auto, unfolding(crate::specs::Written::root_header, acpi_base::specs::Bytes::spelling))]
 fn root_header(revision: u8, length: usize) -> [u8; 36]
     ensures { result ≡ root_header (signature_of (kind_of_revision revision)) length }
 {
     let mut header = [0; 36];
-    header[4..8].copy_from_slice(&(length as u64).to_le_bytes()[..4]); // Length
-    header[8] = 1; // Revision
     header[10..24].copy_from_slice(b"              "); // OEMID, OEM Table ID
+    header[8] = 1; // Revision
+    header[4..8].copy_from_slice(&dword(length as u64)); // Length
     header[..4].copy_from_slice(&signature(revision).to_bytes()); // Signature
     header
 }
@@ -152,6 +171,7 @@ fn put_pointers<A: Allocator>(
 /// Puts a root table that lists these tables.
 ///
 /// Fails with `OutOfMemory`.
+#[tactic(auto, using(crate::proofs::Written::lengths))]
 fn put_table_of_pointers<A: Allocator>(
     file: &mut Vec<u8, A>,
     revision: u8,
@@ -175,6 +195,7 @@ fn put_table_of_pointers<A: Allocator>(
 /// for revision 0, otherwise an XSDT (section 5.2.8).
 ///
 /// Fails with `OutOfMemory` if memory for it is refused.
+#[tactic(auto, using(std::proofs::lemmas::Grind::common_steps, crate::proofs::Written::root_long))]
 pub fn put_root_table<A: Allocator>(
     file: &mut Vec<u8, A>,
     address: u64,
@@ -226,7 +247,7 @@ fn put_table<A: Allocator>(file: &mut Vec<u8, A>, table: &PlacedTable<'_>) -> Re
 /// Puts the records of an image: of the RSDP, of the root table, and of each table in order.
 ///
 /// Fails with `OutOfMemory`.
-#[tactic(auto, using(crate::proofs::WrittenMemory::each_fits))]
+#[tactic(auto, using(crate::proofs::Written::each_fits))]
 pub(super) fn put_records<A: Allocator>(
     file: &mut Vec<u8, A>,
     rsdp_address: u64,

@@ -1,5 +1,5 @@
 use Rattle.std.proofs.Common.{◌∙◌, sym}
-use Rattle.acpi_image.proofs.Checked.{handed_on, root_short, tables_long}
+use Rattle.acpi_image.proofs.Checks.{handed_on, root_short, tables_long}
 use Rattle.acpi_image.proofs.write.write_in.Goals as goal
 
 pub returns-in_err-check_plan-clause-exact : goal.returns-in_err-check_plan-clause-exact

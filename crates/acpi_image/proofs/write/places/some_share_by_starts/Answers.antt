@@ -1,6 +1,6 @@
 use Rattle.std.proofs.Common.{◌∷◌, []}
 use Rattle.std.proofs.lemmas.Result.{IfOk-weaker}
-use Rattle.acpi_image.proofs.Places.{two_placed, two_share}
+use Rattle.acpi_image.proofs.Checks.{two_placed, two_share}
 use Rattle.acpi_image.specs.Places.{places_of}
 use Rattle.acpi_image_reader.specs.Regions.{region_in}
 use Rattle.acpi_image.proofs.write.places.some_share_by_starts.Goals as goal

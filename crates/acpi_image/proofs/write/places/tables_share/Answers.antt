@@ -1,5 +1,5 @@
 use Rattle.std.proofs.Common.{sym}
-use Rattle.acpi_image.proofs.Places.{table_added, table_fits, table_shares, tables_end}
+use Rattle.acpi_image.proofs.Checks.{table_added, table_fits, table_shares, tables_end}
 use Rattle.acpi_image.proofs.write.places.tables_share.Goals as goal
 
 pub shares_with_listed-requires : goal.shares_with_listed-requires
