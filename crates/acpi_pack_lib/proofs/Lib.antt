@@ -1,3 +1,3 @@
-pub mod Files
 pub mod Memories
+pub mod Packed
 pub mod Placing

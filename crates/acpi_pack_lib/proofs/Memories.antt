@@ -1,6 +1,6 @@
 -- What is packed is a memory, and its valid tables are the files.
-use Rattle.std.proofs.Common.{◌≡◌, ℕ, ◌+◌, ◌^◌, ◌<◌, ◌≤◌, Bool, true, false, List, [], ◌∷◌, ◌++◌, map, Result, Ok, Err, refl, sym, subst, arith, inl, inr}
-use Rattle.std.specs.Prelude.{◌⊎◌, IfOk, not, flat_map, Option}
+use Rattle.std.proofs.Common.{◌≡◌, ℕ, ◌+◌, ◌^◌, ◌<◌, ◌≤◌, Bool, true, false, List, [], ◌∷◌, ◌++◌, map, Result, Ok, refl, sym, subst, arith, inl, inr}
+use Rattle.std.specs.Prelude.{◌⊎◌, not, flat_map, Option}
 use Rattle.std.specs.List.{AllByRecursion, Contains}
 use Rattle.std.proofs.lemmas.Bool.{and_parts, leb-true, ltb-true}
 use Rattle.std.proofs.lemmas.List.{append-nil, append_assoc}
@@ -11,10 +11,8 @@ use Rattle.acpi_base.specs.Steps.{◌>>=◌, holds}
 use Rattle.acpi_base.specs.Table.{own_table_at}
 use Rattle.acpi.specs.Lists.{valid_tables}
 use Rattle.acpi_image_reader.proofs.Images.{image_again}
-use Rattle.acpi_image.proofs.Placed.{own_table_there}
+use Rattle.acpi_image.proofs.Written.{own_table_there, record_bytes, header_names, table_is}
 use Rattle.acpi_image_reader.proofs.Sharing.{all_apart, memory_with}
-use Rattle.acpi_image.proofs.WrittenMemory.{record_bytes}
-use Rattle.acpi_image.proofs.WrittenTables.{header_names, table_is}
 use Rattle.acpi_image_reader.specs.Image.{IsImage, record_spelling}
 use Rattle.acpi_image.specs.Written.{starts_of}
 use Rattle.acpi_pack_lib.specs.Pack.{check_place, check_places, file_of, packed_files, regions}
@@ -152,10 +150,3 @@ tables_valid m (t ∷ ts) h within all =
     let this : own_table_at m t.start ≡ Ok t.bytes =
     own_table_there m t h within.0 (header_names t.bytes is.signature is.id is.table_id) is.long is.whole all.0.sum in
     rw (this, tables_valid m ts h within.1 all.1) refl
-
--- ---- what a call answered
-
-pub files_answer : {V : Type 0} (items : V → List ℕ) (r : Result V Refusal) (addresses : List ℕ) (files : List (Option (List ℕ))) → IfOk r (λ v. IsBytes (items v))
-    → IfOk r (λ v. file_of (packed_files addresses files) ≡ Ok (items v)) → IfOk r (λ v. IsMemoryFile (regions addresses files) (items v))
-files_answer items (Ok v) addresses files bytes said = files_packed addresses files (items v) bytes said
-files_answer items (Err e) addresses files bytes said = tt

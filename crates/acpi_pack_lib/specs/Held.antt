@@ -2,9 +2,9 @@
 use Rattle.std.specs.Prelude.{ℕ, List, drop, map, Option}
 use Rattle.std.specs.Option.{option_copied}
 use Rattle.std.specs.Borrow.{Bor}
-use Rattle.acpi_base.specs.Memory.{Memory}
+use Rattle.acpi_base.specs.Memory.{Memory, Region}
 use Rattle.acpi_pack_lib.specs.Pack.{regions}
-use Rattle.acpi_pack_lib.specs.Sources.{entries}
+use Rattle.acpi_pack_lib.specs.Sources.{bytes_in, entries}
 use Rattle.acpi_pack_lib.specs.declared.place.FilesAt.{FilesAt}
 use Rattle.acpi_pack_lib.specs.declared.sources.FilesOfRole.{FilesOfRole}
 use Rattle.acpi_pack_lib.specs.declared.sources.IndexedFile.{IndexedFile}
@@ -19,6 +19,10 @@ contents files = map content files
 -- a file's index and its bytes
 abbrev pub entry_of : IndexedFile → ℕ × List ℕ
 entry_of e = (e.index, e.bytes.now)
+
+-- a file at an address
+abbrev pub region_at : ℕ → Option (Bor (List ℕ)) → Region
+region_at address file = record { start = address; bytes = bytes_in (content file) }
 
 -- the files of a role that are still to come
 abbrev pub entries_left : FilesOfRole → List (ℕ × List ℕ)

@@ -28,6 +28,7 @@ pub struct Command<'w> {
 /// The command of pairs of arguments, ADDRESS and FILE.
 ///
 /// Fails if it runs out of memory.
+#[tactic(auto, using(crate::proofs::arguments::parse_memory::Invariants::alone))]
 fn parse_memory<'w>(
     alloc: Global,
     out: &'w str,
@@ -39,22 +40,26 @@ fn parse_memory<'w>(
     let mut addresses = Vec::new(alloc);
     let mut names = Vec::new(alloc);
     let mut rest = words;
-    while let [address, file, behind @ ..] = rest {
-        let Some(address) = parse_address(address) else {
-            return Ok(None);
-        };
-        addresses.push(address)?;
-        names.push(*file)?;
-        rest = behind;
+    'pairs: loop {
+        match rest {
+            [address, file, behind @ ..] => {
+                let Some(address) = parse_address(address) else {
+                    return Ok(None);
+                };
+                addresses.push(address)?;
+                names.push(*file)?;
+                rest = behind;
+            }
+            [_] => return Ok(None),
+            [] => {
+                return Ok(Some(Command {
+                    out,
+                    names,
+                    form: Form::Memory(addresses),
+                }));
+            }
+        }
     }
-    if !rest.is_empty() {
-        return Ok(None);
-    }
-    Ok(Some(Command {
-        out,
-        names,
-        form: Form::Memory(addresses),
-    }))
 }
 
 /// The command of files of tables.

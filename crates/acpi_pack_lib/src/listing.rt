@@ -8,6 +8,7 @@ ghost use Rattle.acpi_pack_lib.specs.Held.{contents, entries_left, entry_of};
 ghost use Rattle.acpi_pack_lib.specs.Listing as listing;
 ghost use Rattle.acpi_pack_lib.specs.Listing.{AreNamed, label_text, labels_of, name_of, table_label};
 ghost use Rattle.acpi_pack_lib.specs.Run.{packed_by};
+ghost use Rattle.acpi_pack_lib.specs.declared.listing.Label.TheVariants as label;
 ghost use Rattle.acpi_pack_lib.specs.Arguments.{addresses_of};
 
 use crate::arguments::{Command, Form};
@@ -80,13 +81,9 @@ fn put_labels<'w>(
 ///
 /// Fails if it runs out of memory.
 fn range_labels<'w>(alloc: Global, names: &[&'w str]) -> Result<Vec<Label<'w>>, AllocError>
-    ensures { IfOk result (λ v. map label_text v.items ≡ map (λ n. n.now) names.now) }
+    ensures { IfOk result (λ v. v.items ≡ map (λ n. label.Name n) names.now) }
 {
-    let mut labels = Vec::new(alloc);
-    for name in names {
-        labels.push(Label::Name(name))?;
-    }
-    Ok(labels)
+    names.iter().map(|name| Label::Name(*name)).collect(alloc)
 }
 
 /// The labels of the records of an image of tables.
@@ -111,6 +108,7 @@ fn tables_labels<'w>(
 /// The labels of the records of an image, in order.
 ///
 /// Fails if it runs out of memory.
+#[tactic(auto, using(crate::proofs::Packed::names_shown))]
 fn labels_of<'w>(
     alloc: Global,
     command: &Command<'w>,
@@ -181,6 +179,7 @@ fn record_lines_exact(
 /// for tables it is `RSDP`, `XSDT`, or the signature and the file's name.
 ///
 /// Fails as `MemoryImage::from_bytes` does.
+#[tactic(auto, using(crate::proofs::Packed::are_named))]
 pub fn record_lines(
     alloc: Global,
     command: &Command<'_>,

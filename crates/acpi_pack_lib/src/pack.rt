@@ -1,12 +1,13 @@
 //! Images that are packed from files.
 ghost use Rattle.std.specs.Prelude.{◌≡◌, ◌+◌, ◌^◌, ◌<◌, ◌≤◌, ◌++◌, [], length, option_map, flat_map, IfErr, IfNone, IfOk, IfSome, OnOk, Ok};
+ghost use Rattle.std.specs.List.{list_any, zip};
 ghost use Rattle.acpi.specs.declared.root.RootKind.TheVariants.{Xsdt};
 ghost use Rattle.acpi_base.specs.Bytes.{IsBytes};
 ghost use Rattle.acpi_base.specs.Memory.{end_of};
 ghost use Rattle.acpi_base.specs.Steps.{Gives};
 ghost use Rattle.acpi_image_reader.specs.Image.{record_spelling, share, shares_any};
 ghost use Rattle.acpi_image.specs.Written.{placed, placed_region, root_length};
-ghost use Rattle.acpi_pack_lib.specs.Held.{contents};
+ghost use Rattle.acpi_pack_lib.specs.Held.{contents, region_at};
 ghost use Rattle.acpi_pack_lib.specs.Pack as pack;
 ghost use Rattle.acpi_pack_lib.specs.Pack.{RefusesOrRunsOut, all_regions, check_place, check_places, file_of, fixed_of};
 ghost use Rattle.acpi_pack_lib.specs.Pack.{laid_out, packed_files, packed_tables, regions};
@@ -35,7 +36,7 @@ const RSDP: u64 = 0xe0000;
 const FIRST: u64 = 0x100000;
 
 /// Whether two tables share a byte.
-#[tactic(auto, using(acpi_image::proofs::Places::tables_share))]
+#[tactic(auto, using(acpi_image::proofs::Checks::tables_share))]
 fn share(one: &PlacedTable<'_>, other: &PlacedTable<'_>) -> bool
     ensures { result ≡ share (placed_region one.now) (placed_region other.now) }
 {
@@ -44,21 +45,22 @@ fn share(one: &PlacedTable<'_>, other: &PlacedTable<'_>) -> bool
 
 /// Whether a table shares a byte with one of these files at their addresses.
 fn shares_byte(addresses: &[u64], files: &[FileBytes<'_>], table: &PlacedTable<'_>) -> bool
-    ensures { result ≡ shares_any (regions addresses.now (contents files.now))
-        (placed_region table.now) }
+    ensures { result ≡ list_any (λ f. share (region_at f.0 f.1) (placed_region table.now))
+        (zip addresses.now files.now) }
 {
-    for earlier in files_at(addresses, files) {
-        if share(&earlier, table) {
-            return true;
-        }
-    }
-    false
+    addresses.iter().zip(files).any(|(address, file)| {
+        let earlier = PlacedTable {
+            address: *address,
+            bytes: bytes_of(*file),
+        };
+        share(&earlier, table)
+    })
 }
 
 /// Tests the place of the file of this index, after earlier files at their addresses.
 ///
 /// Fails, in this order, with `EndTooLarge` and `Overlap`.
-#[tactic(auto, unfolding(crate::specs::Pack::check_place))]
+#[tactic(auto, using(crate::proofs::Placing::any_shares), unfolding(crate::specs::Pack::check_place))]
 fn check_place(
     index: usize,
     addresses: &[u64],
@@ -81,6 +83,7 @@ fn check_place(
 /// Tests the place of each file.
 ///
 /// Fails, files in order, as `check_place` does.
+#[tactic(auto, using(crate::proofs::Placing::place_checked, crate::proofs::Placing::regions_past))]
 fn check_places(addresses: &[u64], files: &[FileBytes<'_>]) -> Result<(), Refusal>
     ensures { result ≡ check_places 0 [] (regions addresses.now (contents files.now)) }
 {
@@ -97,7 +100,7 @@ fn check_places(addresses: &[u64], files: &[FileBytes<'_>]) -> Result<(), Refusa
 /// Puts the records of files at their addresses, one after the other.
 ///
 /// Fails with `OutOfMemory`.
-#[tactic(auto, using(acpi_image::proofs::WrittenMemory::each_fits))]
+#[tactic(auto, using(acpi_image::proofs::Written::each_fits))]
 fn put_files(file: &mut Vec<u8>, addresses: &[u64], files: &[FileBytes<'_>]) -> Result<(), Refusal>
     ensures put { let all = regions addresses.now (contents files.now) in
         OnOk result (file.new.items ≡ file.old.items ++ flat_map record_spelling all) }
@@ -136,6 +139,7 @@ fn pack_files_exact(
 /// `Empty` if it has no bytes; then of a file, in order, `EndTooLarge` if its address and the number of its
 /// bytes add up to more than 2^64 - 1, or `Overlap` if it shares a byte with an earlier one; and if no file
 /// is refused, `OutOfMemory` if memory runs out.
+#[tactic(auto, using(crate::proofs::Memories::files_packed))]
 pub fn pack_files(
     alloc: Global,
     addresses: &[u64],
@@ -238,7 +242,7 @@ fn put_tables(file: &mut Vec<u8>, tables: &[PlacedTable<'_>]) -> Result<(), Refu
 /// DSDT.
 ///
 /// Fails with `OutOfMemory`.
-#[tactic(auto, using(acpi_image::proofs::WrittenMemory::each_fits))]
+#[tactic(auto, using(acpi_image::proofs::Written::each_fits))]
 fn put_all(
     file: &mut Vec<u8>,
     root: u64,
@@ -277,7 +281,7 @@ fn root_length(count: usize) -> Option<usize>
 /// The file of memory that lists the tables among files, and has the DSDT at its address.
 ///
 /// Fails with `NoRoom`, and if nothing is refused so, with `OutOfMemory`.
-#[tactic(auto, unfolding(crate::specs::Pack::laid_out))]
+#[tactic(auto, using(crate::proofs::Placing::listed_length), unfolding(crate::specs::Pack::laid_out))]
 fn lay_out(
     alloc: Global,
     files: &[FileBytes<'_>],
@@ -328,6 +332,7 @@ fn pack_tables_exact(alloc: Global, files: &[FileBytes<'_>]) -> Result<Vec<u8>, 
 /// its length field says, or `Long` if it has more; of the DSDT `EndTooLarge` or `Overlap`; `NoRoom` if the
 /// tables can't all be listed and placed; and if nothing of this is refused, `OutOfMemory` if memory is
 /// refused.
+#[tactic(auto, using(crate::proofs::Packed::tables_packed))]
 pub fn pack_tables(alloc: Global, files: &[FileBytes<'_>]) -> Result<Vec<u8>, Refusal>
     // The file, or the first refusal, is the one that is defined; memory runs out only if nothing
     // is refused.

@@ -23,6 +23,7 @@ pub(crate) fn read_all<F: Files>(files: &mut F, names: &[&str]) -> Result<(), Al
 /// `None` if the file can't be read.
 ///
 /// Fails if it runs out of memory.
+#[tactic(auto, using(std::proofs::lemmas::Grind::common_steps, crate::proofs::Placing::later_read))]
 pub(crate) fn contents_from<F: Files>(
     alloc: Global,
     files: &F,
@@ -44,7 +45,7 @@ pub(crate) fn contents_from<F: Files>(
 /// Fails if it runs out of memory.
 fn contents(alloc: Global, readings: &[Reading]) -> Result<Vec<Option<&[u8]>>, AllocError>
     ensures { IfOk result (λ v.
-        map option_copied v.items ≡ contents_of (map read_of readings.now)) }
+        map option_copied v.items ≡ map (λ r. (read_of r).content) readings.now) }
 {
     let mut contents = Vec::new(alloc);
     for reading in readings {

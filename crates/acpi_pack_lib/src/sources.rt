@@ -2,7 +2,8 @@
 ghost use Rattle.std.specs.Prelude.{◌≡◌, ◌≤◌, length};
 ghost use Rattle.acpi_pack_lib.specs.Held.{content, contents, entries_left};
 ghost use Rattle.acpi_pack_lib.specs.Sources as sources;
-ghost use Rattle.acpi_pack_lib.specs.Sources.{bytes_in, is_of, is_unlisted, is_dsdt, listed};
+ghost use Rattle.acpi_pack_lib.specs.Sources.{bytes_in, is_of, is_unlisted, is_dsdt};
+ghost use Rattle.acpi_pack_lib.specs.declared.sources.FileRole.TheVariants.{Listed};
 
 use crate::error::{FileError, Refusal};
 use acpi_base::bytes::field;
@@ -101,7 +102,7 @@ impl<'a> Iterator for FilesOfRole<'a, '_> {
 }
 
 /// The files of a role, in order.
-#[tactic(auto, using(crate::proofs::Files::entries_few))]
+#[tactic(auto, using(crate::proofs::Placing::entries_few))]
 pub(crate) fn of_role<'a, 'f>(files: &'f [FileBytes<'a>], role: FileRole) -> FilesOfRole<'a, 'f>
     ensures all { entries_left result ≡ sources.entries role 0 (contents files.now) }
     ensures few { length (entries_left result) ≤ length files.now }
@@ -115,7 +116,7 @@ pub(crate) fn of_role<'a, 'f>(files: &'f [FileBytes<'a>], role: FileRole) -> Fil
 
 /// How many files the XSDT lists.
 pub(crate) fn listed_count(files: &[FileBytes<'_>]) -> usize
-    ensures { result ≡ length (listed (contents files.now)) }
+    ensures { result ≡ length (sources.entries Listed 0 (contents files.now)) }
 {
     of_role(files, FileRole::Listed).count()
 }

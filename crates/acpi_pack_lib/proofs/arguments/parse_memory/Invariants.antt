@@ -1,5 +1,5 @@
 -- Pairs of arguments.
-use Rattle.std.proofs.Common.{◌≡◌, ℕ, List, ◌++◌, length, map}
+use Rattle.std.proofs.Common.{◌≡◌, ℕ, ◌<◌, ◌≤◌, List, [], ◌∷◌, ◌++◌, None, length, map, refl, arith}
 use Rattle.std.specs.Prelude.{Option}
 use Rattle.std.specs.Borrow.{Bor}
 use Rattle.std.specs.Option.{option_map}
@@ -18,8 +18,14 @@ pub record SoFar (addresses : List ℕ) (names rest words : List (Bor (List ℕ)
   pub addressed : behind addresses (addresses_in (texts_of rest)) ≡ addresses_in (texts_of words)
   pub named : texts_of names ++ names_in (texts_of rest) ≡ names_in (texts_of words)
 
-abbrev pub invariant-loop-rest : goal.invariant-loop-rest
-invariant-loop-rest l = SoFar l.addresses.items l.names.items l.rest l.words
+abbrev pub invariant-pairs : goal.invariant-pairs
+invariant-pairs l = SoFar l.addresses.items l.names.items l.rest l.words
 
-abbrev pub decreases-loop-rest : goal.decreases-loop-rest
-decreases-loop-rest l = length l.rest
+abbrev pub decreases-pairs : goal.decreases-pairs
+decreases-pairs l = length l.rest
+
+-- an argument is left that has no second
+pub alone : (rest : List (Bor (List ℕ))) → 1 ≤ length rest → length rest < 2 → addresses_in (texts_of rest) ≡ None
+alone [] some less = absurd (omega arith)
+alone (a ∷ []) some less = refl
+alone (a ∷ b ∷ rest) some less = absurd (omega arith)

@@ -11,6 +11,8 @@ use Rattle.acpi_pack_lib.specs.Pack.{RefusesOrRunsOut, all_regions, first_addres
 use Rattle.acpi_pack_lib.specs.Place.{place_at, placed_from, room}
 use Rattle.acpi_pack_lib.specs.declared.error.Refusal.{Refusal}
 use Rattle.acpi_pack_lib.specs.declared.error.Refusal.TheVariants as refusal
+use Rattle.acpi_pack_lib.proofs.Placing.{listed_length}
+use Rattle.acpi_pack_lib.specs.Held.{contents}
 use Rattle.acpi_pack_lib.proofs.pack.lay_out.Goals as goal
 
 abbrev done : Memory → Result Memory Refusal
@@ -75,20 +77,20 @@ module _ (dsdt : Option Region) (fixed : Region) (tables : List (List ℕ)) (cou
 
 pub returns-in_err-check_room-clause-refused : goal.returns-in_err-check_room-clause-refused
 returns-in_err-check_room-clause-refused c =
-    let long = c.in-Some.ensures.there ∙ ap (root_length Xsdt) c.listed_count.ensures in
+    let long = c.in-Some.ensures.there ∙ ap (root_length Xsdt) (c.listed_count.ensures ∙ sym (listed_length (contents c.args.files.now))) in
     let there = sym c.place_one.ensures.value ∙ c.in-Some-place_one.is in
     refuses _ _ _ c.from_residual.ensures.1 (no_room _ _ _ _ _ c.fixed_of-fixed.ensures long c.in-Some.ensures.low there _ (sym c.check_room.ensures ∙ c.in_err-check_room.was))
 
 pub returns-in_err-tables-clause-refused : goal.returns-in_err-tables-clause-refused
 returns-in_err-tables-clause-refused c =
-    let long = c.in-Some.ensures.there ∙ ap (root_length Xsdt) c.listed_count.ensures in
+    let long = c.in-Some.ensures.there ∙ ap (root_length Xsdt) (c.listed_count.ensures ∙ sym (listed_length (contents c.args.files.now))) in
     let there = sym c.place_one.ensures.value ∙ c.in-Some-place_one.is in
     let room = sym c.check_room.ensures ∙ c.in_ok-check_room.was in
     refuses _ _ _ c.from_residual-in_err-tables.ensures.1 (not_placed _ _ _ _ _ c.fixed_of-fixed.ensures long c.in-Some.ensures.low there _ room _ c.in_err-tables.ensures.refused)
 
 pub returns-in_err-put_all-clause-refused : goal.returns-in_err-put_all-clause-refused
 returns-in_err-put_all-clause-refused c =
-    let long = c.in-Some.ensures.there ∙ ap (root_length Xsdt) c.listed_count.ensures in
+    let long = c.in-Some.ensures.there ∙ ap (root_length Xsdt) (c.listed_count.ensures ∙ sym (listed_length (contents c.args.files.now))) in
     let there = sym c.place_one.ensures.value ∙ c.in-Some-place_one.is in
     let room = sym c.check_room.ensures ∙ c.in_ok-check_room.was in
     refuses _ _ _ c.from_residual-in_err-put_all.ensures.1 (out_of_memory _ _ _ _ _ c.fixed_of-fixed.ensures long c.in-Some.ensures.low there _ room _ c.in_err-put_all.ensures.refused)

@@ -1,10 +1,11 @@
--- What is packed of tables is a memory, is opened there, and lists the files in order.
-use Rattle.std.proofs.Common.{◌≡◌, ℕ, ◌+◌, ◌^◌, ◌<◌, ◌≤◌, false, List, [], ◌∷◌, ◌++◌, length, map, drop, Some, None, Result, Ok, Err, refl, sym, ap, subst, ◌∙◌, arith, ne_eqb}
-use Rattle.std.specs.Prelude.{◌==◌, IfOk, Option}
+-- What is packed of tables is a memory, is opened there, and lists the files in order; its records have the bytes of
+-- files in order too.
+use Rattle.std.proofs.Common.{◌≡◌, ℕ, ◌+◌, ◌^◌, ◌<◌, ◌≤◌, false, List, [], ◌∷◌, ◌++◌, length, map, drop, Some, None, Result, Ok, refl, sym, ap, subst, ◌∙◌, arith, ne_eqb}
+use Rattle.std.specs.Prelude.{◌==◌, Option}
 use Rattle.std.specs.List.{AllByRecursion, Contains}
 use Rattle.std.specs.Option.{ok_or}
 use Rattle.std.proofs.lemmas.Bool.{ltb-true}
-use Rattle.std.proofs.lemmas.List.{append-nil, length-map, length-replicate}
+use Rattle.std.proofs.lemmas.List.{append-nil, length-map, length-replicate, append_assoc, map-append}
 use Rattle.acpi_base.proofs.Steps.{bind_ok, holds_ok}
 use Rattle.acpi_base.specs.Bytes.{IsBytes}
 use Rattle.acpi_base.specs.Memory.{Memory, Region, AreApart, IsMemory, end_of}
@@ -14,23 +15,24 @@ use Rattle.acpi.specs.Opened.{opened_by_rsdp}
 use Rattle.acpi.specs.Root.{pointers, root_at, width_of}
 use Rattle.acpi.specs.Rsdp.{rsdp_at}
 use Rattle.acpi.specs.declared.root.RootKind.TheVariants.{Xsdt}
-use Rattle.acpi_image.proofs.Placed.{every_in}
+use Rattle.acpi_image.proofs.Written.{every_in, length-root_to, length-rsdp_to}
 use Rattle.acpi_image_reader.proofs.Sharing.{memory_with}
-use Rattle.acpi_image.proofs.Written.{length-root_to, length-rsdp_to}
-use Rattle.acpi_image.proofs.WrittenRoot.{pointers_are, root_there}
-use Rattle.acpi_image.proofs.WrittenRsdp.{IsRsdp, is_rsdp, rsdp_there}
+use Rattle.acpi_image.proofs.WrittenRoot.{pointers_are, root_there, IsRsdp, is_rsdp, rsdp_there}
 use Rattle.acpi_image_reader.specs.Image.{IsImage}
 use Rattle.acpi_image.specs.Written.{root_length, root_record, root_to, rsdp_record, rsdp_to, starts_of}
 use Rattle.acpi_pack_lib.proofs.Memories.{HasPlace, file_is, has_place, is_file, placed_apart, placed_behind, placed_memory, same_regions, tables_valid}
 use Rattle.acpi_pack_lib.proofs.Placing.{is_placed, placed_bytes, placed_law}
-use Rattle.acpi_pack_lib.specs.Pack.{all_regions, check_place, dsdt_address, dsdt_at, file_of, first_address, fixed_of, laid_out, listed_or, packed_tables, rsdp_address, rsdp_place, unless_second}
+use Rattle.acpi_pack_lib.specs.Pack.{all_regions, check_place, dsdt_address, dsdt_at, file_of, first_address, fixed_of, laid_out, listed_or, packed_tables, rsdp_address, rsdp_place, unless_second, check_places, packed_files, regions}
 use Rattle.acpi_pack_lib.specs.Packed.{IsPacked, IsRight, opened_with}
 use Rattle.acpi_pack_lib.specs.Place.{ArePlaced, place_at, placed_from}
-use Rattle.acpi_pack_lib.specs.Sources.{bytes_of, check_tables, entries}
+use Rattle.acpi_pack_lib.specs.Sources.{bytes_of, check_tables, entries, bytes_in, check_contents}
 use Rattle.acpi_pack_lib.specs.declared.error.Refusal.{Refusal}
 use Rattle.acpi_pack_lib.specs.declared.error.Refusal.TheVariants.{NoRoom}
 use Rattle.acpi_pack_lib.specs.declared.sources.FileRole.TheVariants.{Dsdt, Listed}
-use Rattle.acpi_pack_lib.proofs.pack.pack_tables.Goals as goal
+use Rattle.std.specs.Borrow.{Bor}
+use Rattle.acpi_pack_lib.specs.Listing.{AreNamed, label_text}
+use Rattle.acpi_pack_lib.specs.declared.listing.Label.TheVariants as label
+use Rattle.acpi_pack_lib.specs.Run.{packed_by}
 
 abbrev AllBytes : Memory → Type 0
 AllBytes m = AllByRecursion (λ r. IsBytes r.bytes) m
@@ -232,7 +234,7 @@ packs files m e =
       laid = laid_is second.0 _ m second.2;
     }
 
-tables_packed : (files : List (Option (List ℕ))) (file : List ℕ) → IsBytes file → file_of (packed_tables files) ≡ Ok file → IsPacked files file
+pub tables_packed : (files : List (Option (List ℕ))) (file : List ℕ) → IsBytes file → file_of (packed_tables files) ≡ Ok file → IsPacked files file
 tables_packed files file bytes e =
     let known = file_is (packed_tables files) file bytes e in
     let p = packs files known.all known.packed_is in
@@ -252,10 +254,67 @@ tables_packed files file bytes e =
       valid = valid_are p.dsdt listed known.all p.laid memory;
     }
 
-tables_answer : {V : Type 0} (items : V → List ℕ) (r : Result V Refusal) (files : List (Option (List ℕ))) → IfOk r (λ v. IsBytes (items v))
-    → IfOk r (λ v. file_of (packed_tables files) ≡ Ok (items v)) → IfOk r (λ v. IsPacked files (items v))
-tables_answer items (Ok v) files bytes said = tables_packed files (items v) bytes said
-tables_answer items (Err e) files bytes said = tt
+-- ---- names, and the files that they name
 
-pub returns-clause-law : goal.returns-clause-law
-returns-clause-law c = tables_answer (λ v. v.items) c.pack_tables_exact.result _ c.pack_tables_exact.ensures.bytes c.pack_tables_exact.ensures.exact
+-- labels that are names alone
+pub names_shown : (names : List (Bor (List ℕ))) → map label_text (map (λ n. label.Name n) names) ≡ map (λ n. n.now) names
+names_shown [] = refl
+names_shown (n ∷ names) = ap (λ (ls : List (List ℕ)). n.now ∷ ls) (names_shown names)
+
+-- these bytes begin with those of the regions
+abbrev Begin : List (List ℕ) → Memory → Type 0
+Begin named m = (others : List (List ℕ)) × (named ≡ map (λ r. r.bytes) m ++ others)
+
+-- files at addresses
+
+ranges_named : (addresses : List ℕ) (files : List (Option (List ℕ))) → Begin (map bytes_in files) (regions addresses files)
+ranges_named [] files = (map bytes_in files, refl)
+ranges_named (a ∷ addresses) [] = ([], refl)
+ranges_named (a ∷ addresses) (f ∷ files) =
+    let rest = ranges_named addresses files in
+    (rest.0, ap (λ (xs : List (List ℕ)). bytes_in f ∷ xs) rest.1)
+
+files_named : (addresses : List ℕ) (files : List (Option (List ℕ))) (m : Memory) → packed_files addresses files ≡ Ok m → AreNamed (Some addresses) files m
+unfolding packed_files
+files_named addresses files m e =
+    let first = bind_ok (check_contents 0 files) _ m e in
+    let second = bind_ok (check_places 0 [] (regions addresses files)) _ m first.2 in
+    subst (λ (k : Memory). AreNamed (Some addresses) files k) (same_regions _ _ second.2) (ranges_named addresses files)
+
+-- tables
+
+one_named : (a : ℕ) (first : ℕ × List ℕ) (others : List (ℕ × List ℕ)) (d : Option Region) → unless_second (record { start = a; bytes = first.1 }) others ≡ Ok d
+    → Begin (bytes_of (first ∷ others)) (listed_or d)
+one_named a first [] d e = subst (λ (o : Option Region). Begin (bytes_of (first ∷ [])) (listed_or o)) (same_dsdt _ _ e) ([], refl)
+one_named a first (x ∷ others) d e = absurd cc
+
+dsdt_named : (address : Option ℕ) (found : List (ℕ × List ℕ)) (d : Option Region) → dsdt_at address found ≡ Ok d → Begin (bytes_of found) (listed_or d)
+dsdt_named address [] d e = subst (λ (o : Option Region). Begin [] (listed_or o)) (same_dsdt _ _ e) ([], refl)
+dsdt_named None (first ∷ others) d e =
+    subst (λ (o : Option Region). Begin (bytes_of (first ∷ others)) (listed_or o)) (same_dsdt _ _ e) (bytes_of (first ∷ others), refl)
+dsdt_named (Some a) (first ∷ others) d e =
+    let parts = bind_ok (check_place first.0 (rsdp_place ∷ []) (record { start = a; bytes = first.1 })) _ d e in
+    one_named a first others d parts.2
+
+joined : (listed dsdts : List (ℕ × List ℕ)) (tables ds : Memory) → map (λ r. r.bytes) tables ≡ bytes_of listed → Begin (bytes_of dsdts) ds → Begin (bytes_of (listed ++ dsdts)) (tables ++ ds)
+joined listed dsdts tables ds same begun = (
+  begun.0,
+  map-append (λ e. e.1) listed dsdts
+      ∙ ap (λ (xs : List (List ℕ)). xs ++ bytes_of dsdts) (sym same)
+      ∙ ap (λ (xs : List (List ℕ)). map (λ r. r.bytes) tables ++ xs) begun.1
+      ∙ sym (append_assoc (map (λ r. r.bytes) tables) (map (λ r. r.bytes) ds) begun.0)
+      ∙ ap (λ (xs : List (List ℕ)). xs ++ begun.0) (sym (map-append (λ r. r.bytes) tables ds)),
+)
+
+tables_named : (files : List (Option (List ℕ))) (m : Memory) → packed_tables files ≡ Ok m → AreNamed None files m
+unfolding packed_tables
+tables_named files m e =
+    let first = bind_ok (check_tables 0 files) _ m e in
+    let second = bind_ok (dsdt_at (dsdt_address (bytes_of (entries Listed 0 files))) (entries Dsdt 0 files)) _ m first.2 in
+    let laid = laid_is second.0 (bytes_of (entries Listed 0 files)) m second.2 in
+    let begun = dsdt_named _ (entries Dsdt 0 files) second.0 second.1 in
+    subst (λ (k : Memory). AreNamed None files k) laid.all (joined (entries Listed 0 files) (entries Dsdt 0 files) laid.tables (listed_or second.0) (bytes_are second.0 (bytes_of (entries Listed 0 files)) m laid) begun)
+
+pub are_named : (addresses : Option (List ℕ)) (files : List (Option (List ℕ))) (m : Memory) → packed_by addresses files ≡ Ok m → AreNamed addresses files m
+are_named (Some addresses) files m e = files_named addresses files m e
+are_named None files m e = tables_named files m e
