@@ -39,7 +39,7 @@ pub fn affinities(source: &Source<'_>, out: &mut [MemoryAffinity]) -> Result<usi
 }
 
 /// The ranges in a SRAT's bytes.
-#[tactic(auto, using(acpi_numa::proofs::SratCounts::ranges_few))]
+#[tactic(auto, using(acpi_numa::proofs::Affinities::ranges_few))]
 fn fill_affinities(table: &[u8], out: &mut [MemoryAffinity]) -> usize
     ensures { Writes result out.old out.new (map affinity_record (ranges_of table.now)) }
 {

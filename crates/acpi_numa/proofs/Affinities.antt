@@ -1,6 +1,6 @@
 -- What the first valid SRAT says depends on what its lookup depends on, wherever the tables lie; the domain that is
--- computed is that of the first range in which the address lies.
-use Rattle.std.proofs.Common.{Result, Ok, lit≤, ◌≡◌, ℕ, Bool, true, false, List, [], ◌∷◌, Option, Some, None, refl, ap, arith}
+-- computed is that of the first range in which the address lies; and there are few ranges.
+use Rattle.std.proofs.Common.{Result, Ok, lit≤, ◌≡◌, ℕ, Bool, true, false, List, [], ◌∷◌, Option, Some, None, refl, ap, arith, suc, ◌-◌, ◌≤◌, ◌++◌, length, length-drop, drop, length-append}
 use Rattle.acpi_base.specs.Ranges.{DependsOn}
 use Rattle.acpi_base.specs.Steps.{◌>>=◌}
 use Rattle.acpi_base.specs.declared.error.AcpiError.{AcpiError}
@@ -9,11 +9,15 @@ use Rattle.acpi.proofs.Agreed.{same_said}
 use Rattle.acpi.proofs.Moved.{said_follows}
 use Rattle.acpi.specs.Footprint.{lookup_ranges}
 use Rattle.acpi.specs.Relocation.{FollowsTables}
-use Rattle.acpi_numa.specs.Affinities.{affinities_of, found_affinities, srat_kind, IsDomainOf, LiesIn, domain_at, lies_in}
+use Rattle.acpi_numa.specs.Affinities.{affinities_of, found_affinities, srat_kind, IsDomainOf, LiesIn, domain_at, lies_in, range_in, ranges_of}
 use Rattle.std.specs.Prelude.{find, if◌then◌else◌}
 use Rattle.std.specs.Option.{option_map}
 use Rattle.std.proofs.lemmas.Bool.Decides.{nat_tests}
 use Rattle.acpi_numa.specs.declared.srat.affinities.MemoryRange.{MemoryRange}
+use Rattle.std.specs.List.{concat, AllByRecursion, filter_map, cons_option}
+use Rattle.acpi_base.proofs.Cuts.{cut_is_cut}
+use Rattle.acpi_base.specs.Entries.{IsEntry, cut}
+use Rattle.acpi_numa.specs.Srat.{entries_of, entry_of, revision_of, srat_grammar, srat_layout}
 
 abbrev done : {A : Type 0} → A → Result A AcpiError
 done x = Ok x
@@ -64,3 +68,31 @@ first_of_all (r ∷ ranges) a = by_test (lies_in a r) r ranges a refl (first_of_
 
 pub domain_first : (o : Option ℕ) (ranges : List MemoryRange) (a : ℕ) → o ≡ domain_at ranges a → IsDomainOf ranges a o
 domain_first o ranges a is = rw is (first_of_all ranges a)
+
+-- ---- how many entries and ranges there are at most
+
+-- each has a kind and a length
+one_each : (es : List (List ℕ)) → AllByRecursion (IsEntry srat_layout) es → length es ≤ length (concat es)
+one_each [] a = omega arith
+one_each (e ∷ es) a = omega (arith, one_each es a.1, a.0.header, length-append e (concat es))
+
+length-cons_option : {X : Type 0} (o : Option X) (xs : List X) → length (cons_option o xs) ≤ suc (length xs)
+length-cons_option None xs = omega arith
+length-cons_option (Some x) xs = omega arith
+
+length-filter_map : {X Y : Type 0} (f : X → Option Y) (xs : List X) → length (filter_map f xs) ≤ length xs
+length-filter_map f [] = omega arith
+length-filter_map f (x ∷ xs) = omega (arith, length-filter_map f xs, length-cons_option (f x) (filter_map f xs))
+
+cut_few : (bytes : List ℕ) → length (cut srat_grammar bytes).0 ≤ length bytes
+cut_few bytes =
+    let c = cut_is_cut 7 srat_grammar bytes in
+    let long : length bytes ≡ length (concat (cut srat_grammar bytes).0 ++ (cut srat_grammar bytes).1) = ap length c.whole in
+    omega (arith, one_each (cut srat_grammar bytes).0 c.entries, long, length-append (concat (cut srat_grammar bytes).0) (cut srat_grammar bytes).1)
+
+pub entries_few : (table : List ℕ) → length (entries_of table) ≤ length table - 48
+entries_few table =
+    omega (arith, length-filter_map (entry_of (revision_of table)) (cut srat_grammar (drop 48 table)).0, cut_few (drop 48 table), length-drop 48 table)
+
+pub ranges_few : (table : List ℕ) → length (ranges_of table) ≤ length table - 48
+ranges_few table = omega (arith, length-filter_map range_in (entries_of table), entries_few table)

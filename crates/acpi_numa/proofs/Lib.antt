@@ -1,2 +1,1 @@
 pub mod Affinities
-pub mod SratCounts

@@ -152,6 +152,7 @@ impl<A: Allocator> MemoryAffinities<A> {
 
     /// Proximity Domain of the memory at a physical address (section 5.2.16.2): that of the first range in
     /// which the address lies, or `None` if it lies in none.
+    #[tactic(auto, using(crate::proofs::Affinities::domain_first))]
     pub fn domain_of(&self, address: u64) -> Option<u32>
         ensures value { result ≡ domain_at self.now address }
         // It is that of the first range in which the address lies.
@@ -172,19 +173,17 @@ impl<A: Allocator> MemoryAffinities<A> {
 fn domain_at(ranges: &[MemoryRange], address: u64) -> Option<u32>
     ensures { result ≡ domain_at ranges.now address }
 {
-    for range in ranges {
-        if range.holds(address) {
-            return Some(range.domain);
-        }
-    }
-    None
+    ranges
+        .iter()
+        .find(|range| range.holds(address))
+        .map(|range| range.domain)
 }
 
 /// How many ranges of memory a SRAT's bytes put into domains, from the table's first byte on.
 ///
 /// Fails, in this order, with `InvalidEntryLength` if the entries end before the table does, and with
 /// `InvalidMemoryRange` if one of these ranges ends above 2^64 - 1.
-#[tactic(auto, using(crate::proofs::SratCounts::ranges_few))]
+#[tactic(auto, using(crate::proofs::Affinities::ranges_few))]
 pub fn counted(table: &[u8]) -> NumaResult<usize>
     ensures { result ≡ affinities_count table.now }
 {

@@ -23,7 +23,7 @@ impl<'a> SratEntryIter<'a> {
     ghost use Rattle.acpi_numa.specs.SratWalk.{entries_left, has_ended, is_malformed, rest_left};
 
     /// The entries of a SRAT's bytes (section 5.2.16): those after its 48 fixed bytes. It needs no handler.
-    #[tactic(auto, using(crate::proofs::SratCounts::entries_few))]
+    #[tactic(auto, using(crate::proofs::Affinities::entries_few))]
     pub fn over(table: &'a [u8]) -> Self
         ensures items { entries_left result ≡ entries_of table.now }
         ensures rest { rest_left result ≡ (cut_of table.now).1 }
