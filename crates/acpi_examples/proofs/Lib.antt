@@ -1,2 +1,1 @@
-pub mod Guest
-pub mod Listed
+pub mod Callers

@@ -1,4 +1,4 @@
-use Rattle.acpi_examples.proofs.Listed.{listed_allowed}
+use Rattle.acpi_examples.proofs.Callers.{listed_allowed}
 use Rattle.acpi_examples.proofs.guarded.graphic_within.Goals as goal
 
 pub graphic_of-requires : goal.graphic_of-requires

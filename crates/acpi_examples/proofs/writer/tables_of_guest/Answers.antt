@@ -1,7 +1,7 @@
 use Rattle.std.proofs.Common.{◌∙◌, length, ap, refl}
 use Rattle.std.proofs.lemmas.Iterator.Consumers.{YieldsList-from_first, count_from_yields_List}
 use Rattle.std.proofs.lemmas.List.{length-map}
-use Rattle.acpi_examples.proofs.Guest.{guest_count, same_memory}
+use Rattle.acpi_examples.proofs.Callers.{guest_count, same_memory}
 use Rattle.acpi_image.specs.Written.{placed_region, plan}
 use Rattle.acpi_examples.proofs.writer.tables_of_guest.Goals as goal
 

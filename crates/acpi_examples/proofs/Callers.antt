@@ -1,5 +1,6 @@
--- A guest finds as many tables as were placed.
-use Rattle.std.proofs.Common.{◌≡◌, ℕ, suc, List, [], ◌∷◌, drop, length, Result, Ok, Err, refl, sym, ap, subst, ◌∙◌}
+-- What callers rest on: a guest finds as many tables as were placed, and a lender over a handler may be asked for the
+-- ranges that it lists.
+use Rattle.std.proofs.Common.{◌≡◌, ℕ, suc, List, [], ◌∷◌, drop, length, Result, Ok, Err, refl, sym, ap, subst, ◌∙◌, ◌&&◌, Bool, true, false}
 use Rattle.std.specs.List.{cons_option}
 use Rattle.std.specs.Result.{result_ok}
 use Rattle.std.proofs.lemmas.List.{length-map}
@@ -15,6 +16,11 @@ use Rattle.acpi.specs.Root.{pointers, width_of}
 use Rattle.acpi_image_reader.specs.declared.error.ImageError.{ImageError}
 use Rattle.acpi_image.specs.WriteLaws.{IsWritten, opened_of}
 use Rattle.acpi_image.specs.Written.{Plan, pointers_of, records_of}
+use Rattle.acpi_base.proofs.AllowedRanges.{allows_equal}
+use Rattle.acpi_base.specs.Ranges.{Allows, Ranges, is_listed}
+use Rattle.acpi_examples.specs.Guarded.{graphic_ranges}
+
+-- ---- the tables of a guest
 
 abbrev done : SdtHeader → Result SdtHeader AcpiError
 done x = Ok x
@@ -49,3 +55,17 @@ read_as m = Ok m
 
 pub same_memory : (m n : Memory) → read_as m ≡ read_as n → n ≡ m
 same_memory m n e = cc
+
+-- ---- ranges that are listed
+
+-- a handler may be asked for any range
+pub with_any : (listed : Bool) → listed ≡ true → (listed && true) ≡ true
+with_any true h = refl
+with_any false h = absurd cc
+
+pub listed_allowed : {H : Type 0} (memory : H → Memory) (asked guarded : H) (ranges listed : Ranges) (rsdt : ℕ) → guarded ≡ asked → listed ≡ ranges
+    → ranges ≡ graphic_ranges (memory asked) rsdt → Allows (λ a n. is_listed listed a n && true) (graphic_ranges (memory guarded) rsdt)
+listed_allowed memory asked guarded ranges listed rsdt same kept named =
+    let all : Allows (is_listed listed) (graphic_ranges (memory guarded) rsdt) =
+    allows_equal listed (graphic_ranges (memory guarded) rsdt) (kept ∙ named ∙ ap (λ h. graphic_ranges (memory h) rsdt) (sym same)) in
+    λ k d less. with_any _ (all k d less)
