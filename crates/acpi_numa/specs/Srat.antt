@@ -12,6 +12,8 @@ use Rattle.acpi_base.specs.declared.entries.Width.TheVariants.{One}
 use Rattle.acpi_numa.specs.SratEntries as entries
 use Rattle.acpi_numa.specs.declared.srat.Srat.{Srat}
 use Rattle.acpi_numa.specs.declared.srat.domains.Domains.{Domains}
+use Rattle.acpi_numa.specs.declared.srat.entry.ProcessorId.{ProcessorId}
+use Rattle.acpi_numa.specs.declared.srat.entry.ProcessorId.TheVariants as processor
 use Rattle.acpi_numa.specs.declared.srat.entry.SratEntry.{SratEntry}
 use Rattle.acpi_numa.specs.declared.srat.entry.SratEntry.TheVariants as kinds
 
@@ -93,6 +95,11 @@ apic_domain id _ = None
 abbrev pub processor_domain : ℕ → SratEntry → Option ℕ
 processor_domain uid (kinds.Gicc e) = given_by e.flags (e.processor_uid == uid) e.domain
 processor_domain uid _ = None
+
+-- the domain that an entry gives a processor of either kind
+abbrev pub domain_in : ProcessorId → SratEntry → Option ℕ
+domain_in (processor.Apic id) = apic_domain id
+domain_in (processor.Uid uid) = processor_domain uid
 
 -- that of the last entry that gives one
 abbrev pub domain_of_apic : List ℕ → ℕ → Option ℕ

@@ -1,6 +1,7 @@
 //! The proximity domains of processors (sections 5.2.16.1, 5.2.16.3 and 5.2.16.4).
 
 use super::Srat;
+use super::entry::ProcessorId;
 use super::walk::SratEntryIter;
 use acpi_base::{Lender, PhysicalMapping};
 
@@ -11,8 +12,9 @@ pub struct Domains<'a> {
 }
 
 impl<'a> Domains<'a> {
-    ghost use Rattle.std.specs.Prelude.{◌≡◌, ◌-◌, ◌≤◌, length, false};
-    ghost use Rattle.acpi_numa.specs.Srat.{cut_of, domain_of_apic, domain_of_processor, entries_of};
+    ghost use Rattle.std.specs.Prelude.{◌≡◌, ◌-◌, ◌≤◌, length, false, None};
+    ghost use Rattle.std.specs.List.{filter_map, last_or};
+    ghost use Rattle.acpi_numa.specs.Srat.{cut_of, domain_in, domain_of_apic, domain_of_processor, entries_of};
     ghost use Rattle.acpi_numa.specs.Srat.{srat_bytes};
     ghost use Rattle.acpi_numa.specs.SratWalk.{entries_left, has_ended, rest_left};
 
@@ -40,14 +42,7 @@ impl<'a> Domains<'a> {
     pub fn domain_of_apic(&self, apic_id: u32) -> Option<u32>
         ensures { result ≡ domain_of_apic (srat_bytes self.now) apic_id }
     {
-        let mut found = None;
-        let mut entries = self.entries();
-        while let Some(entry) = entries.next() {
-            if let Some(domain) = entry.apic_domain(apic_id) {
-                found = Some(domain);
-            }
-        }
-        found
+        self.domain_of(ProcessorId::Apic(apic_id))
     }
 
     /// Proximity Domain of the processor with this ACPI Processor UID, which has an interface to the GIC:
@@ -56,10 +51,17 @@ impl<'a> Domains<'a> {
     pub fn domain_of_processor(&self, uid: u32) -> Option<u32>
         ensures { result ≡ domain_of_processor (srat_bytes self.now) uid }
     {
+        self.domain_of(ProcessorId::Uid(uid))
+    }
+
+    /// The domain that the last entry gives that gives a processor one, or `None` if there is none.
+    fn domain_of(&self, processor: ProcessorId) -> Option<u32>
+        ensures { result ≡ last_or None (filter_map (domain_in processor) (entries_of (srat_bytes self.now))) }
+    {
         let mut found = None;
         let mut entries = self.entries();
         while let Some(entry) = entries.next() {
-            if let Some(domain) = entry.processor_domain(uid) {
+            if let Some(domain) = entry.domain_of(processor) {
                 found = Some(domain);
             }
         }

@@ -10,6 +10,15 @@ use super::kinds::{
 use acpi_base::bytes::has_bit;
 use acpi_base::entries::{EntryLayout, Grammar, Place, Width};
 
+/// A processor, by the id that entries of a SRAT name it by.
+#[derive(Clone, Copy)]
+pub(super) enum ProcessorId {
+    /// The id of its local APIC or x2APIC (sections 5.2.16.1 and 5.2.16.3).
+    Apic(u32),
+    /// Its ACPI Processor UID, if it has an interface to the GIC (section 5.2.16.4).
+    Uid(u32),
+}
+
 /// An entry of a SRAT, of types 0 to 6, with its fields (section 5.2.16).
 #[derive(Clone, Copy, Debug)]
 pub enum SratEntry {
@@ -54,7 +63,7 @@ pub const SRAT_GRAMMAR: Grammar<7> = Grammar {
 impl SratEntry {
     ghost use Rattle.std.specs.Prelude.{◌≡◌};
     ghost use Rattle.acpi_base.specs.Entries.{IsEntry};
-    ghost use Rattle.acpi_numa.specs.Srat.{apic_domain, entry_of, is_enabled, processor_domain};
+    ghost use Rattle.acpi_numa.specs.Srat.{apic_domain, domain_in, entry_of, is_enabled, processor_domain};
     ghost use Rattle.acpi_numa.specs.Srat.{srat_layout};
     ghost use Rattle.acpi_numa.specs.Affinities.{range_in};
 
@@ -91,8 +100,18 @@ impl SratEntry {
         Some(has_bit(flags as u64, 0)) // Enabled
     }
 
+    /// The domain that an enabled entry gives a processor.
+    pub(super) fn domain_of(&self, processor: ProcessorId) -> Option<u32>
+        ensures { result ≡ domain_in processor self.now }
+    {
+        match processor {
+            ProcessorId::Apic(apic_id) => self.apic_domain(apic_id),
+            ProcessorId::Uid(uid) => self.processor_domain(uid),
+        }
+    }
+
     /// The domain that an enabled entry gives the processor whose local APIC has this id.
-    pub(super) fn apic_domain(&self, apic_id: u32) -> Option<u32>
+    fn apic_domain(&self, apic_id: u32) -> Option<u32>
         ensures { result ≡ apic_domain apic_id self.now }
     {
         match self {
@@ -127,7 +146,7 @@ impl SratEntry {
 
     /// The domain that an enabled entry gives the processor of this uid, which has an interface to the
     /// GIC.
-    pub(super) fn processor_domain(&self, uid: u32) -> Option<u32>
+    fn processor_domain(&self, uid: u32) -> Option<u32>
         ensures { result ≡ processor_domain uid self.now }
     {
         match self {
