@@ -1,20 +1,35 @@
--- Flags, trigger modes, polarities and single bytes as they are read, equal functions of equal values, and checks that were passed.
-use Rattle.std.proofs.Common.{◌≡◌, ℕ, Bool, true, false, List, [], ◌∷◌, Result, Ok, Err, refl, sym, ap, ◌∙◌, arith}
-use Rattle.std.specs.Prelude.{if◌then◌else◌}
+-- Flags, trigger modes, polarities and single bytes as they are read, the bytes of numbers, the numbers of flags, and checks that were
+-- passed.
+use Rattle.std.proofs.Common.{◌≡◌, ℕ, Bool, true, false, List, [], ◌∷◌, Result, Ok, Err, refl, sym, ap, ◌∙◌, arith, ◌^◌, ◌<◌, w16, w32, w64, zero, suc, ◌+◌, ◌*◌, ◌%◌, ◌/◌, ◌≤◌, length, drop, add-one, drop-cons}
+use Rattle.std.specs.Prelude.{not, if◌then◌else◌, ◌==◌}
 use Rattle.std.specs.List.{AllByRecursion}
 use Rattle.std.specs.Result.{IsErrAnd}
 use Rattle.acpi_base.specs.Bits.{has_bit}
-use Rattle.acpi_base.specs.Bytes.{number}
+use Rattle.acpi_base.specs.Bytes.{number, spelling}
 use Rattle.acpi_base.specs.Steps.{Gives, ◌>>=◌, holds}
 use Rattle.acpi_base.specs.declared.model.interrupt.Polarity.{Polarity}
-use Rattle.acpi_base.specs.declared.model.interrupt.Polarity.TheVariants as polarity
 use Rattle.acpi_base.specs.declared.model.interrupt.TriggerMode.{TriggerMode}
 use Rattle.acpi_base.specs.declared.model.interrupt.TriggerMode.TheVariants.{Edge, Level, SameAsBus}
 use Rattle.acpi_writer.specs.Arm.{flags_of, has_polarity, has_trigger, is_edge, is_low}
 use Rattle.acpi_writer.specs.Checked.{all_checked}
+use Rattle.std.specs.Int.{to_le_bytes, from_le_bytes}
+use Rattle.std.proofs.lemmas.Nat.{le_bytes_2, le_bytes_4, le_bytes_8}
+use Rattle.acpi_base.proofs.Spelling.{length-spelling, number-spelling}
+use Rattle.acpi_image.proofs.Written.{IsBytes-spelling}
+use Rattle.std.proofs.Math.ListN.{get_or}
+use Rattle.std.proofs.Math.Nat.{div-div-eq-div-mul, pow-succ', zero-div}
+use Rattle.std.proofs.Math.Pow.{pow_mono}
+use Rattle.std.proofs.lemmas.List.{length-drop}
+use Rattle.acpi_writer.specs.Flags.{FlagsAreRead, flag_number}
+use Rattle.acpi_writer.specs.Table.{bit_of}
+use Rattle.acpi_base.specs.declared.model.interrupt.Polarity.TheVariants as polarity
 
 pub one : (n : ℕ) → number (n ∷ []) ≡ n
 one n = omega arith
+
+pub is_off : (b : Bool) → not b ≡ true → b ≡ false
+is_off true h = absurd cc
+is_off false h = refl
 
 pub itself : {A : Type 0} (x : A) → x ≡ x
 itself x = refl
@@ -83,3 +98,78 @@ failed e = Err e
 pub passed_on : {X Y E : Type 0} (view : X → Y) (r : Result X E) (e : E) (said : Result Y E) → IsErrAnd r (λ d. d ≡ e) → said ≡ Err e → Gives view r said
 passed_on view (Ok x) e said h k = absurd h
 passed_on view (Err d) e said h k = k ∙ ap failed (sym h)
+
+-- ---- the bytes of numbers
+
+pub four_bytes : (n : ℕ) → n < 2 ^ 32 → to_le_bytes w32 n ≡ spelling 4 n
+unfolding spelling
+four_bytes n small =
+    let value : n ≡ from_le_bytes w32 (spelling 4 n) = omega (arith, number-spelling 4 n (omega arith)) in
+    le_bytes_4 (spelling 4 n) n (length-spelling 4 n) (IsBytes-spelling 4 n) value
+
+pub two_bytes : (n : ℕ) → n < 2 ^ 16 → to_le_bytes w16 n ≡ spelling 2 n
+unfolding spelling
+two_bytes n small =
+    let value : n ≡ from_le_bytes w16 (spelling 2 n) = omega (arith, number-spelling 2 n (omega arith)) in
+    le_bytes_2 (spelling 2 n) n (length-spelling 2 n) (IsBytes-spelling 2 n) value
+
+pub eight_bytes : (n : ℕ) → n < 2 ^ 64 → to_le_bytes w64 n ≡ spelling 8 n
+unfolding spelling
+eight_bytes n small =
+    let value : n ≡ from_le_bytes w64 (spelling 8 n) = omega (arith, number-spelling 8 n (omega arith)) in
+    le_bytes_8 (spelling 8 n) n (length-spelling 8 n) (IsBytes-spelling 8 n) value
+
+-- ---- flags in a number
+
+pub bit_small : (b : Bool) → bit_of b < 2
+bit_small true = omega arith
+bit_small false = omega arith
+
+pub flags_small : (bs : List Bool) → flag_number bs < 2 ^ length bs
+unfolding flag_number
+flags_small [] = omega arith
+flags_small (b ∷ bs) = rw (pow-succ' 2 (length bs)) (omega (arith, bit_small b, flags_small bs))
+
+flags_cons : (b : Bool) (bs : List Bool) → flag_number (b ∷ bs) ≡ bit_of b + 2 * flag_number bs
+unfolding flag_number
+flags_cons b bs = refl
+
+-- the flags from a place on
+pub flags_more : (bs : List Bool) (i : ℕ) → i < length bs → flag_number (drop i bs) ≡ bit_of (get_or bs i false) + 2 * flag_number (drop (i + 1) bs)
+flags_more bs i h = ap flag_number (rw add-one (drop-cons bs i false h)) ∙ flags_cons (get_or bs i false) (drop (i + 1) bs)
+
+pub flags_none : (bs : List Bool) → 0 ≡ flag_number (drop (length bs) bs)
+unfolding flag_number
+flags_none [] = refl
+flags_none (b ∷ bs) = flags_none bs
+
+-- so few flags make no more than this
+pub flags_few : (bs : List Bool) (i : ℕ) → length bs < 33 → 0 < i → flag_number (drop i bs) < 2 ^ 31
+flags_few bs i short some =
+    let less : length (drop i bs) ≤ 31 = omega (arith, length-drop i bs) in
+    omega (arith, flags_small (drop i bs), pow_mono less)
+
+bit_first : (b : Bool) (m : ℕ) → has_bit (bit_of b + 2 * m) zero ≡ b
+bit_first true m =
+    let odd : (1 + 2 * m) / 1 % 2 ≡ 1 = omega arith in
+    rw odd refl
+bit_first false m =
+    let none : (0 + 2 * m) / 1 % 2 ≡ 0 = omega arith in
+    rw none refl
+
+half : (b : Bool) (m : ℕ) → (bit_of b + 2 * m) / 2 ≡ m
+half b m = omega (arith, bit_small b)
+
+bit_next : (b : Bool) (m k : ℕ) → has_bit (bit_of b + 2 * m) (suc k) ≡ has_bit m k
+bit_next b m k =
+    let shift : (bit_of b + 2 * m) / 2 ^ suc k ≡ m / 2 ^ k = ap (λ n. (bit_of b + 2 * m) / n) (pow-succ' 2 k) ∙ sym (div-div-eq-div-mul (bit_of b + 2 * m) 2 (2 ^ k)) ∙ ap (λ n. n / 2 ^ k) (half b m) in
+    ap (λ n. n % 2 == 1) shift
+
+no_bit : (k : ℕ) → has_bit 0 k ≡ false
+no_bit k = ap (λ n. n % 2 == 1) (zero-div (2 ^ k))
+
+pub flags_read : FlagsAreRead
+unfolding flag_number
+flags_read [] k = no_bit k
+flags_read (b ∷ bs) zero = bit_first b (flag_number bs)
+flags_read (b ∷ bs) (suc k) = bit_next b (flag_number bs) k ∙ flags_read bs k

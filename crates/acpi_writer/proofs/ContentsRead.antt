@@ -1,65 +1,79 @@
--- The tables that an XSDT lists, as they are written, and the first of a signature.
-use Rattle.std.proofs.Common.{◌≡◌, ℕ, ◌+◌, ◌*◌, ◌^◌, ◌<◌, ◌≤◌, Bool, true, false, List, [], ◌∷◌, length, map, Option, Some, None, Ok, refl, sym, ap, subst, if◌then◌else◌}
-use Rattle.std.specs.Prelude.{◌&&◌, ◌==◌, IsUtf8, nat_lt, not}
-use Rattle.std.specs.List.{AllByRecursion, list_all}
+-- The tables that an XSDT lists, as they are written, the first of a signature, and what a reader says of them where a lookup finds it.
+use Rattle.std.proofs.Common.{◌≡◌, ℕ, ◌+◌, ◌*◌, ◌^◌, ◌<◌, ◌≤◌, Bool, true, false, List, [], ◌∷◌, length, map, Option, Some, None, Ok, refl, sym, ap, subst, if◌then◌else◌, Result, arith, lit≤, length-append}
+use Rattle.std.specs.Prelude.{◌&&◌, IsUtf8, not, slice_get}
+use Rattle.std.specs.List.{AllByRecursion}
 use Rattle.std.specs.Str.{bytes_eq, is_utf8}
-use Rattle.std.proofs.lemmas.Bool.{and_parts, eqb-true, le-leb, ltb-true}
+use Rattle.std.proofs.lemmas.Bool.{and_parts, le-leb}
 use Rattle.std.proofs.lemmas.Slice.Eq.{bytes_eq-Decides}
 use Rattle.acpi_base.proofs.Steps.{bind_ok, holds_ok}
-use Rattle.acpi_base.specs.Bytes.{part}
+use Rattle.acpi_base.specs.Bytes.{part, spelling}
 use Rattle.acpi_base.specs.Header.{check_names, check_table, header_at}
 use Rattle.acpi_base.specs.Steps.{◌>>=◌, holds}
 use Rattle.acpi_base.specs.Text.{letters_of}
 use Rattle.acpi_base.specs.declared.table.signature.Signature.{Signature}
 use Rattle.acpi_base.specs.declared.table.signature.TheConstants.Signature.{BGRT, FADT, GTDT, HPET, MADT, MCFG, SLIT, SPCR, SRAT, SSDT}
-use Rattle.acpi_writer.specs.Bgrt.{IsBgrt, bgrt_body}
+use Rattle.acpi_writer.specs.Bgrt.{IsBgrt, bgrt_body, SaysImage}
 use Rattle.acpi_writer.specs.Checked.{all_checked}
 use Rattle.acpi_writer.specs.Contents.{FitsContents, bytes_of, contents_written, most, or_none, placed, signature_of}
-use Rattle.acpi_writer.specs.FadtBytes.{are_placed, are_registers, fadt_body, fadt_written, fixed_of, is_profile}
+use Rattle.acpi_writer.specs.FadtBytes.{fadt_body, fadt_checked, fadt_written, fixed_of}
 use Rattle.acpi_writer.specs.FadtLaws.{AreFitFor, IsFadt}
-use Rattle.acpi_writer.specs.GicMadt.{AreGicFit, IsGicMadt, gic_body, gic_written, interface_checked}
-use Rattle.acpi_writer.specs.Gtdt.{AreTimersFit, IsGtdt, gtdt_body, gtdt_checked, gtdt_written}
+use Rattle.acpi_writer.specs.GicMadt.{AreGicFit, IsGicMadt, gic_body, gic_written, interface_checked, gic_read}
+use Rattle.acpi_writer.specs.Gtdt.{AreTimersFit, IsGtdt, gtdt_body, gtdt_checked, gtdt_written, SaysTimers}
 use Rattle.acpi_writer.specs.HpetBytes.{hpet_body}
 use Rattle.acpi_writer.specs.HpetLaws.{IsHpet}
 use Rattle.acpi_writer.specs.ImageLaws.{is_named}
 use Rattle.acpi_writer.specs.Machine.{check_tables}
-use Rattle.acpi_writer.specs.MachineLaws.{AreValid, first_at, first_of, place_of}
-use Rattle.acpi_writer.specs.MadtBytes.{is_empty, is_single, madt_body, madt_written, names_one}
-use Rattle.acpi_writer.specs.MadtLaws.{AreFit, IsMadt}
+use Rattle.acpi_writer.specs.MachineLaws.{AreValid, first_at, first_of, place_of, HasFadt, HasTable, Says, platform_read}
+use Rattle.acpi_writer.specs.MadtBytes.{is_empty, madt_body, madt_checked, madt_entries, madt_fixed, madt_written}
+use Rattle.acpi_writer.specs.MadtLaws.{AreFit, IsMadt, model_read}
 use Rattle.acpi_writer.specs.McfgBytes.{mcfg_body}
 use Rattle.acpi_writer.specs.McfgLaws.{IsMcfg}
-use Rattle.acpi_writer.specs.Slit.{IsSlit, slit_body, slit_written}
-use Rattle.acpi_writer.specs.Spcr.{is_base, is_interface, is_somewhere, spcr_body, spcr_written}
-use Rattle.acpi_writer.specs.SpcrLaws.{FitsSpcr, IsSpcr}
-use Rattle.acpi_writer.specs.Srat.{SratContents, is_one_apic, is_one_gicc, is_range, srat_body, srat_written, srat_written_by}
-use Rattle.acpi_writer.specs.SratLaws as srat
+use Rattle.acpi_writer.specs.Slit.{IsSlit, slit_body, slit_checked, slit_written}
+use Rattle.acpi_writer.specs.Spcr.{spcr_body, spcr_checked, spcr_written}
+use Rattle.acpi_writer.specs.SpcrLaws.{FitsSpcr, IsSpcr, SaysConsole}
+use Rattle.acpi_writer.specs.Srat.{SratContents, srat_body, srat_checked_by, srat_entries, srat_reserved, srat_written, srat_written_by}
 use Rattle.acpi_writer.specs.Table.{AreIds, IsTableOf, IsValid, table_written}
 use Rattle.acpi_writer.specs.declared.contents.TableContents.{TableContents}
 use Rattle.acpi_writer.specs.declared.contents.TableContents.TheVariants.{Bgrt, Fadt, GicMadt, Gtdt, Hpet, Madt, Mcfg, Slit, Spcr, Srat, Ssdt}
-use Rattle.acpi_writer.specs.declared.error.WriterError.TheVariants.{BadCode, BadMatrix, BadProfile, BadRange, BadRegister, IdOfAll, LongName, NoAddress, NoProcessor, UidOfAll}
+use Rattle.acpi_writer.specs.declared.error.WriterError.TheVariants.{NoProcessor}
 use Rattle.acpi_writer.specs.declared.fadt.contents.FadtContents.{FadtContents}
 use Rattle.acpi_writer.specs.declared.gtdt.GtdtContents.{GtdtContents}
 use Rattle.acpi_writer.specs.declared.ids.TableIds.{TableIds}
 use Rattle.acpi_writer.specs.declared.madt.gic.GicContents.{GicContents}
 use Rattle.acpi_writer.specs.declared.madt.MadtContents.{MadtContents}
 use Rattle.acpi_writer.specs.declared.spcr.SpcrContents.{SpcrContents}
-use Rattle.acpi_writer.proofs.BgrtRead.{bgrt_valid}
-use Rattle.acpi_writer.proofs.FadtRead.{fadt_valid}
-use Rattle.acpi_writer.proofs.GicRead.{gic_madt_valid}
+use Rattle.acpi_writer.proofs.ShortTables.{bgrt_long, bgrt_name, bgrt_read, bgrt_valid, hpet_long, hpet_name, hpet_read, hpet_valid, mcfg_name, mcfg_read, mcfg_valid, slit_is, slit_name, slit_read, slit_valid, ssdt_read}
+use Rattle.acpi_writer.proofs.FadtRead.{fadt_is, fadt_name, fadt_read, fadt_valid}
+use Rattle.acpi_writer.proofs.GicRead.{gic_madt_valid, entry_bytes, gic_madt_read}
 use Rattle.acpi_writer.proofs.GtdtRead.{gtdt_valid}
-use Rattle.acpi_writer.proofs.HpetRead.{hpet_valid}
 use Rattle.acpi_writer.proofs.LaidRead.{holds_only}
-use Rattle.acpi_writer.proofs.MadtRead.{madt_valid}
-use Rattle.acpi_writer.proofs.McfgRead.{mcfg_valid}
-use Rattle.acpi_writer.proofs.Plain.{ssdt_read}
+use Rattle.acpi_writer.proofs.MadtRead.{fixed_long, madt_is, madt_name, madt_read, madt_valid}
 use Rattle.acpi_writer.proofs.Room.{wrote}
-use Rattle.acpi_writer.proofs.SlitRead.{slit_valid}
 use Rattle.acpi_writer.proofs.SpcrRead.{spcr_valid}
-use Rattle.acpi_writer.proofs.SratRead.{srat_valid}
-
-pub not_true : (b : Bool) → not b ≡ true → b ≡ false
-not_true false e = refl
-not_true true e = absurd cc
+use Rattle.acpi_writer.proofs.SratRead.{srat_is, srat_name, srat_read, srat_valid}
+use Rattle.acpi_base.proofs.Spelling.{length-spelling}
+use Rattle.acpi_base.specs.Memory.{Memory}
+use Rattle.acpi_base.specs.Table.{sdt_kind}
+use Rattle.acpi_base.specs.declared.error.AcpiError.{AcpiError}
+use Rattle.acpi.specs.Hpet.{hpet_of}
+use Rattle.acpi.specs.Lookup.{lookup}
+use Rattle.acpi.specs.Pci.{found_regions}
+use Rattle.acpi.specs.Platform.{model_in, platform_of}
+use Rattle.acpi.specs.declared.hpet.HpetInfo.{HpetInfo}
+use Rattle.acpi_arm.specs.Gic.{found_gic}
+use Rattle.acpi_arm.specs.Gtdt.{gtdt_kind}
+use Rattle.acpi_fixed.specs.Bgrt.{bgrt_at}
+use Rattle.acpi_numa.specs.Affinities.{srat_kind}
+use Rattle.acpi_numa.specs.Slit.{distance_of}
+use Rattle.acpi_writer.specs.SratLaws.{IsSrat, SaysDomains}
+use Rattle.acpi_writer.specs.declared.bgrt.BgrtContents.{BgrtContents}
+use Rattle.acpi_writer.specs.declared.contents.SlitContents.{SlitContents}
+use Rattle.acpi_writer.proofs.FadtParts.{body_long}
+use Rattle.acpi_writer.proofs.Images.{platform_has}
+use Rattle.acpi_writer.specs.SratLaws as srat
+use Rattle.acpi_writer.proofs.GtdtRead as gtdt
+use Rattle.acpi_writer.proofs.SpcrRead as spcr
+use Rattle.acpi_writer.proofs.Tables as table
 
 abbrev some : TableContents → Option TableContents
 some x = Some x
@@ -93,59 +107,32 @@ table_of s revision ids body t are e =
 madt_of : (ids : TableIds) (c : MadtContents) (t : List ℕ) → AreIds ids → AreFit c → madt_written most ids c ≡ Ok t → IsMadt ids c t
 unfolding madt_written
 madt_of ids c t are fit e =
-    let single = list_all is_single c.processors.now in
-    let lines = list_all (λ x. names_one x.processor) c.local_apic_nmi_lines.now in
-    let here = table_written most MADT 5 ids (madt_body c) in
-    let one = holds_ok (not (is_empty c.processors.now)) NoProcessor (λ _. holds single IdOfAll >>= λ _. holds lines UidOfAll >>= λ _. here) t e in
-    let two = holds_ok single IdOfAll (λ _. holds lines UidOfAll >>= λ _. here) t one.1 in
-    let three = holds_ok lines UidOfAll (λ _. here) t two.1 in
-    record { written = table_of MADT 5 ids (madt_body c) t are three.1; fit = fit; some = not_true (is_empty c.processors.now) one.0; lines = three.0 }
+    let one = bind_ok (madt_checked c) (λ _. table_written most MADT 5 ids (madt_body c)) t e in
+    madt_is ids c t (table_of MADT 5 ids (madt_body c) t are one.2) fit one.1
 
 slit_of : (ids : TableIds) (n : ℕ) (distances t : List ℕ) → AreIds ids → n < 2 ^ 64 → slit_written most ids n distances ≡ Ok t → IsSlit ids n distances t
 unfolding slit_written
 slit_of ids n distances t are small e =
-    let square = holds_ok (n * n == length distances) BadMatrix (λ _. table_written most SLIT 1 ids (slit_body n distances)) t e in
-    record { written = table_of SLIT 1 ids (slit_body n distances) t are square.1; small = small; square = eqb-true (n * n) (length distances) square.0 }
+    let one = bind_ok (slit_checked n distances) (λ _. table_written most SLIT 1 ids (slit_body n distances)) t e in
+    slit_is ids n distances t (table_of SLIT 1 ids (slit_body n distances) t are one.2) small one.1
 
 fadt_of : (ids : TableIds) (c : FadtContents) (t : List ℕ) → AreIds ids → AreFitFor c (fixed_of c.hardware) → fadt_written most ids c ≡ Ok t → IsFadt ids c t
 unfolding fadt_written
 fadt_of ids c t are fit e =
-    let here = table_written most FADT 6 ids (fadt_body c) in
-    let one = holds_ok (are_placed c) NoAddress (λ _. holds (is_profile c.power_profile) BadProfile >>= λ _. holds (are_registers c) BadRegister >>= λ _. here) t e in
-    let two = holds_ok (is_profile c.power_profile) BadProfile (λ _. holds (are_registers c) BadRegister >>= λ _. here) t one.1 in
-    let three = holds_ok (are_registers c) BadRegister (λ _. here) t two.1 in
-    record { written = table_of FADT 6 ids (fadt_body c) t are three.1; fit = fit; placed = one.0; profile = two.0; registers = three.0 }
+    let one = bind_ok (fadt_checked c) (λ _. table_written most FADT 6 ids (fadt_body c)) t e in
+    fadt_is ids c t (table_of FADT 6 ids (fadt_body c) t are one.2) fit one.1
 
 srat_of : (ids : TableIds) (c : SratContents) (t : List ℕ) → AreIds ids → srat.AreFit c → srat_written most ids c ≡ Ok t → srat.IsSrat ids c t
 unfolding srat_written_by
 srat_of ids c t are fit e =
-    let giccs = list_all is_one_gicc c.giccs.now in
-    let ranges = list_all is_range c.ranges.now in
-    let here = table_written most SRAT 3 ids (srat_body c) in
-    let one = holds_ok (list_all is_one_apic c.apics.now) IdOfAll (λ _. holds giccs IdOfAll >>= λ _. holds ranges BadRange >>= λ _. here) t e in
-    let two = holds_ok giccs IdOfAll (λ _. holds ranges BadRange >>= λ _. here) t one.1 in
-    let three = holds_ok ranges BadRange (λ _. here) t two.1 in
-    record { written = table_of SRAT 3 ids (srat_body c) t are three.1; fit = fit; ranges = three.0 }
+    let one = bind_ok (srat_checked_by (λ r. r) c) (λ _. table_written most SRAT 3 ids (srat_body c)) t e in
+    srat_is (λ r. r) ids c t (table_of SRAT 3 ids (srat_body c) t are one.2) fit one.1
 
 spcr_of : (ids : TableIds) (c : SpcrContents) (t : List ℕ) → AreIds ids → FitsSpcr c → IsUtf8 c.namespace_string.now → spcr_written most ids c ≡ Ok t → IsSpcr ids c t
 unfolding spcr_written
 spcr_of ids c t are fit text e =
-    let somewhere = is_somewhere c.base_address in
-    let short = nat_lt (length c.namespace_string.now) 0xffff in
-    let here = table_written most SPCR 4 ids (spcr_body c) in
-    let one = holds_ok (is_interface c.interface_type && is_base c.base_address) BadCode (λ _. holds somewhere NoAddress >>= λ _. holds short LongName >>= λ _. here) t e in
-    let two = holds_ok somewhere NoAddress (λ _. holds short LongName >>= λ _. here) t one.1 in
-    let three = holds_ok short LongName (λ _. here) t two.1 in
-    let codes = and_parts (is_interface c.interface_type) (is_base c.base_address) one.0 in
-    record {
-      written = table_of SPCR 4 ids (spcr_body c) t are three.1;
-      fit = fit;
-      interface = codes.0;
-      base = codes.1;
-      somewhere = two.0;
-      short = ltb-true (length c.namespace_string.now) 0xffff three.0;
-      text = text;
-    }
+    let one = bind_ok (spcr_checked c) (λ _. table_written most SPCR 4 ids (spcr_body c)) t e in
+    spcr.spcr_is ids c t (table_of SPCR 4 ids (spcr_body c) t are one.2) fit text one.1
 
 gtdt_of : (ids : TableIds) (c : GtdtContents) (t : List ℕ) → AreIds ids → AreTimersFit c → gtdt_written most ids c ≡ Ok t → IsGtdt ids c t
 unfolding gtdt_written
@@ -238,3 +225,112 @@ first_by false ids s c d cs this is later = later is
 pub first_is : (ids : TableIds) (s : Signature) (c : TableContents) (cs : List TableContents) → AllByRecursion (λ d. IsContents ids d (bytes_of ids d)) cs → first_of s cs ≡ Some c → IsContents ids c (bytes_of ids c)
 first_is ids s c [] all is = absurd (no_contents c is)
 first_is ids s c (d ∷ cs) all is = first_by (bytes_eq (letters_of (signature_of d)) (letters_of s)) ids s c d cs all.0 is (λ later. first_is ids s c cs all.1 later)
+
+-- ---- what a reader says
+
+abbrev one_distance : Option ℕ → Result (Option ℕ) AcpiError
+one_distance x = Ok x
+
+module _
+    (ids : TableIds) (m : Memory) (ps : List ℕ) (place : Signature → ℕ) (cs : List TableContents)
+    (all : AllByRecursion (λ c. IsContents ids c (bytes_of ids c)) cs)
+    (found : (s : Signature) (c : TableContents) (least : ℕ) → first_of s cs ≡ Some c → 36 ≤ least → least ≤ length (bytes_of ids c) → lookup m (sdt_kind s least) ps ≡ Ok (place s, bytes_of ids c)) where
+  abbrev written : (s : Signature) (c : TableContents) → first_of s cs ≡ Some c → IsContents ids c (bytes_of ids c)
+  written s c is_first = first_is ids s c cs all is_first
+
+  pub fadt_found : (c : FadtContents) → first_of FADT cs ≡ Some (Fadt c) → HasFadt m ps c
+  fadt_found c is_first =
+      let t = bytes_of ids (Fadt c) in
+      let this : IsFadt ids c t = written FADT (Fadt c) is_first in
+      let long = table.long FADT fadt_name 6 ids (fadt_body c) t this.written in
+      ((place FADT, t), found FADT (Fadt c) 116 is_first (lit≤ tt) (omega (arith, long, body_long c (fixed_of c.hardware))), fadt_read ids c t this)
+
+  model : {A : Type 0} (c : MadtContents) → first_of MADT cs ≡ Some (Madt c) → model_in {A = A} m ps ≡ Ok (model_read c)
+  model {A = A} c is_first =
+      let this : IsMadt ids c (bytes_of ids (Madt c)) = written MADT (Madt c) is_first in
+      let size = length-append (madt_fixed c.local_apic_address c.also_has_legacy_pics) (madt_entries c) in
+      let long = table.long MADT madt_name 5 ids (madt_body c) (bytes_of ids (Madt c)) this.written in
+      let there = found MADT (Madt c) 44 is_first (lit≤ tt) (omega (arith, long, size, fixed_long c.local_apic_address c.also_has_legacy_pics)) in
+      rw there (madt_read {A = A} ids c (bytes_of ids (Madt c)) this)
+
+  regions : (es : _) → first_of MCFG cs ≡ Some (Mcfg es) → found_regions m ps ≡ Ok es.now
+  regions es is_first =
+      let this : IsMcfg ids es.now (bytes_of ids (Mcfg es)) = written MCFG (Mcfg es) is_first in
+      let long = table.long MCFG mcfg_name 1 ids (mcfg_body es.now) (bytes_of ids (Mcfg es)) this.written in
+      let there = found MCFG (Mcfg es) 44 is_first (lit≤ tt) (omega (arith, long)) in
+      rw (there, mcfg_read ids es.now (bytes_of ids (Mcfg es)) this) refl
+
+  hpet : (i : HpetInfo) → first_of HPET cs ≡ Some (Hpet i) → hpet_of m ps ≡ Ok i
+  hpet i is_first =
+      let this : IsHpet ids i (bytes_of ids (Hpet i)) = written HPET (Hpet i) is_first in
+      let long = table.long HPET hpet_name 1 ids (hpet_body i) (bytes_of ids (Hpet i)) this.written in
+      let there = found HPET (Hpet i) 56 is_first (lit≤ tt) (omega (arith, long, hpet_long i)) in
+      rw there (hpet_read ids i (bytes_of ids (Hpet i)) this)
+
+  distances : (c : SlitContents) (from to : ℕ) → first_of SLIT cs ≡ Some (Slit c) → from < c.localities → to < c.localities
+      → (lookup m (sdt_kind SLIT 44) ps >>= λ found. one_distance (distance_of found.1 from to)) ≡ Ok (slice_get c.distances.now (from * c.localities + to))
+  distances c from to is_first less below =
+      let this : IsSlit ids c.localities c.distances.now (bytes_of ids (Slit c)) = written SLIT (Slit c) is_first in
+      let long = table.long SLIT slit_name 1 ids (slit_body c.localities c.distances.now) (bytes_of ids (Slit c)) this.written in
+      let size = length-append (spelling 8 c.localities) c.distances.now in
+      let there = found SLIT (Slit c) 44 is_first (lit≤ tt) (omega (arith, long, size, length-spelling 8 c.localities)) in
+      rw (there, slit_read ids c.localities c.distances.now (bytes_of ids (Slit c)) this from to less below) refl
+
+  platform_found : {A : Type 0} (c : FadtContents) (d : MadtContents) → first_of FADT cs ≡ Some (Fadt c) → first_of MADT cs ≡ Some (Madt d)
+      → platform_of {A = A} m ps ≡ Ok (platform_read c d)
+  platform_found {A = A} c d is_fadt is_madt =
+      let fadt = fadt_found c is_fadt in
+      rw (fadt.1, model {A = A} d is_madt, fadt.2.fields.profile, fadt.2.timer) refl
+
+  domains : (c : SratContents) → first_of SRAT cs ≡ Some (Srat c) → HasTable m ps srat_kind (SaysDomains c)
+  domains c is_first =
+      let t = bytes_of ids (Srat c) in
+      let this : IsSrat ids c t = written SRAT (Srat c) is_first in
+      let long = table.long SRAT srat_name 3 ids (srat_body c) t this.written in
+      ((place SRAT, t), found SRAT (Srat c) 48 is_first (lit≤ tt) (omega (arith, long, length-append srat_reserved (srat_entries c))), srat_read ids c t this)
+
+  console : (c : SpcrContents) → first_of SPCR cs ≡ Some (Spcr c) → HasTable m ps (sdt_kind SPCR 80) (SaysConsole c)
+  console c is_first =
+      let t = bytes_of ids (Spcr c) in
+      let this : IsSpcr ids c t = written SPCR (Spcr c) is_first in
+      let long = table.long SPCR spcr.spcr_name 4 ids (spcr_body c) t this.written in
+      ((place SPCR, t), found SPCR (Spcr c) 80 is_first (lit≤ tt) (omega (arith, long, spcr.body_long c)), spcr.spcr_read ids c t this)
+
+  image : (c : BgrtContents) → first_of BGRT cs ≡ Some (Bgrt c) → HasTable m ps (sdt_kind BGRT 56) (λ t. SaysImage c (bgrt_at t))
+  image c is_first =
+      let t = bytes_of ids (Bgrt c) in
+      let this : IsBgrt ids c t = written BGRT (Bgrt c) is_first in
+      let long = table.long BGRT bgrt_name 1 ids (bgrt_body c) t this.written in
+      ((place BGRT, t), found BGRT (Bgrt c) 56 is_first (lit≤ tt) (omega (arith, long, bgrt_long c)), bgrt_read ids c t this)
+
+  timers : (c : GtdtContents) → first_of GTDT cs ≡ Some (Gtdt c) → HasTable m ps gtdt_kind (SaysTimers c)
+  timers c is_first =
+      let t = bytes_of ids (Gtdt c) in
+      let this : IsGtdt ids c t = written GTDT (Gtdt c) is_first in
+      let long = table.long GTDT gtdt.gtdt_name 3 ids (gtdt_body c) t this.written in
+      ((place GTDT, t), found GTDT (Gtdt c) 96 is_first (lit≤ tt) (omega (arith, long, gtdt.body_long c)), gtdt.gtdt_read ids c t this)
+
+  gic : {A : Type 0} (c : GicContents) → first_of MADT cs ≡ Some (GicMadt c) → found_gic {A = A} m ps ≡ Ok (Some (gic_read c))
+  gic {A = A} c is_first =
+      let t = bytes_of ids (GicMadt c) in
+      let this : IsGicMadt ids c t = written MADT (GicMadt c) is_first in
+      let size = length-append (madt_fixed 0 false) (entry_bytes c) in
+      let long = table.long MADT madt_name 6 ids (gic_body c) t this.written in
+      let there = found MADT (GicMadt c) 44 is_first (lit≤ tt) (omega (arith, long, size, fixed_long 0 false)) in
+      rw there (gic_madt_read {A = A} ids c t this)
+
+  pub says : {A : Type 0} → Says A m ps cs
+  says {A = A} = record {
+    model = λ c is_first. model {A = A} c is_first;
+    platform = λ c q is_first said. platform_has m ps c q (model {A = A} c is_first) said;
+    platform_is = λ c d is_fadt is_madt. platform_found {A = A} c d is_fadt is_madt;
+    fadt = fadt_found;
+    regions = regions;
+    hpet = hpet;
+    distances = distances;
+    domains = domains;
+    console = console;
+    image = image;
+    timers = timers;
+    gic = λ c is_first. gic {A = A} c is_first;
+  }

@@ -1,6 +1,6 @@
--- What a reader finds in a FADT that is written.
-use Rattle.std.proofs.Common.{◌≡◌, ℕ, ◌+◌, ◌<◌, true, false, List, length, drop, Option, Some, None, Ok, refl, ap, ◌∙◌, arith}
-use Rattle.std.specs.Prelude.{◌==◌, nat_le, if◌then◌else◌}
+-- What a reader finds in a FADT that is written, and when one is.
+use Rattle.std.proofs.Common.{◌≡◌, ℕ, ◌+◌, ◌<◌, true, false, List, length, take, drop, Option, Some, None, Ok, refl, ap, ◌∙◌, arith, Result, Err, subst}
+use Rattle.std.specs.Prelude.{◌==◌, nat_le, if◌then◌else◌, IfOk}
 use Rattle.std.specs.Option.{ok_or, option_map}
 use Rattle.std.specs.Str.{chars, is_utf8}
 use Rattle.std.proofs.lemmas.Bool.{and_parts, ltb-true, ne_eqb}
@@ -20,8 +20,7 @@ use Rattle.acpi_fixed.specs.Gpe.{gpe_of}
 use Rattle.acpi_fixed.specs.Registers.{address_or, block_at, extended_address, extended_number, has_extended, optional_block_of, register_of, timer_block_of}
 use Rattle.acpi_fixed.specs.declared.fadt.Fadt.{Fadt}
 use Rattle.acpi_fixed.specs.declared.fadt.PowerProfile.{PowerProfile}
-use Rattle.acpi_fixed.specs.declared.fadt.PowerProfile.TheVariants as profiles
-use Rattle.acpi_writer.specs.FadtBytes.{address_or_zero, are_blocks, are_placed, arm_flags, body_with, bytes_wide, fadt_body, feature_flags, fixed_of, gpe_length, gpe_register, has_address, has_length, is_given, is_profile, narrow, pc_flags, profile_code, registers}
+use Rattle.acpi_writer.specs.FadtBytes.{address_or_zero, are_blocks, are_placed, arm_flags, body_with, bytes_wide, fadt_body, fadt_checked, fadt_written, feature_flags, fixed_of, gpe_length, gpe_register, has_address, has_length, is_given, is_profile, narrow, pc_flags, profile_code, registers}
 use Rattle.acpi_writer.specs.FadtLaws.{AreFitFor, FadtIsRead, FadtIsValid, HasFields, HasFlags, HasHardware, HasLegacy, HasNeededBlocks, IsFadt, IsReadAs}
 use Rattle.acpi_writer.specs.Flags.{flag_number}
 use Rattle.acpi_writer.specs.Generic.{FitsRegister, is_register, register_bytes}
@@ -30,11 +29,15 @@ use Rattle.acpi_writer.specs.declared.fadt.contents.FadtHardware.{FadtHardware}
 use Rattle.acpi_writer.specs.declared.fadt.contents.FadtHardware.TheVariants.{Fixed, Reduced}
 use Rattle.acpi_writer.specs.declared.fadt.contents.FixedHardware.{FixedHardware}
 use Rattle.acpi_writer.specs.declared.ids.TableIds.{TableIds}
-use Rattle.acpi_writer.proofs.FadtFeatures as more
+use Rattle.acpi_base.proofs.Steps.{holds_ok}
+use Rattle.acpi_writer.proofs.Bits.{flags_read, is_off, was_true}
+use Rattle.acpi_writer.proofs.Tables.{ids_are_read}
+use Rattle.acpi_writer.proofs.RegisterRead.{block_is, block_read, filled_12, given_read, gpe_read, made, optional_read, register_long, register_read, timer_read}
+use Rattle.acpi_writer.specs.Table.{IsTableOf, if_checked, table_written}
+use Rattle.acpi_writer.specs.declared.error.WriterError.{WriterError}
+use Rattle.acpi_writer.specs.declared.error.WriterError.TheVariants.{BadProfile, NoAddress}
+use Rattle.acpi_fixed.specs.declared.fadt.PowerProfile.TheVariants as profiles
 use Rattle.acpi_writer.proofs.FadtParts as parts
-use Rattle.acpi_writer.proofs.FlagNumbers.{flags_read}
-use Rattle.acpi_writer.proofs.IdsRead.{ids_are_read}
-use Rattle.acpi_writer.proofs.RegisterRead.{block_is, block_read, filled_12, given_read, gpe_read, is_off, made, optional_read, register_long, register_read, timer_read}
 use Rattle.acpi_writer.proofs.Tables as table
 
 pub fadt_name : table.IsName FADT
@@ -166,82 +169,82 @@ module _ (c : FadtContents) (h : FixedHardware) (t : List ℕ) (from36 : drop 36
   c_state_is = parts.field_at 88 7 1 t (parts.r3 c h) (parts.from88 c h t from36) ∙ parts.c_state_in h (parts.r4 c h)
 
   c2_is : field_of t 96 2 ≡ c.legacy.worst_c2_latency
-  c2_is = parts.field_at 96 0 2 t (parts.r4 c h) (parts.from96 c h t from36) ∙ more.c2_in c fit.legacy (parts.r5 c h)
+  c2_is = parts.field_at 96 0 2 t (parts.r4 c h) (parts.from96 c h t from36) ∙ parts.c2_in c fit.legacy (parts.r5 c h)
 
   c3_is : field_of t 98 2 ≡ c.legacy.worst_c3_latency
-  c3_is = parts.field_at 96 2 2 t (parts.r4 c h) (parts.from96 c h t from36) ∙ more.c3_in c fit.legacy (parts.r5 c h)
+  c3_is = parts.field_at 96 2 2 t (parts.r4 c h) (parts.from96 c h t from36) ∙ parts.c3_in c fit.legacy (parts.r5 c h)
 
   size_is : field_of t 100 2 ≡ c.legacy.flush_size
-  size_is = parts.field_at 96 4 2 t (parts.r4 c h) (parts.from96 c h t from36) ∙ more.size_in c fit.legacy (parts.r5 c h)
+  size_is = parts.field_at 96 4 2 t (parts.r4 c h) (parts.from96 c h t from36) ∙ parts.size_in c fit.legacy (parts.r5 c h)
 
   stride_is : field_of t 102 2 ≡ c.legacy.flush_stride
-  stride_is = parts.field_at 96 6 2 t (parts.r4 c h) (parts.from96 c h t from36) ∙ more.stride_in c fit.legacy (parts.r5 c h)
+  stride_is = parts.field_at 96 6 2 t (parts.r4 c h) (parts.from96 c h t from36) ∙ parts.stride_in c fit.legacy (parts.r5 c h)
 
   duty_offset_is : field_of t 104 1 ≡ c.legacy.duty_offset
-  duty_offset_is = parts.field_at 96 8 1 t (parts.r4 c h) (parts.from96 c h t from36) ∙ more.duty_offset_in c fit.legacy (parts.r5 c h)
+  duty_offset_is = parts.field_at 96 8 1 t (parts.r4 c h) (parts.from96 c h t from36) ∙ parts.duty_offset_in c fit.legacy (parts.r5 c h)
 
   duty_width_is : field_of t 105 1 ≡ c.legacy.duty_width
-  duty_width_is = parts.field_at 96 9 1 t (parts.r4 c h) (parts.from96 c h t from36) ∙ more.duty_width_in c fit.legacy (parts.r5 c h)
+  duty_width_is = parts.field_at 96 9 1 t (parts.r4 c h) (parts.from96 c h t from36) ∙ parts.duty_width_in c fit.legacy (parts.r5 c h)
 
   day_is : field_of t 106 1 ≡ c.legacy.day_alarm
-  day_is = parts.field_at 96 10 1 t (parts.r4 c h) (parts.from96 c h t from36) ∙ more.day_in c fit.legacy (parts.r5 c h)
+  day_is = parts.field_at 96 10 1 t (parts.r4 c h) (parts.from96 c h t from36) ∙ parts.day_in c fit.legacy (parts.r5 c h)
 
   month_is : field_of t 107 1 ≡ c.legacy.month_alarm
-  month_is = parts.field_at 96 11 1 t (parts.r4 c h) (parts.from96 c h t from36) ∙ more.month_in c fit.legacy (parts.r5 c h)
+  month_is = parts.field_at 96 11 1 t (parts.r4 c h) (parts.from96 c h t from36) ∙ parts.month_in c fit.legacy (parts.r5 c h)
 
   century_is : field_of t 108 1 ≡ c.legacy.century
-  century_is = parts.field_at 96 12 1 t (parts.r4 c h) (parts.from96 c h t from36) ∙ more.century_in c fit.legacy (parts.r5 c h)
+  century_is = parts.field_at 96 12 1 t (parts.r4 c h) (parts.from96 c h t from36) ∙ parts.century_in c fit.legacy (parts.r5 c h)
 
   pc_is : field_of t 109 2 ≡ flag_number (pc_flags c.pc_boot)
-  pc_is = parts.field_at 96 13 2 t (parts.r4 c h) (parts.from96 c h t from36) ∙ more.pc_in c fit.legacy (parts.r5 c h)
+  pc_is = parts.field_at 96 13 2 t (parts.r4 c h) (parts.from96 c h t from36) ∙ parts.pc_in c fit.legacy (parts.r5 c h)
 
   flags_is : field_of t 112 4 ≡ flag_number (feature_flags c)
-  flags_is = parts.field_at 96 16 4 t (parts.r4 c h) (parts.from96 c h t from36) ∙ more.flags_in c fit.legacy (parts.r5 c h)
+  flags_is = parts.field_at 96 16 4 t (parts.r4 c h) (parts.from96 c h t from36) ∙ parts.flags_in c fit.legacy (parts.r5 c h)
 
   value_is : field_of t 128 1 ≡ c.reset_value
-  value_is = parts.field_at 128 0 1 t (parts.r6 c h) (parts.from128 c h t from36) ∙ more.value_in c h fit.head (parts.last c h)
+  value_is = parts.field_at 128 0 1 t (parts.r6 c h) (parts.from128 c h t from36) ∙ parts.value_in c h fit.head (parts.last c h)
 
   arm_is : field_of t 129 2 ≡ flag_number (arm_flags c.arm_boot)
-  arm_is = parts.field_at 128 1 2 t (parts.r6 c h) (parts.from128 c h t from36) ∙ more.arm_in c h fit.head (parts.last c h)
+  arm_is = parts.field_at 128 1 2 t (parts.r6 c h) (parts.from128 c h t from36) ∙ parts.arm_in c h fit.head (parts.last c h)
 
   x_facs_is : field_of t 132 8 ≡ address_or_zero c.facs
-  x_facs_is = parts.field_at 128 4 8 t (parts.r6 c h) (parts.from128 c h t from36) ∙ more.x_facs_in c h fit.head (parts.last c h)
+  x_facs_is = parts.field_at 128 4 8 t (parts.r6 c h) (parts.from128 c h t from36) ∙ parts.x_facs_in c h fit.head (parts.last c h)
 
   x_dsdt_is : field_of t 140 8 ≡ c.dsdt
-  x_dsdt_is = parts.field_at 128 12 8 t (parts.r6 c h) (parts.from128 c h t from36) ∙ more.x_dsdt_in c h fit.head (parts.last c h)
+  x_dsdt_is = parts.field_at 128 12 8 t (parts.r6 c h) (parts.from128 c h t from36) ∙ parts.x_dsdt_in c h fit.head (parts.last c h)
 
   pm1a_event_is : block_at t 56 88 148 ≡ made (bytes_wide (Some h.pm1a_event)) (Some h.pm1a_event)
-  pm1a_event_is = block_is t 56 88 148 (bytes_wide (Some h.pm1a_event)) (Some h.pm1a_event) (parts.field_at 88 0 1 t (parts.r3 c h) (parts.from88 c h t from36) ∙ parts.event_length h (parts.r4 c h)) (parts.part_at 56 0 4 t (parts.r1 c h) (parts.from56 c h t from36) ∙ parts.pm1a_event_in h (parts.r2 c h)) (has 148 12 refl) (parts.part_at 148 0 12 t (parts.last c h) (parts.from148 c h t from36) ∙ more.x_pm1a_event c h)
+  pm1a_event_is = block_is t 56 88 148 (bytes_wide (Some h.pm1a_event)) (Some h.pm1a_event) (parts.field_at 88 0 1 t (parts.r3 c h) (parts.from88 c h t from36) ∙ parts.event_length h (parts.r4 c h)) (parts.part_at 56 0 4 t (parts.r1 c h) (parts.from56 c h t from36) ∙ parts.pm1a_event_in h (parts.r2 c h)) (has 148 12 refl) (parts.part_at 148 0 12 t (parts.last c h) (parts.from148 c h t from36) ∙ parts.x_pm1a_event c h)
 
   pm1b_event_is : block_at t 60 88 160 ≡ made (bytes_wide (Some h.pm1a_event)) (h.pm1b_event)
-  pm1b_event_is = block_is t 60 88 160 (bytes_wide (Some h.pm1a_event)) (h.pm1b_event) (parts.field_at 88 0 1 t (parts.r3 c h) (parts.from88 c h t from36) ∙ parts.event_length h (parts.r4 c h)) (parts.part_at 56 4 4 t (parts.r1 c h) (parts.from56 c h t from36) ∙ parts.pm1b_event_in h (parts.r2 c h)) (has 160 12 refl) (parts.part_at 148 12 12 t (parts.last c h) (parts.from148 c h t from36) ∙ more.x_pm1b_event c h)
+  pm1b_event_is = block_is t 60 88 160 (bytes_wide (Some h.pm1a_event)) (h.pm1b_event) (parts.field_at 88 0 1 t (parts.r3 c h) (parts.from88 c h t from36) ∙ parts.event_length h (parts.r4 c h)) (parts.part_at 56 4 4 t (parts.r1 c h) (parts.from56 c h t from36) ∙ parts.pm1b_event_in h (parts.r2 c h)) (has 160 12 refl) (parts.part_at 148 12 12 t (parts.last c h) (parts.from148 c h t from36) ∙ parts.x_pm1b_event c h)
 
   pm1a_control_is : block_at t 64 89 172 ≡ made (bytes_wide (Some h.pm1a_control)) (Some h.pm1a_control)
-  pm1a_control_is = block_is t 64 89 172 (bytes_wide (Some h.pm1a_control)) (Some h.pm1a_control) (parts.field_at 88 1 1 t (parts.r3 c h) (parts.from88 c h t from36) ∙ parts.control_length h (parts.r4 c h)) (parts.part_at 56 8 4 t (parts.r1 c h) (parts.from56 c h t from36) ∙ parts.pm1a_control_in h (parts.r2 c h)) (has 172 12 refl) (parts.part_at 148 24 12 t (parts.last c h) (parts.from148 c h t from36) ∙ more.x_pm1a_control c h)
+  pm1a_control_is = block_is t 64 89 172 (bytes_wide (Some h.pm1a_control)) (Some h.pm1a_control) (parts.field_at 88 1 1 t (parts.r3 c h) (parts.from88 c h t from36) ∙ parts.control_length h (parts.r4 c h)) (parts.part_at 56 8 4 t (parts.r1 c h) (parts.from56 c h t from36) ∙ parts.pm1a_control_in h (parts.r2 c h)) (has 172 12 refl) (parts.part_at 148 24 12 t (parts.last c h) (parts.from148 c h t from36) ∙ parts.x_pm1a_control c h)
 
   pm1b_control_is : block_at t 68 89 184 ≡ made (bytes_wide (Some h.pm1a_control)) (h.pm1b_control)
-  pm1b_control_is = block_is t 68 89 184 (bytes_wide (Some h.pm1a_control)) (h.pm1b_control) (parts.field_at 88 1 1 t (parts.r3 c h) (parts.from88 c h t from36) ∙ parts.control_length h (parts.r4 c h)) (parts.part_at 56 12 4 t (parts.r1 c h) (parts.from56 c h t from36) ∙ parts.pm1b_control_in h (parts.r2 c h)) (has 184 12 refl) (parts.part_at 148 36 12 t (parts.last c h) (parts.from148 c h t from36) ∙ more.x_pm1b_control c h)
+  pm1b_control_is = block_is t 68 89 184 (bytes_wide (Some h.pm1a_control)) (h.pm1b_control) (parts.field_at 88 1 1 t (parts.r3 c h) (parts.from88 c h t from36) ∙ parts.control_length h (parts.r4 c h)) (parts.part_at 56 12 4 t (parts.r1 c h) (parts.from56 c h t from36) ∙ parts.pm1b_control_in h (parts.r2 c h)) (has 184 12 refl) (parts.part_at 148 36 12 t (parts.last c h) (parts.from148 c h t from36) ∙ parts.x_pm1b_control c h)
 
   pm2_control_is : block_at t 72 90 196 ≡ made (bytes_wide h.pm2_control) (h.pm2_control)
-  pm2_control_is = block_is t 72 90 196 (bytes_wide h.pm2_control) (h.pm2_control) (parts.field_at 88 2 1 t (parts.r3 c h) (parts.from88 c h t from36) ∙ parts.second_length h (parts.r4 c h)) (parts.part_at 72 0 4 t (parts.r2 c h) (parts.from72 c h t from36) ∙ parts.pm2_control_in h (parts.r3 c h)) (has 196 12 refl) (parts.part_at 148 48 12 t (parts.last c h) (parts.from148 c h t from36) ∙ more.x_pm2_control c h)
+  pm2_control_is = block_is t 72 90 196 (bytes_wide h.pm2_control) (h.pm2_control) (parts.field_at 88 2 1 t (parts.r3 c h) (parts.from88 c h t from36) ∙ parts.second_length h (parts.r4 c h)) (parts.part_at 72 0 4 t (parts.r2 c h) (parts.from72 c h t from36) ∙ parts.pm2_control_in h (parts.r3 c h)) (has 196 12 refl) (parts.part_at 148 48 12 t (parts.last c h) (parts.from148 c h t from36) ∙ parts.x_pm2_control c h)
 
   pm_timer_is : block_at t 76 91 208 ≡ made (if is_given h.pm_timer then 4 else 0) (h.pm_timer)
-  pm_timer_is = block_is t 76 91 208 (if is_given h.pm_timer then 4 else 0) (h.pm_timer) (parts.field_at 88 3 1 t (parts.r3 c h) (parts.from88 c h t from36) ∙ parts.timer_length h (parts.r4 c h)) (parts.part_at 72 4 4 t (parts.r2 c h) (parts.from72 c h t from36) ∙ parts.pm_timer_in h (parts.r3 c h)) (has 208 12 refl) (parts.part_at 148 60 12 t (parts.last c h) (parts.from148 c h t from36) ∙ more.x_pm_timer c h)
+  pm_timer_is = block_is t 76 91 208 (if is_given h.pm_timer then 4 else 0) (h.pm_timer) (parts.field_at 88 3 1 t (parts.r3 c h) (parts.from88 c h t from36) ∙ parts.timer_length h (parts.r4 c h)) (parts.part_at 72 4 4 t (parts.r2 c h) (parts.from72 c h t from36) ∙ parts.pm_timer_in h (parts.r3 c h)) (has 208 12 refl) (parts.part_at 148 60 12 t (parts.last c h) (parts.from148 c h t from36) ∙ parts.x_pm_timer c h)
 
   gpe0_is : block_at t 80 92 220 ≡ made (gpe_length h.gpe0) (gpe_register h.gpe0)
-  gpe0_is = block_is t 80 92 220 (gpe_length h.gpe0) (gpe_register h.gpe0) (parts.field_at 88 4 1 t (parts.r3 c h) (parts.from88 c h t from36) ∙ parts.gpe0_length h (parts.r4 c h)) (parts.part_at 72 8 4 t (parts.r2 c h) (parts.from72 c h t from36) ∙ parts.gpe0_in h (parts.r3 c h)) (has 220 12 refl) (parts.part_at 148 72 12 t (parts.last c h) (parts.from148 c h t from36) ∙ more.x_gpe0 c h)
+  gpe0_is = block_is t 80 92 220 (gpe_length h.gpe0) (gpe_register h.gpe0) (parts.field_at 88 4 1 t (parts.r3 c h) (parts.from88 c h t from36) ∙ parts.gpe0_length h (parts.r4 c h)) (parts.part_at 72 8 4 t (parts.r2 c h) (parts.from72 c h t from36) ∙ parts.gpe0_in h (parts.r3 c h)) (has 220 12 refl) (parts.part_at 148 72 12 t (parts.last c h) (parts.from148 c h t from36) ∙ parts.x_gpe0 c h)
 
   gpe1_is : block_at t 84 93 232 ≡ made (gpe_length h.gpe1) (gpe_register h.gpe1)
-  gpe1_is = block_is t 84 93 232 (gpe_length h.gpe1) (gpe_register h.gpe1) (parts.field_at 88 5 1 t (parts.r3 c h) (parts.from88 c h t from36) ∙ parts.gpe1_length h (parts.r4 c h)) (parts.part_at 72 12 4 t (parts.r2 c h) (parts.from72 c h t from36) ∙ parts.gpe1_in h (parts.r3 c h)) (has 232 12 refl) (parts.part_at 148 84 12 t (parts.last c h) (parts.from148 c h t from36) ∙ more.x_gpe1 c h)
+  gpe1_is = block_is t 84 93 232 (gpe_length h.gpe1) (gpe_register h.gpe1) (parts.field_at 88 5 1 t (parts.r3 c h) (parts.from88 c h t from36) ∙ parts.gpe1_length h (parts.r4 c h)) (parts.part_at 72 12 4 t (parts.r2 c h) (parts.from72 c h t from36) ∙ parts.gpe1_in h (parts.r3 c h)) (has 232 12 refl) (parts.part_at 148 84 12 t (parts.last c h) (parts.from148 c h t from36) ∙ parts.x_gpe1 c h)
 
   reset_is : filled_part t 116 12 ≡ register_bytes c.reset_register
-  reset_is = filled_12 t (register_bytes c.reset_register) 116 (parts.part_at 116 0 12 t (parts.r5 c h) (parts.from116 c h t from36) ∙ more.reset_in c h fit.head (parts.r6 c h)) (register_long c.reset_register)
+  reset_is = filled_12 t (register_bytes c.reset_register) 116 (parts.part_at 116 0 12 t (parts.r5 c h) (parts.from116 c h t from36) ∙ parts.reset_in c h fit.head (parts.r6 c h)) (register_long c.reset_register)
 
   sleep_control_is : extended_address t 244 ≡ Some (register_bytes c.sleep_control)
-  sleep_control_is = rw (has 244 12 refl, filled_12 t (register_bytes c.sleep_control) 244 (parts.part_at 148 96 12 t (parts.last c h) (parts.from148 c h t from36) ∙ more.sleep_control_in c h) (register_long c.sleep_control)) refl
+  sleep_control_is = rw (has 244 12 refl, filled_12 t (register_bytes c.sleep_control) 244 (parts.part_at 148 96 12 t (parts.last c h) (parts.from148 c h t from36) ∙ parts.sleep_control_in c h) (register_long c.sleep_control)) refl
 
   sleep_status_is : extended_address t 256 ≡ Some (register_bytes c.sleep_status)
-  sleep_status_is = rw (has 256 12 refl, filled_12 t (register_bytes c.sleep_status) 256 (parts.part_at 148 108 12 t (parts.last c h) (parts.from148 c h t from36) ∙ more.sleep_status_in c h) (register_long c.sleep_status)) refl
+  sleep_status_is = rw (has 256 12 refl, filled_12 t (register_bytes c.sleep_status) 256 (parts.part_at 148 108 12 t (parts.last c h) (parts.from148 c h t from36) ∙ parts.sleep_status_in c h) (register_long c.sleep_status)) refl
 
   flags_are : HasFlags c (fadt_at t)
   unfolding fadt_at
@@ -330,3 +333,21 @@ module _ (ids : TableIds) (c : FadtContents) (t : List ℕ) (is : IsFadt ids c t
 
 pub fadt_read : FadtIsRead
 fadt_read ids c t is = read_is ids c t is
+
+-- ---- whether it is written
+
+-- with this hardware
+pub by_hardware : (room : ℕ) (ids : TableIds) (c : FadtContents) (h : FixedHardware) → h ≡ fixed_of c.hardware → if_checked (fadt_checked c) (table_written room FADT 6 ids (body_with c h)) ≡ fadt_written room ids c
+unfolding fadt_written
+by_hardware room ids c h e = ap (λ x. if_checked (fadt_checked c) (table_written room FADT 6 ids (body_with c x))) e
+
+pub fadt_is : (ids : TableIds) (c : FadtContents) (t : List ℕ) → IsTableOf FADT 6 ids (fadt_body c) t → AreFitFor c (fixed_of c.hardware) → fadt_checked c ≡ Ok tt → IsFadt ids c t
+fadt_is ids c t written fit good =
+    let one = holds_ok (are_placed c) NoAddress _ tt good in
+    let two = holds_ok (is_profile c.power_profile) BadProfile _ tt one.1 in
+    record { written = written; fit = fit; placed = one.0; profile = two.0; registers = was_true _ _ two.1 }
+
+pub answer_is : (r : Result ℕ WriterError) (ids : TableIds) (c : FadtContents) (h : FixedHardware) (new : List ℕ) → h ≡ fixed_of c.hardware
+    → IfOk r (λ n. IsTableOf FADT 6 ids (body_with c h) (take n new)) → IfOk r (λ n. AreFitFor c h) → IfOk r (λ n. fadt_checked c ≡ Ok tt) → IfOk r (λ n. IsFadt ids c (take n new))
+answer_is (Ok n) ids c h new e written fit good = fadt_is ids c (take n new) (subst (λ x. IsTableOf FADT 6 ids (body_with c x) (take n new)) e written) (subst (AreFitFor c) e fit) good
+answer_is (Err d) ids c h new e written fit good = tt

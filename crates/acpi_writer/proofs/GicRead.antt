@@ -40,7 +40,7 @@ use Rattle.acpi_writer.specs.declared.madt.gic.GicContents.{GicContents}
 use Rattle.acpi_writer.specs.GicMadt.{AreGicFit, FitsDistributor, FitsFrame, FitsInterface, FitsRedistributors, FitsService, GicMadtIsRead, GicMadtIsValid, IsGicMadt, gic_body, gic_read, gicc_bytes, gicc_entry, gicc_length, gicd_entry, gicr_entry, has_spis, interface_checked, its_entry, msi_entry, spis_of}
 use Rattle.acpi_writer.specs.MadtBytes.{madt_fixed}
 use Rattle.acpi_writer.proofs.Bits.{app, each_good, flags_are, flags_number, itself, mode, mode_is, one, was_true}
-use Rattle.acpi_writer.proofs.IdsRead.{ids_are_read}
+use Rattle.acpi_writer.proofs.Tables.{ids_are_read}
 use Rattle.acpi_writer.proofs.MadtRead.{fixed_long, madt_name}
 use Rattle.acpi_writer.proofs.Rows.{AreRows, all_known, both_known, both_rows, each_of, each_row, five, none_of, one_row, rows_are_cut}
 use Rattle.acpi_writer.proofs.Tables as table

@@ -1,5 +1,5 @@
 -- What a reader finds in a GTDT that is written.
-use Rattle.std.proofs.Common.{◌≡◌, ℕ, ◌+◌, Bool, true, false, List, [], length, drop, Option, Some, Ok, Err, refl, sym, ap, ◌∙◌, arith, if◌then◌else◌}
+use Rattle.std.proofs.Common.{◌≡◌, ℕ, ◌+◌, Bool, true, false, List, [], length, drop, Option, Some, Ok, refl, sym, ap, ◌∙◌, arith, if◌then◌else◌}
 use Rattle.std.specs.Prelude.{◌==◌, flat_map, nat_le, nat_lt}
 use Rattle.std.specs.List.{AllByRecursion}
 use Rattle.std.specs.Str.{chars, is_utf8}
@@ -19,13 +19,11 @@ use Rattle.acpi_arm.specs.Timers as read
 use Rattle.acpi_arm.specs.declared.gtdt.ArmTimer.{ArmTimer}
 use Rattle.acpi_writer.specs.Arm.{base_checked, is_edge, is_low}
 use Rattle.acpi_writer.specs.Checked.{all_checked}
-use Rattle.acpi_writer.specs.Gtdt.{FitsStructure, FitsTimer, GtdtIsRead, GtdtIsValid, IsGtdt, SaysTimers, array_bytes, base_of, gtdt_body, gtdt_checked, gtdt_written, structure_bytes, structure_checked, timer_bytes, timer_checked}
-use Rattle.acpi_writer.specs.Table.{table_written}
-use Rattle.acpi_writer.specs.declared.error.WriterError.{WriterError}
+use Rattle.acpi_writer.specs.Gtdt.{FitsStructure, FitsTimer, GtdtIsRead, GtdtIsValid, IsGtdt, SaysTimers, array_bytes, base_of, gtdt_body, gtdt_checked, structure_bytes, structure_checked, timer_bytes, timer_checked}
 use Rattle.acpi_writer.specs.declared.gtdt.GtdtContents.{GtdtContents}
 use Rattle.acpi_writer.specs.declared.ids.TableIds.{TableIds}
 use Rattle.acpi_writer.proofs.GtdtStructures.{IsGood, base_is, modes_are, none_missing, structures_many, timers_are}
-use Rattle.acpi_writer.proofs.IdsRead.{ids_are_read}
+use Rattle.acpi_writer.proofs.Tables.{ids_are_read}
 use Rattle.acpi_writer.proofs.Tables as table
 use Rattle.acpi_writer.proofs.Bits.{app, each_good, first_good, flags_are, flags_number, itself}
 use Rattle.acpi_writer.proofs.Rows.{both_known}
@@ -179,14 +177,3 @@ gtdt_read ids c t is = says ids c t is
 
 pub gtdt_valid : GtdtIsValid
 gtdt_valid ids c t is = table.valid GTDT gtdt_name 3 ids (gtdt_body c) t is.written
-
--- ---- whether it is written
-
-module _ (room : ℕ) (ids : TableIds) (c : GtdtContents) where
-  pub gtdt_bad : (e : WriterError) → gtdt_checked c ≡ Err e → gtdt_written room ids c ≡ Err e
-  unfolding gtdt_written
-  gtdt_bad e bad = rw bad refl
-
-  pub gtdt_is : gtdt_checked c ≡ Ok tt → gtdt_written room ids c ≡ table_written room GTDT 3 ids (gtdt_body c)
-  unfolding gtdt_written
-  gtdt_is good = rw good refl

@@ -1,10 +1,9 @@
 -- What a reader finds in an image that has a table that was written.
-use Rattle.std.proofs.Common.{◌≡◌, ℕ, ◌+◌, ◌≤◌, List, length, Option, None, Result, Ok, Err, refl, sym, ap, ◌∙◌, lit≤, arith, length-append}
+use Rattle.std.proofs.Common.{◌≡◌, ℕ, ◌+◌, ◌≤◌, List, length, Option, None, Result, Ok, Err, refl, sym, ap, ◌∙◌, lit≤, arith, length-append, true, false, [], ◌∷◌, ◌++◌, map}
 use Rattle.acpi_base.proofs.Steps.{bind_ok}
-use Rattle.acpi_base.specs.Bytes.{spelling}
 use Rattle.acpi_base.specs.Mcfg.{mcfg_entries_of}
-use Rattle.acpi_base.specs.Header.{check_table}
-use Rattle.acpi_base.specs.Memory.{Memory}
+use Rattle.acpi_base.specs.Header.{check_table, header_at}
+use Rattle.acpi_base.specs.Memory.{Memory, Region}
 use Rattle.acpi_base.specs.Model.{Model, model_of}
 use Rattle.acpi_base.specs.Steps.{◌>>=◌}
 use Rattle.acpi_base.specs.Table.{kind}
@@ -23,23 +22,66 @@ use Rattle.acpi.specs.Pci.{mcfg_kind}
 use Rattle.acpi.specs.Platform.{madt_kind, model_in, platform_of}
 use Rattle.acpi.specs.Relocation.{bytes_found}
 use Rattle.acpi.specs.Timer.{timer_of}
-use Rattle.acpi.specs.declared.hpet.HpetInfo.{HpetInfo}
 use Rattle.acpi.specs.declared.platform.PlatformInfo.{PlatformInfo}
 use Rattle.acpi.specs.declared.platform.timer.PmTimer.{PmTimer}
-use Rattle.acpi_image.specs.Written.{Plan, pointers_of, records_of, with_sum}
+use Rattle.acpi_image.specs.Written.{Plan, pointers_of, records_of, with_sum, sum_byte}
 use Rattle.acpi_writer.specs.HpetBytes.{hpet_body}
-use Rattle.acpi_writer.specs.ImageLaws.{HasFirst, HasPlatform, HpetInImage, MadtInImage, McfgInImage, PlatformInImage}
+use Rattle.acpi_writer.specs.ImageLaws.{HasFirst, HasPlatform, HpetInImage, MadtInImage, McfgInImage, PlatformInImage, is_named}
 use Rattle.acpi_writer.specs.MadtBytes.{madt_body, madt_entries, madt_fixed}
 use Rattle.acpi_writer.specs.MadtLaws.{model_read}
 use Rattle.acpi_writer.specs.McfgBytes.{mcfg_body}
 use Rattle.acpi_writer.specs.Table.{IsTableOf, table_bytes, unsummed}
 use Rattle.acpi_writer.specs.declared.ids.TableIds.{TableIds}
 use Rattle.acpi_writer.specs.declared.madt.MadtContents.{MadtContents}
-use Rattle.acpi_writer.proofs.Found.{found_in_image, with_sum_again}
-use Rattle.acpi_writer.proofs.HpetRead.{hpet_name, hpet_read}
+use Rattle.acpi_writer.proofs.ShortTables.{hpet_long, hpet_name, hpet_read, mcfg_name, mcfg_read}
 use Rattle.acpi_writer.proofs.MadtRead.{fixed_long, madt_name, madt_read}
-use Rattle.acpi_writer.proofs.McfgRead.{mcfg_name, mcfg_read}
+use Rattle.std.specs.Prelude.{◌&&◌, nat_le}
+use Rattle.std.specs.List.{AllByRecursion}
+use Rattle.std.specs.Str.{bytes_eq}
+use Rattle.std.proofs.lemmas.Bool.{le-leb}
+use Rattle.std.proofs.lemmas.List.{set-set}
+use Rattle.acpi_base.proofs.OwnTable.{serves}
+use Rattle.acpi.proofs.Moved.{first_of, lookup_is}
+use Rattle.acpi_image.proofs.Written.{length-with_sum, part_front}
+use Rattle.acpi_image.proofs.WrittenLaws.{written_is_read}
 use Rattle.acpi_writer.proofs.Tables as table
+
+-- ---- a table whose Checksum is set
+
+pub with_sum_again : (offset : ℕ) (bytes : List ℕ) → with_sum offset (with_sum offset bytes) ≡ with_sum offset bytes
+unfolding with_sum sum_byte
+with_sum_again offset bytes = rw (set-set, set-set) refl
+
+serves_named : (s : Signature) (least : ℕ) (table : List ℕ) → serves s least (with_sum 9 table) ≡ (is_named s table && nat_le least (length table))
+unfolding header_at with_sum
+serves_named s least table =
+    ap (λ p. bytes_eq p s.0 && nat_le least (length (with_sum 9 table))) (part_front table 9 (sum_byte 9 table) 4 (lit≤ tt)) ∙ ap (λ n. is_named s table && nat_le least n) (length-with_sum 9 table)
+
+abbrev summed_bytes : Region → List ℕ
+summed_bytes t = with_sum 9 t.bytes
+
+first_here : (s : Signature) (least : ℕ) (table : List ℕ) (ts : List (List ℕ)) → is_named s table ≡ true → least ≤ length table → first_of s least (with_sum 9 table ∷ ts) ≡ Ok (with_sum 9 table)
+unfolding first_of
+first_here s least table ts named long = rw (serves_named s least table, named, le-leb least (length table) long) refl
+
+first_past : (s : Signature) (least : ℕ) (table : List ℕ) (ts : List (List ℕ)) → is_named s table ≡ false → first_of s least (with_sum 9 table ∷ ts) ≡ first_of s least ts
+unfolding first_of
+first_past s least table ts named = rw (serves_named s least table, named) refl
+
+first_after : (s : Signature) (least a : ℕ) (table : List ℕ) (before after : Memory) → AllByRecursion (λ t. is_named s t.bytes ≡ false) before → is_named s table ≡ true → least ≤ length table
+    → first_of s least (map summed_bytes (before ++ record { start = a; bytes = table } ∷ after)) ≡ Ok (with_sum 9 table)
+first_after s least a table [] after others named long = first_here s least table (map summed_bytes after) named long
+first_after s least a table (t ∷ before) after others named long =
+    first_past s least t.bytes (map summed_bytes (before ++ record { start = a; bytes = table } ∷ after)) others.0 ∙ first_after s least a table before after others.1 named long
+
+-- what a lookup finds in the image
+pub found_in_image : (s : Signature) (least : ℕ) (p : Plan) (table : List ℕ) (first : HasFirst s p table) → is_named s table ≡ true → 36 ≤ least → least ≤ length table
+    → bytes_found (lookup (records_of p) (kind s least (check_table s)) (pointers_of p)) ≡ Ok (with_sum 9 table)
+found_in_image s least p table first named enough long =
+    lookup_is (records_of p) s least (pointers_of p) enough ∙ ap (first_of s least) ((written_is_read p first.file first.bytes first.is_written).tables ∙ ap (map summed_bytes) first.tables)
+    ∙ first_after s least first.address table first.before first.after first.others named long
+
+-- ---- a table that is written
 
 again : (s : Signature) (revision : ℕ) (ids : TableIds) (body t : List ℕ) → IsTableOf s revision ids body t → with_sum 9 t ≡ t
 unfolding table_bytes
@@ -117,10 +159,6 @@ mcfg_in_image p t ids es is first =
     regions_by (lookup (records_of p) mcfg_kind (pointers_of p)) t found ∙ ap regions (mcfg_read ids es t is)
 
 -- ---- the HPET
-
-pub hpet_long : (i : HpetInfo) → length (hpet_body i) ≡ 20
-unfolding hpet_body spelling
-hpet_long i = refl
 
 hpet_by : (r : Result (ℕ × List ℕ) AcpiError) (b : List ℕ) → bytes_found r ≡ Ok b → (r >>= λ found. info_of (hpet_at found.1)) ≡ info_of (hpet_at b)
 hpet_by (Ok found) b e = ap (λ z. info_of (hpet_at z)) (same_found found.1 b e)

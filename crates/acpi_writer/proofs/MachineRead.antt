@@ -37,13 +37,12 @@ use Rattle.acpi_writer.specs.declared.error.WriterError.TheVariants.{BadName, To
 use Rattle.acpi_writer.specs.declared.facs.FacsContents.{FacsContents}
 use Rattle.acpi_writer.specs.declared.fadt.contents.FadtContents.{FadtContents}
 use Rattle.acpi_writer.specs.declared.ids.TableIds.{TableIds}
-use Rattle.acpi_writer.proofs.ContentsRead.{IsContents, all_contents, all_valid, first_found, letters_are, not_true, table_of}
-use Rattle.acpi_writer.proofs.FacsLaid.{has_facs, laid_long}
+use Rattle.acpi_writer.proofs.Bits.{is_off}
+use Rattle.acpi_writer.proofs.ContentsRead.{IsContents, all_contents, all_valid, fadt_found, first_found, letters_are, says, table_of}
+use Rattle.acpi_writer.proofs.Headless.{has_facs, laid_long, rsdp_long, rsdp_read}
 use Rattle.acpi_writer.proofs.LaidRead.{front_lent, laid_found, rest_lent, there}
-use Rattle.acpi_writer.proofs.MachineSays.{fadt_found, says}
-use Rattle.acpi_writer.proofs.Plain.{dsdt_read, root_read, root_valid}
+use Rattle.acpi_writer.proofs.ShortTables.{dsdt_read, root_read, root_valid}
 use Rattle.acpi_writer.proofs.Room.{table_length, wrote}
-use Rattle.acpi_writer.proofs.RsdpRead.{rsdp_long, rsdp_read}
 use Rattle.acpi_writer.proofs.Sized.{padded_long, root_long, tree_size_is, xsdt_long}
 
 -- ---- an RSDP that is lent
@@ -99,7 +98,7 @@ facts a x is =
       dsdt = three.0;
       dsdt_is = three.1;
       tables = all_contents x.ids x.tables.now is.fit.ids (recursion_from_All FitsContents x.tables.now is.fit.tables) three.2;
-      some = not_true (a == 0) place.0;
+      some = is_off (a == 0) place.0;
       ends = ltb-true (a + tree_size x) (2 ^ 64) (and_parts (a % 16 == 0) (nat_lt (a + tree_size x) (2 ^ 64)) place.1).1;
     }
 

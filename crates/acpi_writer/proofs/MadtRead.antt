@@ -1,6 +1,6 @@
--- What a reader finds in a MADT that is written.
-use Rattle.std.proofs.Common.{◌≡◌, ℕ, ◌^◌, Bool, true, false, List, [], ◌∷◌, ◌++◌, length, map, drop, Option, Some, None, Result, Ok, refl, sym, ap, ◌∙◌, arith}
-use Rattle.std.specs.Prelude.{if◌then◌else◌, nat_lt, slice_get}
+-- What a reader finds in a MADT that is written, and when one is.
+use Rattle.std.proofs.Common.{◌≡◌, ℕ, ◌^◌, Bool, true, false, List, [], ◌∷◌, ◌++◌, length, map, drop, Option, Some, None, Result, Ok, refl, sym, ap, ◌∙◌, arith, ◌<◌, ◌≤◌, Err}
+use Rattle.std.specs.Prelude.{not, if◌then◌else◌, nat_lt, slice_get}
 use Rattle.std.specs.List.{AllByRecursion, filter_map, list_all, list_any}
 use Rattle.std.specs.Option.{ok_or}
 use Rattle.std.proofs.lemmas.Bool.{and_parts, ltb-true}
@@ -12,29 +12,35 @@ use Rattle.acpi_base.proofs.Spelling.{number-spelling}
 use Rattle.acpi_base.specs.Bits.{has_bit}
 use Rattle.acpi_base.specs.Bytes.{field_of, number, part, spelling}
 use Rattle.acpi_base.specs.Madt.{madt_at, no_mailbox}
-use Rattle.acpi_base.specs.Model as read
 use Rattle.acpi_base.specs.declared.error.AcpiError.{AcpiError}
 use Rattle.acpi_base.specs.declared.error.AcpiError.TheVariants.{InvalidMadt}
 use Rattle.acpi_base.specs.declared.error.MadtError.TheVariants.{UnexpectedEntry}
 use Rattle.acpi_base.specs.declared.model.interrupt.Apic.{Apic}
-use Rattle.acpi_base.specs.declared.model.interrupt.InterruptModel.TheVariants as model
 use Rattle.acpi_base.specs.declared.model.interrupt.InterruptSourceOverride.{InterruptSourceOverride}
 use Rattle.acpi_base.specs.declared.model.interrupt.IoApic.{IoApic}
 use Rattle.acpi_base.specs.declared.model.interrupt.NmiLine.{NmiLine}
 use Rattle.acpi_base.specs.declared.model.interrupt.NmiSource.{NmiSource}
 use Rattle.acpi_base.specs.declared.model.item.MadtItem.{MadtItem}
-use Rattle.acpi_base.specs.declared.model.item.MadtItem.TheVariants as item
 use Rattle.acpi_base.specs.declared.model.processor.ProcessorInfo.{ProcessorInfo}
 use Rattle.acpi_base.specs.declared.table.signature.TheConstants.Signature.{MADT}
-use Rattle.acpi_writer.specs.Table.{bit_of}
+use Rattle.acpi_writer.specs.Table.{bit_of, IsTableOf, table_written}
 use Rattle.acpi_writer.specs.declared.ids.TableIds.{TableIds}
 use Rattle.acpi_writer.specs.declared.madt.MadtContents.{MadtContents}
 use Rattle.acpi_writer.specs.declared.madt.MadtProcessor.{MadtProcessor}
-use Rattle.acpi_writer.specs.MadtBytes.{io_apic_entry, is_empty, madt_body, madt_entries, madt_fixed, names_one, nmi_line_entry, nmi_source_entry, override_entry, processor_entry}
+use Rattle.acpi_writer.specs.MadtBytes.{io_apic_entry, is_empty, is_single, madt_body, madt_checked, madt_entries, madt_fixed, names_one, nmi_line_entry, nmi_source_entry, override_entry, processor_entry}
 use Rattle.acpi_writer.specs.MadtLaws.{AreFit, FitsIoApic, FitsNmiSource, FitsOverride, FitsProcessor, IsMadt, MadtIsRead, MadtIsValid, MailboxIsRead, apic_read, processor_read, processors_read}
+use Rattle.acpi_base.proofs.Steps.{holds_ok}
+use Rattle.acpi_writer.proofs.Bits.{is_off, was_true}
 use Rattle.acpi_writer.proofs.Rows.{all_of, both, each_of, none_of}
-use Rattle.acpi_writer.proofs.Says.{address_items, address_says, boxes_read, io_apic_says, nmi_line_says, nmi_source_says, override_says, processor_item, processor_says, wakeup_items, wakeup_says}
-use Rattle.acpi_writer.proofs.Speaks.{Speaks, speaks_all, speaks_both, spoken_cut, spoken_mailbox, spoken_model}
+use Rattle.acpi_writer.proofs.MadtEntries.{Speaks, address_items, address_says, boxes_read, io_apic_says, nmi_line_says, nmi_source_says, override_says, processor_item, processor_says, speaks_all, speaks_both, spoken_cut, spoken_mailbox, spoken_model, wakeup_items, wakeup_says}
+use Rattle.acpi_writer.specs.declared.error.WriterError.{WriterError}
+use Rattle.acpi_writer.specs.declared.error.WriterError.TheVariants.{IdOfAll, NoProcessor}
+use Rattle.acpi_writer.specs.declared.madt.gic.GicContents.{GicContents}
+use Rattle.acpi_writer.specs.Checked.{all_checked}
+use Rattle.acpi_writer.specs.GicMadt.{gic_body, gic_written, interface_checked}
+use Rattle.acpi_base.specs.Model as read
+use Rattle.acpi_base.specs.declared.model.interrupt.InterruptModel.TheVariants as model
+use Rattle.acpi_base.specs.declared.model.item.MadtItem.TheVariants as item
 use Rattle.acpi_writer.proofs.Tables as table
 
 -- ---- sorts of items
@@ -217,3 +223,34 @@ mailbox_read ids c t is =
 
 pub madt_valid : MadtIsValid
 madt_valid ids c t is = table.valid MADT madt_name 5 ids (madt_body c) t is.written
+
+-- ---- whether it is written
+
+pub empty_is : {X : Type 0} (ps : List X) → length ps < 1 → is_empty ps ≡ true
+empty_is [] less = refl
+empty_is (p ∷ ps) less = absurd (omega (arith, less))
+
+pub some_is : {X : Type 0} (ps : List X) → 1 ≤ length ps → is_empty ps ≡ false
+some_is [] more = absurd (omega (arith, more))
+some_is (p ∷ ps) more = refl
+
+pub madt_is : (ids : TableIds) (c : MadtContents) (t : List ℕ) → IsTableOf MADT 5 ids (madt_body c) t → AreFit c → madt_checked c ≡ Ok tt → IsMadt ids c t
+madt_is ids c t written fit good =
+    let one = holds_ok (not (is_empty c.processors.now)) NoProcessor _ tt good in
+    let two = holds_ok (list_all is_single c.processors.now) IdOfAll _ tt one.1 in
+    record { written = written; fit = fit; some = is_off _ one.0; lines = was_true _ _ two.1 }
+
+-- ---- that of an Arm machine
+
+module _ (room : ℕ) (ids : TableIds) (c : GicContents) where
+  pub gic_none : length c.cpu_interfaces.now < 1 → gic_written room ids c ≡ Err NoProcessor
+  unfolding gic_written
+  gic_none less = rw (empty_is c.cpu_interfaces.now less) refl
+
+  pub gic_bad : (e : WriterError) → 1 ≤ length c.cpu_interfaces.now → all_checked interface_checked c.cpu_interfaces.now ≡ Err e → gic_written room ids c ≡ Err e
+  unfolding gic_written
+  gic_bad e some bad = rw (some_is c.cpu_interfaces.now some, bad) refl
+
+  pub gic_is : 1 ≤ length c.cpu_interfaces.now → all_checked interface_checked c.cpu_interfaces.now ≡ Ok tt → gic_written room ids c ≡ table_written room MADT 6 ids (gic_body c)
+  unfolding gic_written
+  gic_is some good = rw (some_is c.cpu_interfaces.now some, good) refl

@@ -1,11 +1,11 @@
 -- What a reader finds of a register that is written.
-use Rattle.std.proofs.Common.{◌≡◌, ℕ, ◌^◌, ◌<◌, Bool, true, false, List, [], ◌∷◌, length, Option, Some, None, Ok, refl, arith}
-use Rattle.std.specs.Prelude.{◌==◌, not, if◌then◌else◌}
+use Rattle.std.proofs.Common.{◌≡◌, ℕ, ◌^◌, ◌<◌, true, false, List, length, Option, Some, None, Ok, refl, arith}
+use Rattle.std.specs.Prelude.{◌==◌, if◌then◌else◌}
 use Rattle.std.proofs.lemmas.Bool.{and_parts}
 use Rattle.std.proofs.lemmas.List.{append-nil}
 use Rattle.acpi_base.proofs.Spelling.{number-spelling}
 use Rattle.acpi_base.specs.Address.{access_size_of, generic_address_of, size_code, space_code, space_of}
-use Rattle.acpi_base.specs.Bytes.{field_of, filled_part, number, part, spelling}
+use Rattle.acpi_base.specs.Bytes.{field_of, filled_part, part, spelling}
 use Rattle.acpi_base.specs.declared.address.AccessSize.{AccessSize}
 use Rattle.acpi_base.specs.declared.address.AccessSize.TheVariants.{Undefined, ByteAccess, WordAccess, DWordAccess, QWordAccess}
 use Rattle.acpi_base.specs.declared.address.AddressSpace.{AddressSpace}
@@ -17,13 +17,7 @@ use Rattle.acpi_fixed.specs.declared.fadt.registers.RegisterBlock.{RegisterBlock
 use Rattle.acpi_fixed.specs.declared.fadt.registers.gpe.GpeBlock.{GpeBlock}
 use Rattle.acpi_writer.specs.FadtBytes.{gpe_length, gpe_register, has_length, is_given, port_of}
 use Rattle.acpi_writer.specs.Generic.{FitsRegister, generic_bytes, is_named_space, is_register, register_bytes, register_or_zeros}
-
-pub one : (n : ℕ) → number (n ∷ []) ≡ n
-one n = omega arith
-
-pub is_off : (b : Bool) → not b ≡ true → b ≡ false
-is_off true h = absurd cc
-is_off false h = refl
+use Rattle.acpi_writer.proofs.Bits.{is_off, one}
 
 each_space : (s : AddressSpace) → is_named_space s ≡ true → space_of (space_code s) ≡ Ok s
 each_space SystemMemory h = refl

@@ -1,7 +1,6 @@
 -- That the room for a table changes only whether it fits.
 use Rattle.std.proofs.Common.{◌≡◌, ℕ, ◌+◌, ◌^◌, ◌<◌, ◌≤◌, true, List, [], length, Result, Ok, Err, refl, sym, ap, ◌∙◌, arith, length-append}
-use Rattle.std.specs.Prelude.{◌*◌, ◌==◌, ◌&&◌, nat_le, nat_lt, not, replicate}
-use Rattle.std.specs.List.{list_all}
+use Rattle.std.specs.Prelude.{nat_le, nat_lt, not, replicate}
 use Rattle.std.proofs.lemmas.Bool.{leb-true, ltb-true}
 use Rattle.acpi_base.proofs.Steps.{holds_ok, same_ok}
 use Rattle.acpi_base.specs.Steps.{◌>>=◌, holds}
@@ -13,21 +12,21 @@ use Rattle.acpi_image.proofs.Written.{length-with_sum}
 use Rattle.acpi_writer.specs.Bgrt.{bgrt_body}
 use Rattle.acpi_writer.specs.Checked.{all_checked}
 use Rattle.acpi_writer.specs.Contents.{Moves, contents_written, most, or_none}
-use Rattle.acpi_writer.specs.FadtBytes.{are_placed, are_registers, fadt_body, fadt_written, is_profile}
+use Rattle.acpi_writer.specs.FadtBytes.{fadt_body, fadt_checked, fadt_written}
 use Rattle.acpi_writer.specs.GicMadt.{gic_body, gic_written, interface_checked}
 use Rattle.acpi_writer.specs.Gtdt.{gtdt_body, gtdt_checked, gtdt_written}
 use Rattle.acpi_writer.specs.HpetBytes.{hpet_body}
 use Rattle.acpi_writer.specs.Laid.{gap, padded}
-use Rattle.acpi_writer.specs.MadtBytes.{is_empty, is_single, madt_body, madt_written, names_one}
+use Rattle.acpi_writer.specs.MadtBytes.{is_empty, madt_body, madt_checked, madt_written}
 use Rattle.acpi_writer.specs.McfgBytes.{mcfg_body}
-use Rattle.acpi_writer.specs.Slit.{slit_body, slit_written}
-use Rattle.acpi_writer.specs.Spcr.{is_base, is_interface, is_somewhere, spcr_body, spcr_written}
-use Rattle.acpi_writer.specs.Srat.{ContentsOf, is_one_apic, is_one_gicc, is_range, srat_body_by, srat_written_by}
+use Rattle.acpi_writer.specs.Slit.{slit_body, slit_checked, slit_written}
+use Rattle.acpi_writer.specs.Spcr.{spcr_body, spcr_checked, spcr_written}
+use Rattle.acpi_writer.specs.Srat.{ContentsOf, srat_body_by, srat_checked_by, srat_written_by}
 use Rattle.acpi_writer.specs.Table.{AreIds, are_texts, table_bytes, table_head, table_written, unsummed}
 use Rattle.acpi_writer.specs.declared.contents.TableContents.{TableContents}
 use Rattle.acpi_writer.specs.declared.contents.TableContents.TheVariants.{Bgrt, Fadt, GicMadt, Gtdt, Hpet, Madt, Mcfg, Slit, Spcr, Srat, Ssdt}
 use Rattle.acpi_writer.specs.declared.error.WriterError.{WriterError}
-use Rattle.acpi_writer.specs.declared.error.WriterError.TheVariants.{BadCode, BadMatrix, BadProfile, BadRange, BadRegister, IdOfAll, LongName, NoAddress, NoProcessor, UidOfAll}
+use Rattle.acpi_writer.specs.declared.error.WriterError.TheVariants.{NoProcessor}
 use Rattle.acpi_writer.specs.declared.fadt.contents.FadtContents.{FadtContents}
 use Rattle.acpi_writer.specs.declared.gtdt.GtdtContents.{GtdtContents}
 use Rattle.acpi_writer.specs.declared.madt.gic.GicContents.{GicContents}
@@ -82,70 +81,41 @@ pub through : (r : Result (Unit {0}) WriterError) (f g : Result (List ℕ) Write
 through (Ok passed) f g t h p = h p
 through (Err e) f g t h p = absurd cc
 
-pub moved_madt : (ids : TableIds) (c : MadtContents) → AreIds ids → Moves (λ room. madt_written room ids c)
+-- of contents that are checked first
+pub moved_checked : (checked : Result (Unit {0}) WriterError) (s : Signature) (revision : ℕ) (ids : TableIds) (body : List ℕ) → length (letters_of s) ≡ 4 → AreIds ids → Moves (λ room. checked >>= λ _. table_written room s revision ids body)
+moved_checked checked s revision ids body letters are room other t e fits =
+    through checked (table_written room s revision ids body) (table_written other s revision ids body) t (λ p. moved_table s revision ids body letters are room other t p fits) e
+
+moved_madt : (ids : TableIds) (c : MadtContents) → AreIds ids → Moves (λ room. madt_written room ids c)
 unfolding madt_written
-moved_madt ids c are room other t e fits =
-    let some = not (is_empty c.processors.now) in
-    let single = list_all is_single c.processors.now in
-    let lines = list_all (λ x. names_one x.processor) c.local_apic_nmi_lines.now in
-    let here : ℕ → Result (List ℕ) WriterError = λ n. table_written n MADT 5 ids (madt_body c) in
-    through (holds some NoProcessor) (holds single IdOfAll >>= λ _. holds lines UidOfAll >>= λ _. here room) (holds single IdOfAll >>= λ _. holds lines UidOfAll >>= λ _. here other) t
-    (through (holds single IdOfAll) (holds lines UidOfAll >>= λ _. here room) (holds lines UidOfAll >>= λ _. here other) t
-    (through (holds lines UidOfAll) (here room) (here other) t (λ p. moved_table MADT 5 ids (madt_body c) refl are room other t p fits))) e
+moved_madt ids c are = moved_checked (madt_checked c) MADT 5 ids (madt_body c) refl are
 
 pub moved_slit : (ids : TableIds) (n : ℕ) (distances : List ℕ) → AreIds ids → Moves (λ room. slit_written room ids n distances)
 unfolding slit_written
-moved_slit ids n distances are room other t e fits =
-    let here : ℕ → Result (List ℕ) WriterError = λ m. table_written m SLIT 1 ids (slit_body n distances) in
-    through (holds (n * n == length distances) BadMatrix) (here room) (here other) t (λ p. moved_table SLIT 1 ids (slit_body n distances) refl are room other t p fits) e
+moved_slit ids n distances are = moved_checked (slit_checked n distances) SLIT 1 ids (slit_body n distances) refl are
 
 pub moved_fadt : (ids : TableIds) (c : FadtContents) → AreIds ids → Moves (λ room. fadt_written room ids c)
 unfolding fadt_written
-moved_fadt ids c are room other t e fits =
-    let placed = are_placed c in
-    let profile = is_profile c.power_profile in
-    let registers = are_registers c in
-    let here : ℕ → Result (List ℕ) WriterError = λ n. table_written n FADT 6 ids (fadt_body c) in
-    through (holds placed NoAddress) (holds profile BadProfile >>= λ _. holds registers BadRegister >>= λ _. here room) (holds profile BadProfile >>= λ _. holds registers BadRegister >>= λ _. here other) t
-    (through (holds profile BadProfile) (holds registers BadRegister >>= λ _. here room) (holds registers BadRegister >>= λ _. here other) t
-    (through (holds registers BadRegister) (here room) (here other) t (λ p. moved_table FADT 6 ids (fadt_body c) refl are room other t p fits))) e
+moved_fadt ids c are = moved_checked (fadt_checked c) FADT 6 ids (fadt_body c) refl are
 
 pub moved_srat : {R : Type 0} (range : R → MemoryRange) (ids : TableIds) (c : ContentsOf R) → AreIds ids → Moves (λ room. srat_written_by range room ids c)
 unfolding srat_written_by
-moved_srat range ids c are room other t e fits =
-    let apics = list_all is_one_apic c.apics.now in
-    let giccs = list_all is_one_gicc c.giccs.now in
-    let ranges = list_all (λ r. is_range (range r)) c.ranges.now in
-    let here : ℕ → Result (List ℕ) WriterError = λ n. table_written n SRAT 3 ids (srat_body_by range c) in
-    through (holds apics IdOfAll) (holds giccs IdOfAll >>= λ _. holds ranges BadRange >>= λ _. here room) (holds giccs IdOfAll >>= λ _. holds ranges BadRange >>= λ _. here other) t
-    (through (holds giccs IdOfAll) (holds ranges BadRange >>= λ _. here room) (holds ranges BadRange >>= λ _. here other) t
-    (through (holds ranges BadRange) (here room) (here other) t (λ p. moved_table SRAT 3 ids (srat_body_by range c) refl are room other t p fits))) e
+moved_srat range ids c are = moved_checked (srat_checked_by range c) SRAT 3 ids (srat_body_by range c) refl are
 
 pub moved_spcr : (ids : TableIds) (c : SpcrContents) → AreIds ids → Moves (λ room. spcr_written room ids c)
 unfolding spcr_written
-moved_spcr ids c are room other t e fits =
-    let codes = is_interface c.interface_type && is_base c.base_address in
-    let somewhere = is_somewhere c.base_address in
-    let short = nat_lt (length c.namespace_string.now) 0xffff in
-    let here : ℕ → Result (List ℕ) WriterError = λ n. table_written n SPCR 4 ids (spcr_body c) in
-    through (holds codes BadCode) (holds somewhere NoAddress >>= λ _. holds short LongName >>= λ _. here room) (holds somewhere NoAddress >>= λ _. holds short LongName >>= λ _. here other) t
-    (through (holds somewhere NoAddress) (holds short LongName >>= λ _. here room) (holds short LongName >>= λ _. here other) t
-    (through (holds short LongName) (here room) (here other) t (λ p. moved_table SPCR 4 ids (spcr_body c) refl are room other t p fits))) e
+moved_spcr ids c are = moved_checked (spcr_checked c) SPCR 4 ids (spcr_body c) refl are
 
-pub moved_gtdt : (ids : TableIds) (c : GtdtContents) → AreIds ids → Moves (λ room. gtdt_written room ids c)
+moved_gtdt : (ids : TableIds) (c : GtdtContents) → AreIds ids → Moves (λ room. gtdt_written room ids c)
 unfolding gtdt_written
-moved_gtdt ids c are room other t e fits =
-    let here : ℕ → Result (List ℕ) WriterError = λ n. table_written n GTDT 3 ids (gtdt_body c) in
-    through (gtdt_checked c) (here room) (here other) t (λ p. moved_table GTDT 3 ids (gtdt_body c) refl are room other t p fits) e
+moved_gtdt ids c are = moved_checked (gtdt_checked c) GTDT 3 ids (gtdt_body c) refl are
 
-pub moved_gic : (ids : TableIds) (c : GicContents) → AreIds ids → Moves (λ room. gic_written room ids c)
+moved_gic : (ids : TableIds) (c : GicContents) → AreIds ids → Moves (λ room. gic_written room ids c)
 unfolding gic_written
 moved_gic ids c are room other t e fits =
-    let some = holds (not (is_empty c.cpu_interfaces.now)) NoProcessor in
     let modes = all_checked interface_checked c.cpu_interfaces.now in
-    let here : ℕ → Result (List ℕ) WriterError = λ n. table_written n MADT 6 ids (gic_body c) in
-    through some (modes >>= λ _. here room) (modes >>= λ _. here other) t
-    (through modes (here room) (here other) t (λ p. moved_table MADT 6 ids (gic_body c) refl are room other t p fits)) e
+    through (holds (not (is_empty c.cpu_interfaces.now)) NoProcessor) (modes >>= λ _. table_written room MADT 6 ids (gic_body c)) (modes >>= λ _. table_written other MADT 6 ids (gic_body c)) t
+    (λ p. moved_checked modes MADT 6 ids (gic_body c) refl are room other t p fits) e
 
 pub moved_contents : (ids : TableIds) (c : TableContents) → AreIds ids → Moves (λ room. contents_written room ids c)
 moved_contents ids (Madt c) are = moved_madt ids c are

@@ -1,40 +1,31 @@
--- How many bytes tables have, one by one and laid out.
-use Rattle.std.proofs.Common.{◌≡◌, ℕ, ◌+◌, ◌-◌, ◌^◌, ◌<◌, ◌≤◌, true, false, List, [], ◌∷◌, ◌++◌, length, take, drop, get_or, map, Result, Ok, Err, refl, sym, ap, subst, ◌∙◌, arith, append_assoc, length-append, length-drop}
+-- How many bytes tables have, one by one and laid out, and what is put of them.
+use Rattle.std.proofs.Common.{◌≡◌, ℕ, ◌+◌, ◌-◌, ◌^◌, ◌<◌, ◌≤◌, List, [], ◌∷◌, ◌++◌, length, take, drop, get_or, map, Result, Ok, Err, refl, sym, ap, subst, ◌∙◌, arith, append_assoc, length-append, length-drop, Some}
 use Rattle.std.specs.Prelude.{◌*◌, flat_map, replicate}
 use Rattle.std.specs.List.{All}
 use borrow.Rule.Slice.PartMut.{post_of, put_mid}
-use Rattle.std.proofs.Math.ListN.{drop_of_length-le}
 use Rattle.std.proofs.lemmas.List.Elements.{All-more}
 use Rattle.std.proofs.lemmas.Slice.{take-put_mid}
-use Rattle.std.proofs.lemmas.Bool.{le-ltb, lt-ltb}
-use Rattle.std.proofs.lemmas.List.{drop-drop, drop_more, length-map, append-nil, drop_at, length-replicate, length-take-le, take_at}
+use Rattle.std.proofs.lemmas.List.{drop-drop, drop_more, length-map, append-nil, length-replicate, length-take-le, take_at}
 use Rattle.acpi.specs.declared.root.RootKind.TheVariants.{Xsdt}
 use Rattle.acpi_base.proofs.Spelling.{length-spelling}
 use Rattle.acpi_base.specs.Bytes.{spelling}
-use Rattle.acpi_base.proofs.Steps.{bind_ok}
 use Rattle.acpi_base.specs.Steps.{◌>>=◌}
-use Rattle.acpi_base.specs.Text.{letters_of}
-use Rattle.acpi_base.specs.declared.table.signature.Signature.{Signature}
 use Rattle.acpi_base.specs.declared.table.signature.TheConstants.Signature.{XSDT}
 use Rattle.acpi_writer.specs.Contents.{Written, bytes_by, most, or_none, placed_by, sized}
 use Rattle.acpi_writer.specs.Laid.{addresses, gap, laid, padded, rounded}
-use Rattle.acpi_writer.specs.Machine.{MachineOf, after_dsdt, check_by, check_each, check_place, dsdt_address, dsdt_end, dsdt_of, dsdt_sized, dsdt_written, facs_laid, facs_room, listed_by, listed_sized, machine_size, region_written, rest_bytes, size_by, tables_address, tree_by, tree_sized, xsdt_by, xsdt_from, xsdt_length}
+use Rattle.acpi_writer.specs.Machine.{MachineOf, after_dsdt, check_each, dsdt_address, dsdt_end, dsdt_of, facs_laid, listed_by, rest_bytes, size_by, tables_address, tree_by, xsdt_by, xsdt_from, xsdt_length}
 use Rattle.acpi_writer.specs.Root.{root_body}
-use Rattle.acpi_writer.specs.Table.{AreIds, are_texts, table_written}
+use Rattle.acpi_writer.specs.Table.{AreIds}
 use Rattle.acpi_writer.specs.declared.error.WriterError.{WriterError}
-use Rattle.acpi_writer.specs.declared.error.WriterError.TheVariants.{BadName, TooLong}
 use Rattle.acpi_writer.specs.declared.ids.TableIds.{TableIds}
-use Rattle.acpi_writer.proofs.FacsLaid.{laid_long}
+use Rattle.acpi_writer.proofs.Headless.{laid_long}
 use Rattle.acpi_writer.proofs.Room.{table_length}
-use Rattle.acpi_writer.proofs.Tables.{it_fits}
+use Rattle.std.proofs.lemmas.Grind.{flat_map-append, take_at_read}
+use Rattle.std.proofs.lemmas.List.Folds.{length-flat_map-take}
+use Rattle.acpi_writer.specs.Spelled.{Measures}
 
 abbrev pub count : ℕ → Result ℕ WriterError
 count n = Ok n
-
-pub sized_table : (n room : ℕ) (s : Signature) (revision : ℕ) (ids : TableIds) (body : List ℕ) → are_texts ids ≡ true → 36 + length body ≤ room → 36 + length body < 2 ^ 32 → length (letters_of s) ≡ 4 → AreIds ids
-    → n ≡ 36 + length body → count n ≡ sized (table_written room s revision ids body)
-sized_table n room s revision ids body texts within short letters are same =
-    ap count (same ∙ sym (table_length s revision ids body letters are)) ∙ sym (ap sized (it_fits room s revision ids body texts within short))
 
 -- ---- filled up
 
@@ -146,23 +137,6 @@ put_step w ids cs i at p long out new total x here_is less size is before =
       same ∙ before.2,
     )
 
--- all of a slice is filled
-pub to_the_end : (t old out : List ℕ) → length old ≡ length (padded t) → out ≡ padded t ++ drop (length (padded t)) old → out ≡ padded t
-to_the_end t old out long is = is ∙ ap (λ z. padded t ++ z) (drop_of_length-le old (omega (arith, long))) ∙ append-nil (padded t)
-
--- a table before what it is filled up with
-pub filled : (n : ℕ) (t rest out : List ℕ) → length t ≡ n → length (t ++ rest) ≡ rounded n → out ≡ take n (t ++ rest) ++ (replicate (gap n) 0 ++ drop (rounded n) (t ++ rest)) → out ≡ padded t
-filled n t rest out long whole is =
-    is ∙ ap (λ z. z ++ (replicate (gap n) 0 ++ drop (rounded n) (t ++ rest))) (take_at t rest n long)
-    ∙ ap (λ z. t ++ (replicate (gap n) 0 ++ z)) (drop_of_length-le (t ++ rest) (omega (arith, whole))) ∙ ap (λ z. t ++ z) (append-nil (replicate (gap n) 0)) ∙ ap (λ k. t ++ replicate (gap k) 0) (sym long)
-
--- one part, and then the rest
-pub two_parts : {X : Type 0} (n : ℕ) (first rest last : List X) → length first ≡ n → put_mid n (length (first ++ rest) - n) (first ++ rest) last ≡ first ++ last
-two_parts n first rest last long =
-    let behind : post_of n (length (first ++ rest) - n) (first ++ rest) ≡ [] =
-    ap (drop (length (first ++ rest) - n)) (drop_at first rest n long) ∙ drop_of_length-le rest (omega (arith, length-append first rest, long)) in
-    ap (λ z. z ++ (last ++ post_of n (length (first ++ rest) - n) (first ++ rest))) (take_at first rest n long) ∙ ap (λ z. first ++ (last ++ z)) behind ∙ ap (λ z. first ++ z) (append-nil last)
-
 -- ---- the whole machine
 
 pub addresses_long : (a : ℕ) (ts : List (List ℕ)) → length (addresses a ts) ≡ length ts
@@ -196,81 +170,23 @@ tree_size_is w a x are =
       length-append facs (laid (listed_by w x)),
     )
 
--- ---- whether the machine can be written
+-- ---- the things in a list
 
-pub dsdt_long : (w : Result (List ℕ) WriterError) (n : ℕ) → (w >>= λ t. count (length (padded t))) ≡ Ok n → length (padded (or_none w)) ≡ n
-dsdt_long (Ok t) n e = same_count (length (padded t)) n e
-dsdt_long (Err e) n is = absurd cc
+spelled_more : {X : Type 0} (f : X → List ℕ) (xs : List X) (i : ℕ) (d : X) → i < length xs → flat_map f (take (i + 1) xs) ≡ flat_map f (take i xs) ++ f (get_or xs i d)
+spelled_more f xs i d less =
+    ap (flat_map f) (take_at_read xs i d less).1 ∙ flat_map-append f (take i xs) (get_or xs i d ∷ []) ∙ ap (λ z. flat_map f (take i xs) ++ z) (append-nil (f (get_or xs i d)))
 
-pub dsdt_none : (w : Result (List ℕ) WriterError) (e : WriterError) → (w >>= λ t. count (length (padded t))) ≡ Err e → or_none w ≡ []
-dsdt_none (Ok t) e is = absurd cc
-dsdt_none (Err d) e is = refl
+-- one more is measured
+pub measured_more : {X : Type 0} (f : X → List ℕ) (P : X → Type 0) (xs : List X) (i size more room : ℕ) (x : X) → x ≡ get_or xs i x → i < length xs
+    → Measures (Some size) room (flat_map f (take i xs)) (All P (take i xs)) → Measures (Some more) (room - size) (f x) (P x)
+    → Measures (Some (size + more)) room (flat_map f (take (i + 1) xs)) (All P (take (i + 1) xs))
+measured_more f P xs i size more room x is less before this = (
+  omega (arith, before.0, this.0, ap (λ y. length (f y)) is, ap length (spelled_more f xs i x less), length-append (flat_map f (take i xs)) (f (get_or xs i x))),
+  omega (arith, before.1, this.1),
+  All-more P xs i x less before.2 (subst P is this.2),
+)
 
-pub tree_bad_name : {A : Type 0} (w : Written A) (x : MachineOf A) → are_texts x.ids ≡ false → tree_sized w x ≡ Err BadName
-unfolding check_by
-tree_bad_name w x bad = rw bad refl
-
-pub tree_too_long : {A : Type 0} (w : Written A) (x : MachineOf A) → are_texts x.ids ≡ true → 2 ^ 32 ≤ xsdt_length x → tree_sized w x ≡ Err TooLong
-unfolding check_by
-tree_too_long w x texts long = rw (texts, le-ltb (xsdt_length x) (2 ^ 32) long) refl
-
-error_of : (w : Result (List ℕ) WriterError) (e : WriterError) → (w >>= λ t. count (length (padded t))) ≡ Err e → w ≡ Err e
-error_of (Ok t) e is = absurd cc
-error_of (Err d) e is = cc
-
-pub tree_dsdt_error : {A : Type 0} (w : Written A) (x : MachineOf A) (e : WriterError) → are_texts x.ids ≡ true → xsdt_length x < 2 ^ 32 → dsdt_sized x.ids x.dsdt ≡ Err e → tree_sized w x ≡ Err e
-unfolding check_by
-tree_dsdt_error w x e texts short is = rw (texts, lt-ltb (xsdt_length x) (2 ^ 32) short, error_of (dsdt_written x.ids x.dsdt) e is) refl
-
-check_error : (r : Result (Unit {0}) WriterError) (n : ℕ) (e : WriterError) → (r >>= λ _. count n) ≡ Err e → r ≡ Err e
-check_error (Ok t) n e is = absurd cc
-check_error (Err d) n e is = cc
-
-pub tree_error : {A : Type 0} (w : Written A) (x : MachineOf A) (d : ℕ) (e : WriterError) → are_texts x.ids ≡ true → xsdt_length x < 2 ^ 32 → dsdt_sized x.ids x.dsdt ≡ Ok d → listed_sized w x.ids x.tables.now ≡ Err e → tree_sized w x ≡ Err e
-unfolding check_by
-tree_error w x d e texts short dsdt is =
-    let first = bind_ok (dsdt_written x.ids x.dsdt) (λ t. count (length (padded t))) d dsdt in
-    rw (texts, lt-ltb (xsdt_length x) (2 ^ 32) short, first.1, check_error (check_each w x.ids x.tables.now) (length (laid (listed_by w x))) e is) refl
-
-check_done : (r : Result (Unit {0}) WriterError) (m n : ℕ) → (r >>= λ _. count m) ≡ Ok n → r ≡ Ok tt
-check_done (Ok t) m n is = refl
-check_done (Err d) m n is = absurd cc
-
-check_count : (r : Result (Unit {0}) WriterError) (m n : ℕ) → (r >>= λ _. count m) ≡ Ok n → m ≡ n
-check_count (Ok t) m n is = same_count m n is
-check_count (Err d) m n is = absurd cc
-
-pub tree_ok : {A : Type 0} (w : Written A) (x : MachineOf A) (d l : ℕ) → are_texts x.ids ≡ true → xsdt_length x < 2 ^ 32 → dsdt_sized x.ids x.dsdt ≡ Ok d → listed_sized w x.ids x.tables.now ≡ Ok l
-    → tree_sized w x ≡ Ok (rounded (xsdt_length x) + d + facs_room x.facs + l)
-unfolding check_by size_by
-tree_ok w x d l texts short dsdt is =
-    let first = bind_ok (dsdt_written x.ids x.dsdt) (λ t. count (length (padded t))) d dsdt in
-    let passed = check_done (check_each w x.ids x.tables.now) (length (laid (listed_by w x))) l is in
-    let size : size_by w x ≡ rounded (xsdt_length x) + d + facs_room x.facs + l =
-    omega (arith, dsdt_long (dsdt_written x.ids x.dsdt) d dsdt, check_count (check_each w x.ids x.tables.now) (length (laid (listed_by w x))) l is) in
-    let checked : check_by w x ≡ Ok tt = rw (texts, lt-ltb (xsdt_length x) (2 ^ 32) short, first.1, passed) refl in
-    ap (λ r. r >>= λ _. count (size_by w x)) checked ∙ ap count size
-
--- ---- what a call gives
-
-pub machine_sized : {A : Type 0} (w : Written A) (x : MachineOf A) (n : ℕ) → tree_sized w x ≡ Ok n → machine_size w x ≡ Ok (48 + n)
-machine_sized w x n e =
-    ap (λ r. r >>= λ _. count (48 + size_by w x)) (check_done (check_by w x) (size_by w x) n e) ∙ ap (λ k. count (48 + k)) (check_count (check_by w x) (size_by w x) n e)
-
-pub machine_error : {A : Type 0} (w : Written A) (x : MachineOf A) (e : WriterError) → tree_sized w x ≡ Err e → machine_size w x ≡ Err e
-machine_error w x e is = ap (λ r. r >>= λ _. count (48 + size_by w x)) (check_error (check_by w x) (size_by w x) e is)
-
-pub size_is : {A : Type 0} (w : Written A) (x : MachineOf A) (n : ℕ) → tree_sized w x ≡ Ok n → size_by w x ≡ n
-size_is w x n e = check_count (check_by w x) (size_by w x) n e
-
-pub is_checked : {A : Type 0} (w : Written A) (x : MachineOf A) (n : ℕ) → tree_sized w x ≡ Ok n → check_by w x ≡ Ok tt
-is_checked w x n e = check_done (check_by w x) (size_by w x) n e
-
-pub region_ok : {A : Type 0} (w : Written A) (x : MachineOf A) (k n m room a : ℕ) (bytes : List ℕ) → tree_sized w x ≡ Ok k → n ≡ m → check_place room a m ≡ Ok tt → region_written w x n room a bytes ≡ Ok bytes
-region_ok w x k n m room a bytes e same placed = rw (is_checked w x k e, same, placed) refl
-
-pub region_place : {A : Type 0} (w : Written A) (x : MachineOf A) (k n m room a : ℕ) (bytes : List ℕ) (d : WriterError) → tree_sized w x ≡ Ok k → n ≡ m → check_place room a m ≡ Err d → region_written w x n room a bytes ≡ Err d
-region_place w x k n m room a bytes d e same placed = rw (is_checked w x k e, same, placed) refl
-
-pub region_error : {A : Type 0} (w : Written A) (x : MachineOf A) (n room a : ℕ) (bytes : List ℕ) (d : WriterError) → tree_sized w x ≡ Err d → region_written w x n room a bytes ≡ Err d
-region_error w x n room a bytes d e = rw (check_error (check_by w x) (size_by w x) d e) refl
+-- one more doesn't fit
+pub not_whole : {X : Type 0} (f : X → List ℕ) (xs : List X) (i size room : ℕ) (x : X) → x ≡ get_or xs i x → i < length xs → size ≡ length (flat_map f (take i xs)) → size ≤ room → room - size < length (f x) → room < length (flat_map f xs)
+not_whole f xs i size room x is less before within this =
+    omega (arith, before, within, this, ap (λ y. length (f y)) is, length-flat_map-take f xs i x less)

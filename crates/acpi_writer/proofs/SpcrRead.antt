@@ -1,9 +1,9 @@
 -- What a reader finds in an SPCR that is written, and when one is.
-use Rattle.std.proofs.Common.{◌≡◌, ℕ, ◌+◌, ◌-◌, ◌^◌, ◌<◌, ◌≤◌, Bool, true, false, List, [], ◌∷◌, ◌++◌, length, take, drop, Option, Some, None, Result, Ok, Err, refl, sym, ap, ◌∙◌, arith, length-append}
+use Rattle.std.proofs.Common.{◌≡◌, ℕ, ◌+◌, ◌-◌, ◌^◌, ◌<◌, Bool, true, false, List, [], ◌∷◌, ◌++◌, length, take, drop, Option, Some, None, Result, Ok, Err, refl, sym, ap, ◌∙◌, arith, length-append}
 use Rattle.std.specs.Prelude.{◌==◌, ◌&&◌, ◌||◌, IfOk, IsUtf8, if◌then◌else◌, nat_le, nat_lt, replicate}
 use Rattle.std.specs.Option.{option_map, option_or}
 use Rattle.std.specs.Str.{bytes_eq, chars, is_utf8}
-use Rattle.std.proofs.lemmas.Bool.{and_parts, eqb-true, le-leb, le-ltb, lt-ltb, ltb-true}
+use Rattle.std.proofs.lemmas.Bool.{and_parts, eqb-true, le-leb, ltb-true}
 use Rattle.std.proofs.lemmas.List.{drop-drop, get_or_past, take_all}
 use Rattle.std.proofs.lemmas.Slice.Eq.{bytes_eq-Decides}
 use Rattle.std.proofs.lemmas.Str.{IsUtf8-append, IsUtf8-from_is_utf8, is_utf8-from_IsUtf8}
@@ -19,15 +19,17 @@ use Rattle.acpi_base.specs.declared.table.signature.TheConstants.Signature.{SPCR
 use Rattle.acpi_base.specs.declared.tables.spcr.interface.SpcrInterfaceType.{SpcrInterfaceType}
 use Rattle.acpi_base.specs.declared.tables.spcr.interface.SpcrInterfaceType.TheVariants as interface
 use Rattle.acpi_writer.specs.Generic.{address_bytes, is_named_space}
-use Rattle.acpi_writer.specs.Spcr.{base_written, baud_code, console_fields, device_written, interface_code, is_base, is_interface, is_somewhere, port_fields, spcr_body, spcr_written}
+use Rattle.acpi_writer.specs.Spcr.{base_written, baud_code, console_fields, device_written, interface_code, is_base, is_interface, is_somewhere, port_fields, spcr_body, spcr_checked}
 use Rattle.acpi_writer.specs.SpcrLaws.{FitsSpcr, IsSpcr, SaysConsole, SaysDevice, SaysPort, SpcrIsRead, SpcrIsValid, readable}
-use Rattle.acpi_writer.specs.Table.{IsTableOf, table_written}
+use Rattle.acpi_writer.specs.Table.{IsTableOf}
 use Rattle.acpi_writer.specs.declared.error.WriterError.{WriterError}
-use Rattle.acpi_writer.specs.declared.error.WriterError.TheVariants.{BadCode, LongName, NoAddress}
+use Rattle.acpi_writer.specs.declared.error.WriterError.TheVariants.{BadCode, NoAddress}
 use Rattle.acpi_writer.specs.declared.ids.TableIds.{TableIds}
 use Rattle.acpi_writer.specs.declared.spcr.SpcrContents.{SpcrContents}
-use Rattle.acpi_writer.proofs.IdsRead.{ids_are_read}
-use Rattle.acpi_writer.proofs.RegisterRead.{address_field, generic_read, is_off, one}
+use Rattle.acpi_writer.proofs.Tables.{ids_are_read}
+use Rattle.acpi_base.proofs.Steps.{holds_ok}
+use Rattle.acpi_writer.proofs.Bits.{is_off, one, was_true}
+use Rattle.acpi_writer.proofs.RegisterRead.{address_field, generic_read}
 use Rattle.acpi_writer.proofs.Tables as table
 
 -- ---- codes
@@ -260,25 +262,20 @@ spcr_valid ids c t is = table.valid SPCR spcr_name 4 ids (spcr_body c) t is.writ
 
 -- ---- whether it is written
 
-pub written_bad : (room : ℕ) (ids : TableIds) (c : SpcrContents) → (is_interface c.interface_type && is_base c.base_address) ≡ false → spcr_written room ids c ≡ Err BadCode
-unfolding spcr_written
-written_bad room ids c bad = rw bad refl
+pub name_short : (c : SpcrContents) → spcr_checked c ≡ Ok tt → length c.namespace_string.now < 0xffff
+name_short c good =
+    let one = holds_ok (is_interface c.interface_type && is_base c.base_address) BadCode _ tt good in
+    let two = holds_ok (is_somewhere c.base_address) NoAddress _ tt one.1 in
+    ltb-true (length c.namespace_string.now) 0xffff (was_true _ _ two.1)
 
-pub written_nowhere : (room : ℕ) (ids : TableIds) (c : SpcrContents) → (is_interface c.interface_type && is_base c.base_address) ≡ true → is_somewhere c.base_address ≡ false → spcr_written room ids c ≡ Err NoAddress
-unfolding spcr_written
-written_nowhere room ids c codes nowhere = rw (codes, nowhere) refl
+pub spcr_is : (ids : TableIds) (c : SpcrContents) (t : List ℕ) → IsTableOf SPCR 4 ids (spcr_body c) t → FitsSpcr c → IsUtf8 c.namespace_string.now → spcr_checked c ≡ Ok tt → IsSpcr ids c t
+spcr_is ids c t written fit text good =
+    let one = holds_ok (is_interface c.interface_type && is_base c.base_address) BadCode _ tt good in
+    let two = holds_ok (is_somewhere c.base_address) NoAddress _ tt one.1 in
+    let codes = and_parts (is_interface c.interface_type) (is_base c.base_address) one.0 in
+    record { written = written; fit = fit; interface = codes.0; base = codes.1; somewhere = two.0; short = name_short c good; text = text }
 
-pub written_long : (room : ℕ) (ids : TableIds) (c : SpcrContents) → (is_interface c.interface_type && is_base c.base_address) ≡ true → is_somewhere c.base_address ≡ true → 0xffff ≤ length c.namespace_string.now → spcr_written room ids c ≡ Err LongName
-unfolding spcr_written
-written_long room ids c codes somewhere long = rw (codes, somewhere, le-ltb (length c.namespace_string.now) 0xffff long) refl
-
-pub written_is : (room : ℕ) (ids : TableIds) (c : SpcrContents) → (is_interface c.interface_type && is_base c.base_address) ≡ true → is_somewhere c.base_address ≡ true → length c.namespace_string.now < 0xffff → spcr_written room ids c ≡ table_written room SPCR 4 ids (spcr_body c)
-unfolding spcr_written
-written_is room ids c codes somewhere short = rw (codes, somewhere, lt-ltb (length c.namespace_string.now) 0xffff short) refl
-
-pub answer_is : (r : Result ℕ WriterError) (ids : TableIds) (c : SpcrContents) (new : List ℕ) → (is_interface c.interface_type && is_base c.base_address) ≡ true → is_somewhere c.base_address ≡ true → length c.namespace_string.now < 0xffff → IsUtf8 c.namespace_string.now
+pub answer_is : (r : Result ℕ WriterError) (ids : TableIds) (c : SpcrContents) (new : List ℕ) → spcr_checked c ≡ Ok tt → IsUtf8 c.namespace_string.now
     → IfOk r (λ n. IsTableOf SPCR 4 ids (spcr_body c) (take n new)) → IfOk r (λ n. FitsSpcr c) → IfOk r (λ n. IsSpcr ids c (take n new))
-answer_is (Ok n) ids c new codes somewhere short text written fit =
-    let p = and_parts (is_interface c.interface_type) (is_base c.base_address) codes in
-    record { written = written; fit = fit; interface = p.0; base = p.1; somewhere = somewhere; short = short; text = text }
-answer_is (Err e) ids c new codes somewhere short text written fit = tt
+answer_is (Ok n) ids c new good text written fit = spcr_is ids c (take n new) written fit text good
+answer_is (Err e) ids c new good text written fit = tt

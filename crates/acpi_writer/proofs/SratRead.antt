@@ -1,16 +1,14 @@
 -- What a reader finds in a SRAT that is written, and when one is.
-use Rattle.std.proofs.Common.{◌≡◌, ℕ, ◌+◌, ◌*◌, ◌/◌, ◌%◌, ◌^◌, ◌<◌, Bool, true, false, List, [], ◌∷◌, ◌++◌, length, map, drop, take, Option, Some, None, Result, Ok, Err, refl, sym, ap, ◌∙◌, arith, lit≤, length-append}
-use Rattle.std.specs.Prelude.{◌==◌, IfOk, flat_map, if◌then◌else◌, nat_lt}
-use Rattle.std.specs.List.{AllByRecursion, concat, filter_map, last_or, list_all}
+use Rattle.std.proofs.Common.{◌≡◌, ℕ, ◌+◌, ◌*◌, ◌/◌, ◌%◌, ◌^◌, ◌<◌, Bool, true, false, List, [], ◌∷◌, ◌++◌, map, drop, Option, Some, None, Ok, refl, sym, ap, ◌∙◌, arith, lit≤}
+use Rattle.std.specs.Prelude.{◌==◌, flat_map, if◌then◌else◌, nat_lt}
+use Rattle.std.specs.List.{AllByRecursion, filter_map, last_or, list_all}
 use Rattle.std.specs.Str.{chars, is_utf8}
 use Rattle.std.proofs.lemmas.Bool.{and_parts}
 use Rattle.std.proofs.lemmas.List.{append-nil, drop_at, drop-drop}
 use Rattle.std.proofs.lemmas.List.Elements.{filter_map-append, recursion_from_All}
-use Rattle.std.proofs.lemmas.List.Folds.{concat-append}
-use Rattle.acpi_base.proofs.Cuts.{cut_is_cut, one_cut}
 use Rattle.acpi_base.proofs.Spelling.{number-spelling}
 use Rattle.acpi_base.specs.Bytes.{field_of, number, spelling}
-use Rattle.acpi_base.specs.Entries.{IsCut, IsEntry, cut}
+use Rattle.acpi_base.specs.Entries.{IsEntry, cut}
 use Rattle.acpi_base.specs.Header.{header_at}
 use Rattle.acpi_base.specs.declared.table.signature.TheConstants.Signature.{SRAT}
 use Rattle.acpi_numa.specs.Affinities.{affinities_of, ends_below, range_in, ranges_of}
@@ -18,68 +16,50 @@ use Rattle.acpi_numa.specs.Srat.{apic_domain, cut_of, entries_of, entry_of, proc
 use Rattle.acpi_numa.specs.declared.srat.affinities.MemoryRange.{MemoryRange}
 use Rattle.acpi_numa.specs.declared.srat.entry.SratEntry.{SratEntry}
 use Rattle.acpi_numa.specs.declared.srat.entry.SratEntry.TheVariants as kinds
-use Rattle.acpi_writer.specs.Srat.{ContentsOf, SratContents, apic_entry, gicc_entry, is_one_apic, is_one_gicc, is_range, is_small, local_apic_entry, local_x2apic_entry, memory_entry, range_flags, srat_body, srat_body_by, srat_entries, srat_reserved, srat_written_by}
+use Rattle.acpi_writer.specs.Srat.{ContentsOf, SratContents, apic_entry, gicc_entry, is_one_apic, is_one_gicc, is_range, is_small, local_apic_entry, local_x2apic_entry, memory_entry, range_flags, srat_body, srat_body_by, srat_checked_by, srat_entries, srat_reserved}
 use Rattle.acpi_writer.specs.SratLaws.{AreFit, AreFitBy, FitsApic, FitsGicc, FitsRange, IsSrat, IsSratBy, SaysDomains, SratIsRead, SratIsValid}
-use Rattle.acpi_writer.specs.Table.{IsTableOf, bit_of, table_written}
-use Rattle.acpi_writer.specs.declared.error.WriterError.{WriterError}
-use Rattle.acpi_writer.specs.declared.error.WriterError.TheVariants.{BadRange, IdOfAll}
+use Rattle.acpi_writer.specs.Table.{IsTableOf, bit_of}
+use Rattle.acpi_writer.specs.declared.error.WriterError.TheVariants.{IdOfAll}
 use Rattle.acpi_writer.specs.declared.ids.TableIds.{TableIds}
 use Rattle.acpi_writer.specs.declared.srat.ApicDomain.{ApicDomain}
 use Rattle.acpi_writer.specs.declared.srat.GiccDomain.{GiccDomain}
-use Rattle.acpi_writer.proofs.IdsRead.{ids_are_read}
+use Rattle.acpi_base.proofs.Steps.{holds_ok}
+use Rattle.acpi_writer.proofs.Bits.{one, was_true}
+use Rattle.acpi_writer.proofs.Rows.{AreRows, both, both_rows, no_rows, one_row, rows_are_cut}
+use Rattle.acpi_writer.proofs.Tables.{ids_are_read}
 use Rattle.acpi_writer.proofs.Tables as table
 
 -- ---- bytes that are entries of a table of revision 3, one after the other, which say these
 
 record Speaks (bytes : List ℕ) (items : List SratEntry) : Type 0 where
   entries : List (List ℕ)
-  whole : concat entries ≡ bytes
-  each : AllByRecursion (IsEntry srat_layout) entries
+  are : AreRows srat_layout bytes entries
   said : filter_map (entry_of 3) entries ≡ items
 
 said_one : (e : List ℕ) (x : SratEntry) → entry_of 3 e ≡ Some x → filter_map (entry_of 3) (e ∷ []) ≡ x ∷ []
 said_one e x said = rw said refl
 
 speaks_one : (e : List ℕ) (x : SratEntry) → IsEntry srat_layout e → entry_of 3 e ≡ Some x → Speaks e (x ∷ [])
-speaks_one e x is said = record { entries = e ∷ []; whole = append-nil e; each = (is, tt); said = said_one e x said }
-
-all_both : (es fs : List (List ℕ)) → AllByRecursion (IsEntry srat_layout) es → AllByRecursion (IsEntry srat_layout) fs → AllByRecursion (IsEntry srat_layout) (es ++ fs)
-all_both [] fs a b = b
-all_both (e ∷ es) fs a b = (a.0, all_both es fs a.1 b)
+speaks_one e x is said = record { entries = e ∷ []; are = one_row srat_layout e is; said = said_one e x said }
 
 speaks_both : (a b : List ℕ) (xs ys : List SratEntry) → Speaks a xs → Speaks b ys → Speaks (a ++ b) (xs ++ ys)
 speaks_both a b xs ys p q = record {
   entries = p.entries ++ q.entries;
-  whole = concat-append p.entries q.entries ∙ ap (λ z. z ++ concat q.entries) p.whole ∙ ap (λ z. a ++ z) q.whole;
-  each = all_both p.entries q.entries p.each q.each;
-  said = filter_map-append (entry_of 3) p.entries q.entries ∙ ap (λ z. z ++ filter_map (entry_of 3) q.entries) p.said ∙ ap (λ z. xs ++ z) q.said;
+  are = both_rows srat_layout a b p.entries q.entries p.are q.are;
+  said = both (entry_of 3) p.entries q.entries xs ys p.said q.said;
 }
 
 speaks_all : {X : Type 0} (P : X → Type 0) (f : X → List ℕ) (g : X → SratEntry) → ((x : X) → P x → Speaks (f x) (g x ∷ [])) → (xs : List X) → AllByRecursion P xs → Speaks (flat_map f xs) (map g xs)
-speaks_all P f g each [] all = record { entries = []; whole = refl; each = tt; said = refl }
+speaks_all P f g each [] all = record { entries = []; are = no_rows srat_layout; said = refl }
 speaks_all P f g each (x ∷ xs) all = speaks_both (f x) (flat_map f xs) (g x ∷ []) (map g xs) (each x all.0) (speaks_all P f g each xs all.1)
 
-no_more : (e more : List ℕ) → [] ≡ e ++ more → IsEntry srat_layout e → ⊥
-no_more e more w i = omega (arith, i.header, ap length w, length-append e more)
-
-cut_whole : (bytes : List ℕ) (items : List SratEntry) (s : Speaks bytes items) → IsCut srat_grammar bytes s.entries []
-cut_whole bytes items s = record {
-  whole = sym s.whole ∙ sym (append-nil (concat s.entries));
-  entries = s.each;
-  few = λ bound same. cc;
-  ends = λ e more w i. absurd (no_more e more w i);
-}
-
 spoken_cut : (bytes : List ℕ) (items : List SratEntry) (s : Speaks bytes items) → ((cut srat_grammar bytes).0 ≡ s.entries) × ((cut srat_grammar bytes).1 ≡ [])
-spoken_cut bytes items s = one_cut 7 srat_grammar bytes (cut srat_grammar bytes).0 s.entries (cut srat_grammar bytes).1 [] (cut_is_cut 7 srat_grammar bytes) (cut_whole bytes items s)
+spoken_cut bytes items s = rows_are_cut srat_grammar bytes s.entries (λ bound same. cc) s.are
 
 -- ---- what each entry says
 
 abbrev tell : SratEntry → Option SratEntry
 tell x = Some x
-
-one : (n : ℕ) → number (n ∷ []) ≡ n
-one n = omega arith
 
 low_byte : (n : ℕ) → number (n ∷ 0 ∷ 0 ∷ 0 ∷ []) ≡ n
 low_byte n = omega arith
@@ -278,24 +258,8 @@ srat_valid ids c t is = table.valid SRAT srat_name 3 ids (srat_body c) t is.writ
 
 -- ---- whether it is written
 
-module _ {R : Type 0} (range : R → MemoryRange) (room : ℕ) (ids : TableIds) (c : ContentsOf R) where
-  pub written_of_apic : list_all is_one_apic c.apics.now ≡ false → srat_written_by range room ids c ≡ Err IdOfAll
-  unfolding srat_written_by
-  written_of_apic bad = rw bad refl
-
-  pub written_of_gicc : list_all is_one_apic c.apics.now ≡ true → list_all is_one_gicc c.giccs.now ≡ false → srat_written_by range room ids c ≡ Err IdOfAll
-  unfolding srat_written_by
-  written_of_gicc apics bad = rw (apics, bad) refl
-
-  pub written_of_range : list_all is_one_apic c.apics.now ≡ true → list_all is_one_gicc c.giccs.now ≡ true → list_all (λ r. is_range (range r)) c.ranges.now ≡ false → srat_written_by range room ids c ≡ Err BadRange
-  unfolding srat_written_by
-  written_of_range apics giccs bad = rw (apics, giccs, bad) refl
-
-  pub written_is : list_all is_one_apic c.apics.now ≡ true → list_all is_one_gicc c.giccs.now ≡ true → list_all (λ r. is_range (range r)) c.ranges.now ≡ true → srat_written_by range room ids c ≡ table_written room SRAT 3 ids (srat_body_by range c)
-  unfolding srat_written_by
-  written_is apics giccs ranges = rw (apics, giccs, ranges) refl
-
-pub answer_is : {R : Type 0} (range : R → MemoryRange) (r : Result ℕ WriterError) (ids : TableIds) (c : ContentsOf R) (new : List ℕ) → list_all (λ r. is_range (range r)) c.ranges.now ≡ true
-    → IfOk r (λ n. IsTableOf SRAT 3 ids (srat_body_by range c) (take n new)) → IfOk r (λ n. AreFitBy range c) → IfOk r (λ n. IsSratBy range ids c (take n new))
-answer_is range (Ok n) ids c new ranges written fit = record { written = written; fit = fit; ranges = ranges }
-answer_is range (Err e) ids c new ranges written fit = tt
+pub srat_is : {R : Type 0} (range : R → MemoryRange) (ids : TableIds) (c : ContentsOf R) (t : List ℕ) → IsTableOf SRAT 3 ids (srat_body_by range c) t → AreFitBy range c → srat_checked_by range c ≡ Ok tt → IsSratBy range ids c t
+srat_is range ids c t written fit good =
+    let one = holds_ok (list_all is_one_apic c.apics.now) IdOfAll _ tt good in
+    let two = holds_ok (list_all is_one_gicc c.giccs.now) IdOfAll _ tt one.1 in
+    record { written = written; fit = fit; ranges = was_true _ _ two.1 }

@@ -1,34 +1,21 @@
--- What every table that is written has, and that it is valid.
-use Rattle.std.proofs.Common.{◌≡◌, ℕ, ◌+◌, ◌^◌, ◌<◌, ◌≤◌, true, false, List, [], ◌∷◌, ◌++◌, length, take, drop, Ok, Err, refl, sym, ap, ◌∙◌, arith, lit≤, lit<, eq-eqb, append_assoc, length-append}
+-- What every table that is written has: that it is valid, and what its header says of its makers.
+use Rattle.std.proofs.Common.{◌≡◌, ℕ, ◌+◌, ◌^◌, ◌<◌, ◌≤◌, true, List, [], ◌∷◌, ◌++◌, length, take, drop, Ok, refl, sym, ap, ◌∙◌, arith, lit≤, lit<, eq-eqb, append_assoc, length-append, subst}
 use Rattle.std.specs.Str.{bytes_eq, is_utf8}
-use Rattle.std.proofs.lemmas.Bool.{and_from, and_parts, le-leb, le-ltb, lt-leb, lt-ltb}
+use Rattle.std.proofs.lemmas.Bool.{and_from, and_parts, le-leb, lt-ltb}
 use Rattle.std.proofs.lemmas.List.{drop_at, drop-drop, drop-set-lt, take_all, take_at}
 use Rattle.acpi_base.proofs.Spelling.{length-spelling, number-spelling}
 use Rattle.acpi_base.specs.Bytes.{field_of, number, part, spelling, sum_of}
 use Rattle.acpi_base.specs.Header.{check_names, check_table, header_at}
 use Rattle.acpi_base.specs.Text.{letters_of}
 use Rattle.acpi_base.specs.declared.table.signature.Signature.{Signature}
-use Rattle.acpi_image.proofs.Written.{part_front, sum_is_set, length-with_sum, IsTable, still}
+use Rattle.acpi_image.proofs.Written.{part_front, sum_is_set, part_before, part_behind, length-with_sum, IsTable, still}
 use Rattle.acpi_image.specs.WriteChecks.{is_table}
 use Rattle.acpi_image.specs.Written.{sum_byte, with_sum}
 use Rattle.acpi_writer.specs.ImageLaws.{is_named}
-use Rattle.acpi_writer.specs.Table.{AreIds, IsTableOf, IsValid, are_texts, table_bytes, table_head, table_written, unsummed}
-use Rattle.acpi_writer.specs.declared.error.WriterError.TheVariants.{BadName, NoRoom, TooLong}
+use Rattle.acpi_writer.specs.Table.{AreIds, IsTableOf, IsValid, are_texts, table_bytes, table_head, table_written, unsummed, HasIds, IdsAreRead}
 use Rattle.acpi_writer.specs.declared.ids.TableIds.{TableIds}
 
 -- ---- whether it is written
-
-pub bad_name : (room : ℕ) (s : Signature) (revision : ℕ) (ids : TableIds) (body : List ℕ) → are_texts ids ≡ false → table_written room s revision ids body ≡ Err BadName
-unfolding table_written
-bad_name room s revision ids body bad = rw bad refl
-
-pub no_room : (room : ℕ) (s : Signature) (revision : ℕ) (ids : TableIds) (body : List ℕ) → are_texts ids ≡ true → room < 36 + length body → table_written room s revision ids body ≡ Err NoRoom
-unfolding table_written
-no_room room s revision ids body texts less = rw (texts, lt-leb (36 + length body) room less) refl
-
-pub too_long : (room : ℕ) (s : Signature) (revision : ℕ) (ids : TableIds) (body : List ℕ) → are_texts ids ≡ true → 36 + length body ≤ room → 2 ^ 32 ≤ 36 + length body → table_written room s revision ids body ≡ Err TooLong
-unfolding table_written
-too_long room s revision ids body texts within long = rw (texts, le-leb (36 + length body) room within, le-ltb (36 + length body) (2 ^ 32) long) refl
 
 pub it_fits : (room : ℕ) (s : Signature) (revision : ℕ) (ids : TableIds) (body : List ℕ) → are_texts ids ≡ true → 36 + length body ≤ room → 36 + length body < 2 ^ 32 → table_written room s revision ids body ≡ Ok (table_bytes s revision ids body)
 unfolding table_written
@@ -75,10 +62,13 @@ abbrev fields : ℕ → ℕ → ℕ → ℕ → ℕ → ℕ → TableIds → Lis
 fields a b c d n revision ids body =
     a ∷ b ∷ c ∷ d ∷ (spelling 4 n ++ (revision ∷ 0 ∷ (ids.oem_id ++ (ids.oem_table_id ++ (makers ids ++ body)))))
 
+raw_by : (s : Signature) (a b c d revision : ℕ) (ids : TableIds) (body : List ℕ) → letters_of s ≡ a ∷ b ∷ c ∷ d ∷ [] → unsummed s revision ids body ≡ fields a b c d (36 + length body) revision ids body
+unfolding table_head spelling
+raw_by s a b c d revision ids body letters = rw (letters, append_assoc ids.oem_id (ids.oem_table_id ++ makers ids) body, append_assoc ids.oem_table_id (makers ids) body) refl
+
 module _ (s : Signature) (name : IsName s) (revision : ℕ) (ids : TableIds) (are : AreIds ids) (body : List ℕ) where
-  pub raw_is : unsummed s revision ids body ≡ fields name.a name.b name.c name.d (36 + length body) revision ids body
-  unfolding table_head spelling
-  raw_is = rw (name.letters, append_assoc ids.oem_id (ids.oem_table_id ++ makers ids) body, append_assoc ids.oem_table_id (makers ids) body) refl
+  raw_is : unsummed s revision ids body ≡ fields name.a name.b name.c name.d (36 + length body) revision ids body
+  raw_is = raw_by s name.a name.b name.c name.d revision ids body name.letters
 
   pub head_long : (n : ℕ) → length (table_head s revision ids n) ≡ 36
   head_long = head_length s revision ids (ap length name.letters) are
@@ -178,3 +168,73 @@ module _ (s : Signature) (name : IsName s) (revision : ℕ) (ids : TableIds) (bo
 
   pub part_of : (k n : ℕ) → part table (36 + k) n ≡ part body k n
   part_of k n = ap (λ b. part b (36 + k) n) is.bytes ∙ part_after s name revision ids is.ids_fit body k n
+
+-- ---- what the header says
+
+abbrev tail : TableIds → List ℕ → List ℕ
+tail ids body = ids.creator_id ++ (spelling 4 ids.creator_revision ++ body)
+
+module _ (s : Signature) (a b c d revision : ℕ) (ids : TableIds) (body : List ℕ) (letters : letters_of s ≡ a ∷ b ∷ c ∷ d ∷ []) (are : AreIds ids) where
+  abbrev raw : List ℕ
+  raw = unsummed s revision ids body
+
+  abbrev from_makers : List ℕ
+  from_makers = makers ids ++ body
+
+  from_ids : drop 10 raw ≡ ids.oem_id ++ (ids.oem_table_id ++ from_makers)
+  unfolding spelling
+  from_ids = ap (drop 10) (raw_by s a b c d revision ids body letters)
+
+  from_table_id : drop 16 raw ≡ ids.oem_table_id ++ from_makers
+  from_table_id = sym (drop-drop 6 10 raw) ∙ ap (drop 6) from_ids ∙ drop_at ids.oem_id (ids.oem_table_id ++ from_makers) 6 are.oem_id
+
+  after_names : drop 24 raw ≡ from_makers
+  after_names = sym (drop-drop 8 16 raw) ∙ ap (drop 8) from_table_id ∙ drop_at ids.oem_table_id from_makers 8 are.oem_table_id
+
+  after_four : drop 4 from_makers ≡ tail ids body
+  unfolding spelling
+  after_four = append_assoc ids.creator_id (spelling 4 ids.creator_revision) body
+
+  four_of : take 4 from_makers ≡ spelling 4 ids.oem_revision
+  unfolding spelling
+  four_of = refl
+
+  from_creator : drop 28 raw ≡ tail ids body
+  from_creator = sym (drop-drop 4 24 raw) ∙ ap (drop 4) after_names ∙ after_four
+
+  from_last : drop 32 raw ≡ spelling 4 ids.creator_revision ++ body
+  from_last = sym (drop-drop 4 28 raw) ∙ ap (drop 4) from_creator ∙ drop_at ids.creator_id (spelling 4 ids.creator_revision ++ body) 4 are.creator_id
+
+  four_last : take 4 (spelling 4 ids.creator_revision ++ body) ≡ spelling 4 ids.creator_revision
+  unfolding spelling
+  four_last = refl
+
+  same : (o n : ℕ) → 9 < o → part (table_bytes s revision ids body) o n ≡ part raw o n
+  unfolding table_bytes with_sum
+  same o n less = part_behind raw 9 (sum_byte 9 raw) o n less
+
+  raw_revision : part raw 8 1 ≡ revision ∷ []
+  unfolding spelling
+  raw_revision = ap (λ b. part b 8 1) (raw_by s a b c d revision ids body letters)
+
+  same_revision : part (table_bytes s revision ids body) 8 1 ≡ part raw 8 1
+  unfolding table_bytes with_sum
+  same_revision = part_before raw 9 (sum_byte 9 raw) 8 1 (lit≤ tt)
+
+  one : number (revision ∷ []) ≡ revision
+  one = omega arith
+
+  ids_read : HasIds revision ids (header_at (table_bytes s revision ids body))
+  unfolding header_at field_of
+  ids_read = record {
+    revision_is = ap number (same_revision ∙ raw_revision) ∙ one;
+    oem_id = same 10 6 (lit< tt) ∙ ap (take 6) from_ids ∙ take_at ids.oem_id (ids.oem_table_id ++ from_makers) 6 are.oem_id;
+    oem_table_id = same 16 8 (lit< tt) ∙ ap (take 8) from_table_id ∙ take_at ids.oem_table_id from_makers 8 are.oem_table_id;
+    oem_revision = ap number (same 24 4 (lit< tt) ∙ ap (take 4) after_names ∙ four_of) ∙ number-spelling 4 ids.oem_revision (omega (arith, are.oem_revision));
+    creator_id = ap number (same 28 4 (lit< tt) ∙ ap (take 4) from_creator ∙ take_at ids.creator_id (spelling 4 ids.creator_revision ++ body) 4 are.creator_id);
+    creator_revision = ap number (same 32 4 (lit< tt) ∙ ap (take 4) from_last ∙ four_last) ∙ number-spelling 4 ids.creator_revision (omega (arith, are.creator_revision));
+  }
+
+pub ids_are_read : IdsAreRead
+ids_are_read s a b c d revision ids body table letters is =
+    subst (λ (t : List ℕ). HasIds revision ids (header_at t)) (sym is.bytes) (ids_read s a b c d revision ids body letters is.ids_fit)

@@ -250,10 +250,15 @@ are_registers c =
     are_blocks c.hardware && (is_register c.reset_register
     && (is_register c.sleep_control && is_register c.sleep_status))
 
+-- the first error of the contents
+abbrev pub fadt_checked : FadtContents → Result (Unit {0}) WriterError
+fadt_checked c = do
+  _ ← holds (are_placed c) NoAddress
+  _ ← holds (is_profile c.power_profile) BadProfile
+  holds (are_registers c) BadRegister
+
 -- the table, of revision 6, in so much room, or the first error
 unfoldable pub fadt_written : ℕ → TableIds → FadtContents → Result (List ℕ) WriterError
 fadt_written room ids c = do
-  _ ← holds (are_placed c) NoAddress
-  _ ← holds (is_profile c.power_profile) BadProfile
-  _ ← holds (are_registers c) BadRegister
+  _ ← fadt_checked c
   table_written room FADT 6 ids (fadt_body c)

@@ -162,10 +162,15 @@ abbrev pub names_one : NmiProcessor → Bool
 names_one nmi.All = true
 names_one (nmi.ProcessorUid uid) = nat_lt uid 0xffffffff
 
+-- the first error of the contents
+abbrev pub madt_checked : MadtContents → Result (Unit {0}) WriterError
+madt_checked c = do
+  _ ← holds (not (is_empty c.processors.now)) NoProcessor
+  _ ← holds (list_all is_single c.processors.now) IdOfAll
+  holds (list_all (λ x. names_one x.processor) c.local_apic_nmi_lines.now) UidOfAll
+
 -- the table, of revision 5, in so much room, or the first error
 unfoldable pub madt_written : ℕ → TableIds → MadtContents → Result (List ℕ) WriterError
 madt_written room ids c = do
-  _ ← holds (not (is_empty c.processors.now)) NoProcessor
-  _ ← holds (list_all is_single c.processors.now) IdOfAll
-  _ ← holds (list_all (λ x. names_one x.processor) c.local_apic_nmi_lines.now) UidOfAll
+  _ ← madt_checked c
   table_written room MADT 5 ids (madt_body c)

@@ -13,10 +13,14 @@ use Rattle.acpi_writer.specs.declared.ids.TableIds.{TableIds}
 abbrev pub slit_body : ℕ → List ℕ → List ℕ
 slit_body n distances = spelling 8 n ++ distances
 
+-- there is a distance for each pair of localities, or the error
+abbrev pub slit_checked : ℕ → List ℕ → Result (Unit {0}) WriterError
+slit_checked n distances = holds (n * n == length distances) BadMatrix
+
 -- the table, of revision 1, in so much room, or the first error
 unfoldable pub slit_written : ℕ → TableIds → ℕ → List ℕ → Result (List ℕ) WriterError
 slit_written room ids n distances = do
-  _ ← holds (n * n == length distances) BadMatrix
+  _ ← slit_checked n distances
   table_written room SLIT 1 ids (slit_body n distances)
 
 -- the bytes are the table of a distance for each pair of so many localities

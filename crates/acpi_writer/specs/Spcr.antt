@@ -117,10 +117,15 @@ abbrev pub is_somewhere : Option GenericAddress → Bool
 is_somewhere (Some a) = not (a.address == 0)
 is_somewhere None = true
 
+-- the first error of the contents
+abbrev pub spcr_checked : SpcrContents → Result (Unit {0}) WriterError
+spcr_checked c = do
+  _ ← holds (is_interface c.interface_type && is_base c.base_address) BadCode
+  _ ← holds (is_somewhere c.base_address) NoAddress
+  holds (nat_lt (length c.namespace_string.now) 0xffff) LongName
+
 -- the table, of revision 4, in so much room, or the first error
 unfoldable pub spcr_written : ℕ → TableIds → SpcrContents → Result (List ℕ) WriterError
 spcr_written room ids c = do
-  _ ← holds (is_interface c.interface_type && is_base c.base_address) BadCode
-  _ ← holds (is_somewhere c.base_address) NoAddress
-  _ ← holds (nat_lt (length c.namespace_string.now) 0xffff) LongName
+  _ ← spcr_checked c
   table_written room SPCR 4 ids (spcr_body c)

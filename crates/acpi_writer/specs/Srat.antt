@@ -98,13 +98,18 @@ is_one_gicc p = not (p.processor_uid == 0xffffffff)
 abbrev pub is_range : MemoryRange → Bool
 is_range r = nat_lt 0 r.length && ends_below r
 
+-- the first error of the contents
+abbrev pub srat_checked_by : {R : Type 0} → (R → MemoryRange) → ContentsOf R → Result (Unit {0}) WriterError
+srat_checked_by range c = do
+  _ ← holds (list_all is_one_apic c.apics.now) IdOfAll
+  _ ← holds (list_all is_one_gicc c.giccs.now) IdOfAll
+  holds (list_all (λ r. is_range (range r)) c.ranges.now) BadRange
+
 -- the table, of revision 3, in so much room, or the first error
 unfoldable pub srat_written_by : {R : Type 0} → (R → MemoryRange) → ℕ → TableIds → ContentsOf R
     → Result (List ℕ) WriterError
 srat_written_by range room ids c = do
-  _ ← holds (list_all is_one_apic c.apics.now) IdOfAll
-  _ ← holds (list_all is_one_gicc c.giccs.now) IdOfAll
-  _ ← holds (list_all (λ r. is_range (range r)) c.ranges.now) BadRange
+  _ ← srat_checked_by range c
   table_written room SRAT 3 ids (srat_body_by range c)
 
 abbrev pub srat_written : ℕ → TableIds → SratContents → Result (List ℕ) WriterError

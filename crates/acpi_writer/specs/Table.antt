@@ -45,6 +45,18 @@ table_written room s revision ids body = do
   _ ← holds (nat_lt (36 + length body) (2 ^ 32)) TooLong
   Ok (table_bytes s revision ids body)
 
+-- what is written of contents that pass their checks, or their first error
+abbrev pub if_checked : {X : Type 0} → Result (Unit {0}) WriterError → Result X WriterError → Result X WriterError
+if_checked checked written = do
+  _ ← checked
+  written
+
+-- bytes in so much room, or the error
+abbrev pub front_written : ℕ → List ℕ → Result (List ℕ) WriterError
+front_written room bytes = do
+  _ ← holds (nat_le (length bytes) room) NoRoom
+  Ok bytes
+
 -- what is left of a slice: after a table that was written what stood after it, and after an error all
 abbrev pub Keeps : Result ℕ WriterError → List ℕ → List ℕ → Type 0
 Keeps (Ok n) old new = (n ≤ length old) × (drop n new ≡ drop n old) × (length new ≡ length old)

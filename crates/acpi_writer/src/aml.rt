@@ -4,10 +4,12 @@ ghost use Rattle.acpi_base.specs.Steps.{Gives};
 ghost use Rattle.acpi_base.specs.declared.table.signature.TheConstants.Signature.{DSDT, SSDT};
 ghost use Rattle.acpi_writer.specs.Table.{IsTableOf, Keeps, table_written};
 
+use crate::contents::AmlContents;
 use crate::error::WriterError;
 use crate::ids::TableIds;
+use crate::listed::Listed;
 use crate::spelled::Bytes;
-use crate::table::write_table;
+use crate::table::{table_size, write_table};
 use acpi_base::Signature;
 
 /// Writes a DSDT to the front of a slice, and returns how many bytes it has: 36, and the AML bytes. By a revision of 1
@@ -50,4 +52,27 @@ pub fn write_ssdt(
     ensures fits { IfOk result (λ n. IsTableOf SSDT revision ids.now aml.now (take n out.new)) }
 {
     write_table(out, Signature::SSDT, revision, ids, &Bytes(aml))
+}
+
+/// A DSDT, among the tables of a machine.
+#[derive(Clone, Copy)]
+pub(crate) struct Dsdt<'a>(pub(crate) AmlContents<'a>);
+
+impl Listed for Dsdt<'_> {
+    ghost written = { λ room ids d. table_written room DSDT d.0.revision ids d.0.bytes.now };
+
+    ghost fits = { λ _. Unit {0} };
+
+    fn size(&self, ids: &TableIds) -> Result<usize, WriterError> {
+        table_size(Signature::DSDT, self.0.revision, ids, &Bytes(self.0.bytes))
+    }
+
+    fn write(&self, out: &mut [u8], ids: &TableIds) -> Result<usize, WriterError> {
+        write_dsdt(out, ids, self.0.revision, self.0.bytes)
+    }
+
+    #[tactic(auto, using(crate::proofs::Room::moved_table))]
+    fn moves(&self, ids: &TableIds) {
+        ids.fit();
+    }
 }

@@ -6,7 +6,7 @@ ghost use Rattle.acpi_writer.specs.Table.{Keeps};
 
 use crate::error::WriterError;
 use crate::numbers::{bit_of, dword, qword};
-use crate::rsdp::put_front;
+use crate::rsdp::write_front;
 
 /// What a FACS is to say (section 5.2.10).
 #[derive(Clone, Copy, Debug)]
@@ -55,6 +55,7 @@ pub(crate) fn facs_bytes(contents: &FacsContents) -> [u8; 64]
 /// OSPM Flags are 0. It has no checksum, and no header by which its makers are known.
 ///
 /// Returns `NoRoom` if the slice is shorter than the FACS.
+#[tactic(auto, unfolding(crate::specs::Facs::facs_written, crate::specs::Facs::facs_bytes, acpi_base::specs::Bytes::spelling))]
 pub fn write_facs(out: &mut [u8], contents: &FacsContents) -> Result<usize, WriterError>
     // The bytes, or the error, are those that are defined.
     ensures exact { Gives (λ n. take n out.new) result
@@ -64,9 +65,5 @@ pub fn write_facs(out: &mut [u8], contents: &FacsContents) -> Result<usize, Writ
     // The numbers that were given fit, so that what was given is what is read (`tables_are_read`).
     ensures fits { IfOk result (λ n. facs.IsFacs contents.now (take n out.new)) }
 {
-    if out.len() < 64 {
-        return Err(WriterError::NoRoom);
-    }
-    put_front(out, &facs_bytes(contents));
-    Ok(64)
+    write_front(out, &facs_bytes(contents))
 }

@@ -1,27 +1,29 @@
 //! The Fixed ACPI Description Table (FADT, section 5.2.9), from the hardware and the features that it is to say.
-ghost use Rattle.std.specs.Prelude.{◌≡◌, ◌^◌, ◌<◌, length, take, IfOk};
+ghost use Rattle.std.specs.Prelude.{◌≡◌, ◌^◌, ◌<◌, length, take, IfOk, Ok};
 ghost use Rattle.acpi_base.specs.Steps.{Gives};
 ghost use Rattle.acpi_base.specs.declared.table.signature.TheConstants.Signature.{FADT};
 ghost use Rattle.acpi_writer.specs.Contents.{most, sized};
 ghost use Rattle.acpi_writer.specs.FadtBytes as bytes;
 ghost use Rattle.acpi_writer.specs.FadtLaws.{AreFitFor, IsFadt};
-ghost use Rattle.acpi_writer.specs.Table.{IsTableOf, Keeps, table_written};
+ghost use Rattle.acpi_writer.specs.Table.{IsTableOf, Keeps, if_checked, table_written};
 
 mod contents;
 mod features;
 mod parts;
+mod registers;
 
+use crate::checked::{Checked, require};
 use crate::error::WriterError;
 use crate::generic::is_register;
 use crate::ids::TableIds;
-use crate::spelled::{Each, Then};
-use crate::table::{table_size, write_table};
+use crate::spelled::Then;
+use crate::table::{checked_size, write_checked};
 use acpi_base::Signature;
-use acpi_base::address::GenericAddress;
 use acpi_fixed::fadt::{GpeBlock, PowerProfile};
 pub use contents::{FadtContents, FadtHardware, FixedHardware, LegacyFields};
 pub use features::{ArmBootFeatures, FixedFeatures, PcBootFeatures};
 use parts::{Features, Head, Lengths, OtherPorts, Pm1Ports, Wide, fixed_of, gpe_register};
+use registers::Registers;
 
 /// Whether the DSDT, and the FACS if there is one, are at an address other than 0.
 fn are_placed(contents: &FadtContents) -> bool
@@ -85,30 +87,20 @@ fn are_registers(contents: &FadtContents) -> bool
         && is_register(contents.sleep_status)
 }
 
-/// From X_PM1a_EVT_BLK to SLEEP_STATUS_REG.
-fn registers(contents: &FadtContents, h: &FixedHardware) -> [Option<GenericAddress>; 10]
-    ensures { result ≡ bytes.registers contents.now h.now }
-{
-    let gpe0 = gpe_register(h.gpe0);
-    let gpe1 = gpe_register(h.gpe1);
-    [
-        Some(h.pm1a_event),
-        h.pm1b_event,
-        Some(h.pm1a_control),
-        h.pm1b_control,
-        h.pm2_control,
-        h.pm_timer,
-        gpe0,
-        gpe1,
-        contents.sleep_control,
-        contents.sleep_status,
-    ]
+impl Checked for FadtContents {
+    ghost checked = { bytes.fadt_checked };
+
+    fn check(&self) -> Result<(), WriterError> {
+        require(are_placed(self), WriterError::NoAddress)?;
+        require(is_profile(self.power_profile), WriterError::BadProfile)?;
+        require(are_registers(self), WriterError::BadRegister)
+    }
 }
 
 /// All after the header of a FADT.
 macro_rules! body_of {
-    ($contents:expr, $hardware:expr, $registers:expr) => {{
-        let ends = Then(Each(&$registers), 0u64);
+    ($contents:expr, $hardware:expr) => {{
+        let ends = Then(Registers($contents, $hardware), 0u64);
         let wide = Then($contents.reset_register, Then(Wide($contents), ends));
         let features = Then(Lengths($hardware), Then(Features($contents), wide));
         let ports = Then(Pm1Ports($hardware), Then(OtherPorts($hardware), features));
@@ -116,9 +108,7 @@ macro_rules! body_of {
     }};
 }
 
-/// Writes a FADT whose contents may be written.
-///
-/// Returns, in this order, `BadName` and `NoRoom`.
+/// Writes a FADT of this hardware, with the errors of `write_fadt`.
 fn write_contents(
     out: &mut [u8],
     ids: &TableIds,
@@ -126,47 +116,40 @@ fn write_contents(
     hardware: &FixedHardware,
 ) -> Result<usize, WriterError>
     ensures exact { Gives (λ n. take n out.new) result
-        (table_written (length out.old) FADT 6 ids.now (bytes.body_with contents.now hardware.now)) }
+        (if_checked (bytes.fadt_checked contents.now)
+        (table_written (length out.old) FADT 6 ids.now (bytes.body_with contents.now hardware.now))) }
     ensures keeps { Keeps result out.old out.new }
     ensures table { IfOk result (λ n.
         IsTableOf FADT 6 ids.now (bytes.body_with contents.now hardware.now) (take n out.new)) }
     ensures fits { IfOk result (λ n. AreFitFor contents.now hardware.now) }
+    ensures checked { IfOk result (λ n. bytes.fadt_checked contents.now ≡ Ok tt) }
 {
-    let registers = registers(contents, hardware);
-    let body = body_of!(contents, hardware, registers);
-    write_table(out, Signature::FADT, 6, ids, &body)
+    let body = body_of!(contents, hardware);
+    write_checked(out, Signature::FADT, 6, ids, contents, &body)
 }
 
-/// How many bytes the FADT of contents that may be written has, or the first error.
+/// How many bytes the FADT of this hardware has, or the first error.
 fn contents_size(
     ids: &TableIds,
     contents: &FadtContents,
     hardware: &FixedHardware,
 ) -> Result<usize, WriterError>
-    ensures exact { result ≡ sized (table_written most FADT 6 ids.now (bytes.body_with contents.now hardware.now)) }
+    ensures exact { result ≡ sized (if_checked (bytes.fadt_checked contents.now)
+        (table_written most FADT 6 ids.now (bytes.body_with contents.now hardware.now))) }
     ensures short { IfOk result (λ n. n < 2 ^ 32) }
     ensures fits { IfOk result (λ n. AreFitFor contents.now hardware.now) }
 {
-    let registers = registers(contents, hardware);
-    let body = body_of!(contents, hardware, registers);
-    table_size(Signature::FADT, 6, ids, &body)
+    let body = body_of!(contents, hardware);
+    checked_size(Signature::FADT, 6, ids, contents, &body)
 }
 
 /// How many bytes the FADT has, or the first error of `write_fadt` in a slice of any length.
+#[tactic(auto, using(crate::proofs::FadtRead::by_hardware), unfolding(crate::specs::FadtBytes::fadt_written))]
 pub fn fadt_size(ids: &TableIds, contents: &FadtContents) -> Result<usize, WriterError>
     ensures exact { result ≡ sized (bytes.fadt_written most ids.now contents.now) }
     ensures short { IfOk result (λ n. n < 2 ^ 32) }
     ensures fits { IfOk result (λ n. AreFitFor contents.now (bytes.fixed_of contents.now.hardware)) }
 {
-    if !are_placed(contents) {
-        return Err(WriterError::NoAddress);
-    }
-    if !is_profile(contents.power_profile) {
-        return Err(WriterError::BadProfile);
-    }
-    if !are_registers(contents) {
-        return Err(WriterError::BadRegister);
-    }
     contents_size(ids, contents, &fixed_of(&contents.hardware))
 }
 
@@ -181,6 +164,7 @@ pub fn fadt_size(ids: &TableIds, contents: &FadtContents) -> Result<usize, Write
 /// has the code of one that has a name, `BadRegister` if a register is at address 0 or in an `OemDefined` space below
 /// 0xc0, or if a block of general purpose events has no bytes, `BadName` if a name of the ids is not valid UTF-8, and
 /// `NoRoom` if the slice is shorter than the table.
+#[tactic(auto, using(crate::proofs::FadtRead::by_hardware), unfolding(crate::specs::FadtBytes::fadt_written))]
 pub fn write_fadt(
     out: &mut [u8],
     ids: &TableIds,
@@ -194,14 +178,5 @@ pub fn write_fadt(
     // The numbers that were given fit, so that what was given is what is read (`tables_are_read`).
     ensures fits { IfOk result (λ n. IsFadt ids.now contents.now (take n out.new)) }
 {
-    if !are_placed(contents) {
-        return Err(WriterError::NoAddress);
-    }
-    if !is_profile(contents.power_profile) {
-        return Err(WriterError::BadProfile);
-    }
-    if !are_registers(contents) {
-        return Err(WriterError::BadRegister);
-    }
     write_contents(out, ids, contents, &fixed_of(&contents.hardware))
 }

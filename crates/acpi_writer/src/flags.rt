@@ -5,7 +5,7 @@ ghost use Rattle.acpi_writer.specs.Flags.{flag_number};
 use crate::numbers::bit_of;
 
 /// The number whose bits these flags are, bit 0 first.
-#[tactic(auto, using(crate::proofs::FlagNumbers::flags_small, crate::proofs::FlagNumbers::flags_more))]
+#[tactic(auto, using(crate::proofs::Bits::flags_small, crate::proofs::Bits::flags_more))]
 pub(crate) fn flag_number(flags: &[bool]) -> u32
     requires { length flags.now < 33 }
     ensures value { result ≡ flag_number flags.now }

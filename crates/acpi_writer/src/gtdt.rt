@@ -13,7 +13,7 @@ use crate::checked::{Checked, check_all};
 use crate::error::WriterError;
 use crate::ids::TableIds;
 use crate::spelled::Then;
-use crate::table::{table_size, write_table};
+use crate::table::{checked_size, write_checked};
 use acpi_arm::gtdt::{ArmTimer, GtFrame, SbsaWatchdog};
 use acpi_base::Signature;
 use structures::{Array, Base, Reserved, Structures};
@@ -57,18 +57,19 @@ pub struct GtdtContents<'a> {
     pub platform_timers: &'a [PlatformTimerContents<'a>],
 }
 
-/// Returns the first error of the contents.
-fn check(contents: &GtdtContents<'_>) -> Result<(), WriterError>
-    ensures { result ≡ gtdt_checked contents.now }
-{
-    check_base(contents.counter_control_base)?;
-    contents.secure_el1_timer.check()?;
-    contents.non_secure_el1_timer.check()?;
-    contents.virtual_el1_timer.check()?;
-    contents.el2_timer.check()?;
-    check_base(contents.counter_read_base)?;
-    contents.virtual_el2_timer.check()?;
-    check_all(contents.platform_timers)
+impl Checked for GtdtContents<'_> {
+    ghost checked = { gtdt_checked };
+
+    fn check(&self) -> Result<(), WriterError> {
+        check_base(self.counter_control_base)?;
+        self.secure_el1_timer.check()?;
+        self.non_secure_el1_timer.check()?;
+        self.virtual_el1_timer.check()?;
+        self.el2_timer.check()?;
+        check_base(self.counter_read_base)?;
+        self.virtual_el2_timer.check()?;
+        check_all(self.platform_timers)
+    }
 }
 
 /// All after the header of a GTDT.
@@ -94,45 +95,15 @@ macro_rules! body_of {
     }};
 }
 
-/// Writes a GTDT whose contents may be written.
-///
-/// Returns, in this order, `BadName`, `NoRoom` and `TooLong`.
-fn write_contents(
-    out: &mut [u8],
-    ids: &TableIds,
-    contents: &GtdtContents<'_>,
-) -> Result<usize, WriterError>
-    ensures exact { Gives (λ n. take n out.new) result
-        (table_written (length out.old) GTDT 3 ids.now (gtdt_body contents.now)) }
-    ensures keeps { Keeps result out.old out.new }
-    ensures table { IfOk result (λ n.
-        IsTableOf GTDT 3 ids.now (gtdt_body contents.now) (take n out.new)) }
-    ensures fits { IfOk result (λ n. AreTimersFit contents.now) }
-{
-    let body = body_of!(contents);
-    write_table(out, Signature::GTDT, 3, ids, &body)
-}
-
-/// How many bytes the GTDT of contents that may be written has, or the first error.
-fn contents_size(ids: &TableIds, contents: &GtdtContents<'_>) -> Result<usize, WriterError>
-    ensures exact { result ≡ sized (table_written most GTDT 3 ids.now (gtdt_body contents.now)) }
-    ensures short { IfOk result (λ n. n < 2 ^ 32) }
-    ensures fits { IfOk result (λ n. AreTimersFit contents.now) }
-{
-    let body = body_of!(contents);
-    table_size(Signature::GTDT, 3, ids, &body)
-}
-
 /// How many bytes the GTDT has, or the first error of `write_gtdt` in a slice of any length.
+#[tactic(auto, unfolding(crate::specs::Gtdt::gtdt_written))]
 pub(crate) fn gtdt_size(ids: &TableIds, contents: &GtdtContents<'_>) -> Result<usize, WriterError>
     ensures exact { result ≡ sized (gtdt_written most ids.now contents.now) }
     ensures short { IfOk result (λ n. n < 2 ^ 32) }
     ensures fits { IfOk result (λ n. AreTimersFit contents.now) }
 {
-    match check(contents) {
-        Ok(()) => contents_size(ids, contents),
-        Err(error) => Err(error),
-    }
+    let body = body_of!(contents);
+    checked_size(Signature::GTDT, 3, ids, contents, &body)
 }
 
 /// Writes a GTDT of revision 3 to the front of a slice, and returns how many bytes it has: 104, and 28 for each
@@ -143,6 +114,7 @@ pub(crate) fn gtdt_size(ids: &TableIds, contents: &GtdtContents<'_>) -> Result<u
 /// has more than 1637, and then the first error of a frame, of which CntEL0BaseX comes before the timers. Then it
 /// returns, in this order, `BadName` if a name of the ids is not valid UTF-8, `NoRoom` if the slice is shorter than the
 /// table, and `TooLong` if the table has 2^32 bytes or more.
+#[tactic(auto, unfolding(crate::specs::Gtdt::gtdt_written))]
 pub fn write_gtdt(
     out: &mut [u8],
     ids: &TableIds,
@@ -156,6 +128,6 @@ pub fn write_gtdt(
     // The numbers that were given fit, so that what was given is what is read (`tables_are_read`).
     ensures fits { IfOk result (λ n. IsGtdt ids.now contents.now (take n out.new)) }
 {
-    check(contents)?;
-    write_contents(out, ids, contents)
+    let body = body_of!(contents);
+    write_checked(out, Signature::GTDT, 3, ids, contents, &body)
 }

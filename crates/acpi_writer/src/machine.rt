@@ -1,5 +1,5 @@
 //! A whole machine, laid out in one region of a guest's memory.
-ghost use Rattle.std.specs.Prelude.{◌≡◌, ◌+◌, ◌*◌, ◌^◌, ◌<◌, ◌≤◌, flat_map, length, map, take, IfOk};
+ghost use Rattle.std.specs.Prelude.{◌≡◌, ◌+◌, ◌*◌, ◌^◌, ◌<◌, ◌≤◌, ◌++◌, flat_map, length, map, take, IfOk};
 ghost use Rattle.std.specs.List.{All};
 ghost use Rattle.acpi_base.specs.Bytes.{spelling};
 ghost use Rattle.acpi_base.specs.Steps.{Gives};
@@ -9,17 +9,17 @@ ghost use Rattle.acpi_writer.specs.Machine as whole;
 ghost use Rattle.acpi_writer.specs.Rsdp.{rsdp_bytes};
 ghost use Rattle.acpi_writer.specs.Table.{Keeps};
 
-use crate::aml::write_dsdt;
-use crate::contents::{AmlContents, TableContents, fill_up, rounded};
+use crate::aml::Dsdt;
+use crate::contents::{AmlContents, TableContents, rounded};
 use crate::error::WriterError;
 use crate::facs::{FacsContents, facs_bytes};
 use crate::ids::TableIds;
 use crate::listed::{self, Listed};
 use crate::numbers::qword;
-use crate::rsdp::rsdp_bytes;
-use crate::spelled::Bytes;
-use crate::table::{seal, table_head, table_size};
+use crate::rsdp::{put_front, rsdp_bytes};
+use crate::table::table_head;
 use acpi_base::Signature;
+use acpi_image::write::set_sum;
 
 /// A machine, as its tables describe it.
 #[derive(Clone, Copy)]
@@ -96,13 +96,10 @@ fn dsdt_size<T>(machine: &Machine<'_, T>) -> Result<usize, WriterError>
     ensures short { IfOk result (λ n. n ≤ 2 ^ 32) }
 {
     match machine.dsdt {
-        Some(dsdt) => {
-            let body = Bytes(dsdt.bytes);
-            match table_size(Signature::DSDT, dsdt.revision, &machine.ids, &body) {
-                Ok(size) => Ok(rounded(size)),
-                Err(error) => Err(error),
-            }
-        }
+        Some(dsdt) => match Dsdt(dsdt).size(&machine.ids) {
+            Ok(size) => Ok(rounded(size)),
+            Err(error) => Err(error),
+        },
         None => Ok(0),
     }
 }
@@ -112,9 +109,9 @@ fn dsdt_place<T>(machine: &Machine<'_, T>) -> usize
     ensures size { result ≡ length (padded (whole.dsdt_of machine.now)) }
     ensures short { result ≤ 2 ^ 32 }
 {
-    match dsdt_size(machine) {
-        Ok(size) => size,
-        Err(_) => 0,
+    match machine.dsdt {
+        Some(dsdt) => listed::place(&Dsdt(dsdt), &machine.ids),
+        None => 0,
     }
 }
 
@@ -134,6 +131,7 @@ fn facs_room(facs: &Option<FacsContents>) -> usize
 }
 
 /// How many bytes there are without the RSDP, or the first error.
+#[tactic(auto, unfolding(crate::specs::Machine::check_by, crate::specs::Machine::size_by))]
 fn tree_size<T: Listed>(machine: &Machine<'_, T>) -> Result<usize, WriterError>
     ensures exact { result ≡ whole.tree_sized T.written machine.now }
     ensures short { IfOk result (λ n. n < 2 ^ 62) }
@@ -203,13 +201,7 @@ fn put_dsdt<T>(out: &mut [u8], machine: &Machine<'_, T>)
     ensures { out.new ≡ padded (whole.dsdt_of machine.now) }
 {
     if let Some(dsdt) = machine.dsdt {
-        machine.ids.fit();
-        match write_dsdt(out, &machine.ids, dsdt.revision, dsdt.bytes) {
-            Ok(size) => {
-                fill_up(out, size);
-            }
-            Err(_) => {}
-        }
+        listed::put(&Dsdt(dsdt), out, &machine.ids);
     }
 }
 
@@ -225,7 +217,18 @@ fn put_facs(out: &mut [u8], address: u64, facs: &Option<FacsContents>)
     }
 }
 
+/// Puts the header of an XSDT, and the addresses of tables of which the first lies at this one.
+fn put_pointers<T: Listed>(out: &mut [u8], head: &[u8], start: u64, machine: &Machine<'_, T>)
+    requires whole { length out.old ≡ length head.now + 8 * length machine.now.tables.now }
+    requires ends { start + length (laid (whole.listed_by T.written machine.now)) < 2 ^ 64 }
+    ensures { out.new ≡ head.now ++ flat_map (spelling 8) (addresses start (whole.listed_by T.written machine.now)) }
+{
+    out[..head.len()].copy_from_slice(head);
+    put_addresses(&mut out[head.len()..], start, &machine.ids, machine.tables);
+}
+
 /// Fills a slice with the XSDT of tables of which the first lies at this address.
+#[tactic(auto, using(crate::proofs::Sized::root_long), unfolding(crate::specs::Table::table_bytes))]
 fn fill_xsdt<T: Listed>(out: &mut [u8], start: u64, machine: &Machine<'_, T>)
     requires whole { length out.old ≡ whole.xsdt_length machine.now }
     requires short { whole.xsdt_length machine.now < 2 ^ 32 }
@@ -233,8 +236,8 @@ fn fill_xsdt<T: Listed>(out: &mut [u8], start: u64, machine: &Machine<'_, T>)
     ensures { out.new ≡ whole.xsdt_from T.written start machine.now }
 {
     let head = table_head(Signature::XSDT, 1, &machine.ids, out.len() as u32);
-    put_addresses(&mut out[36..], start, &machine.ids, machine.tables);
-    seal(out, &head);
+    put_pointers(out, &head, start, machine);
+    set_sum(out, 9); // Checksum
 }
 
 /// Puts the XSDT of tables of which the first lies at this address.
@@ -245,9 +248,8 @@ fn put_xsdt<T: Listed>(out: &mut [u8], start: u64, machine: &Machine<'_, T>)
     ensures { out.new ≡ padded (whole.xsdt_from T.written start machine.now) }
 {
     let size = 36 + 8 * machine.tables.len();
-    machine.ids.fit();
+    out.fill(0);
     fill_xsdt(&mut out[..size], start, machine);
-    fill_up(out, size);
 }
 
 /// Puts the FACS, from this address on, and the listed tables.
@@ -340,20 +342,21 @@ fn put_rsdp(out: &mut [u8], xsdt: u64, ids: &TableIds)
     requires { length out.old ≡ 48 }
     ensures { out.new ≡ padded (rsdp_bytes ids.now.oem_id xsdt) }
 {
-    ids.fit();
-    out[..36].copy_from_slice(&rsdp_bytes(ids, xsdt));
-    fill_up(out, 36);
+    out.fill(0);
+    put_front(out, &rsdp_bytes(ids, xsdt));
 }
 
 /// Puts the RSDP, and all that it leads to, from this address on.
+#[tactic(auto, unfolding(crate::specs::Machine::machine_by))]
 fn put_machine<T: Listed>(out: &mut [u8], address: u64, machine: &Machine<'_, T>)
     requires whole { length out.old ≡ 48 + whole.size_by T.written machine.now }
     requires short { whole.xsdt_length machine.now < 2 ^ 32 }
     requires ends { address + (48 + whole.size_by T.written machine.now) < 2 ^ 64 }
     ensures { out.new ≡ whole.machine_by T.written address machine.now }
 {
-    put_rsdp(&mut out[..48], address + 48, &machine.ids);
-    put_tree(&mut out[48..], address + 48, machine);
+    let rsdp = rounded(36);
+    put_rsdp(&mut out[..rsdp], address + 48, &machine.ids);
+    put_tree(&mut out[rsdp..], address + 48, machine);
 }
 
 /// Writes all tables of a machine to the front of a slice, which is to lie at this physical address: the RSDP, which so

@@ -1,5 +1,5 @@
 //! The Multiple APIC Description Table (MADT, section 5.2.12), from lists of processors and interrupt controllers.
-ghost use Rattle.std.specs.Prelude.{◌≡◌, ◌^◌, ◌<◌, flat_map, length, take, IfOk};
+ghost use Rattle.std.specs.Prelude.{◌≡◌, ◌^◌, ◌<◌, flat_map, length, not, take, IfOk};
 ghost use Rattle.std.specs.List.{All, list_all};
 ghost use Rattle.acpi_base.specs.Steps.{Gives};
 ghost use Rattle.acpi_writer.specs.Contents.{most, sized};
@@ -11,10 +11,11 @@ ghost use Rattle.acpi_writer.specs.Table.{IsTableOf, Keeps, table_written};
 mod entries;
 pub mod gic;
 
+use crate::checked::{Checked, require};
 use crate::error::WriterError;
 use crate::ids::TableIds;
 use crate::spelled::{Each, Spelled, Then};
-use crate::table::{table_size, write_table};
+use crate::table::{checked_size, table_size, write_checked, write_table};
 use acpi_base::Signature;
 use acpi_base::model::{InterruptSourceOverride, IoApic, NmiLine, NmiProcessor, NmiSource};
 use entries::{AddressOverride, Fixed, Wakeup};
@@ -175,51 +176,35 @@ pub fn madt_size_of<P: Spelled, I: Spelled, O: Spelled, S: Spelled, L: Spelled>(
     table_size(Signature::MADT, 5, ids, &body)
 }
 
-/// Writes a MADT whose contents may be written.
-///
-/// Returns, in this order, `BadName`, `NoRoom` and `TooLong`.
-fn write_contents(
-    out: &mut [u8],
-    ids: &TableIds,
-    contents: &MadtContents<'_>,
-) -> Result<usize, WriterError>
-    ensures exact { Gives (λ n. take n out.new) result
-        (table_written (length out.old) MADT 5 ids.now (bytes.madt_body contents.now)) }
-    ensures keeps { Keeps result out.old out.new }
-    ensures table { IfOk result (λ n.
-        IsTableOf MADT 5 ids.now (bytes.madt_body contents.now) (take n out.new)) }
-    ensures fits { IfOk result (λ n. AreFit contents.now) }
+/// Whether there is one.
+fn has_some<T>(xs: &[T]) -> bool
+    ensures { result ≡ not (bytes.is_empty xs.now) }
 {
-    let body = body_of!(contents);
-    write_table(out, Signature::MADT, 5, ids, &body)
+    match xs {
+        [] => false,
+        [_, ..] => true,
+    }
 }
 
-/// How many bytes the MADT of contents that may be written has, or the first error.
-fn contents_size(ids: &TableIds, contents: &MadtContents<'_>) -> Result<usize, WriterError>
-    ensures exact { result ≡ sized (table_written most MADT 5 ids.now (bytes.madt_body contents.now)) }
-    ensures short { IfOk result (λ n. n < 2 ^ 32) }
-    ensures fits { IfOk result (λ n. AreFit contents.now) }
-{
-    let body = body_of!(contents);
-    table_size(Signature::MADT, 5, ids, &body)
+impl Checked for MadtContents<'_> {
+    ghost checked = { bytes.madt_checked };
+
+    fn check(&self) -> Result<(), WriterError> {
+        require(has_some(self.processors), WriterError::NoProcessor)?;
+        require(processors_fit(self.processors), WriterError::IdOfAll)?;
+        require(lines_fit(self.local_apic_nmi_lines), WriterError::UidOfAll)
+    }
 }
 
 /// How many bytes the MADT has, or the first error of `write_madt` in a slice of any length.
+#[tactic(auto, unfolding(crate::specs::MadtBytes::madt_written))]
 pub(crate) fn madt_size(ids: &TableIds, contents: &MadtContents<'_>) -> Result<usize, WriterError>
     ensures exact { result ≡ sized (bytes.madt_written most ids.now contents.now) }
     ensures short { IfOk result (λ n. n < 2 ^ 32) }
     ensures fits { IfOk result (λ n. AreFit contents.now) }
 {
-    if contents.processors.len() < 1 {
-        return Err(WriterError::NoProcessor);
-    }
-    if !processors_fit(contents.processors) {
-        return Err(WriterError::IdOfAll);
-    }
-    if !lines_fit(contents.local_apic_nmi_lines) {
-        return Err(WriterError::UidOfAll);
-    }
-    contents_size(ids, contents)
+    let body = body_of!(contents);
+    checked_size(Signature::MADT, 5, ids, contents, &body)
 }
 
 /// Writes a MADT of revision 5 to the front of a slice, and returns how many bytes it has. Its entries stand sort by
@@ -232,6 +217,7 @@ pub(crate) fn madt_size(ids: &TableIds, contents: &MadtContents<'_>) -> Result<u
 /// Returns, in this order, `NoProcessor` if there is no processor, `IdOfAll` if a processor's uid or id is 0xffffffff,
 /// `UidOfAll` if an NMI line is of the processor 0xffffffff, `BadName` if a name of the ids is not valid UTF-8,
 /// `NoRoom` if the slice is shorter than the table, and `TooLong` if the table has 2^32 bytes or more.
+#[tactic(auto, unfolding(crate::specs::MadtBytes::madt_written))]
 pub fn write_madt(
     out: &mut [u8],
     ids: &TableIds,
@@ -245,14 +231,6 @@ pub fn write_madt(
     // The numbers that were given fit, so that what was given is what is read (`tables_are_read`).
     ensures fits { IfOk result (λ n. IsMadt ids.now contents.now (take n out.new)) }
 {
-    if contents.processors.len() < 1 {
-        return Err(WriterError::NoProcessor);
-    }
-    if !processors_fit(contents.processors) {
-        return Err(WriterError::IdOfAll);
-    }
-    if !lines_fit(contents.local_apic_nmi_lines) {
-        return Err(WriterError::UidOfAll);
-    }
-    write_contents(out, ids, contents)
+    let body = body_of!(contents);
+    write_checked(out, Signature::MADT, 5, ids, contents, &body)
 }

@@ -4,7 +4,7 @@ ghost use Rattle.acpi_base.specs.Bytes.{spelling};
 ghost use Rattle.acpi_writer.specs.Table.{bit_of};
 
 /// The two bytes of a number, the lowest first.
-#[tactic(auto, using(crate::proofs::LittleEndian::two_bytes))]
+#[tactic(auto, using(crate::proofs::Bits::two_bytes))]
 pub(crate) fn word(number: u16) -> [u8; 2]
     ensures { result ≡ spelling 2 number }
 {
@@ -12,7 +12,7 @@ pub(crate) fn word(number: u16) -> [u8; 2]
 }
 
 /// The four bytes of a number, the lowest first.
-#[tactic(auto, using(crate::proofs::LittleEndian::four_bytes))]
+#[tactic(auto, using(crate::proofs::Bits::four_bytes))]
 pub(crate) fn dword(number: u32) -> [u8; 4]
     ensures { result ≡ spelling 4 number }
 {
@@ -20,7 +20,7 @@ pub(crate) fn dword(number: u32) -> [u8; 4]
 }
 
 /// The eight bytes of a number, the lowest first.
-#[tactic(auto, using(crate::proofs::LittleEndian::eight_bytes))]
+#[tactic(auto, using(crate::proofs::Bits::eight_bytes))]
 pub(crate) fn qword(number: u64) -> [u8; 8]
     ensures { result ≡ spelling 8 number }
 {

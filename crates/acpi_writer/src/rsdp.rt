@@ -2,7 +2,7 @@
 ghost use Rattle.std.specs.Prelude.{◌≡◌, ◌+◌, ◌<◌, length, take, drop, ◌++◌, IfOk};
 ghost use Rattle.acpi_base.specs.Steps.{Gives};
 ghost use Rattle.acpi_writer.specs.Rsdp as rsdp;
-ghost use Rattle.acpi_writer.specs.Table.{Keeps};
+ghost use Rattle.acpi_writer.specs.Table.{Keeps, front_written};
 
 use crate::error::WriterError;
 use crate::ids::TableIds;
@@ -39,6 +39,7 @@ pub(crate) fn rsdp_bytes(ids: &TableIds, xsdt: u64) -> [u8; 36]
 ///
 /// Returns, in this order, `NoAddress` if the address is 0, `BadName` if a name of the ids, even one that the RSDP
 /// hasn't, is not valid UTF-8, and `NoRoom` if the slice is shorter than the RSDP.
+#[tactic(auto, using(crate::proofs::Headless::rsdp_long), unfolding(crate::specs::Rsdp::rsdp_written))]
 pub fn write_rsdp(out: &mut [u8], ids: &TableIds, xsdt: u64) -> Result<usize, WriterError>
     // The bytes, or the first error, are those that are defined.
     ensures exact { Gives (λ n. take n out.new) result
@@ -54,12 +55,8 @@ pub fn write_rsdp(out: &mut [u8], ids: &TableIds, xsdt: u64) -> Result<usize, Wr
     if !ids.are_texts() {
         return Err(WriterError::BadName);
     }
-    if out.len() < 36 {
-        return Err(WriterError::NoRoom);
-    }
     ids.fit();
-    put_front(out, &rsdp_bytes(ids, xsdt));
-    Ok(36)
+    write_front(out, &rsdp_bytes(ids, xsdt))
 }
 
 /// Puts bytes to the front of a slice.
@@ -68,4 +65,19 @@ pub(crate) fn put_front(out: &mut [u8], bytes: &[u8])
     ensures { out.new ≡ bytes.now ++ drop (length bytes.now) out.old }
 {
     out[..bytes.len()].copy_from_slice(bytes);
+}
+
+/// Writes bytes to the front of a slice, and returns how many there are.
+///
+/// Returns `NoRoom` if the slice is shorter.
+pub(crate) fn write_front(out: &mut [u8], bytes: &[u8]) -> Result<usize, WriterError>
+    ensures exact { Gives (λ n. take n out.new) result (front_written (length out.old) bytes.now) }
+    ensures keeps { Keeps result out.old out.new }
+    ensures front { IfOk result (λ n. take n out.new ≡ bytes.now) }
+{
+    if out.len() < bytes.len() {
+        return Err(WriterError::NoRoom);
+    }
+    put_front(out, bytes);
+    Ok(bytes.len())
 }

@@ -2,13 +2,15 @@
 ghost use Rattle.std.specs.Prelude.{◌≡◌, ◌*◌, ◌==◌, ◌^◌, ◌<◌, length, take, IfOk};
 ghost use Rattle.acpi_base.specs.Steps.{Gives};
 ghost use Rattle.acpi_writer.specs.Contents.{most, sized};
-ghost use Rattle.acpi_writer.specs.Slit.{IsSlit, slit_written};
+ghost use Rattle.acpi_writer.specs.Slit.{IsSlit, slit_checked, slit_written};
 ghost use Rattle.acpi_writer.specs.Table.{Keeps};
 
+use crate::checked::{Checked, require};
+use crate::contents::SlitContents;
 use crate::error::WriterError;
 use crate::ids::TableIds;
 use crate::spelled::{Bytes, Then};
-use crate::table::{table_size, write_table};
+use crate::table::{checked_size, write_checked};
 use acpi_base::Signature;
 
 /// Whether there are as many distances as pairs of localities.
@@ -21,16 +23,35 @@ fn is_square(localities: u64, distances: &[u8]) -> bool
     }
 }
 
+impl Checked for SlitContents<'_> {
+    ghost checked = { λ c. slit_checked c.localities c.distances.now };
+
+    fn check(&self) -> Result<(), WriterError> {
+        require(
+            is_square(self.localities, self.distances),
+            WriterError::BadMatrix,
+        )
+    }
+}
+
 /// How many bytes the SLIT has, or the first error of `write_slit` in a slice of any length.
+#[tactic(auto, unfolding(crate::specs::Slit::slit_written))]
 pub fn slit_size(ids: &TableIds, localities: u64, distances: &[u8]) -> Result<usize, WriterError>
     ensures exact { result ≡ sized (slit_written most ids.now localities distances.now) }
     ensures short { IfOk result (λ n. n < 2 ^ 32) }
     ensures fits { IfOk result (λ n. localities < 2 ^ 64) }
 {
-    if !is_square(localities, distances) {
-        return Err(WriterError::BadMatrix);
-    }
-    table_size(Signature::SLIT, 1, ids, &Then(localities, Bytes(distances)))
+    let contents = SlitContents {
+        localities,
+        distances,
+    };
+    checked_size(
+        Signature::SLIT,
+        1,
+        ids,
+        &contents,
+        &Then(localities, Bytes(distances)),
+    )
 }
 
 /// Writes a SLIT of revision 1 to the front of a slice, and returns how many bytes it has: 44, and one for each
@@ -40,6 +61,7 @@ pub fn slit_size(ids: &TableIds, localities: u64, distances: &[u8]) -> Result<us
 /// Returns, in this order, `BadMatrix` if there isn't a distance for each pair of localities, `BadName` if a name of
 /// the ids is not valid UTF-8, `NoRoom` if the slice is shorter than the table, and `TooLong` if the table has 2^32
 /// bytes or more.
+#[tactic(auto, unfolding(crate::specs::Slit::slit_written))]
 pub fn write_slit(
     out: &mut [u8],
     ids: &TableIds,
@@ -54,14 +76,16 @@ pub fn write_slit(
     // The numbers that were given fit, so that the distances are those that are read (`tables_are_read`).
     ensures fits { IfOk result (λ n. IsSlit ids.now localities distances.now (take n out.new)) }
 {
-    if !is_square(localities, distances) {
-        return Err(WriterError::BadMatrix);
-    }
-    write_table(
+    let contents = SlitContents {
+        localities,
+        distances,
+    };
+    write_checked(
         out,
         Signature::SLIT,
         1,
         ids,
+        &contents,
         &Then(localities, Bytes(distances)),
     )
 }

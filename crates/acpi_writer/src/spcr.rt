@@ -1,6 +1,6 @@
 //! The Serial Port Console Redirection Table (SPCR, section 5.2.6), from what it says of a serial port. Its layout is
 //! Microsoft's.
-ghost use Rattle.std.specs.Prelude.{◌≡◌, ◌^◌, ◌<◌, ◌&&◌, length, take, IfOk, IsUtf8};
+ghost use Rattle.std.specs.Prelude.{◌≡◌, ◌^◌, ◌<◌, ◌&&◌, length, take, IfOk, IsUtf8, Ok};
 ghost use Rattle.acpi_base.specs.Steps.{Gives};
 ghost use Rattle.acpi_base.specs.declared.table.signature.TheConstants.Signature.{SPCR};
 ghost use Rattle.acpi_writer.specs.Contents.{most, sized};
@@ -10,6 +10,7 @@ ghost use Rattle.acpi_writer.specs.Table.{IsTableOf, Keeps, table_written};
 
 mod fields;
 
+use crate::checked::{Checked, require};
 use crate::error::WriterError;
 use crate::generic::is_named_space;
 use crate::ids::TableIds;
@@ -112,6 +113,16 @@ fn is_somewhere(address: Option<GenericAddress>) -> bool
     }
 }
 
+impl Checked for SpcrContents<'_> {
+    ghost checked = { spcr.spcr_checked };
+
+    fn check(&self) -> Result<(), WriterError> {
+        require(has_codes(self), WriterError::BadCode)?;
+        require(is_somewhere(self.base_address), WriterError::NoAddress)?;
+        require(self.namespace_string.len() < 0xffff, WriterError::LongName)
+    }
+}
+
 /// All after the header of an SPCR.
 macro_rules! body_of {
     ($contents:expr) => {{
@@ -131,12 +142,13 @@ macro_rules! body_of {
 /// Writes an SPCR whose contents may be written.
 ///
 /// Returns, in this order, `BadName`, `NoRoom` and `TooLong`.
+#[tactic(auto, using(crate::proofs::SpcrRead::name_short))]
 fn write_contents(
     out: &mut [u8],
     ids: &TableIds,
     contents: &SpcrContents<'_>,
 ) -> Result<usize, WriterError>
-    requires { length contents.now.namespace_string.now < 0xffff }
+    requires { spcr.spcr_checked contents.now ≡ Ok tt }
     ensures exact { Gives (λ n. take n out.new) result
         (table_written (length out.old) SPCR 4 ids.now (spcr.spcr_body contents.now)) }
     ensures keeps { Keeps result out.old out.new }
@@ -150,8 +162,9 @@ fn write_contents(
 }
 
 /// How many bytes the SPCR of contents that may be written has, or the first error.
+#[tactic(auto, using(crate::proofs::SpcrRead::name_short))]
 fn contents_size(ids: &TableIds, contents: &SpcrContents<'_>) -> Result<usize, WriterError>
-    requires { length contents.now.namespace_string.now < 0xffff }
+    requires { spcr.spcr_checked contents.now ≡ Ok tt }
     ensures exact { result ≡ sized (table_written most SPCR 4 ids.now (spcr.spcr_body contents.now)) }
     ensures short { IfOk result (λ n. n < 2 ^ 32) }
     ensures fits { IfOk result (λ n. laws.FitsSpcr contents.now) }
@@ -162,21 +175,16 @@ fn contents_size(ids: &TableIds, contents: &SpcrContents<'_>) -> Result<usize, W
 }
 
 /// How many bytes the SPCR has, or the first error of `write_spcr` in a slice of any length.
+#[tactic(auto, unfolding(crate::specs::Spcr::spcr_written))]
 pub(crate) fn spcr_size(ids: &TableIds, contents: &SpcrContents<'_>) -> Result<usize, WriterError>
     ensures exact { result ≡ sized (spcr.spcr_written most ids.now contents.now) }
     ensures short { IfOk result (λ n. n < 2 ^ 32) }
     ensures fits { IfOk result (λ n. laws.FitsSpcr contents.now × IsUtf8 contents.now.namespace_string.now) }
 {
-    if !has_codes(contents) {
-        return Err(WriterError::BadCode);
+    match contents.check() {
+        Ok(()) => contents_size(ids, contents),
+        Err(error) => Err(error),
     }
-    if !is_somewhere(contents.base_address) {
-        return Err(WriterError::NoAddress);
-    }
-    if contents.namespace_string.len() >= 0xffff {
-        return Err(WriterError::LongName);
-    }
-    contents_size(ids, contents)
 }
 
 /// Writes an SPCR of revision 4 to the front of a slice, and returns how many bytes it has: 88, and those of its name
@@ -185,6 +193,7 @@ pub(crate) fn spcr_size(ids: &TableIds, contents: &SpcrContents<'_>) -> Result<u
 /// Returns, in this order, `BadCode` if the interface type or the base address's space has the code of another one or a
 /// reserved code, `NoAddress` if the base address is 0, `LongName` if the name has 65535 bytes or more, `BadName` if a
 /// name of the ids is not valid UTF-8, and `NoRoom` if the slice is shorter than the table.
+#[tactic(auto, unfolding(crate::specs::Spcr::spcr_written))]
 pub fn write_spcr(
     out: &mut [u8],
     ids: &TableIds,
@@ -198,14 +207,8 @@ pub fn write_spcr(
     // The numbers that were given fit, so that what was given is what is read (`tables_are_read`).
     ensures fits { IfOk result (λ n. laws.IsSpcr ids.now contents.now (take n out.new)) }
 {
-    if !has_codes(contents) {
-        return Err(WriterError::BadCode);
+    match contents.check() {
+        Ok(()) => write_contents(out, ids, contents),
+        Err(error) => Err(error),
     }
-    if !is_somewhere(contents.base_address) {
-        return Err(WriterError::NoAddress);
-    }
-    if contents.namespace_string.len() >= 0xffff {
-        return Err(WriterError::LongName);
-    }
-    write_contents(out, ids, contents)
 }

@@ -9,11 +9,12 @@ ghost use Rattle.acpi_writer.specs.Srat as srat;
 ghost use Rattle.acpi_writer.specs.SratLaws as laws;
 ghost use Rattle.acpi_writer.specs.Table.{IsTableOf, Keeps, table_written};
 
+use crate::checked::{Checked, require};
 use crate::error::WriterError;
 use crate::ids::TableIds;
 use crate::numbers::{bit_of, dword, qword};
 use crate::spelled::{Bytes, Each, Spelled, Then};
-use crate::table::{table_size, write_table};
+use crate::table::{checked_size, write_checked};
 use acpi_base::Signature;
 use acpi_numa::MemoryRange;
 
@@ -230,40 +231,18 @@ macro_rules! body_of {
     }};
 }
 
-/// Writes a SRAT whose contents may be written.
-///
-/// Returns, in this order, `BadName`, `NoRoom` and `TooLong`.
-fn write_contents<R: StandsForRange>(
-    out: &mut [u8],
-    ids: &TableIds,
-    contents: &SratContents<'_, R>,
-) -> Result<usize, WriterError>
-    ensures exact { Gives (λ n. take n out.new) result
-        (table_written (length out.old) SRAT 3 ids.now (srat.srat_body_by R.range_of contents.now)) }
-    ensures keeps { Keeps result out.old out.new }
-    ensures table { IfOk result (λ n.
-        IsTableOf SRAT 3 ids.now (srat.srat_body_by R.range_of contents.now) (take n out.new)) }
-    ensures fits { IfOk result (λ n. laws.AreFitBy R.range_of contents.now) }
-{
-    let body = body_of!(contents);
-    write_table(out, Signature::SRAT, 3, ids, &body)
-}
+impl<R: StandsForRange> Checked for SratContents<'_, R> {
+    ghost checked = { λ c. srat.srat_checked_by R.range_of c };
 
-/// How many bytes the SRAT of contents that may be written has, or the first error.
-fn contents_size<R: StandsForRange>(
-    ids: &TableIds,
-    contents: &SratContents<'_, R>,
-) -> Result<usize, WriterError>
-    ensures exact { result ≡ sized (table_written most SRAT 3 ids.now
-        (srat.srat_body_by R.range_of contents.now)) }
-    ensures short { IfOk result (λ n. n < 2 ^ 32) }
-    ensures fits { IfOk result (λ n. laws.AreFitBy R.range_of contents.now) }
-{
-    let body = body_of!(contents);
-    table_size(Signature::SRAT, 3, ids, &body)
+    fn check(&self) -> Result<(), WriterError> {
+        require(apics_fit(self.apics), WriterError::IdOfAll)?;
+        require(giccs_fit(self.giccs), WriterError::IdOfAll)?;
+        require(ranges_fit(self.ranges), WriterError::BadRange)
+    }
 }
 
 /// How many bytes the SRAT has, or the first error of `write_srat_of` in a slice of any length.
+#[tactic(auto, unfolding(crate::specs::Srat::srat_written_by))]
 pub fn srat_size_of<R: StandsForRange>(
     ids: &TableIds,
     contents: &SratContents<'_, R>,
@@ -272,16 +251,8 @@ pub fn srat_size_of<R: StandsForRange>(
     ensures short { IfOk result (λ n. n < 2 ^ 32) }
     ensures fits { IfOk result (λ n. laws.AreFitBy R.range_of contents.now) }
 {
-    if !apics_fit(contents.apics) {
-        return Err(WriterError::IdOfAll);
-    }
-    if !giccs_fit(contents.giccs) {
-        return Err(WriterError::IdOfAll);
-    }
-    if !ranges_fit(contents.ranges) {
-        return Err(WriterError::BadRange);
-    }
-    contents_size(ids, contents)
+    let body = body_of!(contents);
+    checked_size(Signature::SRAT, 3, ids, contents, &body)
 }
 
 /// How many bytes the SRAT has, or the first error of `write_srat` in a slice of any length.
@@ -294,6 +265,7 @@ pub(crate) fn srat_size(ids: &TableIds, contents: &SratContents<'_>) -> Result<u
 }
 
 /// Writes a SRAT, as `write_srat` does, of the ranges that these things stand for.
+#[tactic(auto, unfolding(crate::specs::Srat::srat_written_by))]
 pub fn write_srat_of<R: StandsForRange>(
     out: &mut [u8],
     ids: &TableIds,
@@ -304,16 +276,8 @@ pub fn write_srat_of<R: StandsForRange>(
     ensures keeps { Keeps result out.old out.new }
     ensures fits { IfOk result (λ n. laws.IsSratBy R.range_of ids.now contents.now (take n out.new)) }
 {
-    if !apics_fit(contents.apics) {
-        return Err(WriterError::IdOfAll);
-    }
-    if !giccs_fit(contents.giccs) {
-        return Err(WriterError::IdOfAll);
-    }
-    if !ranges_fit(contents.ranges) {
-        return Err(WriterError::BadRange);
-    }
-    write_contents(out, ids, contents)
+    let body = body_of!(contents);
+    write_checked(out, Signature::SRAT, 3, ids, contents, &body)
 }
 
 /// Writes a SRAT of revision 3 to the front of a slice, and returns how many bytes it has: 48, and those of its

@@ -1,11 +1,12 @@
 //! A table from its header's fields and the bytes after its header (section 5.2.6).
-ghost use Rattle.std.specs.Prelude.{◌≡◌, ◌+◌, ◌^◌, ◌<◌, ◌≤◌, ◌++◌, drop, length, take, IfOk};
+ghost use Rattle.std.specs.Prelude.{◌≡◌, ◌+◌, ◌^◌, ◌<◌, ◌≤◌, ◌++◌, drop, length, take, IfOk, Ok};
 ghost use Rattle.acpi_base.specs.Steps.{Gives};
 ghost use Rattle.acpi_base.specs.Text.{letters_of};
 ghost use Rattle.acpi_image.specs.Written.{with_sum};
 ghost use Rattle.acpi_writer.specs.Contents.{most, sized};
-ghost use Rattle.acpi_writer.specs.Table.{IsTableOf, Keeps, table_bytes, table_head, table_written};
+ghost use Rattle.acpi_writer.specs.Table.{IsTableOf, Keeps, if_checked, table_bytes, table_head, table_written};
 
+use crate::checked::Checked;
 use crate::error::WriterError;
 use crate::ids::TableIds;
 use crate::numbers::dword;
@@ -31,18 +32,17 @@ pub(crate) fn table_head(signature: Signature, revision: u8, ids: &TableIds, cou
     head
 }
 
-/// Puts the header of a table before the bytes after it, and sets Checksum, byte 9.
-pub(crate) fn seal(table: &mut [u8], head: &[u8])
-    requires within { 36 ≤ length table.old }
-    requires head { length head.now ≡ 36 }
-    ensures bytes { table.new ≡ with_sum 9 (head.now ++ drop 36 table.old) }
-    ensures length { length table.new ≡ length table.old }
+/// Fills a slice with the header of a table, and the bytes after it.
+fn join<B: Spelled>(table: &mut [u8], head: &[u8], body: &B)
+    requires { length table.old ≡ length head.now + length (B.spelled body.now) }
+    ensures { table.new ≡ head.now ++ B.spelled body.now }
 {
-    table[..36].copy_from_slice(head);
-    set_sum(table, 9); // Checksum
+    table[..head.len()].copy_from_slice(head);
+    body.put(&mut table[head.len()..]);
 }
 
 /// Fills a slice with a table.
+#[tactic(auto, unfolding(crate::specs::Table::table_bytes))]
 fn fill<B: Spelled>(table: &mut [u8], signature: Signature, revision: u8, ids: &TableIds, body: &B)
     requires whole { length table.old ≡ 36 + length (B.spelled body.now) }
     requires short { length table.old < 2 ^ 32 }
@@ -50,8 +50,8 @@ fn fill<B: Spelled>(table: &mut [u8], signature: Signature, revision: u8, ids: &
     ensures length { length table.new ≡ length table.old }
 {
     let head = table_head(signature, revision, ids, table.len() as u32);
-    body.put(&mut table[36..]);
-    seal(table, &head);
+    join(table, &head, body);
+    set_sum(table, 9); // Checksum
 }
 
 /// A signature has four letters.
@@ -62,6 +62,7 @@ fn has_letters(signature: Signature)
 }
 
 /// How many bytes a table has, or the first error of `write_table` in a slice of any length.
+#[tactic(auto, using(crate::proofs::Room::table_length), unfolding(crate::specs::Table::table_written))]
 pub fn table_size<B: Spelled>(
     signature: Signature,
     revision: u8,
@@ -93,6 +94,7 @@ pub fn table_size<B: Spelled>(
 ///
 /// Returns, in this order, `BadName` if a name of the ids is not valid UTF-8, `NoRoom` if the slice is shorter than
 /// the table, and `TooLong` if the table has 2^32 bytes or more.
+#[tactic(auto, unfolding(crate::specs::Table::table_written))]
 pub(crate) fn write_table<B: Spelled>(
     out: &mut [u8],
     signature: Signature,
@@ -124,5 +126,49 @@ pub(crate) fn write_table<B: Spelled>(
             Ok(end)
         }
         None => Err(WriterError::NoRoom),
+    }
+}
+
+/// How many bytes a table of contents has, or the first error of `write_checked` in a slice of any length.
+pub(crate) fn checked_size<C: Checked, B: Spelled>(
+    signature: Signature,
+    revision: u8,
+    ids: &TableIds,
+    contents: &C,
+    body: &B,
+) -> Result<usize, WriterError>
+    ensures exact { result ≡ sized (if_checked (C.checked contents.now)
+        (table_written most signature revision ids.now (B.spelled body.now))) }
+    ensures short { IfOk result (λ n. n < 2 ^ 32) }
+    ensures fits { IfOk result (λ n. B.fits body.now) }
+{
+    match contents.check() {
+        Ok(()) => table_size(signature, revision, ids, body),
+        Err(error) => Err(error),
+    }
+}
+
+/// Writes a table of contents to the front of a slice, and returns how many bytes it has.
+///
+/// Returns the error of the contents, if a table has no place for them, and then those of `write_table`.
+pub(crate) fn write_checked<C: Checked, B: Spelled>(
+    out: &mut [u8],
+    signature: Signature,
+    revision: u8,
+    ids: &TableIds,
+    contents: &C,
+    body: &B,
+) -> Result<usize, WriterError>
+    ensures exact { Gives (λ n. take n out.new) result (if_checked (C.checked contents.now)
+        (table_written (length out.old) signature revision ids.now (B.spelled body.now))) }
+    ensures keeps { Keeps result out.old out.new }
+    ensures table { IfOk result (λ n.
+        IsTableOf signature revision ids.now (B.spelled body.now) (take n out.new)) }
+    ensures fits { IfOk result (λ n. B.fits body.now) }
+    ensures checked { IfOk result (λ n. C.checked contents.now ≡ Ok tt) }
+{
+    match contents.check() {
+        Ok(()) => write_table(out, signature, revision, ids, body),
+        Err(error) => Err(error),
     }
 }

@@ -230,13 +230,6 @@ impl Spelled for NmiLine {
     }
 }
 
-/// An address has a place in eight bytes.
-fn fits_address(address: u64)
-    ensures { laws.FitsAddress address }
-{
-    let _in_range = address;
-}
-
 /// A mailbox, if processors are woken by one.
 #[derive(Clone, Copy)]
 pub(super) struct Wakeup(pub(super) Option<u64>);
@@ -250,7 +243,7 @@ impl Spelled for Wakeup {
     fn measure(&self, room: usize) -> Option<usize> {
         match self.0 {
             Some(address) => {
-                fits_address(address);
+                let _in_range = address;
                 if room < 16 { None } else { Some(16) }
             }
             None => Some(0),

@@ -1,21 +1,6 @@
-use Rattle.std.proofs.Common.{length, sym, ◌∙◌}
-use Rattle.acpi_writer.proofs.FadtWritten.{no_profile, no_registers, not_placed, written_is}
+use Rattle.acpi_writer.proofs.FadtRead.{answer_is}
 use Rattle.acpi_writer.proofs.fadt.write_fadt.Goals as goal
 
-pub returns-then-not-are_placed-clause-exact : goal.returns-then-not-are_placed-clause-exact
-returns-then-not-are_placed-clause-exact c = not_placed (length c.args.out.now) c.args.ids.now c.args.contents.now (sym c.are_placed.ensures ∙ c.if-not-are_placed.true)
-
-pub returns-then-not-is_profile-clause-exact : goal.returns-then-not-is_profile-clause-exact
-returns-then-not-is_profile-clause-exact c =
-    no_profile (length c.args.out.now) c.args.ids.now c.args.contents.now (sym c.are_placed.ensures ∙ c.if-not-are_placed.false) (sym c.is_profile.ensures ∙ c.if-not-is_profile.true)
-
-pub returns-then-not-are_registers-clause-exact : goal.returns-then-not-are_registers-clause-exact
-returns-then-not-are_registers-clause-exact c =
-    no_registers (length c.args.out.now) c.args.ids.now c.args.contents.now (sym c.are_placed.ensures ∙ c.if-not-are_placed.false) (sym c.is_profile.ensures ∙ c.if-not-is_profile.false) (sym c.are_registers.ensures ∙ c.if-not-are_registers.true)
-
-pub returns-clause-exact : goal.returns-clause-exact
-returns-clause-exact c =
-    rw (
-      written_is (length c.args.out.now) c.args.ids.now c.args.contents.now (sym c.are_placed.ensures ∙ c.if-not-are_placed.false) (sym c.is_profile.ensures ∙ c.if-not-is_profile.false) (sym c.are_registers.ensures ∙ c.if-not-are_registers.false),
-      ← c.fixed_of.ensures,
-    ) c.write_contents.ensures.exact
+pub returns-clause-fits : goal.returns-clause-fits
+returns-clause-fits c =
+    answer_is c.write_contents.result c.args.ids.now c.args.contents.now c.fixed_of.result c.write_contents.new.out c.fixed_of.ensures c.write_contents.ensures.table c.write_contents.ensures.fits c.write_contents.ensures.checked

@@ -1,5 +1,5 @@
 use Rattle.std.proofs.Common.{◌<◌, arith}
-use Rattle.acpi_writer.proofs.FlagNumbers.{bit_small, flags_few, flags_none}
+use Rattle.acpi_writer.proofs.Bits.{bit_small, flags_few, flags_none}
 use Rattle.acpi_writer.proofs.flags.flag_number.Goals as goal
 
 pub loop-i-init : goal.loop-i-init

@@ -1,12 +1,8 @@
-use Rattle.acpi_writer.proofs.BgrtRead.{bgrt_valid}
+use Rattle.acpi_writer.proofs.ShortTables.{bgrt_valid, hpet_valid, mcfg_valid, root_valid, slit_valid}
 use Rattle.acpi_writer.proofs.FadtRead.{fadt_valid}
 use Rattle.acpi_writer.proofs.GicRead.{gic_madt_valid}
 use Rattle.acpi_writer.proofs.GtdtRead.{gtdt_valid}
-use Rattle.acpi_writer.proofs.HpetRead.{hpet_valid}
 use Rattle.acpi_writer.proofs.MadtRead.{madt_valid}
-use Rattle.acpi_writer.proofs.McfgRead.{mcfg_valid}
-use Rattle.acpi_writer.proofs.Plain.{root_valid}
-use Rattle.acpi_writer.proofs.SlitRead.{slit_valid}
 use Rattle.acpi_writer.proofs.SpcrRead.{spcr_valid}
 use Rattle.acpi_writer.proofs.SratRead.{srat_valid}
 use Rattle.acpi_writer.proofs.laws.tables_are_valid.Goals as goal

@@ -1,6 +1,6 @@
 use Rattle.std.proofs.Common.{sym, ap, ◌∙◌}
 use Rattle.acpi_writer.specs.Contents.{most, sized}
-use Rattle.acpi_writer.proofs.MadtWritten.{gic_bad, gic_is, gic_none}
+use Rattle.acpi_writer.proofs.MadtRead.{gic_bad, gic_is, gic_none}
 use Rattle.acpi_writer.proofs.madt.gic.gic_size.Goals as goal
 
 pub returns-then-contents-lt1-clause-exact : goal.returns-then-contents-lt1-clause-exact

@@ -1,6 +1,6 @@
 use Rattle.std.proofs.Common.{length, sym}
 use Rattle.acpi_writer.proofs.Bits.{passed_on}
-use Rattle.acpi_writer.proofs.MadtWritten.{gic_bad, gic_is, gic_none}
+use Rattle.acpi_writer.proofs.MadtRead.{gic_bad, gic_is, gic_none}
 use Rattle.acpi_writer.proofs.madt.gic.write_gic_madt.Goals as goal
 
 pub returns-then-contents-lt1-clause-exact : goal.returns-then-contents-lt1-clause-exact

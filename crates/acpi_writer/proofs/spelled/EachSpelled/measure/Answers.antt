@@ -1,4 +1,4 @@
-use Rattle.acpi_writer.proofs.Parts.{measured_more, not_whole}
+use Rattle.acpi_writer.proofs.Sized.{measured_more, not_whole}
 use Rattle.acpi_writer.proofs.spelled.EachSpelled.measure.Goals as goal
 
 pub returns-in-None : goal.returns-in-None

@@ -1,6 +1,6 @@
 use Rattle.std.proofs.Common.{length, arith}
 use Rattle.std.proofs.lemmas.List.Folds.{length-flat_map-take}
-use Rattle.acpi_writer.proofs.Parts.{not_whole}
+use Rattle.acpi_writer.proofs.Sized.{not_whole}
 use Rattle.acpi_writer.proofs.spelled.EachSpelled.put.Goals as goal
 
 pub returns-in-None : goal.returns-in-None

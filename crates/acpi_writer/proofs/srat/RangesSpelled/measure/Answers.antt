@@ -1,5 +1,5 @@
 use Rattle.std.proofs.Common.{sym}
-use Rattle.acpi_writer.proofs.Parts.{measured_more, not_whole}
+use Rattle.acpi_writer.proofs.Sized.{measured_more, not_whole}
 use Rattle.acpi_writer.specs.Srat.{memory_entry}
 use Rattle.acpi_writer.specs.SratLaws.{FitsRange}
 use Rattle.acpi_writer.proofs.srat.RangesSpelled.measure.Goals as goal

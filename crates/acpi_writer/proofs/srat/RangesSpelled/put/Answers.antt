@@ -1,6 +1,6 @@
 use Rattle.std.proofs.Common.{length, sym, arith}
 use Rattle.std.proofs.lemmas.List.Folds.{length-flat_map-take}
-use Rattle.acpi_writer.proofs.Parts.{not_whole}
+use Rattle.acpi_writer.proofs.Sized.{not_whole}
 use Rattle.acpi_writer.specs.Srat.{memory_entry}
 use Rattle.acpi_writer.proofs.srat.RangesSpelled.put.Goals as goal
 

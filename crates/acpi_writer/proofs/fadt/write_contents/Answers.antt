@@ -1,5 +1,0 @@
-use Rattle.acpi_writer.proofs.FadtWritten.{fits_of}
-use Rattle.acpi_writer.proofs.fadt.write_contents.Goals as goal
-
-pub returns-clause-fits : goal.returns-clause-fits
-returns-clause-fits c = fits_of c.write_table.result c.args.contents.now c.args.hardware.now c.registers-registers.result c.registers-registers.ensures c.write_table.ensures.fits
