@@ -1,4 +1,5 @@
--- The tables that an XSDT lists, as they are written, the first of a signature, and what a reader says of them where a lookup finds it.
+-- The tables that an XSDT lists, as they are written, and what a reader says of them where a lookup finds the first of
+-- each signature.
 use Rattle.std.proofs.Common.{◌≡◌, ℕ, ◌+◌, ◌*◌, ◌^◌, ◌<◌, ◌≤◌, Bool, true, false, List, [], ◌∷◌, length, map, Option, Some, None, Ok, refl, sym, ap, subst, if◌then◌else◌, Result, arith, lit≤, length-append}
 use Rattle.std.specs.Prelude.{◌&&◌, IsUtf8, not, slice_get}
 use Rattle.std.specs.List.{AllByRecursion}

@@ -1,4 +1,5 @@
--- What a reader finds in the short tables that are written: an HPET, a BGRT, an MCFG, a SLIT, root tables, and tables of AML.
+-- What a reader finds in the short tables that are written: an HPET, a BGRT, an MCFG, a SLIT, root tables, and tables of
+-- AML.
 use Rattle.std.proofs.Common.{◌≡◌, ℕ, ◌^◌, ◌<◌, Result, Ok, refl, ap, ◌∙◌, arith, ◌+◌, ◌*◌, Bool, true, false, [], ◌∷◌, length, ◌/◌, List, ◌++◌, drop, sym, length-append, get_or, lit<}
 use Rattle.std.specs.Prelude.{◌==◌, if◌then◌else◌, flat_map, Option, Some, slice_get}
 use Rattle.std.specs.Str.{chars, is_utf8}

@@ -10,6 +10,7 @@ ghost use Rattle.acpi_writer.specs.Rsdp.{rsdp_bytes};
 ghost use Rattle.acpi_writer.specs.Table.{Keeps};
 
 use crate::aml::Dsdt;
+use crate::checked::require;
 use crate::contents::{AmlContents, TableContents, rounded};
 use crate::error::WriterError;
 use crate::facs::{FacsContents, facs_bytes};
@@ -137,25 +138,14 @@ fn tree_size<T: Listed>(machine: &Machine<'_, T>) -> Result<usize, WriterError>
     ensures short { IfOk result (λ n. n < 2 ^ 62) }
     ensures fits { IfOk result (λ n. whole.Fit T.fits machine.now) }
 {
-    if !machine.ids.are_texts() {
-        return Err(WriterError::BadName);
-    }
+    require(machine.ids.are_texts(), WriterError::BadName)?;
     let count = machine.tables.len();
-    if count > 0x1ffffffb {
-        return Err(WriterError::TooLong);
-    }
-    let dsdt = match dsdt_size(machine) {
-        Ok(size) => size,
-        Err(error) => return Err(error),
-    };
+    require(count <= 0x1ffffffb, WriterError::TooLong)?;
+    let dsdt = dsdt_size(machine)?;
     machine.ids.fit();
-    match listed_size(&machine.ids, machine.tables) {
-        Ok(listed) => {
-            let facs = facs_room(&machine.facs);
-            Ok(rounded(36 + 8 * count) + dsdt + facs + listed)
-        }
-        Err(error) => Err(error),
-    }
+    let listed = listed_size(&machine.ids, machine.tables)?;
+    let facs = facs_room(&machine.facs);
+    Ok(rounded(36 + 8 * count) + dsdt + facs + listed)
 }
 
 /// How many bytes `write_tables` writes, or the first error but for room and place. `write_tables_without_rsdp` writes

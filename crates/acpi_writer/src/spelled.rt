@@ -21,6 +21,78 @@ pub trait Spelled {
         ensures { out.new ≡ spelled self.now };
 }
 
+/// A way to spell the things of a type.
+pub(crate) trait Way<T> {
+    // The bytes of a thing.
+    ghost bytes: { Self → T → List ℕ };
+
+    // Each of its numbers has a place there.
+    ghost has_place: { Self → T → Type 0 };
+
+    /// How many bytes a thing has, or `None` if these are more than there is room for.
+    fn measure_one(&self, x: &T, room: usize) -> Option<usize>
+        ensures { Measures result room (bytes self.now x.now) (has_place self.now x.now) };
+
+    /// Puts the bytes of a thing in place of all those of a slice that is as long.
+    fn put_one(&self, x: &T, out: &mut [u8])
+        requires { length out.old ≡ length (bytes self.now x.now) }
+        ensures { out.new ≡ bytes self.now x.now };
+}
+
+/// The things of a list, one after the other, spelled in one way.
+#[derive(Clone, Copy)]
+pub(crate) struct EachBy<'a, W, T>(pub(crate) W, pub(crate) &'a [T]);
+
+impl<'a, T, W: Way<T>> Spelled for EachBy<'a, W, T> {
+    ghost spelled = { λ s. flat_map (W.bytes s.0) s.1.now };
+
+    ghost fits = { λ s. All (W.has_place s.0) s.1.now };
+
+    fn measure(&self, room: usize) -> Option<usize> {
+        let xs = self.1;
+        let mut size = 0;
+        for x in xs {
+            match self.0.measure_one(x, room - size) {
+                Some(more) => size += more,
+                None => return None,
+            }
+        }
+        Some(size)
+    }
+
+    fn put(&self, out: &mut [u8]) {
+        let xs = self.1;
+        let mut at = 0;
+        for x in xs {
+            match self.0.measure_one(x, out.len() - at) {
+                Some(size) => {
+                    self.0.put_one(x, &mut out[at..at + size]);
+                    at += size;
+                }
+                None => return,
+            }
+        }
+    }
+}
+
+/// As a thing is spelled itself.
+#[derive(Clone, Copy)]
+struct Itself;
+
+impl<T: Spelled> Way<T> for Itself {
+    ghost bytes = { λ _ x. T.spelled x };
+
+    ghost has_place = { λ _ x. T.fits x };
+
+    fn measure_one(&self, x: &T, room: usize) -> Option<usize> {
+        x.measure(room)
+    }
+
+    fn put_one(&self, x: &T, out: &mut [u8]) {
+        x.put(out);
+    }
+}
+
 /// The things of a list, one after the other.
 #[derive(Clone, Copy)]
 pub struct Each<'a, T>(pub &'a [T]);
@@ -31,29 +103,11 @@ impl<'a, T: Spelled> Spelled for Each<'a, T> {
     ghost fits = { λ s. All T.fits s.0.now };
 
     fn measure(&self, room: usize) -> Option<usize> {
-        let xs = self.0;
-        let mut size = 0;
-        for x in xs {
-            match x.measure(room - size) {
-                Some(more) => size += more,
-                None => return None,
-            }
-        }
-        Some(size)
+        EachBy(Itself, self.0).measure(room)
     }
 
     fn put(&self, out: &mut [u8]) {
-        let xs = self.0;
-        let mut at = 0;
-        for x in xs {
-            match x.measure(out.len() - at) {
-                Some(size) => {
-                    x.put(&mut out[at..at + size]);
-                    at += size;
-                }
-                None => return,
-            }
-        }
+        EachBy(Itself, self.0).put(out);
     }
 }
 

@@ -13,7 +13,7 @@ use crate::checked::{Checked, require};
 use crate::error::WriterError;
 use crate::ids::TableIds;
 use crate::numbers::{bit_of, dword, qword};
-use crate::spelled::{Bytes, Each, Spelled, Then};
+use crate::spelled::{Bytes, Each, EachBy, Spelled, Then, Way};
 use crate::table::{checked_size, write_checked};
 use acpi_base::Signature;
 use acpi_numa::MemoryRange;
@@ -155,40 +155,21 @@ impl Spelled for MemoryRange {
     }
 }
 
-/// The ranges that things of a list stand for, one after the other.
+/// As the range that a thing stands for.
 #[derive(Clone, Copy)]
-struct Ranges<'a, R>(&'a [R]);
+struct AsRange;
 
-impl<'a, R: StandsForRange> Spelled for Ranges<'a, R> {
-    ghost spelled = { λ s. flat_map (λ r. srat.memory_entry (R.range_of r)) s.0.now };
+impl<R: StandsForRange> Way<R> for AsRange {
+    ghost bytes = { λ _ r. srat.memory_entry (R.range_of r) };
 
-    ghost fits = { λ s. All (λ r. laws.FitsRange (R.range_of r)) s.0.now };
+    ghost has_place = { λ _ r. laws.FitsRange (R.range_of r) };
 
-    fn measure(&self, room: usize) -> Option<usize> {
-        let xs = self.0;
-        let mut size = 0;
-        for x in xs {
-            match x.range().measure(room - size) {
-                Some(more) => size += more,
-                None => return None,
-            }
-        }
-        Some(size)
+    fn measure_one(&self, x: &R, room: usize) -> Option<usize> {
+        x.range().measure(room)
     }
 
-    fn put(&self, out: &mut [u8]) {
-        let xs = self.0;
-        let mut at = 0;
-        for x in xs {
-            let range = x.range();
-            match range.measure(out.len() - at) {
-                Some(size) => {
-                    range.put(&mut out[at..at + size]);
-                    at += size;
-                }
-                None => return,
-            }
-        }
+    fn put_one(&self, x: &R, out: &mut [u8]) {
+        x.range().put(out);
     }
 }
 
@@ -223,7 +204,7 @@ fn ranges_fit<R: StandsForRange>(ranges: &[R]) -> bool
 /// All after the header of a SRAT.
 macro_rules! body_of {
     ($contents:expr) => {{
-        let others = Then(Each($contents.giccs), Ranges($contents.ranges));
+        let others = Then(Each($contents.giccs), EachBy(AsRange, $contents.ranges));
         let entries = Then(Each($contents.apics), others);
         // Reserved, of which the first is 1.
         let reserved = Bytes(&[1, 0, 0, 0, 0, 0, 0, 0, 0, 0, 0, 0]);

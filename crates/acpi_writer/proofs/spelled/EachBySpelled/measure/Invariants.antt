@@ -2,10 +2,10 @@ use Rattle.std.proofs.Common.{flat_map, take}
 use Rattle.std.specs.List.{All}
 use Rattle.std.specs.Prelude.{Some}
 use Rattle.acpi_writer.specs.Spelled.{Measures}
-use Rattle.acpi_writer.proofs.spelled.EachSpelled.measure.Given as goal
+use Rattle.acpi_writer.proofs.spelled.EachBySpelled.measure.Given as goal
 
 -- what is measured so far
 abbrev pub invariant-loop-x : goal.invariant-loop-x
 invariant-loop-x g l =
     let before = take l.x-index l.xs in
-    Measures (Some l.size) l.room (flat_map g.T.Spelled.spelled before) (All g.T.Spelled.fits before)
+    Measures (Some l.size) l.room (flat_map (g.W.Way.bytes l.self.0) before) (All (g.W.Way.has_place l.self.0) before)
