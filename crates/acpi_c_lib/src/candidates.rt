@@ -168,7 +168,7 @@ fn tried<H: AcpiHandler>(handler: &H, address: u64) -> Result<(), Option<Range>>
 }
 
 /// Of an RSDP that isn't lent, as many bytes as its Length says, if its 36 bytes are lent.
-#[tactic(auto, unfolding(crate::specs::Missing::candidate_hole))]
+#[tactic(auto, using(crate::proofs::Tried::length_said), unfolding(crate::specs::Missing::candidate_hole))]
 fn length_hole<H: AcpiHandler>(handler: &H, address: u64) -> Option<Range>
     requires { rsdp_at (H.memory handler.now) address ≡ Err MapFailed }
     ensures { result ≡ candidate_hole (H.memory handler.now) address }
