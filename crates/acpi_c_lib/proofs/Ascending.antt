@@ -10,7 +10,7 @@ use Rattle.acpi_base.specs.Memory.{Memory, AreApart, IsMemory, IsRegion, end_of,
 use Rattle.acpi.specs.Regions.{IsAscending}
 use Rattle.acpi_c_lib.specs.Regions.{check_from, check_regions, memory_of, region_of}
 use Rattle.acpi_c_lib.specs.declared.regions.Region.{Region}
-use Rattle.std.specs.Prelude.{slice_get, Option, if◌then◌else◌}
+use Rattle.std.specs.Prelude.{slice_get, Option}
 use Rattle.std.proofs.lemmas.Option.{slice_get-get_or}
 use Rattle.std.specs.List.Sorted.{IsPartitionPoint}
 use Rattle.acpi_c_lib.specs.Located.{LiesOnlyAt, spot_from}

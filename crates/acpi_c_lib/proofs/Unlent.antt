@@ -1,16 +1,15 @@
--- Where opening and what leads to a table are refused because something isn't lent.
-use Rattle.acpi_base.specs.Ranges as ranges
-use Rattle.std.proofs.Common.{◌≡◌, ℕ, ◌≤◌, List, [], ◌∷◌, ◌++◌, Bool, true, false, Option, Some, None, Result, Ok, Err, arith, refl, sym, ap, subst, ◌∙◌, if◌then◌else◌, ◌+◌, length}
-use Rattle.std.specs.Prelude.{◌==◌, Result, Ok, Err}
+-- Where opening and what leads to a table are refused because something isn't lent, and where a table that is lent ends.
+use Rattle.std.proofs.Common.{◌≡◌, ℕ, ◌≤◌, List, [], ◌∷◌, ◌++◌, Bool, true, false, Option, Some, None, Result, Ok, Err, arith, refl, sym, ap, subst, ◌∙◌, if◌then◌else◌, ◌+◌, length, ◌^◌, ◌<◌}
+use Rattle.std.specs.Prelude.{◌==◌}
 use Rattle.std.specs.List.{last_or}
 use Rattle.std.specs.Option.{ok_or, option_map}
 use Rattle.std.specs.Result.{is_ok}
 use Rattle.acpi_base.specs.Bytes.{field_of}
-use Rattle.acpi_base.specs.Header.{check_names, check_table}
-use Rattle.acpi_base.specs.Memory.{Memory, at}
+use Rattle.acpi_base.specs.Header.{check_names, check_table, header_at}
+use Rattle.acpi_base.specs.Memory.{Memory, at, IsMemory, rest_from}
 use Rattle.acpi_base.specs.Ranges.{Ranges}
 use Rattle.acpi_base.specs.Steps.{◌>>=◌, lent}
-use Rattle.acpi_base.specs.Table.{table_at}
+use Rattle.acpi_base.specs.Table.{table_at, Kind, own_table_at, plain_kind}
 use Rattle.acpi_base.specs.declared.error.AcpiError.TheVariants.{MapFailed, NoValidRsdp}
 use Rattle.acpi_base.specs.declared.table.header.SdtHeader.{SdtHeader}
 use Rattle.acpi_base.specs.declared.table.signature.Signature.{Signature}
@@ -27,6 +26,15 @@ use Rattle.acpi_c_lib.specs.Missing.{IsUnlent, OpeningHasHole, candidate_holes, 
 use Rattle.acpi_c_lib.specs.Answers.{Fills, Writes, items_said, put_from, result_map}
 use Rattle.acpi_c_lib.specs.Regions.{memory_in}
 use Rattle.acpi_c_lib.proofs.Written.{two_parts}
+use Rattle.std.specs.Str.{bytes_eq}
+use Rattle.std.proofs.lemmas.Slice.Eq.{bytes_eq-Decides}
+use Rattle.acpi_base.specs.Text.{letters_of}
+use Rattle.std.proofs.lemmas.List.{length-take}
+use Rattle.std.proofs.lemmas.Option.{cond_some}
+use Rattle.acpi_base.proofs.LentRanges.{lent_ends}
+use Rattle.acpi_base.proofs.OwnTable.{passed}
+use Rattle.acpi_base.proofs.Steps.{bind_ok, some_lent}
+use Rattle.acpi_base.specs.Ranges as ranges
 
 -- ---- the checks, which refuse by other errors
 
@@ -192,3 +200,33 @@ pub joined : (s : Source) (m : Memory) (old mid new : List Range) (n : ℕ) (sai
     → said ≡ result_map (λ ys. n + length ys) (missing_in m s (opened_in m s)) → new ≡ put_from mid n (items_said (missing_in m s (opened_in m s))) → Fills said old new (missing_below s)
 joined s m old mid new n said is first count items =
     rw is (by_others old mid new (candidate_holes m s) n said (missing_in m s (opened_in m s)) (no_candidates m s) first count items)
+
+-- ---- a signature is its four bytes, and a table that is lent ends below 2^64
+
+abbrev of_letters : List ℕ → Signature
+of_letters b = record { 0 = b }
+
+pub signature_is : (s : Signature) (b : List ℕ) → letters_of s ≡ b → s ≡ of_letters b
+signature_is s b e = ap of_letters e
+
+-- a signature that compares equal is that signature
+pub same_signature : (s k : Signature) → bytes_eq s.0 k.0 ≡ true → s ≡ k
+same_signature s k h = signature_is s k.0 ((bytes_eq-Decides s.0 k.0).0 h)
+
+lent_short : (m : Memory) (a n : ℕ) (bytes : List ℕ) → lent m a n ≡ Ok bytes → length bytes ≤ n
+unfolding at
+lent_short m a n bytes e =
+    let both = cond_some _ _ _ (some_lent _ _ e) in
+    subst (λ (b : List ℕ). length b ≤ n) both.1 (omega (arith, length-take n (rest_from m a)))
+
+table_ends : (m : Memory) (k : Kind) (p : ℕ) (table : List ℕ) → IsMemory m → 0 < length table → table_at m k p ≡ Ok table → p + length table < 2 ^ 64
+table_ends m k p table h some e =
+    let passes = passed m k p table e in
+    let n = (header_at passes.head).length in
+    lent_ends m p n table h (omega (arith, some, lent_short m p n table passes.whole)) passes.whole
+
+pub own_table_ends : (m : Memory) (p : ℕ) (table : List ℕ) → IsMemory m → 0 < length table → own_table_at m p ≡ Ok table → p + length table < 2 ^ 64
+unfolding own_table_at
+own_table_ends m p table h some e =
+    let head = bind_ok (lent m p 36) _ table e in
+    table_ends m (plain_kind (header_at head.0).signature) p table h some head.2

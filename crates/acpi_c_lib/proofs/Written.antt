@@ -1,12 +1,10 @@
--- Lists that are written, in one part or in two, and how many items entries give at most.
-use Rattle.acpi_arm.specs.Timers as arm
-use Rattle.acpi_c_lib.specs.Records as records
-use Rattle.std.proofs.Common.{◌≡◌, ◌∙◌, ◌+◌, ℕ, List, [], ◌∷◌, ◌++◌, length, length-append, slice_set, ap, sym, arith, drop, zero, suc, map, Some, None, true, refl, add-one, ◌<◌, ◌*◌, ◌≤◌, Bool, false, Option, length-drop, inl, inr}
+-- Lists that are written, in one part or in two, and how many items they have at most.
+use Rattle.std.proofs.Common.{◌≡◌, ◌∙◌, ◌+◌, ℕ, List, [], ◌∷◌, ◌++◌, length, length-append, slice_set, ap, sym, arith, drop, zero, suc, map, Some, None, true, refl, add-one, ◌<◌, ◌*◌, ◌≤◌, Bool, false, Option, length-drop, inl, inr, take}
 use Rattle.std.proofs.lemmas.List.{append-nil, length-map}
 use Rattle.acpi_c_lib.specs.Answers.{Writes, put_from}
-use Rattle.std.specs.Prelude.{nat_lt, ◌==◌, ◌&&◌, ◌||◌, not, nat_le, map, if◌then◌else◌}
+use Rattle.std.specs.Prelude.{nat_lt, ◌==◌, ◌&&◌, ◌||◌, not, nat_le, if◌then◌else◌, filter, Ok}
 use Rattle.acpi.proofs.First.{filter_map_few}
-use Rattle.std.specs.List.{filter_map, concat, AllByRecursion, cons_option}
+use Rattle.std.specs.List.{filter_map, concat, AllByRecursion, cons_option, list_all}
 use Rattle.std.specs.Option.{option_map}
 use Rattle.acpi_base.specs.Model.{processor_in, processors_of}
 use Rattle.acpi_base.specs.declared.model.item.MadtItem.{MadtItem}
@@ -22,6 +20,21 @@ use Rattle.std.proofs.lemmas.Bool.Decides.{nat_tests}
 use Rattle.acpi_arm.specs.Timers.{Timer, frame_count, frames_fit, is_sound, kind_of, sound_front, timer_bytes, timer_count, timer_of, timers_grammar, timers_layout, watchdog_at}
 use Rattle.acpi_arm.specs.declared.frames.GtFrame.{GtFrame}
 use Rattle.acpi_c_lib.specs.ArmTimers.{frame_record, frames_in, frames_of, frames_shown, watchdog_in, watchdogs_shown}
+use Rattle.std.proofs.lemmas.List.Sums.{length-filter, count_by-le-length}
+use Rattle.acpi_base.specs.Steps.{◌>>=◌, holds}
+use Rattle.acpi_iommu.specs.Dmar.{is_range, rmrr_at, structure_size, structures_of}
+use Rattle.acpi_iommu.specs.DmarUnits.{is_reserved_for, reserved_for}
+use Rattle.acpi_iommu.specs.Ivrs.{block_size, blocks_of, ivmd_at}
+use Rattle.acpi_iommu.specs.IvrsUnits.{ends_below, is_memory_for, memory_for}
+use Rattle.acpi_iommu.specs.Pieces.{front, pieces, pieces_within}
+use Rattle.acpi_iommu.specs.declared.dmar.fields.Rmrr.{Rmrr}
+use Rattle.acpi_iommu.specs.declared.dmar.scope.Hop.{Hop}
+use Rattle.acpi_iommu.specs.declared.error.IommuError.TheVariants.{InvalidMemoryRange, InvalidStructureLength}
+use Rattle.acpi_iommu.specs.declared.ivrs.block.Ivmd.{Ivmd}
+use Rattle.acpi_arm.specs.Timers as arm
+use Rattle.acpi_c_lib.specs.Records as records
+use Rattle.acpi_iommu.specs.DmarUnits as dmar
+use Rattle.acpi_iommu.specs.IvrsUnits as ivrs
 
 -- what is written from where the first part ends on is the second part
 pub put_parts : {X : Type 0} (old : List X) (n : ℕ) (xs ys : List X) → put_from old n (xs ++ ys) ≡ put_from (put_from old n xs) (n + length xs) ys
@@ -39,6 +52,10 @@ two_parts old mid new xs ys n k first counted second all = (
 
 pub one_part : {X : Type 0} (old new xs : List X) (n : ℕ) → new ≡ put_from old 0 xs → n ≡ 0 + length xs → Writes n old new (xs ++ [])
 one_part old new xs n first counted = rw (append-nil xs) (omega (arith, counted), first)
+
+-- no more have a record than there are items
+pub found_few : {X Y Z : Type 0} (f : Y → Z) (g : X → Option Y) (xs : List X) → length (map f (filter_map g xs)) ≤ length xs
+found_few f g xs = omega (arith, length-map (filter_map g xs) f, filter_map_few g xs)
 
 -- ---- processors: the first is the boot processor
 
@@ -166,3 +183,44 @@ pub block_written : (old out : List records.GtFrame) (all : List records.GtFrame
 block_written old out all count block frames left more e h =
     let whole = rw e at h in
     sym (put_parts out count (map (frame_record block) frames) (frames_of more)) ∙ whole
+
+-- ---- what tables of IOMMUs reserve
+
+-- ---- pieces
+
+-- what begins the bytes, and what follows it
+abbrev step : List ℕ → (ℕ → List (List ℕ) × List ℕ) → Option ℕ → List (List ℕ) × List ℕ
+step bytes next o = elim o [ Some n ↦ with_entry (take n bytes) (next n) | None ↦ ([], bytes) ]
+
+one_more : (most : ℕ) (bytes : List ℕ) (next : ℕ → List (List ℕ) × List ℕ) (o : Option ℕ) → ((n : ℕ) → length (next n).0 ≤ most) → length (step bytes next o).0 ≤ suc most
+one_more most bytes next None h = omega arith
+one_more most bytes next (Some n) h = omega (arith, h n)
+
+within_few : (size : List ℕ → Option ℕ) (most : ℕ) (bytes : List ℕ) → length (pieces_within size most bytes).0 ≤ most
+within_few size zero bytes = omega arith
+within_few size (suc most) bytes =
+    one_more most bytes (λ n. pieces_within size most (drop n bytes)) (front size bytes) (λ n. within_few size most (drop n bytes))
+
+pieces_few : (size : List ℕ → Option ℕ) (table : List ℕ) → length (pieces size (drop 48 table)).0 ≤ length table
+unfolding pieces
+pieces_few size table = omega (arith, within_few size (length (drop 48 table)) (drop 48 table), length-drop 48 table)
+
+-- ---- ranges
+
+-- what is listed after two checks that hold
+after_two : {A E : Type 0} (a b : Bool) (e f : E) (xs ys : List A) → (holds a e >>= λ _. holds b f >>= λ _. Ok xs) ≡ Ok ys → xs ≡ ys
+after_two true true e f xs ys p = cc
+after_two true false e f xs ys p = absurd cc
+after_two false b e f xs ys p = absurd cc
+
+pub reserved_few : {R : Type 0} (f : Rmrr → R) (table : List ℕ) (segment bus : ℕ) (hops : List Hop) (rs : List Rmrr) → reserved_for table segment bus hops ≡ Ok rs → length (map f rs) ≤ length table
+reserved_few f table segment bus hops rs said =
+    let some = filter (is_reserved_for segment bus hops) (structures_of table) in
+    let same = after_two (dmar.is_whole table) (list_all is_range (map rmrr_at some)) InvalidStructureLength InvalidMemoryRange (map rmrr_at some) rs said in
+    omega (arith, length-map rs f, ap length same, length-map some rmrr_at, length-filter (is_reserved_for segment bus hops) (structures_of table), count_by-le-length (is_reserved_for segment bus hops) (structures_of table), pieces_few structure_size table)
+
+pub memory_few : {R : Type 0} (f : Ivmd → R) (table : List ℕ) (id : ℕ) (ms : List Ivmd) → memory_for table id ≡ Ok ms → length (map f ms) ≤ length table
+memory_few f table id ms said =
+    let some = filter (is_memory_for id) (blocks_of table) in
+    let same = after_two (ivrs.is_whole table) (list_all ends_below (map ivmd_at some)) InvalidStructureLength InvalidMemoryRange (map ivmd_at some) ms said in
+    omega (arith, length-map ms f, ap length same, length-map some ivmd_at, length-filter (is_memory_for id) (blocks_of table), count_by-le-length (is_memory_for id) (blocks_of table), pieces_few block_size table)

@@ -12,6 +12,7 @@ pub mod Fixed
 pub mod Held
 pub mod Iommu
 pub mod IsaList
+pub mod Listed
 pub mod Located
 pub mod Missing
 pub mod Model

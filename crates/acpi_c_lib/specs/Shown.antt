@@ -56,9 +56,13 @@ table_record found = record {
   revision = (header_at found.1).revision;
 }
 
--- the tables of all members that are valid under their own signatures, in order
+-- the table of a member, if it is valid under its own signature
+abbrev pub table_in : Memory → ℕ → Option Table
+table_in m p = result_ok (result_map (λ b. table_record (p, b)) (own_table_at m p))
+
+-- those of all members, in order
 abbrev pub tables_in : Memory → List ℕ → List Table
-tables_in m ps = filter_map (λ p. result_ok (result_map (λ b. table_record (p, b)) (own_table_at m p))) ps
+tables_in m ps = filter_map (table_in m) ps
 
 abbrev pub tables_below : Source → Result (List Table) Refusal
 tables_below s = below_source s (λ m ps. Ok (tables_in m ps))

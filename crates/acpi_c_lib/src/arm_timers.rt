@@ -1,19 +1,19 @@
 //! The generic timers of an Arm machine, by the GTDT.
-ghost use Rattle.std.specs.Prelude.{◌≡◌, ◌+◌, ◌^◌, ◌<◌, length, map, nat_lt};
-ghost use Rattle.acpi_arm.specs.Timers.{frames_left, missing_left};
-ghost use Rattle.acpi_c_lib.specs.Answers.{Fills, Writes, put_from};
+ghost use Rattle.std.specs.Prelude.{◌≡◌, nat_lt};
+ghost use Rattle.acpi_arm.specs.Timers.{missing_left};
+ghost use Rattle.acpi_c_lib.specs.Answers.{Fills, Writes};
 ghost use Rattle.acpi_c_lib.specs.ArmTimers as timers;
 ghost use Rattle.acpi_c_lib.specs.ArmTimers.{frames_shown, gtdt_below, timers_shown, watchdogs_shown};
 
 use crate::arm_records as records;
 use crate::arm_records::{ArmTimers, Watchdog};
-use crate::lists::put;
+use crate::lists::{Listing, fill, fill_from};
 use crate::opening::first;
 use crate::records::Source;
 use crate::refusal::Refusal;
 use crate::regions::Mapped;
 use acpi_arm::gtdt::{
-    ArmTimer, GtBlock, GtFrame, Gtdt, GtdtCalls, PlatformTimer, PlatformTimerIter, SbsaWatchdog,
+    ArmTimer, GtFrame, GtFrameIter, Gtdt, GtdtCalls, PlatformTimer, PlatformTimerIter,
 };
 
 /// The timers of every processor, as the first valid GTDT has them.
@@ -102,46 +102,41 @@ fn fill_frames(table: &[u8], out: &mut [records::GtFrame]) -> usize
     let mut count = 0;
     for timer in PlatformTimerIter::over(table) {
         if let PlatformTimer::GtBlock(block) = timer {
-            count = fill_block(block, out, count);
+            count = fill_from(block.frames, &block.address, out, count);
         }
     }
     count
 }
 
-/// The frames of a block, from an index on, and the index after them.
-fn fill_block(block: GtBlock<'_>, out: &mut [records::GtFrame], first: usize) -> usize
-    requires { first + length (frames_left block.frames) < 2 ^ 64 }
-    ensures count { result ≡ first
-        + length (map (timers.frame_record block.entry.address) (frames_left block.entry.frames)) }
-    ensures items { out.new ≡ put_from out.old first
-        (map (timers.frame_record block.entry.address) (frames_left block.entry.frames)) }
-{
-    let address = block.address;
-    let mut count = first;
-    for frame in block.frames {
-        put(out, count, frame_record(address, &frame));
-        count += 1;
-    }
-    count
-}
+impl Listing<u64, records::GtFrame> for GtFrameIter<'_> {
+    ghost use Rattle.std.specs.Prelude.{Some, map};
+    ghost use Rattle.acpi_arm.specs.Timers.{frames_left};
+    ghost use Rattle.acpi_c_lib.specs.ArmTimers.{frame_record};
+    ghost use Rattle.acpi_c_lib.specs.Listed.{lists_each};
 
-/// A frame of the block at an address.
-fn frame_record(block: u64, frame: &GtFrame) -> records::GtFrame
-    ensures { result ≡ timers.frame_record block frame.now }
-{
-    records::GtFrame {
-        block_address: block,
-        address: frame.base,
-        el0_address: or_ones(frame.el0_base),
-        physical_interrupt: frame.physical_timer.interrupt,
-        virtual_interrupt: frame.virtual_timer.interrupt,
-        number: frame.number,
-        physical_polarity: frame.physical_timer.polarity.code(),
-        physical_trigger: frame.physical_timer.trigger_mode.code(),
-        virtual_polarity: frame.virtual_timer.polarity.code(),
-        virtual_trigger: frame.virtual_timer.trigger_mode.code(),
-        is_secure: frame.is_secure as u8,
-        is_always_on: frame.is_always_on as u8,
+    ghost record_of = { λ block f. Some (frame_record block f) };
+
+    ghost left = { λ block s. map (frame_record block) (frames_left s) };
+
+    ghost gives_first = { λ block. lists_each (frame_record block) (λ s. frames_left s) };
+
+    fn record(block: &u64, frame: GtFrame) -> Option<records::GtFrame>
+        ensures { result ≡ Some (frame_record block.now frame) }
+    {
+        Some(records::GtFrame {
+            block_address: *block,
+            address: frame.base,
+            el0_address: or_ones(frame.el0_base),
+            physical_interrupt: frame.physical_timer.interrupt,
+            virtual_interrupt: frame.virtual_timer.interrupt,
+            number: frame.number,
+            physical_polarity: frame.physical_timer.polarity.code(),
+            physical_trigger: frame.physical_timer.trigger_mode.code(),
+            virtual_polarity: frame.virtual_timer.polarity.code(),
+            virtual_trigger: frame.virtual_timer.trigger_mode.code(),
+            is_secure: frame.is_secure as u8,
+            is_always_on: frame.is_always_on as u8,
+        })
     }
 }
 
@@ -159,25 +154,33 @@ pub fn watchdogs(source: &Source<'_>, out: &mut [Watchdog]) -> Result<usize, Ref
 fn fill_watchdogs(table: &[u8], out: &mut [Watchdog]) -> usize
     ensures { Writes result out.old out.new (watchdogs_shown table.now) }
 {
-    let mut count = 0;
-    for timer in PlatformTimerIter::over(table) {
-        if let PlatformTimer::SbsaWatchdog(watchdog) = timer {
-            put(out, count, watchdog_record(&watchdog));
-            count += 1;
-        }
-    }
-    count
+    fill(PlatformTimerIter::over(table), &(), out)
 }
 
-fn watchdog_record(watchdog: &SbsaWatchdog) -> Watchdog
-    ensures { result ≡ timers.watchdog_record watchdog.now }
-{
-    Watchdog {
-        refresh_frame: watchdog.refresh_frame,
-        control_frame: watchdog.control_frame,
-        interrupt: watchdog.interrupt,
-        polarity: watchdog.polarity.code(),
-        trigger: watchdog.trigger_mode.code(),
-        is_secure: watchdog.is_secure as u8,
+impl Listing<(), Watchdog> for PlatformTimerIter<'_> {
+    ghost use Rattle.std.specs.Prelude.{refl};
+    ghost use Rattle.acpi_arm.specs.Timers.{shown_in, timers_left};
+    ghost use Rattle.acpi_c_lib.specs.ArmTimers.{watchdog_in, watchdogs_of};
+    ghost use Rattle.acpi_c_lib.specs.Listed.{lists_by};
+
+    ghost record_of = { λ known x. watchdog_in (shown_in x) };
+
+    ghost left = { λ known s. watchdogs_of (timers_left s) };
+
+    ghost gives_first = { λ known s item t given. lists_by shown_in watchdog_in watchdogs_of (λ x. timers_left x)
+        refl (λ x xs. refl) s item t given.0 };
+
+    fn record(_known: &(), timer: PlatformTimer<'_>) -> Option<Watchdog> {
+        match timer {
+            PlatformTimer::SbsaWatchdog(watchdog) => Some(Watchdog {
+                refresh_frame: watchdog.refresh_frame,
+                control_frame: watchdog.control_frame,
+                interrupt: watchdog.interrupt,
+                polarity: watchdog.polarity.code(),
+                trigger: watchdog.trigger_mode.code(),
+                is_secure: watchdog.is_secure as u8,
+            }),
+            PlatformTimer::GtBlock(_) => None,
+        }
     }
 }

@@ -63,7 +63,7 @@ fn fill_faults<H: AcpiHandler>(
 }
 
 /// Whether a lookup of a signature takes the table at an address, or why it passes it over.
-#[tactic(auto, using(crate::proofs::Sdt::same_signature), unfolding(crate::specs::Faults::least_named))]
+#[tactic(auto, using(crate::proofs::Unlent::same_signature), unfolding(crate::specs::Faults::least_named))]
 fn looked_at<H: AcpiHandler>(handler: &H, address: u64, signature: Signature) -> AcpiResult<()>
     ensures { result ≡ result_map (λ _. tt) (table_at (H.memory handler.now) (kind_named signature) address) }
 {

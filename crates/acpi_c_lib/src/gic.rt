@@ -10,7 +10,7 @@ ghost use Rattle.acpi_c_lib.specs.Regions.{memory_in};
 ghost use Rattle.acpi_c_lib.specs.Arm.{below_gic, distributor_shown, known_gic, cpu_interface_record, cpu_interfaces_shown, msi_frame_record, msi_frames_shown, redistributors_record, redistributors_shown, translation_service_record, translation_services_shown};
 
 use crate::arm_records as records;
-use crate::lists::put;
+use crate::lists::{Listing, fill};
 use crate::opening::first;
 use crate::records::{Range, Source};
 use crate::refusal::Refusal;
@@ -22,7 +22,7 @@ use acpi_arm::gic::{
     GicTranslationService, distributor_of,
 };
 use acpi_base::bytes::field;
-use acpi_base::madt::MadtEntryIter;
+use acpi_base::madt::{MadtEntry, MadtEntryIter};
 
 /// A MADT that describes a GIC, and the GIC's distributor.
 #[derive(Drop)]
@@ -96,19 +96,36 @@ pub fn parts<R: GicRecord>(source: &Source<'_>, out: &mut [R]) -> Result<usize, 
     Ok(fill_parts(found.madt.bytes(), out))
 }
 
+#[tactic(auto, using(crate::proofs::Written::found_few))]
 fn fill_parts<R: GicRecord>(table: &[u8], out: &mut [R]) -> usize
     ensures { Writes result out.old out.new (map R.record_of (items_of R.Part.said_in table.now)) }
 {
     let revision = field(table, 8, 1) as u8;
-    let mut count = 0;
-    let mut entries = MadtEntryIter::over(table);
-    while let Some(entry) = entries.next() {
-        if let Some(part) = <R::Part as GicPart>::said(&entry, revision) {
-            put(out, count, R::of(&part));
-            count += 1;
+    fill(MadtEntryIter::over(table), &revision, out)
+}
+
+impl<R: GicRecord> Listing<u8, R> for MadtEntryIter<'_> {
+    ghost use Rattle.std.specs.Prelude.{map};
+    ghost use Rattle.std.specs.List.{filter_map};
+    ghost use Rattle.std.specs.Option.{option_map};
+    ghost use Rattle.acpi_base.specs.MadtWalk.{entries_left};
+    ghost use Rattle.acpi_c_lib.specs.Listed.{lists_found};
+
+    ghost record_of = { λ revision x. option_map R.record_of (R.Part.said_in revision x) };
+
+    ghost left = { λ revision s. map R.record_of (filter_map (R.Part.said_in revision) (entries_left s)) };
+
+    ghost gives_first = { λ revision s item t given.
+        lists_found R.record_of (R.Part.said_in revision) (λ x. entries_left x) s item t given.0 };
+
+    fn record(revision: &u8, entry: MadtEntry) -> Option<R>
+        ensures { result ≡ option_map R.record_of (R.Part.said_in revision.now entry) }
+    {
+        match <R::Part as GicPart>::said(&entry, *revision) {
+            Some(part) => Some(R::of(&part)),
+            None => None,
         }
     }
-    count
 }
 
 impl GicRecord for records::GicCpuInterface {

@@ -16,7 +16,7 @@ ghost use Rattle.acpi_c_lib.specs.Regions.{memory_in};
 ghost use Rattle.acpi_c_lib.specs.Routes.{below_apics, known_apics, known_platform};
 
 use crate::interrupt_records as records;
-use crate::lists::put;
+use crate::lists::{Listing, fill};
 use crate::opening::open;
 use crate::records::Source;
 use crate::refusal::Refusal;
@@ -149,18 +149,32 @@ pub fn entries<R: MadtRecord>(source: &Source<'_>, out: &mut [R]) -> Result<usiz
     Ok(fill_entries(items_of(&found.madt), out))
 }
 
+#[tactic(auto, using(crate::proofs::Written::found_few))]
 fn fill_entries<R: MadtRecord>(items: MadtItems<'_>, out: &mut [R]) -> usize
     requires { length (items_left items) < 2 ^ 63 }
     ensures { Writes result out.old out.new (map R.record_of (filter_map R.part_in (items_left items.entry))) }
 {
-    let mut count = 0;
-    for item in items {
-        if let Some(record) = R::said(item) {
-            put(out, count, record);
-            count += 1;
-        }
+    fill(items, &(), out)
+}
+
+impl<R: MadtRecord> Listing<(), R> for MadtItems<'_> {
+    ghost use Rattle.std.specs.Prelude.{map};
+    ghost use Rattle.std.specs.List.{filter_map};
+    ghost use Rattle.std.specs.Option.{option_map};
+    ghost use Rattle.acpi_base.specs.Items.{items_left};
+    ghost use Rattle.acpi_c_lib.specs.Listed.{lists_found};
+
+    ghost record_of = { λ known x. option_map R.record_of (R.part_in x) };
+
+    ghost left = { λ known s. map R.record_of (filter_map R.part_in (items_left s)) };
+
+    ghost gives_first = { λ known. lists_found R.record_of R.part_in (λ s. items_left s) };
+
+    fn record(_known: &(), item: MadtItem) -> Option<R>
+        ensures { result ≡ option_map R.record_of (R.part_in item) }
+    {
+        R::said(item)
     }
-    count
 }
 
 impl MadtRecord for records::IoApic {

@@ -9,22 +9,26 @@ ghost use Rattle.acpi_c_lib.specs.Iommu.{dmar_unit_below, ivrs_memory_below, ivr
 use crate::iommu_records::{
     DmarReserved, DmarSource, DmarUnit, Hop, IvrsDevice, IvrsMemory, IvrsUnit,
 };
-use crate::lists::{Shown, Walk, fill};
+use crate::lists::{Listing, fill};
 use crate::opening::first;
 use crate::records::Source;
 use crate::refusal::Refusal;
 use crate::regions::Mapped;
 use acpi_iommu::{
-    DeviceUnit, Dmar, DmarCalls, DmarUnits, Drhd, IommuError, IommuResult, Ivhd, Ivmd, Ivrs,
-    IvrsBlocks, IvrsCalls, MemoryIter, ReservedIter, Rmrr, UnitSource,
+    Dmar, DmarCalls, DmarUnits, Drhd, IommuError, Ivhd, Ivmd, Ivrs, IvrsBlocks, IvrsCalls,
+    MemoryIter, ReservedIter, Rmrr, UnitSource,
 };
 
-fn refusal(error: IommuError) -> Refusal
-    ensures { result ≡ iommu.iommu_refusal error }
-{
-    match error {
-        IommuError::InvalidStructureLength => Refusal::InvalidIommuStructureLength,
-        IommuError::InvalidMemoryRange => Refusal::InvalidIommuMemoryRange,
+impl From<IommuError> for Refusal {
+    ghost use Rattle.acpi_c_lib.specs.Iommu.{iommu_refusal};
+
+    ghost from_gives = { λ error e. e ≡ iommu_refusal error };
+
+    fn from(error: IommuError) -> Refusal {
+        match error {
+            IommuError::InvalidStructureLength => Refusal::InvalidIommuStructureLength,
+            IommuError::InvalidMemoryRange => Refusal::InvalidIommuMemoryRange,
+        }
     }
 }
 
@@ -42,7 +46,8 @@ pub fn dmar_unit(
 {
     let memory = Mapped::new(source.regions);
     let dmar = first::<Dmar>(&memory, source)?;
-    found_unit(dmar.unit_for(segment, bus, hops))
+    let unit = dmar.unit_for(segment, bus, hops)?.ok_or(Refusal::NoIommu)?;
+    Ok(unit_record(&unit))
 }
 
 /// The unit that remaps the interrupts of an I/O APIC, by the first valid DMAR (section 8.3.1).
@@ -51,7 +56,8 @@ pub fn dmar_io_apic(source: &Source<'_>, id: u8) -> Result<DmarSource, Refusal>
 {
     let memory = Mapped::new(source.regions);
     let dmar = first::<Dmar>(&memory, source)?;
-    found_source(dmar.unit_of_io_apic(id))
+    let found = dmar.unit_of_io_apic(id)?.ok_or(Refusal::NoIommu)?;
+    Ok(source_record(&found))
 }
 
 /// The unit that remaps the interrupts of an HPET, by the first valid DMAR (section 8.3.1).
@@ -60,27 +66,8 @@ pub fn dmar_hpet(source: &Source<'_>, number: u8) -> Result<DmarSource, Refusal>
 {
     let memory = Mapped::new(source.regions);
     let dmar = first::<Dmar>(&memory, source)?;
-    found_source(dmar.unit_of_hpet(number))
-}
-
-fn found_unit(said: IommuResult<Option<Drhd>>) -> Result<DmarUnit, Refusal>
-    ensures { result ≡ iommu.found iommu.unit_record said }
-{
-    match said {
-        Ok(Some(unit)) => Ok(unit_record(&unit)),
-        Ok(None) => Err(Refusal::NoIommu),
-        Err(error) => Err(refusal(error)),
-    }
-}
-
-fn found_source(said: IommuResult<Option<UnitSource>>) -> Result<DmarSource, Refusal>
-    ensures { result ≡ iommu.found iommu.source_record said }
-{
-    match said {
-        Ok(Some(found)) => Ok(source_record(&found)),
-        Ok(None) => Err(Refusal::NoIommu),
-        Err(error) => Err(refusal(error)),
-    }
+    let found = dmar.unit_of_hpet(number)?.ok_or(Refusal::NoIommu)?;
+    Ok(source_record(&found))
 }
 
 fn unit_record(unit: &Drhd) -> DmarUnit
@@ -138,31 +125,30 @@ fn fill_reserved(
 ) -> Result<usize, Refusal>
     ensures { Fills result out.old out.new (dmar_reserved_in table.now segment bus hops.now) }
 {
-    match DmarUnits::over(table).reserved_for(segment, bus, hops) {
-        Ok(ranges) => Ok(fill(ranges, out)),
-        Err(error) => Err(refusal(error)),
-    }
+    let ranges = DmarUnits::over(table).reserved_for(segment, bus, hops)?;
+    Ok(fill(ranges, &(), out))
 }
 
-impl Walk for ReservedIter<'_, '_> {
+impl Listing<(), DmarReserved> for ReservedIter<'_, '_> {
+    ghost use Rattle.std.specs.Prelude.{Some, map};
     ghost use Rattle.acpi_iommu.specs.DmarUnits.{reserved_left};
-
-    ghost left = { λ s. reserved_left s };
-
-    ghost gives_first = { λ s item t given. given };
-}
-
-impl Shown<DmarReserved> for Rmrr {
     ghost use Rattle.acpi_c_lib.specs.Iommu.{reserved_record};
+    ghost use Rattle.acpi_c_lib.specs.Listed.{lists_each};
 
-    ghost record_of = { reserved_record };
+    ghost record_of = { λ known x. Some (reserved_record x) };
 
-    fn record(self) -> DmarReserved {
-        DmarReserved {
-            base: self.base,
-            limit: self.limit,
-            segment: self.segment,
-        }
+    ghost left = { λ known s. map reserved_record (reserved_left s) };
+
+    ghost gives_first = { λ known. lists_each reserved_record (λ s. reserved_left s) };
+
+    fn record(_known: &(), range: Rmrr) -> Option<DmarReserved>
+        ensures { result ≡ Some (reserved_record range) }
+    {
+        Some(DmarReserved {
+            base: range.base,
+            limit: range.limit,
+            segment: range.segment,
+        })
     }
 }
 
@@ -174,21 +160,12 @@ pub fn ivrs_unit(source: &Source<'_>, segment: u16, device_id: u16) -> Result<Iv
 {
     let memory = Mapped::new(source.regions);
     let ivrs = first::<Ivrs>(&memory, source)?;
-    found_device(ivrs.block_for(segment, device_id))
-}
-
-fn found_device(said: IommuResult<Option<DeviceUnit>>) -> Result<IvrsDevice, Refusal>
-    ensures { result ≡ iommu.found iommu.device_record said }
-{
-    match said {
-        Ok(Some(found)) => Ok(IvrsDevice {
-            unit: block_record(&found.unit),
-            source_id: found.source,
-            settings: found.settings,
-        }),
-        Ok(None) => Err(Refusal::NoIommu),
-        Err(error) => Err(refusal(error)),
-    }
+    let found = ivrs.block_for(segment, device_id)?.ok_or(Refusal::NoIommu)?;
+    Ok(IvrsDevice {
+        unit: block_record(&found.unit),
+        source_id: found.source,
+        settings: found.settings,
+    })
 }
 
 fn block_record(block: &Ivhd) -> IvrsUnit
@@ -229,33 +206,32 @@ pub fn ivrs_memory(
 fn fill_memory(table: &[u8], device_id: u16, out: &mut [IvrsMemory]) -> Result<usize, Refusal>
     ensures { Fills result out.old out.new (ivrs_memory_in table.now device_id) }
 {
-    match IvrsBlocks::over(table).memory_for(device_id) {
-        Ok(ranges) => Ok(fill(ranges, out)),
-        Err(error) => Err(refusal(error)),
-    }
+    let ranges = IvrsBlocks::over(table).memory_for(device_id)?;
+    Ok(fill(ranges, &(), out))
 }
 
-impl Walk for MemoryIter<'_> {
+impl Listing<(), IvrsMemory> for MemoryIter<'_> {
+    ghost use Rattle.std.specs.Prelude.{Some, map};
     ghost use Rattle.acpi_iommu.specs.IvrsUnits.{memory_left};
-
-    ghost left = { λ s. memory_left s };
-
-    ghost gives_first = { λ s item t given. given };
-}
-
-impl Shown<IvrsMemory> for Ivmd {
     ghost use Rattle.acpi_c_lib.specs.Iommu.{memory_record};
+    ghost use Rattle.acpi_c_lib.specs.Listed.{lists_each};
 
-    ghost record_of = { memory_record };
+    ghost record_of = { λ known x. Some (memory_record x) };
 
-    fn record(self) -> IvrsMemory {
-        IvrsMemory {
-            start: self.start,
-            length: self.length,
-            device_id: self.device_id,
-            auxiliary: self.auxiliary,
-            block_type: self.kind,
-            flags: self.flags,
-        }
+    ghost left = { λ known s. map memory_record (memory_left s) };
+
+    ghost gives_first = { λ known. lists_each memory_record (λ s. memory_left s) };
+
+    fn record(_known: &(), range: Ivmd) -> Option<IvrsMemory>
+        ensures { result ≡ Some (memory_record range) }
+    {
+        Some(IvrsMemory {
+            start: range.start,
+            length: range.length,
+            device_id: range.device_id,
+            auxiliary: range.auxiliary,
+            block_type: range.kind,
+            flags: range.flags,
+        })
     }
 }

@@ -1,7 +1,7 @@
 //! How a list is written for C: as many records as there is room for are written, and all of them are counted.
-ghost use Rattle.std.specs.Prelude.{◌≡◌, ◌^◌, ◌<◌, length, map, slice_set};
+ghost use Rattle.std.specs.Prelude.{◌≡◌, ◌+◌, ◌^◌, ◌<◌, length, slice_set};
 ghost use Rattle.std.specs.Iterator.{IsFinite};
-ghost use Rattle.acpi_c_lib.specs.Answers.{Writes};
+ghost use Rattle.acpi_c_lib.specs.Answers.{Writes, put_from};
 
 /// Writes an item at an index, if there is room.
 pub(crate) fn put<T: Copy>(out: &mut [T], index: usize, item: T)
@@ -12,43 +12,53 @@ pub(crate) fn put<T: Copy>(out: &mut [T], index: usize, item: T)
     }
 }
 
-/// An item of the library's, of which C gets a record.
-pub(crate) trait Shown<R>: Copy {
-    ghost use Rattle.std.specs.Prelude.{◌≡◌};
+/// A walk along items of the library's, some of which have a record for C, by what else is to be known.
+pub(crate) trait Listing<C, R>: Iterator {
+    ghost use Rattle.std.specs.Prelude.{◌≡◌, List, Option};
+    ghost use Rattle.acpi_c_lib.specs.Listed.{ListsFirst};
 
-    // The record.
-    ghost record_of: { Self → R };
+    // The record of an item, if it has one.
+    ghost record_of: { C → Self.Item → Option R };
 
-    /// The record that C gets of it.
-    fn record(self) -> R
-        ensures { result ≡ record_of self };
+    // The records that are left.
+    ghost left: { C → Self → List R };
+
+    /// The record of an item, if it has one.
+    fn record(known: &C, item: Self::Item) -> Option<R>
+        ensures { result ≡ record_of known.now item };
+
+    // Each call gives the item of the first of them, or one that has none.
+    ghost gives_first: { (known : C) (s : Self) (item : Option Self.Item) (t : Self) → Self.next_gives s item t
+        → ListsFirst (record_of known) (left known) s item t };
 }
 
-/// A walk of the library's.
-pub(crate) trait Walk: Iterator {
-    ghost use Rattle.std.specs.Prelude.{List, Option};
-    ghost use Rattle.std.specs.Iterator.{YieldsFirst};
-
-    // The items that are left.
-    ghost left: { Self → List Self.Item };
-
-    // Each call gives the first of them.
-    ghost gives_first: { (s : Self) (item : Option Self.Item) (t : Self) → Self.next_gives s item t
-        → YieldsFirst left s item t };
+/// Writes the records of what a walk gives from an index on, and says where the next would stand.
+pub(crate) fn fill_from<R: Copy, C, W: Listing<C, R>>(
+    walk: W,
+    known: &C,
+    out: &mut [R],
+    from: usize,
+) -> usize
+    requires goes_on { W.can_next walk × IsFinite (W.remaining walk) }
+    requires few { from + length (W.left known.now walk) < 2 ^ 64 }
+    ensures count { result ≡ from + length (W.left known.now walk) }
+    ensures items { out.new ≡ put_from out.old from (W.left known.now walk) }
+{
+    let mut count = from;
+    for item in walk {
+        if let Some(record) = W::record(known, item) {
+            put(out, count, record);
+            count += 1;
+        }
+    }
+    count
 }
 
 /// Writes the records of what a walk gives, and counts them.
-pub(crate) fn fill<R: Copy, W: Walk>(walk: W, out: &mut [R]) -> usize
-where
-    W::Item: Shown<R>,
+pub(crate) fn fill<R: Copy, C, W: Listing<C, R>>(walk: W, known: &C, out: &mut [R]) -> usize
     requires goes_on { W.can_next walk × IsFinite (W.remaining walk) }
-    requires few { length (W.left walk) < 2 ^ 63 }
-    ensures { Writes result out.old out.new (map W.Item.record_of (W.left walk)) }
+    requires few { length (W.left known.now walk) < 2 ^ 63 }
+    ensures { Writes result out.old out.new (W.left known.now walk) }
 {
-    let mut count = 0;
-    for item in walk {
-        put(out, count, item.record());
-        count += 1;
-    }
-    count
+    fill_from(walk, known, out, 0)
 }

@@ -21,7 +21,7 @@ ghost use Rattle.acpi_c_lib.specs.Missing.{opened_as_lent_ranges, opening_ranges
 ghost use Rattle.acpi_c_lib.specs.declared.refusal.Refusal.TheVariants.{Acpi};
 
 use crate::candidates::candidate_holes;
-use crate::lists::put;
+use crate::lists::{Listing, fill_from, put};
 use crate::opening::{ebda, open};
 use crate::records::{Range, Source};
 use crate::refusal::Refusal;
@@ -72,6 +72,7 @@ fn others<H: AcpiHandler>(
 
 /// Writes where the members are refused that aren't lent, and then a pair of ranges, from an index on, and says where the
 /// next would stand.
+#[tactic(auto, using(acpi::proofs::First::filter_map_few, crate::proofs::Written::put_parts))]
 fn fill<H: AcpiHandler>(
     handler: &H,
     addresses: Pointers<'_>,
@@ -86,14 +87,31 @@ fn fill<H: AcpiHandler>(
     ensures items { out.new ≡ put_from out.old from (filter_map (member_hole (H.memory handler.now))
         (pointers_left addresses.entry) ++ cons_option others.0 (cons_option others.1 [])) }
 {
-    let mut count = from;
-    for address in addresses {
-        if let Some(range) = member_hole(handler, address) {
-            put(out, count, range);
-            count += 1;
+    let count = fill_from(addresses, handler, out, from);
+    put_pair(others, out, count)
+}
+
+impl<H: AcpiHandler> Listing<H, Range> for Pointers<'_> {
+    ghost use Rattle.std.specs.List.{filter_map};
+    ghost use Rattle.acpi.specs.Pointers.{pointers_left};
+    ghost use Rattle.acpi_c_lib.specs.Listed.{lists_some};
+    ghost use Rattle.acpi_c_lib.specs.Missing.{member_hole};
+
+    ghost record_of = { λ handler p. member_hole (H.memory handler) p };
+
+    ghost left = { λ handler s. filter_map (member_hole (H.memory handler)) (pointers_left s) };
+
+    ghost gives_first = { λ handler. lists_some (member_hole (H.memory handler)) (λ s. pointers_left s) };
+
+    /// Where a member of the root table is refused, if that is because it isn't lent.
+    fn record(handler: &H, address: u64) -> Option<Range>
+        ensures { result ≡ member_hole (H.memory handler.now) address }
+    {
+        match map_own_sdt(handler, address) {
+            Err(AcpiError::MapFailed) => Some(table_hole(handler, address)),
+            _ => None,
         }
     }
-    put_pair(others, out, count)
 }
 
 /// Writes those of a pair that are there from an index on, and says where the next would stand.
@@ -149,16 +167,6 @@ fn table_hole<H: AcpiHandler>(handler: &H, address: u64) -> Range
     match PhysicalMapping::<'_, H, SdtHeader>::map(handler, address, 36) {
         Ok(head) => range(address, head.length),
         Err(_) => range(address, 36),
-    }
-}
-
-/// Where a member of the root table is refused, if that is because it isn't lent.
-fn member_hole<H: AcpiHandler>(handler: &H, address: u64) -> Option<Range>
-    ensures { result ≡ member_hole (H.memory handler.now) address }
-{
-    match map_own_sdt(handler, address) {
-        Err(AcpiError::MapFailed) => Some(table_hole(handler, address)),
-        _ => None,
     }
 }
 

@@ -5,14 +5,14 @@ ghost use Rattle.acpi_c_lib.specs.Answers.{Fills, GivesSome, Writes};
 ghost use Rattle.acpi_c_lib.specs.Numa.{IsLocalities, affinities_below, affinity_record, distance_below, slit_in};
 ghost use Rattle.acpi_c_lib.specs.Numa.{domain_of_address_below, domain_of_apic_below, domain_of_processor_below};
 
-use crate::lists::put;
+use crate::lists::{Listing, fill};
 use crate::numa_records::{Localities, MemoryAffinity};
 use crate::opening::first;
 use crate::records::Source;
 use crate::refusal::Refusal;
 use crate::regions::Mapped;
-use acpi_numa::srat::affinities_count;
-use acpi_numa::{Domains, MemoryRange, NumaError, Slit, SlitCalls, Srat, SratCalls};
+use acpi_numa::srat::{SratEntry, SratEntryIter, affinities_count};
+use acpi_numa::{Domains, NumaError, Slit, SlitCalls, Srat, SratCalls};
 
 impl From<NumaError> for Refusal {
     ghost use Rattle.acpi_c_lib.specs.Numa.{numa_refusal};
@@ -39,30 +39,40 @@ pub fn affinities(source: &Source<'_>, out: &mut [MemoryAffinity]) -> Result<usi
 }
 
 /// The ranges in a SRAT's bytes.
-#[tactic(auto, using(acpi_numa::proofs::Affinities::ranges_few))]
+#[tactic(auto, using(crate::proofs::Written::found_few))]
 fn fill_affinities(table: &[u8], out: &mut [MemoryAffinity]) -> usize
     ensures { Writes result out.old out.new (map affinity_record (ranges_of table.now)) }
 {
-    let mut count = 0;
-    let mut entries = Domains::over(table).entries();
-    while let Some(entry) = entries.next() {
-        if let Some(range) = entry.memory_range() {
-            put(out, count, affinity_record(&range));
-            count += 1;
-        }
-    }
-    count
+    fill(Domains::over(table).entries(), &(), out)
 }
 
-fn affinity_record(range: &MemoryRange) -> MemoryAffinity
-    ensures { result ≡ affinity_record range.now }
-{
-    MemoryAffinity {
-        address: range.base,
-        length: range.length,
-        domain: range.domain,
-        is_hot_pluggable: range.is_hot_pluggable as u8,
-        is_non_volatile: range.is_non_volatile as u8,
+impl Listing<(), MemoryAffinity> for SratEntryIter<'_> {
+    ghost use Rattle.std.specs.Prelude.{map};
+    ghost use Rattle.std.specs.List.{filter_map};
+    ghost use Rattle.std.specs.Option.{option_map};
+    ghost use Rattle.acpi_numa.specs.Affinities.{range_in};
+    ghost use Rattle.acpi_numa.specs.SratWalk.{entries_left};
+    ghost use Rattle.acpi_c_lib.specs.Listed.{lists_found};
+    ghost use Rattle.acpi_c_lib.specs.Numa.{affinity_record};
+
+    ghost record_of = { λ known x. option_map affinity_record (range_in x) };
+
+    ghost left = { λ known s. map affinity_record (filter_map range_in (entries_left s)) };
+
+    ghost gives_first = { λ known s item t given.
+        lists_found affinity_record range_in (λ x. entries_left x) s item t given.0 };
+
+    fn record(_known: &(), entry: SratEntry) -> Option<MemoryAffinity>
+        ensures { result ≡ option_map affinity_record (range_in entry) }
+    {
+        let range = entry.memory_range()?;
+        Some(MemoryAffinity {
+            address: range.base,
+            length: range.length,
+            domain: range.domain,
+            is_hot_pluggable: range.is_hot_pluggable as u8,
+            is_non_volatile: range.is_non_volatile as u8,
+        })
     }
 }
 

@@ -7,7 +7,7 @@ ghost use Rattle.acpi_c_lib.specs.Answers.{Fills};
 ghost use Rattle.acpi_c_lib.specs.Shown.{ecam_below, ecam_ranges_below, pci_regions_below, span_record};
 
 use crate::fixed_records::EcamRange;
-use crate::lists::{Shown, Walk, fill};
+use crate::lists::{Listing, fill};
 use crate::opening::first;
 use crate::records::{PciRegion, Source};
 use crate::refusal::Refusal;
@@ -21,29 +21,30 @@ pub fn pci_regions(source: &Source<'_>, out: &mut [PciRegion]) -> Result<usize, 
 {
     let memory = Mapped::new(source.regions);
     let mcfg = first::<Mcfg>(&memory, source)?;
-    Ok(fill(mcfg.entries(), out))
+    Ok(fill(mcfg.entries(), &(), out))
 }
 
-impl Walk for McfgEntryIter<'_> {
+impl Listing<(), PciRegion> for McfgEntryIter<'_> {
+    ghost use Rattle.std.specs.Prelude.{Some, map};
     ghost use Rattle.acpi_base.specs.Mcfg.{mcfg_entries_left};
-
-    ghost left = { λ s. mcfg_entries_left s };
-
-    ghost gives_first = { λ s item t given. given };
-}
-
-impl Shown<PciRegion> for McfgEntry {
+    ghost use Rattle.acpi_c_lib.specs.Listed.{lists_each};
     ghost use Rattle.acpi_c_lib.specs.Shown.{pci_record};
 
-    ghost record_of = { pci_record };
+    ghost record_of = { λ known x. Some (pci_record x) };
 
-    fn record(self) -> PciRegion {
-        PciRegion {
-            base_address: self.base_address,
-            segment_group: self.pci_segment_group,
-            first_bus: self.bus_number_start,
-            last_bus: self.bus_number_end,
-        }
+    ghost left = { λ known s. map pci_record (mcfg_entries_left s) };
+
+    ghost gives_first = { λ known. lists_each pci_record (λ s. mcfg_entries_left s) };
+
+    fn record(_known: &(), entry: McfgEntry) -> Option<PciRegion>
+        ensures { result ≡ Some (pci_record entry) }
+    {
+        Some(PciRegion {
+            base_address: entry.base_address,
+            segment_group: entry.pci_segment_group,
+            first_bus: entry.bus_number_start,
+            last_bus: entry.bus_number_end,
+        })
     }
 }
 
@@ -99,16 +100,25 @@ pub fn ecam_ranges(source: &Source<'_>, out: &mut [EcamRange]) -> Result<usize, 
 {
     let memory = Mapped::new(source.regions);
     let mcfg = first::<Mcfg>(&memory, source)?;
-    Ok(fill(mcfg.entries(), out))
+    Ok(fill(mcfg.entries(), &(), out))
 }
 
-impl Shown<EcamRange> for McfgEntry {
+impl Listing<(), EcamRange> for McfgEntryIter<'_> {
+    ghost use Rattle.std.specs.Prelude.{Some, map};
+    ghost use Rattle.acpi_base.specs.Mcfg.{mcfg_entries_left};
+    ghost use Rattle.acpi_c_lib.specs.Listed.{lists_each};
     ghost use Rattle.acpi_c_lib.specs.Shown.{ecam_record};
 
-    ghost record_of = { ecam_record };
+    ghost record_of = { λ known x. Some (ecam_record x) };
 
-    fn record(self) -> EcamRange {
-        span_record(self.pci_segment_group, self.ecam_range())
+    ghost left = { λ known s. map ecam_record (mcfg_entries_left s) };
+
+    ghost gives_first = { λ known. lists_each ecam_record (λ s. mcfg_entries_left s) };
+
+    fn record(_known: &(), entry: McfgEntry) -> Option<EcamRange>
+        ensures { result ≡ Some (ecam_record entry) }
+    {
+        Some(span_record(entry.pci_segment_group, entry.ecam_range()))
     }
 }
 

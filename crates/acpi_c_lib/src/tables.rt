@@ -1,11 +1,10 @@
 //! The tables that the root table lists.
-ghost use Rattle.std.specs.Prelude.{◌≡◌, ◌^◌, ◌<◌, length};
-ghost use Rattle.acpi.specs.Pointers.{pointers_left};
+ghost use Rattle.std.specs.Prelude.{◌≡◌};
 ghost use Rattle.acpi_base.specs.Mapping.{bytes_of, start_of};
-ghost use Rattle.acpi_c_lib.specs.Answers.{Fills, Writes};
-ghost use Rattle.acpi_c_lib.specs.Shown.{dsdt_below, signature_named, table_below, table_record, tables_below, tables_in};
+ghost use Rattle.acpi_c_lib.specs.Answers.{Fills};
+ghost use Rattle.acpi_c_lib.specs.Shown.{dsdt_below, signature_named, table_below, table_record, tables_below};
 
-use crate::lists::put;
+use crate::lists::{Listing, fill};
 use crate::opening::open;
 use crate::records::{self, AmlTable, Source, Table};
 use crate::refusal::Refusal;
@@ -26,29 +25,35 @@ pub(crate) fn entry<H: AcpiHandler>(table: &PhysicalMapping<'_, H, SdtHeader>) -
     }
 }
 
-/// The tables that are valid under their own signatures.
-fn fill_tables<H: AcpiHandler>(handler: &H, addresses: Pointers<'_>, out: &mut [Table]) -> usize
-    requires { length (pointers_left addresses) < 2 ^ 32 }
-    ensures { Writes result out.old out.new
-        (tables_in (H.memory handler.now) (pointers_left addresses.entry)) }
-{
-    let mut count = 0;
-    for address in addresses {
-        if let Ok(table) = map_own_sdt(handler, address) {
-            put(out, count, entry(&table));
-            count += 1;
+impl<H: AcpiHandler> Listing<H, Table> for Pointers<'_> {
+    ghost use Rattle.acpi.specs.Pointers.{pointers_left};
+    ghost use Rattle.acpi_c_lib.specs.Listed.{lists_some};
+    ghost use Rattle.acpi_c_lib.specs.Shown.{table_in, tables_in};
+
+    ghost record_of = { λ handler p. table_in (H.memory handler) p };
+
+    ghost left = { λ handler s. tables_in (H.memory handler) (pointers_left s) };
+
+    ghost gives_first = { λ handler. lists_some (table_in (H.memory handler)) (λ s. pointers_left s) };
+
+    fn record(handler: &H, address: u64) -> Option<Table>
+        ensures { result ≡ table_in (H.memory handler.now) address }
+    {
+        match map_own_sdt(handler, address) {
+            Ok(table) => Some(entry(&table)),
+            Err(_) => None,
         }
     }
-    count
 }
 
 /// Lists all tables that are valid under the signatures that they bear.
+#[tactic(auto, using(acpi::proofs::First::filter_map_few))]
 pub fn tables(source: &Source<'_>, out: &mut [Table]) -> Result<usize, Refusal>
     ensures { Fills result out.old out.new (tables_below source.now) }
 {
     let memory = Mapped::new(source.regions)?;
     let tables = open(&memory, source)?;
-    Ok(fill_tables(&memory, tables.addresses(), out))
+    Ok(fill(tables.addresses(), &memory, out))
 }
 
 /// The first valid table of a signature.
@@ -62,7 +67,7 @@ pub fn find(source: &Source<'_>, name: records::Signature) -> Result<Table, Refu
 }
 
 /// The signature of four letters.
-#[tactic(auto, using(crate::proofs::Sdt::signature_is))]
+#[tactic(auto, using(crate::proofs::Unlent::signature_is))]
 pub(crate) fn signature_named(name: records::Signature) -> Signature
     ensures { result ≡ signature_named name }
 {

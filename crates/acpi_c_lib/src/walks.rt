@@ -5,7 +5,7 @@ ghost use Rattle.acpi.specs.Pointers.{pointers_left};
 ghost use Rattle.acpi_c_lib.specs.Answers.{Fills};
 ghost use Rattle.acpi_c_lib.specs.Walked.{nth_below, nth_in, ranges_below, ssdts_below};
 
-use crate::lists::{Shown, Walk, fill};
+use crate::lists::{Listing, fill};
 use crate::opening::open;
 use crate::records::{self, Range, Source, Table};
 use crate::refusal::Refusal;
@@ -55,27 +55,28 @@ pub fn ssdts(source: &Source<'_>, out: &mut [records::AmlTable]) -> Result<usize
 {
     let memory = Mapped::new(source.regions)?;
     let tables = open(&memory, source)?;
-    Ok(fill(tables.ssdts(), out))
+    Ok(fill(tables.ssdts(), &(), out))
 }
 
-impl<H: Lender> Walk for SsdtIterator<'_, '_, H> {
+impl<H: Lender> Listing<(), records::AmlTable> for SsdtIterator<'_, '_, H> {
+    ghost use Rattle.std.specs.Prelude.{Some, map};
     ghost use Rattle.acpi.specs.Walks.{ssdts_left};
-
-    ghost left = { ssdts_left H.memory };
-
-    ghost gives_first = { λ s item t given. given };
-}
-
-impl Shown<records::AmlTable> for AmlTable {
+    ghost use Rattle.acpi_c_lib.specs.Listed.{lists_each};
     ghost use Rattle.acpi_c_lib.specs.Shown.{aml_record};
 
-    ghost record_of = { aml_record };
+    ghost record_of = { λ known x. Some (aml_record x) };
 
-    fn record(self) -> records::AmlTable {
-        records::AmlTable {
-            address: self.address,
-            length: self.length,
-        }
+    ghost left = { λ known s. map aml_record (ssdts_left H.memory s) };
+
+    ghost gives_first = { λ known. lists_each aml_record (ssdts_left H.memory) };
+
+    fn record(_known: &(), table: AmlTable) -> Option<records::AmlTable>
+        ensures { result ≡ Some (aml_record table) }
+    {
+        Some(records::AmlTable {
+            address: table.address,
+            length: table.length,
+        })
     }
 }
 
@@ -85,26 +86,27 @@ pub fn ranges(source: &Source<'_>, out: &mut [Range]) -> Result<usize, Refusal>
 {
     let memory = Mapped::new(source.regions)?;
     let tables = open(&memory, source)?;
-    Ok(fill(tables.ranges(), out))
+    Ok(fill(tables.ranges(), &(), out))
 }
 
-impl<H: Lender> Walk for TableRanges<'_, '_, H> {
+impl<H: Lender> Listing<(), Range> for TableRanges<'_, '_, H> {
+    ghost use Rattle.std.specs.Prelude.{Some, map};
     ghost use Rattle.acpi.specs.Placed.{places_left};
-
-    ghost left = { places_left H.memory };
-
-    ghost gives_first = { λ s item t given. given };
-}
-
-impl Shown<Range> for AddressRange {
+    ghost use Rattle.acpi_c_lib.specs.Listed.{lists_each};
     ghost use Rattle.acpi_c_lib.specs.Walked.{range_record};
 
-    ghost record_of = { range_record };
+    ghost record_of = { λ known x. Some (range_record x) };
 
-    fn record(self) -> Range {
-        Range {
-            address: self.address,
-            length: self.length,
-        }
+    ghost left = { λ known s. map range_record (places_left H.memory s) };
+
+    ghost gives_first = { λ known. lists_each range_record (places_left H.memory) };
+
+    fn record(_known: &(), range: AddressRange) -> Option<Range>
+        ensures { result ≡ Some (range_record range) }
+    {
+        Some(Range {
+            address: range.address,
+            length: range.length,
+        })
     }
 }

@@ -2,7 +2,7 @@ use Rattle.std.proofs.Common.{◌≡◌, ℕ, ◌+◌, ◌^◌, ◌<◌, ◌≤�
 use Rattle.acpi_base.specs.Mapping.{bytes_of}
 use Rattle.acpi_base.specs.Memory.{Memory, IsMemory}
 use Rattle.acpi_base.specs.Table.{own_table_at}
-use Rattle.acpi_c_lib.proofs.Sdt.{own_table_ends}
+use Rattle.acpi_c_lib.proofs.Unlent.{own_table_ends}
 use Rattle.acpi_c_lib.specs.Held.{mapped_memory}
 use Rattle.acpi_c_lib.proofs.entries.table_entries.Goals as goal
 
