@@ -18,7 +18,8 @@ use crate::spelled::{Each, Spelled, Then};
 use crate::table::{checked_size, table_size, write_checked, write_table};
 use acpi_base::Signature;
 use acpi_base::model::{InterruptSourceOverride, IoApic, NmiLine, NmiProcessor, NmiSource};
-use entries::{AddressOverride, Fixed, Wakeup};
+pub use entries::Fixed;
+use entries::{AddressOverride, Wakeup};
 
 /// A processor that a MADT is to list (sections 5.2.12.2 and 5.2.12.12).
 #[derive(Clone, Copy, Debug)]

@@ -95,7 +95,7 @@ pub fn table_size<B: Spelled>(
 /// Returns, in this order, `BadName` if a name of the ids is not valid UTF-8, `NoRoom` if the slice is shorter than
 /// the table, and `TooLong` if the table has 2^32 bytes or more.
 #[tactic(auto, unfolding(crate::specs::Table::table_written))]
-pub(crate) fn write_table<B: Spelled>(
+pub fn write_table<B: Spelled>(
     out: &mut [u8],
     signature: Signature,
     revision: u8,

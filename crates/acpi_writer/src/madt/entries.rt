@@ -14,9 +14,11 @@ use acpi_base::model::{
 
 /// The fields between the header and the entries.
 #[derive(Clone, Copy)]
-pub(super) struct Fixed {
-    pub(super) local_apic_address: u64,
-    pub(super) also_has_legacy_pics: bool,
+pub struct Fixed {
+    /// The physical address of each processor's local APIC.
+    pub local_apic_address: u64,
+    /// PCAT_COMPAT: the machine has a pair of 8259 controllers too.
+    pub also_has_legacy_pics: bool,
 }
 
 impl Spelled for Fixed {
