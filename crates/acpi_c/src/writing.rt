@@ -2,7 +2,7 @@
 ghost use Rattle.std.specs.Prelude.{◌≡◌, length};
 ghost use Rattle.acpi.specs.declared.root.RootKind.TheVariants.{Rsdt, Xsdt};
 ghost use Rattle.acpi_base.specs.declared.table.signature.TheConstants.Signature.{DSDT, SSDT};
-ghost use Rattle.acpi_c_lib.specs.Writing.{SaysLength, WritesTable, hpet_info_of, ids_of, madt_said, regions_written, writer_refused};
+ghost use Rattle.acpi_c_lib.specs.Writing.{SaysLength, WritesTable, hpet_info_of, madt_said, regions_written, writer_refused};
 ghost use Rattle.acpi_c_lib.specs.WrittenBgrt.{bgrt_said};
 ghost use Rattle.acpi_c_lib.specs.WrittenFadt.{facs_contents, fadt_said};
 ghost use Rattle.acpi_c_lib.specs.WrittenGic.{gic_said};
@@ -17,14 +17,15 @@ ghost use Rattle.acpi_writer.specs.Rsdp.{rsdp_written};
 ghost use Rattle.acpi_writer.specs.Slit.{slit_written};
 ghost use Rattle.acpi_writer.specs.Table.{table_written};
 
+use acpi_c_lib::answer::answer_plain;
 use acpi_c_lib::arm_records::ArmTimers;
 use acpi_c_lib::fixed_records::FixedHardware;
 use acpi_c_lib::records::{BootGraphic, HpetInfo, PciRegion};
 use acpi_c_lib::writing::{
-    dsdt_place, said_address, tables_size, write_bgrt, write_dsdt, write_facs, write_fadt,
-    write_gic_madt, write_gtdt, write_hpet, write_madt, write_regions, write_rsdp, write_rsdt,
-    write_slit, write_spcr, write_srat, write_ssdt, write_tables, write_tables_without_rsdp,
-    write_xsdt, written, written_or_not,
+    dsdt_place, tables_size, write_bgrt, write_dsdt, write_facs, write_fadt, write_gic_madt,
+    write_gtdt, write_hpet, write_madt, write_regions, write_rsdp, write_rsdt, write_slit,
+    write_spcr, write_srat, write_ssdt, write_tables, write_tables_without_rsdp, write_xsdt,
+    written,
 };
 use acpi_c_lib::written_records::{
     FacsContents, GicContents, Machine, MadtContents, SpcrContents, SratContents, TableIds,
@@ -39,9 +40,9 @@ pub extern "C" fn zacpi_write_rsdp(
     count: &mut usize,
 ) -> u32
     ensures { WritesTable result out.old out.new count.old count.new
-        (writer_refused (rsdp_written (length out.old) (ids_of ids.now) xsdt)) }
+        (writer_refused (rsdp_written (length out.old) ids.now xsdt)) }
 {
-    written(write_rsdp(out, &ids.ids(), xsdt), count)
+    written(write_rsdp(out, ids, xsdt), count)
 }
 
 /// An RSDT (section 5.2.7).
@@ -53,9 +54,9 @@ pub extern "C" fn zacpi_write_rsdt(
     count: &mut usize,
 ) -> u32
     ensures { WritesTable result out.old out.new count.old count.new
-        (writer_refused (root_written Rsdt (length out.old) (ids_of ids.now) addresses.now)) }
+        (writer_refused (root_written Rsdt (length out.old) ids.now addresses.now)) }
 {
-    written(write_rsdt(out, &ids.ids(), addresses), count)
+    written(write_rsdt(out, ids, addresses), count)
 }
 
 /// An XSDT (section 5.2.8).
@@ -67,9 +68,9 @@ pub extern "C" fn zacpi_write_xsdt(
     count: &mut usize,
 ) -> u32
     ensures { WritesTable result out.old out.new count.old count.new
-        (writer_refused (root_written Xsdt (length out.old) (ids_of ids.now) addresses.now)) }
+        (writer_refused (root_written Xsdt (length out.old) ids.now addresses.now)) }
 {
-    written(write_xsdt(out, &ids.ids(), addresses), count)
+    written(write_xsdt(out, ids, addresses), count)
 }
 
 /// A DSDT of AML bytes (section 5.2.11.1).
@@ -82,9 +83,9 @@ pub extern "C" fn zacpi_write_dsdt(
     count: &mut usize,
 ) -> u32
     ensures { WritesTable result out.old out.new count.old count.new
-        (writer_refused (table_written (length out.old) DSDT revision (ids_of ids.now) aml.now)) }
+        (writer_refused (table_written (length out.old) DSDT revision ids.now aml.now)) }
 {
-    written(write_dsdt(out, &ids.ids(), revision, aml), count)
+    written(write_dsdt(out, ids, revision, aml), count)
 }
 
 /// An SSDT of AML bytes (section 5.2.11.2).
@@ -97,9 +98,9 @@ pub extern "C" fn zacpi_write_ssdt(
     count: &mut usize,
 ) -> u32
     ensures { WritesTable result out.old out.new count.old count.new
-        (writer_refused (table_written (length out.old) SSDT revision (ids_of ids.now) aml.now)) }
+        (writer_refused (table_written (length out.old) SSDT revision ids.now aml.now)) }
 {
-    written(write_ssdt(out, &ids.ids(), revision, aml), count)
+    written(write_ssdt(out, ids, revision, aml), count)
 }
 
 /// An HPET (IA-PC HPET Specification).
@@ -111,9 +112,9 @@ pub extern "C" fn zacpi_write_hpet(
     count: &mut usize,
 ) -> u32
     ensures { WritesTable result out.old out.new count.old count.new
-        (writer_refused (hpet_written (length out.old) (ids_of ids.now) (hpet_info_of info.now))) }
+        (writer_refused (hpet_written (length out.old) ids.now (hpet_info_of info.now))) }
 {
-    written(write_hpet(out, &ids.ids(), &info.info()), count)
+    written(write_hpet(out, ids, &info.info()), count)
 }
 
 /// An MCFG of regions of PCI configuration space (PCI Firmware Specification, section 4.1.2).
@@ -140,9 +141,9 @@ pub extern "C" fn zacpi_write_slit(
     count: &mut usize,
 ) -> u32
     ensures { WritesTable result out.old out.new count.old count.new
-        (writer_refused (slit_written (length out.old) (ids_of ids.now) localities distances.now)) }
+        (writer_refused (slit_written (length out.old) ids.now localities distances.now)) }
 {
-    written(write_slit(out, &ids.ids(), localities, distances), count)
+    written(write_slit(out, ids, localities, distances), count)
 }
 
 /// A MADT of processors and interrupt controllers (section 5.2.12).
@@ -156,7 +157,7 @@ pub extern "C" fn zacpi_write_madt(
     ensures { WritesTable result out.old out.new count.old count.new
         (madt_said (length out.old) ids.now contents.now) }
 {
-    written_or_not(write_madt(out, ids, contents), count)
+    answer_plain(write_madt(out, ids, contents), count)
 }
 
 /// A MADT of the GIC of an Arm machine (sections 5.2.12.14 to 5.2.12.18).
@@ -170,7 +171,7 @@ pub extern "C" fn zacpi_write_gic_madt(
     ensures { WritesTable result out.old out.new count.old count.new
         (gic_said (length out.old) ids.now contents.now) }
 {
-    written_or_not(write_gic_madt(out, ids, contents), count)
+    answer_plain(write_gic_madt(out, ids, contents), count)
 }
 
 /// A SRAT of processors and of ranges of memory (section 5.2.16).
@@ -182,7 +183,7 @@ pub extern "C" fn zacpi_write_srat(
     count: &mut usize,
 ) -> u32
     ensures { WritesTable result out.old out.new count.old count.new
-        (writer_refused (srat_laid (length out.old) (ids_of ids.now) contents.now)) }
+        (writer_refused (srat_laid (length out.old) ids.now contents.now)) }
 {
     written(write_srat(out, ids, contents), count)
 }
@@ -198,7 +199,7 @@ pub extern "C" fn zacpi_write_bgrt(
     ensures { WritesTable result out.old out.new count.old count.new
         (bgrt_said (length out.old) ids.now graphic.now) }
 {
-    written_or_not(write_bgrt(out, ids, graphic), count)
+    answer_plain(write_bgrt(out, ids, graphic), count)
 }
 
 /// An SPCR, whose layout is Microsoft's.
@@ -212,7 +213,7 @@ pub extern "C" fn zacpi_write_spcr(
     ensures { WritesTable result out.old out.new count.old count.new
         (spcr_said (length out.old) ids.now spcr.now) }
 {
-    written_or_not(write_spcr(out, ids, spcr), count)
+    answer_plain(write_spcr(out, ids, spcr), count)
 }
 
 /// A GTDT of the timers of every processor (section 5.2.24).
@@ -226,7 +227,7 @@ pub extern "C" fn zacpi_write_gtdt(
     ensures { WritesTable result out.old out.new count.old count.new
         (gtdt_said (length out.old) ids.now timers.now) }
 {
-    written_or_not(write_gtdt(out, ids, timers), count)
+    answer_plain(write_gtdt(out, ids, timers), count)
 }
 
 /// A FADT (section 5.2.9).
@@ -240,7 +241,7 @@ pub extern "C" fn zacpi_write_fadt(
     ensures { WritesTable result out.old out.new count.old count.new
         (fadt_said (length out.old) ids.now fadt.now) }
 {
-    written_or_not(write_fadt(out, ids, fadt), count)
+    answer_plain(write_fadt(out, ids, fadt), count)
 }
 
 /// A FACS (section 5.2.10).
@@ -267,7 +268,7 @@ pub extern "C" fn zacpi_write_tables(
     ensures { WritesTable result out.old out.new count.old count.new
         (machine_said (length out.old) address machine.now) }
 {
-    written_or_not(write_tables(out, address, machine), count)
+    answer_plain(write_tables(out, address, machine), count)
 }
 
 /// All tables of a machine but the RSDP.
@@ -281,7 +282,7 @@ pub extern "C" fn zacpi_write_tables_without_rsdp(
     ensures { WritesTable result out.old out.new count.old count.new
         (tree_said (length out.old) address machine.now) }
 {
-    written_or_not(write_tables_without_rsdp(out, address, machine), count)
+    answer_plain(write_tables_without_rsdp(out, address, machine), count)
 }
 
 /// How many bytes all tables of a machine have.
@@ -289,7 +290,7 @@ pub extern "C" fn zacpi_write_tables_without_rsdp(
 pub extern "C" fn zacpi_tables_size(machine: &Machine<'_>, count: &mut usize) -> u32
     ensures { SaysLength result count.old count.new (size_said machine.now) }
 {
-    written_or_not(tables_size(machine), count)
+    answer_plain(tables_size(machine), count)
 }
 
 /// Where the DSDT of a machine lies.
@@ -297,5 +298,5 @@ pub extern "C" fn zacpi_tables_size(machine: &Machine<'_>, count: &mut usize) ->
 pub extern "C" fn zacpi_dsdt_address(address: u64, tables: usize, out: &mut u64) -> u32
     ensures { SaysLength result out.old out.new (dsdt_said address tables) }
 {
-    said_address(dsdt_place(address, tables), out)
+    answer_plain(dsdt_place(address, tables), out)
 }

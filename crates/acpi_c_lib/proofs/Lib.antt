@@ -4,6 +4,4 @@ pub mod IsaList
 pub mod Tried
 pub mod Unlent
 pub mod Written
-pub mod WrittenGic
-pub mod WrittenSpcr
 pub mod WrittenTables

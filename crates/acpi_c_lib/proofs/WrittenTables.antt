@@ -1,19 +1,15 @@
--- Room changes only whether a table that is written for C fits.
+-- The tables that are written for C: room changes only whether one fits, and the place of a name not even that.
 use Rattle.std.proofs.Common.{◌≡◌, ◌∙◌, ℕ, List, ap, arith, length, refl, sym, take}
 use Rattle.std.proofs.lemmas.Grind.{common_steps}
-use Rattle.std.specs.Prelude.{◌^◌, ◌<◌, flat_map, IfOk, Result, Ok, Err, ◌++◌}
+use Rattle.std.specs.Prelude.{◌^◌, ◌<◌, flat_map, IfOk, Result, Ok, Err, ◌++◌, codes}
 use Rattle.acpi_base.specs.Bytes.{spelling}
 use Rattle.acpi_base.specs.Steps.{◌>>=◌, Gives}
 use Rattle.acpi_base.specs.declared.table.signature.TheConstants.Signature.{BGRT, GTDT, HPET, MADT, MCFG, SSDT}
 use Rattle.acpi_arm.specs.declared.gtdt.ArmTimer.{ArmTimer}
-use Rattle.acpi_c_lib.specs.WrittenBgrt as bgrt
-use Rattle.acpi_c_lib.specs.WrittenFadt as fadt
 use Rattle.acpi_c_lib.specs.WrittenGic.{gic_body, gic_checked, gic_laid}
 use Rattle.acpi_c_lib.specs.WrittenGtdt.{gtdt_laid, timers_body, timers_checked}
 use Rattle.acpi_c_lib.specs.WrittenMachine.{written_as}
-use Rattle.acpi_c_lib.specs.WrittenSpcr as spcr
-use Rattle.acpi_c_lib.specs.WrittenSrat as srat
-use Rattle.acpi_c_lib.specs.Writing.{check_lists, hpet_info_of, madt_body, madt_laid, nmi_line_of, processor_of, region_of}
+use Rattle.acpi_c_lib.specs.Writing.{check_lists, hpet_info_of, madt_body, madt_laid, region_of}
 use Rattle.acpi_c_lib.specs.declared.writing.machine.Contents.{Contents}
 use Rattle.acpi_c_lib.specs.declared.writing.machine.Contents.TheVariants.{Bgrt, Fadt, Gic, Gtdt, Hpet, Madt, Mcfg, Nothing, Slit, Spcr, Srat, Ssdt}
 use Rattle.acpi_c_lib.specs.declared.arm_records.ArmTimers.{ArmTimers}
@@ -28,6 +24,15 @@ use Rattle.acpi_writer.specs.McfgBytes.{mcfg_entry, mcfg_reserved}
 use Rattle.acpi_writer.specs.Table.{AreIds, Keeps, table_written}
 use Rattle.acpi_writer.specs.declared.error.WriterError.{WriterError}
 use Rattle.acpi_writer.specs.declared.ids.TableIds.{TableIds}
+use Rattle.std.specs.Borrow.{Bor}
+use Rattle.acpi_c_lib.specs.WrittenSpcr.{contents, spcr_laid}
+use Rattle.acpi_writer.specs.Spcr.{port_fields, spcr_written}
+use Rattle.acpi_writer.specs.declared.spcr.SpcrContents.{SpcrContents}
+use Rattle.acpi_c_lib.specs.WrittenBgrt as bgrt
+use Rattle.acpi_c_lib.specs.WrittenFadt as fadt
+use Rattle.acpi_c_lib.specs.WrittenSpcr as spcr
+use Rattle.acpi_c_lib.specs.WrittenSrat as srat
+use Rattle.acpi_c_lib.specs.declared.written_records.SpcrContents as spcr_record
 
 moved_madt : (ids : TableIds) (c : MadtContents) → AreIds ids → Moves (λ room. madt_laid room ids c)
 moved_madt ids c are room other t e fits =
@@ -98,3 +103,12 @@ moved_listed ids (Spcr c) are = moved_spcr ids (spcr.contents spcr.no_name c) ar
 moved_listed ids (Gtdt t) are = moved_gtdt ids t are
 moved_listed ids (Gic c) are = moved_gic ids c are
 moved_listed ids Nothing are = λ room other t e fits. never _ t _ e
+
+-- ---- where the name of a console lies doesn't matter to its SPCR
+
+by_name : (room : ℕ) (ids : TableIds) (name : Bor (List ℕ)) (c : spcr_record.SpcrContents) → name.now ≡ codes "." → spcr_written room ids (contents name c) ≡ spcr_laid room ids c
+unfolding spcr_written port_fields
+by_name room ids name c e = rw e refl
+
+pub named : (room : ℕ) (ids : TableIds) (given : spcr_record.SpcrContents) (c : SpcrContents) → c ≡ contents c.namespace_string given → c.namespace_string.now ≡ codes "." → spcr_written room ids c ≡ spcr_laid room ids given
+named room ids given c said name = ap (spcr_written room ids) said ∙ by_name room ids c.namespace_string given name

@@ -17,13 +17,13 @@ use Rattle.acpi_base.specs.declared.tables.mcfg.McfgEntry.{McfgEntry}
 use Rattle.acpi.specs.declared.hpet.HpetInfo.{HpetInfo}
 use Rattle.acpi.specs.declared.hpet.PageProtection.{PageProtection}
 use Rattle.acpi.specs.declared.hpet.PageProtection.TheVariants as protection
+use Rattle.acpi_c_lib.specs.Answers.{AnswersPlain}
 use Rattle.acpi_c_lib.specs.Codes.{code_of}
 use Rattle.acpi_c_lib.specs.Records as records
 use Rattle.acpi_c_lib.specs.declared.records.PciRegion.{PciRegion}
 use Rattle.acpi_c_lib.specs.declared.refusal.Refusal.{Refusal}
 use Rattle.acpi_c_lib.specs.declared.refusal.Refusal.TheVariants.{UnknownCode, Writer}
 use Rattle.acpi_c_lib.specs.declared.written_records.MadtContents.{MadtContents}
-use Rattle.acpi_c_lib.specs.declared.written_records.TableIds as ids
 use Rattle.acpi_writer.specs.MadtBytes.{MadtSorts, io_apic_entry, is_single, madt_body_of, names_one, nmi_line_entry, nmi_source_entry, override_entry, processor_entry}
 use Rattle.acpi_writer.specs.McfgBytes.{mcfg_entry, mcfg_written_of}
 use Rattle.acpi_writer.specs.Table.{table_written}
@@ -39,8 +39,7 @@ writer_refused (Err e) = Err (Writer e)
 
 -- 0, with the length that was said; or the error's number, and nothing written
 abbrev pub SaysLength : ℕ → ℕ → ℕ → Result ℕ Refusal → Type 0
-SaysLength status old new (Ok n) = (status ≡ 0) × (new ≡ n)
-SaysLength status old new (Err e) = (status ≡ code_of e) × (new ≡ old)
+SaysLength status old new said = AnswersPlain status old new said
 
 -- the buffer from its first n bytes on is as it was
 abbrev pub IsKept : ℕ → List ℕ → List ℕ → Type 0
@@ -60,15 +59,6 @@ WritesTable status old new old_length new_length (Err e) =
     (status ≡ code_of e) × (new_length ≡ old_length) × (new ≡ old)
 
 -- ---- records, as the writer has them
-
-abbrev pub ids_of : ids.TableIds → TableIds
-ids_of i = record {
-  oem_id = i.oem_id;
-  oem_table_id = i.oem_table_id;
-  oem_revision = i.oem_revision;
-  creator_id = i.creator_id;
-  creator_revision = i.creator_revision;
-}
 
 abbrev pub protection_of : ℕ → PageProtection
 protection_of code =
@@ -95,8 +85,8 @@ region_of r = record {
 }
 
 -- the MCFG of regions
-abbrev pub regions_written : ℕ → ids.TableIds → List PciRegion → Result (List ℕ) WriterError
-regions_written room i rs = mcfg_written_of room (ids_of i) (flat_map (λ r. mcfg_entry (region_of r)) rs)
+abbrev pub regions_written : ℕ → TableIds → List PciRegion → Result (List ℕ) WriterError
+regions_written room i rs = mcfg_written_of room i (flat_map (λ r. mcfg_entry (region_of r)) rs)
 
 -- ---- the MADT (section 5.2.12)
 
@@ -184,7 +174,7 @@ madt_laid room i c = do
   table_written room MADT 5 i (madt_body c)
 
 -- the MADT of records, in so much room, or the first error
-abbrev pub madt_said : ℕ → ids.TableIds → MadtContents → Result (List ℕ) Refusal
+abbrev pub madt_said : ℕ → TableIds → MadtContents → Result (List ℕ) Refusal
 madt_said room i c = do
   _ ← holds (has_codes c) UnknownCode
-  writer_refused (madt_laid room (ids_of i) c)
+  writer_refused (madt_laid room i c)

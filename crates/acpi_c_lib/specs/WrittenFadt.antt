@@ -13,13 +13,13 @@ use Rattle.acpi_fixed.specs.Fadt as fadt
 use Rattle.acpi_fixed.specs.declared.fadt.PowerProfile.{PowerProfile}
 use Rattle.acpi_fixed.specs.declared.fadt.registers.gpe.GpeBlock.{GpeBlock}
 use Rattle.acpi_c_lib.specs.Records as records
-use Rattle.acpi_c_lib.specs.Writing.{ids_of, writer_refused}
+use Rattle.acpi_c_lib.specs.Writing.{writer_refused}
 use Rattle.acpi_c_lib.specs.declared.fixed_records.FixedHardware.{FixedHardware}
 use Rattle.acpi_c_lib.specs.declared.records.Register.{Register}
 use Rattle.acpi_c_lib.specs.declared.refusal.Refusal.{Refusal}
 use Rattle.acpi_c_lib.specs.declared.refusal.Refusal.TheVariants.{UnknownCode}
 use Rattle.acpi_c_lib.specs.declared.written_records.FacsContents as facs_record
-use Rattle.acpi_c_lib.specs.declared.written_records.TableIds as ids
+use Rattle.acpi_writer.specs.declared.ids.TableIds.{TableIds}
 use Rattle.acpi_writer.specs.FadtBytes.{fadt_written}
 use Rattle.acpi_writer.specs.declared.facs.FacsContents.{FacsContents}
 use Rattle.acpi_writer.specs.declared.fadt.contents.FadtContents.{FadtContents}
@@ -182,10 +182,10 @@ has_codes h =
     && (has_gpe_codes h.gpe0_block && has_gpe_codes h.gpe1_block)))))))))
 
 -- the FADT of a record, in so much room, or the first error
-abbrev pub fadt_said : ℕ → ids.TableIds → FixedHardware → Result (List ℕ) Refusal
+abbrev pub fadt_said : ℕ → TableIds → FixedHardware → Result (List ℕ) Refusal
 fadt_said room i h = do
   _ ← holds (has_codes h) UnknownCode
-  writer_refused (fadt_written room (ids_of i) (contents h))
+  writer_refused (fadt_written room i (contents h))
 
 -- ---- the FACS
 

@@ -10,12 +10,11 @@ use Rattle.acpi_arm.specs.declared.gic.part.GicRedistributors.{GicRedistributors
 use Rattle.acpi_arm.specs.declared.gic.part.GicTranslationService.{GicTranslationService}
 use Rattle.acpi_arm.specs.declared.gic.part.SpiRange.{SpiRange}
 use Rattle.acpi_c_lib.specs.Records as records
-use Rattle.acpi_c_lib.specs.Writing.{ids_of, is_wiring, trigger_of, writer_refused}
+use Rattle.acpi_c_lib.specs.Writing.{is_wiring, trigger_of, writer_refused}
 use Rattle.acpi_c_lib.specs.declared.records.Range.{Range}
 use Rattle.acpi_c_lib.specs.declared.refusal.Refusal.{Refusal}
 use Rattle.acpi_c_lib.specs.declared.refusal.Refusal.TheVariants.{UnknownCode}
 use Rattle.acpi_c_lib.specs.declared.written_records.GicContents.{GicContents}
-use Rattle.acpi_c_lib.specs.declared.written_records.TableIds as ids
 use Rattle.acpi_writer.specs.GicMadt.{gicc_entry, gicd_entry, gicr_entry, its_entry, msi_entry}
 use Rattle.acpi_writer.specs.MadtBytes.{madt_fixed}
 use Rattle.acpi_writer.specs.Table.{table_written}
@@ -109,7 +108,7 @@ gic_laid room i c = do
   table_written room MADT 6 i (gic_body c)
 
 -- the MADT of records, in so much room, or the first error
-abbrev pub gic_said : ℕ → ids.TableIds → GicContents → Result (List ℕ) Refusal
+abbrev pub gic_said : ℕ → TableIds → GicContents → Result (List ℕ) Refusal
 gic_said room i c = do
   _ ← holds (has_codes c) UnknownCode
-  writer_refused (gic_laid room (ids_of i) c)
+  writer_refused (gic_laid room i c)

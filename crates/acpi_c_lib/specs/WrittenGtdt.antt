@@ -7,11 +7,10 @@ use Rattle.acpi_base.specs.declared.model.interrupt.TriggerMode.TheVariants.{Lev
 use Rattle.acpi_base.specs.declared.table.signature.TheConstants.Signature.{GTDT}
 use Rattle.acpi_arm.specs.declared.gtdt.ArmTimer.{ArmTimer}
 use Rattle.acpi_c_lib.specs.Records as records
-use Rattle.acpi_c_lib.specs.Writing.{ids_of, is_wiring, polarity_of, trigger_of, writer_refused}
+use Rattle.acpi_c_lib.specs.Writing.{is_wiring, polarity_of, trigger_of, writer_refused}
 use Rattle.acpi_c_lib.specs.declared.arm_records.ArmTimers.{ArmTimers}
 use Rattle.acpi_c_lib.specs.declared.refusal.Refusal.{Refusal}
 use Rattle.acpi_c_lib.specs.declared.refusal.Refusal.TheVariants.{UnknownCode}
-use Rattle.acpi_c_lib.specs.declared.written_records.TableIds as ids
 use Rattle.acpi_writer.specs.Gtdt.{array_bytes, gtdt_reserved, timer_bytes, timer_checked}
 use Rattle.acpi_writer.specs.Table.{table_written}
 use Rattle.acpi_writer.specs.declared.error.WriterError.{WriterError}
@@ -73,7 +72,7 @@ gtdt_laid room i t = do
   table_written room GTDT 3 i (timers_body t)
 
 -- the GTDT of timers, in so much room, or the first error
-abbrev pub gtdt_said : ℕ → ids.TableIds → ArmTimers → Result (List ℕ) Refusal
+abbrev pub gtdt_said : ℕ → TableIds → ArmTimers → Result (List ℕ) Refusal
 gtdt_said room i t = do
   _ ← holds (has_codes t) UnknownCode
-  writer_refused (gtdt_laid room (ids_of i) t)
+  writer_refused (gtdt_laid room i t)

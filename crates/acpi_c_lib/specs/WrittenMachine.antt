@@ -10,7 +10,7 @@ use Rattle.acpi_c_lib.specs.WrittenGtdt as gtdt
 use Rattle.acpi_c_lib.specs.WrittenSpcr as spcr
 use Rattle.acpi_c_lib.specs.WrittenSrat.{srat_laid}
 use Rattle.acpi_c_lib.specs.Writing as writing
-use Rattle.acpi_c_lib.specs.Writing.{hpet_info_of, ids_of, madt_laid, region_of, writer_refused}
+use Rattle.acpi_c_lib.specs.Writing.{hpet_info_of, madt_laid, region_of, writer_refused}
 use Rattle.acpi_c_lib.specs.declared.refusal.Refusal.{Refusal}
 use Rattle.acpi_c_lib.specs.declared.refusal.Refusal.TheVariants.{UnknownCode, UnknownTable, Writer}
 use Rattle.acpi_c_lib.specs.declared.writing.machine.Contents.{Contents}
@@ -78,7 +78,7 @@ dsdt_in [] = None
 dsdt_in (c ∷ cs) = Some (record { revision = c.revision; bytes = c.aml })
 
 abbrev pub machine_of : record_of.Machine → MachineOf ListedTable
-machine_of m = record { ids = ids_of m.ids; dsdt = dsdt_in m.dsdts.now; facs = None; tables = m.tables }
+machine_of m = record { ids = m.ids; dsdt = dsdt_in m.dsdts.now; facs = None; tables = m.tables }
 
 -- ---- codes
 

@@ -1,7 +1,8 @@
 //! Tables that are written for C, from its records, as `acpi_writer` writes them.
 ghost use Rattle.std.specs.Prelude.{◌≡◌, length, take};
-ghost use Rattle.acpi_base.specs.Steps.{Gives};
+ghost use Rattle.acpi_base.specs.Steps.{Gives, holds};
 ghost use Rattle.acpi_c_lib.specs.Writing as writing;
+ghost use Rattle.acpi_c_lib.specs.declared.refusal.Refusal.TheVariants.{UnknownCode};
 ghost use Rattle.acpi_writer.specs.Table.{Keeps};
 
 mod bgrt;
@@ -13,9 +14,9 @@ mod madt;
 mod spcr;
 mod srat;
 
+use crate::answer::answer_plain;
 use crate::records::{self, PciRegion};
 use crate::refusal::Refusal;
-use crate::written_records;
 use acpi::HpetInfo;
 use acpi::hpet::PageProtection;
 use acpi_base::mcfg::McfgEntry;
@@ -34,18 +35,14 @@ pub use madt::write_madt;
 pub use spcr::write_spcr;
 pub use srat::write_srat;
 
-impl written_records::TableIds {
-    /// The ids, as the writer has them.
-    pub fn ids(&self) -> TableIds
-        ensures { result ≡ writing.ids_of self.now }
-    {
-        TableIds {
-            oem_id: self.oem_id,
-            oem_table_id: self.oem_table_id,
-            oem_revision: self.oem_revision,
-            creator_id: self.creator_id,
-            creator_revision: self.creator_revision,
-        }
+/// Whether all codes are those that there are, as a check.
+fn known(has_codes: bool) -> Result<(), Refusal>
+    ensures { result ≡ holds has_codes UnknownCode }
+{
+    if has_codes {
+        Ok(())
+    } else {
+        Err(Refusal::UnknownCode)
     }
 }
 
@@ -54,34 +51,8 @@ pub fn written(said: Result<usize, WriterError>, length: &mut usize) -> u32
     ensures { writing.SaysLength result length.old length.new (writing.writer_refused said) }
 {
     match said {
-        Ok(count) => written_or_not(Ok(count), length),
-        Err(error) => written_or_not(Err(Refusal::Writer(error)), length),
-    }
-}
-
-/// The number that C gets: 0, with the length of the table, or that of the error.
-pub fn written_or_not(said: Result<usize, Refusal>, length: &mut usize) -> u32
-    ensures { writing.SaysLength result length.old length.new said }
-{
-    match said {
-        Ok(count) => {
-            *length = count;
-            0
-        }
-        Err(refusal) => refusal.code(),
-    }
-}
-
-/// The number that C gets: 0, with the address, or that of the error.
-pub fn said_address(said: Result<u64, Refusal>, out: &mut u64) -> u32
-    ensures { writing.SaysLength result out.old out.new said }
-{
-    match said {
-        Ok(address) => {
-            *out = address;
-            0
-        }
-        Err(refusal) => refusal.code(),
+        Ok(count) => answer_plain(Ok(count), length),
+        Err(error) => answer_plain(Err(Refusal::Writer(error)), length),
     }
 }
 
@@ -140,12 +111,12 @@ impl Spelled for PciRegion {
 /// Writes an MCFG of regions of PCI configuration space.
 pub fn write_regions(
     out: &mut [u8],
-    ids: &written_records::TableIds,
+    ids: &TableIds,
     regions: &[PciRegion],
 ) -> Result<usize, WriterError>
     ensures exact { Gives (λ n. take n out.new) result
         (writing.regions_written (length out.old) ids.now regions.now) }
     ensures keeps { Keeps result out.old out.new }
 {
-    write_mcfg_of(out, &ids.ids(), regions)
+    write_mcfg_of(out, ids, regions)
 }

@@ -7,18 +7,7 @@ use crate::fixed_records::{Console, FixedHardware};
 use crate::interrupt_records::{InterruptSourceOverride, IoApic, NmiLine, NmiSource, Processor};
 use crate::numa_records::MemoryAffinity;
 use crate::records::{BootGraphic, HpetInfo, PciRegion, Range};
-pub use acpi_writer::{ApicDomain, GiccDomain};
-
-/// Who made a table, as its header says (section 5.2.6).
-#[repr(C)]
-#[derive(Clone, Copy)]
-pub struct TableIds {
-    pub oem_id: [u8; 6],
-    pub oem_table_id: [u8; 8],
-    pub oem_revision: u32,
-    pub creator_id: [u8; 4],
-    pub creator_revision: u32,
-}
+pub use acpi_writer::{ApicDomain, GiccDomain, TableIds};
 
 /// What a MADT is to say (section 5.2.12).
 #[repr(C)]

@@ -4,6 +4,7 @@ ghost use Rattle.acpi_base.specs.Steps.{Gives};
 ghost use Rattle.acpi_c_lib.specs.Writing.{IsKeptOr};
 ghost use Rattle.acpi_c_lib.specs.WrittenBgrt as written;
 
+use super::known;
 use crate::records::BootGraphic;
 use crate::refusal::Refusal;
 use crate::written_records::TableIds;
@@ -55,8 +56,6 @@ pub fn write_bgrt(out: &mut [u8], ids: &TableIds, graphic: &BootGraphic) -> Resu
         (written.bgrt_said (length out.old) ids.now graphic.now) }
     ensures keeps { IsKeptOr result out.old out.new }
 {
-    if !has_codes(graphic) {
-        return Err(Refusal::UnknownCode);
-    }
-    Ok(written_bgrt(out, &ids.ids(), &contents(graphic))?)
+    known(has_codes(graphic))?;
+    Ok(written_bgrt(out, ids, &contents(graphic))?)
 }

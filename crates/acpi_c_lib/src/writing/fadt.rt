@@ -4,6 +4,7 @@ ghost use Rattle.acpi_base.specs.Steps.{Gives};
 ghost use Rattle.acpi_c_lib.specs.Writing.{IsKeptOr};
 ghost use Rattle.acpi_c_lib.specs.WrittenFadt as written;
 
+use super::known;
 use crate::fixed_records::{FixedHardware, GpeBlock};
 use crate::records;
 use crate::records::Register;
@@ -274,10 +275,8 @@ pub fn write_fadt(out: &mut [u8], ids: &TableIds, fadt: &FixedHardware) -> Resul
         (written.fadt_said (length out.old) ids.now fadt.now) }
     ensures keeps { IsKeptOr result out.old out.new }
 {
-    if !has_codes(fadt) {
-        return Err(Refusal::UnknownCode);
-    }
-    Ok(written_fadt(out, &ids.ids(), &contents(fadt))?)
+    known(has_codes(fadt))?;
+    Ok(written_fadt(out, ids, &contents(fadt))?)
 }
 
 impl FacsContents {

@@ -1,24 +1,23 @@
 //! The MADT of an Arm machine that is written for C (sections 5.2.12.14 to 5.2.12.18), from its records of the GIC.
-ghost use Rattle.std.specs.Prelude.{◌≡◌, ◌&&◌, ◌^◌, ◌<◌, ◌≤◌, length, slice_set, take, IfOk};
+ghost use Rattle.std.specs.Prelude.{◌≡◌, ◌&&◌, ◌^◌, ◌<◌, length, take, IfOk};
 ghost use Rattle.std.specs.List.{list_all};
 ghost use Rattle.acpi_base.specs.Steps.{Gives};
-ghost use Rattle.acpi_base.specs.declared.table.signature.TheConstants.Signature.{MADT};
 ghost use Rattle.acpi_c_lib.specs.Writing.{IsKeptOr, is_wiring};
 ghost use Rattle.acpi_c_lib.specs.WrittenGic as written;
-ghost use Rattle.acpi_image.specs.Written.{with_sum};
 ghost use Rattle.acpi_writer.specs.Contents.{most, sized};
-ghost use Rattle.acpi_writer.specs.Table.{Keeps, table_written};
+ghost use Rattle.acpi_writer.specs.Table.{Keeps};
 
+use super::known;
 use super::madt::{is_wiring, trigger};
 use crate::arm_records::{GicCpuInterface, GicDistributor, GicMsiFrame, GicTranslationService};
 use crate::records::Range;
 use crate::refusal::Refusal;
 use crate::written_records::{GicContents, TableIds};
 use acpi_arm::gic;
-use acpi_image::write::set_sum;
-use acpi_writer::WriterError;
-use acpi_writer::madt::{MadtLists, madt_size_of, write_madt_of};
-use acpi_writer::spelled::Spelled;
+use acpi_base::Signature;
+use acpi_writer::madt::Fixed;
+use acpi_writer::spelled::{Each, Spelled, Then};
+use acpi_writer::{WriterError, table_size, write_table};
 
 impl GicDistributor {
     /// The distributor, as the writer has it.
@@ -241,61 +240,21 @@ fn check(contents: &GicContents<'_>) -> Result<(), WriterError>
     Ok(())
 }
 
-/// The entries of a GIC, in the places of those of APICs: `write_madt_of` writes whatever they say.
-macro_rules! lists_of {
-    ($contents:expr, $distributors:expr) => {
-        MadtLists {
+/// All after the header: the fields of APICs, which are 0, and the entries, sort by sort.
+macro_rules! body_of {
+    ($contents:expr) => {{
+        let fixed = Fixed {
             local_apic_address: 0,
             also_has_legacy_pics: false,
-            processors: $distributors,
-            io_apics: $contents.cpu_interfaces,
-            interrupt_source_overrides: $contents.redistributors,
-            nmi_sources: $contents.translation_services,
-            local_apic_nmi_lines: $contents.msi_frames,
-            wakeup_mailbox: None,
-        }
-    };
-}
-
-/// Makes a table one of revision 6.
-fn raise(table: &mut [u8])
-    requires { 36 ≤ length table.old }
-    ensures bytes { table.new ≡ with_sum 9 (slice_set table.old 8 6) }
-    ensures length { length table.new ≡ length table.old }
-{
-    table[8] = 6; // Revision
-    set_sum(table, 9); // Checksum
-}
-
-/// Writes a MADT of records that may be written.
-fn lay(
-    out: &mut [u8],
-    ids: &acpi_writer::TableIds,
-    contents: &GicContents<'_>,
-) -> Result<usize, WriterError>
-    ensures exact { Gives (λ n. take n out.new) result
-        (table_written (length out.old) MADT 6 ids.now (written.gic_body contents.now)) }
-    ensures keeps { Keeps result out.old out.new }
-{
-    let distributors = [contents.distributor];
-    let lists = lists_of!(contents, &distributors);
-    match write_madt_of(out, ids, &lists) {
-        Ok(size) => {
-            raise(&mut out[..size]);
-            Ok(size)
-        }
-        Err(error) => Err(error),
-    }
-}
-
-/// How many bytes such a MADT has, or the first error.
-fn size(ids: &acpi_writer::TableIds, contents: &GicContents<'_>) -> Result<usize, WriterError>
-    ensures exact { result ≡ sized (table_written most MADT 6 ids.now (written.gic_body contents.now)) }
-    ensures short { IfOk result (λ n. n < 2 ^ 32) }
-{
-    let distributors = [contents.distributor];
-    let lists = lists_of!(contents, &distributors);
-    madt_size_of(ids, &lists)
+        };
+        let messages = Then(
+            Each($contents.translation_services),
+            Each($contents.msi_frames),
+        );
+        let redistributors = Then(Each($contents.redistributors), messages);
+        let interfaces = Then(Each($contents.cpu_interfaces), redistributors);
+        Then(fixed, Then($contents.distributor, interfaces))
+    }};
 }
 
 /// Writes a MADT of records whose codes there are.
@@ -304,7 +263,7 @@ fn size(ids: &acpi_writer::TableIds, contents: &GicContents<'_>) -> Result<usize
 /// `NoRoom` and `TooLong`, in this order.
 pub(crate) fn write_laid(
     out: &mut [u8],
-    ids: &acpi_writer::TableIds,
+    ids: &TableIds,
     contents: &GicContents<'_>,
 ) -> Result<usize, WriterError>
     ensures exact { Gives (λ n. take n out.new) result
@@ -312,19 +271,18 @@ pub(crate) fn write_laid(
     ensures keeps { Keeps result out.old out.new }
 {
     check(contents)?;
-    lay(out, ids, contents)
+    let body = body_of!(contents);
+    write_table(out, Signature::MADT, 6, ids, &body)
 }
 
 /// How many bytes such a MADT has, or the first error.
-pub(crate) fn laid_size(
-    ids: &acpi_writer::TableIds,
-    contents: &GicContents<'_>,
-) -> Result<usize, WriterError>
+pub(crate) fn laid_size(ids: &TableIds, contents: &GicContents<'_>) -> Result<usize, WriterError>
     ensures exact { result ≡ sized (written.gic_laid most ids.now contents.now) }
     ensures short { IfOk result (λ n. n < 2 ^ 32) }
 {
     check(contents)?;
-    size(ids, contents)
+    let body = body_of!(contents);
+    table_size(Signature::MADT, 6, ids, &body)
 }
 
 /// Writes a MADT of records.
@@ -339,8 +297,6 @@ pub fn write_gic_madt(
         (written.gic_said (length out.old) ids.now contents.now) }
     ensures keeps { IsKeptOr result out.old out.new }
 {
-    if !has_codes(contents) {
-        return Err(Refusal::UnknownCode);
-    }
-    Ok(write_laid(out, &ids.ids(), contents)?)
+    known(has_codes(contents))?;
+    Ok(write_laid(out, ids, contents)?)
 }

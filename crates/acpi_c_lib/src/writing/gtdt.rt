@@ -8,6 +8,7 @@ ghost use Rattle.acpi_writer.specs.Contents.{most, sized};
 ghost use Rattle.acpi_writer.specs.Gtdt.{base_of, gtdt_body, gtdt_checked};
 ghost use Rattle.acpi_writer.specs.Table.{Keeps};
 
+use super::known;
 use super::madt::{is_wiring, polarity, trigger};
 use crate::arm_records::{ArmTimer, ArmTimers};
 use crate::refusal::Refusal;
@@ -97,7 +98,7 @@ pub(crate) fn has_codes(timers: &ArmTimers) -> bool
 #[tactic(auto, unfolding(acpi_writer::specs::Gtdt::gtdt_written))]
 pub(crate) fn write_laid(
     out: &mut [u8],
-    ids: &acpi_writer::TableIds,
+    ids: &TableIds,
     timers: &ArmTimers,
 ) -> Result<usize, WriterError>
     ensures exact { Gives (λ n. take n out.new) result
@@ -108,10 +109,7 @@ pub(crate) fn write_laid(
 }
 
 /// How many bytes such a GTDT has, or the first error.
-pub(crate) fn laid_size(
-    ids: &acpi_writer::TableIds,
-    timers: &ArmTimers,
-) -> Result<usize, WriterError>
+pub(crate) fn laid_size(ids: &TableIds, timers: &ArmTimers) -> Result<usize, WriterError>
     ensures exact { result ≡ sized (written.gtdt_laid most ids.now timers.now) }
     ensures short { IfOk result (λ n. n < 2 ^ 32) }
 {
@@ -127,8 +125,6 @@ pub fn write_gtdt(out: &mut [u8], ids: &TableIds, timers: &ArmTimers) -> Result<
         (written.gtdt_said (length out.old) ids.now timers.now) }
     ensures keeps { IsKeptOr result out.old out.new }
 {
-    if !has_codes(timers) {
-        return Err(Refusal::UnknownCode);
-    }
-    Ok(write_laid(out, &ids.ids(), timers)?)
+    known(has_codes(timers))?;
+    Ok(write_laid(out, ids, timers)?)
 }

@@ -8,7 +8,7 @@ use crate::arm_records::ArmTimers;
 use crate::fixed_records::FixedHardware;
 use crate::records::{BootGraphic, HpetInfo, PciRegion};
 use crate::refusal::Refusal;
-use crate::writing::{bgrt, fadt, gic, gtdt, madt, spcr};
+use crate::writing::{bgrt, fadt, gic, gtdt, known, madt, spcr};
 use crate::written_records::{
     AmlContents, GicContents, ListedTable, Machine, MadtContents, SlitContents, SpcrContents,
     SratContents,
@@ -41,53 +41,33 @@ pub(crate) enum Contents<'a> {
     Nothing,
 }
 
+/// What the first record of a list says, or `Nothing` if the list is empty.
+macro_rules! first_as {
+    ($says:path, $list:expr) => {
+        match $list {
+            [first, ..] => $says(*first),
+            [] => Contents::Nothing,
+        }
+    };
+}
+
 impl<'a> ListedTable<'a> {
     /// What the table is to say.
     fn contents(&self) -> Contents<'a>
         ensures { result ≡ whole.contents_of self.now }
     {
         match self.kind {
-            0 => match self.fadts {
-                [first, ..] => Contents::Fadt(*first),
-                [] => Contents::Nothing,
-            },
-            1 => match self.madts {
-                [first, ..] => Contents::Madt(*first),
-                [] => Contents::Nothing,
-            },
+            0 => first_as!(Contents::Fadt, self.fadts),
+            1 => first_as!(Contents::Madt, self.madts),
             2 => Contents::Mcfg(self.regions),
-            3 => match self.hpets {
-                [first, ..] => Contents::Hpet(*first),
-                [] => Contents::Nothing,
-            },
-            4 => match self.slits {
-                [first, ..] => Contents::Slit(*first),
-                [] => Contents::Nothing,
-            },
-            5 => match self.ssdts {
-                [first, ..] => Contents::Ssdt(*first),
-                [] => Contents::Nothing,
-            },
-            6 => match self.srats {
-                [first, ..] => Contents::Srat(*first),
-                [] => Contents::Nothing,
-            },
-            7 => match self.bgrts {
-                [first, ..] => Contents::Bgrt(*first),
-                [] => Contents::Nothing,
-            },
-            8 => match self.spcrs {
-                [first, ..] => Contents::Spcr(*first),
-                [] => Contents::Nothing,
-            },
-            9 => match self.gtdts {
-                [first, ..] => Contents::Gtdt(*first),
-                [] => Contents::Nothing,
-            },
-            10 => match self.gics {
-                [first, ..] => Contents::Gic(*first),
-                [] => Contents::Nothing,
-            },
+            3 => first_as!(Contents::Hpet, self.hpets),
+            4 => first_as!(Contents::Slit, self.slits),
+            5 => first_as!(Contents::Ssdt, self.ssdts),
+            6 => first_as!(Contents::Srat, self.srats),
+            7 => first_as!(Contents::Bgrt, self.bgrts),
+            8 => first_as!(Contents::Spcr, self.spcrs),
+            9 => first_as!(Contents::Gtdt, self.gtdts),
+            10 => first_as!(Contents::Gic, self.gics),
             _ => Contents::Nothing,
         }
     }
@@ -138,6 +118,7 @@ impl Listed for ListedTable<'_> {
         }
     }
 
+    #[tactic(auto, using(crate::proofs::WrittenTables::moved_listed))]
     fn moves(&self, ids: &TableIds) {
         ids.fit();
     }
@@ -149,7 +130,7 @@ impl<'a> Machine<'a> {
         ensures { result ≡ whole.machine_of self.now }
     {
         acpi_writer::Machine {
-            ids: self.ids.ids(),
+            ids: self.ids,
             dsdt: match self.dsdts {
                 [first, ..] => Some(acpi_writer::AmlContents {
                     revision: first.revision,
@@ -169,48 +150,12 @@ fn check_table(table: &ListedTable<'_>) -> Result<(), Refusal>
 {
     match table.contents() {
         Contents::Nothing => Err(Refusal::UnknownTable),
-        Contents::Fadt(hardware) => {
-            if fadt::has_codes(&hardware) {
-                Ok(())
-            } else {
-                Err(Refusal::UnknownCode)
-            }
-        }
-        Contents::Madt(lists) => {
-            if madt::has_codes(&lists) {
-                Ok(())
-            } else {
-                Err(Refusal::UnknownCode)
-            }
-        }
-        Contents::Bgrt(graphic) => {
-            if bgrt::has_codes(&graphic) {
-                Ok(())
-            } else {
-                Err(Refusal::UnknownCode)
-            }
-        }
-        Contents::Gtdt(timers) => {
-            if gtdt::has_codes(&timers) {
-                Ok(())
-            } else {
-                Err(Refusal::UnknownCode)
-            }
-        }
-        Contents::Spcr(console) => {
-            if spcr::has_codes(&console) {
-                Ok(())
-            } else {
-                Err(Refusal::UnknownCode)
-            }
-        }
-        Contents::Gic(parts) => {
-            if gic::has_codes(&parts) {
-                Ok(())
-            } else {
-                Err(Refusal::UnknownCode)
-            }
-        }
+        Contents::Fadt(hardware) => known(fadt::has_codes(&hardware)),
+        Contents::Madt(lists) => known(madt::has_codes(&lists)),
+        Contents::Bgrt(graphic) => known(bgrt::has_codes(&graphic)),
+        Contents::Gtdt(timers) => known(gtdt::has_codes(&timers)),
+        Contents::Spcr(console) => known(spcr::has_codes(&console)),
+        Contents::Gic(parts) => known(gic::has_codes(&parts)),
         _ => Ok(()),
     }
 }
@@ -220,10 +165,7 @@ fn check_tables(tables: &[ListedTable<'_>]) -> Result<(), Refusal>
     ensures { result ≡ whole.check_tables tables.now }
 {
     for table in tables {
-        match check_table(table) {
-            Ok(()) => {}
-            Err(refusal) => return Err(refusal),
-        }
+        check_table(table)?;
     }
     Ok(())
 }
@@ -266,8 +208,5 @@ pub fn tables_size(machine: &Machine<'_>) -> Result<usize, Refusal>
 pub fn dsdt_place(address: u64, tables: usize) -> Result<u64, Refusal>
     ensures { result ≡ whole.dsdt_said address tables }
 {
-    match dsdt_address(address, tables) {
-        Some(place) => Ok(place),
-        None => Err(Refusal::Writer(WriterError::NoAddress)),
-    }
+    dsdt_address(address, tables).ok_or(Refusal::Writer(WriterError::NoAddress))
 }

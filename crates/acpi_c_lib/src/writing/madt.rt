@@ -8,6 +8,7 @@ ghost use Rattle.acpi_writer.specs.Contents.{most, sized};
 ghost use Rattle.acpi_writer.specs.MadtBytes.{is_single, names_one};
 ghost use Rattle.acpi_writer.specs.Table.{Keeps};
 
+use super::known;
 use crate::interrupt_records::{InterruptSourceOverride, IoApic, NmiLine, NmiSource, Processor};
 use crate::refusal::Refusal;
 use crate::written_records::{MadtContents, TableIds};
@@ -298,7 +299,7 @@ macro_rules! lists_of {
 /// Returns the errors of `acpi_writer::write_madt`, in its order.
 pub(crate) fn write_laid(
     out: &mut [u8],
-    ids: &acpi_writer::TableIds,
+    ids: &TableIds,
     contents: &MadtContents<'_>,
 ) -> Result<usize, WriterError>
     ensures exact { Gives (λ n. take n out.new) result
@@ -311,10 +312,7 @@ pub(crate) fn write_laid(
 }
 
 /// How many bytes such a MADT has, or the first error.
-pub(crate) fn laid_size(
-    ids: &acpi_writer::TableIds,
-    contents: &MadtContents<'_>,
-) -> Result<usize, WriterError>
+pub(crate) fn laid_size(ids: &TableIds, contents: &MadtContents<'_>) -> Result<usize, WriterError>
     ensures exact { result ≡ sized (writing.madt_laid most ids.now contents.now) }
     ensures short { IfOk result (λ n. n < 2 ^ 32) }
 {
@@ -335,8 +333,6 @@ pub fn write_madt(
         (writing.madt_said (length out.old) ids.now contents.now) }
     ensures keeps { IsKeptOr result out.old out.new }
 {
-    if !has_codes(contents) {
-        return Err(Refusal::UnknownCode);
-    }
-    Ok(write_laid(out, &ids.ids(), contents)?)
+    known(has_codes(contents))?;
+    Ok(write_laid(out, ids, contents)?)
 }

@@ -6,6 +6,7 @@ ghost use Rattle.acpi_c_lib.specs.WrittenSpcr as written;
 ghost use Rattle.acpi_writer.specs.Contents.{most, sized};
 ghost use Rattle.acpi_writer.specs.Table.{Keeps};
 
+use super::known;
 use crate::fixed_records::Console;
 use crate::records::Register;
 use crate::refusal::Refusal;
@@ -110,10 +111,10 @@ fn contents<'a>(given: &SpcrContents) -> acpi_writer::SpcrContents<'a>
 }
 
 /// Writes an SPCR of a record whose codes there are.
-#[tactic(auto, using(crate::proofs::WrittenSpcr::named), unfolding(acpi_writer::specs::Spcr::spcr_written, acpi_writer::specs::Spcr::port_fields))]
+#[tactic(auto, using(crate::proofs::WrittenTables::named), unfolding(acpi_writer::specs::Spcr::spcr_written, acpi_writer::specs::Spcr::port_fields))]
 pub(crate) fn write_laid(
     out: &mut [u8],
-    ids: &acpi_writer::TableIds,
+    ids: &TableIds,
     given: &SpcrContents,
 ) -> Result<usize, WriterError>
     ensures exact { Gives (λ n. take n out.new) result
@@ -124,11 +125,8 @@ pub(crate) fn write_laid(
 }
 
 /// How many bytes such an SPCR has, or the first error.
-#[tactic(auto, using(crate::proofs::WrittenSpcr::named), unfolding(acpi_writer::specs::Spcr::spcr_written, acpi_writer::specs::Spcr::port_fields))]
-pub(crate) fn laid_size(
-    ids: &acpi_writer::TableIds,
-    given: &SpcrContents,
-) -> Result<usize, WriterError>
+#[tactic(auto, using(crate::proofs::WrittenTables::named), unfolding(acpi_writer::specs::Spcr::spcr_written, acpi_writer::specs::Spcr::port_fields))]
+pub(crate) fn laid_size(ids: &TableIds, given: &SpcrContents) -> Result<usize, WriterError>
     ensures exact { result ≡ sized (written.spcr_laid most ids.now given.now) }
     ensures short { IfOk result (λ n. n < 2 ^ 32) }
 {
@@ -143,8 +141,6 @@ pub fn write_spcr(out: &mut [u8], ids: &TableIds, spcr: &SpcrContents) -> Result
         (written.spcr_said (length out.old) ids.now spcr.now) }
     ensures keeps { IsKeptOr result out.old out.new }
 {
-    if !has_codes(spcr) {
-        return Err(Refusal::UnknownCode);
-    }
-    Ok(write_laid(out, &ids.ids(), spcr)?)
+    known(has_codes(spcr))?;
+    Ok(write_laid(out, ids, spcr)?)
 }

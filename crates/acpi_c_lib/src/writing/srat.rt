@@ -2,7 +2,6 @@
 ghost use Rattle.std.specs.Prelude.{◌≡◌, length, take};
 ghost use Rattle.acpi_base.specs.Steps.{Gives};
 ghost use Rattle.acpi_c_lib.specs.WrittenSrat as srat;
-ghost use Rattle.acpi_c_lib.specs.Writing.{ids_of};
 ghost use Rattle.acpi_writer.specs.Table.{Keeps};
 
 use crate::numa_records::MemoryAffinity;
@@ -45,8 +44,8 @@ pub fn write_srat(
     contents: &SratContents<'_>,
 ) -> Result<usize, WriterError>
     ensures exact { Gives (λ n. take n out.new) result
-        (srat.srat_laid (length out.old) (ids_of ids.now) contents.now) }
+        (srat.srat_laid (length out.old) ids.now contents.now) }
     ensures keeps { Keeps result out.old out.new }
 {
-    write_srat_of(out, &ids.ids(), &contents.contents())
+    write_srat_of(out, ids, &contents.contents())
 }
