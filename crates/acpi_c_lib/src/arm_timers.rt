@@ -141,20 +141,13 @@ impl Listing<u64, records::GtFrame> for GtFrameIter<'_> {
 }
 
 /// Lists the watchdogs that the first valid GTDT has.
+#[tactic(auto, using(crate::proofs::Written::watchdogs_few))]
 pub fn watchdogs(source: &Source<'_>, out: &mut [Watchdog]) -> Result<usize, Refusal>
     ensures { Fills result out.old out.new (gtdt_below source.now watchdogs_shown) }
 {
     let memory = Mapped::new(source.regions);
     let gtdt = first::<Gtdt>(&memory, source)?;
-    Ok(fill_watchdogs(gtdt.bytes(), out))
-}
-
-/// The watchdogs of a GTDT.
-#[tactic(auto, using(crate::proofs::Written::watchdogs_few))]
-fn fill_watchdogs(table: &[u8], out: &mut [Watchdog]) -> usize
-    ensures { Writes result out.old out.new (watchdogs_shown table.now) }
-{
-    fill(PlatformTimerIter::over(table), &(), out)
+    Ok(fill(PlatformTimerIter::over(gtdt.bytes()), &(), out))
 }
 
 impl Listing<(), Watchdog> for PlatformTimerIter<'_> {

@@ -105,7 +105,6 @@ fn fill_parts<R: GicRecord>(table: &[u8], out: &mut [R]) -> usize
 }
 
 impl<R: GicRecord> Listing<u8, R> for MadtEntryIter<'_> {
-    ghost use Rattle.std.specs.Prelude.{map};
     ghost use Rattle.std.specs.List.{filter_map};
     ghost use Rattle.std.specs.Option.{option_map};
     ghost use Rattle.acpi_base.specs.MadtWalk.{entries_left};

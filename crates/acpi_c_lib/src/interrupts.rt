@@ -158,10 +158,6 @@ fn fill_entries<R: MadtRecord>(items: MadtItems<'_>, out: &mut [R]) -> usize
 }
 
 impl<R: MadtRecord> Listing<(), R> for MadtItems<'_> {
-    ghost use Rattle.std.specs.Prelude.{map};
-    ghost use Rattle.std.specs.List.{filter_map};
-    ghost use Rattle.std.specs.Option.{option_map};
-    ghost use Rattle.acpi_base.specs.Items.{items_left};
     ghost use Rattle.acpi_c_lib.specs.Listed.{lists_found};
 
     ghost record_of = { λ known x. option_map R.record_of (R.part_in x) };

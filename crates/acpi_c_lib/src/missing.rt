@@ -258,7 +258,6 @@ fn search_hole<H: AcpiHandler>(handler: &H) -> Range
 }
 
 /// Where opening by the search in the areas as far as they are lent is refused so: the root table that the RSDP leads to.
-#[tactic(auto, using(crate::proofs::Unlent::lent_root, crate::proofs::Unlent::lent_nothing))]
 fn areas_root_hole<H: AcpiHandler>(handler: &H) -> Range
     requires { opened_as_lent (H.memory handler.now) ≡ Err MapFailed }
     ensures { last_range (opened_as_lent_ranges (H.memory handler.now)) ≡ Some result }

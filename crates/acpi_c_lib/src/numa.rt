@@ -1,8 +1,8 @@
 //! The domains that memory and processors are in, by the SRAT, and the distances between localities, by the SLIT.
-ghost use Rattle.std.specs.Prelude.{◌≡◌, map};
+ghost use Rattle.std.specs.Prelude.{◌≡◌};
 ghost use Rattle.acpi_numa.specs.Affinities.{domain_at, ranges_of};
-ghost use Rattle.acpi_c_lib.specs.Answers.{Fills, GivesSome, Writes};
-ghost use Rattle.acpi_c_lib.specs.Numa.{IsLocalities, affinities_below, affinity_record, distance_below, slit_in};
+ghost use Rattle.acpi_c_lib.specs.Answers.{Fills, GivesSome};
+ghost use Rattle.acpi_c_lib.specs.Numa.{IsLocalities, affinities_below, distance_below, slit_in};
 ghost use Rattle.acpi_c_lib.specs.Numa.{domain_of_address_below, domain_of_apic_below, domain_of_processor_below};
 
 use crate::lists::{Listing, fill};
@@ -29,21 +29,14 @@ impl From<NumaError> for Refusal {
 }
 
 /// Lists the ranges of memory that the first valid SRAT puts into domains.
+#[tactic(auto, using(crate::proofs::Written::found_few))]
 pub fn affinities(source: &Source<'_>, out: &mut [MemoryAffinity]) -> Result<usize, Refusal>
     ensures { Fills result out.old out.new (affinities_below source.now) }
 {
     let memory = Mapped::new(source.regions);
     let srat = first::<Srat>(&memory, source)?;
     affinities_count(srat.bytes())?;
-    Ok(fill_affinities(srat.bytes(), out))
-}
-
-/// The ranges in a SRAT's bytes.
-#[tactic(auto, using(crate::proofs::Written::found_few))]
-fn fill_affinities(table: &[u8], out: &mut [MemoryAffinity]) -> usize
-    ensures { Writes result out.old out.new (map affinity_record (ranges_of table.now)) }
-{
-    fill(Domains::over(table).entries(), &(), out)
+    Ok(fill(Domains::over(srat.bytes()).entries(), &(), out))
 }
 
 impl Listing<(), MemoryAffinity> for SratEntryIter<'_> {

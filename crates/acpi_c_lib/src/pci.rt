@@ -26,7 +26,6 @@ pub fn pci_regions(source: &Source<'_>, out: &mut [PciRegion]) -> Result<usize, 
 
 impl Listing<(), PciRegion> for McfgEntryIter<'_> {
     ghost use Rattle.std.specs.Prelude.{Some, map};
-    ghost use Rattle.acpi_base.specs.Mcfg.{mcfg_entries_left};
     ghost use Rattle.acpi_c_lib.specs.Listed.{lists_each};
     ghost use Rattle.acpi_c_lib.specs.Shown.{pci_record};
 
@@ -105,7 +104,6 @@ pub fn ecam_ranges(source: &Source<'_>, out: &mut [EcamRange]) -> Result<usize, 
 
 impl Listing<(), EcamRange> for McfgEntryIter<'_> {
     ghost use Rattle.std.specs.Prelude.{Some, map};
-    ghost use Rattle.acpi_base.specs.Mcfg.{mcfg_entries_left};
     ghost use Rattle.acpi_c_lib.specs.Listed.{lists_each};
     ghost use Rattle.acpi_c_lib.specs.Shown.{ecam_record};
 
