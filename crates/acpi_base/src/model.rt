@@ -23,7 +23,7 @@ pub use interrupt::{
     Apic, InterruptModel, InterruptSourceOverride, IoApic, LocalInterruptLine, NmiLine,
     NmiProcessor, NmiSource, Polarity, TriggerMode,
 };
-pub use isa::{IsaInterrupt, straight, wired};
+pub use isa::IsaInterrupt;
 pub use isa_overrides::IsaOverrides;
 pub use item::MadtItem;
 pub use items::MadtItems;

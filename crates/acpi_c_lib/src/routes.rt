@@ -1,7 +1,7 @@
 //! How interrupts come to the I/O APICs, by walks along the entries of the MADT.
 ghost use Rattle.std.specs.Prelude.{◌≡◌, ◌≤◌, IfSome};
 ghost use Rattle.std.specs.List.{filter_map};
-ghost use Rattle.acpi_base.specs.Isa.{isa_interrupt, override_for, sci_interrupt};
+ghost use Rattle.acpi_base.specs.Isa.{isa_interrupt, sci_interrupt};
 ghost use Rattle.acpi_base.specs.Mapping.{bytes_of};
 ghost use Rattle.acpi_base.specs.Model.{io_apic_in, items_of, override_in};
 ghost use Rattle.acpi_base.specs.Pin.{base_of, nearest};
@@ -16,11 +16,9 @@ use crate::records::Source;
 use crate::refusal::Refusal;
 use crate::regions::Mapped;
 use acpi::madt::Madt;
-use acpi::platform::interrupt::{
-    InterruptSourceOverride, IoApic, IsaInterrupt, Polarity, TriggerMode,
-};
+use acpi::platform::interrupt::{IoApic, IsaInterrupt};
 use acpi::{Lender, PhysicalMapping};
-use acpi_base::model::{MadtItem, straight, wired};
+use acpi_base::model::MadtItem;
 
 /// The global system interrupt of one of the 16 ISA interrupts.
 pub fn isa(source: &Source<'_>, irq: u8) -> Result<Interrupt, Refusal>
@@ -78,31 +76,7 @@ fn isa_in<H: Lender>(madt: &PhysicalMapping<'_, H, Madt>, irq: u8) -> Option<Isa
 fn sci_in<H: Lender>(madt: &PhysicalMapping<'_, H, Madt>, sci: u16) -> IsaInterrupt
     ensures { result ≡ sci_interrupt (filter_map override_in (items_of (bytes_of madt.now))) sci }
 {
-    let (polarity, trigger_mode) = (Polarity::ActiveLow, TriggerMode::Level);
-    if sci < 16
-        && let Some(wiring) = override_for(madt, sci as u8)
-    {
-        return wired(&wiring, polarity, trigger_mode);
-    }
-    straight(sci as u32, polarity, trigger_mode)
-}
-
-/// The override of a source that counts: the last one.
-fn override_for<H: Lender>(
-    madt: &PhysicalMapping<'_, H, Madt>,
-    source: u8,
-) -> Option<InterruptSourceOverride>
-    ensures { result ≡ override_for (filter_map override_in (items_of (bytes_of madt.now))) source }
-{
-    let mut last = None;
-    for item in madt.items() {
-        if let MadtItem::Override(wiring) = item
-            && wiring.isa_source == source
-        {
-            last = Some(wiring);
-        }
-    }
-    last
+    overrides_in(madt).sci_interrupt(sci)
 }
 
 /// The first I/O APIC of the greatest base that is at most the interrupt.

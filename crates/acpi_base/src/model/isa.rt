@@ -74,7 +74,7 @@ fn gathered(overrides: &[InterruptSourceOverride]) -> IsaOverrides
 
 /// The interrupt that an Interrupt Source Override gives (section 5.2.12.5). If its flags conform to the bus, it has
 /// this polarity and this trigger mode.
-pub fn wired(
+pub(super) fn wired(
     wiring: &InterruptSourceOverride,
     polarity: Polarity,
     trigger_mode: TriggerMode,
@@ -96,7 +96,7 @@ pub fn wired(
 
 /// The interrupt whose global system interrupt has its own number, since it has no override, with this polarity and
 /// this trigger mode (section 5.2.12.5).
-pub fn straight(number: u32, polarity: Polarity, trigger_mode: TriggerMode) -> IsaInterrupt
+pub(super) fn straight(number: u32, polarity: Polarity, trigger_mode: TriggerMode) -> IsaInterrupt
     ensures { result ≡ straight polarity trigger_mode number }
 {
     IsaInterrupt {
