@@ -1,7 +1,6 @@
 pub mod Ascending
 pub mod Clipping
 pub mod IsaList
-pub mod Tried
 pub mod Unlent
 pub mod Written
 pub mod WrittenTables

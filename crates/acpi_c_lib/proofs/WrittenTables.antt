@@ -15,7 +15,7 @@ use Rattle.acpi_c_lib.specs.declared.writing.machine.Contents.TheVariants.{Bgrt,
 use Rattle.acpi_c_lib.specs.declared.arm_records.ArmTimers.{ArmTimers}
 use Rattle.acpi_c_lib.specs.declared.written_records.GicContents.{GicContents}
 use Rattle.acpi_c_lib.specs.declared.written_records.MadtContents.{MadtContents}
-use Rattle.acpi_writer.proofs.Room.{moved_fadt, moved_slit, moved_spcr, moved_srat, moved_table, through}
+use Rattle.acpi_writer.proofs.Sized.{moved_fadt, moved_slit, moved_spcr, moved_srat, moved_table, through}
 use Rattle.acpi_writer.specs.Bgrt.{bgrt_body}
 use Rattle.acpi_writer.specs.Contents.{Moves, most, sized}
 use Rattle.acpi_writer.specs.Gtdt.{array_bytes, timer_bytes, timer_checked}

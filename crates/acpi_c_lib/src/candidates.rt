@@ -48,7 +48,7 @@ pub(crate) fn candidate_holes<H: AcpiHandler>(
 }
 
 /// The candidates of a source's search. Another start has none.
-#[tactic(auto, using(crate::proofs::Tried::ebda_fits, crate::proofs::Tried::bios_fits))]
+#[tactic(auto, using(crate::proofs::Unlent::ebda_fits, crate::proofs::Unlent::bios_fits))]
 fn areas_of<H: AcpiHandler>(handler: &H, source: &Source<'_>) -> Areas
     ensures exact { result ≡ areas_of (H.memory handler.now) source.now }
     ensures first { Fits result.first }
@@ -78,7 +78,7 @@ fn no_areas() -> Areas
 }
 
 /// Those of the search that asks for the word at 0x40e, and then for each area in one piece with 16 bytes after it.
-#[tactic(auto, using(crate::proofs::Tried::second_fits))]
+#[tactic(auto, using(crate::proofs::Unlent::second_fits))]
 fn pieces<H: AcpiHandler>(handler: &H) -> Areas
     ensures exact { result ≡ pieces (H.memory handler.now) (word_in (H.memory handler.now)) }
     ensures first { Fits result.first }
@@ -109,7 +109,7 @@ fn pieces<H: AcpiHandler>(handler: &H) -> Areas
 }
 
 /// Those of an area as far as it is lent.
-#[tactic(auto, using(crate::proofs::Tried::first_is, crate::proofs::Tried::count_is))]
+#[tactic(auto, using(crate::proofs::Unlent::first_is, crate::proofs::Unlent::count_is))]
 fn stretch(area: AddressRange) -> Candidates
     requires begins { area.address / 16 * 16 ≡ area.address }
     requires low { area.address + area.length ≤ 2 ^ 20 }
@@ -168,7 +168,7 @@ fn tried<H: AcpiHandler>(handler: &H, address: u64) -> Result<(), Option<Range>>
 }
 
 /// Of an RSDP that isn't lent, as many bytes as its Length says, if its 36 bytes are lent.
-#[tactic(auto, using(crate::proofs::Tried::length_said), unfolding(crate::specs::Missing::candidate_hole))]
+#[tactic(auto, using(crate::proofs::Unlent::length_said), unfolding(crate::specs::Missing::candidate_hole))]
 fn length_hole<H: AcpiHandler>(handler: &H, address: u64) -> Option<Range>
     requires { rsdp_at (H.memory handler.now) address ≡ Err MapFailed }
     ensures { result ≡ candidate_hole (H.memory handler.now) address }

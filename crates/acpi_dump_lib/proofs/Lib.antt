@@ -1,3 +1,1 @@
-mod Lines
-mod Pairs
-mod Records
+mod Reading

@@ -1,3 +1,2 @@
-pub mod Memories
 pub mod Packed
 pub mod Placing

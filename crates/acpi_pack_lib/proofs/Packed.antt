@@ -20,8 +20,7 @@ use Rattle.acpi_image_reader.proofs.Sharing.{memory_with}
 use Rattle.acpi_image.proofs.WrittenRoot.{pointers_are, root_there, IsRsdp, is_rsdp, rsdp_there}
 use Rattle.acpi_image_reader.specs.Image.{IsImage}
 use Rattle.acpi_image.specs.Written.{root_length, root_record, root_to, rsdp_record, rsdp_to, starts_of}
-use Rattle.acpi_pack_lib.proofs.Memories.{HasPlace, file_is, has_place, is_file, placed_apart, placed_behind, placed_memory, same_regions, tables_valid}
-use Rattle.acpi_pack_lib.proofs.Placing.{is_placed, placed_bytes, placed_law}
+use Rattle.acpi_pack_lib.proofs.Placing.{HasPlace, file_is, has_place, is_file, placed_apart, placed_behind, placed_memory, same_regions, tables_valid, is_placed, placed_bytes, placed_law}
 use Rattle.acpi_pack_lib.specs.Pack.{all_regions, check_place, dsdt_address, dsdt_at, file_of, first_address, fixed_of, laid_out, listed_or, packed_tables, rsdp_address, rsdp_place, unless_second, check_places, packed_files, regions}
 use Rattle.acpi_pack_lib.specs.Packed.{IsPacked, IsRight, opened_with}
 use Rattle.acpi_pack_lib.specs.Place.{ArePlaced, place_at, placed_from}

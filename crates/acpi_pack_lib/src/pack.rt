@@ -139,7 +139,7 @@ fn pack_files_exact(
 /// `Empty` if it has no bytes; then of a file, in order, `EndTooLarge` if its address and the number of its
 /// bytes add up to more than 2^64 - 1, or `Overlap` if it shares a byte with an earlier one; and if no file
 /// is refused, `OutOfMemory` if memory runs out.
-#[tactic(auto, using(crate::proofs::Memories::files_packed))]
+#[tactic(auto, using(crate::proofs::Placing::files_packed))]
 pub fn pack_files(
     alloc: Global,
     addresses: &[u64],

@@ -47,9 +47,9 @@ use Rattle.acpi_writer.proofs.ShortTables.{bgrt_long, bgrt_name, bgrt_read, bgrt
 use Rattle.acpi_writer.proofs.FadtRead.{fadt_is, fadt_name, fadt_read, fadt_valid}
 use Rattle.acpi_writer.proofs.GicRead.{gic_madt_valid, entry_bytes, gic_madt_read}
 use Rattle.acpi_writer.proofs.GtdtRead.{gtdt_valid}
-use Rattle.acpi_writer.proofs.LaidRead.{holds_only}
+use Rattle.acpi_writer.proofs.LaidRead.{holds_only, platform_has}
 use Rattle.acpi_writer.proofs.MadtRead.{fixed_long, madt_is, madt_name, madt_read, madt_valid}
-use Rattle.acpi_writer.proofs.Room.{wrote}
+use Rattle.acpi_writer.proofs.Sized.{wrote}
 use Rattle.acpi_writer.proofs.SpcrRead.{spcr_valid}
 use Rattle.acpi_writer.proofs.SratRead.{srat_is, srat_name, srat_read, srat_valid}
 use Rattle.acpi_base.proofs.Spelling.{length-spelling}
@@ -70,7 +70,6 @@ use Rattle.acpi_writer.specs.SratLaws.{IsSrat, SaysDomains}
 use Rattle.acpi_writer.specs.declared.bgrt.BgrtContents.{BgrtContents}
 use Rattle.acpi_writer.specs.declared.contents.SlitContents.{SlitContents}
 use Rattle.acpi_writer.proofs.FadtParts.{body_long}
-use Rattle.acpi_writer.proofs.Images.{platform_has}
 use Rattle.acpi_writer.specs.SratLaws as srat
 use Rattle.acpi_writer.proofs.GtdtRead as gtdt
 use Rattle.acpi_writer.proofs.SpcrRead as spcr

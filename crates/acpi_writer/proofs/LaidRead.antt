@@ -1,28 +1,58 @@
--- What a reader finds of tables that are laid one after the other.
-use Rattle.std.proofs.Common.{◌≡◌, ℕ, ◌+◌, ◌-◌, ◌≤◌, Bool, true, false, List, [], ◌∷◌, ◌++◌, length, take, drop, Some, None, Result, Ok, Err, refl, sym, ap, ◌∙◌, arith, if◌then◌else◌, length-append}
+-- What a reader finds of tables that are laid one after the other, and in an image that has one.
+use Rattle.std.proofs.Common.{◌≡◌, ℕ, ◌+◌, ◌-◌, ◌≤◌, Bool, true, false, List, [], ◌∷◌, ◌++◌, length, take, drop, Some, None, Result, Ok, Err, refl, sym, ap, ◌∙◌, arith, if◌then◌else◌, length-append, Option, lit≤, map}
 use Rattle.std.specs.Prelude.{◌&&◌, ◌==◌, nat_le, replicate}
 use Rattle.std.specs.Result.{result_ok}
 use Rattle.std.proofs.lemmas.Bool.{eqb-true, le-leb}
-use Rattle.std.proofs.lemmas.List.{drop_at, drop-drop, drop-take, take_all, take_at}
+use Rattle.std.proofs.lemmas.List.{drop_at, drop-drop, drop-take, take_all, take_at, set-set}
 use Rattle.acpi_base.proofs.LentRanges.{at-front, lent_inside, lent_is_inside}
-use Rattle.acpi_base.proofs.OwnTable.{good_rest, header_front, own_table, own_table_is, passes, served}
+use Rattle.acpi_base.proofs.OwnTable.{good_rest, header_front, own_table, own_table_is, passes, served, serves}
 use Rattle.acpi_base.proofs.Steps.{bind_ok, holds_ok}
 use Rattle.acpi_base.specs.Bytes.{field_of, part, sum_of}
 use Rattle.acpi_base.specs.Header.{check_names, check_table, header_at}
 use Rattle.acpi_base.specs.Memory.{Memory, HoldsRange, IsMemory, Region, at, rest_from}
-use Rattle.acpi_base.specs.Steps.{holds, lent}
-use Rattle.acpi_base.specs.Table.{own_table_at, plain_kind, sdt_kind, table_at}
+use Rattle.acpi_base.specs.Steps.{holds, lent, ◌>>=◌}
+use Rattle.acpi_base.specs.Table.{own_table_at, plain_kind, sdt_kind, table_at, kind}
 use Rattle.acpi_base.specs.Text.{letters_of}
 use Rattle.acpi_base.specs.declared.error.AcpiError.{AcpiError}
 use Rattle.acpi_base.specs.declared.error.AcpiError.TheVariants.{SdtInvalidChecksum, SdtInvalidLength}
 use Rattle.acpi_base.specs.declared.table.signature.Signature.{Signature}
 use Rattle.acpi.proofs.First.{here}
 use Rattle.acpi.specs.Later.{or_later}
-use Rattle.acpi_image.proofs.Written.{header_names, table_is}
-use Rattle.acpi_writer.specs.ImageLaws.{is_named}
+use Rattle.acpi_image.proofs.Written.{header_names, table_is, length-with_sum, part_front}
+use Rattle.acpi_writer.specs.ImageLaws.{is_named, HasFirst, HasPlatform, HpetInImage, MadtInImage, McfgInImage, PlatformInImage}
 use Rattle.acpi_writer.specs.Laid.{gap, laid, padded}
 use Rattle.acpi_writer.specs.MachineLaws.{LaidAreFound}
-use Rattle.acpi_writer.specs.Table.{IsValid}
+use Rattle.acpi_writer.specs.Table.{IsValid, IsTableOf, table_bytes, unsummed}
+use Rattle.acpi_base.specs.Mcfg.{mcfg_entries_of}
+use Rattle.acpi_base.specs.Model.{Model, model_of}
+use Rattle.acpi_base.specs.declared.model.interrupt.InterruptModel.TheVariants.{Unknown}
+use Rattle.acpi_base.specs.declared.table.signature.TheConstants.Signature.{HPET, MADT, MCFG}
+use Rattle.acpi_base.specs.declared.tables.mcfg.McfgEntry.{McfgEntry}
+use Rattle.acpi_fixed.specs.Fadt.{fadt_at, profile_of}
+use Rattle.acpi_fixed.specs.declared.fadt.PowerProfile.{PowerProfile}
+use Rattle.acpi.specs.Hpet.{hpet_at, hpet_kind, info_of}
+use Rattle.acpi.specs.Lists.{fadt_kind}
+use Rattle.acpi.specs.Lookup.{lookup}
+use Rattle.acpi.specs.Pci.{mcfg_kind}
+use Rattle.acpi.specs.Platform.{madt_kind, model_in, platform_of}
+use Rattle.acpi.specs.Relocation.{bytes_found}
+use Rattle.acpi.specs.Timer.{timer_of}
+use Rattle.acpi.specs.declared.platform.PlatformInfo.{PlatformInfo}
+use Rattle.acpi.specs.declared.platform.timer.PmTimer.{PmTimer}
+use Rattle.acpi_image.specs.Written.{Plan, pointers_of, records_of, with_sum, sum_byte}
+use Rattle.acpi_writer.specs.HpetBytes.{hpet_body}
+use Rattle.acpi_writer.specs.MadtBytes.{madt_body, madt_entries, madt_fixed}
+use Rattle.acpi_writer.specs.MadtLaws.{model_read}
+use Rattle.acpi_writer.specs.McfgBytes.{mcfg_body}
+use Rattle.acpi_writer.specs.declared.ids.TableIds.{TableIds}
+use Rattle.acpi_writer.specs.declared.madt.MadtContents.{MadtContents}
+use Rattle.acpi_writer.proofs.ShortTables.{hpet_long, hpet_name, hpet_read, mcfg_name, mcfg_read}
+use Rattle.acpi_writer.proofs.MadtRead.{fixed_long, madt_name, madt_read}
+use Rattle.std.specs.List.{AllByRecursion}
+use Rattle.std.specs.Str.{bytes_eq}
+use Rattle.acpi.proofs.Moved.{first_of, lookup_is}
+use Rattle.acpi_image.proofs.WrittenLaws.{written_is_read}
+use Rattle.acpi_writer.proofs.Tables as table
 
 -- ---- the front and the rest of what is lent
 
@@ -112,3 +142,126 @@ laid_found m a (t ∷ ts) h valid e s least enough =
     let first : at m a (length t) ≡ Some t = front_lent m a t filled (front_lent m a (padded t) (laid ts) e) in
     step (is_named s t && nat_le least (length t)) a t (table_at m (sdt_kind s least) a) _ _ (there m a valid.0.0 t valid.0.1 first s least enough)
     (laid_found m (a + length (padded t)) ts h valid.1 (rest_lent m a (padded t) (laid ts) h e) s least enough)
+
+-- ---- a table whose Checksum is set
+
+pub with_sum_again : (offset : ℕ) (bytes : List ℕ) → with_sum offset (with_sum offset bytes) ≡ with_sum offset bytes
+unfolding with_sum sum_byte
+with_sum_again offset bytes = rw (set-set, set-set) refl
+
+serves_named : (s : Signature) (least : ℕ) (table : List ℕ) → serves s least (with_sum 9 table) ≡ (is_named s table && nat_le least (length table))
+unfolding header_at with_sum
+serves_named s least table =
+    ap (λ p. bytes_eq p s.0 && nat_le least (length (with_sum 9 table))) (part_front table 9 (sum_byte 9 table) 4 (lit≤ tt)) ∙ ap (λ n. is_named s table && nat_le least n) (length-with_sum 9 table)
+
+abbrev summed_bytes : Region → List ℕ
+summed_bytes t = with_sum 9 t.bytes
+
+first_here : (s : Signature) (least : ℕ) (table : List ℕ) (ts : List (List ℕ)) → is_named s table ≡ true → least ≤ length table → first_of s least (with_sum 9 table ∷ ts) ≡ Ok (with_sum 9 table)
+unfolding first_of
+first_here s least table ts named long = rw (serves_named s least table, named, le-leb least (length table) long) refl
+
+first_past : (s : Signature) (least : ℕ) (table : List ℕ) (ts : List (List ℕ)) → is_named s table ≡ false → first_of s least (with_sum 9 table ∷ ts) ≡ first_of s least ts
+unfolding first_of
+first_past s least table ts named = rw (serves_named s least table, named) refl
+
+first_after : (s : Signature) (least a : ℕ) (table : List ℕ) (before after : Memory) → AllByRecursion (λ t. is_named s t.bytes ≡ false) before → is_named s table ≡ true → least ≤ length table
+    → first_of s least (map summed_bytes (before ++ record { start = a; bytes = table } ∷ after)) ≡ Ok (with_sum 9 table)
+first_after s least a table [] after others named long = first_here s least table (map summed_bytes after) named long
+first_after s least a table (t ∷ before) after others named long =
+    first_past s least t.bytes (map summed_bytes (before ++ record { start = a; bytes = table } ∷ after)) others.0 ∙ first_after s least a table before after others.1 named long
+
+-- what a lookup finds in the image
+pub found_in_image : (s : Signature) (least : ℕ) (p : Plan) (table : List ℕ) (first : HasFirst s p table) → is_named s table ≡ true → 36 ≤ least → least ≤ length table
+    → bytes_found (lookup (records_of p) (kind s least (check_table s)) (pointers_of p)) ≡ Ok (with_sum 9 table)
+found_in_image s least p table first named enough long =
+    lookup_is (records_of p) s least (pointers_of p) enough ∙ ap (first_of s least) ((written_is_read p first.file first.bytes first.is_written).tables ∙ ap (map summed_bytes) first.tables)
+    ∙ first_after s least first.address table first.before first.after first.others named long
+
+-- ---- a table that is written
+
+again : (s : Signature) (revision : ℕ) (ids : TableIds) (body t : List ℕ) → IsTableOf s revision ids body t → with_sum 9 t ≡ t
+unfolding table_bytes
+again s revision ids body t is = ap (with_sum 9) is.bytes ∙ with_sum_again 9 (unsummed s revision ids body) ∙ sym is.bytes
+
+abbrev fine : List ℕ → Result (List ℕ) AcpiError
+fine x = Ok x
+
+-- the first table of its signature is found as it was written
+first_found : (s : Signature) (name : table.IsName s) (least revision : ℕ) (ids : TableIds) (body t : List ℕ) (p : Plan) → IsTableOf s revision ids body t → HasFirst s p t → 36 ≤ least → least ≤ 36 + length body
+    → bytes_found (lookup (records_of p) (kind s least (check_table s)) (pointers_of p)) ≡ Ok t
+first_found s name least revision ids body t p is first enough long =
+    found_in_image s least p t first (table.named s name revision ids body t is) enough (omega (arith, long, table.long s name revision ids body t is)) ∙ ap fine (again s revision ids body t is)
+
+same_found : (x y : List ℕ) → fine x ≡ fine y → x ≡ y
+same_found x y e = cc
+
+-- ---- the MADT
+
+abbrev says : {A : Type 0} → Model A → Result (Model A) AcpiError
+says x = Ok x
+
+model_by_bytes : {A : Type 0} (r : Result (ℕ × List ℕ) AcpiError) (b : List ℕ) → bytes_found r ≡ Ok b → or_later (λ f. model_of f.1) r (says {A = A} (Unknown, None)) ≡ model_of b
+model_by_bytes (Ok found) b e = ap model_of (same_found found.1 b e)
+model_by_bytes (Err d) b e = absurd cc
+
+pub madt_in_image : {A : Type 0} → MadtInImage A
+madt_in_image {A = A} p t ids c is first =
+    let size = length-append (madt_fixed c.local_apic_address c.also_has_legacy_pics) (madt_entries c) in
+    let found = first_found MADT madt_name 44 5 ids (madt_body c) t p is.written first (lit≤ tt) (omega (arith, size, fixed_long c.local_apic_address c.also_has_legacy_pics)) in
+    model_by_bytes {A = A} (lookup (records_of p) madt_kind (pointers_of p)) t found ∙ madt_read {A = A} ids c t is
+
+abbrev plat : {A : Type 0} → PlatformInfo A → Result (PlatformInfo A) AcpiError
+plat x = Ok x
+
+same_platform : {A : Type 0} (x y : PlatformInfo A) → plat x ≡ plat y → x ≡ y
+same_platform x y e = cc
+
+same_model : {A : Type 0} (x y : Model A) → says x ≡ says y → x ≡ y
+same_model x y e = cc
+
+timed : {A : Type 0} (c : MadtContents) (profile : PowerProfile) (q : PlatformInfo A) (said : Result (Model A) AcpiError) (timer : Result (Option PmTimer) AcpiError) → said ≡ Ok (model_read c)
+    → (said >>= λ s. timer >>= λ found. plat (record { power_profile = profile; interrupt_model = s.0; processor_info = s.1; pm_timer = found })) ≡ Ok q → HasPlatform c q
+timed c profile q (Err e) timer same is = absurd cc
+timed c profile q (Ok s) (Err e) same is = absurd cc
+timed c profile q (Ok s) (Ok found) same is =
+    let s_is : s ≡ model_read c = same_model s (model_read c) same in
+    let q_is = same_platform _ q is in
+    record {
+      interrupt_model = sym (ap (λ z. z.interrupt_model) q_is) ∙ ap (λ z. z.0) s_is;
+      processor_info = sym (ap (λ z. z.processor_info) q_is) ∙ ap (λ z. z.1) s_is;
+    }
+
+-- where the interrupt model is found, the platform has it
+pub platform_has : {A : Type 0} (m : Memory) (ps : List ℕ) (c : MadtContents) (q : PlatformInfo A) → model_in {A = A} m ps ≡ Ok (model_read c) → platform_of m ps ≡ Ok q → HasPlatform c q
+platform_has m ps c q model answered =
+    let parts = bind_ok (lookup m fadt_kind ps) _ q answered in
+    timed c (profile_of (fadt_at parts.0.1)) q (model_in m ps) (timer_of (fadt_at parts.0.1)) model parts.2
+
+pub platform_in_image : {A : Type 0} → PlatformInImage A
+platform_in_image {A = A} p t ids c q is first answered = platform_has (records_of p) (pointers_of p) c q (madt_in_image p t ids c is first) answered
+
+-- ---- the MCFG
+
+abbrev regions : List McfgEntry → Result (List McfgEntry) AcpiError
+regions x = Ok x
+
+regions_by : (r : Result (ℕ × List ℕ) AcpiError) (b : List ℕ) → bytes_found r ≡ Ok b → (r >>= λ found. regions (mcfg_entries_of found.1)) ≡ regions (mcfg_entries_of b)
+regions_by (Ok found) b e = ap (λ z. regions (mcfg_entries_of z)) (same_found found.1 b e)
+regions_by (Err d) b e = absurd cc
+
+pub mcfg_in_image : McfgInImage
+mcfg_in_image p t ids es is first =
+    let found = first_found MCFG mcfg_name 44 1 ids (mcfg_body es) t p is.written first (lit≤ tt) (omega arith) in
+    regions_by (lookup (records_of p) mcfg_kind (pointers_of p)) t found ∙ ap regions (mcfg_read ids es t is)
+
+-- ---- the HPET
+
+hpet_by : (r : Result (ℕ × List ℕ) AcpiError) (b : List ℕ) → bytes_found r ≡ Ok b → (r >>= λ found. info_of (hpet_at found.1)) ≡ info_of (hpet_at b)
+hpet_by (Ok found) b e = ap (λ z. info_of (hpet_at z)) (same_found found.1 b e)
+hpet_by (Err d) b e = absurd cc
+
+pub hpet_in_image : HpetInImage
+hpet_in_image p t ids i is first =
+    let found = first_found HPET hpet_name 56 1 ids (hpet_body i) t p is.written first (lit≤ tt) (omega (arith, hpet_long i)) in
+    hpet_by (lookup (records_of p) hpet_kind (pointers_of p)) t found ∙ hpet_read ids i t is

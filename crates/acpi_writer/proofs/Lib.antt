@@ -2,11 +2,9 @@ pub mod Bits
 pub mod Sized
 pub mod Tables
 pub mod Rows
-pub mod Room
 pub mod MadtEntries
 pub mod MadtRead
 pub mod ShortTables
-pub mod Images
 pub mod LaidRead
 pub mod ContentsRead
 pub mod MachineRead

@@ -71,7 +71,7 @@ impl Listed for Dsdt<'_> {
         write_dsdt(out, ids, self.0.revision, self.0.bytes)
     }
 
-    #[tactic(auto, using(crate::proofs::Room::moved_table))]
+    #[tactic(auto, using(crate::proofs::Sized::moved_table))]
     fn moves(&self, ids: &TableIds) {
         ids.fit();
     }

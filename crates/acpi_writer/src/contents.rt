@@ -126,7 +126,7 @@ impl Listed for TableContents<'_> {
         }
     }
 
-    #[tactic(auto, using(crate::proofs::Room::moved_contents))]
+    #[tactic(auto, using(crate::proofs::Sized::moved_contents))]
     fn moves(&self, ids: &TableIds) {
         ids.fit();
     }

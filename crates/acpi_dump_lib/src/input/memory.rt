@@ -7,7 +7,7 @@ use std::alloc::{AllocError, Global};
 /// The image whose one record has these bytes from a physical address on.
 ///
 /// Fails if memory runs out.
-#[tactic(auto, using(crate::proofs::Records::number_spelled))]
+#[tactic(auto, using(crate::proofs::Reading::number_spelled))]
 pub(crate) fn image_of(alloc: Global, address: u64, bytes: &[u8]) -> Result<Vec<u8>, AllocError>
     ensures { IfOk result (λ v. v.items
         ≡ record_spelling (record { start = address; bytes = bytes.now })) }

@@ -72,7 +72,7 @@ fn first_pair(text: &[u8]) -> Option<(u8, &[u8])>
 /// all of that are pairs.
 ///
 /// Fails if memory runs out.
-#[tactic(auto, using(crate::proofs::Pairs::pairs_done, crate::proofs::Pairs::pairs_gap, crate::proofs::Pairs::pairs_wrong, crate::proofs::Pairs::pairs_more))]
+#[tactic(auto, using(crate::proofs::Reading::pairs_done, crate::proofs::Reading::pairs_gap, crate::proofs::Reading::pairs_wrong, crate::proofs::Reading::pairs_more))]
 pub(crate) fn push_pairs(bytes: &mut Vec<u8>, text: &[u8]) -> Result<bool, AllocError>
     ensures { IfOk result (λ all. with_pairs 16 bytes.old.items text.now
         ≡ (if all then Some bytes.new.items else None)) }

@@ -49,7 +49,7 @@ pub(crate) struct Reading {
 }
 
 /// The first line of a text without its line feed, and what stands after that.
-#[tactic(auto, using(crate::proofs::Lines::after_shorter))]
+#[tactic(auto, using(crate::proofs::Reading::after_shorter))]
 pub(crate) fn first_line(text: &str) -> (&str, &str)
     ensures line { result.0.now ≡ before_first (λ c. c == 10) text.now }
     ensures rest { result.1.now ≡ after_first (λ c. c == 10) text.now }
@@ -182,7 +182,7 @@ impl Reading {
 /// Fails with `Line` at the first line that is wrong: a row outside a table, or in a table a row whose offset
 /// isn't the number of the bytes before it or whose pairs can't be read, or a line that is neither row, heading nor
 /// blank. It refuses with `OutOfMemory` if memory runs out.
-#[tactic(auto, using(crate::proofs::Lines::lines_end, crate::proofs::Lines::lines_wrong, crate::proofs::Lines::lines_more, crate::proofs::Lines::after_shorter))]
+#[tactic(auto, using(crate::proofs::Reading::lines_end, crate::proofs::Reading::lines_wrong, crate::proofs::Reading::lines_more, crate::proofs::Reading::after_shorter))]
 pub(crate) fn tables_in(alloc: Global, text: &str) -> Result<Vec<SpelledTable>, TextError>
     ensures spelled { IfOk result (λ v. tables_of text.now ≡ Ok (spelled_in v.items)) }
     ensures wrong { (n : ℕ) → result ≡ Err (Line n) → tables_of text.now ≡ Err n }

@@ -1,7 +1,7 @@
 use Rattle.std.proofs.Common.{◌≡◌, true, false, subst}
 use Rattle.acpi_c_lib.specs.Answers.{Writes}
 use Rattle.acpi_c_lib.specs.Missing.{areas_holes, candidate_holes}
-use Rattle.acpi_c_lib.proofs.Tried.{both_walked, first_found}
+use Rattle.acpi_c_lib.proofs.Unlent.{both_walked, first_found}
 use Rattle.acpi_c_lib.proofs.candidates.candidate_holes.Goals as goal
 
 pub returns-then-is_found-clause-written : goal.returns-then-is_found-clause-written

@@ -1,5 +1,5 @@
 use Rattle.std.proofs.Common.{arith, sym}
-use Rattle.acpi_c_lib.proofs.Tried.{few_holes, walked_all, walked_more, walked_to}
+use Rattle.acpi_c_lib.proofs.Unlent.{few_holes, walked_all, walked_more, walked_to}
 use Rattle.acpi_c_lib.proofs.candidates.walk.Goals as goal
 
 pub loop-left-preserved : goal.loop-left-preserved

@@ -1,7 +1,7 @@
 use Rattle.std.proofs.Common.{◌+◌, ◌*◌, ◌^◌, ◌≤◌, length}
 use Rattle.acpi_c_lib.specs.Answers.{put_from}
 use Rattle.acpi_c_lib.specs.Missing.{has_valid, walk_holes}
-use Rattle.acpi_c_lib.proofs.Tried.{Walked}
+use Rattle.acpi_c_lib.proofs.Unlent.{Walked}
 use Rattle.acpi_c_lib.proofs.candidates.walk.Given as goal
 
 -- what is written and what is left are the whole, and those that are left have the first valid one of all

@@ -1,4 +1,4 @@
-use Rattle.acpi_writer.proofs.Images.{hpet_in_image, madt_in_image, mcfg_in_image, platform_in_image}
+use Rattle.acpi_writer.proofs.LaidRead.{hpet_in_image, madt_in_image, mcfg_in_image, platform_in_image}
 use Rattle.acpi_writer.proofs.laws.images_are_read.Goals as goal
 
 pub returns-clause-madt : goal.returns-clause-madt

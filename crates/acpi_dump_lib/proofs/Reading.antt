@@ -1,9 +1,14 @@
--- A text, one line at a time.
-use Rattle.std.proofs.Common.{◌≡◌, ℕ, ◌+◌, ◌<◌, ◌≤◌, ◌==◌, Bool, true, false, not, List, [], ◌∷◌, length, refl, ap, arith, cond, if◌then◌else◌}
+-- What stands at the front of what is read: a line of a text, a pair of digits, the numbers of a record.
+use Rattle.std.proofs.Common.{◌≡◌, ℕ, ◌+◌, ◌<◌, ◌≤◌, ◌==◌, Bool, true, false, not, List, [], ◌∷◌, length, refl, ap, arith, cond, if◌then◌else◌, zero, suc, ◌-◌, ◌++◌, Option, Some, None, option_map, ◌^◌, w64, take}
 use Rattle.std.specs.Prelude.{Option, Some, None, Result, Ok, Err}
 use Rattle.std.specs.List.{after_first, before_first, prefix_len}
-use Rattle.acpi_dump_lib.specs.DumpText.{Spelled, Tables, all_of, lines_of, onto_first, or_wrong, tables_from, with_line}
+use Rattle.acpi_dump_lib.specs.DumpText.{Spelled, Tables, all_of, lines_of, onto_first, or_wrong, tables_from, with_line, begins_with_gap, first_pair, with_pairs}
 use Rattle.std.proofs.lemmas.Grind.{common_steps}
+use Rattle.acpi_base.specs.Bytes.{spelling}
+use Rattle.acpi_image.proofs.Written.{low_bytes}
+use Rattle.std.specs.Int.{to_le_bytes}
+
+-- ---- a text, one line at a time
 
 abbrev feed : ℕ → Bool
 feed c = c == 10
@@ -51,3 +56,33 @@ pub lines_more : (n : ℕ) (t more : Tables) (text : List ℕ) → 0 < length te
     → tables_from n t (lines_of text) ≡ tables_from (n + 1) more (lines_of (after_first feed text))
 unfolding tables_from
 lines_more n t more text h e = rw (lines_step text h) (ap (λ o. or_wrong n o (λ next. tables_from (n + 1) next (lines_of (after_first feed text)))) e)
+
+-- ---- pairs, one at a time
+
+pub pairs_done : (n : ℕ) (bytes text : List ℕ) → n ≤ 0 → with_pairs n bytes text ≡ Some bytes
+unfolding with_pairs
+pairs_done zero bytes text none = refl
+pairs_done (suc n) bytes text none = absurd (omega arith)
+
+pub pairs_gap : (n : ℕ) (bytes text : List ℕ) → begins_with_gap text ≡ true → with_pairs n bytes text ≡ Some bytes
+unfolding with_pairs
+pairs_gap zero bytes text h = refl
+pairs_gap (suc n) bytes text h = rw h refl
+
+pub pairs_wrong : (n : ℕ) (bytes text : List ℕ) → 0 < n → begins_with_gap text ≡ false
+    → first_pair text ≡ None → with_pairs n bytes text ≡ None
+unfolding with_pairs
+pairs_wrong zero bytes text some h e = absurd (omega arith)
+pairs_wrong (suc n) bytes text some h e = rw (h, e) refl
+
+pub pairs_more : (n b : ℕ) (bytes text rest : List ℕ) → 0 < n → begins_with_gap text ≡ false
+    → first_pair text ≡ Some (b, rest) → with_pairs n bytes text ≡ with_pairs (n - 1) (bytes ++ b ∷ []) rest
+unfolding with_pairs
+pairs_more zero b bytes text rest some h e = absurd (omega arith)
+pairs_more (suc n) b bytes text rest some h e =
+    let same : suc n - 1 ≡ n = omega arith in rw (h, e, same) refl
+
+-- ---- the numbers that a record begins with
+
+pub number_spelled : (n : ℕ) → n < 2 ^ 64 → take 8 (to_le_bytes w64 n) ≡ spelling 8 n
+number_spelled n small = low_bytes 8 n (omega arith) small
