@@ -183,9 +183,9 @@ pub any_shares : (tables : List PlacedTable) (r : Region) → shares_any (places
 any_shares [] r = refl
 any_shares (t ∷ tables) r = ap (λ b. share (place_of t) r || b) (any_shares tables r)
 
-pub all_fit : (tables : List PlacedTable) → list_all (λ r. nat_lt (end_of r) (2 ^ 64)) (places_of tables) ≡ list_all (λ t. nat_lt (t.address + length t.bytes.now) (2 ^ 64)) tables
+pub all_fit : (tables : List PlacedTable) → list_all (λ r. nat_lt (end_of r) (2 ^ 64)) (places_of tables) ≡ list_all (λ t. nat_lt (end_of (place_of t)) (2 ^ 64)) tables
 all_fit [] = refl
-all_fit (t ∷ tables) = rw (length-replicate {A = ℕ} (length t.bytes.now) 0, all_fit tables) refl
+all_fit (t ∷ tables) = rw (all_fit tables) refl
 
 pub all_low : (tables : List PlacedTable) → list_all (λ a. nat_lt a (2 ^ 32)) (starts_of (placed tables)) ≡ list_all (λ t. nat_lt t.address (2 ^ 32)) tables
 all_low [] = refl
@@ -236,23 +236,23 @@ places_held m =
     held {A = Unit {0}} (list_all (λ r. nat_lt (end_of r) (2 ^ 64)) m) refusal.EndTooLarge (λ _. holds (not (some_share m)) refusal.Overlap) tt (λ _. last (not (some_share m)) refusal.Overlap tt)
 
 -- the checks after those of the tables
-behind : Plan → Result (Unit {0}) WriteError
-behind p =
+later_checks : Plan → Result (Unit {0}) WriteError
+later_checks p =
     holds (nat_lt (root_length (kind_of p) (length p.tables)) (2 ^ 32)) refusal.TooMany
     >>= λ _. holds (pointers_fit p.revision (p.root ∷ pointers_of p)) refusal.PointerTooLarge >>= λ _. check_places (records_of p)
 
-behind_held : (p : Plan) → NotMemory (behind p)
-unfolding behind
-behind_held p =
+later_held : (p : Plan) → NotMemory (later_checks p)
+unfolding later_checks
+later_held p =
     held {A = Unit {0}} (nat_lt (root_length (kind_of p) (length p.tables)) (2 ^ 32)) refusal.TooMany
     (λ _. holds (pointers_fit p.revision (p.root ∷ pointers_of p)) refusal.PointerTooLarge >>= λ _. check_places (records_of p)) tt
     (λ _. held {A = Unit {0}} (pointers_fit p.revision (p.root ∷ pointers_of p)) refusal.PointerTooLarge (λ _. check_places (records_of p)) tt (λ _. places_held (records_of p)))
 
 plan_held : (p : Plan) → NotMemory (check_plan p)
-unfolding check_plan behind
+unfolding check_plan later_checks
 plan_held p =
-    held {A = Unit {0}} (not (p.root == 0)) refusal.ZeroRoot (λ _. check_tables 0 p.tables >>= λ _. behind p) tt
-    (λ _. then_held {A = Unit {0}} {B = Unit {0}} (check_tables 0 p.tables) (λ _. behind p) (tables_held 0 p.tables) (λ _. behind_held p))
+    held {A = Unit {0}} (not (p.root == 0)) refusal.ZeroRoot (λ _. check_tables 0 p.tables >>= λ _. later_checks p) tt
+    (λ _. then_held {A = Unit {0}} {B = Unit {0}} (check_tables 0 p.tables) (λ _. later_checks p) (tables_held 0 p.tables) (λ _. later_held p))
 
 -- a refusal of the checks is the one that is defined
 pub refused : {X : Type 0} (view : X → List ℕ) (p : Plan) (e : WriteError) → check_plan p ≡ Err e → WritesOrRunsOut view (Err e) (written p)

@@ -135,8 +135,8 @@ pub record_bytes : (rs : Memory) → IsBytes (flat_map record_spelling rs) → A
 record_bytes [] h = tt
 record_bytes (r ∷ rs) h =
     let this = front_bytes (record_spelling r) (flat_map record_spelling rs) h in
-    let behind = rest_bytes (spelling 8 r.start) (spelling 8 (length r.bytes) ++ r.bytes) this in
-    (rest_bytes (spelling 8 (length r.bytes)) r.bytes behind, record_bytes rs (rest_bytes (record_spelling r) (flat_map record_spelling rs) h))
+    let after_start = rest_bytes (spelling 8 r.start) (spelling 8 (length r.bytes) ++ r.bytes) this in
+    (rest_bytes (spelling 8 (length r.bytes)) r.bytes after_start, record_bytes rs (rest_bytes (record_spelling r) (flat_map record_spelling rs) h))
 
 -- ---- a byte that is set so that the sum is 0
 

@@ -4,7 +4,7 @@ ghost use Rattle.acpi_base.specs.Laws.{FieldPastEnd, LentIsInside};
 ghost use Rattle.acpi.specs.Laws.{LookupIsFirst, OnePointers, SecondAreas, SkipsInvalid};
 ghost use Rattle.acpi_laws.specs.CodeLaws.{SizesDecode, SpacesDecode};
 
-/// The definitions mean what they are to.
+/// Proves that each of these laws holds.
 pub fn definitions_hold()
     // In a memory of disjoint regions, what is lent is exactly a range that lies whole inside one region, with the
     // bytes that the region has there.

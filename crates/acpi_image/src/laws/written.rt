@@ -17,10 +17,10 @@ pub fn written_is_read<A: Allocator>()
     ensures read { WrittenIsRead }
     // The headers of the tables in an image that is written are those of every memory with its valid tables.
     ensures headers { SaysOfTables (λ m ps. Ok (valid_headers m ps)) }
-    // So is the platform that the FADT and the MADT describe,
+    // The platform that the FADT and the MADT describe is that of every such memory.
     ensures platform { SaysOfTables (λ m ps. platform_of {A = A} m ps) }
-    // the event timer block of the HPET,
+    // So is the event timer block of the HPET.
     ensures hpet { SaysOfTables hpet_of }
-    // and so are the regions of the MCFG.
+    // So are the regions of the MCFG.
     ensures regions { SaysOfTables found_regions }
 {}

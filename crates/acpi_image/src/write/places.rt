@@ -144,9 +144,9 @@ fn some_share_by_pairs(rsdp: AddressRange, root: AddressRange, tables: &[PlacedT
 
 /// Whether each of the tables ends below 2^64.
 fn all_fit(tables: &[PlacedTable<'_>]) -> bool
-    ensures { result ≡ list_all (λ t. nat_lt (t.address + length t.bytes.now) (2 ^ 64)) tables.now }
+    ensures { result ≡ list_all (λ t. nat_lt (end_of (place_of t)) (2 ^ 64)) tables.now }
 {
-    tables.iter().all(|table| table.address as u128 + (table.bytes.len() as u128) < 1 << 64)
+    tables.iter().all(|table| fits(range_of(table)))
 }
 
 /// Tests the places that the records are to lie at.

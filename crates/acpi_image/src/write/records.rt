@@ -48,6 +48,7 @@ fn qword(number: u64) -> [u8; 8]
 fn rsdp_unsummed(revision: u8, rsdt: u64, count: u64, xsdt: u64) -> [u8; 36]
     ensures { result ≡ rsdp_unsummed revision rsdt count xsdt }
 {
+    // From the last field to the first: what is set is always put before what is set already, as the definition joins them.
     let mut rsdp = [0; 36];
     rsdp[24..32].copy_from_slice(&qword(xsdt)); // XsdtAddress
     rsdp[20..24].copy_from_slice(&dword(count)); // Length
@@ -140,6 +141,7 @@ pub fn put_rsdp<A: Allocator>(
 fn root_header(revision: u8, length: usize) -> [u8; 36]
     ensures { result ≡ root_header (signature_of (kind_of_revision revision)) length }
 {
+    // From the last field to the first, as in `rsdp_unsummed`.
     let mut header = [0; 36];
     header[10..24].copy_from_slice(b"              "); // OEMID, OEM Table ID
     header[8] = 1; // Revision
