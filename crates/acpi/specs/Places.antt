@@ -100,10 +100,11 @@ abbrev pub led_by_ranges : (Memory → Fadt → Ranges) → Memory → List ℕ 
 led_by_ranges place m ps = lookup_ranges m fadt_kind ps
     ++ ranges.◌>>=◌ (lookup m fadt_kind ps) (λ found. place m (fadt_at found.1))
 
--- those of the DSDT and the FACS
+-- those of `dsdt_place` and of `facs_place`
 abbrev pub both_place_ranges : Memory → Fadt → Ranges
 both_place_ranges m f = dsdt_place_ranges m f ++ facs_place_ranges m f
 
+-- those of the first valid FADT, and of the DSDT and the FACS that it leads to
 abbrev pub led_ranges : Memory → List ℕ → Ranges
 led_ranges = led_by_ranges both_place_ranges
 

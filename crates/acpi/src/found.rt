@@ -54,7 +54,7 @@ impl<'h, H: Lender, T: AcpiTable> Iterator for FoundTables<'_, 'h, H, T> {
 
     #[tactic(auto, unfolding(crate::specs::Members::found_at))]
     fn next(&mut self) -> Option<PhysicalMapping<'h, H, T>> {
-        while let Some(address) = next_asked::<H, PhantomData<T>>(
+        while let Some(address) = next_asked::<H, PhysicalMapping<'h, H, T>>(
             self.handler,
             &mut self.pointers,
         ) {
@@ -67,7 +67,7 @@ impl<'h, H: Lender, T: AcpiTable> Iterator for FoundTables<'_, 'h, H, T> {
 }
 
 /// A table that is valid for `T`.
-impl<T: AcpiTable> Asked for PhantomData<T> {
+impl<H: Lender, T: AcpiTable> Asked for PhysicalMapping<'_, H, T> {
     ghost use Rattle.acpi_base.specs.Ranges.{table_ranges};
 
     ghost ranges = { λ m. table_ranges m T.kind };

@@ -4,7 +4,7 @@ ghost use Rattle.acpi_base.specs.Ranges.{Allows};
 ghost use Rattle.acpi.specs.Footprint.{header_ranges};
 ghost use Rattle.acpi.specs.Pointers.{pointers_left};
 
-use crate::listed::{Asked, Listed, next_listed};
+use crate::listed::{Asked, Found, next_found};
 use crate::members::own_header;
 use crate::pointers::Pointers;
 use acpi_base::Lender;
@@ -46,7 +46,7 @@ impl<H: Lender> Iterator for SdtHeaderIterator<'_, '_, H> {
     ghost remaining = { item_count (headers_left H.memory) };
 
     fn next(&mut self) -> Option<SdtHeader> {
-        next_listed(self.handler, &mut self.pointers)
+        next_found(self.handler, &mut self.pointers)
     }
 }
 
@@ -56,7 +56,7 @@ impl Asked for SdtHeader {
     ghost ranges = { own_table_ranges };
 }
 
-impl Listed for SdtHeader {
+impl Found for SdtHeader {
     ghost use Rattle.std.specs.Result.{result_ok};
     ghost use Rattle.acpi.specs.Lists.{own_header_at};
 

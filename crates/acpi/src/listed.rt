@@ -7,13 +7,13 @@ ghost use Rattle.acpi.specs.Pointers.{pointers_left};
 use crate::pointers::Pointers;
 use acpi_base::Lender;
 
-/// What is asked for at the address that a pointer gives.
+/// What a walk along pointers looks for where each leads, as the header of a table.
 pub(crate) trait Asked {
     ghost use Rattle.std.specs.Prelude.{ℕ};
     ghost use Rattle.acpi_base.specs.Memory.{Memory};
     ghost use Rattle.acpi_base.specs.Ranges.{Ranges};
 
-    // These ranges of a memory.
+    // The ranges of a memory that are asked for to look for it at an address.
     ghost ranges: { Memory → ℕ → Ranges };
 }
 
@@ -33,8 +33,8 @@ pub(crate) fn next_asked<H: Lender, M: Asked>(
     pointers.next()
 }
 
-/// What a pointer may lead to.
-pub(crate) trait Listed: Asked + Sized {
+/// What a walk finds wherever a pointer leads to something valid.
+pub(crate) trait Found: Asked + Sized {
     ghost use Rattle.std.specs.Prelude.{ℕ, Option};
     ghost use Rattle.acpi_base.specs.Memory.{Memory};
 
@@ -49,10 +49,7 @@ pub(crate) trait Listed: Asked + Sized {
 
 /// What the first pointer leads to that leads to something valid. It is passed, with those before it.
 #[inline(always)]
-pub(crate) fn next_listed<H: Lender, M: Listed>(
-    handler: &H,
-    pointers: &mut Pointers<'_>,
-) -> Option<M>
+pub(crate) fn next_found<H: Lender, M: Found>(handler: &H, pointers: &mut Pointers<'_>) -> Option<M>
     requires { Allows (H.may handler.now)
         (flat_map (M.ranges (H.memory handler.now)) (pointers_left pointers.old)) }
     ensures asked { Allows (H.may handler.now)

@@ -8,7 +8,7 @@ ghost use Rattle.acpi.specs.Footprint.{header_ranges};
 ghost use Rattle.acpi.specs.Places.{facs_at, facs_length, facs_ranges, place_at};
 ghost use Rattle.acpi.specs.Pointers.{pointers_left};
 
-use crate::listed::{Asked, Listed, next_listed};
+use crate::listed::{Asked, Found, next_found};
 use crate::pointers::Pointers;
 use acpi_base::sdt::{SdtHeader, map_own_sdt};
 use acpi_base::{
@@ -71,7 +71,7 @@ impl<H: Lender> Iterator for TableRanges<'_, '_, H> {
         if let Some(root) = self.root.take() {
             return Some(root);
         }
-        if let Some(place) = next_listed(self.handler, &mut self.pointers) {
+        if let Some(place) = next_found(self.handler, &mut self.pointers) {
             return Some(place);
         }
         if let Some(dsdt) = self.dsdt.take() {
@@ -86,7 +86,7 @@ impl Asked for AddressRange {
 }
 
 /// Where a table lies that is valid under the signature that it has.
-impl Listed for AddressRange {
+impl Found for AddressRange {
     ghost found = { λ m p. result_ok (place_at m p) };
 
     #[tactic(auto, unfolding(crate::specs::Places::place_at))]

@@ -4,7 +4,7 @@ ghost use Rattle.acpi_base.specs.Ranges.{Allows};
 ghost use Rattle.acpi.specs.Footprint.{ssdt_ranges};
 ghost use Rattle.acpi.specs.Pointers.{pointers_left};
 
-use crate::listed::{Asked, Listed, next_listed};
+use crate::listed::{Asked, Found, next_found};
 use crate::pointers::Pointers;
 use crate::records::{AmlTable, stream_at};
 use acpi_base::Lender;
@@ -46,7 +46,7 @@ impl<H: Lender> Iterator for SsdtIterator<'_, '_, H> {
     ghost remaining = { item_count (ssdts_left H.memory) };
 
     fn next(&mut self) -> Option<AmlTable> {
-        next_listed(self.handler, &mut self.pointers)
+        next_found(self.handler, &mut self.pointers)
     }
 }
 
@@ -59,7 +59,7 @@ impl Asked for AmlTable {
 }
 
 /// That of an SSDT.
-impl Listed for AmlTable {
+impl Found for AmlTable {
     ghost use Rattle.std.specs.Result.{result_ok};
     ghost use Rattle.acpi_base.specs.declared.table.signature.TheConstants.Signature.{SSDT};
     ghost use Rattle.acpi.specs.Lists as lists;

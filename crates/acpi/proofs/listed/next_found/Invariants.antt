@@ -1,13 +1,13 @@
 use Rattle.std.proofs.Common.{◌≡◌, filter_map, flat_map, length}
 use Rattle.acpi_base.specs.Ranges.{Allows}
 use Rattle.acpi.specs.Pointers.{pointers_left}
-use Rattle.acpi.proofs.listed.next_listed.Given as goal
+use Rattle.acpi.proofs.listed.next_found.Given as goal
 
 -- what was passed over gives no item, and the others may be asked for
 abbrev pub invariant-loop-address : goal.invariant-loop-address
 invariant-loop-address g l =
     let m = g.H.Lender.memory l.handler in
-    (filter_map (g.M.Listed.found m) (pointers_left l.pointers) ≡ filter_map (g.M.Listed.found m) (pointers_left l.fn.pointers))
+    (filter_map (g.M.Found.found m) (pointers_left l.pointers) ≡ filter_map (g.M.Found.found m) (pointers_left l.fn.pointers))
     × Allows (g.H.Lender.may l.handler) (flat_map (g.M.Asked.ranges m) (pointers_left l.pointers))
 
 abbrev pub decreases-loop-address : goal.decreases-loop-address
