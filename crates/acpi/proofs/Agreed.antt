@@ -16,16 +16,16 @@ use Rattle.acpi_base.specs.Table.{Kind, plain_kind, table_at}
 use Rattle.acpi_fixed.specs.Fadt.{dsdt_address_of, facs_address_of, fadt_at}
 use Rattle.acpi_fixed.specs.declared.fadt.Fadt.{Fadt}
 use Rattle.acpi.proofs.First.{here}
-use Rattle.acpi.specs.Footprint.{FootprintBelow, below, dsdt_ranges, header_ranges, lookup_ranges, platform_ranges, root_ranges}
+use Rattle.acpi.specs.Footprint.{FootprintBelow, below, header_ranges, lookup_ranges, root_ranges}
 use Rattle.acpi.specs.FootprintLaws.{DsdtDependsOn, FaultsDependOn, HeadersDependOn, HpetDependsOn, LookupDependsOn, MailboxDependsOn, PlatformDependsOn, RegionsDependOn, SsdtsDependOn, OpenedByRsdpDependsOn, OpenedBySearchDependsOn, OpenedDependsOn, RsdpDependsOn, SearchDependsOn}
 use Rattle.acpi.specs.Hpet.{hpet_at, hpet_kind, info_of}
 use Rattle.acpi.specs.Later.{or_later}
-use Rattle.acpi.specs.Lists.{dsdt_stream, fadt_kind, faults_of, own_header_at, stream_at, unless_valid}
+use Rattle.acpi.specs.Lists.{fadt_kind, faults_of, own_header_at, stream_at, unless_valid}
 use Rattle.acpi.specs.Lookup.{lookup}
 use Rattle.acpi.specs.Members.{found_at, kind_ranges, members_of, tables_found}
 use Rattle.acpi.specs.Pci.{mcfg_kind}
 use Rattle.acpi.specs.Places.{both_place_ranges, dsdt_place, dsdt_place_ranges, facs_at, facs_length_in, facs_place, facs_place_ranges, facs_ranges, led_by, led_by_ranges, led_ranges, place_at, place_ranges, places_of, range}
-use Rattle.acpi.specs.Platform.{madt_kind, model_in, platform_of}
+use Rattle.acpi.specs.Platform.{madt_kind, model_in}
 use Rattle.acpi.specs.Root.{root_at, root_kind, root_of_revision}
 use Rattle.acpi.specs.Wake.{mailbox_found}
 use Rattle.acpi.specs.Tables.{kind_of, memory_of, pointers_of, root_address_of, root_of}
@@ -241,10 +241,6 @@ in_ok ranges_of defined same m n x h = ap done (same m n x h)
 pub fadt_from_tables : {H : Type 0} {h : _} (t : AcpiTables H h) → result_ok (root_at (memory_of t) (kind_of t) (root_address_of t)) ≡ Some (root_of t)
     → FootprintBelow t (λ m. lookup_ranges m fadt_kind) (λ m. lookup m fadt_kind) (λ said. lookup (memory_of t) fadt_kind (pointers_of t) ≡ said)
 fadt_from_tables t valid n h = rw (from_tables t (λ m. lookup_ranges m fadt_kind) (λ m. lookup m fadt_kind) (same_lookup fadt_kind) valid n h) refl
-
-pub dsdt_from_tables : {H : Type 0} {h : _} (t : AcpiTables H h) → result_ok (root_at (memory_of t) (kind_of t) (root_address_of t)) ≡ Some (root_of t)
-    → FootprintBelow t dsdt_ranges dsdt_stream (λ said. dsdt_stream (memory_of t) (pointers_of t) ≡ said)
-dsdt_from_tables t valid n h = rw (from_tables t dsdt_ranges dsdt_stream same_dsdt valid n h) refl
 
 pub mailbox_from_tables : {H : Type 0} {h : _} (t : AcpiTables H h) → result_ok (root_at (memory_of t) (kind_of t) (root_address_of t)) ≡ Some (root_of t)
     → FootprintBelow t (λ m. lookup_ranges m madt_kind) mailbox_found (λ said. mailbox_found (memory_of t) (pointers_of t) ≡ said)

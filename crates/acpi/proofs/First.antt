@@ -1,7 +1,7 @@
 -- A lookup answers a table exactly if that is the first valid one. Members that aren't valid change nothing, and lists
 -- over members are no longer than the members.
 use Rattle.std.proofs.Common.{◌≡◌, ℕ, List, [], ◌∷◌, ◌++◌, Result, Ok, Err, refl, ap, ◌∙◌, ◌+◌, ◌≤◌, length, Option, Some, None, arith, zero, suc, ◌^◌, ◌<◌, drop, length-drop}
-use Rattle.std.specs.Prelude.{IsErr, IfOk, IfErr, filter_map}
+use Rattle.std.specs.Prelude.{IsErr, IfOk, filter_map}
 use Rattle.acpi_base.specs.Memory.{Memory}
 use Rattle.acpi_base.specs.Steps.{Gives}
 use Rattle.acpi_base.specs.Table.{Kind, table_at}
@@ -84,12 +84,6 @@ none_found m k (p ∷ ps) none = passed (here p) (table_at m k p) (lookup m k ps
 pub gives_first : {X : Type 0} (m : Memory) (k : Kind) (ps : List ℕ) (place : X → ℕ) (bytes : X → List ℕ) (r : Result X AcpiError) → Gives (λ x. (place x, bytes x)) r (lookup m k ps) → IfOk r (λ x. IsFirstValid m k ps (place x) (bytes x))
 gives_first m k ps place bytes (Ok x) said = is_first m k ps (place x) (bytes x) said
 gives_first m k ps place bytes (Err e) said = tt
-
-pub gives_missing : {X : Type 0} (m : Memory) (k : Kind) (ps : List ℕ) (view : X → ℕ × List ℕ) (r : Result X AcpiError) (s : Signature) → k.signature ≡ s → Gives view r (lookup m k ps) → IfErr r (λ e. (e ≡ TableMissing s) × NoneValid m k ps)
-gives_missing m k ps view (Ok x) s same said = tt
-gives_missing m k ps view (Err e) s same said =
-    let none = none_valid m k ps e said in
-    (none.0 ∙ ap TableMissing same, none.1)
 
 refused_as : {X : Type 0} (view : X → ℕ × List ℕ) (r : Result X AcpiError) (e : AcpiError) (said : Result (ℕ × List ℕ) AcpiError) → said ≡ Err e → Gives view r said → r ≡ Err e
 refused_as view (Ok x) e said none gives = absurd cc

@@ -1,6 +1,5 @@
 pub mod Agreed
 pub mod Among
-pub mod Ascending
 pub mod Asked
 pub mod Calls
 pub mod First

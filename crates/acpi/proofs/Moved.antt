@@ -21,7 +21,7 @@ use Rattle.acpi.specs.Hpet.{hpet_at, info_of}
 use Rattle.acpi.specs.Later.{or_later}
 use Rattle.acpi.specs.Lists.{fadt_kind, own_header_at, valid_headers, valid_tables}
 use Rattle.acpi.specs.Lookup.{lookup}
-use Rattle.acpi.specs.Platform.{madt_kind, model_in, platform_of}
+use Rattle.acpi.specs.Platform.{madt_kind, model_in}
 use Rattle.acpi.specs.Relocation.{FollowsTables, HeadersFollow, HpetFollows, LookupFollows, PlatformFollows, RegionsFollow, bytes_found}
 use Rattle.acpi.specs.Root.{pointers, root_at, width_of}
 use Rattle.acpi.specs.Tables.{memory_of, pointers_of}

@@ -284,7 +284,7 @@ is_there : (m : Memory) (a : ℕ) (b head : List ℕ) (n : Option ℕ) → lent 
 unfolding rsdp_at
 is_there m a b head n first long whole = rw (first, long, whole) refl
 
-valid_there : (m : Memory) (a : ℕ) (b : List ℕ) → 36 ≤ length b → at m a (length b) ≡ Some b → check_rsdp b ≡ Ok tt → IsOk (rsdp_at m a)
+pub valid_there : (m : Memory) (a : ℕ) (b : List ℕ) → 36 ≤ length b → at m a (length b) ≡ Some b → check_rsdp b ≡ Ok tt → IsOk (rsdp_at m a)
 unfolding check_rsdp
 valid_there m a b enough here said =
     let n = bind_ok (checked_length b) _ tt said in

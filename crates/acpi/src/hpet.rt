@@ -128,14 +128,6 @@ impl HpetInfo {
         // It is the same wherever the valid tables lie.
         ensures relocation { Relocation tables.now hpet_of (λ said. result ≡ said) }
     {
-        HpetInfo::new_exact(tables)
-    }
-
-    /// What `new` answers: the first valid HPET is looked up and read.
-    fn new_exact<H: Lender>(tables: &AcpiTables<'_, H>) -> AcpiResult<HpetInfo>
-        requires { AllowsBelow tables.now (λ m. lookup_ranges m hpet_kind) }
-        ensures { result ≡ of_tables tables.now hpet_of }
-    {
         match tables.find_table::<HpetTable>() {
             Ok(table) => HpetInfo::of(&table),
             Err(error) => Err(error),

@@ -82,15 +82,6 @@ impl<A: Allocator> PciConfigRegions<A> {
         ensures relocation { Relocation tables.now found_regions
             (GivesOrFull (of_tables tables.now RegionsAsk) result) }
     {
-        PciConfigRegions::new_in_exact(tables, allocator)
-    }
-
-    /// What `new_in` answers: it looks the first valid MCFG up, and copies its entries.
-    fn new_in_exact<H: Lender>(tables: &AcpiTables<'_, H>, allocator: A) -> AcpiResult<Self>
-        requires { AllowsBelow tables.now (λ m. lookup_ranges m mcfg_kind) }
-        ensures { GivesOrFull (of_tables tables.now RegionsAsk) result
-            (of_tables tables.now found_regions) }
-    {
         match tables.find_table::<Mcfg>() {
             Ok(mcfg) => match collected(mcfg.entries(), allocator) {
                 Ok(regions) => Ok(PciConfigRegions {
@@ -113,7 +104,7 @@ impl<A: Allocator> PciConfigRegions<A> {
     /// It is `None` if no region holds the bus, if the device is above 31 or the function above 7, and
     /// if the sum is 2^64 or more; no later region is then tried. Of the 4096 bytes of configuration
     /// space only the first is promised to lie below 2^64. A base is taken as it is, aligned or not.
-    #[tactic(auto, using(crate::proofs::Placing::if_apart))]
+    #[tactic(auto, using(crate::proofs::Placing::if_apart), unfolding(crate::specs::Pci::pci_address))]
     pub fn physical_address(
         &self,
         segment_group_no: u16,
@@ -125,18 +116,10 @@ impl<A: Allocator> PciConfigRegions<A> {
         // Functions of one region lie at least 4096 bytes apart.
         ensures apart { IfSome result (IsApart self.now segment_group_no bus device function) }
     {
-        self.physical_address_exact(segment_group_no, bus, device, function)
-    }
-
-    /// What `physical_address` answers: it finds the region, and takes the sum in it.
-    #[tactic(auto, unfolding(crate::specs::Pci::pci_address))]
-    fn physical_address_exact(&self, segment: u16, bus: u8, device: u8, function: u8) -> Option<u64>
-        ensures { result ≡ pci_address self.now segment bus device function }
-    {
         if device > 31 || function > 7 {
             return None;
         }
-        match region_for(self.regions.as_slice(), segment, bus) {
+        match region_for(self.regions.as_slice(), segment_group_no, bus) {
             Some(region) => function_address(region, bus, device, function),
             None => None,
         }

@@ -103,7 +103,7 @@ impl<A: Allocator + Clone> PlatformInfo<A> {
         // It is the same wherever the valid tables lie.
         ensures relocation { PlatformRelocation tables.now result }
     {
-        let fadt = tables.find_fadt_exact()?;
+        let fadt = tables.find_fadt()?;
         let (interrupt_model, processor_info) = found_model(tables, allocator)?;
         let pm_timer = PmTimer::of(&fadt)?;
         Ok(PlatformInfo {

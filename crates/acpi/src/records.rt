@@ -1,12 +1,11 @@
 //! Plain records that lookups and lists answer.
-ghost use Rattle.std.specs.Prelude.{◌≡◌, ◌+◌, ◌^◌, ◌<◌, length};
-ghost use Rattle.acpi_base.specs.Mapping.{bytes_of, start_of};
+ghost use Rattle.std.specs.Prelude.{◌≡◌};
 ghost use Rattle.acpi_base.specs.Ranges.{Allows, table_ranges};
 ghost use Rattle.acpi_base.specs.Table.{plain_kind};
-ghost use Rattle.acpi.specs.Lists.{stream_at, stream_of};
+ghost use Rattle.acpi.specs.Lists.{stream_at};
 
 use acpi_base::sdt::{SdtHeader, Signature, map_sdt};
-use acpi_base::{AcpiError, AcpiResult, Lender, PhysicalMapping, PhysicalRecord};
+use acpi_base::{AcpiError, AcpiResult, Lender, PhysicalRecord};
 
 /// A stream of AML: the bytes after the header of a DSDT (section 5.2.11.1) or an SSDT (section 5.2.11.2).
 #[derive(Clone, Copy, Debug, PartialEq, Eq)]
@@ -37,20 +36,7 @@ pub struct Sdt {
     pub validated: bool,
 }
 
-/// The AML after the header of a table.
-fn aml_behind<H: Lender>(table: &PhysicalMapping<'_, H, SdtHeader>) -> AmlTable
-    requires short { length (bytes_of table.now) < 2 ^ 32 }
-    requires ends { start_of table.now + length (bytes_of table.now) < 2 ^ 64 }
-    ensures { result ≡ stream_of (start_of table.now) (bytes_of table.now) }
-{
-    let bytes = table.bytes();
-    AmlTable {
-        address: table.physical_start() + SdtHeader::MIN_LENGTH as u64,
-        length: (bytes.len() - SdtHeader::MIN_LENGTH) as u32,
-    }
-}
-
-/// The AML of the table at an address, if it is valid under a signature.
+/// The AML of the table at an address, the bytes after its header, if it is valid under a signature.
 #[tactic(auto, unfolding(crate::specs::Lists::stream_at))]
 pub(crate) fn stream_at<H: Lender>(
     handler: &H,
@@ -62,5 +48,8 @@ pub(crate) fn stream_at<H: Lender>(
     ensures { result ≡ stream_at (H.memory handler.now) signature address }
 {
     let table = map_sdt(handler, address, signature)?;
-    Ok(aml_behind(&table))
+    Ok(AmlTable {
+        address: table.physical_start() + SdtHeader::MIN_LENGTH as u64,
+        length: (table.bytes().len() - SdtHeader::MIN_LENGTH) as u32,
+    })
 }

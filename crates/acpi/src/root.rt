@@ -60,16 +60,3 @@ pub(crate) struct RootPointer {
     /// Its physical address.
     pub(crate) address: u64,
 }
-
-impl RootPointer {
-    /// The root table at an address that goes by a revision.
-    pub(crate) fn of_revision(revision: u8, address: u64) -> RootPointer
-        ensures { result ≡ root.root_of_revision revision address }
-    {
-        RootPointer {
-            revision,
-            kind: RootKind::of_revision(revision),
-            address,
-        }
-    }
-}

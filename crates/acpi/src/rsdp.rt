@@ -1,10 +1,10 @@
 //! The Root System Description Pointer (RSDP), which leads to the root table (section 5.2.5).
-ghost use Rattle.std.specs.Prelude.{◌≡◌, ◌<◌, true, IfOk, Ok};
+ghost use Rattle.std.specs.Prelude.{◌≡◌, IfOk, Ok};
 ghost use Rattle.acpi_base.specs.Mapping.{IsOfMemory, start_of, bytes_of, handler_of};
 ghost use Rattle.acpi_base.specs.Ranges.{Allows};
 ghost use Rattle.acpi_base.specs.Steps.{Gives, lent};
 ghost use Rattle.acpi.specs.OpenedRanges.{rsdp_ranges};
-ghost use Rattle.acpi.specs.Rsdp.{check_sum, check_whole, rsdp_at};
+ghost use Rattle.acpi.specs.Rsdp.{check_sum, rsdp_at};
 
 mod area;
 mod given;
@@ -65,7 +65,7 @@ impl Rsdp {
     ghost use Rattle.std.specs.Prelude.{◌≤◌, ℕ, length, IfSome, IsOk, Some};
     ghost use Rattle.acpi_base.specs.Memory.{Memory, at};
     ghost use Rattle.acpi_base.specs.Text.{IsTextOf};
-    ghost use Rattle.acpi.specs.Rsdp.{check_first, check_rsdp, checked_length, extended_length_of};
+    ghost use Rattle.acpi.specs.Rsdp.{check_rsdp, checked_length, extended_length_of};
     ghost use Rattle.acpi.specs.Rsdp.{root_of, rsdp_of, unless_first};
 
     /// Signature: `RSD PTR ` if the RSDP is valid (section 5.2.5.3).
@@ -161,7 +161,7 @@ impl Rsdp {
     /// 20 bytes do not sum to 0 modulo 256. For a revision above 0 it also refuses with
     /// `RsdpInvalidChecksum` if the length is under 36 or above the number of bytes, or if that many
     /// bytes do not sum to 0 modulo 256.
-    #[tactic(auto, using(crate::proofs::Search::validated))]
+    #[tactic(auto, using(crate::proofs::Search::valid_there, crate::proofs::Search::validated), unfolding(crate::specs::Rsdp::check_rsdp))]
     pub fn validate(&self, bytes: &[u8]) -> AcpiResult<()>
         requires least { 36 ≤ length bytes.now }
         requires read { self.now ≡ rsdp_of bytes.now }
@@ -171,33 +171,22 @@ impl Rsdp {
         ensures valid { (m : Memory) (a : ℕ) → at m a (length bytes.now) ≡ Some bytes.now
             → IfOk result (λ _. IsOk (rsdp_at m a)) }
     {
-        self.validate_exact(bytes)
-    }
-
-    /// All checks of `validate`, and what they answer, without its law.
-    #[tactic(auto, unfolding(crate::specs::Rsdp::check_rsdp))]
-    fn validate_exact(&self, bytes: &[u8]) -> AcpiResult<()>
-        requires least { 36 ≤ length bytes.now }
-        requires read { self.now ≡ rsdp_of bytes.now }
-        ensures { result ≡ check_rsdp bytes.now }
-    {
-        match self.summed_length(bytes)? {
-            None => Ok(()),
-            Some(length) => {
-                if length > bytes.len() {
-                    return Err(AcpiError::RsdpInvalidChecksum);
-                }
-                check_sum(&bytes[..length])
-            }
+        match self.summed_length(bytes) {
+            Ok(None) => Ok(()),
+            Ok(Some(length)) if length > bytes.len() => Err(AcpiError::RsdpInvalidChecksum),
+            Ok(Some(length)) => check_sum(&bytes[..length]),
+            Err(error) => Err(error),
         }
     }
 
-    /// The checks of the first 20 bytes, which every revision has.
-    #[tactic(auto, unfolding(crate::specs::Rsdp::check_first))]
-    fn validate_first(&self, bytes: &[u8]) -> AcpiResult<()>
+    /// Checks the first 20 bytes, which every revision has, and tells how many bytes are to sum to 0 after
+    /// that: `None` for revision 0, else the length.
+    #[tactic(auto, unfolding(crate::specs::Rsdp::check_first, crate::specs::Rsdp::checked_length))]
+    fn summed_length(&self, bytes: &[u8]) -> AcpiResult<Option<usize>>
         requires least { 36 ≤ length bytes.now }
         requires read { self.now ≡ rsdp_of bytes.now }
-        ensures { result ≡ check_first bytes.now }
+        ensures long { IfOk result (λ o. IfSome o (λ n. 36 ≤ n)) }
+        ensures length { Gives (λ o. o) result (checked_length bytes.now) }
     {
         if self.signature != *b"RSD PTR " {
             return Err(AcpiError::RsdpIncorrectSignature);
@@ -205,19 +194,7 @@ impl Rsdp {
         if !is_text(&self.oem_id) {
             return Err(AcpiError::RsdpInvalidOemId);
         }
-        check_sum(&bytes[..20])
-    }
-
-    /// How many bytes are to sum to 0 after the checks of the first 20 bytes, if these hold: `None` for
-    /// revision 0, else the length.
-    #[tactic(auto, unfolding(crate::specs::Rsdp::checked_length))]
-    fn summed_length(&self, bytes: &[u8]) -> AcpiResult<Option<usize>>
-        requires least { 36 ≤ length bytes.now }
-        requires read { self.now ≡ rsdp_of bytes.now }
-        ensures long { IfOk result (λ o. IfSome o (λ n. 36 ≤ n)) }
-        ensures length { Gives (λ o. o) result (checked_length bytes.now) }
-    {
-        self.validate_first(bytes)?;
+        check_sum(&bytes[..20])?;
         match self.length() {
             None => Ok(None),
             Some(length) if length < 36 => Err(AcpiError::RsdpInvalidChecksum),
@@ -237,19 +214,8 @@ fn check_sum(bytes: &[u8]) -> AcpiResult<()>
     Ok(())
 }
 
-/// Checks that the bytes of a whole RSDP sum to 0 modulo 256, as many as its length says.
-fn check_whole<H: Lender>(handler: &H, address: u64, length: usize) -> AcpiResult<()>
-    requires some { 0 < length }
-    requires asked { H.may handler.now address length ≡ true }
-    ensures { result ≡ check_whole (lent (H.memory handler.now) address) (Some length) }
-{
-    match PhysicalMapping::<'_, H, RawBytes>::map(handler, address, length) {
-        Ok(whole) => check_sum(whole.bytes()),
-        Err(error) => Err(error),
-    }
-}
-
-/// The checks of an RSDP whose 36 bytes are mapped.
+/// The checks of an RSDP whose 36 bytes are mapped. For the sum of the whole, as many bytes are mapped as its
+/// length says.
 #[tactic(auto, unfolding(crate::specs::Rsdp::rsdp_at))]
 fn check_mapped<H: Lender>(handler: &H, rsdp: &PhysicalMapping<'_, H, Rsdp>) -> AcpiResult<()>
     requires lent { lent (H.memory handler.now) (start_of rsdp.now) 36 ≡ Ok (bytes_of rsdp.now) }
@@ -260,7 +226,12 @@ fn check_mapped<H: Lender>(handler: &H, rsdp: &PhysicalMapping<'_, H, Rsdp>) -> 
 {
     match rsdp.get().summed_length(rsdp.bytes()) {
         Ok(None) => Ok(()),
-        Ok(Some(length)) => check_whole(handler, rsdp.physical_start(), length),
+        Ok(Some(length)) => {
+            match PhysicalMapping::<'_, H, RawBytes>::map(handler, rsdp.physical_start(), length) {
+                Ok(whole) => check_sum(whole.bytes()),
+                Err(error) => Err(error),
+            }
+        }
         Err(error) => Err(error),
     }
 }

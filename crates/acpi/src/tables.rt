@@ -87,19 +87,6 @@ impl<'h, H: Lender> AcpiTables<'h, H> {
         Err(AcpiError::TableMissing(T::SIGNATURE))
     }
 
-    /// What `find_table` answers: a mapping of the first member that is valid for `T`.
-    #[inline(always)]
-    fn find_table_exact<T: AcpiTable>(&self) -> AcpiResult<PhysicalMapping<'h, H, T>>
-        requires { AllowsBelow self.now (λ m. lookup_ranges m T.kind) }
-        ensures handler { IfOk result (λ m. handler_of m ≡ lender_of self.now) }
-        ensures lent { IfOk result (λ m. IsOfMemory (memory_of self.now) m) }
-        ensures found { Gives (λ m. (start_of m, bytes_of m)) result
-            (of_tables self.now (λ m. lookup m T.kind)) }
-    {
-        let found = self.first_valid::<T>()?;
-        Ok(found.mapping())
-    }
-
     /// The first member of the root table that is valid for `T` (sections 5.2.7 and 5.2.8): its address
     /// is the mapping's `physical_start`, and its bytes are the mapping's.
     ///
@@ -129,7 +116,10 @@ impl<'h, H: Lender> AcpiTables<'h, H> {
         ensures footprint { FootprintBelow self.now (λ m. lookup_ranges m T.kind) (λ n. lookup n T.kind)
             (Gives (λ m. (start_of m, bytes_of m)) result) }
     {
-        self.find_table_exact::<T>()
+        match self.first_valid::<T>() {
+            Ok(found) => Ok(found.mapping()),
+            Err(error) => Err(error),
+        }
     }
 
     /// The first member of the root table that is a valid FADT (section 5.2.9), as `find_table` finds it: a
@@ -149,19 +139,10 @@ impl<'h, H: Lender> AcpiTables<'h, H> {
             (λ n. lookup n fadt_kind)
             (Gives (λ v. (start_of v.mapping, bytes_of v.mapping)) result) }
     {
-        self.find_fadt_exact()
-    }
-
-    /// What `find_fadt` answers: a view of the first member that is valid for `Fadt`.
-    pub(crate) fn find_fadt_exact(&self) -> AcpiResult<FadtView<'h, H>>
-        requires { AllowsBelow self.now (λ m. lookup_ranges m fadt_kind) }
-        ensures handler { IfOk result (λ v. handler_of v.mapping ≡ lender_of self.now) }
-        ensures lent { IfOk result (λ v. IsOfMemory (memory_of self.now) v.mapping) }
-        ensures found { Gives (λ v. (start_of v.mapping, bytes_of v.mapping)) result
-            (of_tables self.now (λ m. lookup m fadt_kind)) }
-    {
-        let found = self.first_valid::<Fadt>()?;
-        Ok(FadtView::new(found))
+        match self.first_valid::<Fadt>() {
+            Ok(found) => Ok(FadtView::new(found)),
+            Err(error) => Err(error),
+        }
     }
 
     /// The headers (section 5.2.6) of all members that are valid under the signatures that they have, in
@@ -203,7 +184,6 @@ impl<'h, H: Lender> AcpiTables<'h, H> {
     /// Fails, in this order, with `TableMissing` if no valid FADT is listed, `InvalidDsdtAddress` if
     /// that FADT gives no address, and with the error of the table there: `MapFailed`,
     /// `SdtInvalidSignature` and so on, carrying the DSDT's signature.
-    #[tactic(auto, using(crate::proofs::Agreed::dsdt_from_tables))]
     pub fn dsdt(&self) -> AcpiResult<AmlTable>
         requires { AllowsBelow self.now dsdt_ranges }
         ensures exact { result ≡ of_tables self.now dsdt_stream }
@@ -211,17 +191,13 @@ impl<'h, H: Lender> AcpiTables<'h, H> {
         ensures footprint { FootprintBelow self.now dsdt_ranges dsdt_stream
             (λ said. result ≡ said) }
     {
-        self.dsdt_exact()
-    }
-
-    /// What `dsdt` answers: it looks the first valid FADT up, and the table that this leads to.
-    fn dsdt_exact(&self) -> AcpiResult<AmlTable>
-        requires { AllowsBelow self.now dsdt_ranges }
-        ensures { result ≡ of_tables self.now dsdt_stream }
-    {
-        let fadt = self.find_fadt_exact()?;
-        let address = fadt.dsdt_address()?;
-        stream_at(self.root.handler(), Signature::DSDT, address)
+        match self.find_fadt() {
+            Ok(fadt) => match fadt.dsdt_address() {
+                Ok(address) => stream_at(self.root.handler(), Signature::DSDT, address),
+                Err(error) => Err(error),
+            },
+            Err(error) => Err(error),
+        }
     }
 
     /// Why members were passed over in a lookup of `T`: the address and the error of each member

@@ -29,7 +29,7 @@ impl<'k> MappedRegions<'k> {
     /// Fails at the first region that fails, and of that one, in this order, with `NotAscending` if it
     /// starts below the start of the one before it, and `Overlap` if it starts below that one's end.
     /// Regions that adjoin are accepted.
-    #[tactic(auto, using(crate::proofs::Ascending::is_memory))]
+    #[tactic(auto, using(crate::proofs::Placing::is_memory))]
     pub fn new(regions: &'k [MappedRegion<'k>]) -> Result<Self, RegionError>
         ensures exact { Gives (λ r. regions_memory r) result (several_memory (regions_of regions.now)) }
     {
@@ -79,7 +79,7 @@ impl AcpiHandler for MappedRegions<'_> {
     /// Lends all bytes from a physical address to the end of the region that it lies in.
     ///
     /// Fails with `MapFailed` if no region has `size` bytes from that address on.
-    #[tactic(auto, using(crate::proofs::Ascending::at_same, crate::proofs::Ascending::at_none))]
+    #[tactic(auto, using(crate::proofs::Placing::at_same, crate::proofs::Placing::at_none))]
     fn map_physical_region(&self, address: u64, size: usize) -> AcpiResult<&[u8]> {
         match region_for(self.regions, address) {
             Some(region) => region.map_physical_region(address, size),

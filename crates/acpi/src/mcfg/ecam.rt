@@ -32,14 +32,7 @@ impl<A: Allocator> PciConfigRegions<A> {
         // There `physical_address` answers too, less the buses before the region's first.
         ensures beside { IfSome result (IsBeside self.now segment_group_no bus device function) }
     {
-        self.ecam_address_exact(segment_group_no, bus, device, function)
-    }
-
-    /// What `ecam_address` answers: it finds the region, and takes the sum in it.
-    fn ecam_address_exact(&self, segment: u16, bus: u8, device: u8, function: u8) -> Option<u64>
-        ensures { result ≡ ecam_address self.now segment bus device function }
-    {
-        match region_for(self.regions.as_slice(), segment, bus) {
+        match region_for(self.regions.as_slice(), segment_group_no, bus) {
             Some(region) => region.ecam_address(bus, device, function),
             None => None,
         }

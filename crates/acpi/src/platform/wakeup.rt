@@ -114,7 +114,6 @@ fn wake<M: Mailbox>(
 
 /// Reads the command until it is 0, at most `timeout_loops` times. Fails with
 /// `InvalidMadt(WakeupApsTimeout)` if no read is 0.
-#[tactic(auto, using(crate::proofs::Calls::one_read, crate::proofs::Calls::woken))]
 fn wait<M: Mailbox>(mailbox: &mut M, timeout_loops: u64) -> AcpiResult<()>
     ensures answered { MatchResult result
         (λ _. Wakes (M.answer mailbox.old) timeout_loops (M.answer mailbox.new))

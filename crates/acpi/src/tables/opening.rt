@@ -1,33 +1,13 @@
 //! Opening the root table: by its address, by an RSDP, by the search for one.
-ghost use Rattle.std.specs.Prelude.{◌≡◌, ◌^◌, ◌<◌, length, IfOk};
-ghost use Rattle.acpi_base.specs.Mapping.{start_of, bytes_of, handler_of};
-ghost use Rattle.acpi_base.specs.Steps.{Gives};
 ghost use Rattle.acpi_base.specs.Ranges.{Allows};
-ghost use Rattle.acpi.specs.Footprint.{root_ranges};
-ghost use Rattle.acpi.specs.Root.{root_at};
 
 mod given;
 
 use super::AcpiTables;
 use crate::root::{RootKind, RootPointer};
 use crate::rsdp::{Rsdp, map_rsdp};
-use acpi_base::sdt::{SdtHeader, map_sdt};
+use acpi_base::sdt::map_sdt;
 use acpi_base::{AcpiResult, Lender, PhysicalMapping, PhysicalRecord};
-
-/// The root table of a kind at an address, if it is valid.
-fn map_root<'h, H: Lender>(
-    handler: &'h H,
-    kind: RootKind,
-    address: u64,
-) -> AcpiResult<PhysicalMapping<'h, H, SdtHeader>>
-    requires { Allows (H.may handler.now) (root_ranges (H.memory handler.now) kind address) }
-    ensures place { IfOk result (λ m. start_of m ≡ address) }
-    ensures handler { IfOk result (λ m. handler_of m ≡ handler.now) }
-    ensures short { IfOk result (λ m. length (bytes_of m) < 2 ^ 32) }
-    ensures root { Gives (λ m. bytes_of m) result (root_at (H.memory handler.now) kind address) }
-{
-    map_sdt(handler, address, kind.signature())
-}
 
 impl<'h, H: Lender> AcpiTables<'h, H> {
     ghost use Rattle.std.specs.Prelude.{◌≡◌, IfOk, IsOk};
@@ -50,7 +30,6 @@ impl<'h, H: Lender> AcpiTables<'h, H> {
     /// not valid UTF-8, `RsdpInvalidChecksum` if the first 20 bytes don't sum to 0 modulo 256 or, above
     /// revision 0, the length is under 36, `MapFailed` if that many bytes aren't lent, and
     /// `RsdpInvalidChecksum` if they don't sum to 0 modulo 256. Then it refuses as `from_rsdt` does.
-    #[tactic(auto, using(crate::proofs::Agreed::same_opened_by_rsdp))]
     pub fn from_rsdp(handler: &'h H, address: u64) -> AcpiResult<Self>
         requires { Allows (H.may handler.now) (opened_by_rsdp_ranges (H.memory handler.now) address) }
         ensures handler { IfOk result (λ t. lender_of t ≡ handler.now) }
@@ -63,17 +42,6 @@ impl<'h, H: Lender> AcpiTables<'h, H> {
             Footprint m (opened_by_rsdp_ranges m address) (λ n. opened_by_rsdp n address)
             (Gives (λ t. opened_of t) result) }
     {
-        AcpiTables::from_rsdp_exact(handler, address)
-    }
-
-    /// What `from_rsdp` answers: it maps the RSDP, and opens the root table that this leads to.
-    fn from_rsdp_exact(handler: &'h H, address: u64) -> AcpiResult<Self>
-        requires { Allows (H.may handler.now) (opened_by_rsdp_ranges (H.memory handler.now) address) }
-        ensures handler { IfOk result (λ t. lender_of t ≡ handler.now) }
-        ensures exact { Gives (λ t. opened_of t) result
-            (opened_by_rsdp (H.memory handler.now) address) }
-        ensures pointers { IfOk result (λ t. SpellsPointers t) }
-    {
         match map_rsdp(handler, address) {
             Ok(rsdp) => AcpiTables::from_root(handler, rsdp),
             Err(error) => Err(error),
@@ -85,7 +53,6 @@ impl<'h, H: Lender> AcpiTables<'h, H> {
     /// is tried if the root table is bad.
     ///
     /// Fails first as that search does, with `MapFailed` or `NoValidRsdp`, and then as `from_rsdt` does.
-    #[tactic(auto, using(crate::proofs::Agreed::same_opened_by_search))]
     pub fn search_for_rsdp_bios(handler: &'h H) -> AcpiResult<Self>
         requires { Allows (H.may handler.now) (opened_by_search_ranges (H.memory handler.now)) }
         ensures handler { IfOk result (λ t. lender_of t ≡ handler.now) }
@@ -96,16 +63,6 @@ impl<'h, H: Lender> AcpiTables<'h, H> {
         ensures footprint { let m = H.memory handler.now in
             Footprint m (opened_by_search_ranges m) opened_by_search
             (Gives (λ t. opened_of t) result) }
-    {
-        AcpiTables::search_for_rsdp_bios_exact(handler)
-    }
-
-    /// What `search_for_rsdp_bios` answers: it searches for the RSDP, and opens the root table.
-    fn search_for_rsdp_bios_exact(handler: &'h H) -> AcpiResult<Self>
-        requires { Allows (H.may handler.now) (opened_by_search_ranges (H.memory handler.now)) }
-        ensures handler { IfOk result (λ t. lender_of t ≡ handler.now) }
-        ensures exact { Gives (λ t. opened_of t) result (opened_by_search (H.memory handler.now)) }
-        ensures pointers { IfOk result (λ t. SpellsPointers t) }
     {
         match Rsdp::search_for_on_bios(handler) {
             Ok(rsdp) => AcpiTables::from_root(handler, rsdp),
@@ -118,7 +75,6 @@ impl<'h, H: Lender> AcpiTables<'h, H> {
     /// passes all checks of the RSDP.
     ///
     /// Fails as `from_rsdt` does.
-    #[tactic(auto, using(crate::proofs::Agreed::same_opened_by_rsdp))]
     pub fn from_validated_rsdp(
         handler: &'h H,
         mapping: PhysicalMapping<'h, H, Rsdp>,
@@ -135,22 +91,6 @@ impl<'h, H: Lender> AcpiTables<'h, H> {
         ensures footprint { let m = H.memory handler.now in
             Footprint m (opened_by_rsdp_ranges m (start_of mapping.entry))
             (λ n. opened_by_rsdp n (start_of mapping.entry)) (Gives (λ t. opened_of t) result) }
-    {
-        AcpiTables::from_validated_rsdp_exact(handler, mapping)
-    }
-
-    /// What `from_validated_rsdp` answers: it maps the RSDP again, and opens the root table.
-    fn from_validated_rsdp_exact(
-        handler: &'h H,
-        mapping: PhysicalMapping<'h, H, Rsdp>,
-    ) -> AcpiResult<Self>
-        requires valid { IsOk (rsdp_at (H.memory handler.now) (start_of mapping)) }
-        requires asked { Allows (H.may handler.now)
-            (opened_by_rsdp_ranges (H.memory handler.now) (start_of mapping)) }
-        ensures handler { IfOk result (λ t. lender_of t ≡ handler.now) }
-        ensures exact { Gives (λ t. opened_of t) result
-            (opened_by_rsdp (H.memory handler.now) (start_of mapping.entry)) }
-        ensures pointers { IfOk result (λ t. SpellsPointers t) }
     {
         let address = mapping.physical_start();
         drop(mapping);
@@ -195,19 +135,12 @@ impl<'h, H: Lender> AcpiTables<'h, H> {
             Footprint m (opened_ranges m (root_of_revision revision address))
             (λ n. opened_at n (revision, address)) (Gives (λ t. opened_of t) result) }
     {
-        AcpiTables::from_rsdt_exact(handler, revision, address)
-    }
-
-    /// What `from_rsdt` answers: it opens the root table of the revision's kind.
-    fn from_rsdt_exact(handler: &'h H, revision: u8, address: u64) -> AcpiResult<Self>
-        requires { Allows (H.may handler.now)
-            (opened_ranges (H.memory handler.now) (root_of_revision revision address)) }
-        ensures handler { IfOk result (λ t. lender_of t ≡ handler.now) }
-        ensures exact { Gives (λ t. opened_of t) result
-            (opened_at (H.memory handler.now) (revision, address)) }
-        ensures pointers { IfOk result (λ t. SpellsPointers t) }
-    {
-        AcpiTables::open(handler, RootPointer::of_revision(revision, address))
+        let root_pointer = RootPointer {
+            revision,
+            kind: RootKind::of_revision(revision),
+            address,
+        };
+        AcpiTables::open(handler, root_pointer)
     }
 
     /// The tables below a root table.
@@ -217,7 +150,7 @@ impl<'h, H: Lender> AcpiTables<'h, H> {
         ensures exact { Gives (λ t. opened_of t) result (opened_from (H.memory handler.now) root_pointer) }
         ensures pointers { IfOk result (λ t. SpellsPointers t) }
     {
-        match map_root(handler, root_pointer.kind, root_pointer.address) {
+        match map_sdt(handler, root_pointer.address, root_pointer.kind.signature()) {
             Ok(root) => Ok(AcpiTables {
                 revision: root_pointer.revision,
                 kind: root_pointer.kind,

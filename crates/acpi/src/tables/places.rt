@@ -139,8 +139,10 @@ impl<'h, H: Lender> AcpiTables<'h, H> {
         ensures footprint { FootprintBelow self.now (led_by_ranges facs_place_ranges) (led_by facs_place)
             (λ said. result ≡ said) }
     {
-        let fadt = self.find_fadt_exact()?;
-        self.facs_place(&fadt)
+        match self.find_fadt() {
+            Ok(fadt) => self.facs_place(&fadt),
+            Err(error) => Err(error),
+        }
     }
 
     /// The ranges of physical memory in which the tables lie (sections 5.2.6, 5.2.9 and 5.2.10): the root
@@ -181,7 +183,7 @@ impl<'h, H: Lender> AcpiTables<'h, H> {
         ensures facs { result.1
             ≡ result_ok (of_tables self.now (led_by facs_place)) }
     {
-        match self.find_fadt_exact() {
+        match self.find_fadt() {
             Ok(fadt) => (self.dsdt_place(&fadt).ok(), self.facs_place(&fadt).ok()),
             Err(_) => (None, None),
         }

@@ -19,7 +19,6 @@ impl<'h, H: Lender> AcpiTables<'h, H> {
     /// is tried if the root table is bad.
     ///
     /// Fails first as that search does, with `NoValidRsdp`, and then as `from_rsdt` does.
-    #[tactic(auto, using(crate::proofs::Agreed::same_opened_in_areas))]
     pub fn search_in(handler: &'h H, areas: &[AddressRange]) -> AcpiResult<Self>
         requires { Allows (H.may handler.now)
             (opened_in_areas_ranges (H.memory handler.now) areas.now) }
@@ -32,18 +31,6 @@ impl<'h, H: Lender> AcpiTables<'h, H> {
         ensures footprint { let m = H.memory handler.now in
             Footprint m (opened_in_areas_ranges m areas.now) (λ n. opened_in_areas n areas.now)
             (Gives (λ t. opened_of t) result) }
-    {
-        AcpiTables::search_in_exact(handler, areas)
-    }
-
-    /// What `search_in` answers: it searches for the RSDP, and opens the root table.
-    fn search_in_exact(handler: &'h H, areas: &[AddressRange]) -> AcpiResult<Self>
-        requires { Allows (H.may handler.now)
-            (opened_in_areas_ranges (H.memory handler.now) areas.now) }
-        ensures handler { IfOk result (λ t. lender_of t ≡ handler.now) }
-        ensures exact { Gives (λ t. opened_of t) result
-            (opened_in_areas (H.memory handler.now) areas.now) }
-        ensures pointers { IfOk result (λ t. SpellsPointers t) }
     {
         match Rsdp::search_in(handler, areas) {
             Ok(rsdp) => AcpiTables::from_root(handler, rsdp),

@@ -1,6 +1,6 @@
 use Rattle.std.proofs.Common.{arith}
 use Rattle.std.proofs.lemmas.Grind.{common_steps}
-use Rattle.acpi.proofs.Ascending.{checked_more}
+use Rattle.acpi.proofs.Placing.{checked_more}
 use Rattle.acpi.proofs.handler.regions.check.Goals as goal
 
 pub loop-region-preserved : goal.loop-region-preserved

@@ -1,4 +1,4 @@
-use Rattle.acpi.proofs.Ascending.{IsChecked}
+use Rattle.acpi.proofs.Placing.{IsChecked}
 use Rattle.acpi.proofs.handler.regions.check.Given as goal
 
 abbrev pub invariant-loop-region : goal.invariant-loop-region

@@ -1,6 +1,6 @@
 use Rattle.std.proofs.Common.{leb, rules}
 use Rattle.std.proofs.lemmas.List.Sorted.{IsPartitionPoint-from_clause}
-use Rattle.acpi.proofs.Ascending.{decides, no_regions, passes_before}
+use Rattle.acpi.proofs.Placing.{decides, no_regions, passes_before}
 use Rattle.acpi.proofs.handler.regions.region_for.Goals as goal
 
 pub returns-clause-found : goal.returns-clause-found

@@ -1,13 +1,13 @@
-use Rattle.std.proofs.Common.{arith}
+use Rattle.std.proofs.Common.{arith, sym}
 use Rattle.std.proofs.lemmas.Grind.{common_steps}
 use Rattle.acpi.proofs.Agreed.{mailbox_from_tables}
 use Rattle.acpi.proofs.platform.wakeup.wakeup_aps.Goals as goal
 
 pub returns-clause-refused : goal.returns-clause-refused
-returns-clause-refused g c = grind (arith, common_steps)
+returns-clause-refused g c = rw (sym c.in_ok-address.ensures) c.wake.ensures.refused
 
 pub returns-clause-unchanged : goal.returns-clause-unchanged
-returns-clause-unchanged g c = grind (arith, common_steps)
+returns-clause-unchanged g c = rw (sym c.in_ok-address.ensures) c.wake.ensures.unchanged
 
 pub returns-clause-made : goal.returns-clause-made
 returns-clause-made g c = grind (arith, common_steps)
@@ -16,10 +16,10 @@ pub returns-clause-opened : goal.returns-clause-opened
 returns-clause-opened g c = grind (arith, common_steps)
 
 pub returns-clause-written : goal.returns-clause-written
-returns-clause-written g c = grind (arith, common_steps)
+returns-clause-written g c = rw (sym c.in_ok-address.ensures) c.wake.ensures.written
 
 pub returns-clause-answered : goal.returns-clause-answered
-returns-clause-answered g c = grind (arith, common_steps)
+returns-clause-answered g c = rw (sym c.in_ok-address.ensures) c.wake.ensures.answered
 
 pub returns-in_err-address-clause-refused : goal.returns-in_err-address-clause-refused
 returns-in_err-address-clause-refused g c = grind (arith, common_steps)

@@ -5,18 +5,24 @@ use Rattle.acpi.specs.Places.{facs_place_ranges}
 use Rattle.acpi.specs.Tables.{may_of, memory_of, pointers_of}
 use Rattle.acpi.proofs.tables.AcpiTables.facs.Goals as goal
 
-pub find_fadt_exact-requires : goal.find_fadt_exact-requires
-find_fadt_exact-requires g c =
+pub find_fadt-requires : goal.find_fadt-requires
+find_fadt-requires g c =
     let t = c.args.self.now in
     asked_fadt (may_of t) facs_place_ranges (memory_of t) (pointers_of t) c.requires
 
 pub facs_place-requires : goal.facs_place-requires
 facs_place-requires g c =
     let t = c.args.self.now in
-    asked_place (may_of t) facs_place_ranges (memory_of t) (pointers_of t) _ c.requires c.in_ok-fadt.ensures.found
+    asked_place (may_of t) facs_place_ranges (memory_of t) (pointers_of t) _ c.requires c.in-Ok.ensures.exact
 
-pub returns-in_err-fadt-clause-footprint : goal.returns-in_err-fadt-clause-footprint
-returns-in_err-fadt-clause-footprint g c = λ n h. rw (from_tables c.args.self.now _ _ same_facs c.args.self.now.valid n h) (search rules)
+pub returns-in-Ok-clause-exact : goal.returns-in-Ok-clause-exact
+returns-in-Ok-clause-exact g c = search rules
 
-pub returns-clause-footprint : goal.returns-clause-footprint
-returns-clause-footprint g c = λ n h. rw (from_tables c.args.self.now _ _ same_facs c.args.self.now.valid n h) (search rules)
+pub returns-in-Ok-clause-footprint : goal.returns-in-Ok-clause-footprint
+returns-in-Ok-clause-footprint g c = λ n h. rw (from_tables c.args.self.now _ _ same_facs c.args.self.now.valid n h) (returns-in-Ok-clause-exact g c)
+
+pub returns-in-Err-clause-exact : goal.returns-in-Err-clause-exact
+returns-in-Err-clause-exact g c = search rules
+
+pub returns-in-Err-clause-footprint : goal.returns-in-Err-clause-footprint
+returns-in-Err-clause-footprint g c = λ n h. rw (from_tables c.args.self.now _ _ same_facs c.args.self.now.valid n h) (returns-in-Err-clause-exact g c)

@@ -1,4 +1,4 @@
-use Rattle.std.proofs.Common.{arith, subst, sym}
+use Rattle.std.proofs.Common.{arith, subst, sym, ◌∙◌}
 use Rattle.std.proofs.lemmas.Grind.{common_steps}
 use Rattle.acpi_base.specs.Ranges.{Allows, table_ranges}
 use Rattle.acpi_base.specs.Table.{plain_kind}
@@ -32,3 +32,9 @@ returns-clause-exact g c = grind (arith, common_steps)
 pub returns-clause-footprint : goal.returns-clause-footprint
 returns-clause-footprint g c =
     λ n h. rw (from_tables c.args.self.now _ _ (same_lookup (plain_kind c.args.signature)) c.args.self.now.valid n h) (returns-clause-exact g c)
+
+pub returns-in-Ok-clause-handler : goal.returns-in-Ok-clause-handler
+returns-in-Ok-clause-handler g c = c.in-Ok.ensures.handler ∙ c.handler.ensures
+
+pub returns-in-Ok-clause-lent : goal.returns-in-Ok-clause-lent
+returns-in-Ok-clause-lent g c = rw c.handler.ensures at c.in-Ok.ensures.lent

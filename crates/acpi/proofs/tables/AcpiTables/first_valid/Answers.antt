@@ -1,4 +1,4 @@
-use Rattle.std.proofs.Common.{subst, sym}
+use Rattle.std.proofs.Common.{subst, sym, ◌∙◌}
 use Rattle.acpi_base.specs.Ranges.{Allows, table_ranges}
 use Rattle.acpi.proofs.Asked.{asked_member, found_member, later_kept}
 use Rattle.acpi.specs.Tables.{may_of, memory_of}
@@ -18,3 +18,9 @@ loop-address-preserved g c =
 pub returns-in-Ok-clause-found : goal.returns-in-Ok-clause-found
 returns-in-Ok-clause-found g c =
     rw c.in-Ok.ensures.place (found_member (memory_of c.args.self.now) g.T.AcpiTable.kind c.in-Some.address _ _ _ _ (rw c.handler.ensures at c.in-Ok.ensures.table) c.in-Some.ensures.steps c.loop-address.invariant.0)
+
+pub returns-in-Ok-clause-handler : goal.returns-in-Ok-clause-handler
+returns-in-Ok-clause-handler g c = c.in-Ok.ensures.handler ∙ c.handler.ensures
+
+pub returns-in-Ok-clause-lent : goal.returns-in-Ok-clause-lent
+returns-in-Ok-clause-lent g c = rw c.handler.ensures at c.in-Ok.ensures.lent

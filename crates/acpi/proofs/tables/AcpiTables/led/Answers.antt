@@ -3,17 +3,17 @@ use Rattle.acpi.specs.Places.{both_place_ranges}
 use Rattle.acpi.specs.Tables.{may_of, memory_of, pointers_of}
 use Rattle.acpi.proofs.tables.AcpiTables.led.Goals as goal
 
-pub find_fadt_exact-requires : goal.find_fadt_exact-requires
-find_fadt_exact-requires g c =
+pub find_fadt-requires : goal.find_fadt-requires
+find_fadt-requires g c =
     let t = c.args.self.now in
     asked_fadt (may_of t) both_place_ranges (memory_of t) (pointers_of t) c.requires
 
 pub dsdt_place-requires : goal.dsdt_place-requires
 dsdt_place-requires g c =
     let t = c.args.self.now in
-    asked_dsdt_place (may_of t) (memory_of t) (pointers_of t) _ c.requires c.in-Ok.ensures.found
+    asked_dsdt_place (may_of t) (memory_of t) (pointers_of t) _ c.requires c.in-Ok.ensures.exact
 
 pub facs_place-requires : goal.facs_place-requires
 facs_place-requires g c =
     let t = c.args.self.now in
-    asked_facs_place (may_of t) (memory_of t) (pointers_of t) _ c.requires c.in-Ok.ensures.found
+    asked_facs_place (may_of t) (memory_of t) (pointers_of t) _ c.requires c.in-Ok.ensures.exact

@@ -6,6 +6,9 @@ use Rattle.acpi.specs.Root.{width_of}
 use Rattle.acpi.specs.Tables.{kind_of, root_of}
 use Rattle.acpi.proofs.tables.AcpiTables.members.Goals as goal
 
+pub new-requires : goal.new-requires
+new-requires g c = rw (c.handler.ensures, c.pointers.ensures) c.requires
+
 pub returns-clause-items : goal.returns-clause-items
 returns-clause-items g c = rw (c.new.ensures, c.handler.ensures, c.pointers.ensures) refl
 

@@ -1,0 +1,38 @@
+use Rattle.std.proofs.Common.{rules, subst, sym}
+use Rattle.acpi_base.specs.Ranges.{Allows, table_ranges}
+use Rattle.acpi_base.specs.Table.{plain_kind}
+use Rattle.acpi_base.specs.declared.table.signature.TheConstants.Signature.{DSDT}
+use Rattle.acpi.proofs.Agreed.{from_tables, same_dsdt}
+use Rattle.acpi.proofs.Asked.{asked_dsdt, asked_fadt}
+use Rattle.acpi.specs.Places.{dsdt_place_ranges}
+use Rattle.acpi.specs.Tables.{may_of, memory_of, pointers_of}
+use Rattle.acpi.proofs.tables.AcpiTables.dsdt.Goals as goal
+
+pub find_fadt-requires : goal.find_fadt-requires
+find_fadt-requires g c =
+    let t = c.args.self.now in
+    asked_fadt (may_of t) dsdt_place_ranges (memory_of t) (pointers_of t) c.requires
+
+pub stream_at-requires : goal.stream_at-requires
+stream_at-requires g c =
+    let t = c.args.self.now in
+    subst (λ h. Allows (g.H.Lender.may h) (table_ranges (g.H.Lender.memory h) (plain_kind DSDT) c.in-Ok-dsdt_address.address)) (sym c.handler.ensures)
+    (asked_dsdt (may_of t) (memory_of t) (pointers_of t) _ _ c.requires c.in-Ok.ensures.exact (sym c.in-Ok-dsdt_address.ensures))
+
+pub returns-in-Ok-dsdt_address-clause-exact : goal.returns-in-Ok-dsdt_address-clause-exact
+returns-in-Ok-dsdt_address-clause-exact g c = search rules
+
+pub returns-in-Ok-dsdt_address-clause-footprint : goal.returns-in-Ok-dsdt_address-clause-footprint
+returns-in-Ok-dsdt_address-clause-footprint g c = λ n h. rw (from_tables c.args.self.now _ _ same_dsdt c.args.self.now.valid n h) (returns-in-Ok-dsdt_address-clause-exact g c)
+
+pub returns-in-Ok-clause-exact : goal.returns-in-Ok-clause-exact
+returns-in-Ok-clause-exact g c = search rules
+
+pub returns-in-Ok-clause-footprint : goal.returns-in-Ok-clause-footprint
+returns-in-Ok-clause-footprint g c = λ n h. rw (from_tables c.args.self.now _ _ same_dsdt c.args.self.now.valid n h) (returns-in-Ok-clause-exact g c)
+
+pub returns-clause-exact : goal.returns-clause-exact
+returns-clause-exact g c = search rules
+
+pub returns-clause-footprint : goal.returns-clause-footprint
+returns-clause-footprint g c = λ n h. rw (from_tables c.args.self.now _ _ same_dsdt c.args.self.now.valid n h) (returns-clause-exact g c)
