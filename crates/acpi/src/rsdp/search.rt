@@ -111,24 +111,6 @@ fn search_last<'h, H: Lender>(
     }
 }
 
-/// The RSDP that `search_for_on_bios` answers, or its refusal: the search, step by step.
-#[tactic(auto, unfolding(crate::specs::Search::found_rsdp))]
-fn search_for_on_bios_exact<'h, H: Lender>(
-    handler: &'h H,
-) -> AcpiResult<PhysicalMapping<'h, H, Rsdp>>
-    requires { Allows (H.may handler.now) (search_ranges (H.memory handler.now)) }
-    ensures handler { IfOk result (λ m. handler_of m ≡ handler.now) }
-    ensures lent { IfOk result (λ m. IsOfMemory (H.memory handler.now) m) }
-    ensures found { Gives placed result (found_rsdp (H.memory handler.now)) }
-{
-    let word = area_word(handler)?;
-    match search_area(handler, FIRST_AREA) {
-        Ok(Some(found)) => Ok(found),
-        Ok(None) => search_last(handler, second_area(word)),
-        Err(error) => Err(error),
-    }
-}
-
 impl Rsdp {
     ghost use Rattle.std.specs.Prelude.{IsOk};
     ghost use Rattle.acpi_base.specs.Mapping.{start_of};
@@ -153,7 +135,7 @@ impl Rsdp {
     ///
     /// Fails with `MapFailed` if the word or an area that is asked for isn't lent, and with
     /// `NoValidRsdp` if no candidate is left.
-    #[tactic(auto, using(crate::proofs::Agreed::same_search, crate::proofs::Search::found_valid, crate::proofs::Search::searched))]
+    #[tactic(auto, unfolding(crate::specs::Search::found_rsdp))]
     pub fn search_for_on_bios<'h, H: Lender>(
         handler: &'h H,
     ) -> AcpiResult<PhysicalMapping<'h, H, Rsdp>>
@@ -170,6 +152,13 @@ impl Rsdp {
         ensures footprint { let m = H.memory handler.now in
             Footprint m (search_ranges m) found_rsdp (Gives placed result) }
     {
-        search_for_on_bios_exact(handler)
+        match area_word(handler) {
+            Ok(word) => match search_area(handler, FIRST_AREA) {
+                Ok(Some(found)) => Ok(found),
+                Ok(None) => search_last(handler, second_area(word)),
+                Err(error) => Err(error),
+            },
+            Err(error) => Err(error),
+        }
     }
 }
