@@ -8,10 +8,8 @@ ghost use Rattle.acpi.specs.Rsdp.{check_sum, rsdp_at};
 
 mod area;
 mod given;
-mod raw_bytes;
 mod search;
 
-use self::raw_bytes::RawBytes;
 use crate::root::{RootKind, RootPointer};
 use acpi_base::bytes::{byte_sum, field_in, is_text, text_of, u8_in, u32_in};
 use acpi_base::{AcpiError, AcpiResult, Lender, PhysicalMapping, PhysicalRecord};
@@ -200,6 +198,22 @@ impl Rsdp {
             Some(length) if length < 36 => Err(AcpiError::RsdpInvalidChecksum),
             Some(length) => Ok(Some(length as usize)),
         }
+    }
+}
+
+/// A record that means nothing: a mapping of it shows the bytes, at least one, as they are.
+#[derive(Clone, Copy)]
+struct RawBytes;
+
+impl PhysicalRecord for RawBytes {
+    const MIN_LENGTH: usize = 1;
+
+    ghost MIN_LENGTH = { 1 };
+
+    ghost reading = { λ b. record {} };
+
+    fn read(_bytes: &[u8]) -> Self {
+        RawBytes
     }
 }
 

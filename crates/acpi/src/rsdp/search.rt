@@ -11,8 +11,7 @@ ghost use Rattle.acpi.specs.Rsdp.{rsd_ptr};
 ghost use Rattle.acpi.specs.Search.{count_of, found_in, found_rsdp, last_in, placed, room_of, walk, word_in};
 
 use super::area::{Area, FIRST_AREA, second_area};
-use super::raw_bytes::RawBytes;
-use super::{Rsdp, map_rsdp};
+use super::{RawBytes, Rsdp, map_rsdp};
 use acpi_base::bytes::u16_in;
 use acpi_base::{AcpiError, AcpiResult, Lender, PhysicalMapping};
 
