@@ -8,7 +8,7 @@ use Rattle.acpi_base.specs.declared.model.interrupt.InterruptSourceOverride.{Int
 use Rattle.acpi_base.specs.declared.model.isa.IsaInterrupt.{IsaInterrupt}
 use Rattle.acpi_base.specs.Isa.{SharedByOverrides, goes_to, isa_interrupt, is_taken, leads_to, override_for, straight, wired}
 use Rattle.std.proofs.Math.ListN.{get_or-eq_default}
-use Rattle.std.proofs.lemmas.List.Sums.{sum_by-cons, sum_by-set}
+use Rattle.std.proofs.lemmas.List.Sums.{count_by-le-length, sum_by-cons, sum_by-set}
 use Rattle.acpi_base.specs.IsaOverrides.{AreCounted, Gathered, IsGathered}
 use Rattle.acpi_base.specs.declared.model.interrupt.Polarity.TheVariants as polarity
 use Rattle.acpi_base.specs.declared.model.interrupt.TriggerMode.TheVariants as trigger
@@ -247,6 +247,18 @@ module _ (leads counts : List ℕ) (source from : ℕ) (all : AreCounted leads c
   pub from_counted : 0 < get_or counts from 0
   from_counted =
       subst (λ n. 0 < n) (sym (all.each from from_fits)) (count_some (λ x. x == from) leads 16 source fits (grind (arith, nat_tests)))
+
+  each_few : (number : ℕ) → number ≤ 16 → get_or counts number 0 ≤ length leads
+  each_few number small = subst (λ n. n ≤ length leads) (sym (all.each number small)) (count_by-le-length (λ x. x == number) leads)
+
+  -- no count is above the number of sources, also after one of them is less
+  pub still_few : (to less : ℕ) → length counts ≡ 17 → to ≤ 16 → less ≤ get_or counts from 0 → get_or (set counts from less) to 0 ≤ length leads
+  still_few to less long small le = few (from == to) refl where
+    few : (same : Bool) → (from == to) ≡ same → get_or (set counts from less) to 0 ≤ length leads
+    few true same =
+        subst (λ n. n ≤ length leads) (sym (written counts from to less 0 true same (let low : from ≤ 16 = from_fits in omega arith))) (let most = each_few from from_fits in omega arith)
+    few false same =
+        subst (λ n. n ≤ length leads) (sym (written counts from to less 0 false same (let low : from ≤ 16 = from_fits in omega arith))) (each_few to small)
 
   pub one_counted : (to less more : ℕ) → length counts ≡ 17 → to ≤ 16 → less + 1 ≡ get_or counts from 0 → more ≡ get_or (set counts from less) to 0 + 1
       → AreCounted (set leads source to) (set (set counts from less) to more)

@@ -235,6 +235,26 @@ pub good_rest : (s : Signature) (b : List ℕ) → 36 ≤ length b → check_nam
     → sum_of b ≡ 0 → check_table s b ≡ Ok tt
 good_rest s b long names same good = rw (only_sum_left s b long names same, good) refl
 
+-- what is claimed is left to the kind's own check
+check_refused : (m : Memory) (k : Kind) (p : ℕ) (table : List ℕ) (e : AcpiError) → table_at m (unchecked k.signature k.least) p ≡ Ok table
+    → k.check table ≡ Err e → table_at m k p ≡ Err e
+check_refused m k p table e claimed refused = rw (checked_last m k p, claimed, refused) refl
+
+check_passed : (m : Memory) (k : Kind) (p : ℕ) (table : List ℕ) → table_at m (unchecked k.signature k.least) p ≡ Ok table
+    → k.check table ≡ Ok tt → table_at m k p ≡ Ok table
+check_passed m k p table claimed passes = rw (checked_last m k p, claimed, passes) refl
+
+-- of a table of which only the header and the sum matter, the sum decides
+pub sum_refused : (m : Memory) (s : Signature) (p : ℕ) (table : List ℕ) → 36 ≤ length table → table_at m (unchecked s 36) p ≡ Ok table
+    → (sum_of table ≡ 0 → ⊥) → table_at m (plain_kind s) p ≡ Err (SdtInvalidChecksum s)
+sum_refused m s p table long claimed bad = check_refused m (plain_kind s) p table _ claimed
+    (bad_rest s table long (names_there m s 36 p table (lit≤ tt) claimed) (length_there m s 36 p table (lit≤ tt) claimed) bad)
+
+pub sum_passed : (m : Memory) (s : Signature) (p : ℕ) (table : List ℕ) → 36 ≤ length table → table_at m (unchecked s 36) p ≡ Ok table
+    → sum_of table ≡ 0 → table_at m (plain_kind s) p ≡ Ok table
+sum_passed m s p table long claimed good = check_passed m (plain_kind s) p table claimed
+    (good_rest s table long (names_there m s 36 p table (lit≤ tt) claimed) (length_there m s 36 p table (lit≤ tt) claimed) good)
+
 -- ---- if the header isn't lent, or has another signature
 
 pub no_header : (m : Memory) (k : Kind) (p : ℕ) (e : AcpiError) → lent m p 36 ≡ Err e → table_at m k p ≡ Err e

@@ -12,8 +12,8 @@ pub use crate::table::sum::byte_sum;
 pub fn filled<const N: usize>(bytes: &[u8], offset: usize) -> [u8; N]
     ensures { result ≡ filled_part bytes.now offset N }
 {
-    let rest = &bytes[offset.min(bytes.len())..];
-    let present = &rest[..N.min(rest.len())];
+    let rest = skip(bytes, offset);
+    let present = if N < rest.len() { &rest[..N] } else { rest };
     let mut filled = [0; N];
     filled[..present.len()].copy_from_slice(present);
     filled
@@ -47,7 +47,7 @@ fn eight(bytes: &[u8]) -> u64
 
 /// The number that at most eight bytes encode, the lowest byte first.
 #[inline(always)]
-#[tactic(auto, using(crate::proofs::Spelling::number_filled), unfolding(crate::specs::Bytes::field_of))]
+#[tactic(auto, unfolding(crate::specs::Bytes::field_of))]
 fn number_of(bytes: &[u8]) -> u64
     requires { length bytes.now ≤ 8 }
     ensures { result ≡ number bytes.now }
@@ -59,7 +59,11 @@ fn number_of(bytes: &[u8]) -> u64
         [a] => *a as u64,
         [a, b] => u16::from_le_bytes([*a, *b]) as u64,
         [a, b, c, d] => u32::from_le_bytes([*a, *b, *c, *d]) as u64,
-        _ => u64::from_le_bytes(filled(bytes, 0)),
+        _ => {
+            // A `return`, so that the lemma is tried for this value alone.
+            #[tactic(auto, using(crate::proofs::Spelling::number_filled))]
+            return u64::from_le_bytes(filled(bytes, 0));
+        }
     }
 }
 

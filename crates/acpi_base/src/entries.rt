@@ -6,7 +6,7 @@ ghost use Rattle.std.specs.Prelude.{◌≡◌, ◌<◌, ◌≤◌, length, IfSom
 ghost use Rattle.acpi_base.specs.Entries.{IsEntry, after_one, cut, end_of, front, least_length, next_front, number_at, with_entry};
 
 /// How many bytes a number has.
-#[derive(Clone, Copy, Debug)]
+#[derive(Clone, Copy)]
 pub enum Width {
     /// One byte.
     One,
@@ -15,7 +15,7 @@ pub enum Width {
 }
 
 /// The place of a number in an entry.
-#[derive(Clone, Copy, Debug)]
+#[derive(Clone, Copy)]
 pub struct Place {
     /// How many bytes of the entry stand before it.
     pub at: u8,
@@ -24,7 +24,7 @@ pub struct Place {
 }
 
 /// The layout of a table's entries: the places of type and length, and the least lengths.
-#[derive(Clone, Copy, Debug)]
+#[derive(Clone, Copy)]
 pub struct EntryLayout<const KINDS: usize> {
     /// The place of an entry's type.
     pub kind_place: Place,
@@ -37,7 +37,7 @@ pub struct EntryLayout<const KINDS: usize> {
 }
 
 /// A grammar of entries: how a table's bytes are cut into entries.
-#[derive(Clone, Copy, Debug)]
+#[derive(Clone, Copy)]
 pub struct Grammar<const KINDS: usize> {
     /// The layout of each entry.
     pub layout: EntryLayout<KINDS>,

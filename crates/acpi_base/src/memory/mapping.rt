@@ -69,7 +69,9 @@ impl<'h, H: Lender, T: PhysicalRecord> PhysicalMapping<'h, H, T> {
             ≡ Some (lent_of m)) }
     {
         let claim = Claim::request(handler, address, size)?;
-        Ok(PhysicalMapping::of_claim(claim))
+        // A `return`, so that the lemma is tried for this value alone.
+        #[tactic(auto, using(crate::proofs::LentRanges::lent_ends))]
+        return Ok(PhysicalMapping::of_claim(claim));
     }
 
     /// The physical address of the first mapped byte.

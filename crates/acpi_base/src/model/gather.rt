@@ -20,7 +20,6 @@ use std::alloc::Allocator;
 /// The model of APICs, with room for exactly what is counted.
 ///
 /// Fails with `AllocError` if memory is refused, or a clone of the allocator.
-#[tactic(auto, using(crate::proofs::EntryLists::said_items))]
 fn gather<A: Allocator + Clone>(
     madt: &Madt,
     table: &[u8],

@@ -50,13 +50,13 @@ impl IsaOverrides {
         ensures { (before : _) → IsGathered before self.old → IsGathered (before ++ wiring.now ∷ []) self.new }
     {
         let source = wiring.isa_source as usize;
-        if source < 16 {
-            self.own[source] = Some(*wiring);
-        }
         let leads = wiring.global_system_interrupt.min(16) as u8;
         self.leading[self.leads[source] as usize] -= 1;
         self.leading[leads as usize] += 1;
         self.leads[source] = leads;
+        if source < 16 {
+            self.own[source] = Some(*wiring);
+        }
     }
 
     /// What `Apic::isa_interrupt` returns for an ISA interrupt, if the overrides that were added are all.

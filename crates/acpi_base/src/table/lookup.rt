@@ -45,7 +45,6 @@ fn claim_header<'h, H: Lender>(
 /// the least length. The sum is still to be checked. If the bytes lent for the header hold the whole table,
 /// they are shown; else the header's claim ends before the request.
 #[inline(always)]
-#[tactic(auto, using(crate::proofs::AllowedRanges::asked_length), unfolding(crate::specs::Table::table_at))]
 fn claim_whole<'h, H: Lender>(
     head: Claim<'h, H>,
     signature: Signature,
@@ -78,7 +77,6 @@ fn claim_whole<'h, H: Lender>(
 /// The bytes of the table whose header is claimed, if it is valid for `T`. No record is made of them here:
 /// they are small to pass on, and the record is read where it is to lie.
 #[inline(never)]
-#[tactic(auto, using(crate::proofs::OwnTable::names_there, crate::proofs::OwnTable::length_there, crate::proofs::OwnTable::checked_last))]
 fn claim_valid<'h, H: Lender, T: AcpiTable>(head: Claim<'h, H>) -> AcpiResult<Claim<'h, H>>
     requires header { length (shown_by head) ≡ 36 }
     requires lent { IsLentOf (H.memory (claimed_from head)) head }
@@ -175,7 +173,6 @@ pub fn map_table<'h, H: Lender, T: AcpiTable>(
 /// The table whose header is claimed, if it is valid under this signature as one of which only
 /// the header and the sum matter.
 #[inline(never)]
-#[tactic(auto, using(crate::proofs::OwnTable::names_there, crate::proofs::OwnTable::length_there, crate::proofs::OwnTable::checked_last, crate::proofs::OwnTable::bad_rest, crate::proofs::OwnTable::good_rest))]
 fn map_by_header_and_sum<'h, H: Lender>(
     head: Claim<'h, H>,
     signature: Signature,

@@ -1,4 +1,4 @@
-use Rattle.std.proofs.Common.{◌≡◌, ℕ, List, ap, subst, sym, ◌∙◌}
+use Rattle.std.proofs.Common.{arith, ◌≡◌, ℕ, List, ap, subst, sym, ◌∙◌}
 use Rattle.std.specs.List.{cons_option, filter_map}
 use Rattle.std.specs.Result.{result_ok}
 use Rattle.acpi_base.specs.Entries.{cut, with_entry}
@@ -8,7 +8,7 @@ use Rattle.acpi_base.specs.Model.{Model}
 use Rattle.acpi_base.specs.ModelBuilder.{HasRoom, model_behind}
 use Rattle.acpi_base.specs.declared.model.builder.ModelBuilder.{ModelBuilder}
 use Rattle.acpi_base.specs.declared.model.item.MadtItem.{MadtItem}
-use Rattle.acpi_base.proofs.EntryLists.{said_more}
+use Rattle.acpi_base.proofs.EntryLists.{said_items, said_more}
 use Rattle.acpi_base.proofs.model.gather.gather.Goals as goal
 
 abbrev left : List ℕ → List MadtItem
@@ -30,3 +30,6 @@ loop-entry-preserved g c = (
   c.add_entry.ensures.room _ (subst (HasRoom c.loop-entry.builder) (left_said c.loop-entry.rest.now c.in-Some.entry.now c.in-Some.others.now c.in-Some.ensures.found) c.loop-entry.invariant.1),
   ap (λ r. r.1) (sym c.in-Some.ensures.found) ∙ c.loop-entry.invariant.2,
 )
+
+pub loop-entry-init : goal.loop-entry-init
+loop-entry-init g c = grind (arith, said_items)
