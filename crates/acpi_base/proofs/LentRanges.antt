@@ -172,6 +172,12 @@ at_front_of m a n s e h = rw (length-take-le n s h) (at-front m a n s e h)
 pub lent_front : (m : Memory) (a n : ℕ) (s : List ℕ) → at m a (length s) ≡ Some s → n ≤ length s → lent m a n ≡ Ok (take n s)
 lent_front m a n s e h = rw (at-front m a n s e h) refl
 
+-- of as many bytes as are shown, those that are shown
+pub lent_shown : (m : Memory) (a r n : ℕ) (s : List ℕ) → at m a (length s) ≡ Some s → r ≤ length s → length (take r s) ≡ n → lent m a n ≡ Ok (take r s)
+lent_shown m a r n s e fits long =
+    let is : r ≡ n = omega (arith, length-take-le r s fits, long) in
+    subst (λ k. lent m a k ≡ Ok (take r s)) is (lent_front m a r s e fits)
+
 pub lent_none : (m : Memory) (a n : ℕ) → at m a n ≡ None → lent m a n ≡ Err MapFailed
 lent_none m a n e = rw e refl
 

@@ -52,7 +52,6 @@ fn claim_whole<'h, H: Lender>(
 ) -> AcpiResult<Claim<'h, H>>
     requires header { length (shown_by head) ≡ 36 }
     requires lent { IsLentOf (H.memory (claimed_from head)) head }
-    requires shown { lent (H.memory (claimed_from head)) (claimed_at head) 36 ≡ Ok (shown_by head) }
     requires some { 0 < least }
     requires asked { Allows (H.may (claimed_from head))
         (whole_ranges signature least (claimed_at head) (shown_by head)) }
@@ -69,32 +68,6 @@ fn claim_whole<'h, H: Lender>(
         Ok(length) => head.widen(length),
         Err(error) => {
             head.end();
-            Err(error)
-        }
-    }
-}
-
-/// The bytes of the table whose header is claimed, if it is valid for `T`. No record is made of them here:
-/// they are small to pass on, and the record is read where it is to lie.
-#[inline(never)]
-fn claim_valid<'h, H: Lender, T: AcpiTable>(head: Claim<'h, H>) -> AcpiResult<Claim<'h, H>>
-    requires header { length (shown_by head) ≡ 36 }
-    requires lent { IsLentOf (H.memory (claimed_from head)) head }
-    requires shown { lent (H.memory (claimed_from head)) (claimed_at head) 36 ≡ Ok (shown_by head) }
-    requires asked { Allows (H.may (claimed_from head))
-        (whole_ranges T.kind.signature T.kind.least (claimed_at head) (shown_by head)) }
-    ensures start { IfOk result (λ c. claimed_at c ≡ claimed_at head.entry) }
-    ensures handler { IfOk result (λ c. claimed_from c ≡ claimed_from head.entry) }
-    ensures least { IfOk result (λ c. T.MIN_LENGTH ≤ length (shown_by c)) }
-    ensures all { IfOk result (λ c. IsLentOf (H.memory (claimed_from head.entry)) c) }
-    ensures shown { let m = H.memory (claimed_from head.entry) in Gives (λ c. shown_by c) result
-        (table_at m T.kind (claimed_at head.entry)) }
-{
-    let whole = claim_whole(head, T::SIGNATURE, T::MIN_LENGTH)?;
-    match T::validate_rest(whole.shown()) {
-        Ok(()) => Ok(whole),
-        Err(error) => {
-            whole.end();
             Err(error)
         }
     }
@@ -124,6 +97,31 @@ impl<'h, H: Lender> ValidTable<'h, H> {
     }
 }
 
+/// The bytes of the table whose header is claimed, if it is valid for `T`. No record is made of them here:
+/// they are small to pass on, and the record is read where it is to lie.
+#[inline(never)]
+fn claim_valid<'h, H: Lender, T: AcpiTable>(head: Claim<'h, H>) -> AcpiResult<ValidTable<'h, H>>
+    requires header { length (shown_by head) ≡ 36 }
+    requires lent { IsLentOf (H.memory (claimed_from head)) head }
+    requires asked { Allows (H.may (claimed_from head))
+        (whole_ranges T.kind.signature T.kind.least (claimed_at head) (shown_by head)) }
+    ensures start { IfOk result (λ v. claimed_at v.claim ≡ claimed_at head.entry) }
+    ensures handler { IfOk result (λ v. claimed_from v.claim ≡ claimed_from head.entry) }
+    ensures least { IfOk result (λ v. T.MIN_LENGTH ≤ length (shown_by v.claim)) }
+    ensures all { IfOk result (λ v. IsLentOf (H.memory (claimed_from head.entry)) v.claim) }
+    ensures shown { let m = H.memory (claimed_from head.entry) in Gives (λ v. shown_by v.claim) result
+        (table_at m T.kind (claimed_at head.entry)) }
+{
+    let claim = claim_whole(head, T::SIGNATURE, T::MIN_LENGTH)?;
+    match T::validate_rest(claim.shown()) {
+        Ok(()) => Ok(ValidTable { claim }),
+        Err(error) => {
+            claim.end();
+            Err(error)
+        }
+    }
+}
+
 /// The bytes of the table at a physical address, if it is valid for `T` (section 5.2.6).
 ///
 /// Fails as `map_table` does.
@@ -143,8 +141,7 @@ pub fn valid_at<'h, H: Lender, T: AcpiTable>(
         (table_at (H.memory handler.now) T.kind address) }
 {
     let head = claim_header(handler, address, T::SIGNATURE)?;
-    let claim = claim_valid::<H, T>(head)?;
-    Ok(ValidTable { claim })
+    claim_valid::<H, T>(head)
 }
 
 /// The table at a physical address, if it is valid for `T` (sections 5.2.5 and 5.2.6).
@@ -179,7 +176,6 @@ fn map_by_header_and_sum<'h, H: Lender>(
 ) -> AcpiResult<PhysicalMapping<'h, H, SdtHeader>>
     requires header { length (shown_by head) ≡ 36 }
     requires lent { IsLentOf (H.memory (claimed_from head)) head }
-    requires shown { lent (H.memory (claimed_from head)) (claimed_at head) 36 ≡ Ok (shown_by head) }
     requires asked { Allows (H.may (claimed_from head))
         (whole_ranges signature 36 (claimed_at head) (shown_by head)) }
     ensures place { IfOk result (λ m. start_of m ≡ claimed_at head.entry) }

@@ -9,8 +9,8 @@ validate_rest-requires-clause-names g c = grind (arith, names_there)
 pub validate_rest-requires-clause-length : goal.validate_rest-requires-clause-length
 validate_rest-requires-clause-length g c = grind (arith, length_there)
 
-pub returns-in_err-whole-clause-shown : goal.returns-in_err-whole-clause-shown
-returns-in_err-whole-clause-shown g c = grind (arith, common_steps, g.met.T.AcpiTable.agrees, checked_last)
+pub returns-in_err-claim-clause-shown : goal.returns-in_err-claim-clause-shown
+returns-in_err-claim-clause-shown g c = grind (arith, common_steps, g.met.T.AcpiTable.agrees, checked_last)
 
 pub returns-in-Err-clause-shown : goal.returns-in-Err-clause-shown
 returns-in-Err-clause-shown g c = grind (arith, common_steps, g.met.T.AcpiTable.agrees, checked_last)

@@ -1,7 +1,7 @@
 use Rattle.std.proofs.Common.{◌≡◌, ℕ, ◌+◌, ◌^◌, ◌<◌, length, IfOk, Result, Ok, Err, arith}
 use Rattle.std.proofs.lemmas.Grind.{common_steps}
 use Rattle.acpi_base.proofs.AllowedRanges.{asked_length}
-use Rattle.acpi_base.proofs.LentRanges.{lent_ends}
+use Rattle.acpi_base.proofs.LentRanges.{lent_ends, lent_shown}
 use Rattle.acpi_base.specs.Claim.{claimed_at, shown_by}
 use Rattle.acpi_base.specs.Memory.{Memory, IsMemory}
 use Rattle.acpi_base.specs.Steps.{Gives, lent}
@@ -25,8 +25,12 @@ widen-requires-clause-asked g c = grind (arith, asked_length)
 
 pub returns-in-Ok-clause-shown : goal.returns-in-Ok-clause-shown
 unfolding table_at
-returns-in-Ok-clause-shown g c = grind (arith, common_steps)
+returns-in-Ok-clause-shown g c =
+    let front = lent_shown _ (claimed_at c.args.head) c.args.head.region_length 36 _ c.requires.lent (omega arith) c.requires.header in
+    grind (arith, common_steps)
 
 pub returns-in-Err-clause-shown : goal.returns-in-Err-clause-shown
 unfolding table_at
-returns-in-Err-clause-shown g c = grind (arith, common_steps)
+returns-in-Err-clause-shown g c =
+    let front = lent_shown _ (claimed_at c.args.head) c.args.head.region_length 36 _ c.requires.lent (omega arith) c.requires.header in
+    grind (arith, common_steps)
