@@ -1,9 +1,11 @@
 //! One entry of a MADT as an item of the interrupt model (section 5.2.12).
 ghost use Rattle.std.specs.Prelude.{◌≡◌, Ok};
+ghost use Rattle.std.specs.Result.{result_map_both};
 ghost use Rattle.acpi_base.specs.Entries.{IsEntry};
-ghost use Rattle.acpi_base.specs.Interrupts.{io_apic_of, nmi_line_of, nmi_source_of, override_of, item_of, polarity_of, processor_for, trigger_mode_of};
+ghost use Rattle.acpi_base.specs.Interrupts.{io_apic_of, item_of, nmi_line_of, polarity_of, processor_for, trigger_mode_of};
 ghost use Rattle.acpi_base.specs.Madt.{madt_layout};
 ghost use Rattle.acpi_base.specs.Items.{said_of};
+ghost use Rattle.acpi_base.specs.declared.model.item.MadtItem.TheVariants as item;
 ghost use Rattle.acpi_base.specs.declared.tables.madt.entry.MadtEntry.TheVariants as variants;
 
 use super::interrupt::{
@@ -103,24 +105,6 @@ pub(super) fn x2apic_processor_of(entry: &LocalX2ApicEntry) -> MadtItem
     }
 }
 
-/// The wiring that an override gives.
-#[inline(always)]
-#[tactic(auto, unfolding(crate::specs::Interrupts::item_of))]
-fn override_item(entry: &InterruptSourceOverrideEntry) -> Result<MadtItem, MadtError>
-    ensures { result ≡ item_of (variants.InterruptSourceOverride entry.now) }
-{
-    Ok(MadtItem::Override(override_of(entry)?))
-}
-
-/// The interrupt that is non-maskable.
-#[inline(always)]
-#[tactic(auto, unfolding(crate::specs::Interrupts::item_of))]
-fn nmi_source_item(entry: &NmiSourceEntry) -> Result<MadtItem, MadtError>
-    ensures { result ≡ item_of (variants.NmiSource entry.now) }
-{
-    Ok(MadtItem::NmiSource(nmi_source_of(entry)?))
-}
-
 /// Local APIC NMI: the LINT pin of a local APIC.
 #[inline(always)]
 #[tactic(auto, unfolding(crate::specs::Interrupts::item_of))]
@@ -128,7 +112,7 @@ fn nmi_line_item(entry: &LocalApicNmiEntry) -> Result<MadtItem, MadtError>
     ensures { result ≡ item_of (variants.LocalApicNmi entry.now) }
 {
     let processor = processor_for(0xff, entry.processor_id as u32);
-    Ok(MadtItem::NmiLine(nmi_line_of(processor, entry.nmi_line)?))
+    nmi_line_for(processor, entry.nmi_line)
 }
 
 /// Local x2APIC NMI: the LINT pin of a local x2APIC.
@@ -138,7 +122,7 @@ fn x2apic_nmi_line_item(entry: &X2ApicNmiEntry) -> Result<MadtItem, MadtError>
     ensures { result ≡ item_of (variants.X2ApicNmi entry.now) }
 {
     let processor = processor_for(0xffffffff, entry.processor_uid);
-    Ok(MadtItem::NmiLine(nmi_line_of(processor, entry.nmi_line)?))
+    nmi_line_for(processor, entry.nmi_line)
 }
 
 /// The fields of an I/O APIC.
@@ -153,33 +137,35 @@ fn io_apic_of(entry: &IoApicEntry) -> IoApic
 }
 
 /// The wiring that an override gives (section 5.2.12.5). The bus is tested before the flags.
-fn override_of(entry: &InterruptSourceOverrideEntry) -> Result<InterruptSourceOverride, MadtError>
-    ensures { result ≡ override_of entry.now }
+#[tactic(auto, unfolding(crate::specs::Interrupts::item_of))]
+fn override_item(entry: &InterruptSourceOverrideEntry) -> Result<MadtItem, MadtError>
+    ensures { result ≡ item_of (variants.InterruptSourceOverride entry.now) }
 {
     if entry.bus != 0 {
         return Err(MadtError::InterruptOverrideEntryHasInvalidBus);
     }
     let polarity = polarity_of(entry.flags)?;
     let trigger_mode = trigger_mode_of(entry.flags)?;
-    Ok(InterruptSourceOverride {
+    Ok(MadtItem::Override(InterruptSourceOverride {
         isa_source: entry.irq,
         global_system_interrupt: entry.global_system_interrupt,
         polarity,
         trigger_mode,
-    })
+    }))
 }
 
 /// The interrupt that is non-maskable (section 5.2.12.6).
-fn nmi_source_of(entry: &NmiSourceEntry) -> Result<NmiSource, MadtError>
-    ensures { result ≡ nmi_source_of entry.now }
+#[tactic(auto, unfolding(crate::specs::Interrupts::item_of))]
+fn nmi_source_item(entry: &NmiSourceEntry) -> Result<MadtItem, MadtError>
+    ensures { result ≡ item_of (variants.NmiSource entry.now) }
 {
     let polarity = polarity_of(entry.flags)?;
     let trigger_mode = trigger_mode_of(entry.flags)?;
-    Ok(NmiSource {
+    Ok(MadtItem::NmiSource(NmiSource {
         global_system_interrupt: entry.global_system_interrupt,
         polarity,
         trigger_mode,
-    })
+    }))
 }
 
 /// Polarity: bits 0 and 1 of an interrupt's MPS INTI Flags (section 5.2.12.5).
@@ -218,13 +204,13 @@ fn processor_for(all: u32, processor_uid: u32) -> NmiProcessor
 }
 
 /// The LINT pin of that number, 0 or 1, for these processors' local APICs.
-fn nmi_line_of(processor: NmiProcessor, number: u8) -> Result<NmiLine, MadtError>
-    ensures { result ≡ nmi_line_of processor number }
+fn nmi_line_for(processor: NmiProcessor, number: u8) -> Result<MadtItem, MadtError>
+    ensures { result ≡ result_map_both item.NmiLine (λ e. e) (nmi_line_of processor number) }
 {
     let line = match number {
         0 => LocalInterruptLine::Lint0,
         1 => LocalInterruptLine::Lint1,
         _ => return Err(MadtError::InvalidLocalNmiLine),
     };
-    Ok(NmiLine { processor, line })
+    Ok(MadtItem::NmiLine(NmiLine { processor, line }))
 }
