@@ -3,7 +3,7 @@ use Rattle.std.proofs.Common.{ℕ, List, [], ◌++◌, OnOk, refl, inl, inr, ◌
 use Rattle.std.specs.Prelude.{Option, Result, Ok, Err, Some, None}
 use Rattle.std.specs.Io.KnownBytes.{Appends, Keeps}
 use Rattle.std.proofs.KnownBytes.{Appends-nil, Appends-trans, Appends-kept}
-use Rattle.acpi_view_lib.specs.Writing.{Still, AppendsSome}
+use Rattle.acpi_view_lib.specs.Writing.{Still, AppendsSome, Grows, GrowsSome}
 use Rattle.std.specs.Global.{Global}
 use Rattle.acpi_base.specs.Memory.{Memory}
 use Rattle.acpi.specs.Opened.{Opened}
@@ -16,53 +16,61 @@ use Rattle.acpi_image_reader.specs.Image.{Refuses, records_in}
 use Rattle.acpi_image_reader.specs.declared.error.ImageError.{ImageError}
 use Rattle.acpi_image_reader.specs.declared.error.ImageError.TheVariants as refusal
 use Rattle.acpi_view_lib.specs.Status.{RunsOutWith, status_over, status_with}
-use Rattle.std.specs.Result.{result_unwrap_or}
+use Rattle.std.specs.Result.{result_and, result_unwrap_or}
 use Rattle.acpi_cli.specs.Reads.{AsksFront, FileRead, contents_of, names_of}
 use Rattle.acpi_view_lib.specs.Command.{root_for, files_for, files_of}
 use Rattle.acpi_view_lib.specs.View.{Views, first_of}
 
 -- ---- writing in steps
 
--- these bytes, and then those
-pub then_more : (a b c : Option (List ℕ)) (here rest : List ℕ)
-    → Appends a b here → Appends b c rest → Appends a c (here ++ rest)
-then_more a b c here rest = Appends-trans a b c here rest
+-- nothing is printed
+pub grows_nothing : {T E : Type 0} (r : Result T E) (a : Option (List ℕ)) → Grows r r a a []
+grows_nothing r a = record { grows = λ ok. (ok, Appends-nil a) }
+
+-- these bytes are printed, and then those
+pub grows_more : {T E : Type 0} {r s t : Result T E} {a b c : Option (List ℕ)} {here rest : List ℕ}
+    → Grows r s a b here → Grows s t b c rest → Grows r t a c (here ++ rest)
+grows_more first then = record {
+  grows = λ ok.
+      let later = then.grows ok in
+      let sooner = first.grows later.0 in
+      (sooner.0, Appends-trans _ _ _ _ _ sooner.1 later.1);
+}
 
 -- at first all are left
-pub still_all : (now : Option (List ℕ)) (all : List ℕ) → Still now now all all
-still_all now all = record { grows = λ after rest. rest }
+pub still_all : {T E : Type 0} {now : Result T E} {here : Option (List ℕ)} {all : List ℕ}
+    → Still now now here here all all
+still_all = record { grows = λ after last rest. rest }
 
--- the first bytes that were left are written
-pub still_less : (first now next : Option (List ℕ)) (here left all : List ℕ)
-    → Still first now (here ++ left) all → Appends now next here → Still first next left all
-still_less first now next here left all still written = record {
-  grows = λ after rest. still.grows after (Appends-trans now next after here left written rest);
+-- the first bytes that were left are printed
+pub still_less : {T E : Type 0} {before now next : Result T E} {first here there : Option (List ℕ)}
+    {some left all : List ℕ}
+    → Still before now first here (some ++ left) all → Grows now next here there some
+    → Still before next first there left all
+still_less still printed = record {
+  grows = λ after last rest. still.grows after last (grows_more printed rest);
 }
 
 -- none are left
-pub still_none : (first now : Option (List ℕ)) (all : List ℕ)
-    → Still first now [] all → Appends first now all
-still_none first now all still = still.grows now (Appends-nil now)
-
--- what follows if all went well
-pub on_ok : {T E : Type 0} (r : Result T E) (P Q : Type 0) → (P → Q) → OnOk r P → OnOk r Q
-on_ok (Ok x) P Q follows p = follows p
-on_ok (Err e) P Q follows p = tt
+pub still_none : {T E : Type 0} {before now : Result T E} {first here : Option (List ℕ)} {all : List ℕ}
+    → Still before now first here [] all → Grows before now first here all
+still_none still = still.grows _ _ (grows_nothing _ _)
 
 -- ---- what the parts print is what all of it prints
 
-pub all_lines : (m : Memory) (o : Opened) (a b c d e f g h i j : Option (List ℕ))
-    → Appends a b (revision_line o.revision)
-    → Appends b c (header_lines m (pointers_in o))
-    → Appends c d (dsdt_lines m (pointers_in o))
-    → Appends d e (ssdt_lines m (pointers_in o))
-    → AppendsSome (IsPlatformText Global m (pointers_in o)) e f
-    → Appends f g (hpet_lines m (pointers_in o))
-    → AppendsSome (IsPciText m (pointers_in o)) g h
-    → Appends h i (bgrt_lines m (pointers_in o))
-    → Appends i j (spcr_lines m (pointers_in o))
-    → AppendsSome (IsLines m o) a j
-all_lines m o a b c d e f g h i j revision headers dsdt ssdts platform hpet pci bgrt spcr = (
+pub all_lines : {E : Type 0} {r s t u v w x y z : Result Unit E} {a b c d e f g h i j : Option (List ℕ)}
+    (m : Memory) (o : Opened)
+    → Grows (Ok tt) r a b (revision_line o.revision)
+    → Grows r s b c (header_lines m (pointers_in o))
+    → Grows s t c d (dsdt_lines m (pointers_in o))
+    → Grows t u d e (ssdt_lines m (pointers_in o))
+    → GrowsSome (IsPlatformText Global m (pointers_in o)) u v e f
+    → Grows v w f g (hpet_lines m (pointers_in o))
+    → GrowsSome (IsPciText m (pointers_in o)) w x g h
+    → Grows x y h i (bgrt_lines m (pointers_in o))
+    → Grows y z i j (spcr_lines m (pointers_in o))
+    → GrowsSome (IsLines m o) (Ok tt) z a j
+all_lines m o revision headers dsdt ssdts platform hpet pci bgrt spcr = (
   lines_of platform.0 pci.0 m o,
   record {
     platform = platform.0;
@@ -71,10 +79,15 @@ all_lines m o a b c d e f g h i j revision headers dsdt ssdts platform hpet pci 
     pci_is = pci.1;
     whole = refl;
   },
-  then_more a i j _ _ (then_more a h i _ _ (then_more a g h _ _ (then_more a f g _ _ (then_more a e f _ _
-      (then_more a d e _ _ (then_more a c d _ _ (then_more a b c _ _ revision headers) dsdt) ssdts)
-      platform.2) hpet) pci.2) bgrt) spcr,
+  grows_more (grows_more (grows_more (grows_more (grows_more (grows_more (grows_more (grows_more
+      revision headers) dsdt) ssdts) platform.2) hpet) pci.2) bgrt) spcr,
 )
+
+-- what was printed from the start, if nothing was refused
+pub printed_some : {E : Type 0} (Meant : List ℕ → Type 0) (r : Result Unit E) (a b : Option (List ℕ))
+    → GrowsSome Meant (Ok tt) r a b → OnOk r (AppendsSome Meant a b)
+printed_some Meant (Ok x) a b grows = (grows.0, grows.1, (grows.2.grows refl).1)
+printed_some Meant (Err e) a b grows = tt
 
 -- nothing is printed
 pub no_lines : (a : Option (List ℕ)) (complaint : List ℕ) → AppendsSome (IsOutput (Err complaint)) a a
@@ -105,12 +118,15 @@ pub one_line : (a c d : Option (List ℕ)) (complaint : List ℕ)
 one_line a c d complaint grows = record { lines = no_lines a complaint; complaints = grows }
 
 -- no command is given
-pub usage_ends : (given : Option Root) (file : Option (List ℕ)) (a c d : Option (List ℕ))
-    → given ≡ None → Appends c d usage_line → EndsWith given file 2 a a c d
-usage_ends given file a c d none grows = inl (
+pub usage_ends : {E : Type 0} (given : Option Root) (file : Option (List ℕ)) (r : Result Unit E)
+    (a c d : Option (List ℕ))
+    → given ≡ None → OnOk r (Appends c d usage_line)
+    → IfOk (result_and r (Ok 2)) (λ s. EndsWith given file s a a c d)
+usage_ends given file (Ok x) a c d none grows = inl (
   sym (ap (λ o. status_with o file) none),
   subst (λ o. Prints (found_with o file) a a c d) (sym none) (one_line a c d usage_line grows),
 )
+usage_ends given file (Err e) a c d none grows = tt
 
 pub refused_ends : {E : Type 0} (given : Option Root) (file : Option (List ℕ)) (r : Result ℕ E)
     (name : List ℕ) (a c d : Option (List ℕ))

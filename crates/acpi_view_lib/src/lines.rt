@@ -1,11 +1,10 @@
 //! The lines that the program prints.
 ghost use Rattle.std.specs.Prelude.{◌≡◌, OnOk, codes, flat_map, map};
-ghost use Rattle.std.specs.Io.KnownBytes.{Appends};
 ghost use Rattle.acpi.specs.Lists.{faults_of};
 ghost use Rattle.acpi.specs.Tables.{memory_of, of_tables, pointers_of, revision_of};
 ghost use Rattle.acpi.specs.Opened.{opened_of};
 ghost use Rattle.acpi_view_lib.specs.Output.{IsLines, skipped_lines_of};
-ghost use Rattle.acpi_view_lib.specs.Writing.{AppendsSome};
+ghost use Rattle.acpi_view_lib.specs.Writing.{AppendsSome, Grows, GrowsSome};
 ghost use Rattle.acpi_view_lib.specs.Lines.{IsPciText, bgrt_lines, console_line, dsdt_lines};
 ghost use Rattle.acpi_view_lib.specs.Lines.{graphic_line, header_lines, hpet_line, line};
 ghost use Rattle.acpi_view_lib.specs.Lines.{hpet_lines, lines_or_refusal, refused_line, region_lines};
@@ -29,7 +28,8 @@ use acpi::{
     PciConfigRegions, SdtHeaderIterator, SsdtIterator, TableFault, TableFaults,
 };
 pub(crate) use listed::{Line, Walk, print_each, print_walk};
-pub(crate) use pieces::{Piece, Pieces, setting, write_line};
+pub use pieces::Printed;
+pub(crate) use pieces::{Piece, Pieces, print_line, setting};
 pub use platform::print_platform;
 use std::alloc::{Allocator, Global};
 use std::io;
@@ -48,45 +48,45 @@ pub fn print_parts<H: AcpiHandler, W: Write>(
     ensures { OnOk result (AppendsSome (IsLines (memory_of tables.now) (opened_of tables.now))
         (W.contents out.old) (W.contents out.new)) }
 {
-    write_line(&revision_pieces(tables), out)?;
-    print_headers(tables, out)?;
-    write_line(&dsdt_pieces(tables), out)?;
-    print_ssdts(tables, out)?;
-    print_platform(alloc, tables, out)?;
-    write_line(&hpet_pieces(tables), out)?;
-    print_pci(alloc, tables, out)?;
-    write_line(&bgrt_pieces(tables), out)?;
-    write_line(&spcr_pieces(tables), out)
+    let printed = print_line(Ok(()), revision_pieces(tables), out);
+    let printed = print_headers(printed, tables, out);
+    let printed = print_line(printed, dsdt_pieces(tables), out);
+    let printed = print_ssdts(printed, tables, out);
+    let printed = print_platform(printed, alloc, tables, out);
+    let printed = print_line(printed, hpet_pieces(tables), out);
+    let printed = print_pci(printed, alloc, tables, out);
+    let printed = print_line(printed, bgrt_pieces(tables), out);
+    print_line(printed, spcr_pieces(tables), out)
 }
 
 /// Prints a line for each table that a lookup passes over as faulty, with the refusal, for FADT, MADT, MCFG,
 /// HPET, BGRT and SPCR, in this order.
-///
-/// Fails with the error of the first write that is refused.
 pub fn print_skipped_tables<H: AcpiHandler, E: Write>(
+    printed: Printed,
     tables: &AcpiTables<'_, H>,
     err: &mut E,
-) -> io::Result<()>
-    ensures { OnOk result (Appends (E.contents err.old) (E.contents err.new)
-        (skipped_lines_of (memory_of tables.now) (opened_of tables.now))) }
+) -> Printed
+    ensures { Grows printed result (E.contents err.old) (E.contents err.new)
+        (skipped_lines_of (memory_of tables.now) (opened_of tables.now)) }
 {
-    print_skipped::<H, Fadt, E>(tables, err)?;
-    print_skipped::<H, Madt, E>(tables, err)?;
-    print_skipped::<H, Mcfg, E>(tables, err)?;
-    print_skipped::<H, HpetTable, E>(tables, err)?;
-    print_skipped::<H, Bgrt, E>(tables, err)?;
-    print_skipped::<H, Spcr, E>(tables, err)
+    let printed = print_skipped::<H, Fadt, E>(printed, tables, err);
+    let printed = print_skipped::<H, Madt, E>(printed, tables, err);
+    let printed = print_skipped::<H, Mcfg, E>(printed, tables, err);
+    let printed = print_skipped::<H, HpetTable, E>(printed, tables, err);
+    let printed = print_skipped::<H, Bgrt, E>(printed, tables, err);
+    print_skipped::<H, Spcr, E>(printed, tables, err)
 }
 
 /// Prints the line of each table that the lookup of a type passes over, but for those of another signature.
 fn print_skipped<H: AcpiHandler, T: AcpiTable, E: Write>(
+    printed: Printed,
     tables: &AcpiTables<'_, H>,
     err: &mut E,
-) -> io::Result<()>
-    ensures { OnOk result (Appends (E.contents err.old) (E.contents err.new)
-        (flat_map (skipped_line T.SIGNATURE) (of_tables tables.now (λ m. faults_of m T.kind)))) }
+) -> Printed
+    ensures { Grows printed result (E.contents err.old) (E.contents err.new)
+        (flat_map (skipped_line T.SIGNATURE) (of_tables tables.now (λ m. faults_of m T.kind))) }
 {
-    print_walk(tables.faults::<T>(), err)
+    print_walk(printed, tables.faults::<T>(), err)
 }
 
 /// `skipped SIG ADDRESS: REFUSAL` for each fault.
@@ -127,13 +127,14 @@ fn revision_pieces<H: AcpiHandler>(tables: &AcpiTables<'_, H>) -> Pieces
 
 /// Prints `table SIG length L revision R` for each valid table.
 fn print_headers<H: AcpiHandler, W: Write>(
+    printed: Printed,
     tables: &AcpiTables<'_, H>,
     out: &mut W,
-) -> io::Result<()>
-    ensures { OnOk result (Appends (W.contents out.old) (W.contents out.new)
-        (header_lines (memory_of tables.now) (pointers_of tables.now))) }
+) -> Printed
+    ensures { Grows printed result (W.contents out.old) (W.contents out.new)
+        (header_lines (memory_of tables.now) (pointers_of tables.now)) }
 {
-    print_walk(tables.headers(), out)
+    print_walk(printed, tables.headers(), out)
 }
 
 /// `table SIG length L revision R` for each header.
@@ -175,11 +176,15 @@ fn dsdt_pieces<H: AcpiHandler>(tables: &AcpiTables<'_, H>) -> Pieces
 }
 
 /// Prints `ssdt ADDRESS length L` for the AML of each valid SSDT.
-fn print_ssdts<H: AcpiHandler, W: Write>(tables: &AcpiTables<'_, H>, out: &mut W) -> io::Result<()>
-    ensures { OnOk result (Appends (W.contents out.old) (W.contents out.new)
-        (ssdt_lines (memory_of tables.now) (pointers_of tables.now))) }
+fn print_ssdts<H: AcpiHandler, W: Write>(
+    printed: Printed,
+    tables: &AcpiTables<'_, H>,
+    out: &mut W,
+) -> Printed
+    ensures { Grows printed result (W.contents out.old) (W.contents out.new)
+        (ssdt_lines (memory_of tables.now) (pointers_of tables.now)) }
 {
-    print_walk(tables.ssdts(), out)
+    print_walk(printed, tables.ssdts(), out)
 }
 
 /// `ssdt ADDRESS length L` for each stream.
@@ -229,30 +234,30 @@ fn timers_pieces(info: &HpetInfo) -> Pieces
 
 /// Prints the lines of the regions of PCI configuration space, or the one line of their refusal. Memory for
 /// them is an allocator's.
-///
-/// Fails with the error of the first write that is refused.
 pub fn print_pci<H: AcpiHandler, A: Allocator + Clone, W: Write>(
+    printed: Printed,
     alloc: A,
     tables: &AcpiTables<'_, H>,
     out: &mut W,
-) -> io::Result<()>
-    ensures { OnOk result (AppendsSome (IsPciText (memory_of tables.now) (pointers_of tables.now))
-        (W.contents out.old) (W.contents out.new)) }
+) -> Printed
+    ensures { GrowsSome (IsPciText (memory_of tables.now) (pointers_of tables.now))
+        printed result (W.contents out.old) (W.contents out.new) }
 {
-    print_regions(PciConfigRegions::new_in(tables, alloc), out)
+    print_regions(printed, PciConfigRegions::new_in(tables, alloc), out)
 }
 
 /// Prints the lines of the regions that are found, or their refusal.
 fn print_regions<A: Allocator, W: Write>(
+    printed: Printed,
     found: AcpiResult<PciConfigRegions<A>>,
     out: &mut W,
-) -> io::Result<()>
-    ensures { OnOk result (Appends (W.contents out.old) (W.contents out.new)
-        (lines_or_refusal (codes "pci") region_lines found)) }
+) -> Printed
+    ensures { Grows printed result (W.contents out.old) (W.contents out.new)
+        (lines_or_refusal (codes "pci") region_lines found) }
 {
     match found {
-        Ok(regions) => print_walk(regions.iter(), out),
-        Err(refusal) => write_line(&refused_pieces("pci", refusal), out),
+        Ok(regions) => print_walk(printed, regions.iter(), out),
+        Err(refusal) => print_line(printed, refused_pieces("pci", refusal), out),
     }
 }
 

@@ -124,11 +124,11 @@ fn print_all<W: Write, E: Write>(
         (W.contents out.old) (W.contents out.new) (E.contents err.old) (E.contents err.new)) }
 {
     let Some(root) = asked else {
-        writeln!(
+        let written = writeln!(
             err,
             "usage: acpi_view IMAGE rsdt REVISION ADDRESS | rsdp ADDRESS | bios"
-        )?;
-        return Ok(2);
+        );
+        return written.and(Ok(2));
     };
     let Some(bytes) = image else {
         return refuse("Unreadable", err);
@@ -147,8 +147,7 @@ pub fn refuse<D: Display + Drop, E: Write>(refusal: D, err: &mut E) -> io::Resul
     ensures line { OnOk result (IfSome (D.output refusal) (λ name.
         Appends (E.contents err.old) (E.contents err.new) (refusal_line name))) }
 {
-    writeln!(err, "refused: {refusal}")?;
-    Ok(1)
+    writeln!(err, "refused: {refusal}").and(Ok(1))
 }
 
 /// Prints the lines of the tables in a memory, and answers the status.
@@ -166,10 +165,7 @@ fn print_image<H: AcpiHandler, W: Write, E: Write>(
         (W.contents out.old) (W.contents out.new) (E.contents err.old) (E.contents err.new)) }
 {
     match root.open(handler) {
-        Ok(tables) => {
-            print_tables(alloc, &tables, out, err)?;
-            Ok(0)
-        }
+        Ok(tables) => print_tables(alloc, &tables, out, err).and(Ok(0)),
         Err(refusal) => refuse(refusal, err),
     }
 }
@@ -186,6 +182,6 @@ fn print_tables<H: AcpiHandler, W: Write, E: Write>(
     ensures skipped { OnOk result (Appends (E.contents err.old) (E.contents err.new)
         (skipped_lines_of (memory_of tables.now) (opened_of tables.now))) }
 {
-    print_parts(alloc, tables, out)?;
-    print_skipped_tables(tables, err)
+    let printed = print_parts(alloc, tables, out);
+    print_skipped_tables(printed, tables, err)
 }

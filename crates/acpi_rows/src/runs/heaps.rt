@@ -50,9 +50,9 @@ fn printed_over(
     tables: &AcpiTables<'_, MemoryImage<'_>>,
 ) -> Option<Vec<u8>> {
     let mut out = Vec::new(alloc);
-    let is_printed = print_platform(heap, tables, &mut out).is_ok();
-    let is_printed = is_printed && print_pci(heap, tables, &mut out).is_ok();
-    is_printed.then_some(out)
+    let printed = print_platform(Ok(()), heap, tables, &mut out);
+    let printed = print_pci(printed, heap, tables, &mut out);
+    printed.is_ok().then_some(out)
 }
 
 /// The status that a run ends with where memory for the image is refused, and the line.

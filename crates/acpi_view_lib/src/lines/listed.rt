@@ -1,12 +1,11 @@
 //! Items that are printed as one line each, as lists and walks give them.
-ghost use Rattle.std.specs.Prelude.{◌≡◌, ◌++◌, ℕ, List, [], None, OnOk, Some, flat_map, map};
+ghost use Rattle.std.specs.Prelude.{◌≡◌, ◌++◌, ℕ, List, [], None, Some, flat_map, map};
 ghost use Rattle.std.specs.Iterator.{IsFinite};
-ghost use Rattle.std.specs.Io.KnownBytes.{Appends};
 ghost use Rattle.acpi_view_lib.specs.Lines.{line};
 ghost use Rattle.acpi_view_lib.specs.Pieces.{piece_text};
+ghost use Rattle.acpi_view_lib.specs.Writing.{Grows};
 
-use super::{Pieces, write_line};
-use std::io;
+use super::{Pieces, Printed, print_line};
 use std::io::Write;
 use std::slice::Iter;
 
@@ -39,17 +38,15 @@ pub trait Walk: Iterator {
 }
 
 /// Prints the line of each item, in order.
-///
-/// Fails with the error of the first write that is refused.
-pub fn print_walk<I: Walk, W: Write>(items: I, out: &mut W) -> io::Result<()>
+pub fn print_walk<I: Walk, W: Write>(mut printed: Printed, items: I, out: &mut W) -> Printed
     requires can { I.can_next items }
     requires ends { IsFinite (I.remaining items) }
-    ensures { OnOk result (Appends (W.contents out.old) (W.contents out.new) (I.lines items)) }
+    ensures { Grows printed result (W.contents out.old) (W.contents out.new) (I.lines items) }
 {
     for item in items {
-        write_line(&I::item_pieces(item), out)?;
+        printed = print_line(printed, I::item_pieces(item), out);
     }
-    Ok(())
+    printed
 }
 
 /// The lines of a list.
@@ -73,11 +70,9 @@ impl<L: Line> Walk for Iter<'_, L> {
 }
 
 /// Prints the line of each item, in order.
-///
-/// Fails with the error of the first write that is refused.
-pub fn print_each<L: Line, W: Write>(items: &[L], out: &mut W) -> io::Result<()>
-    ensures { OnOk result (Appends (W.contents out.old) (W.contents out.new)
-        (flat_map L.item_text items.now)) }
+pub fn print_each<L: Line, W: Write>(printed: Printed, items: &[L], out: &mut W) -> Printed
+    ensures { Grows printed result (W.contents out.old) (W.contents out.new)
+        (flat_map L.item_text items.now) }
 {
-    print_walk(items.iter(), out)
+    print_walk(printed, items.iter(), out)
 }

@@ -1,10 +1,10 @@
 //! The pieces of a line, and how a line of them is written.
 //!
 //! Each line goes through one function, so that text and numbers are formatted in one place.
-ghost use Rattle.std.specs.Prelude.{◌≡◌, ◌++◌, OnOk, map};
-ghost use Rattle.std.specs.Io.KnownBytes.{Appends};
+ghost use Rattle.std.specs.Prelude.{◌≡◌, ◌++◌, map};
 ghost use Rattle.acpi_view_lib.specs.Lines.{line, number_or_none};
 ghost use Rattle.acpi_view_lib.specs.Pieces.{first_text, piece_text, value_text};
+ghost use Rattle.acpi_view_lib.specs.Writing.{Grows};
 
 use acpi::AcpiError;
 use acpi::sdt::Signature;
@@ -33,6 +33,10 @@ pub enum Piece<'t> {
 /// The pieces of a line, in order.
 pub type Pieces = [Piece<'static>; 4];
 
+/// How printing went so far: the error of the first write that was refused, if one was. A function that is
+/// passed one writes nothing after a refusal, and returns it.
+pub type Printed = io::Result<()>;
+
 /// A text, and a number in decimal digits, or `none` if there is no number.
 pub(crate) fn setting(text: &'static str, number: Option<u32>) -> Piece<'static>
     ensures { piece_text result ≡ text.now ++ number_or_none number }
@@ -58,10 +62,19 @@ fn text_of<'t>(piece: Piece<'t>) -> &'t str
     }
 }
 
-/// Writes the value that follows a piece's text.
-fn write_value<W: Write>(piece: Piece<'_>, out: &mut W) -> io::Result<()>
-    ensures { OnOk result (Appends (W.contents out.old) (W.contents out.new) (value_text piece.entry)) }
+/// Writes bytes as they are.
+fn write_bytes<W: Write>(printed: Printed, bytes: &[u8], out: &mut W) -> Printed
+    ensures { Grows printed result (W.contents out.old) (W.contents out.new) bytes.now }
 {
+    printed?;
+    out.write_all(bytes)
+}
+
+/// Writes the value that follows a piece's text.
+fn write_value<W: Write>(printed: Printed, piece: Piece<'_>, out: &mut W) -> Printed
+    ensures { Grows printed result (W.contents out.old) (W.contents out.new) (value_text piece.entry) }
+{
+    printed?;
     match piece {
         Piece::Nothing | Piece::Text(_) => Ok(()),
         Piece::Word(_, word) => out.write_all(word.as_bytes()),
@@ -73,23 +86,20 @@ fn write_value<W: Write>(piece: Piece<'_>, out: &mut W) -> io::Result<()>
 }
 
 /// Writes one piece.
-fn write_piece<W: Write>(piece: Piece<'_>, out: &mut W) -> io::Result<()>
-    ensures { OnOk result (Appends (W.contents out.old) (W.contents out.new)
-        (piece_text piece.entry)) }
+fn write_piece<W: Write>(printed: Printed, piece: Piece<'_>, out: &mut W) -> Printed
+    ensures { Grows printed result (W.contents out.old) (W.contents out.new) (piece_text piece.entry) }
 {
-    out.write_all(text_of(piece).as_bytes())?;
-    write_value(piece, out)
+    let printed = write_bytes(printed, text_of(piece).as_bytes(), out);
+    write_value(printed, piece, out)
 }
 
-/// Writes these pieces in order, and a newline.
-///
-/// Fails with the error of the first write that is refused.
-pub fn write_line<W: Write>(pieces: &[Piece<'_>], out: &mut W) -> io::Result<()>
-    ensures { OnOk result (Appends (W.contents out.old) (W.contents out.new)
-        (line (map piece_text pieces.now))) }
+/// Prints these pieces in order, and a newline.
+pub fn print_line<W: Write>(mut printed: Printed, pieces: Pieces, out: &mut W) -> Printed
+    ensures { Grows printed result (W.contents out.old) (W.contents out.new)
+        (line (map piece_text pieces.entry)) }
 {
-    for piece in pieces {
-        write_piece(*piece, out)?;
+    for piece in &pieces {
+        printed = write_piece(printed, *piece, out);
     }
-    out.write_all(b"\n")
+    write_bytes(printed, b"\n", out)
 }

@@ -1,6 +1,5 @@
 //! The lines of the platform.
-ghost use Rattle.std.specs.Prelude.{◌≡◌, ℕ, OnOk, codes, map};
-ghost use Rattle.std.specs.Io.KnownBytes.{Appends};
+ghost use Rattle.std.specs.Prelude.{◌≡◌, ◌∷◌, ℕ, [], codes, map};
 ghost use Rattle.acpi_fixed.specs.Fadt.{profile_for};
 ghost use Rattle.acpi.specs.Tables.{memory_of, pointers_of};
 ghost use Rattle.acpi_view_lib.specs.Lines.{line, lines_or_refusal};
@@ -11,9 +10,9 @@ ghost use Rattle.acpi_view_lib.specs.PlatformLines.{nmi_input_line, nmi_source_l
 ghost use Rattle.acpi_view_lib.specs.PlatformLines.{polarity_word, processor_line, processor_lines};
 ghost use Rattle.acpi_view_lib.specs.PlatformLines.{profile_line, profile_number, state_word};
 ghost use Rattle.acpi_view_lib.specs.PlatformLines.{timer_line, trigger_word};
-ghost use Rattle.acpi_view_lib.specs.Writing.{AppendsSome};
+ghost use Rattle.acpi_view_lib.specs.Writing.{Grows, GrowsSome};
 
-use super::{Line, Piece, Pieces, print_each, refused_pieces, write_line, yes_or_no};
+use super::{Line, Piece, Pieces, Printed, print_each, print_line, refused_pieces, yes_or_no};
 use acpi::platform::interrupt::{
     Apic, InterruptModel, InterruptSourceOverride, IoApic, LocalInterruptLine, NmiLine,
     NmiProcessor, NmiSource, Polarity, TriggerMode,
@@ -21,48 +20,50 @@ use acpi::platform::interrupt::{
 use acpi::platform::{PmTimer, Processor, ProcessorInfo, ProcessorState};
 use acpi::{AcpiHandler, AcpiResult, AcpiTables, PlatformInfo, PowerProfile};
 use std::alloc::Allocator;
-use std::io;
 use std::io::Write;
 
 /// Prints the lines of the platform, as the FADT and the MADT describe it, or the one line of its refusal.
 /// Memory for it is an allocator's.
-///
-/// Fails with the error of the first write that is refused.
 pub fn print_platform<H: AcpiHandler, A: Allocator + Clone, W: Write>(
+    printed: Printed,
     alloc: A,
     tables: &AcpiTables<'_, H>,
     out: &mut W,
-) -> io::Result<()>
-    ensures { OnOk result (AppendsSome
-        (IsPlatformText A (memory_of tables.now) (pointers_of tables.now))
-        (W.contents out.old) (W.contents out.new)) }
+) -> Printed
+    ensures { GrowsSome (IsPlatformText A (memory_of tables.now) (pointers_of tables.now))
+        printed result (W.contents out.old) (W.contents out.new) }
 {
-    print_found(tables.platform_info_in(alloc), out)
+    print_found(printed, tables.platform_info_in(alloc), out)
 }
 
 /// Prints the lines of the platform that is found, or its refusal.
 fn print_found<A: Allocator, W: Write>(
+    printed: Printed,
     found: AcpiResult<PlatformInfo<A>>,
     out: &mut W,
-) -> io::Result<()>
-    ensures { OnOk result (Appends (W.contents out.old) (W.contents out.new)
-        (lines_or_refusal (codes "platform") info_lines found)) }
+) -> Printed
+    ensures { Grows printed result (W.contents out.old) (W.contents out.new)
+        (lines_or_refusal (codes "platform") info_lines found) }
 {
     match found {
-        Ok(platform) => print_info(&platform, out),
-        Err(refusal) => write_line(&refused_pieces("platform", refusal), out),
+        Ok(platform) => print_info(printed, &platform, out),
+        Err(refusal) => print_line(printed, refused_pieces("platform", refusal), out),
     }
 }
 
 /// Prints the lines of the profile, of the interrupt model, of the processors and of the timer.
-fn print_info<A: Allocator, W: Write>(platform: &PlatformInfo<A>, out: &mut W) -> io::Result<()>
-    ensures { OnOk result (Appends (W.contents out.old) (W.contents out.new)
-        (info_lines platform.now)) }
+fn print_info<A: Allocator, W: Write>(
+    printed: Printed,
+    platform: &PlatformInfo<A>,
+    out: &mut W,
+) -> Printed
+    ensures { Grows printed result (W.contents out.old) (W.contents out.new)
+        (info_lines platform.now) }
 {
-    write_line(&profile_pieces(platform.power_profile), out)?;
-    print_model(&platform.interrupt_model, out)?;
-    print_processors(&platform.processor_info, out)?;
-    write_line(&timer_pieces(platform.pm_timer), out)
+    let printed = print_line(printed, profile_pieces(platform.power_profile), out);
+    let printed = print_model(printed, &platform.interrupt_model, out);
+    let printed = print_processors(printed, &platform.processor_info, out);
+    print_line(printed, timer_pieces(platform.pm_timer), out)
 }
 
 /// `platform profile N`.
@@ -95,26 +96,38 @@ fn profile_number(profile: PowerProfile) -> u8
 }
 
 /// Prints `model unknown`, or the lines of the APICs.
-fn print_model<A: Allocator, W: Write>(model: &InterruptModel<A>, out: &mut W) -> io::Result<()>
-    ensures { OnOk result (Appends (W.contents out.old) (W.contents out.new)
-        (model_lines model.now)) }
+fn print_model<A: Allocator, W: Write>(
+    printed: Printed,
+    model: &InterruptModel<A>,
+    out: &mut W,
+) -> Printed
+    ensures { Grows printed result (W.contents out.old) (W.contents out.new)
+        (model_lines model.now) }
 {
     match model {
-        InterruptModel::Unknown => write_line(&[Piece::Text("model unknown")], out),
-        InterruptModel::Apic(apic) => print_apic(apic, out),
+        InterruptModel::Unknown => print_line(printed, unknown_pieces(), out),
+        InterruptModel::Apic(apic) => print_apic(printed, apic, out),
     }
 }
 
-/// Prints the line of the local APICs, then the lines of each list.
-fn print_apic<A: Allocator, W: Write>(apic: &Apic<A>, out: &mut W) -> io::Result<()>
-    ensures { OnOk result (Appends (W.contents out.old) (W.contents out.new)
-        (apic_lines apic.now)) }
+/// `model unknown`.
+fn unknown_pieces() -> Pieces
+    ensures { line (map piece_text result) ≡ line (codes "model unknown" ∷ []) }
 {
-    write_line(&local_apic_pieces(apic), out)?;
-    print_each(apic.io_apics.as_slice(), out)?;
-    print_each(apic.interrupt_source_overrides.as_slice(), out)?;
-    print_each(apic.nmi_sources.as_slice(), out)?;
-    print_each(apic.local_apic_nmi_lines.as_slice(), out)
+    let unknown = Piece::Text("model unknown");
+    [unknown, Piece::Nothing, Piece::Nothing, Piece::Nothing]
+}
+
+/// Prints the line of the local APICs, then the lines of each list.
+fn print_apic<A: Allocator, W: Write>(printed: Printed, apic: &Apic<A>, out: &mut W) -> Printed
+    ensures { Grows printed result (W.contents out.old) (W.contents out.new)
+        (apic_lines apic.now) }
+{
+    let printed = print_line(printed, local_apic_pieces(apic), out);
+    let printed = print_each(printed, apic.io_apics.as_slice(), out);
+    let printed = print_each(printed, apic.interrupt_source_overrides.as_slice(), out);
+    let printed = print_each(printed, apic.nmi_sources.as_slice(), out);
+    print_each(printed, apic.local_apic_nmi_lines.as_slice(), out)
 }
 
 /// `model apic ADDRESS pics yes|no`.
@@ -217,17 +230,18 @@ fn input_word(input: LocalInterruptLine) -> &'static str
 
 /// Prints the line of each processor, the boot processor's first.
 fn print_processors<A: Allocator, W: Write>(
+    printed: Printed,
     listed: &Option<ProcessorInfo<A>>,
     out: &mut W,
-) -> io::Result<()>
-    ensures { OnOk result (Appends (W.contents out.old) (W.contents out.new)
-        (processor_lines listed.now)) }
+) -> Printed
+    ensures { Grows printed result (W.contents out.old) (W.contents out.new)
+        (processor_lines listed.now) }
 {
     let Some(info) = listed else {
-        return Ok(());
+        return printed;
     };
-    write_line(&info.boot_processor.pieces(), out)?;
-    print_each(info.application_processors.as_slice(), out)
+    let printed = print_line(printed, info.boot_processor.pieces(), out);
+    print_each(printed, info.application_processors.as_slice(), out)
 }
 
 /// `processor UID ID running|waiting|disabled`.

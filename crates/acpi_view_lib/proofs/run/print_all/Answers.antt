@@ -22,6 +22,6 @@ returns-in-Err g c =
 
 pub returns-in_default : goal.returns-in_default
 returns-in_default g c =
-    usage_ends c.args.asked (option_copied c.args.image) (g.W.Write.contents c.args.out.now)
-    (g.E.Write.contents c.args.err.now) (g.E.Write.contents c.writeln.new.self)
-    c.in_default.is c.in_ok-writeln.ensures.bytes
+    rw c.and.ensures (usage_ends c.args.asked (option_copied c.args.image) c.writeln-written.result
+    (g.W.Write.contents c.args.out.now) (g.E.Write.contents c.args.err.now)
+    (g.E.Write.contents c.writeln-written.new.self) c.in_default.is c.writeln-written.ensures.bytes)
