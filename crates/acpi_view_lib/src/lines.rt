@@ -6,11 +6,11 @@ ghost use Rattle.acpi.specs.Opened.{opened_of};
 ghost use Rattle.acpi_view_lib.specs.Output.{IsLines, skipped_lines_of};
 ghost use Rattle.acpi_view_lib.specs.Writing.{AppendsSome, Grows, GrowsSome};
 ghost use Rattle.acpi_view_lib.specs.Lines.{IsPciText, bgrt_lines, console_line, dsdt_lines};
-ghost use Rattle.acpi_view_lib.specs.Lines.{graphic_line, header_lines, hpet_line, line};
+ghost use Rattle.acpi_view_lib.specs.Lines.{graphic_line, hpet_line, line};
 ghost use Rattle.acpi_view_lib.specs.Lines.{hpet_lines, lines_or_refusal, refused_line, region_lines};
 ghost use Rattle.acpi_view_lib.specs.Lines.{revision_line, skipped_line, spcr_lines};
 ghost use Rattle.acpi_view_lib.specs.Pieces.{piece_text};
-ghost use Rattle.acpi_view_lib.specs.Lines.{ssdt_lines, stream_line, yes_or_no};
+ghost use Rattle.acpi_view_lib.specs.Lines.{stream_line, yes_or_no};
 
 mod listed;
 mod pieces;
@@ -49,9 +49,9 @@ pub fn print_parts<H: AcpiHandler, W: Write>(
         (W.contents out.old) (W.contents out.new)) }
 {
     let printed = print_line(Ok(()), revision_pieces(tables), out);
-    let printed = print_headers(printed, tables, out);
+    let printed = print_walk(printed, tables.headers(), out);
     let printed = print_line(printed, dsdt_pieces(tables), out);
-    let printed = print_ssdts(printed, tables, out);
+    let printed = print_walk(printed, tables.ssdts(), out);
     let printed = print_platform(printed, alloc, tables, out);
     let printed = print_line(printed, hpet_pieces(tables), out);
     let printed = print_pci(printed, alloc, tables, out);
@@ -125,18 +125,6 @@ fn revision_pieces<H: AcpiHandler>(tables: &AcpiTables<'_, H>) -> Pieces
     [revision, Piece::Nothing, Piece::Nothing, Piece::Nothing]
 }
 
-/// Prints `table SIG length L revision R` for each valid table.
-fn print_headers<H: AcpiHandler, W: Write>(
-    printed: Printed,
-    tables: &AcpiTables<'_, H>,
-    out: &mut W,
-) -> Printed
-    ensures { Grows printed result (W.contents out.old) (W.contents out.new)
-        (header_lines (memory_of tables.now) (pointers_of tables.now)) }
-{
-    print_walk(printed, tables.headers(), out)
-}
-
 /// `table SIG length L revision R` for each header.
 impl<H: Lender> Walk for SdtHeaderIterator<'_, '_, H> {
     ghost use Rattle.std.specs.Prelude.{flat_map};
@@ -173,18 +161,6 @@ fn dsdt_pieces<H: AcpiHandler>(tables: &AcpiTables<'_, H>) -> Pieces
         Ok(stream) => stream_pieces("dsdt", stream),
         Err(refusal) => refused_pieces("dsdt", refusal),
     }
-}
-
-/// Prints `ssdt ADDRESS length L` for the AML of each valid SSDT.
-fn print_ssdts<H: AcpiHandler, W: Write>(
-    printed: Printed,
-    tables: &AcpiTables<'_, H>,
-    out: &mut W,
-) -> Printed
-    ensures { Grows printed result (W.contents out.old) (W.contents out.new)
-        (ssdt_lines (memory_of tables.now) (pointers_of tables.now)) }
-{
-    print_walk(printed, tables.ssdts(), out)
 }
 
 /// `ssdt ADDRESS length L` for each stream.

@@ -5,16 +5,12 @@ ghost use Rattle.std.specs.Io.KnownBytes.{Appends, Keeps};
 ghost use Rattle.std.specs.Option.{option_copied};
 ghost use Rattle.acpi_cli.specs.Root.{opened_for};
 ghost use Rattle.acpi_view_lib.specs.Command.{root_for};
-ghost use Rattle.acpi.specs.Opened.{opened_of};
-ghost use Rattle.acpi.specs.Tables.{memory_of};
-ghost use Rattle.acpi_view_lib.specs.Output.{EndsWith, IsLines, Prints, found_for, found_in};
-ghost use Rattle.acpi_view_lib.specs.Output.{refusal_line, skipped_lines_of};
+ghost use Rattle.acpi_view_lib.specs.Output.{EndsWith, Prints, found_for, found_in, refusal_line};
 ghost use Rattle.acpi_view_lib.specs.Status.{status_for, status_of};
-ghost use Rattle.acpi_view_lib.specs.Writing.{AppendsSome};
 
 use crate::arguments::parse_command;
 use crate::lines::{print_parts, print_skipped_tables};
-use acpi::{AcpiHandler, AcpiTables};
+use acpi::AcpiHandler;
 use acpi_cli::root::Root;
 use acpi_image_reader::MemoryImage;
 use std::alloc::Global;
@@ -150,7 +146,7 @@ pub fn refuse<D: Display + Drop, E: Write>(refusal: D, err: &mut E) -> io::Resul
     writeln!(err, "refused: {refusal}").and(Ok(1))
 }
 
-/// Prints the lines of the tables in a memory, and answers the status.
+/// Prints the lines of the tables in a memory, and then of those that are passed over, and answers the status.
 fn print_image<H: AcpiHandler, W: Write, E: Write>(
     alloc: Global,
     handler: &H,
@@ -165,23 +161,10 @@ fn print_image<H: AcpiHandler, W: Write, E: Write>(
         (W.contents out.old) (W.contents out.new) (E.contents err.old) (E.contents err.new)) }
 {
     match root.open(handler) {
-        Ok(tables) => print_tables(alloc, &tables, out, err).and(Ok(0)),
+        Ok(tables) => {
+            let printed = print_parts(alloc, &tables, out);
+            print_skipped_tables(printed, &tables, err).and(Ok(0))
+        }
         Err(refusal) => refuse(refusal, err),
     }
-}
-
-/// Prints the lines of the tables, and then of those that are passed over.
-fn print_tables<H: AcpiHandler, W: Write, E: Write>(
-    alloc: Global,
-    tables: &AcpiTables<'_, H>,
-    out: &mut W,
-    err: &mut E,
-) -> io::Result<()>
-    ensures lines { OnOk result (AppendsSome (IsLines (memory_of tables.now) (opened_of tables.now))
-        (W.contents out.old) (W.contents out.new)) }
-    ensures skipped { OnOk result (Appends (E.contents err.old) (E.contents err.new)
-        (skipped_lines_of (memory_of tables.now) (opened_of tables.now))) }
-{
-    let printed = print_parts(alloc, tables, out);
-    print_skipped_tables(printed, tables, err)
 }

@@ -85,21 +85,14 @@ fn write_value<W: Write>(printed: Printed, piece: Piece<'_>, out: &mut W) -> Pri
     }
 }
 
-/// Writes one piece.
-fn write_piece<W: Write>(printed: Printed, piece: Piece<'_>, out: &mut W) -> Printed
-    ensures { Grows printed result (W.contents out.old) (W.contents out.new) (piece_text piece.entry) }
-{
-    let printed = write_bytes(printed, text_of(piece).as_bytes(), out);
-    write_value(printed, piece, out)
-}
-
 /// Prints these pieces in order, and a newline.
 pub fn print_line<W: Write>(mut printed: Printed, pieces: Pieces, out: &mut W) -> Printed
     ensures { Grows printed result (W.contents out.old) (W.contents out.new)
         (line (map piece_text pieces.entry)) }
 {
     for piece in &pieces {
-        printed = write_piece(printed, *piece, out);
+        printed = write_bytes(printed, text_of(*piece).as_bytes(), out);
+        printed = write_value(printed, *piece, out);
     }
     write_bytes(printed, b"\n", out)
 }
