@@ -6,7 +6,7 @@ ghost use Rattle.acpi.specs.Opened.{opened_of};
 ghost use Rattle.acpi_view_lib.specs.Output.{IsLines, skipped_lines_of};
 ghost use Rattle.acpi_view_lib.specs.Writing.{AppendsSome, Grows, GrowsSome};
 ghost use Rattle.acpi_view_lib.specs.Lines.{IsPciText, bgrt_lines, console_line, dsdt_lines};
-ghost use Rattle.acpi_view_lib.specs.Lines.{graphic_line, hpet_line, line};
+ghost use Rattle.acpi_view_lib.specs.Lines.{graphic_line, line};
 ghost use Rattle.acpi_view_lib.specs.Lines.{hpet_lines, lines_or_refusal, refused_line, region_lines};
 ghost use Rattle.acpi_view_lib.specs.Lines.{revision_line, skipped_line, spcr_lines};
 ghost use Rattle.acpi_view_lib.specs.Pieces.{piece_text};
@@ -185,27 +185,20 @@ impl<H: Lender> Walk for SsdtIterator<'_, '_, H> {
     ghost end = { λ s t e. ap (flat_map (stream_line (codes "ssdt"))) e.0 };
 }
 
-/// The line of the event timer block, or its refusal.
+/// `hpet ADDRESS number N tick T` for the event timer block, or its refusal.
 fn hpet_pieces<H: AcpiHandler>(tables: &AcpiTables<'_, H>) -> Pieces
     ensures { line (map piece_text result)
         ≡ hpet_lines (memory_of tables.now) (pointers_of tables.now) }
 {
     match HpetInfo::new(tables) {
-        Ok(info) => timers_pieces(&info),
+        Ok(info) => [
+            Piece::Address("hpet ", info.base_address),
+            Piece::Number(" number ", info.hpet_number as u64),
+            Piece::Number(" tick ", info.clock_tick_unit as u64),
+            Piece::Nothing,
+        ],
         Err(refusal) => refused_pieces("hpet", refusal),
     }
-}
-
-/// `hpet ADDRESS number N tick T`.
-fn timers_pieces(info: &HpetInfo) -> Pieces
-    ensures { line (map piece_text result) ≡ hpet_line info.now }
-{
-    [
-        Piece::Address("hpet ", info.base_address),
-        Piece::Number(" number ", info.hpet_number as u64),
-        Piece::Number(" tick ", info.clock_tick_unit as u64),
-        Piece::Nothing,
-    ]
 }
 
 /// Prints the lines of the regions of PCI configuration space, or the one line of their refusal. Memory for

@@ -120,11 +120,8 @@ fn print_all<W: Write, E: Write>(
         (W.contents out.old) (W.contents out.new) (E.contents err.old) (E.contents err.new)) }
 {
     let Some(root) = asked else {
-        let written = writeln!(
-            err,
-            "usage: acpi_view IMAGE rsdt REVISION ADDRESS | rsdp ADDRESS | bios"
-        );
-        return written.and(Ok(2));
+        let usage = b"usage: acpi_view IMAGE rsdt REVISION ADDRESS | rsdp ADDRESS | bios\n";
+        return err.write_all(usage).and(Ok(2));
     };
     let Some(bytes) = image else {
         return refuse("Unreadable", err);

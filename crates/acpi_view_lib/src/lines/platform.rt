@@ -1,5 +1,5 @@
 //! The lines of the platform.
-ghost use Rattle.std.specs.Prelude.{◌≡◌, ◌∷◌, ℕ, [], codes, map};
+ghost use Rattle.std.specs.Prelude.{◌≡◌, ℕ, codes, map};
 ghost use Rattle.acpi_fixed.specs.Fadt.{profile_for};
 ghost use Rattle.acpi.specs.Tables.{memory_of, pointers_of};
 ghost use Rattle.acpi_view_lib.specs.Lines.{line, lines_or_refusal};
@@ -105,17 +105,13 @@ fn print_model<A: Allocator, W: Write>(
         (model_lines model.now) }
 {
     match model {
-        InterruptModel::Unknown => print_line(printed, unknown_pieces(), out),
+        InterruptModel::Unknown => {
+            let unknown = Piece::Text("model unknown");
+            let pieces = [unknown, Piece::Nothing, Piece::Nothing, Piece::Nothing];
+            print_line(printed, pieces, out)
+        }
         InterruptModel::Apic(apic) => print_apic(printed, apic, out),
     }
-}
-
-/// `model unknown`.
-fn unknown_pieces() -> Pieces
-    ensures { line (map piece_text result) ≡ line (codes "model unknown" ∷ []) }
-{
-    let unknown = Piece::Text("model unknown");
-    [unknown, Piece::Nothing, Piece::Nothing, Piece::Nothing]
 }
 
 /// Prints the line of the local APICs, then the lines of each list.

@@ -22,6 +22,6 @@ returns-in-Err g c =
 
 pub returns-in_default : goal.returns-in_default
 returns-in_default g c =
-    rw c.and.ensures (usage_ends c.args.asked (option_copied c.args.image) c.writeln-written.result
+    rw c.and.ensures (usage_ends c.args.asked (option_copied c.args.image) c.write_all.result
     (g.W.Write.contents c.args.out.now) (g.E.Write.contents c.args.err.now)
-    (g.E.Write.contents c.writeln-written.new.self) c.in_default.is c.writeln-written.ensures.bytes)
+    (g.E.Write.contents c.write_all.new.self) c.in_default.is c.write_all.ensures.bytes)
