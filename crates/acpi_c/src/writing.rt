@@ -1,17 +1,14 @@
 //! Tables that are written, from what they are to say, into a buffer of the caller's.
-ghost use Rattle.std.specs.Prelude.{◌≡◌, length};
+ghost use Rattle.std.specs.Prelude.{flat_map, length};
 ghost use Rattle.acpi.specs.declared.root.RootKind.TheVariants.{Rsdt, Xsdt};
 ghost use Rattle.acpi_base.specs.declared.table.signature.TheConstants.Signature.{DSDT, SSDT};
-ghost use Rattle.acpi_c_lib.specs.Writing.{SaysLength, WritesTable, hpet_info_of, madt_said, regions_written, writer_refused};
-ghost use Rattle.acpi_c_lib.specs.WrittenBgrt.{bgrt_said};
-ghost use Rattle.acpi_c_lib.specs.WrittenFadt.{facs_contents, fadt_said};
-ghost use Rattle.acpi_c_lib.specs.WrittenGic.{gic_said};
-ghost use Rattle.acpi_c_lib.specs.WrittenGtdt.{gtdt_said};
-ghost use Rattle.acpi_c_lib.specs.WrittenMachine.{dsdt_said, machine_said, size_said, tree_said};
-ghost use Rattle.acpi_c_lib.specs.WrittenSpcr.{spcr_said};
-ghost use Rattle.acpi_c_lib.specs.WrittenSrat.{srat_laid};
+ghost use Rattle.acpi_c_lib.specs.Answers.{AnswersPlain};
+ghost use Rattle.acpi_c_lib.specs.Writing.{WritesTable, region_of, writer_refused};
+ghost use Rattle.acpi_c_lib.specs.WrittenFadt.{facs_contents};
+ghost use Rattle.acpi_c_lib.specs.WrittenMachine.{dsdt_said, machine_said, size_said, table_said, tree_said};
+ghost use Rattle.acpi_c_lib.specs.declared.writing.machine.Contents.TheVariants.{Bgrt, Fadt, Gic, Gtdt, Hpet, Madt, Spcr, Srat};
 ghost use Rattle.acpi_writer.specs.Facs.{facs_written};
-ghost use Rattle.acpi_writer.specs.HpetBytes.{hpet_written};
+ghost use Rattle.acpi_writer.specs.McfgBytes.{mcfg_entry, mcfg_written_of};
 ghost use Rattle.acpi_writer.specs.Root.{root_written};
 ghost use Rattle.acpi_writer.specs.Rsdp.{rsdp_written};
 ghost use Rattle.acpi_writer.specs.Slit.{slit_written};
@@ -22,9 +19,8 @@ use acpi_c_lib::arm_records::ArmTimers;
 use acpi_c_lib::fixed_records::FixedHardware;
 use acpi_c_lib::records::{BootGraphic, HpetInfo, PciRegion};
 use acpi_c_lib::writing::{
-    dsdt_place, tables_size, write_bgrt, write_dsdt, write_facs, write_fadt, write_gic_madt,
-    write_gtdt, write_hpet, write_madt, write_regions, write_rsdp, write_rsdt, write_slit,
-    write_spcr, write_srat, write_ssdt, write_tables, write_tables_without_rsdp, write_xsdt,
+    Contents, dsdt_place, tables_size, write_contents, write_dsdt, write_facs, write_rsdp,
+    write_rsdt, write_slit, write_ssdt, write_tables, write_tables_without_rsdp, write_xsdt,
     written,
 };
 use acpi_c_lib::written_records::{
@@ -112,9 +108,9 @@ pub extern "C" fn zacpi_write_hpet(
     count: &mut usize,
 ) -> u32
     ensures { WritesTable result out.old out.new count.old count.new
-        (writer_refused (hpet_written (length out.old) ids.now (hpet_info_of info.now))) }
+        (table_said (length out.old) ids.now (Hpet info.now)) }
 {
-    written(write_hpet(out, ids, &info.info()), count)
+    answer_plain(write_contents(out, ids, &Contents::Hpet(*info)), count)
 }
 
 /// An MCFG of regions of PCI configuration space (PCI Firmware Specification, section 4.1.2).
@@ -126,9 +122,10 @@ pub extern "C" fn zacpi_write_mcfg(
     count: &mut usize,
 ) -> u32
     ensures { WritesTable result out.old out.new count.old count.new
-        (writer_refused (regions_written (length out.old) ids.now regions.now)) }
+        (writer_refused (mcfg_written_of (length out.old) ids.now
+        (flat_map (λ r. mcfg_entry (region_of r)) regions.now))) }
 {
-    written(write_regions(out, ids, regions), count)
+    answer_plain(write_contents(out, ids, &Contents::Mcfg(regions)), count)
 }
 
 /// A SLIT of the distances between localities (section 5.2.17).
@@ -155,9 +152,9 @@ pub extern "C" fn zacpi_write_madt(
     count: &mut usize,
 ) -> u32
     ensures { WritesTable result out.old out.new count.old count.new
-        (madt_said (length out.old) ids.now contents.now) }
+        (table_said (length out.old) ids.now (Madt contents.now)) }
 {
-    answer_plain(write_madt(out, ids, contents), count)
+    answer_plain(write_contents(out, ids, &Contents::Madt(*contents)), count)
 }
 
 /// A MADT of the GIC of an Arm machine (sections 5.2.12.14 to 5.2.12.18).
@@ -169,9 +166,9 @@ pub extern "C" fn zacpi_write_gic_madt(
     count: &mut usize,
 ) -> u32
     ensures { WritesTable result out.old out.new count.old count.new
-        (gic_said (length out.old) ids.now contents.now) }
+        (table_said (length out.old) ids.now (Gic contents.now)) }
 {
-    answer_plain(write_gic_madt(out, ids, contents), count)
+    answer_plain(write_contents(out, ids, &Contents::Gic(*contents)), count)
 }
 
 /// A SRAT of processors and of ranges of memory (section 5.2.16).
@@ -183,9 +180,9 @@ pub extern "C" fn zacpi_write_srat(
     count: &mut usize,
 ) -> u32
     ensures { WritesTable result out.old out.new count.old count.new
-        (writer_refused (srat_laid (length out.old) ids.now contents.now)) }
+        (table_said (length out.old) ids.now (Srat contents.now)) }
 {
-    written(write_srat(out, ids, contents), count)
+    answer_plain(write_contents(out, ids, &Contents::Srat(*contents)), count)
 }
 
 /// A BGRT (section 5.2.22).
@@ -197,9 +194,9 @@ pub extern "C" fn zacpi_write_bgrt(
     count: &mut usize,
 ) -> u32
     ensures { WritesTable result out.old out.new count.old count.new
-        (bgrt_said (length out.old) ids.now graphic.now) }
+        (table_said (length out.old) ids.now (Bgrt graphic.now)) }
 {
-    answer_plain(write_bgrt(out, ids, graphic), count)
+    answer_plain(write_contents(out, ids, &Contents::Bgrt(*graphic)), count)
 }
 
 /// An SPCR, whose layout is Microsoft's.
@@ -211,9 +208,9 @@ pub extern "C" fn zacpi_write_spcr(
     count: &mut usize,
 ) -> u32
     ensures { WritesTable result out.old out.new count.old count.new
-        (spcr_said (length out.old) ids.now spcr.now) }
+        (table_said (length out.old) ids.now (Spcr spcr.now)) }
 {
-    answer_plain(write_spcr(out, ids, spcr), count)
+    answer_plain(write_contents(out, ids, &Contents::Spcr(*spcr)), count)
 }
 
 /// A GTDT of the timers of every processor (section 5.2.24).
@@ -225,9 +222,9 @@ pub extern "C" fn zacpi_write_gtdt(
     count: &mut usize,
 ) -> u32
     ensures { WritesTable result out.old out.new count.old count.new
-        (gtdt_said (length out.old) ids.now timers.now) }
+        (table_said (length out.old) ids.now (Gtdt timers.now)) }
 {
-    answer_plain(write_gtdt(out, ids, timers), count)
+    answer_plain(write_contents(out, ids, &Contents::Gtdt(*timers)), count)
 }
 
 /// A FADT (section 5.2.9).
@@ -239,9 +236,9 @@ pub extern "C" fn zacpi_write_fadt(
     count: &mut usize,
 ) -> u32
     ensures { WritesTable result out.old out.new count.old count.new
-        (fadt_said (length out.old) ids.now fadt.now) }
+        (table_said (length out.old) ids.now (Fadt fadt.now)) }
 {
-    answer_plain(write_fadt(out, ids, fadt), count)
+    answer_plain(write_contents(out, ids, &Contents::Fadt(*fadt)), count)
 }
 
 /// A FACS (section 5.2.10).
@@ -288,7 +285,7 @@ pub extern "C" fn zacpi_write_tables_without_rsdp(
 /// How many bytes all tables of a machine have.
 #[unsafe(no_mangle)]
 pub extern "C" fn zacpi_tables_size(machine: &Machine<'_>, count: &mut usize) -> u32
-    ensures { SaysLength result count.old count.new (size_said machine.now) }
+    ensures { AnswersPlain result count.old count.new (size_said machine.now) }
 {
     answer_plain(tables_size(machine), count)
 }
@@ -296,7 +293,7 @@ pub extern "C" fn zacpi_tables_size(machine: &Machine<'_>, count: &mut usize) ->
 /// Where the DSDT of a machine lies.
 #[unsafe(no_mangle)]
 pub extern "C" fn zacpi_dsdt_address(address: u64, tables: usize, out: &mut u64) -> u32
-    ensures { SaysLength result out.old out.new (dsdt_said address tables) }
+    ensures { AnswersPlain result out.old out.new (dsdt_said address tables) }
 {
     answer_plain(dsdt_place(address, tables), out)
 }

@@ -2,19 +2,17 @@
 use Rattle.acpi_base.specs.Memory as memory
 use Rattle.std.proofs.Common.{◌≡◌, ℕ, ◌+◌, ◌^◌, ◌<◌, ◌≤◌, List, [], ◌∷◌, ◌++◌, length, take, drop, refl, arith, true, get_or, add-one, ◌⊎◌, inl, inr, zero, suc, ◌-◌, Bool, false, leb, sym, ap, ◌∙◌, None, Some}
 use Rattle.std.proofs.lemmas.List.{map-append, drop_more}
-use Rattle.std.proofs.lemmas.Bool.{le-leb, lt-ltb, and_parts, leb-true, ltb-true, cases_lt, lt-leb, both_ways, le-ltb, and_from, and_left, and_right}
+use Rattle.std.proofs.lemmas.Bool.{le-leb, lt-ltb, and_parts, leb-true, ltb-true, cases_lt, lt-leb, both_ways}
 use Rattle.std.proofs.Math.Seq.{take-suc, take-length}
 use Rattle.acpi_base.specs.Bytes.{IsBytes}
 use Rattle.std.specs.List.{AllByRecursion}
 use Rattle.acpi_base.specs.Memory.{Memory, AreApart, IsMemory, IsRegion, end_of, lies_in, rest_from, at}
 use Rattle.acpi.specs.Regions.{IsAscending}
-use Rattle.acpi_c_lib.specs.Regions.{check_from, check_regions, memory_of, region_of}
-use Rattle.acpi_c_lib.specs.declared.regions.Region.{Region}
+use Rattle.acpi_c_lib.specs.Regions.{Region, check_from, check_regions, memory_of, region_of}
 use Rattle.std.specs.Prelude.{slice_get, Option}
 use Rattle.std.proofs.lemmas.Option.{slice_get-get_or}
 use Rattle.std.specs.List.Sorted.{IsPartitionPoint}
-use Rattle.acpi_c_lib.specs.Located.{LiesOnlyAt, spot_from}
-use Rattle.acpi_c_lib.specs.declared.records.Place.{Place}
+use Rattle.acpi_c_lib.specs.Located.{LiesOnlyAt, Place, spot_from}
 
 -- ---- in ascending order they are a memory
 
@@ -181,20 +179,7 @@ seen_from k (r ∷ m) a = grind (arith, seen_from (k + 1) m a)
 pub rest_seen : (m : Memory) (a : ℕ) → rest_from m a ≡ seen (spot_from 0 m a)
 rest_seen m a = seen_from 0 m a
 
--- ---- where an address lies, and what is lent there
-
-pub is_inside : (r : Region) (a : ℕ) → r.address ≤ a → a - r.address < length r.bytes.now → lies_in (region_of r) a ≡ true
-is_inside r a low high =
-    let below : a < end_of (region_of r) = omega arith in
-    and_from _ _ (le-leb _ _ low) (lt-ltb _ _ below)
-
-pub is_above : (r : Region) (a : ℕ) → r.address ≤ a → length r.bytes.now ≤ a - r.address → lies_in (region_of r) a ≡ false
-is_above r a low high =
-    let above : end_of (region_of r) ≤ a = omega arith in
-    and_right _ _ (le-ltb _ _ above)
-
-pub is_below : (r : Region) (a : ℕ) → a < r.address → lies_in (region_of r) a ≡ false
-is_below r a low = and_left _ _ (lt-leb _ _ low)
+-- ---- what is lent where an address lies
 
 pub at_rest : (m : Memory) (a : ℕ) (s : List ℕ) → s ≡ rest_from m a → at m a (length s) ≡ Some s
 unfolding at

@@ -1,9 +1,8 @@
 -- What is wanted of ranges, and the ranges that are still to be written.
-use Rattle.std.proofs.Common.{◌≡◌, ℕ, ◌+◌, ◌^◌, ◌-◌, ◌<◌, ◌≤◌, List, [], ◌∷◌, true, refl, arith, ◌⊎◌, inl, inr, length, slice_set, Bool, false, sym, subst, ◌∙◌}
-use Rattle.std.proofs.lemmas.Bool.{and_parts, ltb-true, and_left, and_right, and_from, both_ways, cases_lt, le-leb, lt-leb, lt-ltb, le-ltb, or_from}
+use Rattle.std.proofs.Common.{◌≡◌, ℕ, ◌+◌, ◌^◌, ◌-◌, ◌<◌, ◌≤◌, List, [], ◌∷◌, true, refl, arith, ◌⊎◌, inl, inr, length, slice_set, false, sym, subst, ◌∙◌, ap}
+use Rattle.std.proofs.lemmas.Bool.{and_parts, ltb-true, and_left, and_right, and_from, both_ways, cases_lt, le-leb, lt-leb, lt-ltb, le-ltb, or_from, or_left}
 use Rattle.std.proofs.lemmas.Bool.Decides.{nat_tests}
-use Rattle.acpi_c_lib.specs.Clip.{any_holds, change_in, change_of, holds, wanted, AreInOrder, FillsClipped, IsNext}
-use Rattle.acpi_c_lib.specs.declared.records.Range.{Range}
+use Rattle.acpi_c_lib.specs.Clip.{AreInOrder, FillsClipped, IsNext, Range, any_holds, change_in, change_of, holds, wanted}
 use Rattle.std.specs.Prelude.{◌||◌, nat_le, nat_lt}
 use Rattle.std.specs.List.{AllByRecursion}
 use Rattle.acpi_c_lib.specs.Answers.{put_from}
@@ -88,14 +87,6 @@ none_below : (xs : List Range) (a : ℕ) → AllByRecursion (λ x. a < x.address
 none_below [] a h = refl
 none_below (x ∷ xs) a h = or_from (holds a x) (any_holds a xs) (held_not_below x a h.0) (none_below xs a h.1)
 
-first_of : (s t u : Bool) → s ≡ true → u ≡ true → (s || t) ≡ u
-first_of true t u e f = sym f
-first_of false t u e f = absurd cc
-
-second_of : (s t u : Bool) → s ≡ false → t ≡ u → (s || t) ≡ u
-second_of true t u e f = absurd cc
-second_of false t u e f = f
-
 -- after the window nothing is wanted
 pub none_past : (ranges without : List Range) (window : Range) (a : ℕ) → window.address + window.length ≤ a → wanted ranges without window a ≡ false
 none_past ranges without window a past = and_left (holds a window) _ (held_not_above window a past)
@@ -130,9 +121,9 @@ module _ (ranges without : List Range) (window : Range) (start end : ℕ) (insid
 
   same_with : (xs : List Range) (a : ℕ) → IsTail ranges without window end xs → start ≤ a → (a < end) ⊎ (end ≤ a) → any_holds a (range_at start end ∷ xs) ≡ wanted ranges without window a
   same_with xs a t over (inl under) =
-      first_of (holds a (range_at start end)) _ _ (held_inside (range_at start end) a over (omega (arith, under, longer))) (next.before a over under)
+      or_left (holds a (range_at start end)) _ (held_inside (range_at start end) a over (omega (arith, under, longer))) ∙ sym (next.before a over under)
   same_with xs a t over (inr past) =
-      second_of (holds a (range_at start end)) _ _ (held_not_above (range_at start end) a (omega (arith, past, longer))) (t.same a past)
+      ap (λ b. b || any_holds a xs) (held_not_above (range_at start end) a (omega (arith, past, longer))) ∙ t.same a past
 
   tail_with : (xs : List Range) → IsTail ranges without window end xs → IsTail ranges without window start (range_at start end ∷ xs)
   tail_with xs t = record {

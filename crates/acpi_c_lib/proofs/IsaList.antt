@@ -13,12 +13,8 @@ use Rattle.acpi_base.specs.Steps.{◌>>=◌}
 use Rattle.acpi_base.specs.Isa.{isa_interrupt}
 use Rattle.acpi_base.specs.declared.model.interrupt.Apic.{Apic}
 use Rattle.acpi_c_lib.specs.Below.{Refusal}
-use Rattle.acpi_c_lib.specs.IsaList.{ItemsAreAnswers, isa_list, isa_numbers, isa_route, nearer_of, no_route, number_of, route_by, route_of}
-use Rattle.acpi_c_lib.specs.Routes.{interrupt_or, known_apics, pin_or}
-use Rattle.acpi_c_lib.specs.declared.interrupt_records.Interrupt.{Interrupt}
-use Rattle.acpi_c_lib.specs.declared.interrupt_records.IsaInterrupts.{IsaInterrupts}
-use Rattle.acpi_c_lib.specs.declared.interrupt_records.IoApicPin.{IoApicPin}
-use Rattle.acpi_c_lib.specs.declared.interrupt_records.IsaRoute.{IsaRoute}
+use Rattle.acpi_c_lib.specs.IsaList.{IsaInterrupts, IsaRoute, ItemsAreAnswers, isa_list, isa_numbers, isa_route, nearer_of, no_route, number_of, route_by, route_of}
+use Rattle.acpi_c_lib.specs.Routes.{Interrupt, IoApicPin, interrupt_or, known_apics, pin_or}
 
 -- ---- a walk along the I/O APICs
 

@@ -20,9 +20,8 @@ use Rattle.acpi.specs.Root.{root_of_revision}
 use Rattle.acpi.specs.Rsdp.{check_first, check_sum, extended_length_of, checked_length, root_of_rsdp, rsdp_at, rsdp_of}
 use Rattle.acpi.specs.Search.{first_area, found_in, found_rsdp, or_else, room_of, second_area, word_in, area, count_of, walk}
 use Rattle.acpi_c_lib.specs.Below.{AcpiError, Refusal, Source, ebda_in, opened_as_lent, opened_in, refused_as}
-use Rattle.acpi_c_lib.specs.declared.records.Range.{Range}
 use Rattle.acpi_c_lib.specs.declared.refusal.Refusal.TheVariants.{Acpi, UnknownStart}
-use Rattle.acpi_c_lib.specs.Missing.{IsUnlent, OpeningHasHole, candidate_holes, has_valid, hole, last_range, missing_below, missing_in, opened_as_lent_ranges, range_of, walk_holes, areas_holes, candidate_hole}
+use Rattle.acpi_c_lib.specs.Missing.{Areas, IsUnlent, OpeningHasHole, Range, areas_holes, candidate_hole, candidate_holes, has_valid, hole, last_range, missing_below, missing_in, opened_as_lent_ranges, range_of, walk_holes}
 use Rattle.acpi_c_lib.specs.Answers.{Fills, Writes, items_said, put_from, result_map}
 use Rattle.acpi_c_lib.specs.Regions.{memory_in}
 use Rattle.acpi_c_lib.proofs.Written.{two_parts, one_part}
@@ -38,7 +37,6 @@ use Rattle.acpi_base.specs.Ranges as ranges
 use Rattle.acpi_base.specs.declared.range.AddressRange.{AddressRange}
 use Rattle.acpi.specs.Later.{or_later}
 use Rattle.acpi.specs.declared.rsdp.Rsdp.{Rsdp}
-use Rattle.acpi_c_lib.specs.declared.candidates.Areas.{Areas}
 
 -- ---- the checks, which refuse by other errors
 

@@ -7,8 +7,7 @@ use Rattle.acpi.proofs.First.{filter_map_few}
 use Rattle.std.specs.List.{filter_map, concat, AllByRecursion, cons_option, list_all}
 use Rattle.std.specs.Option.{option_map}
 use Rattle.acpi_base.specs.Model.{processor_in, processors_of}
-use Rattle.acpi_base.specs.declared.model.item.MadtItem.{MadtItem}
-use Rattle.acpi_c_lib.specs.Model.{left_after, listed, processor_record}
+use Rattle.acpi_c_lib.specs.Model.{MadtItem, left_after, listed, processor_record}
 use Rattle.acpi_c_lib.specs.declared.interrupt_records.Processor.{Processor}
 use Rattle.acpi_base.proofs.Cuts.{cut_is_cut}
 use Rattle.acpi_base.specs.Bytes.{IsBytes, field_of}
@@ -18,8 +17,7 @@ use Rattle.acpi_base.specs.declared.entries.Width.TheVariants.{One, Two}
 use Rattle.acpi_c_lib.specs.Entries.{plain_grammar, plain_layout}
 use Rattle.std.proofs.lemmas.Bool.Decides.{nat_tests}
 use Rattle.acpi_arm.specs.Timers.{Timer, frame_count, frames_fit, is_sound, kind_of, sound_front, timer_bytes, timer_count, timer_of, timers_grammar, timers_layout, watchdog_at}
-use Rattle.acpi_arm.specs.declared.frames.GtFrame.{GtFrame}
-use Rattle.acpi_c_lib.specs.ArmTimers.{frame_record, frames_in, frames_of, frames_shown, watchdog_in, watchdogs_shown}
+use Rattle.acpi_c_lib.specs.ArmTimers.{GtFrame, frame_record, frames_in, frames_of, frames_shown, watchdog_in, watchdogs_shown}
 use Rattle.std.proofs.lemmas.List.Sums.{length-filter, count_by-le-length}
 use Rattle.acpi_base.specs.Steps.{◌>>=◌, holds}
 use Rattle.acpi_iommu.specs.Dmar.{is_range, rmrr_at, structure_size, structures_of}
@@ -41,13 +39,10 @@ pub put_parts : {X : Type 0} (old : List X) (n : ℕ) (xs ys : List X) → put_f
 put_parts old n [] ys = ap (λ k. put_from old k ys) (omega arith)
 put_parts old n (x ∷ xs) ys = put_parts (slice_set old n x) (n + 1) xs ys ∙ ap (λ k. put_from (put_from (slice_set old n x) (n + 1) xs) k ys) (omega arith)
 
-pub put_both : {X : Type 0} (old xs ys : List X) → put_from (put_from old 0 xs) (length xs) ys ≡ put_from old 0 (xs ++ ys)
-put_both old xs ys = ap (λ k. put_from (put_from old 0 xs) k ys) (omega arith) ∙ sym (put_parts old 0 xs ys)
-
 pub two_parts : {X : Type 0} (old mid new xs ys : List X) (n k : ℕ) → mid ≡ put_from old 0 xs → n ≡ 0 + length xs → new ≡ put_from mid n ys → k ≡ n + length ys → Writes k old new (xs ++ ys)
 two_parts old mid new xs ys n k first counted second all = (
   omega (arith, all, counted, length-append xs ys),
-  second ∙ ap (λ x. put_from x n ys) first ∙ ap (λ i. put_from (put_from old 0 xs) i ys) (counted ∙ omega arith) ∙ put_both old xs ys,
+  second ∙ ap (λ x. put_from x n ys) first ∙ ap (λ i. put_from (put_from old 0 xs) i ys) counted ∙ sym (put_parts old 0 xs ys),
 )
 
 pub one_part : {X : Type 0} (old new xs : List X) (n : ℕ) → new ≡ put_from old 0 xs → n ≡ 0 + length xs → Writes n old new (xs ++ [])

@@ -1,6 +1,6 @@
 -- The generic interrupt controller (GIC) of an Arm machine as C gets it.
-use Rattle.std.specs.Prelude.{ℕ, List, map, Option, Some, None, Result}
-use Rattle.std.specs.Option.{ok_or, unwrap_or}
+use Rattle.std.specs.Prelude.{List, map, Option, Result}
+use Rattle.std.specs.Option.{is_some, ok_or, unwrap_or}
 use Rattle.acpi_base.specs.Interrupts.{trigger_code}
 use Rattle.acpi_base.specs.Steps.{◌>>=◌}
 use Rattle.acpi.specs.Platform.{madt_kind}
@@ -92,27 +92,17 @@ translation_services_shown gic = map translation_service_record gic.translation_
 
 -- ---- frames of messages (section 5.2.12.16)
 
--- the first SPI of a frame, how many it has, and whether the entry says so
-
-abbrev pub spi_base_of : Option SpiRange → ℕ
-spi_base_of (Some spis) = spis.base
-spi_base_of None = 0
-
-abbrev pub spi_count_of : Option SpiRange → ℕ
-spi_count_of (Some spis) = spis.count
-spi_count_of None = 0
-
-abbrev pub has_spis_of : Option SpiRange → ℕ
-has_spis_of (Some spis) = 1
-has_spis_of None = 0
+-- the first SPI of a frame, how many it has, and whether the entry says so, or zeros
+abbrev pub spis_or : Option SpiRange → SpiRange
+spis_or spis = unwrap_or spis (record { base = 0; count = 0 })
 
 abbrev pub msi_frame_record : GicMsiFrame → records.GicMsiFrame
 msi_frame_record f = record {
   address = f.address;
   id = f.id;
-  spi_base = spi_base_of f.spis;
-  spi_count = spi_count_of f.spis;
-  has_spis = has_spis_of f.spis;
+  spi_base = (spis_or f.spis).base;
+  spi_count = (spis_or f.spis).count;
+  has_spis = flag (is_some f.spis);
 }
 
 abbrev pub msi_frames_shown : Gic → List records.GicMsiFrame

@@ -6,7 +6,7 @@ use Rattle.std.specs.Option.{unwrap_or}
 use Rattle.acpi_base.specs.Interrupts.{polarity_code, trigger_code}
 use Rattle.acpi_arm.specs.Gtdt.{control_base_of, gtdt_at, gtdt_kind, read_base_of, virtual_el2_of}
 use Rattle.acpi_arm.specs.Timers.{Timer, missing_of, timers_of}
-use Rattle.acpi_arm.specs.declared.frames.GtFrame.{GtFrame}
+pub use Rattle.acpi_arm.specs.declared.frames.GtFrame.{GtFrame}
 use Rattle.acpi_arm.specs.declared.gtdt.ArmTimer.{ArmTimer}
 use Rattle.acpi_arm.specs.declared.gtdt.Gtdt.{Gtdt}
 use Rattle.acpi_arm.specs.declared.timers.SbsaWatchdog.{SbsaWatchdog}

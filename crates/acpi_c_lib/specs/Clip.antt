@@ -3,7 +3,7 @@ use Rattle.std.specs.Prelude.{◌≡◌, ℕ, ◌+◌, ◌^◌, ◌<◌, ◌≤�
 use Rattle.std.specs.List.{AllByRecursion, list_all, list_any}
 use Rattle.acpi_c_lib.specs.Answers.{put_from}
 use Rattle.acpi_c_lib.specs.Codes.{code_of}
-use Rattle.acpi_c_lib.specs.declared.records.Range.{Range}
+pub use Rattle.acpi_c_lib.specs.declared.records.Range.{Range}
 use Rattle.acpi_c_lib.specs.declared.refusal.Refusal.TheVariants.{RangeTooHigh}
 
 -- the address after a range's last byte is 2^64 - 1 at most

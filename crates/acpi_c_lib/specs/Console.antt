@@ -3,7 +3,7 @@ use Rattle.std.specs.Prelude.{ℕ, Result}
 use Rattle.std.specs.Option.{is_some, unwrap_or}
 use Rattle.acpi_base.specs.Bytes.{field_of}
 use Rattle.acpi_base.specs.Spcr.{base_of, baud_of, bus_of, clock_of, device_id_of, device_of, function_of, interrupt_of, irq_of, spcr_at, vendor_id_of}
-use Rattle.acpi_base.specs.Table.{Kind, sdt_kind}
+use Rattle.acpi_base.specs.Table.{sdt_kind}
 use Rattle.acpi_base.specs.declared.table.signature.TheConstants.Signature.{SPCR}
 use Rattle.acpi_base.specs.declared.tables.spcr.Spcr.{Spcr}
 use Rattle.acpi_c_lib.specs.Below.{Refusal, Source, below_first}
@@ -33,9 +33,6 @@ console_record t interface = record {
   pci_function = unwrap_or (function_of t) 0;
 }
 
-abbrev pub spcr_kind : Kind
-spcr_kind = sdt_kind SPCR 80
-
 -- the console of the first valid SPCR
 abbrev pub console_below : Source → Result Console Refusal
-console_below s = below_first spcr_kind s (λ table. console_record (spcr_at table) (field_of table 36 1))
+console_below s = below_first (sdt_kind SPCR 80) s (λ table. console_record (spcr_at table) (field_of table 36 1))

@@ -4,7 +4,7 @@ use Rattle.acpi_base.specs.Address.{size_code, space_code}
 use Rattle.acpi_base.specs.Bits.{bits_of, has_bit}
 use Rattle.acpi_base.specs.Memory.{Memory}
 use Rattle.acpi_base.specs.Steps.{◌>>=◌}
-use Rattle.acpi_base.specs.Table.{Kind, sdt_kind}
+use Rattle.acpi_base.specs.Table.{sdt_kind}
 use Rattle.acpi_base.specs.declared.address.GenericAddress.{GenericAddress}
 use Rattle.acpi_base.specs.declared.table.signature.TheConstants.Signature.{BGRT}
 use Rattle.acpi_fixed.specs.Bgrt.{bgrt_at, image_type_of, offset_of, rank_of, status_of}
@@ -79,9 +79,6 @@ graphic_record g = record {
   image_type = rank_of (image_type_of g);
 }
 
-abbrev pub bgrt_kind : Kind
-bgrt_kind = sdt_kind BGRT 56
-
 -- the image of the first valid BGRT
 abbrev pub graphic_below : Source → Result BootGraphic Refusal
-graphic_below s = below_first bgrt_kind s (λ table. graphic_record (bgrt_at table))
+graphic_below s = below_first (sdt_kind BGRT 56) s (λ table. graphic_record (bgrt_at table))

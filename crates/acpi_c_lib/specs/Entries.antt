@@ -11,10 +11,9 @@ use Rattle.acpi_base.specs.declared.entries.Width.TheVariants.{One, Two}
 use Rattle.acpi_base.specs.declared.error.AcpiError.TheVariants.{SdtInvalidLength}
 use Rattle.acpi_c_lib.specs.Below.{Refusal, refused_as}
 use Rattle.acpi_c_lib.specs.Devices.{flag}
-use Rattle.acpi_c_lib.specs.Regions.{memory_in}
+use Rattle.acpi_c_lib.specs.Regions.{Region, memory_in}
 use Rattle.acpi_c_lib.specs.declared.records.Entry.{Entry}
 use Rattle.acpi_c_lib.specs.declared.refusal.Refusal.TheVariants.{Acpi, UnknownWidth}
-use Rattle.acpi_c_lib.specs.declared.regions.Region.{Region}
 
 -- an entry that begins with Type and Length, numbers of this width; no type has a least length of its own
 abbrev pub plain_layout : Width → EntryLayout 0

@@ -7,26 +7,13 @@ use Rattle.acpi_fixed.specs.Flags.{arm_bits, feature_bits, pc_bits}
 use Rattle.acpi_fixed.specs.Gpe.{gpe_of}
 use Rattle.acpi_fixed.specs.Registers.{block_of, optional_block_of, register_of}
 use Rattle.acpi_fixed.specs.declared.fadt.Fadt.{Fadt}
-use Rattle.acpi_fixed.specs.declared.fadt.PowerProfile.{PowerProfile}
-use Rattle.acpi_fixed.specs.declared.fadt.PowerProfile.TheVariants as profiles
 use Rattle.acpi_fixed.specs.declared.fadt.registers.gpe.GpeBlock.{GpeBlock}
 use Rattle.acpi.specs.Lists.{fadt_kind}
 use Rattle.acpi_c_lib.specs.Below.{AcpiError, Refusal, Source, below_first}
 use Rattle.acpi_c_lib.specs.Devices.{optional_register, required_register}
 use Rattle.acpi_c_lib.specs.Records as records
 use Rattle.acpi_c_lib.specs.declared.fixed_records.FixedHardware.{FixedHardware}
-
-abbrev pub profile_code : PowerProfile → ℕ
-profile_code profiles.Unspecified = 0
-profile_code profiles.Desktop = 1
-profile_code profiles.Mobile = 2
-profile_code profiles.Workstation = 3
-profile_code profiles.EnterpriseServer = 4
-profile_code profiles.SohoServer = 5
-profile_code profiles.AppliancePc = 6
-profile_code profiles.PerformanceServer = 7
-profile_code profiles.Tablet = 8
-profile_code (profiles.Reserved code) = code
+use Rattle.acpi_writer.specs.FadtBytes.{profile_code}
 
 -- no block of general purpose events: zeros, and 0 if there is none or 2 if its address is refused
 abbrev pub no_gpe : ℕ → records.GpeBlock

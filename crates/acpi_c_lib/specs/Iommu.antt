@@ -1,5 +1,6 @@
 -- The units that remap what devices ask of memory, as C gets them.
 use Rattle.std.specs.Prelude.{ℕ, List, Option, Some, None, map, Result, Ok, Err}
+use Rattle.std.specs.Option.{is_some, unwrap_or}
 use Rattle.acpi_base.specs.Steps.{◌>>=◌}
 use Rattle.acpi_base.specs.Table.{sdt_kind}
 use Rattle.acpi_base.specs.declared.table.signature.TheConstants.Signature.{DMAR, IVRS}
@@ -56,20 +57,12 @@ unit_record d = record {
   includes_pci_all = flag (includes_pci_all d);
 }
 
-abbrev pub hop_or : Option Hop → Hop
-hop_or (Some h) = h
-hop_or None = record { device = 0; function = 0 }
-
-abbrev pub has : {A : Type 0} → Option A → ℕ
-has (Some x) = 1
-has None = 0
-
 abbrev pub source_record : UnitSource → DmarSource
 source_record u = record {
   unit = unit_record u.unit;
   bus = u.bus;
-  hop = hop_or u.hop;
-  has_hop = has u.hop;
+  hop = unwrap_or u.hop (record { device = 0; function = 0 });
+  has_hop = flag (is_some u.hop);
 }
 
 abbrev pub dmar_unit_below : Source → ℕ → ℕ → List Hop → Result DmarUnit Refusal
@@ -90,13 +83,10 @@ dmar_hpet_below s number = do
 abbrev pub reserved_record : Rmrr → DmarReserved
 reserved_record r = record { base = r.base; limit = r.limit; segment = r.segment }
 
-abbrev pub dmar_reserved_in : List ℕ → ℕ → ℕ → List Hop → Result (List DmarReserved) Refusal
-dmar_reserved_in table segment bus hops = shown (map reserved_record) (reserved_for table segment bus hops)
-
 abbrev pub dmar_reserved_below : Source → ℕ → ℕ → List Hop → Result (List DmarReserved) Refusal
 dmar_reserved_below s segment bus hops = do
   table ← dmar_in s
-  dmar_reserved_in table segment bus hops
+  shown (map reserved_record) (reserved_for table segment bus hops)
 
 -- ---- the IVRS (AMD I/O Virtualization Technology (IOMMU) Specification 3.08, section 5.2)
 
@@ -104,14 +94,10 @@ dmar_reserved_below s segment bus hops = do
 abbrev pub ivrs_in : Source → Result (List ℕ) Refusal
 ivrs_in s = first_table (sdt_kind IVRS 48) s
 
-abbrev pub image_or : Option ℕ → ℕ
-image_or (Some n) = n
-image_or None = 0
-
 abbrev pub block_record : Ivhd → IvrsUnit
 block_record b = record {
   base = b.base;
-  extended_features = image_or b.extended_features;
+  extended_features = unwrap_or b.extended_features 0;
   features = b.features;
   segment = b.segment;
   device_id = b.device_id;
@@ -119,7 +105,7 @@ block_record b = record {
   info = b.info;
   block_type = b.kind;
   flags = b.flags;
-  has_extended_features = has b.extended_features;
+  has_extended_features = flag (is_some b.extended_features);
 }
 
 abbrev pub device_record : DeviceUnit → IvrsDevice
@@ -144,10 +130,7 @@ memory_record m = record {
   flags = m.flags;
 }
 
-abbrev pub ivrs_memory_in : List ℕ → ℕ → Result (List IvrsMemory) Refusal
-ivrs_memory_in table id = shown (map memory_record) (memory_for table id)
-
 abbrev pub ivrs_memory_below : Source → ℕ → Result (List IvrsMemory) Refusal
 ivrs_memory_below s id = do
   table ← ivrs_in s
-  ivrs_memory_in table id
+  shown (map memory_record) (memory_for table id)

@@ -9,11 +9,9 @@ use Rattle.acpi_base.specs.declared.model.interrupt.InterruptSourceOverride.{Int
 use Rattle.acpi_base.specs.declared.model.interrupt.IoApic.{IoApic}
 use Rattle.acpi_base.specs.declared.model.isa.IsaInterrupt.{IsaInterrupt}
 use Rattle.acpi_c_lib.specs.Below.{Refusal, Source}
-use Rattle.acpi_c_lib.specs.Routes.{known_apics, interrupt_or, interrupt_record, is_nearer, isa_below, pin_below, pin_or}
-use Rattle.acpi_c_lib.specs.declared.interrupt_records.Interrupt.{Interrupt}
-use Rattle.acpi_c_lib.specs.declared.interrupt_records.IsaInterrupts.{IsaInterrupts}
-use Rattle.acpi_c_lib.specs.declared.interrupt_records.IsaRoute.{IsaRoute}
-use Rattle.acpi_c_lib.specs.declared.interrupt_records.IoApicPin.{IoApicPin}
+use Rattle.acpi_c_lib.specs.Routes.{Interrupt, IoApicPin, interrupt_or, interrupt_record, is_nearer, isa_below, known_apics, pin_below, pin_or}
+pub use Rattle.acpi_c_lib.specs.declared.interrupt_records.IsaInterrupts.{IsaInterrupts}
+pub use Rattle.acpi_c_lib.specs.declared.interrupt_records.IsaRoute.{IsaRoute}
 
 abbrev pub no_interrupt : Interrupt
 no_interrupt = record { global_system_interrupt = 0; polarity = 0; trigger = 0 }

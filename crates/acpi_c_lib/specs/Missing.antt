@@ -23,9 +23,9 @@ use Rattle.acpi.specs.Rsdp.{rsdp_at}
 use Rattle.acpi.specs.Search.{count_of, first_area, room_of, second_area, walk, word_in}
 use Rattle.acpi_c_lib.specs.Below.{AcpiError, Refusal, Source, ebda_in, opened_in}
 use Rattle.acpi_c_lib.specs.Regions.{memory_in}
-use Rattle.acpi_c_lib.specs.declared.candidates.Areas.{Areas}
+pub use Rattle.acpi_c_lib.specs.declared.candidates.Areas.{Areas}
 use Rattle.acpi_c_lib.specs.declared.candidates.Candidates.{Candidates}
-use Rattle.acpi_c_lib.specs.declared.records.Range.{Range}
+pub use Rattle.acpi_c_lib.specs.declared.records.Range.{Range}
 use Rattle.acpi_c_lib.specs.declared.refusal.Refusal.TheVariants.{Acpi}
 
 abbrev pub range_of : ℕ × ℕ → Range

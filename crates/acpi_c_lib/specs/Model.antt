@@ -1,5 +1,5 @@
 -- The interrupt model (MADT, section 5.2.12) as C gets it.
-use Rattle.std.specs.Prelude.{ℕ, zero, suc, Bool, true, false, List, [], ◌∷◌, length, map, Option, Some, None, Result}
+use Rattle.std.specs.Prelude.{ℕ, zero, suc, not, true, List, [], ◌∷◌, length, map, Option, Some, None, Result}
 use Rattle.std.specs.List.{filter_map}
 use Rattle.acpi_base.specs.Interrupts.{line_code, polarity_code, trigger_code}
 use Rattle.acpi_base.specs.Madt.{madt_at}
@@ -13,7 +13,7 @@ use Rattle.acpi_base.specs.declared.model.interrupt.NmiLine.{NmiLine}
 use Rattle.acpi_base.specs.declared.model.interrupt.NmiProcessor.{NmiProcessor}
 use Rattle.acpi_base.specs.declared.model.interrupt.NmiProcessor.TheVariants.{All, ProcessorUid}
 use Rattle.acpi_base.specs.declared.model.interrupt.NmiSource.{NmiSource}
-use Rattle.acpi_base.specs.declared.model.item.MadtItem.{MadtItem}
+pub use Rattle.acpi_base.specs.declared.model.item.MadtItem.{MadtItem}
 use Rattle.acpi_base.specs.declared.model.processor.Processor.{Processor}
 use Rattle.acpi_base.specs.declared.model.processor.ProcessorInfo.{ProcessorInfo}
 use Rattle.acpi_base.specs.declared.model.processor.ProcessorState.{ProcessorState}
@@ -117,16 +117,12 @@ state_code Disabled = 0
 state_code WaitingForSipi = 1
 state_code Running = 2
 
-abbrev pub not_flag : Bool → ℕ
-not_flag true = 0
-not_flag false = 1
-
 abbrev pub processor_record : Processor → records.Processor
 processor_record x = record {
   uid = x.processor_uid;
   local_apic_id = x.local_apic_id;
   state = state_code x.state;
-  is_boot = not_flag x.is_ap;
+  is_boot = flag (not x.is_ap);
 }
 
 -- the boot processor, and then the others

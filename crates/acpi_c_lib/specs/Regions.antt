@@ -5,7 +5,7 @@ use Rattle.acpi_base.specs.Memory.{Memory, end_of}
 use Rattle.acpi_base.specs.Steps.{◌>>=◌, holds}
 use Rattle.acpi_c_lib.specs.declared.refusal.Refusal.{Refusal}
 use Rattle.acpi_c_lib.specs.declared.refusal.Refusal.TheVariants.{RegionsNotAscending, RegionTooHigh}
-use Rattle.acpi_c_lib.specs.declared.regions.Region.{Region}
+pub use Rattle.acpi_c_lib.specs.declared.regions.Region.{Region}
 
 abbrev pub region_of : Region → memory.Region
 region_of r = record { start = r.address; bytes = r.bytes.now }

@@ -15,8 +15,8 @@ use Rattle.acpi.specs.Lookup.{lookup}
 use Rattle.acpi_c_lib.specs.Answers.{result_map}
 use Rattle.acpi_c_lib.specs.Below.{Refusal, Source, below, refused_as}
 use Rattle.acpi_c_lib.specs.Model.{Apics, Platform, io_apic_record, platform_model}
-use Rattle.acpi_c_lib.specs.declared.interrupt_records.Interrupt.{Interrupt}
-use Rattle.acpi_c_lib.specs.declared.interrupt_records.IoApicPin.{IoApicPin}
+pub use Rattle.acpi_c_lib.specs.declared.interrupt_records.Interrupt.{Interrupt}
+pub use Rattle.acpi_c_lib.specs.declared.interrupt_records.IoApicPin.{IoApicPin}
 use Rattle.acpi_c_lib.specs.declared.refusal.Refusal.TheVariants.{NoApics, NoSuchInterrupt, NoSuchIoApic}
 
 abbrev pub interrupt_record : IsaInterrupt → Interrupt

@@ -10,40 +10,35 @@ use Rattle.acpi_base.specs.Steps.{◌>>=◌}
 use Rattle.acpi_base.specs.Table.{own_table_at, plain_kind}
 use Rattle.acpi_base.specs.Text.{letters_of}
 use Rattle.acpi_base.specs.declared.range.AddressRange.{AddressRange}
-use Rattle.acpi_base.specs.declared.table.signature.Signature.{Signature}
+pub use Rattle.acpi_base.specs.declared.table.signature.Signature.{Signature}
 use Rattle.acpi_base.specs.declared.tables.mcfg.McfgEntry.{McfgEntry}
 use Rattle.acpi.specs.Ecam.{ecam_address}
 use Rattle.acpi.specs.Hpet.{hpet_of}
 use Rattle.acpi.specs.Lists.{dsdt_stream}
 use Rattle.acpi.specs.Lookup.{lookup}
-use Rattle.acpi.specs.Opened.{Opened}
 use Rattle.acpi.specs.Pci.{mcfg_kind}
 use Rattle.acpi.specs.Root.{width_of}
 use Rattle.acpi.specs.declared.hpet.HpetInfo.{HpetInfo}
-use Rattle.acpi.specs.declared.hpet.PageProtection.{PageProtection}
-use Rattle.acpi.specs.declared.hpet.PageProtection.TheVariants as protection
 use Rattle.acpi.specs.declared.records.AmlTable.{AmlTable}
 use Rattle.acpi_c_lib.specs.Answers.{result_map}
-use Rattle.acpi_c_lib.specs.Below.{AcpiError, Refusal, Source, below_first, below_source, first_table, opened_below}
+use Rattle.acpi_c_lib.specs.Below.{Refusal, Source, below_first, below_source, first_table, opened_below}
 use Rattle.acpi_c_lib.specs.Records as records
 use Rattle.acpi_c_lib.specs.declared.fixed_records.EcamRange.{EcamRange}
 use Rattle.acpi_c_lib.specs.declared.records.PciRegion.{PciRegion}
 use Rattle.acpi_c_lib.specs.declared.records.Root.{Root}
-use Rattle.acpi_c_lib.specs.declared.records.Table.{Table}
+pub use Rattle.acpi_c_lib.specs.declared.records.Table.{Table}
 use Rattle.acpi_c_lib.specs.declared.refusal.Refusal.TheVariants.{NoSuchFunction}
+use Rattle.acpi_writer.specs.HpetBytes.{protection_code}
 
 -- ---- the root table
 
-abbrev pub root_record : Opened → Root
-root_record o = record {
+abbrev pub root_below : Source → Result Root Refusal
+root_below s = opened_below s (λ m o. Ok (record {
   address = o.address;
   length = length o.root;
   revision = o.revision;
   pointer_width = width_of o.kind;
-}
-
-abbrev pub root_below : Source → Result Root Refusal
-root_below s = opened_below s (λ m o. Ok (root_record o))
+}))
 
 -- ---- tables
 
@@ -72,11 +67,8 @@ abbrev pub signature_named : records.Signature → Signature
 signature_named name = record { 0 = name.letters }
 
 -- the first valid table of a name
-abbrev pub first_named : records.Signature → Memory → List ℕ → Result Table AcpiError
-first_named name m ps = result_map table_record (lookup m (plain_kind (signature_named name)) ps)
-
 abbrev pub table_below : Source → records.Signature → Result Table Refusal
-table_below s name = below_source s (first_named name)
+table_below s name = below_source s (λ m ps. result_map table_record (lookup m (plain_kind (signature_named name)) ps))
 
 abbrev pub aml_record : AmlTable → records.AmlTable
 aml_record s = record { address = s.address; length = s.length }
@@ -117,12 +109,6 @@ ecam_below s segment bus device function = do
   ok_or (ecam_address (mcfg_entries_of table) segment bus device function) NoSuchFunction
 
 -- ---- devices
-
-abbrev pub protection_code : PageProtection → ℕ
-protection_code protection.None = 0
-protection_code protection.Protected4K = 1
-protection_code protection.Protected64K = 2
-protection_code protection.Other = 3
 
 abbrev pub hpet_record : HpetInfo → records.HpetInfo
 hpet_record i = record {

@@ -17,29 +17,23 @@ use Rattle.acpi_base.specs.declared.tables.mcfg.McfgEntry.{McfgEntry}
 use Rattle.acpi.specs.declared.hpet.HpetInfo.{HpetInfo}
 use Rattle.acpi.specs.declared.hpet.PageProtection.{PageProtection}
 use Rattle.acpi.specs.declared.hpet.PageProtection.TheVariants as protection
-use Rattle.acpi_c_lib.specs.Answers.{AnswersPlain}
 use Rattle.acpi_c_lib.specs.Codes.{code_of}
 use Rattle.acpi_c_lib.specs.Records as records
 use Rattle.acpi_c_lib.specs.declared.records.PciRegion.{PciRegion}
-use Rattle.acpi_c_lib.specs.declared.refusal.Refusal.{Refusal}
-use Rattle.acpi_c_lib.specs.declared.refusal.Refusal.TheVariants.{UnknownCode, Writer}
+pub use Rattle.acpi_c_lib.specs.declared.refusal.Refusal.{Refusal}
+use Rattle.acpi_c_lib.specs.declared.refusal.Refusal.TheVariants.{Writer}
 use Rattle.acpi_c_lib.specs.declared.written_records.MadtContents.{MadtContents}
 use Rattle.acpi_writer.specs.MadtBytes.{MadtSorts, io_apic_entry, is_single, madt_body_of, names_one, nmi_line_entry, nmi_source_entry, override_entry, processor_entry}
-use Rattle.acpi_writer.specs.McfgBytes.{mcfg_entry, mcfg_written_of}
 use Rattle.acpi_writer.specs.Table.{table_written}
-use Rattle.acpi_writer.specs.declared.error.WriterError.{WriterError}
+pub use Rattle.acpi_writer.specs.declared.error.WriterError.{WriterError}
 use Rattle.acpi_writer.specs.declared.error.WriterError.TheVariants.{IdOfAll, NoProcessor, UidOfAll}
-use Rattle.acpi_writer.specs.declared.ids.TableIds.{TableIds}
+pub use Rattle.acpi_writer.specs.declared.ids.TableIds.{TableIds}
 use Rattle.acpi_writer.specs.declared.madt.MadtProcessor.{MadtProcessor}
 
 -- an error of the writer's is one of the call's
 abbrev pub writer_refused : {A : Type 0} → Result A WriterError → Result A Refusal
 writer_refused (Ok x) = Ok x
 writer_refused (Err e) = Err (Writer e)
-
--- 0, with the length that was said; or the error's number, and nothing written
-abbrev pub SaysLength : ℕ → ℕ → ℕ → Result ℕ Refusal → Type 0
-SaysLength status old new said = AnswersPlain status old new said
 
 -- the buffer from its first n bytes on is as it was
 abbrev pub IsKept : ℕ → List ℕ → List ℕ → Type 0
@@ -83,10 +77,6 @@ region_of r = record {
   bus_number_start = r.first_bus;
   bus_number_end = r.last_bus;
 }
-
--- the MCFG of regions
-abbrev pub regions_written : ℕ → TableIds → List PciRegion → Result (List ℕ) WriterError
-regions_written room i rs = mcfg_written_of room i (flat_map (λ r. mcfg_entry (region_of r)) rs)
 
 -- ---- the MADT (section 5.2.12)
 
@@ -172,9 +162,3 @@ abbrev pub madt_laid : ℕ → TableIds → MadtContents → Result (List ℕ) W
 madt_laid room i c = do
   _ ← check_lists c
   table_written room MADT 5 i (madt_body c)
-
--- the MADT of records, in so much room, or the first error
-abbrev pub madt_said : ℕ → TableIds → MadtContents → Result (List ℕ) Refusal
-madt_said room i c = do
-  _ ← holds (has_codes c) UnknownCode
-  writer_refused (madt_laid room i c)

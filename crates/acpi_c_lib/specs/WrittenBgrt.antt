@@ -1,12 +1,6 @@
 -- The BGRT that is written for C (section 5.2.22), from the record as which it is read.
-use Rattle.std.specs.Prelude.{ℕ, ◌==◌, ◌&&◌, ◌||◌, Bool, not, List, Result, if◌then◌else◌}
-use Rattle.acpi_base.specs.Steps.{◌>>=◌, holds}
-use Rattle.acpi_c_lib.specs.Writing.{writer_refused}
+use Rattle.std.specs.Prelude.{ℕ, ◌==◌, ◌&&◌, ◌||◌, Bool, not, if◌then◌else◌}
 use Rattle.acpi_c_lib.specs.declared.records.BootGraphic.{BootGraphic}
-use Rattle.acpi_c_lib.specs.declared.refusal.Refusal.{Refusal}
-use Rattle.acpi_c_lib.specs.declared.refusal.Refusal.TheVariants.{UnknownCode}
-use Rattle.acpi_writer.specs.declared.ids.TableIds.{TableIds}
-use Rattle.acpi_writer.specs.Bgrt.{bgrt_written}
 use Rattle.acpi_writer.specs.declared.bgrt.BgrtContents.{BgrtContents}
 use Rattle.acpi_writer.specs.declared.bgrt.BgrtOrientation.{BgrtOrientation}
 use Rattle.acpi_writer.specs.declared.bgrt.BgrtOrientation.TheVariants.{Degrees0, Degrees180, Degrees270, Degrees90}
@@ -28,9 +22,3 @@ contents g = record {
   image_address = g.address;
   image_offset = (g.x, g.y);
 }
-
--- the BGRT in so much room, or the first error
-abbrev pub bgrt_said : ℕ → TableIds → BootGraphic → Result (List ℕ) Refusal
-bgrt_said room i g = do
-  _ ← holds (has_codes g) UnknownCode
-  writer_refused (bgrt_written room i (contents g))

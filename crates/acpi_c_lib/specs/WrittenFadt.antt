@@ -1,26 +1,18 @@
 -- The FADT that is written for C (section 5.2.9), from the record as which it is read, and the FACS (section 5.2.10).
-use Rattle.std.specs.Prelude.{ℕ, ◌&&◌, ◌||◌, ◌==◌, Bool, not, is_ok, nat_le, List, Option, Some, None, Result, if◌then◌else◌}
+use Rattle.std.specs.Prelude.{ℕ, ◌&&◌, ◌||◌, ◌==◌, Bool, not, is_ok, nat_le, Option, Some, None, if◌then◌else◌}
 use Rattle.std.specs.Result.{result_unwrap_or}
 use Rattle.acpi_base.specs.Address.{access_size_of, space_of}
 use Rattle.acpi_base.specs.Bits.{has_bit}
-use Rattle.acpi_base.specs.Steps.{◌>>=◌, holds}
-use Rattle.acpi_base.specs.declared.address.AccessSize.{AccessSize}
 use Rattle.acpi_base.specs.declared.address.AccessSize.TheVariants.{Undefined}
 use Rattle.acpi_base.specs.declared.address.AddressSpace.{AddressSpace}
 use Rattle.acpi_base.specs.declared.address.AddressSpace.TheVariants.{SystemMemory}
 use Rattle.acpi_base.specs.declared.address.GenericAddress.{GenericAddress}
-use Rattle.acpi_fixed.specs.Fadt as fadt
-use Rattle.acpi_fixed.specs.declared.fadt.PowerProfile.{PowerProfile}
+use Rattle.acpi_fixed.specs.Fadt.{profile_for}
 use Rattle.acpi_fixed.specs.declared.fadt.registers.gpe.GpeBlock.{GpeBlock}
 use Rattle.acpi_c_lib.specs.Records as records
-use Rattle.acpi_c_lib.specs.Writing.{writer_refused}
 use Rattle.acpi_c_lib.specs.declared.fixed_records.FixedHardware.{FixedHardware}
 use Rattle.acpi_c_lib.specs.declared.records.Register.{Register}
-use Rattle.acpi_c_lib.specs.declared.refusal.Refusal.{Refusal}
-use Rattle.acpi_c_lib.specs.declared.refusal.Refusal.TheVariants.{UnknownCode}
 use Rattle.acpi_c_lib.specs.declared.written_records.FacsContents as facs_record
-use Rattle.acpi_writer.specs.declared.ids.TableIds.{TableIds}
-use Rattle.acpi_writer.specs.FadtBytes.{fadt_written}
 use Rattle.acpi_writer.specs.declared.facs.FacsContents.{FacsContents}
 use Rattle.acpi_writer.specs.declared.fadt.contents.FadtContents.{FadtContents}
 use Rattle.acpi_writer.specs.declared.fadt.contents.FadtHardware.{FadtHardware}
@@ -35,21 +27,15 @@ use Rattle.acpi_writer.specs.declared.fadt.features.PcBootFeatures.{PcBootFeatur
 abbrev pub is_space : ℕ → Bool
 is_space code = is_ok (space_of code)
 
-abbrev pub is_access_size : ℕ → Bool
-is_access_size code = is_ok (access_size_of code)
-
 abbrev pub space : ℕ → AddressSpace
 space code = result_unwrap_or (space_of code) SystemMemory
-
-abbrev pub access_size : ℕ → AccessSize
-access_size code = result_unwrap_or (access_size_of code) Undefined
 
 abbrev pub register : records.GenericAddress → GenericAddress
 register g = record {
   address_space = space g.space;
   bit_width = g.bit_width;
   bit_offset = g.bit_offset;
-  access_size = access_size g.access_size;
+  access_size = result_unwrap_or (access_size_of g.access_size) Undefined;
   address = g.address;
 }
 
@@ -103,9 +89,6 @@ arm_boot n = record {
 }
 
 -- ---- what the FADT is to say
-
-abbrev pub profile_for : ℕ → PowerProfile
-profile_for code = fadt.profile_for code
 
 -- HW_REDUCED_ACPI says that there is no fixed hardware
 abbrev pub hardware : FixedHardware → FadtHardware
@@ -168,7 +151,7 @@ contents h = record {
 
 -- a register is there or isn't, and its codes are none that are reserved
 abbrev pub has_codes_at : Register → Bool
-has_codes_at r = nat_le r.present 1 && (is_space r.at.space && is_access_size r.at.access_size)
+has_codes_at r = nat_le r.present 1 && (is_space r.at.space && is_ok (access_size_of r.at.access_size))
 
 abbrev pub has_gpe_codes : records.GpeBlock → Bool
 has_gpe_codes b = nat_le b.present 1 && is_space b.space
@@ -180,12 +163,6 @@ has_codes h =
     && (has_codes_at h.pm1b_control && (has_codes_at h.pm2_control && (has_codes_at h.pm_timer
     && (has_codes_at h.reset && (has_codes_at h.sleep_control && (has_codes_at h.sleep_status
     && (has_gpe_codes h.gpe0_block && has_gpe_codes h.gpe1_block)))))))))
-
--- the FADT of a record, in so much room, or the first error
-abbrev pub fadt_said : ℕ → TableIds → FixedHardware → Result (List ℕ) Refusal
-fadt_said room i h = do
-  _ ← holds (has_codes h) UnknownCode
-  writer_refused (fadt_written room i (contents h))
 
 -- ---- the FACS
 

@@ -8,19 +8,14 @@ use Rattle.acpi_arm.specs.declared.gic.part.GicDistributor.{GicDistributor}
 use Rattle.acpi_arm.specs.declared.gic.part.GicMsiFrame.{GicMsiFrame}
 use Rattle.acpi_arm.specs.declared.gic.part.GicRedistributors.{GicRedistributors}
 use Rattle.acpi_arm.specs.declared.gic.part.GicTranslationService.{GicTranslationService}
-use Rattle.acpi_arm.specs.declared.gic.part.SpiRange.{SpiRange}
 use Rattle.acpi_c_lib.specs.Records as records
-use Rattle.acpi_c_lib.specs.Writing.{is_wiring, trigger_of, writer_refused}
+use Rattle.acpi_c_lib.specs.Writing.{TableIds, WriterError, is_wiring, trigger_of}
 use Rattle.acpi_c_lib.specs.declared.records.Range.{Range}
-use Rattle.acpi_c_lib.specs.declared.refusal.Refusal.{Refusal}
-use Rattle.acpi_c_lib.specs.declared.refusal.Refusal.TheVariants.{UnknownCode}
 use Rattle.acpi_c_lib.specs.declared.written_records.GicContents.{GicContents}
 use Rattle.acpi_writer.specs.GicMadt.{gicc_entry, gicd_entry, gicr_entry, its_entry, msi_entry}
 use Rattle.acpi_writer.specs.MadtBytes.{madt_fixed}
 use Rattle.acpi_writer.specs.Table.{table_written}
-use Rattle.acpi_writer.specs.declared.error.WriterError.{WriterError}
 use Rattle.acpi_writer.specs.declared.error.WriterError.TheVariants.{BadRange, NoProcessor, SameAsBus}
-use Rattle.acpi_writer.specs.declared.ids.TableIds.{TableIds}
 
 -- ---- records, as the writer has them
 
@@ -69,11 +64,12 @@ redistributors_of r = record { address = r.address; length = if is_short r then 
 abbrev pub translation_service_of : records.GicTranslationService → GicTranslationService
 translation_service_of t = record { id = t.id; address = t.address }
 
-abbrev pub spis_of : records.GicMsiFrame → Option SpiRange
-spis_of f = if f.has_spis == 0 then None else Some (record { base = f.spi_base; count = f.spi_count })
-
 abbrev pub msi_frame_of : records.GicMsiFrame → GicMsiFrame
-msi_frame_of f = record { id = f.id; address = f.address; spis = spis_of f }
+msi_frame_of f = record {
+  id = f.id;
+  address = f.address;
+  spis = if f.has_spis == 0 then None else Some (record { base = f.spi_base; count = f.spi_count });
+}
 
 -- ---- the table
 
@@ -106,9 +102,3 @@ abbrev pub gic_laid : ℕ → TableIds → GicContents → Result (List ℕ) Wri
 gic_laid room i c = do
   _ ← gic_checked c
   table_written room MADT 6 i (gic_body c)
-
--- the MADT of records, in so much room, or the first error
-abbrev pub gic_said : ℕ → TableIds → GicContents → Result (List ℕ) Refusal
-gic_said room i c = do
-  _ ← holds (has_codes c) UnknownCode
-  writer_refused (gic_laid room i c)

@@ -1,20 +1,19 @@
 -- The GTDT that is written for C (section 5.2.24), which has no timers of the platform.
-use Rattle.std.specs.Prelude.{ℕ, ◌&&◌, ◌==◌, Bool, false, not, List, ◌++◌, Result, if◌then◌else◌}
-use Rattle.acpi_base.specs.Bytes.{spelling}
-use Rattle.acpi_base.specs.Steps.{◌>>=◌, holds}
+use Rattle.std.specs.Prelude.{ℕ, ◌-◌, ◌^◌, ◌&&◌, ◌==◌, Bool, false, not, List, [], Option, Some, None, Result, if◌then◌else◌}
+use Rattle.std.specs.Borrow.{Bor}
 use Rattle.acpi_base.specs.declared.model.interrupt.Polarity.TheVariants.{ActiveHigh}
 use Rattle.acpi_base.specs.declared.model.interrupt.TriggerMode.TheVariants.{Level}
-use Rattle.acpi_base.specs.declared.table.signature.TheConstants.Signature.{GTDT}
 use Rattle.acpi_arm.specs.declared.gtdt.ArmTimer.{ArmTimer}
 use Rattle.acpi_c_lib.specs.Records as records
-use Rattle.acpi_c_lib.specs.Writing.{is_wiring, polarity_of, trigger_of, writer_refused}
+use Rattle.acpi_c_lib.specs.Writing.{TableIds, WriterError, is_wiring, polarity_of, trigger_of}
 use Rattle.acpi_c_lib.specs.declared.arm_records.ArmTimers.{ArmTimers}
-use Rattle.acpi_c_lib.specs.declared.refusal.Refusal.{Refusal}
-use Rattle.acpi_c_lib.specs.declared.refusal.Refusal.TheVariants.{UnknownCode}
-use Rattle.acpi_writer.specs.Gtdt.{array_bytes, gtdt_reserved, timer_bytes, timer_checked}
-use Rattle.acpi_writer.specs.Table.{table_written}
-use Rattle.acpi_writer.specs.declared.error.WriterError.{WriterError}
-use Rattle.acpi_writer.specs.declared.ids.TableIds.{TableIds}
+use Rattle.acpi_writer.specs.Gtdt.{gtdt_written}
+use Rattle.acpi_writer.specs.declared.gtdt.GtdtContents.{GtdtContents}
+use Rattle.acpi_writer.specs.declared.gtdt.PlatformTimerContents.{PlatformTimerContents}
+
+-- an address, of which all ones stand for none
+abbrev pub base : ℕ → Option ℕ
+base address = if address == 2 ^ 64 - 1 then None else Some address
 
 abbrev pub timer_of : records.ArmTimer → ArmTimer
 timer_of t = record {
@@ -42,37 +41,23 @@ has_codes t =
     is_wired t.secure_el1 && (is_wired t.non_secure_el1 && (is_wired t.virtual_el1
     && (is_wired t.el2 && is_wired t.virtual_el2)))
 
--- flags have to say both
-unfoldable pub timers_checked : ArmTimers → Result (Unit {0}) WriterError
-timers_checked t = do
-  _ ← timer_checked (timer_of t.secure_el1)
-  _ ← timer_checked (timer_of t.non_secure_el1)
-  _ ← timer_checked (timer_of t.virtual_el1)
-  _ ← timer_checked (timer_of t.el2)
-  timer_checked (virtual_el2_of t.virtual_el2)
+-- what the GTDT is to say, with these timers of the platform
+abbrev pub contents : Bor (List PlatformTimerContents) → ArmTimers → GtdtContents
+contents platform t = record {
+  counter_control_base = base t.control_base;
+  secure_el1_timer = timer_of t.secure_el1;
+  non_secure_el1_timer = timer_of t.non_secure_el1;
+  virtual_el1_timer = timer_of t.virtual_el1;
+  el2_timer = timer_of t.el2;
+  counter_read_base = base t.read_base;
+  virtual_el2_timer = virtual_el2_of t.virtual_el2;
+  platform_timers = platform;
+}
 
--- after the header: at 36 CntControlBase Physical Address, 44 Reserved, 48 Secure EL1 Timer, 56 Non-Secure EL1 Timer,
--- 64 Virtual EL1 Timer, 72 EL2 Timer, 80 CntReadBase Physical Address, 88 an empty array, 96 Virtual EL2 Timer
-unfoldable pub timers_body : ArmTimers → List ℕ
-timers_body t =
-    spelling 8 t.control_base
-    ++ (gtdt_reserved
-    ++ (timer_bytes (timer_of t.secure_el1)
-    ++ (timer_bytes (timer_of t.non_secure_el1)
-    ++ (timer_bytes (timer_of t.virtual_el1)
-    ++ (timer_bytes (timer_of t.el2)
-    ++ (spelling 8 t.read_base
-    ++ (array_bytes 0
-    ++ timer_bytes (virtual_el2_of t.virtual_el2))))))))
+-- no timers of the platform, wherever they lie
+abbrev pub no_timers : Bor (List PlatformTimerContents)
+no_timers = record { ref_ptr = (0, 0); now = [] }
 
 -- the GTDT of timers whose codes there are, in so much room, or the first error
 abbrev pub gtdt_laid : ℕ → TableIds → ArmTimers → Result (List ℕ) WriterError
-gtdt_laid room i t = do
-  _ ← timers_checked t
-  table_written room GTDT 3 i (timers_body t)
-
--- the GTDT of timers, in so much room, or the first error
-abbrev pub gtdt_said : ℕ → TableIds → ArmTimers → Result (List ℕ) Refusal
-gtdt_said room i t = do
-  _ ← holds (has_codes t) UnknownCode
-  writer_refused (gtdt_laid room i t)
+gtdt_laid room i t = gtdt_written room i (contents no_timers t)

@@ -8,12 +8,11 @@ use Rattle.acpi_c_lib.specs.WrittenFadt as fadt
 use Rattle.acpi_c_lib.specs.WrittenGic as gic
 use Rattle.acpi_c_lib.specs.WrittenGtdt as gtdt
 use Rattle.acpi_c_lib.specs.WrittenSpcr as spcr
-use Rattle.acpi_c_lib.specs.WrittenSrat.{srat_laid}
+use Rattle.acpi_c_lib.specs.WrittenSrat as srat
 use Rattle.acpi_c_lib.specs.Writing as writing
-use Rattle.acpi_c_lib.specs.Writing.{hpet_info_of, madt_laid, region_of, writer_refused}
-use Rattle.acpi_c_lib.specs.declared.refusal.Refusal.{Refusal}
+use Rattle.acpi_c_lib.specs.Writing.{Refusal, TableIds, WriterError, hpet_info_of, madt_laid, region_of, writer_refused}
 use Rattle.acpi_c_lib.specs.declared.refusal.Refusal.TheVariants.{UnknownCode, UnknownTable, Writer}
-use Rattle.acpi_c_lib.specs.declared.writing.machine.Contents.{Contents}
+pub use Rattle.acpi_c_lib.specs.declared.writing.machine.Contents.{Contents}
 use Rattle.acpi_c_lib.specs.declared.writing.machine.Contents.TheVariants.{Bgrt, Fadt, Gic, Gtdt, Hpet, Madt, Mcfg, Nothing, Slit, Spcr, Srat, Ssdt}
 use Rattle.acpi_c_lib.specs.declared.written_records.AmlContents as aml
 use Rattle.acpi_c_lib.specs.declared.written_records.ListedTable.{ListedTable}
@@ -24,11 +23,10 @@ use Rattle.acpi_writer.specs.HpetBytes.{hpet_written}
 use Rattle.acpi_writer.specs.Machine.{MachineOf, dsdt_at, machine_size, machine_written, tree_written}
 use Rattle.acpi_writer.specs.McfgBytes.{mcfg_entry, mcfg_written_of}
 use Rattle.acpi_writer.specs.Slit.{slit_written}
+use Rattle.acpi_writer.specs.Srat.{srat_written_by}
 use Rattle.acpi_writer.specs.Table.{table_written}
 use Rattle.acpi_writer.specs.declared.contents.AmlContents.{AmlContents}
-use Rattle.acpi_writer.specs.declared.error.WriterError.{WriterError}
 use Rattle.acpi_writer.specs.declared.error.WriterError.TheVariants.{BadCode, NoAddress}
-use Rattle.acpi_writer.specs.declared.ids.TableIds.{TableIds}
 
 -- ---- a table
 
@@ -61,7 +59,7 @@ written_as room ids (Mcfg rs) = mcfg_written_of room ids (flat_map (λ r. mcfg_e
 written_as room ids (Hpet i) = hpet_written room ids (hpet_info_of i)
 written_as room ids (Slit c) = slit_written room ids c.localities c.distances.now
 written_as room ids (Ssdt c) = table_written room SSDT c.revision ids c.aml.now
-written_as room ids (Srat c) = srat_laid room ids c
+written_as room ids (Srat c) = srat_written_by srat.range_of room ids (srat.contents c)
 written_as room ids (Bgrt g) = bgrt_written room ids (bgrt.contents g)
 written_as room ids (Spcr c) = spcr.spcr_laid room ids c
 written_as room ids (Gtdt t) = gtdt.gtdt_laid room ids t
@@ -92,17 +90,20 @@ check_contents (Gtdt t) = holds (gtdt.has_codes t) UnknownCode
 check_contents (Gic c) = holds (gic.has_codes c) UnknownCode
 check_contents _ = Ok tt
 
-abbrev pub check_table : ListedTable → Result (Unit {0}) Refusal
-check_table t = check_contents (contents_of t)
-
 -- the first error
 abbrev pub check_tables : List ListedTable → Result (Unit {0}) Refusal
 check_tables [] = Ok tt
 check_tables (t ∷ ts) = do
-  _ ← check_table t
+  _ ← check_contents (contents_of t)
   check_tables ts
 
 -- ---- what calls give
+
+-- the table that is to say this, in so much room, or the first error
+abbrev pub table_said : ℕ → TableIds → Contents → Result (List ℕ) Refusal
+table_said room ids c = do
+  _ ← check_contents c
+  writer_refused (written_as room ids c)
 
 -- all tables with the RSDP, for an address, in so much room, or the first error
 abbrev pub machine_said : ℕ → ℕ → record_of.Machine → Result (List ℕ) Refusal

@@ -3,14 +3,10 @@ use Rattle.std.specs.Prelude.{ℕ, ◌==◌, ◌&&◌, ◌||◌, Bool, not, bit_
 use Rattle.std.specs.Borrow.{Bor}
 use Rattle.acpi_base.specs.Bits.{has_bit}
 use Rattle.acpi_base.specs.Spcr.{interface_of}
-use Rattle.acpi_base.specs.Steps.{◌>>=◌, holds}
 use Rattle.acpi_base.specs.declared.address.GenericAddress.{GenericAddress}
 use Rattle.acpi_c_lib.specs.WrittenFadt.{has_codes_at, register}
-use Rattle.acpi_c_lib.specs.Writing.{writer_refused}
 use Rattle.acpi_c_lib.specs.declared.fixed_records.Console.{Console}
 use Rattle.acpi_c_lib.specs.declared.records.Register.{Register}
-use Rattle.acpi_c_lib.specs.declared.refusal.Refusal.{Refusal}
-use Rattle.acpi_c_lib.specs.declared.refusal.Refusal.TheVariants.{UnknownCode}
 use Rattle.acpi_c_lib.specs.declared.written_records.SpcrContents as spcr_record
 use Rattle.acpi_writer.specs.Spcr.{spcr_written}
 use Rattle.acpi_writer.specs.declared.error.WriterError.{WriterError}
@@ -78,9 +74,3 @@ no_name = record { ref_ptr = (0, 0); now = codes "." }
 -- the SPCR of a record whose codes there are, in so much room, or the first error
 abbrev pub spcr_laid : ℕ → TableIds → spcr_record.SpcrContents → Result (List ℕ) WriterError
 spcr_laid room ids c = spcr_written room ids (contents no_name c)
-
--- the SPCR of a record, in so much room, or the first error
-abbrev pub spcr_said : ℕ → TableIds → spcr_record.SpcrContents → Result (List ℕ) Refusal
-spcr_said room i c = do
-  _ ← holds (has_codes c) UnknownCode
-  writer_refused (spcr_laid room i c)

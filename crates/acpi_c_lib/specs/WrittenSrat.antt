@@ -1,11 +1,9 @@
 -- The SRAT that is written for C (section 5.2.16).
-use Rattle.std.specs.Prelude.{ℕ, ◌==◌, not, List, Result}
+use Rattle.std.specs.Prelude.{◌==◌, not}
 use Rattle.acpi_c_lib.specs.declared.numa_records.MemoryAffinity.{MemoryAffinity}
 use Rattle.acpi_c_lib.specs.declared.written_records.SratContents.{SratContents}
 use Rattle.acpi_numa.specs.declared.srat.affinities.MemoryRange.{MemoryRange}
-use Rattle.acpi_writer.specs.Srat.{ContentsOf, srat_written_by}
-use Rattle.acpi_writer.specs.declared.error.WriterError.{WriterError}
-use Rattle.acpi_writer.specs.declared.ids.TableIds.{TableIds}
+use Rattle.acpi_writer.specs.Srat.{ContentsOf}
 
 -- a flag is set unless it is 0
 abbrev pub range_of : MemoryAffinity → MemoryRange
@@ -19,7 +17,3 @@ range_of r = record {
 
 abbrev pub contents : SratContents → ContentsOf MemoryAffinity
 contents c = record { apics = c.apics; giccs = c.giccs; ranges = c.ranges }
-
--- the SRAT in so much room, or the first error
-abbrev pub srat_laid : ℕ → TableIds → SratContents → Result (List ℕ) WriterError
-srat_laid room ids c = srat_written_by range_of room ids (contents c)

@@ -1,5 +1,4 @@
-//! What C sees of an Arm machine. A polarity is 1 for active high and 3 for active low; a trigger is 1 for an edge
-//! and 3 for the level.
+//! What C sees of an Arm machine. What each field holds is said once, in `include/zacpi.h`.
 
 /// The distributor of interrupts (GICD, section 5.2.12.15).
 #[repr(C)]
@@ -11,8 +10,7 @@ pub struct GicDistributor {
     pub version: u8,
 }
 
-/// A processor, and its interface to the GIC (GICC, section 5.2.12.14). A field past the end of a short
-/// entry is 0.
+/// A processor, and its interface to the GIC (GICC, section 5.2.12.14).
 #[repr(C)]
 #[derive(Clone, Copy)]
 pub struct GicCpuInterface {

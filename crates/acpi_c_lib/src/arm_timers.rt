@@ -1,9 +1,9 @@
 //! The generic timers of an Arm machine, by the GTDT.
-ghost use Rattle.std.specs.Prelude.{◌≡◌, nat_lt};
-ghost use Rattle.acpi_arm.specs.Timers.{missing_left};
+ghost use Rattle.std.specs.Prelude.{◌≡◌, nat_lt, Some, map, refl};
+ghost use Rattle.acpi_arm.specs.Timers.{missing_left, frames_left, shown_in, timers_left};
 ghost use Rattle.acpi_c_lib.specs.Answers.{Fills, Writes};
-ghost use Rattle.acpi_c_lib.specs.ArmTimers as timers;
-ghost use Rattle.acpi_c_lib.specs.ArmTimers.{frames_shown, gtdt_below, timers_shown, watchdogs_shown};
+ghost use Rattle.acpi_c_lib.specs.ArmTimers.{arm_timer_or, arm_timer_record, frame_record, frames_shown, gtdt_below, or_ones, timers_record, timers_shown, watchdog_in, watchdogs_of, watchdogs_shown};
+ghost use Rattle.acpi_c_lib.specs.Listed.{lists_each, lists_by};
 
 use crate::arm_records as records;
 use crate::arm_records::{ArmTimers, Watchdog};
@@ -36,7 +36,7 @@ fn end_malformed(timers: PlatformTimerIter<'_>) -> bool
 }
 
 fn timers_record(gtdt: &Gtdt, is_malformed: bool) -> ArmTimers
-    ensures { result ≡ timers.timers_record gtdt.now is_malformed }
+    ensures { result ≡ timers_record gtdt.now is_malformed }
 {
     ArmTimers {
         control_base: or_ones(gtdt.counter_control_base()),
@@ -52,13 +52,13 @@ fn timers_record(gtdt: &Gtdt, is_malformed: bool) -> ArmTimers
 
 /// An address, or all ones for none.
 fn or_ones(address: Option<u64>) -> u64
-    ensures { result ≡ timers.or_ones address }
+    ensures { result ≡ or_ones address }
 {
     address.unwrap_or(u64::MAX)
 }
 
 fn timer_record(timer: &ArmTimer) -> records::ArmTimer
-    ensures { result ≡ timers.arm_timer_record timer.now }
+    ensures { result ≡ arm_timer_record timer.now }
 {
     records::ArmTimer {
         interrupt: timer.interrupt,
@@ -71,7 +71,7 @@ fn timer_record(timer: &ArmTimer) -> records::ArmTimer
 
 /// A timer, or zeros for none.
 fn timer_or(timer: Option<ArmTimer>) -> records::ArmTimer
-    ensures { result ≡ timers.arm_timer_or timer }
+    ensures { result ≡ arm_timer_or timer }
 {
     match timer {
         Some(timer) => timer_record(&timer),
@@ -109,11 +109,6 @@ fn fill_frames(table: &[u8], out: &mut [records::GtFrame]) -> usize
 }
 
 impl Listing<u64, records::GtFrame> for GtFrameIter<'_> {
-    ghost use Rattle.std.specs.Prelude.{Some, map};
-    ghost use Rattle.acpi_arm.specs.Timers.{frames_left};
-    ghost use Rattle.acpi_c_lib.specs.ArmTimers.{frame_record};
-    ghost use Rattle.acpi_c_lib.specs.Listed.{lists_each};
-
     ghost record_of = { λ block f. Some (frame_record block f) };
 
     ghost left = { λ block s. map (frame_record block) (frames_left s) };
@@ -151,11 +146,6 @@ pub fn watchdogs(source: &Source<'_>, out: &mut [Watchdog]) -> Result<usize, Ref
 }
 
 impl Listing<(), Watchdog> for PlatformTimerIter<'_> {
-    ghost use Rattle.std.specs.Prelude.{refl};
-    ghost use Rattle.acpi_arm.specs.Timers.{shown_in, timers_left};
-    ghost use Rattle.acpi_c_lib.specs.ArmTimers.{watchdog_in, watchdogs_of};
-    ghost use Rattle.acpi_c_lib.specs.Listed.{lists_by};
-
     ghost record_of = { λ known x. watchdog_in (shown_in x) };
 
     ghost left = { λ known s. watchdogs_of (timers_left s) };

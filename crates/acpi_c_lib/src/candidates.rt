@@ -6,8 +6,7 @@ ghost use Rattle.acpi.specs.OpenedRanges.{length_ranges};
 ghost use Rattle.acpi.specs.Rsdp.{rsdp_at};
 ghost use Rattle.acpi.specs.Search.{word_in};
 ghost use Rattle.acpi_c_lib.specs.Answers.{Writes, put_from};
-ghost use Rattle.acpi_c_lib.specs.Missing as missing;
-ghost use Rattle.acpi_c_lib.specs.Missing.{Fits, areas_of, candidate_hole, has_valid, last_range, pieces, stretch, walk_holes};
+ghost use Rattle.acpi_c_lib.specs.Missing.{areas_of, candidate_hole, candidate_holes, Fits, has_valid, last_range, no_areas, pieces, stretch, walk_holes};
 
 use crate::missing::{is_lent, put_pair, range, second_hole};
 use crate::opening::{ebda, ebda_segment};
@@ -36,7 +35,7 @@ pub(crate) fn candidate_holes<H: AcpiHandler>(
     out: &mut [Range],
 ) -> usize
     ensures written { Writes result out.old out.new
-        (missing.candidate_holes (H.memory handler.now) source.now) }
+        (candidate_holes (H.memory handler.now) source.now) }
     ensures few { result < 2 ^ 30 }
 {
     let areas = areas_of(handler, source);
@@ -68,7 +67,7 @@ fn areas_of<H: AcpiHandler>(handler: &H, source: &Source<'_>) -> Areas
 }
 
 fn no_areas() -> Areas
-    ensures { result ≡ missing.no_areas }
+    ensures { result ≡ no_areas }
 {
     let none = Candidates { first: 0, count: 0 };
     Areas {

@@ -1,8 +1,7 @@
 //! Ranges of memory in order: as a firmware's memory map gives them, some of them left out, and
 //! clipped to a window.
-ghost use Rattle.std.specs.Prelude.{◌≡◌, ◌+◌, ◌^◌, ◌<◌, true};
-ghost use Rattle.acpi_c_lib.specs.Clip as clip;
-ghost use Rattle.acpi_c_lib.specs.Clip.{AnswersClip, FillsClipped, change_in, change_of};
+ghost use Rattle.std.specs.Prelude.{◌≡◌, ◌+◌, ◌^◌, ◌<◌, true, ◌-◌, ◌≤◌, ℕ};
+ghost use Rattle.acpi_c_lib.specs.Clip.{all_fit, AnswersClip, any_holds, change_in, change_of, FillsClipped, fits, holds, IsNext, least, wanted};
 
 use crate::lists::put;
 use crate::records::Range;
@@ -40,28 +39,28 @@ pub fn clip_ranges(
 
 /// Whether the address after a range's last byte is 2^64 - 1 at most.
 fn fits(range: &Range) -> bool
-    ensures { result ≡ clip.fits range.now }
+    ensures { result ≡ fits range.now }
 {
     range.length <= u64::MAX - range.address
 }
 
 /// Whether the address after the last byte of each range is 2^64 - 1 at most.
 fn all_fit(ranges: &[Range]) -> bool
-    ensures { result ≡ clip.all_fit ranges.now }
+    ensures { result ≡ all_fit ranges.now }
 {
     ranges.iter().all(|range| fits(range))
 }
 
 /// Whether a range holds an address.
 fn holds(range: &Range, address: u64) -> bool
-    ensures { result ≡ clip.holds address range.now }
+    ensures { result ≡ holds address range.now }
 {
     range.address <= address && address - range.address < range.length
 }
 
 /// Whether one of several ranges holds an address.
 fn any_holds(ranges: &[Range], address: u64) -> bool
-    ensures { result ≡ clip.any_holds address ranges.now }
+    ensures { result ≡ any_holds address ranges.now }
 {
     ranges.iter().any(|range| holds(range, address))
 }
@@ -81,7 +80,7 @@ fn change_of(range: &Range, address: u64, limit: u64) -> u64
 
 /// The smaller number.
 fn least(x: u64, y: u64) -> u64
-    ensures { result ≡ clip.least x y }
+    ensures { result ≡ least x y }
 {
     if x < y { x } else { y }
 }
@@ -97,9 +96,6 @@ fn change_in(ranges: &[Range], address: u64, limit: u64) -> u64
 }
 
 impl Wanted<'_> {
-    ghost use Rattle.std.specs.Prelude.{◌+◌, ◌-◌, ◌^◌, ◌<◌, ◌≤◌, ℕ};
-    ghost use Rattle.acpi_c_lib.specs.Clip.{IsNext, wanted};
-
     /// Whether a byte is one that is asked for.
     #[tactic(auto, using(crate::proofs::Clipping::is_inside))]
     fn has(self, address: u64) -> bool

@@ -1,19 +1,18 @@
 //! Devices that tables of their own describe.
 ghost use Rattle.std.specs.Prelude.{◌≡◌};
-ghost use Rattle.acpi_base.specs.Address as base;
-ghost use Rattle.acpi_c_lib.specs.Devices.{graphic_below, timer_below};
-ghost use Rattle.acpi_c_lib.specs.Devices as devices;
-ghost use Rattle.acpi_c_lib.specs.Shown.{hpet_below, protection_code};
+ghost use Rattle.acpi_c_lib.specs.Devices.{generic_record, graphic_below, graphic_record, no_register, optional_register, register_if, required_register, timer_below, timer_record};
+ghost use Rattle.acpi_c_lib.specs.Shown.{hpet_below};
 
 use crate::opening::{first, open};
 use crate::records::{self, BootGraphic, Register, Source};
 use crate::refusal::Refusal;
 use crate::regions::Mapped;
-use acpi::address::{AccessSize, AddressSpace, GenericAddress};
+use acpi::address::GenericAddress;
 use acpi::bgrt::{Bgrt, ImageType};
-use acpi::hpet::PageProtection;
 use acpi::platform::PmTimer;
 use acpi::{AcpiResult, HpetInfo};
+use acpi_writer::generic::{size_code, space_code};
+use acpi_writer::hpet::protection_code;
 
 /// The block of event timers that the first valid HPET describes.
 pub fn hpet(source: &Source<'_>) -> Result<records::HpetInfo, Refusal>
@@ -31,18 +30,6 @@ pub fn hpet(source: &Source<'_>) -> Result<records::HpetInfo, Refusal>
     })
 }
 
-/// The code of Page Protection (IA-PC HPET Specification): all reserved ones are 3.
-fn protection_code(protection: PageProtection) -> u8
-    ensures { result ≡ protection_code protection }
-{
-    match protection {
-        PageProtection::None => 0,
-        PageProtection::Protected4K => 1,
-        PageProtection::Protected64K => 2,
-        PageProtection::Other => 3,
-    }
-}
-
 /// The power management timer of the first valid FADT.
 pub fn timer(source: &Source<'_>) -> Result<records::PmTimer, Refusal>
     ensures { result ≡ timer_below source.now }
@@ -55,7 +42,7 @@ pub fn timer(source: &Source<'_>) -> Result<records::PmTimer, Refusal>
 }
 
 fn timer_record(timer: Option<PmTimer>) -> records::PmTimer
-    ensures { result ≡ devices.timer_record timer }
+    ensures { result ≡ timer_record timer }
 {
     match timer {
         Some(timer) => records::PmTimer {
@@ -73,20 +60,20 @@ fn timer_record(timer: Option<PmTimer>) -> records::PmTimer
 
 /// A register under C's names.
 pub(crate) fn generic_record(address: &GenericAddress) -> records::GenericAddress
-    ensures { result ≡ devices.generic_record address.now }
+    ensures { result ≡ generic_record address.now }
 {
     records::GenericAddress {
         address: address.address,
         space: space_code(address.address_space),
         bit_width: address.bit_width,
         bit_offset: address.bit_offset,
-        access_size: access_code(address.access_size),
+        access_size: size_code(address.access_size),
     }
 }
 
 /// What stands for no register: zeros.
 pub(crate) fn no_register() -> records::GenericAddress
-    ensures { result ≡ devices.no_register }
+    ensures { result ≡ no_register }
 {
     records::GenericAddress {
         address: 0,
@@ -99,7 +86,7 @@ pub(crate) fn no_register() -> records::GenericAddress
 
 /// A register, or that there is none, or that its address is refused.
 pub(crate) fn optional_register(said: AcpiResult<Option<GenericAddress>>) -> Register
-    ensures { result ≡ devices.optional_register said }
+    ensures { result ≡ optional_register said }
 {
     match said {
         Ok(Some(at)) => Register {
@@ -119,7 +106,7 @@ pub(crate) fn optional_register(said: AcpiResult<Option<GenericAddress>>) -> Reg
 
 /// A register, or that its address is refused.
 pub(crate) fn required_register(said: AcpiResult<GenericAddress>) -> Register
-    ensures { result ≡ devices.required_register said }
+    ensures { result ≡ required_register said }
 {
     match said {
         Ok(at) => optional_register(Ok(Some(at))),
@@ -130,45 +117,11 @@ pub(crate) fn required_register(said: AcpiResult<GenericAddress>) -> Register
 /// A register, or that there is none, or that its address is refused: for a call that reads the address only if
 /// there is one.
 pub(crate) fn register_if(said: Option<AcpiResult<GenericAddress>>) -> Register
-    ensures { result ≡ devices.register_if said }
+    ensures { result ≡ register_if said }
 {
     match said {
         Some(said) => required_register(said),
         None => optional_register(Ok(None)),
-    }
-}
-
-/// The code of an address space: Address Space ID (section 5.2.3.2).
-pub(crate) fn space_code(space: AddressSpace) -> u8
-    ensures { result ≡ base.space_code space }
-{
-    match space {
-        AddressSpace::SystemMemory => 0x00,
-        AddressSpace::SystemIo => 0x01,
-        AddressSpace::PciConfigSpace => 0x02,
-        AddressSpace::EmbeddedController => 0x03,
-        AddressSpace::SMBus => 0x04,
-        AddressSpace::SystemCmos => 0x05,
-        AddressSpace::PciBarTarget => 0x06,
-        AddressSpace::Ipmi => 0x07,
-        AddressSpace::GeneralIo => 0x08,
-        AddressSpace::GenericSerialBus => 0x09,
-        AddressSpace::PlatformCommunicationsChannel => 0x0a,
-        AddressSpace::FunctionalFixedHardware => 0x7f,
-        AddressSpace::OemDefined(code) => code,
-    }
-}
-
-/// The code of an access size: Access Size (section 5.2.3.2).
-fn access_code(size: AccessSize) -> u8
-    ensures { result ≡ base.size_code size }
-{
-    match size {
-        AccessSize::Undefined => 0,
-        AccessSize::ByteAccess => 1,
-        AccessSize::WordAccess => 2,
-        AccessSize::DWordAccess => 3,
-        AccessSize::QWordAccess => 4,
     }
 }
 
@@ -182,7 +135,7 @@ pub fn graphic(source: &Source<'_>) -> Result<BootGraphic, Refusal>
 }
 
 fn graphic_record(bgrt: &Bgrt) -> BootGraphic
-    ensures { result ≡ devices.graphic_record bgrt.now }
+    ensures { result ≡ graphic_record bgrt.now }
 {
     let (x, y) = bgrt.image_offset();
     BootGraphic {

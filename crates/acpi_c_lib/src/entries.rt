@@ -3,8 +3,7 @@ ghost use Rattle.std.specs.Prelude.{◌≡◌, ◌+◌, ◌^◌, ◌<◌, length
 ghost use Rattle.std.specs.Result.{result_unwrap_or};
 ghost use Rattle.acpi_base.specs.Entries.{IsEntry, cut};
 ghost use Rattle.acpi_c_lib.specs.Answers.{Fills, Writes, result_map};
-ghost use Rattle.acpi_c_lib.specs.Entries as spec;
-ghost use Rattle.acpi_c_lib.specs.Entries.{entries_below, entries_from, entries_said, entry_record, left_said, width_of_bytes};
+ghost use Rattle.acpi_c_lib.specs.Entries.{entries_below, entries_from, entries_said, entry_record, left_said, plain_grammar, plain_layout, width_of_bytes};
 
 use crate::lists::put;
 use crate::records::Entry;
@@ -59,7 +58,7 @@ fn width_of_bytes(bytes_each: u32) -> Result<Width, Refusal>
 
 /// How entries are cut whose Type and Length have this width.
 fn plain_grammar(width: Width) -> Grammar<0>
-    ensures { result ≡ spec.plain_grammar width }
+    ensures { result ≡ plain_grammar width }
 {
     let length_at = match width {
         Width::One => 1,
@@ -84,8 +83,8 @@ fn plain_grammar(width: Width) -> Grammar<0>
 fn fill<'a>(width: Width, bytes: &'a [u8], address: u64, out: &mut [Entry]) -> (usize, &'a [u8])
     requires { address + length bytes.now < 2 ^ 64 }
     ensures items { Writes result.0 out.old out.new
-        (entries_from width address (cut (spec.plain_grammar width) bytes.now).0) }
-    ensures rest { result.1.now ≡ (cut (spec.plain_grammar width) bytes.now).1 }
+        (entries_from width address (cut (plain_grammar width) bytes.now).0) }
+    ensures rest { result.1.now ≡ (cut (plain_grammar width) bytes.now).1 }
 {
     let grammar = plain_grammar(width);
     let mut rest = bytes;
@@ -103,7 +102,7 @@ fn fill<'a>(width: Width, bytes: &'a [u8], address: u64, out: &mut [Entry]) -> (
 /// An entry at an address.
 #[tactic(auto, using(crate::proofs::Written::entry_small, crate::proofs::Written::number_small))]
 fn entry_record(width: Width, address: u64, entry: &[u8]) -> Entry
-    requires { IsEntry (spec.plain_layout width) entry.now }
+    requires { IsEntry (plain_layout width) entry.now }
     ensures { result ≡ entry_record width address entry.now }
 {
     Entry {

@@ -2,10 +2,9 @@
 ghost use Rattle.std.specs.Prelude.{◌≡◌, ◌≤◌, length};
 ghost use Rattle.acpi_fixed.specs.Fadt.{fadt_at};
 ghost use Rattle.acpi_fixed.specs.Flags.{arm_bits, feature_bits, pc_bits};
-ghost use Rattle.acpi_c_lib.specs.Fixed as fixed;
-ghost use Rattle.acpi_c_lib.specs.Fixed.{fixed_below, fixed_record};
+ghost use Rattle.acpi_c_lib.specs.Fixed.{fixed_below, fixed_record, gpe_record, no_gpe};
 
-use crate::devices::{optional_register, required_register, space_code};
+use crate::devices::{optional_register, required_register};
 use crate::fixed_records as records;
 use crate::fixed_records::FixedHardware;
 use crate::opening::first;
@@ -13,8 +12,10 @@ use crate::records::Source;
 use crate::refusal::Refusal;
 use crate::regions::Mapped;
 use acpi::AcpiResult;
-use acpi::fadt::{Fadt, GpeBlock, PowerProfile};
+use acpi::fadt::{Fadt, GpeBlock};
 use acpi_base::bytes::{field, u16_in, u32_in};
+use acpi_writer::fadt::profile_code;
+use acpi_writer::generic::space_code;
 
 /// The fixed hardware of the first valid FADT.
 pub fn fixed(source: &Source<'_>) -> Result<FixedHardware, Refusal>
@@ -96,27 +97,9 @@ fn fixed_record(fadt: &Fadt, flags: RawFlags) -> FixedHardware
     }
 }
 
-/// The code of a profile: Preferred_PM_Profile (section 5.2.9.1).
-fn profile_code(profile: PowerProfile) -> u8
-    ensures { result ≡ fixed.profile_code profile }
-{
-    match profile {
-        PowerProfile::Unspecified => 0,
-        PowerProfile::Desktop => 1,
-        PowerProfile::Mobile => 2,
-        PowerProfile::Workstation => 3,
-        PowerProfile::EnterpriseServer => 4,
-        PowerProfile::SohoServer => 5,
-        PowerProfile::AppliancePc => 6,
-        PowerProfile::PerformanceServer => 7,
-        PowerProfile::Tablet => 8,
-        PowerProfile::Reserved(code) => code,
-    }
-}
-
 /// A block of registers of general purpose events, or that there is none, or that its address is refused.
 fn gpe_record(said: AcpiResult<Option<GpeBlock>>) -> records::GpeBlock
-    ensures { result ≡ fixed.gpe_record said }
+    ensures { result ≡ gpe_record said }
 {
     match said {
         Ok(Some(block)) => records::GpeBlock {
@@ -132,7 +115,7 @@ fn gpe_record(said: AcpiResult<Option<GpeBlock>>) -> records::GpeBlock
 
 /// What stands for a block that is not there, or is refused: zeros.
 fn no_gpe(present: u8) -> records::GpeBlock
-    ensures { result ≡ fixed.no_gpe present }
+    ensures { result ≡ no_gpe present }
 {
     records::GpeBlock {
         address: 0,

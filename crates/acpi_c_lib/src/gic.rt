@@ -1,13 +1,18 @@
 //! The generic interrupt controller (GIC) of an Arm machine, with no heap: each list is written by a walk along the
 //! entries of the MADT.
-ghost use Rattle.std.specs.Prelude.{◌≡◌, map, refl};
+ghost use Rattle.std.specs.Prelude.{◌≡◌, map, refl, ℕ, List};
+ghost use Rattle.std.specs.List.{filter_map};
+ghost use Rattle.std.specs.Option.{option_map};
 ghost use Rattle.acpi_base.specs.Mapping.{bytes_of};
 ghost use Rattle.acpi_base.specs.Steps.{Gives};
+ghost use Rattle.acpi_base.specs.MadtWalk.{entries_left};
 ghost use Rattle.acpi_arm.specs.Gic.{items_of, model_beside};
+ghost use Rattle.acpi_arm.specs.declared.gic.part.GicDistributor.{GicDistributor};
 ghost use Rattle.acpi_c_lib.specs.Answers.{Fills, Writes};
 ghost use Rattle.acpi_c_lib.specs.Held.{mapped_memory};
 ghost use Rattle.acpi_c_lib.specs.Regions.{memory_in};
-ghost use Rattle.acpi_c_lib.specs.Arm.{below_gic, distributor_shown, known_gic, cpu_interface_record, cpu_interfaces_shown, msi_frame_record, msi_frames_shown, redistributors_record, redistributors_shown, translation_service_record, translation_services_shown};
+ghost use Rattle.acpi_c_lib.specs.Arm.{below_gic, distributor_shown, known_gic, cpu_interface_record, cpu_interfaces_shown, msi_frame_record, msi_frames_shown, redistributors_record, redistributors_shown, translation_service_record, translation_services_shown, Gic};
+ghost use Rattle.acpi_c_lib.specs.Listed.{lists_found};
 
 use crate::arm_records as records;
 use crate::lists::{Listing, fill};
@@ -64,11 +69,6 @@ pub fn distributor(source: &Source<'_>) -> Result<records::GicDistributor, Refus
 
 /// A record of C's of a part of a GIC.
 pub trait GicRecord: Copy {
-    ghost use Rattle.std.specs.Prelude.{◌≡◌, ℕ, List, map};
-    ghost use Rattle.acpi_arm.specs.Gic.{items_of, model_beside};
-    ghost use Rattle.acpi_arm.specs.declared.gic.part.GicDistributor.{GicDistributor};
-    ghost use Rattle.acpi_c_lib.specs.Arm.{Gic};
-
     /// The part.
     type Part: GicPart;
 
@@ -105,11 +105,6 @@ fn fill_parts<R: GicRecord>(table: &[u8], out: &mut [R]) -> usize
 }
 
 impl<R: GicRecord> Listing<u8, R> for MadtEntryIter<'_> {
-    ghost use Rattle.std.specs.List.{filter_map};
-    ghost use Rattle.std.specs.Option.{option_map};
-    ghost use Rattle.acpi_base.specs.MadtWalk.{entries_left};
-    ghost use Rattle.acpi_c_lib.specs.Listed.{lists_found};
-
     ghost record_of = { λ revision x. option_map R.record_of (R.Part.said_in revision x) };
 
     ghost left = { λ revision s. map R.record_of (filter_map (R.Part.said_in revision) (entries_left s)) };

@@ -82,13 +82,9 @@ pub struct IoApicPin {
 #[repr(C)]
 #[derive(Clone, Copy)]
 pub struct IsaRoute {
-    /// The interrupt, or zeros.
     pub interrupt: Interrupt,
-    /// The pin that it comes to, or zeros.
     pub pin: IoApicPin,
-    /// Whether there is such an interrupt: it has an override, or no other one's override has taken its number.
     pub present: u8,
-    /// Whether it comes to an I/O APIC: not each base is above it.
     pub has_pin: u8,
 }
 
@@ -96,6 +92,5 @@ pub struct IsaRoute {
 #[repr(C)]
 #[derive(Clone, Copy)]
 pub struct IsaInterrupts {
-    /// Of each, by its number, how it comes to the I/O APICs.
     pub routes: [IsaRoute; 16],
 }

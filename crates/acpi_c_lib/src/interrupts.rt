@@ -1,19 +1,21 @@
 //! The interrupt model, gathered with no heap: what is counted is counted by a walk along the entries of
 //! the MADT, and what is listed is written by another one.
-ghost use Rattle.std.specs.Prelude.{◌≡◌, ◌^◌, ◌<◌, length, map, IfOk, IfSome, Some, refl};
+ghost use Rattle.std.specs.Prelude.{◌≡◌, ◌^◌, ◌<◌, length, map, IfOk, IfSome, Some, refl, ℕ, List, Option};
 ghost use Rattle.std.specs.List.{filter_map};
 ghost use Rattle.std.specs.Option.{option_map};
 ghost use Rattle.acpi_base.specs.Items.{counts_of, items_left};
 ghost use Rattle.acpi_base.specs.Mapping.{bytes_of};
 ghost use Rattle.acpi_base.specs.Model.{items_of, io_apic_in, nmi_line_in, nmi_source_in, override_in};
 ghost use Rattle.acpi_base.specs.Steps.{Gives};
+ghost use Rattle.acpi_base.specs.declared.model.item.MadtItem.{MadtItem};
 ghost use Rattle.acpi.specs.Platform.{model_in};
 ghost use Rattle.acpi.specs.Tables.{of_tables};
-ghost use Rattle.acpi_c_lib.specs.Answers.{Fills, Writes};
-ghost use Rattle.acpi_c_lib.specs.Model.{apics_by, io_apic_record, model_by, platform_model, io_apics_of, nmi_line_record, nmi_lines_of, nmi_source_record, nmi_sources_of, override_record, overrides_of};
+ghost use Rattle.acpi_c_lib.specs.Answers.{Fills};
+ghost use Rattle.acpi_c_lib.specs.Model.{apics_by, io_apic_record, model_by, platform_model, io_apics_of, nmi_line_record, nmi_lines_of, nmi_source_record, nmi_sources_of, override_record, overrides_of, Apics};
 ghost use Rattle.acpi_c_lib.specs.Held.{mapped_memory};
 ghost use Rattle.acpi_c_lib.specs.Regions.{memory_in};
 ghost use Rattle.acpi_c_lib.specs.Routes.{below_apics, known_apics, known_platform};
+ghost use Rattle.acpi_c_lib.specs.Listed.{lists_found};
 
 use crate::interrupt_records as records;
 use crate::lists::{Listing, fill};
@@ -112,13 +114,6 @@ pub(crate) fn items_of<'m, H: Lender>(madt: &'m PhysicalMapping<'_, H, Madt>) ->
 
 /// A record of C's of what entries of a MADT say.
 pub trait MadtRecord: Copy {
-    ghost use Rattle.std.specs.Prelude.{◌≡◌, ℕ, List, Option, map};
-    ghost use Rattle.std.specs.List.{filter_map};
-    ghost use Rattle.std.specs.Option.{option_map};
-    ghost use Rattle.acpi_base.specs.Model.{items_of};
-    ghost use Rattle.acpi_base.specs.declared.model.item.MadtItem.{MadtItem};
-    ghost use Rattle.acpi_c_lib.specs.Model.{Apics, apics_by};
-
     /// What it shows.
     type Part;
 
@@ -141,25 +136,16 @@ pub trait MadtRecord: Copy {
 }
 
 /// Lists what entries of one sort say, by the first valid MADT.
+#[tactic(auto, using(crate::proofs::Written::found_few))]
 pub fn entries<R: MadtRecord>(source: &Source<'_>, out: &mut [R]) -> Result<usize, Refusal>
     ensures { Fills result out.old out.new (below_apics source.now R.shown) }
 {
     let memory = Mapped::new(source.regions);
     let found = known_madt(&memory, source)?;
-    Ok(fill_entries(items_of(&found.madt), out))
-}
-
-#[tactic(auto, using(crate::proofs::Written::found_few))]
-fn fill_entries<R: MadtRecord>(items: MadtItems<'_>, out: &mut [R]) -> usize
-    requires { length (items_left items) < 2 ^ 63 }
-    ensures { Writes result out.old out.new (map R.record_of (filter_map R.part_in (items_left items.entry))) }
-{
-    fill(items, &(), out)
+    Ok(fill(items_of(&found.madt), &(), out))
 }
 
 impl<R: MadtRecord> Listing<(), R> for MadtItems<'_> {
-    ghost use Rattle.acpi_c_lib.specs.Listed.{lists_found};
-
     ghost record_of = { λ known x. option_map R.record_of (R.part_in x) };
 
     ghost left = { λ known s. map R.record_of (filter_map R.part_in (items_left s)) };

@@ -1,10 +1,11 @@
 //! The units that remap what devices ask of memory (IOMMUs), by the DMAR (Intel Virtualization Technology for Directed
 //! I/O 4.0, chapter 8) and by the IVRS (AMD I/O Virtualization Technology (IOMMU) Specification 3.08, section 5.2).
-ghost use Rattle.std.specs.Prelude.{◌≡◌};
+ghost use Rattle.std.specs.Prelude.{◌≡◌, Some, map};
+ghost use Rattle.acpi_iommu.specs.DmarUnits.{reserved_left};
+ghost use Rattle.acpi_iommu.specs.IvrsUnits.{memory_left};
 ghost use Rattle.acpi_c_lib.specs.Answers.{Fills};
-ghost use Rattle.acpi_c_lib.specs.Iommu as iommu;
-ghost use Rattle.acpi_c_lib.specs.Iommu.{dmar_hpet_below, dmar_io_apic_below, dmar_reserved_below, dmar_reserved_in};
-ghost use Rattle.acpi_c_lib.specs.Iommu.{dmar_unit_below, ivrs_memory_below, ivrs_memory_in, ivrs_unit_below};
+ghost use Rattle.acpi_c_lib.specs.Iommu.{block_record, dmar_hpet_below, dmar_io_apic_below, dmar_reserved_below, dmar_unit_below, iommu_refusal, ivrs_memory_below, ivrs_unit_below, memory_record, reserved_record, source_record, unit_record};
+ghost use Rattle.acpi_c_lib.specs.Listed.{lists_each};
 
 use crate::iommu_records::{
     DmarReserved, DmarSource, DmarUnit, Hop, IvrsDevice, IvrsMemory, IvrsUnit,
@@ -20,8 +21,6 @@ use acpi_iommu::{
 };
 
 impl From<IommuError> for Refusal {
-    ghost use Rattle.acpi_c_lib.specs.Iommu.{iommu_refusal};
-
     ghost from_gives = { λ error e. e ≡ iommu_refusal error };
 
     fn from(error: IommuError) -> Refusal {
@@ -71,7 +70,7 @@ pub fn dmar_hpet(source: &Source<'_>, number: u8) -> Result<DmarSource, Refusal>
 }
 
 fn unit_record(unit: &Drhd) -> DmarUnit
-    ensures { result ≡ iommu.unit_record unit.now }
+    ensures { result ≡ unit_record unit.now }
 {
     DmarUnit {
         register_base: unit.register_base,
@@ -82,21 +81,17 @@ fn unit_record(unit: &Drhd) -> DmarUnit
 }
 
 fn source_record(found: &UnitSource) -> DmarSource
-    ensures { result ≡ iommu.source_record found.now }
+    ensures { result ≡ source_record found.now }
 {
     let none = Hop {
         device: 0,
         function: 0,
     };
-    let (hop, has_hop) = match found.hop {
-        Some(hop) => (hop, 1),
-        None => (none, 0),
-    };
     DmarSource {
         unit: unit_record(&found.unit),
         bus: found.bus,
-        hop,
-        has_hop,
+        hop: found.hop.unwrap_or(none),
+        has_hop: found.hop.is_some() as u8,
     }
 }
 
@@ -112,29 +107,11 @@ pub fn dmar_reserved(
 {
     let memory = Mapped::new(source.regions);
     let dmar = first::<Dmar>(&memory, source)?;
-    fill_reserved(dmar.bytes(), segment, bus, hops, out)
-}
-
-/// The memory that a DMAR's bytes reserve for a device.
-fn fill_reserved(
-    table: &[u8],
-    segment: u16,
-    bus: u8,
-    hops: &[Hop],
-    out: &mut [DmarReserved],
-) -> Result<usize, Refusal>
-    ensures { Fills result out.old out.new (dmar_reserved_in table.now segment bus hops.now) }
-{
-    let ranges = DmarUnits::over(table).reserved_for(segment, bus, hops)?;
+    let ranges = DmarUnits::over(dmar.bytes()).reserved_for(segment, bus, hops)?;
     Ok(fill(ranges, &(), out))
 }
 
 impl Listing<(), DmarReserved> for ReservedIter<'_, '_> {
-    ghost use Rattle.std.specs.Prelude.{Some, map};
-    ghost use Rattle.acpi_iommu.specs.DmarUnits.{reserved_left};
-    ghost use Rattle.acpi_c_lib.specs.Iommu.{reserved_record};
-    ghost use Rattle.acpi_c_lib.specs.Listed.{lists_each};
-
     ghost record_of = { λ known x. Some (reserved_record x) };
 
     ghost left = { λ known s. map reserved_record (reserved_left s) };
@@ -169,15 +146,11 @@ pub fn ivrs_unit(source: &Source<'_>, segment: u16, device_id: u16) -> Result<Iv
 }
 
 fn block_record(block: &Ivhd) -> IvrsUnit
-    ensures { result ≡ iommu.block_record block.now }
+    ensures { result ≡ block_record block.now }
 {
-    let (extended_features, has_extended_features) = match block.extended_features {
-        Some(image) => (image, 1),
-        None => (0, 0),
-    };
     IvrsUnit {
         base: block.base,
-        extended_features,
+        extended_features: block.extended_features.unwrap_or(0),
         features: block.features,
         segment: block.segment,
         device_id: block.device_id,
@@ -185,7 +158,7 @@ fn block_record(block: &Ivhd) -> IvrsUnit
         info: block.info,
         block_type: block.kind,
         flags: block.flags,
-        has_extended_features,
+        has_extended_features: block.extended_features.is_some() as u8,
     }
 }
 
@@ -199,23 +172,11 @@ pub fn ivrs_memory(
 {
     let memory = Mapped::new(source.regions);
     let ivrs = first::<Ivrs>(&memory, source)?;
-    fill_memory(ivrs.bytes(), device_id, out)
-}
-
-/// The memory that has its own rules for a device in an IVRS' bytes.
-fn fill_memory(table: &[u8], device_id: u16, out: &mut [IvrsMemory]) -> Result<usize, Refusal>
-    ensures { Fills result out.old out.new (ivrs_memory_in table.now device_id) }
-{
-    let ranges = IvrsBlocks::over(table).memory_for(device_id)?;
+    let ranges = IvrsBlocks::over(ivrs.bytes()).memory_for(device_id)?;
     Ok(fill(ranges, &(), out))
 }
 
 impl Listing<(), IvrsMemory> for MemoryIter<'_> {
-    ghost use Rattle.std.specs.Prelude.{Some, map};
-    ghost use Rattle.acpi_iommu.specs.IvrsUnits.{memory_left};
-    ghost use Rattle.acpi_c_lib.specs.Iommu.{memory_record};
-    ghost use Rattle.acpi_c_lib.specs.Listed.{lists_each};
-
     ghost record_of = { λ known x. Some (memory_record x) };
 
     ghost left = { λ known s. map memory_record (memory_left s) };

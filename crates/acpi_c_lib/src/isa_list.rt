@@ -7,8 +7,7 @@ ghost use Rattle.acpi_base.specs.IsaOverrides.{IsGathered};
 ghost use Rattle.acpi_base.specs.Mapping.{bytes_of};
 ghost use Rattle.acpi_base.specs.Model.{io_apic_in, items_of, override_in};
 ghost use Rattle.acpi_c_lib.specs.Answers.{result_map};
-ghost use Rattle.acpi_c_lib.specs.IsaList as list;
-ghost use Rattle.acpi_c_lib.specs.IsaList.{isa_list_below, nearer_of, number_of, route_of};
+ghost use Rattle.acpi_c_lib.specs.IsaList.{isa_list_below, isa_numbers, isa_route, nearer_of, no_pin, no_route, number_of, route_of};
 
 use crate::interrupt_records as records;
 use crate::interrupt_records::{Interrupt, IoApicPin, IsaInterrupts, IsaRoute};
@@ -36,7 +35,7 @@ pub fn isa_list(source: &Source<'_>, out: &mut IsaInterrupts) -> Result<(), Refu
 /// Writes those of a MADT that describes APICs.
 fn write_routes<H: Lender>(madt: &PhysicalMapping<'_, H, Madt>, routes: &mut [IsaRoute; 16])
     ensures { let items = items_of (bytes_of madt.now) in routes.new
-        ≡ map (list.isa_route (filter_map override_in items) (filter_map io_apic_in items)) list.isa_numbers }
+        ≡ map (isa_route (filter_map override_in items) (filter_map io_apic_in items)) isa_numbers }
 {
     write_interrupts(madt, routes);
     for item in madt.items() {
@@ -48,7 +47,7 @@ fn write_routes<H: Lender>(madt: &PhysicalMapping<'_, H, Madt>, routes: &mut [Is
 
 /// Writes each ISA interrupt, without its pin.
 fn write_interrupts<H: Lender>(madt: &PhysicalMapping<'_, H, Madt>, routes: &mut [IsaRoute; 16])
-    ensures { (irq : ℕ) → irq < 16 → slice_index_or routes.new irq list.no_route
+    ensures { (irq : ℕ) → irq < 16 → slice_index_or routes.new irq no_route
         ≡ route_of (isa_interrupt (filter_map override_in (items_of (bytes_of madt.now))) irq) None }
 {
     let gathered = overrides_in(madt);
@@ -73,8 +72,8 @@ pub(crate) fn overrides_in<H: Lender>(madt: &PhysicalMapping<'_, H, Madt>) -> Is
 /// Of each interrupt, the pin of this I/O APIC if it is nearer than the one so far.
 fn meet_all(routes: &mut [IsaRoute; 16], io_apic: &IoApic)
     ensures { (irq : ℕ) → irq < 16 → (interrupt : _) (found : _)
-        → slice_index_or routes.old irq list.no_route ≡ route_of interrupt found
-        → slice_index_or routes.new irq list.no_route
+        → slice_index_or routes.old irq no_route ≡ route_of interrupt found
+        → slice_index_or routes.new irq no_route
         ≡ route_of interrupt (nearer_of (number_of interrupt) found io_apic.now) }
 {
     for irq in 0..16 {
@@ -122,7 +121,7 @@ fn without_pin(interrupt: Option<IsaInterrupt>) -> IsaRoute
 
 /// What stands for an interrupt that there isn't.
 fn no_route() -> IsaRoute
-    ensures { result ≡ list.no_route }
+    ensures { result ≡ no_route }
 {
     IsaRoute {
         interrupt: Interrupt {
@@ -137,7 +136,7 @@ fn no_route() -> IsaRoute
 }
 
 fn no_pin() -> IoApicPin
-    ensures { result ≡ list.no_pin }
+    ensures { result ≡ no_pin }
 {
     IoApicPin {
         io_apic: records::IoApic {

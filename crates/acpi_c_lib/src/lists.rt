@@ -1,7 +1,8 @@
 //! How a list is written for C: as many records as there is room for are written, and all of them are counted.
-ghost use Rattle.std.specs.Prelude.{◌≡◌, ◌+◌, ◌^◌, ◌<◌, length, slice_set};
+ghost use Rattle.std.specs.Prelude.{◌≡◌, ◌+◌, ◌^◌, ◌<◌, length, slice_set, List, Option};
 ghost use Rattle.std.specs.Iterator.{IsFinite};
 ghost use Rattle.acpi_c_lib.specs.Answers.{Writes, put_from};
+ghost use Rattle.acpi_c_lib.specs.Listed.{ListsFirst};
 
 /// Writes an item at an index, if there is room.
 pub(crate) fn put<T: Copy>(out: &mut [T], index: usize, item: T)
@@ -14,9 +15,6 @@ pub(crate) fn put<T: Copy>(out: &mut [T], index: usize, item: T)
 
 /// A walk along items of the library's, some of which have a record for C, by what else is to be known.
 pub(crate) trait Listing<C, R>: Iterator {
-    ghost use Rattle.std.specs.Prelude.{◌≡◌, List, Option};
-    ghost use Rattle.acpi_c_lib.specs.Listed.{ListsFirst};
-
     // The record of an item, if it has one.
     ghost record_of: { C → Self.Item → Option R };
 

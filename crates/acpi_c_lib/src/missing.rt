@@ -8,17 +8,16 @@ ghost use Rattle.acpi_base.specs.Table.{own_table_at, plain_kind, table_at};
 ghost use Rattle.acpi_base.specs.declared.error.AcpiError.TheVariants.{MapFailed};
 ghost use Rattle.acpi_base.specs.declared.table.signature.Signature.{Signature};
 ghost use Rattle.acpi.specs.Opened.{opened_by_rsdp, opened_by_search, opened_from};
-ghost use Rattle.acpi.specs.OpenedRanges.{opened_by_rsdp_ranges, opened_by_search_ranges, opened_ranges};
-ghost use Rattle.acpi.specs.OpenedRanges.{search_ranges};
+ghost use Rattle.acpi.specs.OpenedRanges.{opened_by_rsdp_ranges, opened_by_search_ranges, opened_ranges, search_ranges};
 ghost use Rattle.acpi.specs.Places.{dsdt_place, dsdt_place_ranges, facs_place, facs_place_ranges};
 ghost use Rattle.acpi.specs.Pointers.{pointers_left};
 ghost use Rattle.acpi.specs.Rsdp.{root_of};
 ghost use Rattle.acpi.specs.Search.{found_rsdp, room_of, second_area};
 ghost use Rattle.acpi_c_lib.specs.Answers.{Fills, items_said, put_from, result_map};
 ghost use Rattle.acpi_c_lib.specs.Below.{opened_as_lent, opened_in};
-ghost use Rattle.acpi_c_lib.specs.Missing.{hole, last_range, member_hole, missing_below, missing_in};
-ghost use Rattle.acpi_c_lib.specs.Missing.{opened_as_lent_ranges, opening_ranges, range_of};
+ghost use Rattle.acpi_c_lib.specs.Missing.{hole, last_range, member_hole, missing_below, missing_in, opened_as_lent_ranges, opening_ranges, range_of};
 ghost use Rattle.acpi_c_lib.specs.declared.refusal.Refusal.TheVariants.{Acpi};
+ghost use Rattle.acpi_c_lib.specs.Listed.{lists_some};
 
 use crate::candidates::candidate_holes;
 use crate::lists::{Listing, fill_from, put};
@@ -93,9 +92,6 @@ fn fill<H: AcpiHandler>(
 
 impl<H: AcpiHandler> Listing<H, Range> for Pointers<'_> {
     ghost use Rattle.std.specs.List.{filter_map};
-    ghost use Rattle.acpi.specs.Pointers.{pointers_left};
-    ghost use Rattle.acpi_c_lib.specs.Listed.{lists_some};
-    ghost use Rattle.acpi_c_lib.specs.Missing.{member_hole};
 
     ghost record_of = { λ handler p. member_hole (H.memory handler) p };
 

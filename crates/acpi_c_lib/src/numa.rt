@@ -1,9 +1,12 @@
 //! The domains that memory and processors are in, by the SRAT, and the distances between localities, by the SLIT.
-ghost use Rattle.std.specs.Prelude.{◌≡◌};
-ghost use Rattle.acpi_numa.specs.Affinities.{domain_at, ranges_of};
+ghost use Rattle.std.specs.Prelude.{◌≡◌, map};
+ghost use Rattle.std.specs.List.{filter_map};
+ghost use Rattle.std.specs.Option.{option_map};
+ghost use Rattle.acpi_numa.specs.Affinities.{domain_at, ranges_of, range_in};
+ghost use Rattle.acpi_numa.specs.SratWalk.{entries_left};
 ghost use Rattle.acpi_c_lib.specs.Answers.{Fills, GivesSome};
-ghost use Rattle.acpi_c_lib.specs.Numa.{IsLocalities, affinities_below, distance_below, slit_in};
-ghost use Rattle.acpi_c_lib.specs.Numa.{domain_of_address_below, domain_of_apic_below, domain_of_processor_below};
+ghost use Rattle.acpi_c_lib.specs.Numa.{IsLocalities, affinities_below, distance_below, slit_in, numa_refusal, affinity_record, domain_of_address_below, domain_of_apic_below, domain_of_processor_below};
+ghost use Rattle.acpi_c_lib.specs.Listed.{lists_found};
 
 use crate::lists::{Listing, fill};
 use crate::numa_records::{Localities, MemoryAffinity};
@@ -15,8 +18,6 @@ use acpi_numa::srat::{SratEntry, SratEntryIter, affinities_count};
 use acpi_numa::{Domains, NumaError, Slit, SlitCalls, Srat, SratCalls};
 
 impl From<NumaError> for Refusal {
-    ghost use Rattle.acpi_c_lib.specs.Numa.{numa_refusal};
-
     ghost from_gives = { λ error e. e ≡ numa_refusal error };
 
     fn from(error: NumaError) -> Refusal {
@@ -40,14 +41,6 @@ pub fn affinities(source: &Source<'_>, out: &mut [MemoryAffinity]) -> Result<usi
 }
 
 impl Listing<(), MemoryAffinity> for SratEntryIter<'_> {
-    ghost use Rattle.std.specs.Prelude.{map};
-    ghost use Rattle.std.specs.List.{filter_map};
-    ghost use Rattle.std.specs.Option.{option_map};
-    ghost use Rattle.acpi_numa.specs.Affinities.{range_in};
-    ghost use Rattle.acpi_numa.specs.SratWalk.{entries_left};
-    ghost use Rattle.acpi_c_lib.specs.Listed.{lists_found};
-    ghost use Rattle.acpi_c_lib.specs.Numa.{affinity_record};
-
     ghost record_of = { λ known x. option_map affinity_record (range_in x) };
 
     ghost left = { λ known s. map affinity_record (filter_map range_in (entries_left s)) };

@@ -1,10 +1,11 @@
 //! PCI configuration space.
-ghost use Rattle.std.specs.Prelude.{◌≡◌, ◌≤◌, IfSome};
+ghost use Rattle.std.specs.Prelude.{◌≡◌, ◌≤◌, IfSome, Some, map};
 ghost use Rattle.acpi_base.specs.Mcfg.{mcfg_entries_left};
 ghost use Rattle.acpi.specs.Ecam.{ecam_address};
 ghost use Rattle.acpi.specs.Pci.{region_of};
 ghost use Rattle.acpi_c_lib.specs.Answers.{Fills};
-ghost use Rattle.acpi_c_lib.specs.Shown.{ecam_below, ecam_ranges_below, pci_regions_below, span_record};
+ghost use Rattle.acpi_c_lib.specs.Shown.{ecam_below, ecam_ranges_below, pci_regions_below, span_record, pci_record, ecam_record};
+ghost use Rattle.acpi_c_lib.specs.Listed.{lists_each};
 
 use crate::fixed_records::EcamRange;
 use crate::lists::{Listing, fill};
@@ -25,10 +26,6 @@ pub fn pci_regions(source: &Source<'_>, out: &mut [PciRegion]) -> Result<usize, 
 }
 
 impl Listing<(), PciRegion> for McfgEntryIter<'_> {
-    ghost use Rattle.std.specs.Prelude.{Some, map};
-    ghost use Rattle.acpi_c_lib.specs.Listed.{lists_each};
-    ghost use Rattle.acpi_c_lib.specs.Shown.{pci_record};
-
     ghost record_of = { λ known x. Some (pci_record x) };
 
     ghost left = { λ known s. map pci_record (mcfg_entries_left s) };
@@ -64,20 +61,6 @@ fn region_for(entries: McfgEntryIter<'_>, segment: u16, bus: u8) -> Option<McfgE
     None
 }
 
-/// A function's place in one of the regions, by bus 0.
-fn ecam_in(
-    entries: McfgEntryIter<'_>,
-    segment: u16,
-    bus: u8,
-    device: u8,
-    function: u8,
-) -> Option<u64>
-    ensures { result ≡ ecam_address (mcfg_entries_left entries.entry) segment bus device function }
-{
-    let region = region_for(entries, segment, bus)?;
-    region.ecam_address(bus, device, function)
-}
-
 /// The physical address of a PCI function's configuration space, with a region's base as that of bus 0.
 pub fn ecam_address(
     source: &Source<'_>,
@@ -90,7 +73,9 @@ pub fn ecam_address(
 {
     let memory = Mapped::new(source.regions);
     let mcfg = first::<Mcfg>(&memory, source)?;
-    ecam_in(mcfg.entries(), segment, bus, device, function).ok_or(Refusal::NoSuchFunction)
+    let region = region_for(mcfg.entries(), segment, bus).ok_or(Refusal::NoSuchFunction)?;
+    let address = region.ecam_address(bus, device, function);
+    address.ok_or(Refusal::NoSuchFunction)
 }
 
 /// Lists the memory that each region of PCI configuration space takes, by the first valid MCFG.
@@ -103,10 +88,6 @@ pub fn ecam_ranges(source: &Source<'_>, out: &mut [EcamRange]) -> Result<usize, 
 }
 
 impl Listing<(), EcamRange> for McfgEntryIter<'_> {
-    ghost use Rattle.std.specs.Prelude.{Some, map};
-    ghost use Rattle.acpi_c_lib.specs.Listed.{lists_each};
-    ghost use Rattle.acpi_c_lib.specs.Shown.{ecam_record};
-
     ghost record_of = { λ known x. Some (ecam_record x) };
 
     ghost left = { λ known s. map ecam_record (mcfg_entries_left s) };

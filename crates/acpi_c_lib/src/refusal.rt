@@ -1,51 +1,33 @@
 //! Why a call refuses, the number that C gets for it, and the signature that it carries.
 ghost use Rattle.std.specs.Prelude.{◌≡◌};
 ghost use Rattle.acpi_c_lib.specs.Codes as codes;
+ghost use Rattle.acpi_c_lib.specs.declared.refusal.Refusal.TheVariants.{Acpi, Writer};
 
 use acpi::sdt::Signature;
 use acpi::{AcpiError, MadtError};
 use acpi_writer::WriterError;
 
-/// Why a call refuses.
+/// Why a call refuses. What each means is said once, at `enum zacpi_refusal` of `include/zacpi.h`.
 #[derive(Clone, Copy)]
 pub enum Refusal {
-    /// A region begins below the end of the one before it.
     RegionsNotAscending,
-    /// The address after a region's last byte is above 2^64 - 1.
     RegionTooHigh,
-    /// No region of configuration space holds this PCI function.
     NoSuchFunction,
-    /// No start of tables has this number.
     UnknownStart,
-    /// The address after a range's last byte is above 2^64 - 1.
     RangeTooHigh,
-    /// No valid MADT has an entry of a machine with APICs (section 5.2.12).
     NoApics,
-    /// No interrupt of the ISA bus has this number, or an override has taken its number (section 5.2.12.5).
     NoSuchInterrupt,
-    /// No I/O APIC has this global system interrupt (section 5.2.13).
     NoSuchIoApic,
-    /// Bytes of the SRAT are left in which no entry begins (section 5.2.16).
     InvalidSratEntryLength,
-    /// The address after a range of memory in the SRAT is above 2^64 - 1 (section 5.2.16.2).
     InvalidMemoryRange,
-    /// The MADT describes no distributor of a GIC (section 5.2.12.15).
     NoGic,
-    /// The SRAT puts the address or the processor into no domain (section 5.2.16).
     NoDomain,
-    /// The SLIT has no distance of these two localities (section 5.2.17).
     NoDistance,
-    /// The numbers at an entry's front don't have one or two bytes each.
     UnknownWidth,
-    /// Bytes of the DMAR or the IVRS are left in which no structure, scope, block or entry begins.
     InvalidIommuStructureLength,
-    /// A range of the DMAR ends before it begins, or one of the IVRS ends above 2^64 - 1.
     InvalidIommuMemoryRange,
-    /// The DMAR or the IVRS has no unit for the device.
     NoIommu,
-    /// A polarity, trigger mode or LINT pin of a record has a number that stands for none.
     UnknownCode,
-    /// A table is of a kind that there isn't, or without its record.
     UnknownTable,
     /// The error is one of a table that is written.
     Writer(WriterError),
@@ -54,8 +36,6 @@ pub enum Refusal {
 }
 
 impl From<AcpiError> for Refusal {
-    ghost use Rattle.acpi_c_lib.specs.declared.refusal.Refusal.TheVariants.{Acpi};
-
     ghost from_gives = { λ error e. e ≡ Acpi error };
 
     fn from(error: AcpiError) -> Refusal {
@@ -64,8 +44,6 @@ impl From<AcpiError> for Refusal {
 }
 
 impl From<WriterError> for Refusal {
-    ghost use Rattle.acpi_c_lib.specs.declared.refusal.Refusal.TheVariants.{Writer};
-
     ghost from_gives = { λ error e. e ≡ Writer error };
 
     fn from(error: WriterError) -> Refusal {

@@ -1,12 +1,13 @@
 //! Physical memory, as a kernel has it mapped.
-ghost use Rattle.std.specs.Prelude.{◌≡◌, length, IfOk};
+ghost use Rattle.std.specs.Prelude.{◌≡◌, length, IfOk, ◌-◌, IfSome, IfNone, drop, true, false, ◌^◌, ◌<◌, ◌≤◌, IfErr};
 ghost use Rattle.std.specs.Option.{option_map};
 ghost use Rattle.acpi_base.specs.Bytes.{IsBytes};
-ghost use Rattle.acpi_base.specs.Memory.{IsMemory, IsMemory-prop, rest_from};
+ghost use Rattle.acpi_base.specs.Memory.{IsMemory, IsMemory-prop, rest_from, end_of, lies_in};
 ghost use Rattle.acpi_base.specs.Steps.{Gives};
 ghost use Rattle.acpi.specs.Regions.{IsAscending, IsAscending-prop};
 ghost use Rattle.acpi_c_lib.specs.Located.{LiesOnlyAt, located, spot_from};
-ghost use Rattle.acpi_c_lib.specs.Regions.{check_regions, memory_of, region_of};
+ghost use Rattle.acpi_c_lib.specs.Regions.{check_regions, memory_of, region_of, memory_in};
+ghost use Rattle.acpi_c_lib.specs.declared.refusal.Refusal.TheVariants.{RegionTooHigh};
 
 use crate::records::Place;
 use crate::refusal::Refusal;
@@ -23,11 +24,6 @@ pub struct Region<'k> {
 }
 
 impl<'k> Region<'k> {
-    ghost use Rattle.std.specs.Prelude.{◌-◌, IfSome, IfNone, drop, true, false};
-    ghost use Rattle.std.specs.Prelude.{◌^◌, ◌<◌, ◌≤◌, IfErr};
-    ghost use Rattle.acpi_base.specs.Memory.{end_of, lies_in};
-    ghost use Rattle.acpi_c_lib.specs.declared.refusal.Refusal.TheVariants.{RegionTooHigh};
-
     /// The address after its last byte.
     ///
     /// Fails with `RegionTooHigh` if that is 2^64 or above.
@@ -46,7 +42,7 @@ impl<'k> Region<'k> {
     }
 
     /// The bytes from an address on, if it lies in this region.
-    #[tactic(auto, using(crate::proofs::Ascending::is_inside, crate::proofs::Ascending::is_above, crate::proofs::Ascending::is_below))]
+    #[tactic(auto, using(std::proofs::lemmas::Bool::Decides::nat_tests))]
     fn rest(&self, address: u64) -> Option<&'k [u8]>
         ensures inside { IfSome result (λ s. lies_in (region_of self.now) address ≡ true) }
         ensures bytes { IfSome result
@@ -153,7 +149,6 @@ pub(crate) struct Mapped<'k> {
 }
 
 impl<'k> Mapped<'k> {
-    ghost use Rattle.acpi_c_lib.specs.Regions.{memory_in};
     ghost use Rattle.acpi_c_lib.specs.Held.{mapped_memory};
 
     /// The memory of these regions.

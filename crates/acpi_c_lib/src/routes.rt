@@ -1,12 +1,10 @@
 //! How interrupts come to the I/O APICs, by walks along the entries of the MADT.
 ghost use Rattle.std.specs.Prelude.{◌≡◌, ◌≤◌, IfSome};
 ghost use Rattle.std.specs.List.{filter_map};
-ghost use Rattle.acpi_base.specs.Isa.{isa_interrupt, sci_interrupt};
 ghost use Rattle.acpi_base.specs.Mapping.{bytes_of};
-ghost use Rattle.acpi_base.specs.Model.{io_apic_in, items_of, override_in};
+ghost use Rattle.acpi_base.specs.Model.{io_apic_in, items_of};
 ghost use Rattle.acpi_base.specs.Pin.{base_of, nearest};
-ghost use Rattle.acpi_c_lib.specs.Routes as routes;
-ghost use Rattle.acpi_c_lib.specs.Routes.{is_nearer, isa_below, pin_below, sci_below};
+ghost use Rattle.acpi_c_lib.specs.Routes.{interrupt_record, is_nearer, isa_below, pin_below, sci_below};
 
 use crate::interrupt_records::{Interrupt, IoApicPin};
 use crate::interrupts::{apic_madt, io_apic_record, known_madt};
@@ -26,7 +24,10 @@ pub fn isa(source: &Source<'_>, irq: u8) -> Result<Interrupt, Refusal>
 {
     let memory = Mapped::new(source.regions);
     let found = known_madt(&memory, source)?;
-    let interrupt = isa_in(&found.madt, irq).ok_or(Refusal::NoSuchInterrupt)?;
+    let overrides = overrides_in(&found.madt);
+    let interrupt = overrides
+        .isa_interrupt(irq)
+        .ok_or(Refusal::NoSuchInterrupt)?;
     Ok(interrupt_record(interrupt))
 }
 
@@ -39,7 +40,8 @@ pub fn sci(source: &Source<'_>) -> Result<Interrupt, Refusal>
     let found = apic_madt(&tables)?;
     let fadt = tables.find_fadt()?;
     let found = found.ok_or(Refusal::NoApics)?;
-    Ok(interrupt_record(sci_in(&found.madt, fadt.sci_interrupt())))
+    let overrides = overrides_in(&found.madt);
+    Ok(interrupt_record(overrides.sci_interrupt(fadt.sci_interrupt())))
 }
 
 /// The I/O APIC that a global system interrupt comes to, and the pin there.
@@ -56,27 +58,13 @@ pub fn pin(source: &Source<'_>, interrupt: u32) -> Result<IoApicPin, Refusal>
 }
 
 pub(crate) fn interrupt_record(interrupt: IsaInterrupt) -> Interrupt
-    ensures { result ≡ routes.interrupt_record interrupt }
+    ensures { result ≡ interrupt_record interrupt }
 {
     Interrupt {
         global_system_interrupt: interrupt.global_system_interrupt,
         polarity: interrupt.polarity.code(),
         trigger: interrupt.trigger_mode.code(),
     }
-}
-
-/// What `Apic::isa_interrupt` answers, out of the entries.
-fn isa_in<H: Lender>(madt: &PhysicalMapping<'_, H, Madt>, irq: u8) -> Option<IsaInterrupt>
-    ensures { result ≡ isa_interrupt (filter_map override_in (items_of (bytes_of madt.now))) irq }
-{
-    overrides_in(madt).isa_interrupt(irq)
-}
-
-/// What `Apic::sci_interrupt` answers, out of the entries.
-fn sci_in<H: Lender>(madt: &PhysicalMapping<'_, H, Madt>, sci: u16) -> IsaInterrupt
-    ensures { result ≡ sci_interrupt (filter_map override_in (items_of (bytes_of madt.now))) sci }
-{
-    overrides_in(madt).sci_interrupt(sci)
 }
 
 /// The first I/O APIC of the greatest base that is at most the interrupt.

@@ -1,8 +1,10 @@
 //! The tables that the root table lists.
 ghost use Rattle.std.specs.Prelude.{◌≡◌};
 ghost use Rattle.acpi_base.specs.Mapping.{bytes_of, start_of};
+ghost use Rattle.acpi.specs.Pointers.{pointers_left};
 ghost use Rattle.acpi_c_lib.specs.Answers.{Fills};
-ghost use Rattle.acpi_c_lib.specs.Shown.{dsdt_below, signature_named, table_below, table_record, tables_below};
+ghost use Rattle.acpi_c_lib.specs.Shown.{dsdt_below, signature_named, table_below, table_record, tables_below, table_in, tables_in};
+ghost use Rattle.acpi_c_lib.specs.Listed.{lists_some};
 
 use crate::lists::{Listing, fill};
 use crate::opening::open;
@@ -26,10 +28,6 @@ pub(crate) fn entry<H: AcpiHandler>(table: &PhysicalMapping<'_, H, SdtHeader>) -
 }
 
 impl<H: AcpiHandler> Listing<H, Table> for Pointers<'_> {
-    ghost use Rattle.acpi.specs.Pointers.{pointers_left};
-    ghost use Rattle.acpi_c_lib.specs.Listed.{lists_some};
-    ghost use Rattle.acpi_c_lib.specs.Shown.{table_in, tables_in};
-
     ghost record_of = { λ handler p. table_in (H.memory handler) p };
 
     ghost left = { λ handler s. tables_in (H.memory handler) (pointers_left s) };

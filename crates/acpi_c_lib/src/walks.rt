@@ -1,9 +1,13 @@
 //! Walks along the members of the root table: all tables of a signature, SSDTs, and the memory that the
 //! tables take.
-ghost use Rattle.std.specs.Prelude.{◌≡◌};
+ghost use Rattle.std.specs.Prelude.{◌≡◌, Some, map};
 ghost use Rattle.acpi.specs.Pointers.{pointers_left};
+ghost use Rattle.acpi.specs.Placed.{places_left};
+ghost use Rattle.acpi.specs.Walks.{ssdts_left};
 ghost use Rattle.acpi_c_lib.specs.Answers.{Fills};
-ghost use Rattle.acpi_c_lib.specs.Walked.{nth_below, nth_in, ranges_below, ssdts_below};
+ghost use Rattle.acpi_c_lib.specs.Walked.{nth_below, nth_in, ranges_below, ssdts_below, range_record};
+ghost use Rattle.acpi_c_lib.specs.Listed.{lists_each};
+ghost use Rattle.acpi_c_lib.specs.Shown.{aml_record};
 
 use crate::lists::{Listing, fill};
 use crate::opening::open;
@@ -59,11 +63,6 @@ pub fn ssdts(source: &Source<'_>, out: &mut [records::AmlTable]) -> Result<usize
 }
 
 impl<H: Lender> Listing<(), records::AmlTable> for SsdtIterator<'_, '_, H> {
-    ghost use Rattle.std.specs.Prelude.{Some, map};
-    ghost use Rattle.acpi.specs.Walks.{ssdts_left};
-    ghost use Rattle.acpi_c_lib.specs.Listed.{lists_each};
-    ghost use Rattle.acpi_c_lib.specs.Shown.{aml_record};
-
     ghost record_of = { λ known x. Some (aml_record x) };
 
     ghost left = { λ known s. map aml_record (ssdts_left H.memory s) };
@@ -90,11 +89,6 @@ pub fn ranges(source: &Source<'_>, out: &mut [Range]) -> Result<usize, Refusal>
 }
 
 impl<H: Lender> Listing<(), Range> for TableRanges<'_, '_, H> {
-    ghost use Rattle.std.specs.Prelude.{Some, map};
-    ghost use Rattle.acpi.specs.Placed.{places_left};
-    ghost use Rattle.acpi_c_lib.specs.Listed.{lists_each};
-    ghost use Rattle.acpi_c_lib.specs.Walked.{range_record};
-
     ghost record_of = { λ known x. Some (range_record x) };
 
     ghost left = { λ known s. map range_record (places_left H.memory s) };

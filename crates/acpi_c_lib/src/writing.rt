@@ -1,9 +1,9 @@
 //! Tables that are written for C, from its records, as `acpi_writer` writes them.
-ghost use Rattle.std.specs.Prelude.{◌≡◌, length, take};
-ghost use Rattle.acpi_base.specs.Steps.{Gives, holds};
+ghost use Rattle.std.specs.Prelude.{◌≡◌};
+ghost use Rattle.acpi_c_lib.specs.Answers.{AnswersPlain};
 ghost use Rattle.acpi_c_lib.specs.Writing as writing;
-ghost use Rattle.acpi_c_lib.specs.declared.refusal.Refusal.TheVariants.{UnknownCode};
-ghost use Rattle.acpi_writer.specs.Table.{Keeps};
+ghost use Rattle.acpi_writer.specs.McfgBytes.{mcfg_entry};
+ghost use Rattle.acpi_writer.specs.McfgLaws.{FitsMcfg};
 
 mod bgrt;
 mod fadt;
@@ -20,35 +20,18 @@ use crate::refusal::Refusal;
 use acpi::HpetInfo;
 use acpi::hpet::PageProtection;
 use acpi_base::mcfg::McfgEntry;
-use acpi_writer::mcfg::write_mcfg_of;
+use acpi_writer::WriterError;
 use acpi_writer::spelled::Spelled;
-use acpi_writer::{TableIds, WriterError};
 pub use acpi_writer::{
-    write_dsdt, write_facs, write_hpet, write_rsdp, write_rsdt, write_slit, write_ssdt, write_xsdt,
+    write_dsdt, write_facs, write_rsdp, write_rsdt, write_slit, write_ssdt, write_xsdt,
 };
-pub use bgrt::write_bgrt;
-pub use fadt::write_fadt;
-pub use gic::write_gic_madt;
-pub use gtdt::write_gtdt;
-pub use machine::{dsdt_place, tables_size, write_tables, write_tables_without_rsdp};
-pub use madt::write_madt;
-pub use spcr::write_spcr;
-pub use srat::write_srat;
-
-/// Whether all codes are those that there are, as a check.
-fn known(has_codes: bool) -> Result<(), Refusal>
-    ensures { result ≡ holds has_codes UnknownCode }
-{
-    if has_codes {
-        Ok(())
-    } else {
-        Err(Refusal::UnknownCode)
-    }
-}
+pub use machine::{
+    Contents, dsdt_place, tables_size, write_contents, write_tables, write_tables_without_rsdp,
+};
 
 /// The number that C gets: 0, with the length of the table, or that of the error.
 pub fn written(said: Result<usize, WriterError>, length: &mut usize) -> u32
-    ensures { writing.SaysLength result length.old length.new (writing.writer_refused said) }
+    ensures { AnswersPlain result length.old length.new (writing.writer_refused said) }
 {
     match said {
         Ok(count) => answer_plain(Ok(count), length),
@@ -58,7 +41,7 @@ pub fn written(said: Result<usize, WriterError>, length: &mut usize) -> u32
 
 impl records::HpetInfo {
     /// The block of event timers, as the writer has it. A protection of 3 and above is a reserved one.
-    pub fn info(&self) -> HpetInfo
+    fn info(&self) -> HpetInfo
         ensures { result ≡ writing.hpet_info_of self.now }
     {
         HpetInfo {
@@ -91,13 +74,9 @@ impl PciRegion {
 }
 
 impl Spelled for PciRegion {
-    ghost use Rattle.acpi_c_lib.specs.Writing.{region_of};
-    ghost use Rattle.acpi_writer.specs.McfgBytes.{mcfg_entry};
-    ghost use Rattle.acpi_writer.specs.McfgLaws.{FitsMcfg};
+    ghost spelled = { λ r. mcfg_entry (writing.region_of r) };
 
-    ghost spelled = { λ r. mcfg_entry (region_of r) };
-
-    ghost fits = { λ r. FitsMcfg (region_of r) };
+    ghost fits = { λ r. FitsMcfg (writing.region_of r) };
 
     fn measure(&self, room: usize) -> Option<usize> {
         self.region().measure(room)
@@ -106,17 +85,4 @@ impl Spelled for PciRegion {
     fn put(&self, out: &mut [u8]) {
         self.region().put(out);
     }
-}
-
-/// Writes an MCFG of regions of PCI configuration space.
-pub fn write_regions(
-    out: &mut [u8],
-    ids: &TableIds,
-    regions: &[PciRegion],
-) -> Result<usize, WriterError>
-    ensures exact { Gives (λ n. take n out.new) result
-        (writing.regions_written (length out.old) ids.now regions.now) }
-    ensures keeps { Keeps result out.old out.new }
-{
-    write_mcfg_of(out, ids, regions)
 }

@@ -30,7 +30,7 @@ pub(crate) fn check_all<T: Checked>(xs: &[T]) -> Result<(), WriterError>
 }
 
 /// Returns an error if something doesn't hold.
-pub(crate) fn require(holds: bool, error: WriterError) -> Result<(), WriterError>
+pub fn require<E: Copy>(holds: bool, error: E) -> Result<(), E>
     ensures { result ≡ steps.holds holds error }
 {
     if holds { Ok(()) } else { Err(error) }

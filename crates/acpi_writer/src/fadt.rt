@@ -22,6 +22,7 @@ use acpi_base::Signature;
 use acpi_fixed::fadt::{GpeBlock, PowerProfile};
 pub use contents::{FadtContents, FadtHardware, FixedHardware, LegacyFields};
 pub use features::{ArmBootFeatures, FixedFeatures, PcBootFeatures};
+pub use parts::profile_code;
 use parts::{Features, Head, Lengths, OtherPorts, Pm1Ports, Wide, fixed_of, gpe_register};
 use registers::Registers;
 

@@ -7,8 +7,8 @@ use crate::numbers::qword;
 use crate::spelled::Spelled;
 use acpi_base::address::{AccessSize, AddressSpace, GenericAddress};
 
-/// The code of an address space.
-fn space_code(space: AddressSpace) -> u8
+/// The code of an address space: Address Space ID (section 5.2.3.2).
+pub fn space_code(space: AddressSpace) -> u8
     ensures { result ≡ space_code space }
 {
     match space {
@@ -28,8 +28,8 @@ fn space_code(space: AddressSpace) -> u8
     }
 }
 
-/// The code of an access size.
-fn size_code(size: AccessSize) -> u8
+/// The code of an access size: Access Size (section 5.2.3.2).
+pub fn size_code(size: AccessSize) -> u8
     ensures { result ≡ size_code size }
 {
     match size {

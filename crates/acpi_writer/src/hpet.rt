@@ -14,8 +14,8 @@ use acpi::HpetInfo;
 use acpi::hpet::PageProtection;
 use acpi_base::Signature;
 
-/// The number of a page protection.
-fn protection_code(protection: PageProtection) -> u8
+/// The number of a page protection (IA-PC HPET Specification): all reserved ones are 3.
+pub fn protection_code(protection: PageProtection) -> u8
     ensures { result ≡ bytes.protection_code protection }
 {
     match protection {

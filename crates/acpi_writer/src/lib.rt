@@ -12,7 +12,7 @@ pub mod error;
 pub mod facs;
 pub mod fadt;
 mod flags;
-mod generic;
+pub mod generic;
 pub mod gtdt;
 pub mod hpet;
 pub mod ids;
@@ -32,6 +32,7 @@ mod table;
 
 pub use aml::{write_dsdt, write_ssdt};
 pub use bgrt::{BgrtContents, BgrtOrientation, write_bgrt};
+pub use checked::require;
 pub use contents::{AmlContents, SlitContents, TableContents};
 pub use error::WriterError;
 pub use facs::{FacsContents, write_facs};

@@ -14,7 +14,7 @@ pub mod gic;
 use crate::checked::{Checked, require};
 use crate::error::WriterError;
 use crate::ids::TableIds;
-use crate::spelled::{Each, Spelled, Then};
+use crate::spelled::{Each, EachFor, StandsFor, Then};
 use crate::table::{checked_size, table_size, write_checked, write_table};
 use acpi_base::Signature;
 use acpi_base::model::{InterruptSourceOverride, IoApic, NmiLine, NmiProcessor, NmiSource};
@@ -88,7 +88,7 @@ fn lines_fit(lines: &[NmiLine]) -> bool
     lines.iter().all(|line| names_one(line.processor))
 }
 
-/// What a MADT is to say, as in `MadtContents`, by anything that is spelled as its entries.
+/// What a MADT is to say, as in `MadtContents`, by what stands for the things that are its entries.
 #[derive(Clone, Copy)]
 pub struct MadtLists<'a, P, I, O, S, L> {
     /// The physical address of each processor's local APIC.
@@ -111,20 +111,20 @@ pub struct MadtLists<'a, P, I, O, S, L> {
 
 /// All after the header of a MADT: the fixed fields, and the entries sort by sort.
 macro_rules! body_of {
-    ($contents:expr) => {{
+    ($contents:expr, $each:ident) => {{
         let fixed = Fixed {
             local_apic_address: $contents.local_apic_address,
             also_has_legacy_pics: $contents.also_has_legacy_pics,
         };
         let wakeup = Wakeup($contents.wakeup_mailbox);
         let nmis = Then(
-            Each($contents.nmi_sources),
-            Then(Each($contents.local_apic_nmi_lines), wakeup),
+            $each($contents.nmi_sources),
+            Then($each($contents.local_apic_nmi_lines), wakeup),
         );
-        let wirings = Then(Each($contents.interrupt_source_overrides), nmis);
-        let controllers = Then(Each($contents.io_apics), wirings);
+        let wirings = Then($each($contents.interrupt_source_overrides), nmis);
+        let controllers = Then($each($contents.io_apics), wirings);
         let address = AddressOverride($contents.local_apic_address);
-        let entries = Then(Each($contents.processors), Then(address, controllers));
+        let entries = Then($each($contents.processors), Then(address, controllers));
         Then(fixed, entries)
     }};
 }
@@ -132,48 +132,50 @@ macro_rules! body_of {
 /// Writes a MADT of revision 5 of these entries, whatever they say.
 ///
 /// Returns, in this order, `BadName`, `NoRoom` and `TooLong`, as `write_madt` does.
-pub fn write_madt_of<P: Spelled, I: Spelled, O: Spelled, S: Spelled, L: Spelled>(
+pub fn write_madt_of<P: StandsFor, I: StandsFor, O: StandsFor, S: StandsFor, L: StandsFor>(
     out: &mut [u8],
     ids: &TableIds,
     lists: &MadtLists<'_, P, I, O, S, L>,
 ) -> Result<usize, WriterError>
     ensures exact { let body = bytes.madt_body_of lists.now.local_apic_address
         lists.now.also_has_legacy_pics lists.now.wakeup_mailbox (record {
-          processors = flat_map P.spelled lists.now.processors.now;
-          io_apics = flat_map I.spelled lists.now.io_apics.now;
-          overrides = flat_map O.spelled lists.now.interrupt_source_overrides.now;
-          nmi_sources = flat_map S.spelled lists.now.nmi_sources.now;
-          nmi_lines = flat_map L.spelled lists.now.local_apic_nmi_lines.now;
+          processors = flat_map (λ x. P.Thing.spelled (P.thing_of x)) lists.now.processors.now;
+          io_apics = flat_map (λ x. I.Thing.spelled (I.thing_of x)) lists.now.io_apics.now;
+          overrides = flat_map (λ x. O.Thing.spelled (O.thing_of x)) lists.now.interrupt_source_overrides.now;
+          nmi_sources = flat_map (λ x. S.Thing.spelled (S.thing_of x)) lists.now.nmi_sources.now;
+          nmi_lines = flat_map (λ x. L.Thing.spelled (L.thing_of x)) lists.now.local_apic_nmi_lines.now;
         }) in
         Gives (λ n. take n out.new) result (table_written (length out.old) MADT 5 ids.now body)
         × IfOk result (λ n. IsTableOf MADT 5 ids.now body (take n out.new)) }
     ensures keeps { Keeps result out.old out.new }
     ensures fits { IfOk result (λ n. FitsAddress lists.now.local_apic_address
-        × All P.fits lists.now.processors.now × All I.fits lists.now.io_apics.now
-        × All O.fits lists.now.interrupt_source_overrides.now × All S.fits lists.now.nmi_sources.now
+        × All (λ x. P.Thing.fits (P.thing_of x)) lists.now.processors.now
+        × All (λ x. I.Thing.fits (I.thing_of x)) lists.now.io_apics.now
+        × All (λ x. O.Thing.fits (O.thing_of x)) lists.now.interrupt_source_overrides.now
+        × All (λ x. S.Thing.fits (S.thing_of x)) lists.now.nmi_sources.now
         × FitsMailbox lists.now.wakeup_mailbox) }
 {
-    let body = body_of!(lists);
+    let body = body_of!(lists, EachFor);
     write_table(out, Signature::MADT, 5, ids, &body)
 }
 
 /// How many bytes such a MADT has, or the first error of `write_madt_of` in a slice of any length.
-pub fn madt_size_of<P: Spelled, I: Spelled, O: Spelled, S: Spelled, L: Spelled>(
+pub fn madt_size_of<P: StandsFor, I: StandsFor, O: StandsFor, S: StandsFor, L: StandsFor>(
     ids: &TableIds,
     lists: &MadtLists<'_, P, I, O, S, L>,
 ) -> Result<usize, WriterError>
     ensures exact { result ≡ sized (table_written most MADT 5 ids.now
         (bytes.madt_body_of lists.now.local_apic_address
         lists.now.also_has_legacy_pics lists.now.wakeup_mailbox (record {
-          processors = flat_map P.spelled lists.now.processors.now;
-          io_apics = flat_map I.spelled lists.now.io_apics.now;
-          overrides = flat_map O.spelled lists.now.interrupt_source_overrides.now;
-          nmi_sources = flat_map S.spelled lists.now.nmi_sources.now;
-          nmi_lines = flat_map L.spelled lists.now.local_apic_nmi_lines.now;
+          processors = flat_map (λ x. P.Thing.spelled (P.thing_of x)) lists.now.processors.now;
+          io_apics = flat_map (λ x. I.Thing.spelled (I.thing_of x)) lists.now.io_apics.now;
+          overrides = flat_map (λ x. O.Thing.spelled (O.thing_of x)) lists.now.interrupt_source_overrides.now;
+          nmi_sources = flat_map (λ x. S.Thing.spelled (S.thing_of x)) lists.now.nmi_sources.now;
+          nmi_lines = flat_map (λ x. L.Thing.spelled (L.thing_of x)) lists.now.local_apic_nmi_lines.now;
         }))) }
     ensures short { IfOk result (λ n. n < 2 ^ 32) }
 {
-    let body = body_of!(lists);
+    let body = body_of!(lists, EachFor);
     table_size(Signature::MADT, 5, ids, &body)
 }
 
@@ -204,7 +206,7 @@ pub(crate) fn madt_size(ids: &TableIds, contents: &MadtContents<'_>) -> Result<u
     ensures short { IfOk result (λ n. n < 2 ^ 32) }
     ensures fits { IfOk result (λ n. AreFit contents.now) }
 {
-    let body = body_of!(contents);
+    let body = body_of!(contents, Each);
     checked_size(Signature::MADT, 5, ids, contents, &body)
 }
 
@@ -232,6 +234,6 @@ pub fn write_madt(
     // The numbers that were given fit, so that what was given is what is read (`tables_are_read`).
     ensures fits { IfOk result (λ n. IsMadt ids.now contents.now (take n out.new)) }
 {
-    let body = body_of!(contents);
+    let body = body_of!(contents, Each);
     write_checked(out, Signature::MADT, 5, ids, contents, &body)
 }

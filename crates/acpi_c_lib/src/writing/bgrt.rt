@@ -1,15 +1,9 @@
 //! The BGRT that is written for C (section 5.2.22), from the record as which C reads it.
-ghost use Rattle.std.specs.Prelude.{◌≡◌, length, take};
-ghost use Rattle.acpi_base.specs.Steps.{Gives};
-ghost use Rattle.acpi_c_lib.specs.Writing.{IsKeptOr};
+ghost use Rattle.std.specs.Prelude.{◌≡◌};
 ghost use Rattle.acpi_c_lib.specs.WrittenBgrt as written;
 
-use super::known;
 use crate::records::BootGraphic;
-use crate::refusal::Refusal;
-use crate::written_records::TableIds;
 use acpi_writer::bgrt::{BgrtContents, BgrtOrientation};
-use acpi_writer::write_bgrt as written_bgrt;
 
 /// The orientation of so many degrees. That of any other number isn't looked at.
 fn orientation(degrees: u16) -> BgrtOrientation
@@ -46,16 +40,4 @@ pub(crate) fn contents(graphic: &BootGraphic) -> BgrtContents
         image_address: graphic.address,
         image_offset: (graphic.x, graphic.y),
     }
-}
-
-/// Writes a BGRT of a record.
-///
-/// Returns `UnknownCode`, and then the errors of `acpi_writer::write_bgrt`, in its order.
-pub fn write_bgrt(out: &mut [u8], ids: &TableIds, graphic: &BootGraphic) -> Result<usize, Refusal>
-    ensures exact { Gives (λ n. take n out.new) result
-        (written.bgrt_said (length out.old) ids.now graphic.now) }
-    ensures keeps { IsKeptOr result out.old out.new }
-{
-    known(has_codes(graphic))?;
-    Ok(written_bgrt(out, ids, &contents(graphic))?)
 }

@@ -1,22 +1,19 @@
 //! The FADT that is written for C (section 5.2.9), from the record as which C reads it, and the FACS (section 5.2.10).
-ghost use Rattle.std.specs.Prelude.{◌≡◌, length, take};
-ghost use Rattle.acpi_base.specs.Steps.{Gives};
-ghost use Rattle.acpi_c_lib.specs.Writing.{IsKeptOr};
+ghost use Rattle.std.specs.Prelude.{◌≡◌};
+ghost use Rattle.acpi_fixed.specs.Fadt.{profile_for};
 ghost use Rattle.acpi_c_lib.specs.WrittenFadt as written;
 
-use super::known;
 use crate::fixed_records::{FixedHardware, GpeBlock};
 use crate::records;
 use crate::records::Register;
-use crate::refusal::Refusal;
-use crate::written_records::{FacsContents, TableIds};
+use crate::written_records::FacsContents;
 use acpi::fadt::PowerProfile;
 use acpi_base::address::{AccessSize, AddressSpace, GenericAddress};
 use acpi_base::bytes::has_bit;
+use acpi_writer::fadt;
 use acpi_writer::fadt::{
     ArmBootFeatures, FadtContents, FadtHardware, FixedFeatures, LegacyFields, PcBootFeatures,
 };
-use acpi_writer::{fadt, write_fadt as written_fadt};
 
 /// The space of a code. That of a reserved code isn't looked at.
 fn space(code: u8) -> AddressSpace
@@ -25,26 +22,13 @@ fn space(code: u8) -> AddressSpace
     AddressSpace::try_from(code).unwrap_or(AddressSpace::SystemMemory)
 }
 
-/// The access size of a code. That of a reserved code isn't looked at.
-fn access_size(code: u8) -> AccessSize
-    ensures { result ≡ written.access_size code }
-{
-    AccessSize::try_from(code).unwrap_or(AccessSize::Undefined)
-}
-
 fn is_space(code: u8) -> bool
     ensures { result ≡ written.is_space code }
 {
     AddressSpace::try_from(code).is_ok()
 }
 
-fn is_access_size(code: u8) -> bool
-    ensures { result ≡ written.is_access_size code }
-{
-    AccessSize::try_from(code).is_ok()
-}
-
-/// A register, as the writer has it.
+/// A register, as the writer has it. The access size of a reserved code isn't looked at.
 pub(crate) fn register(at: records::GenericAddress) -> GenericAddress
     ensures { result ≡ written.register at }
 {
@@ -52,7 +36,7 @@ pub(crate) fn register(at: records::GenericAddress) -> GenericAddress
         address_space: space(at.space),
         bit_width: at.bit_width,
         bit_offset: at.bit_offset,
-        access_size: access_size(at.access_size),
+        access_size: AccessSize::try_from(at.access_size).unwrap_or(AccessSize::Undefined),
         address: at.address,
     }
 }
@@ -84,7 +68,7 @@ fn gpe(given: GpeBlock) -> Option<acpi::fadt::GpeBlock>
 }
 
 fn profile(code: u8) -> PowerProfile
-    ensures { result ≡ written.profile_for code }
+    ensures { result ≡ profile_for code }
 {
     match code {
         0 => PowerProfile::Unspecified,
@@ -240,7 +224,9 @@ pub(crate) fn contents(h: &FixedHardware) -> FadtContents
 pub(crate) fn has_codes_at(given: Register) -> bool
     ensures { result ≡ written.has_codes_at given }
 {
-    given.present <= 1 && is_space(given.at.space) && is_access_size(given.at.access_size)
+    given.present <= 1
+        && is_space(given.at.space)
+        && AccessSize::try_from(given.at.access_size).is_ok()
 }
 
 /// Whether so is a block of general purpose events.
@@ -265,18 +251,6 @@ pub(crate) fn has_codes(h: &FixedHardware) -> bool
         && has_codes_at(h.sleep_status)
         && has_gpe_codes(h.gpe0_block)
         && has_gpe_codes(h.gpe1_block)
-}
-
-/// Writes a FADT of a record.
-///
-/// Returns `UnknownCode`, and then the errors of `acpi_writer::write_fadt`, in its order.
-pub fn write_fadt(out: &mut [u8], ids: &TableIds, fadt: &FixedHardware) -> Result<usize, Refusal>
-    ensures exact { Gives (λ n. take n out.new) result
-        (written.fadt_said (length out.old) ids.now fadt.now) }
-    ensures keeps { IsKeptOr result out.old out.new }
-{
-    known(has_codes(fadt))?;
-    Ok(written_fadt(out, ids, &contents(fadt))?)
 }
 
 impl FacsContents {

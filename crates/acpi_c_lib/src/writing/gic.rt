@@ -2,28 +2,27 @@
 ghost use Rattle.std.specs.Prelude.{◌≡◌, ◌&&◌, ◌^◌, ◌<◌, length, take, IfOk};
 ghost use Rattle.std.specs.List.{list_all};
 ghost use Rattle.acpi_base.specs.Steps.{Gives};
-ghost use Rattle.acpi_c_lib.specs.Writing.{IsKeptOr, is_wiring};
+ghost use Rattle.acpi_c_lib.specs.Writing.{is_wiring};
 ghost use Rattle.acpi_c_lib.specs.WrittenGic as written;
 ghost use Rattle.acpi_writer.specs.Contents.{most, sized};
 ghost use Rattle.acpi_writer.specs.Table.{Keeps};
 
-use super::known;
 use super::madt::{is_wiring, trigger};
 use crate::arm_records::{GicCpuInterface, GicDistributor, GicMsiFrame, GicTranslationService};
 use crate::records::Range;
-use crate::refusal::Refusal;
 use crate::written_records::{GicContents, TableIds};
 use acpi_arm::gic;
 use acpi_base::Signature;
 use acpi_writer::madt::Fixed;
-use acpi_writer::spelled::{Each, Spelled, Then};
-use acpi_writer::{WriterError, table_size, write_table};
+use acpi_writer::spelled::{EachFor, StandsFor, Then};
+use acpi_writer::{WriterError, require, table_size, write_table};
 
-impl GicDistributor {
-    /// The distributor, as the writer has it.
-    fn listed(&self) -> gic::GicDistributor
-        ensures { result ≡ written.distributor_of self.now }
-    {
+impl StandsFor for GicDistributor {
+    type Thing = gic::GicDistributor;
+
+    ghost thing_of = { written.distributor_of };
+
+    fn thing(&self) -> gic::GicDistributor {
         gic::GicDistributor {
             id: self.id,
             address: self.address,
@@ -34,21 +33,18 @@ impl GicDistributor {
 }
 
 /// TRBE Interrupt, of which 0 is none.
-fn trace(interrupt: u16) -> Option<u16>
-    ensures { result ≡ written.trace_of interrupt }
+fn trace(number: u16) -> Option<u16>
+    ensures { result ≡ written.trace_of number }
 {
-    if interrupt == 0 {
-        None
-    } else {
-        Some(interrupt)
-    }
+    if number == 0 { None } else { Some(number) }
 }
 
-impl GicCpuInterface {
-    /// The processor's interface, as the writer has it.
-    fn listed(&self) -> gic::GicCpuInterface
-        ensures { result ≡ written.cpu_interface_of self.now }
-    {
+impl StandsFor for GicCpuInterface {
+    type Thing = gic::GicCpuInterface;
+
+    ghost thing_of = { written.cpu_interface_of };
+
+    fn thing(&self) -> gic::GicCpuInterface {
         gic::GicCpuInterface {
             number: self.number,
             processor_uid: self.processor_uid,
@@ -72,25 +68,29 @@ impl GicCpuInterface {
     }
 }
 
-/// A range of redistributors, as the writer has it.
-fn redistributors(range: &Range) -> gic::GicRedistributors
-    ensures { result ≡ written.redistributors_of range.now }
-{
-    gic::GicRedistributors {
-        address: range.address,
-        length: if range.length <= 0xffffffff {
-            range.length as u32
-        } else {
-            0
-        },
+impl StandsFor for Range {
+    type Thing = gic::GicRedistributors;
+
+    ghost thing_of = { written.redistributors_of };
+
+    fn thing(&self) -> gic::GicRedistributors {
+        gic::GicRedistributors {
+            address: self.address,
+            length: if self.length <= 0xffffffff {
+                self.length as u32
+            } else {
+                0
+            },
+        }
     }
 }
 
-impl GicTranslationService {
-    /// The service, as the writer has it.
-    fn listed(&self) -> gic::GicTranslationService
-        ensures { result ≡ written.translation_service_of self.now }
-    {
+impl StandsFor for GicTranslationService {
+    type Thing = gic::GicTranslationService;
+
+    ghost thing_of = { written.translation_service_of };
+
+    fn thing(&self) -> gic::GicTranslationService {
         gic::GicTranslationService {
             id: self.id,
             address: self.address,
@@ -98,11 +98,12 @@ impl GicTranslationService {
     }
 }
 
-impl GicMsiFrame {
-    /// The frame, as the writer has it.
-    fn listed(&self) -> gic::GicMsiFrame
-        ensures { result ≡ written.msi_frame_of self.now }
-    {
+impl StandsFor for GicMsiFrame {
+    type Thing = gic::GicMsiFrame;
+
+    ghost thing_of = { written.msi_frame_of };
+
+    fn thing(&self) -> gic::GicMsiFrame {
         gic::GicMsiFrame {
             id: self.id,
             address: self.address,
@@ -115,91 +116,6 @@ impl GicMsiFrame {
                 })
             },
         }
-    }
-}
-
-impl Spelled for GicDistributor {
-    ghost use Rattle.acpi_c_lib.specs.WrittenGic.{distributor_of};
-    ghost use Rattle.acpi_writer.specs.GicMadt.{FitsDistributor, gicd_entry};
-
-    ghost spelled = { λ x. gicd_entry (distributor_of x) };
-
-    ghost fits = { λ x. FitsDistributor (distributor_of x) };
-
-    fn measure(&self, room: usize) -> Option<usize> {
-        self.listed().measure(room)
-    }
-
-    fn put(&self, out: &mut [u8]) {
-        self.listed().put(out);
-    }
-}
-
-impl Spelled for GicCpuInterface {
-    ghost use Rattle.acpi_c_lib.specs.WrittenGic.{cpu_interface_of};
-    ghost use Rattle.acpi_writer.specs.GicMadt.{FitsInterface, gicc_entry};
-
-    ghost spelled = { λ x. gicc_entry (cpu_interface_of x) };
-
-    ghost fits = { λ x. FitsInterface (cpu_interface_of x) };
-
-    fn measure(&self, room: usize) -> Option<usize> {
-        self.listed().measure(room)
-    }
-
-    fn put(&self, out: &mut [u8]) {
-        self.listed().put(out);
-    }
-}
-
-impl Spelled for Range {
-    ghost use Rattle.acpi_c_lib.specs.WrittenGic.{redistributors_of};
-    ghost use Rattle.acpi_writer.specs.GicMadt.{FitsRedistributors, gicr_entry};
-
-    ghost spelled = { λ x. gicr_entry (redistributors_of x) };
-
-    ghost fits = { λ x. FitsRedistributors (redistributors_of x) };
-
-    fn measure(&self, room: usize) -> Option<usize> {
-        redistributors(self).measure(room)
-    }
-
-    fn put(&self, out: &mut [u8]) {
-        redistributors(self).put(out);
-    }
-}
-
-impl Spelled for GicTranslationService {
-    ghost use Rattle.acpi_c_lib.specs.WrittenGic.{translation_service_of};
-    ghost use Rattle.acpi_writer.specs.GicMadt.{FitsService, its_entry};
-
-    ghost spelled = { λ x. its_entry (translation_service_of x) };
-
-    ghost fits = { λ x. FitsService (translation_service_of x) };
-
-    fn measure(&self, room: usize) -> Option<usize> {
-        self.listed().measure(room)
-    }
-
-    fn put(&self, out: &mut [u8]) {
-        self.listed().put(out);
-    }
-}
-
-impl Spelled for GicMsiFrame {
-    ghost use Rattle.acpi_c_lib.specs.WrittenGic.{msi_frame_of};
-    ghost use Rattle.acpi_writer.specs.GicMadt.{FitsFrame, msi_entry};
-
-    ghost spelled = { λ x. msi_entry (msi_frame_of x) };
-
-    ghost fits = { λ x. FitsFrame (msi_frame_of x) };
-
-    fn measure(&self, room: usize) -> Option<usize> {
-        self.listed().measure(room)
-    }
-
-    fn put(&self, out: &mut [u8]) {
-        self.listed().put(out);
     }
 }
 
@@ -228,16 +144,12 @@ fn are_short(ranges: &[Range]) -> bool
 fn check(contents: &GicContents<'_>) -> Result<(), WriterError>
     ensures { result ≡ written.gic_checked contents.now }
 {
-    if contents.cpu_interfaces.is_empty() {
-        return Err(WriterError::NoProcessor);
-    }
-    if !have_modes(contents.cpu_interfaces) {
-        return Err(WriterError::SameAsBus);
-    }
-    if !are_short(contents.redistributors) {
-        return Err(WriterError::BadRange);
-    }
-    Ok(())
+    require(
+        !contents.cpu_interfaces.is_empty(),
+        WriterError::NoProcessor,
+    )?;
+    require(have_modes(contents.cpu_interfaces), WriterError::SameAsBus)?;
+    require(are_short(contents.redistributors), WriterError::BadRange)
 }
 
 /// All after the header: the fields of APICs, which are 0, and the entries, sort by sort.
@@ -248,12 +160,12 @@ macro_rules! body_of {
             also_has_legacy_pics: false,
         };
         let messages = Then(
-            Each($contents.translation_services),
-            Each($contents.msi_frames),
+            EachFor($contents.translation_services),
+            EachFor($contents.msi_frames),
         );
-        let redistributors = Then(Each($contents.redistributors), messages);
-        let interfaces = Then(Each($contents.cpu_interfaces), redistributors);
-        Then(fixed, Then($contents.distributor, interfaces))
+        let redistributors = Then(EachFor($contents.redistributors), messages);
+        let interfaces = Then(EachFor($contents.cpu_interfaces), redistributors);
+        Then(fixed, Then($contents.distributor.thing(), interfaces))
     }};
 }
 
@@ -283,20 +195,4 @@ pub(crate) fn laid_size(ids: &TableIds, contents: &GicContents<'_>) -> Result<us
     check(contents)?;
     let body = body_of!(contents);
     table_size(Signature::MADT, 6, ids, &body)
-}
-
-/// Writes a MADT of records.
-///
-/// Returns `UnknownCode`, and then the errors of `write_laid`, in its order.
-pub fn write_gic_madt(
-    out: &mut [u8],
-    ids: &TableIds,
-    contents: &GicContents<'_>,
-) -> Result<usize, Refusal>
-    ensures exact { Gives (λ n. take n out.new) result
-        (written.gic_said (length out.old) ids.now contents.now) }
-    ensures keeps { IsKeptOr result out.old out.new }
-{
-    known(has_codes(contents))?;
-    Ok(write_laid(out, ids, contents)?)
 }

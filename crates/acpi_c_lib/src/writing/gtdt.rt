@@ -1,26 +1,20 @@
 //! The GTDT that is written for C (section 5.2.24), from the record as which C reads it.
-ghost use Rattle.std.specs.Prelude.{◌≡◌, ◌^◌, ◌<◌, [], length, take, Ok, IfOk};
+ghost use Rattle.std.specs.Prelude.{◌≡◌, ◌^◌, ◌<◌, [], length, take, IfOk};
 ghost use Rattle.acpi_base.specs.Steps.{Gives};
-ghost use Rattle.acpi_c_lib.specs.Writing.{IsKeptOr};
 ghost use Rattle.acpi_c_lib.specs.WrittenGtdt as written;
-ghost use Rattle.acpi_writer.specs.Arm.{base_checked};
 ghost use Rattle.acpi_writer.specs.Contents.{most, sized};
-ghost use Rattle.acpi_writer.specs.Gtdt.{base_of, gtdt_body, gtdt_checked};
 ghost use Rattle.acpi_writer.specs.Table.{Keeps};
 
-use super::known;
 use super::madt::{is_wiring, polarity, trigger};
 use crate::arm_records::{ArmTimer, ArmTimers};
-use crate::refusal::Refusal;
 use crate::written_records::TableIds;
 use acpi_arm::gtdt;
 use acpi_base::model::{Polarity, TriggerMode};
-use acpi_writer::{GtdtContents, WriterError, write_gtdt as written_gtdt};
+use acpi_writer::{GtdtContents, Listed, TableContents, WriterError, write_gtdt};
 
 /// An address, of which all ones stand for none.
 fn base(address: u64) -> Option<u64>
-    ensures bytes { base_of result ≡ address }
-    ensures checked { base_checked result ≡ Ok tt }
+    ensures { result ≡ written.base address }
 {
     if address == u64::MAX {
         None
@@ -58,10 +52,9 @@ fn virtual_el2(given: &ArmTimer) -> gtdt::ArmTimer
 }
 
 /// The timers, as the writer has them.
-#[tactic(auto, unfolding(crate::specs::WrittenGtdt::timers_body))]
-fn contents(timers: &ArmTimers) -> GtdtContents<'static>
-    ensures bytes { gtdt_body result ≡ written.timers_body timers.now }
-    ensures checked { gtdt_checked result ≡ written.timers_checked timers.now }
+fn contents<'a>(timers: &ArmTimers) -> GtdtContents<'a>
+    ensures said { result ≡ written.contents result.platform_timers timers.now }
+    ensures none { result.platform_timers.now ≡ [] }
 {
     GtdtContents {
         counter_control_base: base(timers.control_base),
@@ -95,7 +88,7 @@ pub(crate) fn has_codes(timers: &ArmTimers) -> bool
 /// Writes a GTDT of timers whose codes there are.
 ///
 /// Returns the errors of `acpi_writer::write_gtdt`, in its order.
-#[tactic(auto, unfolding(acpi_writer::specs::Gtdt::gtdt_written))]
+#[tactic(auto, using(crate::proofs::WrittenTables::untimed), unfolding(acpi_writer::specs::Gtdt::gtdt_written))]
 pub(crate) fn write_laid(
     out: &mut [u8],
     ids: &TableIds,
@@ -105,26 +98,14 @@ pub(crate) fn write_laid(
         (written.gtdt_laid (length out.old) ids.now timers.now) }
     ensures keeps { Keeps result out.old out.new }
 {
-    written_gtdt(out, ids, &contents(timers))
+    write_gtdt(out, ids, &contents(timers))
 }
 
 /// How many bytes such a GTDT has, or the first error.
+#[tactic(auto, using(crate::proofs::WrittenTables::untimed), unfolding(acpi_writer::specs::Gtdt::gtdt_written))]
 pub(crate) fn laid_size(ids: &TableIds, timers: &ArmTimers) -> Result<usize, WriterError>
     ensures exact { result ≡ sized (written.gtdt_laid most ids.now timers.now) }
     ensures short { IfOk result (λ n. n < 2 ^ 32) }
 {
-    let mut table = [0; 104];
-    write_laid(&mut table, ids, timers)
-}
-
-/// Writes a GTDT of timers.
-///
-/// Returns `UnknownCode`, and then the errors of `acpi_writer::write_gtdt`, in its order.
-pub fn write_gtdt(out: &mut [u8], ids: &TableIds, timers: &ArmTimers) -> Result<usize, Refusal>
-    ensures exact { Gives (λ n. take n out.new) result
-        (written.gtdt_said (length out.old) ids.now timers.now) }
-    ensures keeps { IsKeptOr result out.old out.new }
-{
-    known(has_codes(timers))?;
-    Ok(write_laid(out, ids, timers)?)
+    TableContents::Gtdt(contents(timers)).size(ids)
 }

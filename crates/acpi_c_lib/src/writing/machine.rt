@@ -1,14 +1,16 @@
 //! The tables of a whole machine that are written for C, from the records of each table.
 ghost use Rattle.std.specs.Prelude.{◌≡◌, length, take};
-ghost use Rattle.acpi_base.specs.Steps.{Gives};
+ghost use Rattle.acpi_base.specs.Steps.{Gives, holds};
 ghost use Rattle.acpi_c_lib.specs.Writing.{IsKeptOr};
 ghost use Rattle.acpi_c_lib.specs.WrittenMachine as whole;
+ghost use Rattle.acpi_c_lib.specs.declared.refusal.Refusal.TheVariants.{UnknownCode};
+ghost use Rattle.acpi_c_lib.specs.WrittenMachine.{written_as, listed_written};
 
 use crate::arm_records::ArmTimers;
 use crate::fixed_records::FixedHardware;
 use crate::records::{BootGraphic, HpetInfo, PciRegion};
 use crate::refusal::Refusal;
-use crate::writing::{bgrt, fadt, gic, gtdt, known, madt, spcr};
+use crate::writing::{bgrt, fadt, gic, gtdt, madt, spcr};
 use crate::written_records::{
     AmlContents, GicContents, ListedTable, Machine, MadtContents, SlitContents, SpcrContents,
     SratContents,
@@ -20,13 +22,13 @@ use acpi_writer::slit::slit_size;
 use acpi_writer::spelled::Bytes;
 use acpi_writer::srat::{srat_size_of, write_srat_of};
 use acpi_writer::{
-    Listed, TableIds, WriterError, dsdt_address, table_size, write_bgrt, write_fadt, write_hpet,
-    write_slit, write_ssdt,
+    Listed, TableIds, WriterError, dsdt_address, require, table_size, write_bgrt, write_fadt,
+    write_hpet, write_slit, write_ssdt,
 };
 
-/// What a listed table is to say, or `Nothing` if there is no such kind, or its list is empty.
+/// What a table is to say, or `Nothing` if there is no such kind, or its list is empty.
 #[derive(Clone, Copy)]
-pub(crate) enum Contents<'a> {
+pub enum Contents<'a> {
     Fadt(FixedHardware),
     Madt(MadtContents<'a>),
     Mcfg(&'a [PciRegion]),
@@ -39,6 +41,96 @@ pub(crate) enum Contents<'a> {
     Gtdt(ArmTimers),
     Gic(GicContents<'a>),
     Nothing,
+}
+
+/// Whether all codes are those that there are, as a check.
+fn known(has_codes: bool) -> Result<(), Refusal>
+    ensures { result ≡ holds has_codes UnknownCode }
+{
+    require(has_codes, Refusal::UnknownCode)
+}
+
+impl Contents<'_> {
+    /// Checks that there is such a kind of table with its record, and that this has no code that is reserved.
+    fn check(&self) -> Result<(), Refusal>
+        ensures { result ≡ whole.check_contents self.now }
+    {
+        match self {
+            Contents::Nothing => Err(Refusal::UnknownTable),
+            Contents::Fadt(hardware) => known(fadt::has_codes(hardware)),
+            Contents::Madt(lists) => known(madt::has_codes(lists)),
+            Contents::Bgrt(graphic) => known(bgrt::has_codes(graphic)),
+            Contents::Gtdt(timers) => known(gtdt::has_codes(timers)),
+            Contents::Spcr(console) => known(spcr::has_codes(console)),
+            Contents::Gic(parts) => known(gic::has_codes(parts)),
+            _ => Ok(()),
+        }
+    }
+}
+
+impl Listed for Contents<'_> {
+    ghost written = { written_as };
+
+    ghost fits = { λ _. Unit {0} };
+
+    fn size(&self, ids: &TableIds) -> Result<usize, WriterError> {
+        match self {
+            Contents::Fadt(hardware) => fadt_size(ids, &fadt::contents(hardware)),
+            Contents::Madt(lists) => madt::laid_size(ids, lists),
+            Contents::Mcfg(regions) => mcfg_size(ids, regions),
+            Contents::Hpet(info) => table_size(Signature::HPET, 1, ids, &info.info()),
+            Contents::Slit(slit) => slit_size(ids, slit.localities, slit.distances),
+            Contents::Ssdt(aml) => {
+                table_size(Signature::SSDT, aml.revision, ids, &Bytes(aml.aml))
+            }
+            Contents::Srat(domains) => srat_size_of(ids, &domains.contents()),
+            Contents::Bgrt(graphic) => {
+                table_size(Signature::BGRT, 1, ids, &bgrt::contents(graphic))
+            }
+            Contents::Spcr(console) => spcr::laid_size(ids, console),
+            Contents::Gtdt(timers) => gtdt::laid_size(ids, timers),
+            Contents::Gic(parts) => gic::laid_size(ids, parts),
+            Contents::Nothing => Err(WriterError::BadCode),
+        }
+    }
+
+    fn write(&self, out: &mut [u8], ids: &TableIds) -> Result<usize, WriterError> {
+        match self {
+            Contents::Fadt(hardware) => write_fadt(out, ids, &fadt::contents(hardware)),
+            Contents::Madt(lists) => madt::write_laid(out, ids, lists),
+            Contents::Mcfg(regions) => write_mcfg_of(out, ids, regions),
+            Contents::Hpet(info) => write_hpet(out, ids, &info.info()),
+            Contents::Slit(slit) => write_slit(out, ids, slit.localities, slit.distances),
+            Contents::Ssdt(aml) => write_ssdt(out, ids, aml.revision, aml.aml),
+            Contents::Srat(domains) => write_srat_of(out, ids, &domains.contents()),
+            Contents::Bgrt(graphic) => write_bgrt(out, ids, &bgrt::contents(graphic)),
+            Contents::Spcr(console) => spcr::write_laid(out, ids, console),
+            Contents::Gtdt(timers) => gtdt::write_laid(out, ids, timers),
+            Contents::Gic(parts) => gic::write_laid(out, ids, parts),
+            Contents::Nothing => Err(WriterError::BadCode),
+        }
+    }
+
+    #[tactic(auto, using(crate::proofs::WrittenTables::moved_listed))]
+    fn moves(&self, ids: &TableIds) {
+        ids.fit();
+    }
+}
+
+/// Writes the table that is to say this.
+///
+/// Returns the error of `check`, and then those of the call of `acpi_writer` for such a table, in its order.
+pub fn write_contents(
+    out: &mut [u8],
+    ids: &TableIds,
+    contents: &Contents<'_>,
+) -> Result<usize, Refusal>
+    ensures exact { Gives (λ n. take n out.new) result
+        (whole.table_said (length out.old) ids.now contents.now) }
+    ensures keeps { IsKeptOr result out.old out.new }
+{
+    contents.check()?;
+    Ok(contents.write(out, ids)?)
 }
 
 /// What the first record of a list says, or `Nothing` if the list is empty.
@@ -74,53 +166,20 @@ impl<'a> ListedTable<'a> {
 }
 
 impl Listed for ListedTable<'_> {
-    ghost use Rattle.acpi_c_lib.specs.WrittenMachine.{listed_written};
-
     ghost written = { listed_written };
 
     ghost fits = { λ _. Unit {0} };
 
     fn size(&self, ids: &TableIds) -> Result<usize, WriterError> {
-        match self.contents() {
-            Contents::Fadt(hardware) => fadt_size(ids, &fadt::contents(&hardware)),
-            Contents::Madt(lists) => madt::laid_size(ids, &lists),
-            Contents::Mcfg(regions) => mcfg_size(ids, regions),
-            Contents::Hpet(info) => table_size(Signature::HPET, 1, ids, &info.info()),
-            Contents::Slit(slit) => slit_size(ids, slit.localities, slit.distances),
-            Contents::Ssdt(aml) => {
-                table_size(Signature::SSDT, aml.revision, ids, &Bytes(aml.aml))
-            }
-            Contents::Srat(domains) => srat_size_of(ids, &domains.contents()),
-            Contents::Bgrt(graphic) => {
-                table_size(Signature::BGRT, 1, ids, &bgrt::contents(&graphic))
-            }
-            Contents::Spcr(console) => spcr::laid_size(ids, &console),
-            Contents::Gtdt(timers) => gtdt::laid_size(ids, &timers),
-            Contents::Gic(parts) => gic::laid_size(ids, &parts),
-            Contents::Nothing => Err(WriterError::BadCode),
-        }
+        self.contents().size(ids)
     }
 
     fn write(&self, out: &mut [u8], ids: &TableIds) -> Result<usize, WriterError> {
-        match self.contents() {
-            Contents::Fadt(hardware) => write_fadt(out, ids, &fadt::contents(&hardware)),
-            Contents::Madt(lists) => madt::write_laid(out, ids, &lists),
-            Contents::Mcfg(regions) => write_mcfg_of(out, ids, regions),
-            Contents::Hpet(info) => write_hpet(out, ids, &info.info()),
-            Contents::Slit(slit) => write_slit(out, ids, slit.localities, slit.distances),
-            Contents::Ssdt(aml) => write_ssdt(out, ids, aml.revision, aml.aml),
-            Contents::Srat(domains) => write_srat_of(out, ids, &domains.contents()),
-            Contents::Bgrt(graphic) => write_bgrt(out, ids, &bgrt::contents(&graphic)),
-            Contents::Spcr(console) => spcr::write_laid(out, ids, &console),
-            Contents::Gtdt(timers) => gtdt::write_laid(out, ids, &timers),
-            Contents::Gic(parts) => gic::write_laid(out, ids, &parts),
-            Contents::Nothing => Err(WriterError::BadCode),
-        }
+        self.contents().write(out, ids)
     }
 
-    #[tactic(auto, using(crate::proofs::WrittenTables::moved_listed))]
     fn moves(&self, ids: &TableIds) {
-        ids.fit();
+        self.contents().moves(ids);
     }
 }
 
@@ -144,28 +203,12 @@ impl<'a> Machine<'a> {
     }
 }
 
-/// Checks that there is such a kind of table with its record, and that this has no code that is reserved.
-fn check_table(table: &ListedTable<'_>) -> Result<(), Refusal>
-    ensures { result ≡ whole.check_table table.now }
-{
-    match table.contents() {
-        Contents::Nothing => Err(Refusal::UnknownTable),
-        Contents::Fadt(hardware) => known(fadt::has_codes(&hardware)),
-        Contents::Madt(lists) => known(madt::has_codes(&lists)),
-        Contents::Bgrt(graphic) => known(bgrt::has_codes(&graphic)),
-        Contents::Gtdt(timers) => known(gtdt::has_codes(&timers)),
-        Contents::Spcr(console) => known(spcr::has_codes(&console)),
-        Contents::Gic(parts) => known(gic::has_codes(&parts)),
-        _ => Ok(()),
-    }
-}
-
 /// Checks all tables: the first error.
 fn check_tables(tables: &[ListedTable<'_>]) -> Result<(), Refusal>
     ensures { result ≡ whole.check_tables tables.now }
 {
     for table in tables {
-        check_table(table)?;
+        table.contents().check()?;
     }
     Ok(())
 }

@@ -3,20 +3,17 @@ ghost use Rattle.std.specs.Prelude.{◌≡◌, ◌&&◌, ◌^◌, ◌<◌, nat_l
 ghost use Rattle.std.specs.List.{list_all};
 ghost use Rattle.acpi_base.specs.Steps.{Gives};
 ghost use Rattle.acpi_c_lib.specs.Writing as writing;
-ghost use Rattle.acpi_c_lib.specs.Writing.{IsKeptOr};
 ghost use Rattle.acpi_writer.specs.Contents.{most, sized};
 ghost use Rattle.acpi_writer.specs.MadtBytes.{is_single, names_one};
 ghost use Rattle.acpi_writer.specs.Table.{Keeps};
 
-use super::known;
 use crate::interrupt_records::{InterruptSourceOverride, IoApic, NmiLine, NmiSource, Processor};
-use crate::refusal::Refusal;
 use crate::written_records::{MadtContents, TableIds};
 use acpi_base::model;
 use acpi_base::model::{LocalInterruptLine, NmiProcessor, Polarity, TriggerMode};
 use acpi_writer::madt::{MadtLists, madt_size_of, write_madt_of};
-use acpi_writer::spelled::Spelled;
-use acpi_writer::{MadtProcessor, WriterError};
+use acpi_writer::spelled::StandsFor;
+use acpi_writer::{MadtProcessor, WriterError, require};
 
 /// Whether a number is one of a polarity, and of a trigger mode.
 pub(super) fn is_wiring(code: u8) -> bool
@@ -45,11 +42,12 @@ pub(super) fn trigger(code: u8) -> TriggerMode
     }
 }
 
-impl Processor {
-    /// The processor, as the writer has it.
-    fn listed(&self) -> MadtProcessor
-        ensures { result ≡ writing.processor_of self.now }
-    {
+impl StandsFor for Processor {
+    type Thing = MadtProcessor;
+
+    ghost thing_of = { writing.processor_of };
+
+    fn thing(&self) -> MadtProcessor {
         MadtProcessor {
             processor_uid: self.uid,
             local_apic_id: self.local_apic_id,
@@ -59,11 +57,12 @@ impl Processor {
     }
 }
 
-impl IoApic {
-    /// The I/O APIC, as the writer has it.
-    fn listed(&self) -> model::IoApic
-        ensures { result ≡ writing.io_apic_of self.now }
-    {
+impl StandsFor for IoApic {
+    type Thing = model::IoApic;
+
+    ghost thing_of = { writing.io_apic_of };
+
+    fn thing(&self) -> model::IoApic {
         model::IoApic {
             id: self.id,
             address: self.address,
@@ -72,11 +71,12 @@ impl IoApic {
     }
 }
 
-impl InterruptSourceOverride {
-    /// The override, as the writer has it.
-    fn listed(&self) -> model::InterruptSourceOverride
-        ensures { result ≡ writing.override_of self.now }
-    {
+impl StandsFor for InterruptSourceOverride {
+    type Thing = model::InterruptSourceOverride;
+
+    ghost thing_of = { writing.override_of };
+
+    fn thing(&self) -> model::InterruptSourceOverride {
         model::InterruptSourceOverride {
             isa_source: self.isa_source,
             global_system_interrupt: self.global_system_interrupt,
@@ -86,11 +86,12 @@ impl InterruptSourceOverride {
     }
 }
 
-impl NmiSource {
-    /// The source, as the writer has it.
-    fn listed(&self) -> model::NmiSource
-        ensures { result ≡ writing.nmi_source_of self.now }
-    {
+impl StandsFor for NmiSource {
+    type Thing = model::NmiSource;
+
+    ghost thing_of = { writing.nmi_source_of };
+
+    fn thing(&self) -> model::NmiSource {
         model::NmiSource {
             global_system_interrupt: self.global_system_interrupt,
             polarity: polarity(self.polarity),
@@ -99,11 +100,12 @@ impl NmiSource {
     }
 }
 
-impl NmiLine {
-    /// The line, as the writer has it.
-    fn listed(&self) -> model::NmiLine
-        ensures { result ≡ writing.nmi_line_of self.now }
-    {
+impl StandsFor for NmiLine {
+    type Thing = model::NmiLine;
+
+    ghost thing_of = { writing.nmi_line_of };
+
+    fn thing(&self) -> model::NmiLine {
         model::NmiLine {
             processor: if self.of_all == 0 {
                 NmiProcessor::ProcessorUid(self.processor_uid)
@@ -116,95 +118,6 @@ impl NmiLine {
                 LocalInterruptLine::Lint1
             },
         }
-    }
-}
-
-impl Spelled for Processor {
-    ghost use Rattle.acpi_c_lib.specs.Writing.{processor_of};
-    ghost use Rattle.acpi_writer.specs.MadtBytes.{processor_entry};
-    ghost use Rattle.acpi_writer.specs.MadtLaws.{FitsProcessor};
-
-    ghost spelled = { λ p. processor_entry (processor_of p) };
-
-    ghost fits = { λ p. FitsProcessor (processor_of p) };
-
-    fn measure(&self, room: usize) -> Option<usize> {
-        self.listed().measure(room)
-    }
-
-    fn put(&self, out: &mut [u8]) {
-        self.listed().put(out);
-    }
-}
-
-impl Spelled for IoApic {
-    ghost use Rattle.acpi_c_lib.specs.Writing.{io_apic_of};
-    ghost use Rattle.acpi_writer.specs.MadtBytes.{io_apic_entry};
-    ghost use Rattle.acpi_writer.specs.MadtLaws.{FitsIoApic};
-
-    ghost spelled = { λ x. io_apic_entry (io_apic_of x) };
-
-    ghost fits = { λ x. FitsIoApic (io_apic_of x) };
-
-    fn measure(&self, room: usize) -> Option<usize> {
-        self.listed().measure(room)
-    }
-
-    fn put(&self, out: &mut [u8]) {
-        self.listed().put(out);
-    }
-}
-
-impl Spelled for InterruptSourceOverride {
-    ghost use Rattle.acpi_c_lib.specs.Writing.{override_of};
-    ghost use Rattle.acpi_writer.specs.MadtBytes.{override_entry};
-    ghost use Rattle.acpi_writer.specs.MadtLaws.{FitsOverride};
-
-    ghost spelled = { λ x. override_entry (override_of x) };
-
-    ghost fits = { λ x. FitsOverride (override_of x) };
-
-    fn measure(&self, room: usize) -> Option<usize> {
-        self.listed().measure(room)
-    }
-
-    fn put(&self, out: &mut [u8]) {
-        self.listed().put(out);
-    }
-}
-
-impl Spelled for NmiSource {
-    ghost use Rattle.acpi_c_lib.specs.Writing.{nmi_source_of};
-    ghost use Rattle.acpi_writer.specs.MadtBytes.{nmi_source_entry};
-    ghost use Rattle.acpi_writer.specs.MadtLaws.{FitsNmiSource};
-
-    ghost spelled = { λ x. nmi_source_entry (nmi_source_of x) };
-
-    ghost fits = { λ x. FitsNmiSource (nmi_source_of x) };
-
-    fn measure(&self, room: usize) -> Option<usize> {
-        self.listed().measure(room)
-    }
-
-    fn put(&self, out: &mut [u8]) {
-        self.listed().put(out);
-    }
-}
-
-impl Spelled for NmiLine {
-    ghost use Rattle.acpi_c_lib.specs.Writing.{nmi_line_of};
-    ghost use Rattle.acpi_writer.specs.MadtBytes.{nmi_line_entry};
-
-    ghost spelled = { λ x. nmi_line_entry (nmi_line_of x) };
-
-    ghost fits = { λ _. Unit {0} };
-
-    fn measure(&self, room: usize) -> Option<usize> {
-        self.listed().measure(room)
-    }
-
-    fn put(&self, out: &mut [u8]) {
-        self.listed().put(out);
     }
 }
 
@@ -262,16 +175,9 @@ fn name_one(lines: &[NmiLine]) -> bool
 fn check_lists(contents: &MadtContents<'_>) -> Result<(), WriterError>
     ensures { result ≡ writing.check_lists contents.now }
 {
-    if contents.processors.is_empty() {
-        return Err(WriterError::NoProcessor);
-    }
-    if !are_single(contents.processors) {
-        return Err(WriterError::IdOfAll);
-    }
-    if !name_one(contents.nmi_lines) {
-        return Err(WriterError::UidOfAll);
-    }
-    Ok(())
+    require(!contents.processors.is_empty(), WriterError::NoProcessor)?;
+    require(are_single(contents.processors), WriterError::IdOfAll)?;
+    require(name_one(contents.nmi_lines), WriterError::UidOfAll)
 }
 
 /// The lists of a MADT, as the writer has them.
@@ -319,20 +225,4 @@ pub(crate) fn laid_size(ids: &TableIds, contents: &MadtContents<'_>) -> Result<u
     check_lists(contents)?;
     let lists = lists_of!(contents);
     madt_size_of(ids, &lists)
-}
-
-/// Writes a MADT of records.
-///
-/// Returns `UnknownCode`, and then the errors of `acpi_writer::write_madt`, in its order.
-pub fn write_madt(
-    out: &mut [u8],
-    ids: &TableIds,
-    contents: &MadtContents<'_>,
-) -> Result<usize, Refusal>
-    ensures exact { Gives (λ n. take n out.new) result
-        (writing.madt_said (length out.old) ids.now contents.now) }
-    ensures keeps { IsKeptOr result out.old out.new }
-{
-    known(has_codes(contents))?;
-    Ok(write_laid(out, ids, contents)?)
 }

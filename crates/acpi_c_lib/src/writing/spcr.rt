@@ -1,15 +1,12 @@
 //! The SPCR that is written for C, from the record as which C reads it. The layout is Microsoft's.
 ghost use Rattle.std.specs.Prelude.{◌≡◌, ◌^◌, ◌<◌, codes, length, take, IfOk};
 ghost use Rattle.acpi_base.specs.Steps.{Gives};
-ghost use Rattle.acpi_c_lib.specs.Writing.{IsKeptOr};
 ghost use Rattle.acpi_c_lib.specs.WrittenSpcr as written;
 ghost use Rattle.acpi_writer.specs.Contents.{most, sized};
 ghost use Rattle.acpi_writer.specs.Table.{Keeps};
 
-use super::known;
 use crate::fixed_records::Console;
 use crate::records::Register;
-use crate::refusal::Refusal;
 use crate::writing::fadt::{has_codes_at, register};
 use crate::written_records::{SpcrContents, TableIds};
 use acpi_base::address::GenericAddress;
@@ -131,16 +128,4 @@ pub(crate) fn laid_size(ids: &TableIds, given: &SpcrContents) -> Result<usize, W
     ensures short { IfOk result (λ n. n < 2 ^ 32) }
 {
     TableContents::Spcr(contents(given)).size(ids)
-}
-
-/// Writes an SPCR of a record.
-///
-/// Returns `UnknownCode`, and then the errors of `acpi_writer::write_spcr`, in its order.
-pub fn write_spcr(out: &mut [u8], ids: &TableIds, spcr: &SpcrContents) -> Result<usize, Refusal>
-    ensures exact { Gives (λ n. take n out.new) result
-        (written.spcr_said (length out.old) ids.now spcr.now) }
-    ensures keeps { IsKeptOr result out.old out.new }
-{
-    known(has_codes(spcr))?;
-    Ok(write_laid(out, ids, spcr)?)
 }

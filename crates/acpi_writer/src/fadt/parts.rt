@@ -14,8 +14,8 @@ use crate::spelled::Spelled;
 use acpi_base::address::{AccessSize, AddressSpace, GenericAddress};
 use acpi_fixed::fadt::{GpeBlock, PowerProfile};
 
-/// The code of a profile.
-fn profile_code(profile: PowerProfile) -> u8
+/// The code of a profile: Preferred_PM_Profile (section 5.2.9.1).
+pub fn profile_code(profile: PowerProfile) -> u8
     ensures { result ≡ bytes.profile_code profile }
 {
     match profile {

@@ -2,7 +2,7 @@ use Rattle.std.proofs.Common.{length, ap, arith}
 use Rattle.acpi_iommu.specs.IvrsUnits.{ivrs_bytes, memory_left}
 use Rattle.acpi_c_lib.specs.Iommu.{memory_record}
 use Rattle.acpi_c_lib.proofs.Written.{memory_few}
-use Rattle.acpi_c_lib.proofs.iommu.fill_memory.Goals as goal
+use Rattle.acpi_c_lib.proofs.iommu.ivrs_memory.Goals as goal
 
 pub fill-requires-clause-few : goal.fill-requires-clause-few
 fill-requires-clause-few c =

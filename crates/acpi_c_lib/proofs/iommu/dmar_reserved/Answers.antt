@@ -2,7 +2,7 @@ use Rattle.std.proofs.Common.{length, ap, arith}
 use Rattle.acpi_iommu.specs.DmarUnits.{dmar_bytes, reserved_left}
 use Rattle.acpi_c_lib.specs.Iommu.{reserved_record}
 use Rattle.acpi_c_lib.proofs.Written.{reserved_few}
-use Rattle.acpi_c_lib.proofs.iommu.fill_reserved.Goals as goal
+use Rattle.acpi_c_lib.proofs.iommu.dmar_reserved.Goals as goal
 
 pub fill-requires-clause-few : goal.fill-requires-clause-few
 fill-requires-clause-few c =
