@@ -1,14 +1,13 @@
 //! Tables that are written, from what they are to say, into a buffer of the caller's.
-ghost use Rattle.std.specs.Prelude.{flat_map, length};
+ghost use Rattle.std.specs.Prelude.{length};
 ghost use Rattle.acpi.specs.declared.root.RootKind.TheVariants.{Rsdt, Xsdt};
 ghost use Rattle.acpi_base.specs.declared.table.signature.TheConstants.Signature.{DSDT, SSDT};
 ghost use Rattle.acpi_c_lib.specs.Answers.{AnswersPlain};
-ghost use Rattle.acpi_c_lib.specs.Writing.{WritesTable, region_of, writer_refused};
+ghost use Rattle.acpi_c_lib.specs.Writing.{WritesTable, writer_refused};
 ghost use Rattle.acpi_c_lib.specs.WrittenFadt.{facs_contents};
 ghost use Rattle.acpi_c_lib.specs.WrittenMachine.{dsdt_said, machine_said, size_said, table_said, tree_said};
-ghost use Rattle.acpi_c_lib.specs.declared.writing.machine.Contents.TheVariants.{Bgrt, Fadt, Gic, Gtdt, Hpet, Madt, Spcr, Srat};
+ghost use Rattle.acpi_c_lib.specs.declared.writing.machine.Contents.TheVariants.{Bgrt, Fadt, Gic, Gtdt, Hpet, Madt, Mcfg, Spcr, Srat};
 ghost use Rattle.acpi_writer.specs.Facs.{facs_written};
-ghost use Rattle.acpi_writer.specs.McfgBytes.{mcfg_entry, mcfg_written_of};
 ghost use Rattle.acpi_writer.specs.Root.{root_written};
 ghost use Rattle.acpi_writer.specs.Rsdp.{rsdp_written};
 ghost use Rattle.acpi_writer.specs.Slit.{slit_written};
@@ -122,8 +121,7 @@ pub extern "C" fn zacpi_write_mcfg(
     count: &mut usize,
 ) -> u32
     ensures { WritesTable result out.old out.new count.old count.new
-        (writer_refused (mcfg_written_of (length out.old) ids.now
-        (flat_map (λ r. mcfg_entry (region_of r)) regions.now))) }
+        (table_said (length out.old) ids.now (Mcfg regions.entry)) }
 {
     answer_plain(write_contents(out, ids, &Contents::Mcfg(regions)), count)
 }
