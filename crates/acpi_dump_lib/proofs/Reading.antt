@@ -1,8 +1,8 @@
 -- What stands at the front of what is read: a line of a text, a pair of digits, the numbers of a record.
-use Rattle.std.proofs.Common.{◌≡◌, ℕ, ◌+◌, ◌<◌, ◌≤◌, ◌==◌, Bool, true, false, not, List, [], ◌∷◌, length, refl, ap, arith, cond, if◌then◌else◌, zero, suc, ◌-◌, ◌++◌, Option, Some, None, option_map, ◌^◌, w64, take}
-use Rattle.std.specs.Prelude.{Option, Some, None, Result, Ok, Err}
-use Rattle.std.specs.List.{after_first, before_first, prefix_len}
-use Rattle.acpi_dump_lib.specs.DumpText.{Spelled, Tables, all_of, lines_of, onto_first, or_wrong, tables_from, with_line, begins_with_gap, first_pair, with_pairs}
+use Rattle.std.proofs.Common.{◌≡◌, ℕ, ◌+◌, ◌<◌, ◌≤◌, ◌==◌, Bool, true, false, List, [], ◌∷◌, length, refl, ap, arith, if◌then◌else◌, zero, suc, ◌-◌, ◌++◌, Some, None, ◌^◌, w64, take}
+use Rattle.std.specs.Prelude.{Some, None, Ok, Err}
+use Rattle.std.specs.List.{after_first, before_first}
+use Rattle.acpi_dump_lib.specs.DumpText.{Tables, all_of, lines_of, onto_first, or_wrong, tables_from, with_line, begins_with_gap, first_pair, with_pairs}
 use Rattle.std.proofs.lemmas.Grind.{common_steps}
 use Rattle.acpi_base.specs.Bytes.{spelling}
 use Rattle.acpi_image.proofs.Written.{low_bytes}

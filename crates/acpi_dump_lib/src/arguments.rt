@@ -106,17 +106,15 @@ impl<'w> Mistakes<'w> {
         }));
     }
 
-    /// Keeps that the word of an option is wrong, if it is there and has no value. It answers the value.
+    /// Keeps that the word of an option is wrong, if it has no value. It answers the value.
     fn checked<T: Copy>(
         &mut self,
         option: &'static str,
-        word: Option<&'w str>,
+        word: &'w str,
         value: Option<T>,
         usage: &'static str,
     ) -> Option<T> {
-        if let Some(word) = word
-            && value.is_none()
-        {
+        if value.is_none() {
             self.add_word(option, word, usage);
         }
         value
@@ -184,65 +182,56 @@ fn parse_color(word: &str) -> Option<Color> {
     }
 }
 
+/// The options that ask for a view.
+const VIEWS: [(&str, View); 3] = [
+    ("summary", View::Summary),
+    ("find", View::Candidates),
+    ("compare", View::Differences),
+];
+
 /// The view that the options ask for, of which at most one kind may be there.
 fn view_of<'w>(matches: &ArgMatches<'w>, has_choices: bool, mistakes: &mut Mistakes<'w>) -> View {
-    let views = [
-        matches.get_flag("summary"),
-        matches.get_flag("find"),
-        matches.get_flag("compare"),
-        has_choices,
-    ];
-    match views {
-        [true, false, false, false] => View::Summary,
-        [false, true, false, false] => View::Candidates,
-        [false, false, true, false] => View::Differences,
-        [false, false, false, true] => View::Tables,
-        [false, false, false, false] => View::Lines,
-        _ => {
-            mistakes.add_word(
-                "",
-                "two views",
-                "[--table SIG].. [--hex SIG].. | --summary | --find | --compare",
-            );
-            View::Lines
+    let mut view = if has_choices {
+        View::Tables
+    } else {
+        View::Lines
+    };
+    let mut is_asked = has_choices;
+    for (option, asked) in &VIEWS {
+        if matches.get_flag(*option) {
+            if is_asked {
+                mistakes.add_word("", "two views", ONE_VIEW);
+            }
+            view = *asked;
+            is_asked = true;
         }
     }
+    view
 }
 
-/// Adds the words that name inputs.
-fn push_inputs<'w>(
-    inputs: &mut Vec<&'w str>,
-    matches: &ArgMatches<'w>,
-    mistakes: &mut Mistakes<'w>,
-) {
-    if let Some(given) = matches.get_strs("input") {
-        for word in given {
-            if inputs.push(*word).is_err() {
-                mistakes.add(Mistake::OutOfMemory);
-            }
-        }
-    }
-}
+const ONE_VIEW: &str = "[--table SIG].. [--hex SIG].. | --summary | --find | --compare";
 
 /// The way to the root table that words after an image say, in place of more inputs.
-fn root_after<'w>(words: &[&'w str], mistakes: &mut Mistakes<'w>) -> Option<Root> {
-    let [_, form, ..] = words else {
-        return None;
-    };
-    if !matches!(*form, "rsdt" | "rsdp" | "bios") {
-        return None;
+fn root_after<'w>(matches: &ArgMatches<'w>, mistakes: &mut Mistakes<'w>) -> Option<Root> {
+    let words = matches.get_strs("input")?;
+    match words {
+        [_, form, ..] if matches!(*form, "rsdt" | "rsdp" | "bios") => mistakes.checked(
+            "",
+            *form,
+            parse_root(&words[1..]),
+            "IMAGE rsdt REVISION ADDRESS | rsdp ADDRESS | bios",
+        ),
+        _ => None,
     }
-    mistakes.checked(
-        "",
-        Some(*form),
-        parse_root(words.get(1..).unwrap_or(&[])),
-        "IMAGE rsdt REVISION ADDRESS | rsdp ADDRESS | bios",
-    )
 }
+
+const KINDS: &str = "image | memory | text | table";
 
 const AT: &str = "ADDRESS, which is 0x and one to sixteen hexadecimal digits";
 
 const START: &str = "rsdt:REVISION:ADDRESS | rsdp:ADDRESS | bios";
+
+const COLORS: &str = "auto | always | never";
 
 /// What options with a word say.
 #[derive(Clone, Copy)]
@@ -255,70 +244,88 @@ struct Said {
 
 /// What the options with a word say.
 fn said_by<'w>(matches: &ArgMatches<'w>, mistakes: &mut Mistakes<'w>) -> Said {
-    let (kind, at) = (matches.get_str("as"), matches.get_str("at"));
-    let (start, color) = (matches.get_str("start"), matches.get_str("color"));
     Said {
-        kind: mistakes.checked(
-            "as",
-            kind,
-            kind.and_then(parse_kind),
-            "image | memory | text | table",
-        ),
-        at: mistakes.checked("at", at, at.and_then(parse_address), AT),
-        start: mistakes.checked("start", start, start.and_then(parse_start), START),
-        color: mistakes.checked(
-            "color",
-            color,
-            color.and_then(parse_color),
-            "auto | always | never",
-        ),
+        kind: match matches.get_str("as") {
+            Some(word) => mistakes.checked("as", word, parse_kind(word), KINDS),
+            None => None,
+        },
+        at: match matches.get_str("at") {
+            Some(word) => mistakes.checked("at", word, parse_address(word), AT),
+            None => None,
+        },
+        start: match matches.get_str("start") {
+            Some(word) => mistakes.checked("start", word, parse_start(word), START),
+            None => None,
+        },
+        color: match matches.get_str("color") {
+            Some(word) => mistakes.checked("color", word, parse_color(word), COLORS),
+            None => None,
+        },
     }
 }
 
 /// The request that matches make.
 ///
-/// Fails with the first mistake, in this order: the words of options, memory for the inputs, the choices, the views,
-/// and the way to the root table.
+/// Fails with the first mistake, in this order: the words of options, the choices, the views, the way to the root
+/// table, and memory for the inputs.
 pub(crate) fn asked_by<'w>(
     alloc: Global,
     matches: &ArgMatches<'w>,
 ) -> Result<Asked<'w>, Mistake<'w>> {
     let mut mistakes = Mistakes { first: None };
-    let Said {
-        kind,
-        at,
-        start,
-        color,
-    } = said_by(matches, &mut mistakes);
-    let mut inputs = Vec::new(alloc);
-    push_inputs(&mut inputs, matches, &mut mistakes);
-    let mut choices = Vec::new(alloc);
-    push_choices(
-        &mut choices,
-        matches,
-        "table",
-        Contents::Fields,
-        &mut mistakes,
-    );
-    push_choices(&mut choices, matches, "hex", Contents::Bytes, &mut mistakes);
+    let said = said_by(matches, &mut mistakes);
+    let choices = choices_of(alloc, matches, &mut mistakes);
     let view = view_of(matches, !choices.is_empty(), &mut mistakes);
-    let root = root_after(&inputs, &mut mistakes);
-    if root.is_some() {
-        inputs.truncate(1);
-    }
+    let root = root_after(matches, &mut mistakes);
+    let inputs = inputs_of(alloc, matches, root.is_some(), &mut mistakes);
     if let Some(mistake) = mistakes.first {
         return Err(mistake);
     }
-    let is_image = root.is_some() && kind.is_none() && at.is_none();
+    let is_image = root.is_some() && said.kind.is_none() && said.at.is_none();
     Ok(Asked {
         inputs,
-        kind: if is_image { Some(Kind::Image) } else { kind },
-        at,
-        start: root.or(start),
+        kind: if is_image {
+            Some(Kind::Image)
+        } else {
+            said.kind
+        },
+        at: said.at,
+        start: root.or(said.start),
         view,
         choices,
         is_json: matches.get_flag("json"),
         is_strict: matches.get_flag("strict"),
-        color: color.unwrap_or(Color::Auto),
+        color: said.color.unwrap_or(Color::Auto),
     })
+}
+
+/// The words that name inputs: the first alone, if a way to the root table follows it.
+fn inputs_of<'w>(
+    alloc: Global,
+    matches: &ArgMatches<'w>,
+    has_root: bool,
+    mistakes: &mut Mistakes<'w>,
+) -> Vec<&'w str> {
+    let mut inputs = Vec::new(alloc);
+    let words = matches.get_strs("input").unwrap_or(&[]);
+    let count = if has_root { 1 } else { words.len() };
+    if inputs
+        .extend_from_slice(words.get(..count).unwrap_or(words))
+        .is_err()
+    {
+        mistakes.add(Mistake::OutOfMemory);
+    }
+    inputs
+}
+
+/// The choices that the options make.
+fn choices_of<'w>(
+    alloc: Global,
+    matches: &ArgMatches<'w>,
+    mistakes: &mut Mistakes<'w>,
+) -> Vec<Choice> {
+    let mut choices = Vec::new(alloc);
+    push_choices(&mut choices, matches, "table", Contents::Fields, mistakes);
+    push_choices(&mut choices, matches, "hex", Contents::Bytes, mistakes);
+    choices
 }

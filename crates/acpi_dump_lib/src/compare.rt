@@ -28,17 +28,11 @@ struct Items {
 }
 
 impl Items {
-    /// Adds an item, if there was memory for its value.
-    fn add(&mut self, offset: u64, name: &'static str, value: Out<Vec<u8>>) {
-        let is_printed = value.printed().is_some();
-        let item = Item {
-            offset,
-            name,
-            value,
-        };
-        if !is_printed || self.items.push(item).is_err() {
-            self.is_refused = true;
-        }
+    /// Adds an item, and keeps whether there was memory for its value.
+    fn add(&mut self, item: Item) {
+        let is_printed = item.value.printed().is_some();
+        let is_added = self.items.push(item).is_ok();
+        self.is_refused |= !(is_printed && is_added);
     }
 }
 
@@ -47,7 +41,11 @@ impl Show for Items {
         let mut value = Out::new(Vec::new(self.alloc));
         print_value(shown.bytes, shown.meaning, &mut value);
         print_meaning(shown.bytes, shown.meaning, &mut value);
-        self.add(shown.offset, shown.name, value);
+        self.add(Item {
+            offset: shown.offset,
+            name: shown.name,
+            value,
+        });
     }
 
     fn bytes(&mut self, offset: u64, bytes: &[u8]) {
@@ -55,7 +53,11 @@ impl Show for Items {
         for line in bytes.chunks(16) {
             let mut value = Out::new(Vec::new(self.alloc));
             print_hex(line, &mut value);
-            self.add(offset, "bytes", value);
+            self.add(Item {
+                offset,
+                name: "bytes",
+                value,
+            });
             offset = offset.saturating_add(16);
         }
     }
@@ -110,6 +112,21 @@ fn next_pair<'a>(
     }
 }
 
+/// The difference between an item and the one beside it, if there is one.
+fn difference_of<'a>(old: Option<&'a Item>, new: Option<&'a Item>) -> Option<Difference<'a>> {
+    let item = old.or(new)?;
+    let (old, new) = (value_of(old), value_of(new));
+    if old == new {
+        return None;
+    }
+    Some(Difference {
+        offset: item.offset,
+        name: item.name,
+        old,
+        new,
+    })
+}
+
 /// The differences between the items of two tables, in the order of their offsets.
 fn differences<'a>(
     alloc: Global,
@@ -120,23 +137,10 @@ fn differences<'a>(
     let (mut i, mut j) = (0usize, 0usize);
     for _ in 0..old.len().saturating_add(new.len()) {
         let (a, b) = next_pair(old.get(i), new.get(j));
-        let Some(item) = a.or(b) else {
-            break;
-        };
-        if a.is_some() {
-            i = i.saturating_add(1);
-        }
-        if b.is_some() {
-            j = j.saturating_add(1);
-        }
-        let (old_value, new_value) = (value_of(a), value_of(b));
-        if old_value != new_value {
-            found.push(Difference {
-                offset: item.offset,
-                name: item.name,
-                old: old_value,
-                new: new_value,
-            })?;
+        i = i.saturating_add(a.is_some() as usize);
+        j = j.saturating_add(b.is_some() as usize);
+        if let Some(difference) = difference_of(a, b) {
+            found.push(difference)?;
         }
     }
     Ok(found)

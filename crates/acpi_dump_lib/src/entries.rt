@@ -248,9 +248,10 @@ fn add_led<'h, H: AcpiHandler>(
         Ok(fadt) => (fadt.get().dsdt_address(), fadt.get().facs_address()),
         Err(_) => return Ok(()),
     };
-    entries.push(entry_led(handler, dsdt, Signature::DSDT))?;
-    entries.push(entry_led(handler, facs, Signature::FACS))?;
-    Ok(())
+    entries.extend_from_slice(&[
+        entry_led(handler, dsdt, Signature::DSDT),
+        entry_led(handler, facs, Signature::FACS),
+    ])
 }
 
 /// Adds the root table and its members.

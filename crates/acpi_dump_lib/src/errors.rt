@@ -18,10 +18,11 @@ pub(crate) fn tell_word<E: Write>(err: &mut Out<E>, wrong: WrongWord<'_>) {
         usage,
     } = wrong;
     if option.is_empty() {
-        writeln!(err, "acpi_dump: {word}");
-        writeln!(err, "usage: acpi_dump {usage}");
+        writeln!(err, "acpi_dump: {word}\nusage: acpi_dump {usage}");
     } else {
-        writeln!(err, "acpi_dump: --{option}: {word}");
-        writeln!(err, "usage: --{option} {usage}");
+        writeln!(
+            err,
+            "acpi_dump: --{option}: {word}\nusage: --{option} {usage}"
+        );
     }
 }

@@ -1,7 +1,7 @@
 //! Fields, one a line: offset, name, value, meaning.
 
 use crate::language;
-use crate::language::{Meaning, after_blanks, before_blanks, cut_at, next_word};
+use crate::language::{Meaning, cut_at, next_word};
 use crate::out::Out;
 use crate::text::print_indent;
 use crate::walk::Shown;
@@ -57,10 +57,8 @@ pub(crate) fn print_value<W: Write>(value: &[u8], meaning: Meaning, out: &mut Ou
     if value.len() > 8 || matches!(meaning, Meaning::Text | Meaning::Wide | Meaning::Row) {
         return print_hex(value, out);
     }
-    out.text("0x");
-    for byte in value.iter().rev() {
-        write!(out, "{byte:02x}");
-    }
+    let (number, digits) = (number_of(value), 2 * value.len());
+    write!(out, "0x{number:0digits$x}")
 }
 
 /// The number of up to eight bytes.
@@ -104,12 +102,12 @@ pub(crate) fn print_text<W: Write>(bytes: &[u8], out: &mut Out<W>) {
 }
 
 /// Prints the meaning of a number that is a code.
-fn print_code<W: Write>(number: u64, codes: &'static [u8], out: &mut Out<W>) {
-    for item in codes.split(|byte| *byte == b'|' || *byte == b'\n') {
+fn print_code<W: Write>(number: u64, codes: &str, out: &mut Out<W>) {
+    for item in codes.split(['|', '\n']) {
         let (code, name) = next_word(item);
         if !code.is_empty() && language::number_of(code) == number {
             out.text("  ");
-            return print_text(before_blanks(after_blanks(name)), out);
+            return out.text(name.trim_ascii());
         }
     }
 }
@@ -129,9 +127,9 @@ fn bits_of(number: u64, first: u64, last: u64) -> u64 {
 }
 
 /// Prints the parts of a number that aren't 0, and the meanings of those that are codes.
-fn print_flags<W: Write>(number: u64, flags: &'static [u8], out: &mut Out<W>) {
+fn print_flags<W: Write>(number: u64, flags: &str, out: &mut Out<W>) {
     let mut is_first = true;
-    for item in flags.split(|byte| *byte == b'|' || *byte == b'\n') {
+    for item in flags.split(['|', '\n']) {
         let (bits, name) = next_word(item);
         if !bits.is_empty() && print_flag(number, is_first, bits, name, out) {
             is_first = false;
@@ -144,29 +142,24 @@ fn print_flags<W: Write>(number: u64, flags: &'static [u8], out: &mut Out<W>) {
 fn print_flag<W: Write>(
     number: u64,
     is_first: bool,
-    bits: &'static [u8],
-    name: &'static [u8],
+    bits: &str,
+    name: &str,
     out: &mut Out<W>,
 ) -> bool {
-    let name = before_blanks(after_blanks(name));
-    let (bits, code) = cut_at(bits, b'/');
-    let (highest, lowest) = cut_at(bits, b':');
-    let first = language::number_of(highest);
-    let (last, first) = if lowest.is_empty() {
-        (first, first)
+    let (bits, code) = cut_at(bits, '/');
+    let (highest, lowest) = cut_at(bits, ':');
+    let last = language::number_of(highest);
+    let first = if lowest.is_empty() {
+        last
     } else {
-        (first, language::number_of(lowest))
+        language::number_of(lowest)
     };
     let part = bits_of(number, first, last);
     if code.is_empty() && part == 0 || !code.is_empty() && part != language::number_of(code) {
         return false;
     }
-    if is_first {
-        out.text("  ");
-    } else {
-        out.text(", ");
-    }
-    print_text(name, out);
+    out.text(if is_first { "  " } else { ", " });
+    out.text(name.trim_ascii());
     if code.is_empty() && first < last {
         write!(out, " {part}");
     }
@@ -177,11 +170,12 @@ fn print_flag<W: Write>(
 fn print_wide<W: Write>(value: &[u8], out: &mut Out<W>) {
     out.text("  ");
     for unit in value.chunks(2) {
-        match unit {
+        let letter = match unit {
             [0, 0] => return,
-            [letter, 0] => print_text(&[*letter], out),
-            _ => out.text("."),
-        }
+            [letter, 0] => *letter,
+            _ => b'.',
+        };
+        print_text(&[letter], out);
     }
 }
 
@@ -228,10 +222,10 @@ fn print_register<W: Write>(value: &[u8], out: &mut Out<W>) {
     let [space, width, offset, size, address @ ..] = value else {
         return;
     };
-    if value.iter().all(|byte| *byte == 0) {
+    let address = number_of(address);
+    if address == 0 && matches!(value, [0, 0, 0, 0, ..]) {
         return;
     }
-    let address = number_of(address);
     write!(
         out,
         "  space {space} width {width} offset {offset} access {size} address 0x{address:x}"

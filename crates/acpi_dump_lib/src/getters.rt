@@ -15,21 +15,26 @@ pub(crate) fn print_getters<W: Write>(table: &[u8], out: &mut Out<W>) {
     writeln!(out, "  power profile: {:?}", fadt.power_profile());
     print_address("FACS", fadt.facs_address(), out);
     print_address("DSDT", fadt.dsdt_address(), out);
-    print_block("PM1a event block", fadt.pm1a_event_block().map(Some), out);
-    print_block("PM1b event block", fadt.pm1b_event_block(), out);
-    print_block(
-        "PM1a control block",
-        fadt.pm1a_control_block().map(Some),
-        out,
-    );
-    print_block("PM1b control block", fadt.pm1b_control_block(), out);
-    print_block("PM2 control block", fadt.pm2_control_block(), out);
-    print_block("PM timer block", fadt.pm_timer_block(), out);
-    print_block("GPE0 block", fadt.gpe0_block(), out);
-    print_block("GPE1 block", fadt.gpe1_block(), out);
-    print_block("reset register", fadt.reset_register().map(Some), out);
-    print_block("sleep control register", fadt.sleep_control_register(), out);
-    print_block("sleep status register", fadt.sleep_status_register(), out)
+    for (name, block) in &blocks_of(&fadt) {
+        print_block(*name, *block, out);
+    }
+}
+
+/// The blocks of registers, by their names.
+fn blocks_of(fadt: &Fadt) -> [(&'static str, AcpiResult<Option<GenericAddress>>); 11] {
+    [
+        ("PM1a event block", fadt.pm1a_event_block().map(Some)),
+        ("PM1b event block", fadt.pm1b_event_block()),
+        ("PM1a control block", fadt.pm1a_control_block().map(Some)),
+        ("PM1b control block", fadt.pm1b_control_block()),
+        ("PM2 control block", fadt.pm2_control_block()),
+        ("PM timer block", fadt.pm_timer_block()),
+        ("GPE0 block", fadt.gpe0_block()),
+        ("GPE1 block", fadt.gpe1_block()),
+        ("reset register", fadt.reset_register().map(Some)),
+        ("sleep control register", fadt.sleep_control_register()),
+        ("sleep status register", fadt.sleep_status_register()),
+    ]
 }
 
 /// Prints an address, or its refusal.
@@ -42,13 +47,14 @@ fn print_address<W: Write>(name: &str, address: AcpiResult<u64>, out: &mut Out<W
 
 /// Prints a block of registers, or its refusal.
 fn print_block<W: Write>(name: &str, block: AcpiResult<Option<GenericAddress>>, out: &mut Out<W>) {
+    write!(out, "  {name}: ");
     match block {
         Ok(Some(block)) => writeln!(
             out,
-            "  {name}: {:?} 0x{:x}, {} bits from bit {}, access {:?}",
+            "{:?} 0x{:x}, {} bits from bit {}, access {:?}",
             block.address_space, block.address, block.bit_width, block.bit_offset, block.access_size
         ),
-        Ok(None) => writeln!(out, "  {name}: none"),
-        Err(refusal) => writeln!(out, "  {name}: {refusal}"),
+        Ok(None) => out.text("none\n"),
+        Err(refusal) => writeln!(out, "{refusal}"),
     }
 }

@@ -25,8 +25,6 @@
 //! `gas` (a generic address), `codes` (`| NUMBER MEANING` for each) or `flags`: `| BIT NAME`, `| HIGH:LOW
 //! NAME` for a number, `| HIGH:LOW/NUMBER MEANING` for a code. `| @BLOCK` takes them from a block.
 
-ghost use Rattle.std.specs.Prelude.{◌<◌, length};
-
 use acpi::sdt::field;
 
 /// The meaning of a field's bytes. What follows the name of a field is the text of its codes or flags.
@@ -49,9 +47,9 @@ pub(crate) enum Meaning {
     /// The bytes are the numbers of a device and a function.
     Path,
     /// The number is one of these codes.
-    Codes(&'static [u8]),
+    Codes(&'static str),
     /// The number is a set of these flags.
-    Flags(&'static [u8]),
+    Flags(&'static str),
     /// The bytes are a generic address (section 5.2.3.2).
     Register,
 }
@@ -59,9 +57,9 @@ pub(crate) enum Meaning {
 /// A block: the length of the structure if its type determines it, its title, and its lines.
 #[derive(Clone, Copy)]
 pub(crate) struct Block {
-    pub(crate) size: &'static [u8],
-    pub(crate) title: &'static [u8],
-    pub(crate) lines: &'static [u8],
+    pub(crate) size: &'static str,
+    pub(crate) title: &'static str,
+    pub(crate) lines: &'static str,
 }
 
 /// A number that a sum gives, and the offset after the last place that it reads.
@@ -71,68 +69,28 @@ pub(crate) struct Sum {
     pub(crate) end: usize,
 }
 
-/// The bytes before the first one that is a separator, and those after it.
-pub(crate) fn cut_at(bytes: &[u8], separator: u8) -> (&[u8], &[u8])
-    ensures shorter { 0 < length bytes.now → length result.1.now < length bytes.now }
-{
-    let length = bytes.iter().take_while(|byte| **byte != separator).count();
-    if length < bytes.len() {
-        (&bytes[..length], &bytes[length + 1..])
-    } else {
-        (bytes, &[])
-    }
-}
-
-/// Bytes without the blanks that they begin with.
-pub(crate) fn after_blanks(bytes: &[u8]) -> &[u8] {
-    let length = bytes.iter().take_while(|byte| **byte == b' ').count();
-    if length <= bytes.len() {
-        &bytes[length..]
-    } else {
-        &[]
-    }
-}
-
-/// Bytes without the blanks that they end with.
-pub(crate) fn before_blanks(bytes: &[u8]) -> &[u8] {
-    let length = bytes.iter().rev().take_while(|byte| **byte == b' ').count();
-    if length <= bytes.len() {
-        &bytes[..bytes.len() - length]
-    } else {
-        &[]
-    }
+/// What stands before the first separator of a text, and after it.
+pub(crate) fn cut_at(text: &str, separator: char) -> (&str, &str) {
+    text.split_once(separator).unwrap_or((text, ""))
 }
 
 /// The first word of a line, and what follows it.
-pub(crate) fn next_word(line: &[u8]) -> (&[u8], &[u8]) {
-    cut_at(after_blanks(line), b' ')
+pub(crate) fn next_word(line: &str) -> (&str, &str) {
+    cut_at(line.trim_ascii_start(), ' ')
 }
 
 /// The number that a word is, in decimal digits or after `0x` in hexadecimal ones.
-pub(crate) fn number_of(word: &[u8]) -> u64 {
-    let (digits, base) = match word {
-        [b'0', b'x', digits @ ..] => (digits, 16),
-        _ => (word, 10),
+pub(crate) fn number_of(word: &str) -> u64 {
+    let number = match word.strip_prefix("0x") {
+        Some(digits) => u64::from_str_radix(digits, 16),
+        None => word.parse::<u64>(),
     };
-    let mut number: u64 = 0;
-    for digit in digits {
-        number = number.saturating_mul(base).saturating_add(digit_of(*digit));
-    }
-    number
-}
-
-/// The number that a digit is.
-fn digit_of(digit: u8) -> u64 {
-    match digit {
-        b'0'..=b'9' => (digit - b'0') as u64,
-        b'a'..=b'f' => (digit - b'a') as u64 + 10,
-        _ => 0,
-    }
+    number.unwrap_or(0)
 }
 
 /// Whether a word is a number by itself.
-pub(crate) fn is_number(word: &[u8]) -> bool {
-    word.iter().all(|byte| byte.is_ascii_digit())
+pub(crate) fn is_number(word: &str) -> bool {
+    word.parse::<u64>().is_ok()
 }
 
 /// The number in bytes at an offset, of so many bytes: 0 if they aren't there.
@@ -145,8 +103,8 @@ fn number_at(bytes: &[u8], offset: usize, length: usize) -> u64 {
 }
 
 /// The number of a factor: a number, or the number at a place of bytes.
-fn factor_of(word: &[u8], bytes: &[u8]) -> Sum {
-    let (offset, length) = cut_at(word, b':');
+fn factor_of(word: &str, bytes: &[u8]) -> Sum {
+    let (offset, length) = cut_at(word, ':');
     if length.is_empty() {
         return Sum {
             number: number_of(word),
@@ -162,9 +120,9 @@ fn factor_of(word: &[u8], bytes: &[u8]) -> Sum {
 }
 
 /// The product of the factors of a term.
-fn product_of(term: &[u8], bytes: &[u8]) -> Sum {
+fn product_of(term: &str, bytes: &[u8]) -> Sum {
     let mut product = Sum { number: 1, end: 0 };
-    for word in term.split(|byte| *byte == b'*') {
+    for word in term.split('*') {
         let factor = factor_of(word, bytes);
         product = Sum {
             number: product.number.saturating_mul(factor.number),
@@ -175,10 +133,10 @@ fn product_of(term: &[u8], bytes: &[u8]) -> Sum {
 }
 
 /// The number that a sum gives over the bytes of a structure.
-pub(crate) fn sum_of(word: &[u8], bytes: &[u8]) -> Sum {
+pub(crate) fn sum_of(word: &str, bytes: &[u8]) -> Sum {
     let mut sum = Sum { number: 0, end: 0 };
-    for added in word.split(|byte| *byte == b'+') {
-        let (term, taken) = cut_at(added, b'-');
+    for added in word.split('+') {
+        let (term, taken) = cut_at(added, '-');
         let term = product_of(term, bytes);
         let taken = if taken.is_empty() {
             Sum { number: 0, end: 0 }
@@ -197,9 +155,9 @@ pub(crate) fn sum_of(word: &[u8], bytes: &[u8]) -> Sum {
 }
 
 /// The block of a text with a name, for structures of a type, or for what all of them begin with.
-pub(crate) fn find_block(text: &'static [u8], name: &[u8], kind: Option<u64>) -> Option<Block> {
-    for block in text.split(|byte| *byte == b'=') {
-        let (head, lines) = cut_at(block, b'\n');
+pub(crate) fn find_block(text: &'static str, name: &str, kind: Option<u64>) -> Option<Block> {
+    for block in text.split('=') {
+        let (head, lines) = cut_at(block, '\n');
         let (word, head) = next_word(head);
         if word == name {
             let (kinds, head) = next_word(head);
@@ -207,7 +165,7 @@ pub(crate) fn find_block(text: &'static [u8], name: &[u8], kind: Option<u64>) ->
             if is_of_kind(kinds, kind) {
                 return Some(Block {
                     size,
-                    title: after_blanks(title),
+                    title: title.trim_ascii_start(),
                     lines,
                 });
             }
@@ -217,31 +175,31 @@ pub(crate) fn find_block(text: &'static [u8], name: &[u8], kind: Option<u64>) ->
 }
 
 /// The lines of the block that the first word names.
-pub(crate) fn lines_of(text: &'static [u8], rest: &'static [u8]) -> &'static [u8] {
+pub(crate) fn lines_of(text: &'static str, rest: &str) -> &'static str {
     let (name, _) = next_word(rest);
     match find_block(text, name, None) {
         Some(block) => block.lines,
-        None => b"",
+        None => "",
     }
 }
 
 /// Whether a type is one of those that a block is for.
-fn is_of_kind(kinds: &[u8], kind: Option<u64>) -> bool {
+fn is_of_kind(kinds: &str, kind: Option<u64>) -> bool {
     match kind {
-        None => matches!(kinds, b"*"),
+        None => kinds == "*",
         Some(kind) => {
-            let (first, last) = cut_at(kinds, b'-');
+            let (first, last) = cut_at(kinds, '-');
             let last = if last.is_empty() { first } else { last };
-            !matches!(kinds, b"*") && number_of(first) <= kind && kind <= number_of(last)
+            kinds != "*" && number_of(first) <= kind && kind <= number_of(last)
         }
     }
 }
 
 /// The meaning of a field, and its name, by what a line says after the length.
-pub(crate) fn field_of(text: &'static [u8], rest: &'static [u8]) -> (Meaning, &'static str) {
+pub(crate) fn field_of(text: &'static str, rest: &'static str) -> (Meaning, &'static str) {
     let (word, rest) = next_word(rest);
-    let (name, items) = cut_at(rest, b'|');
-    let meaning = match text_of(word) {
+    let (name, items) = cut_at(rest, '|');
+    let meaning = match word {
         "dec" => Meaning::Decimal,
         "text" => Meaning::Text,
         "wide" => Meaning::Wide,
@@ -254,21 +212,13 @@ pub(crate) fn field_of(text: &'static [u8], rest: &'static [u8]) -> (Meaning, &'
         "flags" => Meaning::Flags(items_of(text, items)),
         _ => Meaning::Plain,
     };
-    (meaning, text_of(before_blanks(after_blanks(name))))
-}
-
-/// Bytes of a layout as a text.
-pub(crate) fn text_of(bytes: &'static [u8]) -> &'static str {
-    str::from_utf8(bytes).unwrap_or("")
+    (meaning, name.trim_ascii())
 }
 
 /// The codes or flags that a line gives, or the block that it names.
-fn items_of(text: &'static [u8], items: &'static [u8]) -> &'static [u8] {
-    match after_blanks(items) {
-        [b'@', name @ ..] => match find_block(text, before_blanks(name), None) {
-            Some(block) => block.lines,
-            None => &[],
-        },
-        _ => items,
+fn items_of(text: &'static str, items: &'static str) -> &'static str {
+    match items.trim_ascii().strip_prefix('@') {
+        Some(name) => lines_of(text, name),
+        None => items,
     }
 }

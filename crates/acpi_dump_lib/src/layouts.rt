@@ -15,43 +15,37 @@ mod trust;
 
 use crate::language::find_block;
 use acpi::sdt::Signature;
-pub(crate) use roots::header;
+pub(crate) use roots::HEADER;
 
-/// How many texts of layouts there are.
-const TEXTS: u8 = 17;
-
-/// One of the texts of layouts.
-fn text(number: u8) -> &'static [u8] {
-    match number {
-        0 => roots::roots(),
-        1 => interrupts::madt(),
-        2 => interrupts::gtdt(),
-        3 => localities::localities(),
-        4 => devices::ports(),
-        5 => devices::timers(),
-        6 => boot::boot(),
-        7 => errors::errors(),
-        8 => iommu::dmar(),
-        9 => iommu::ivrs(),
-        10 => iommu::iort(),
-        11 => memory::memory(),
-        12 => memory::nfit(),
-        13 => trust::trust(),
-        14 => processors::processors(),
-        15 => processors::machines(),
-        16 => management::management(),
-        _ => b"",
-    }
-}
+/// The texts of layouts.
+const TEXTS: [&str; 17] = [
+    roots::ROOTS,
+    interrupts::MADT,
+    interrupts::GTDT,
+    localities::LOCALITIES,
+    devices::PORTS,
+    devices::TIMERS,
+    boot::BOOT,
+    errors::ERRORS,
+    iommu::DMAR,
+    iommu::IVRS,
+    iommu::IORT,
+    memory::MEMORY,
+    memory::NFIT,
+    trust::TRUST,
+    processors::PROCESSORS,
+    processors::MACHINES,
+    management::MANAGEMENT,
+];
 
 /// The text that has the layout of a table with this signature, and its lines after the header. A FACS has
 /// no header: these are then all of its lines.
-pub(crate) fn layout_of(signature: Signature) -> (&'static [u8], &'static [u8]) {
-    for number in 0..TEXTS {
-        let text = text(number);
-        if let Some(block) = find_block(text, &signature.to_bytes(), None) {
-            return (text, block.lines);
+pub(crate) fn layout_of(signature: Signature) -> (&'static str, &'static str) {
+    let name = signature.as_str().unwrap_or("");
+    for text in &TEXTS {
+        if let Some(block) = find_block(*text, name, None) {
+            return (*text, block.lines);
         }
     }
-    (b"", b"")
+    ("", "")
 }

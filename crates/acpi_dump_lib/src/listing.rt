@@ -16,19 +16,19 @@ fn last_part(path: &str) -> &str {
     }
 }
 
+/// The headings of the columns.
+fn headings(entries: &[Entry<'_>]) -> &'static str {
+    for entry in entries {
+        if matches!(entry.place, Place::File(_)) {
+            return "SIG  FILE             LENGTH   REV OEM ID TABLE ID OEM REV  CRTR CRTR REV STATUS";
+        }
+    }
+    "SIG  ADDRESS          LENGTH   REV OEM ID TABLE ID OEM REV  CRTR CRTR REV STATUS"
+}
+
 /// Prints the headings, then a line for each table.
 pub(crate) fn print_lines<W: Write>(entries: &[Entry<'_>], paint: Paint, out: &mut Out<W>) {
-    let are_files = entries
-        .iter()
-        .any(|entry| matches!(entry.place, Place::File(_)));
-    paint.heading(
-        if are_files {
-            "SIG  FILE             LENGTH   REV OEM ID TABLE ID OEM REV  CRTR CRTR REV STATUS"
-        } else {
-            "SIG  ADDRESS          LENGTH   REV OEM ID TABLE ID OEM REV  CRTR CRTR REV STATUS"
-        },
-        out,
-    );
+    paint.heading(headings(entries), out);
     out.text("\n");
     for entry in entries {
         print_line(entry, paint, out);
@@ -87,8 +87,7 @@ fn print_headless<W: Write>(header: &SdtHeader, entry: &Entry<'_>, out: &mut Out
 
 /// Prints the columns of a header.
 fn print_columns<W: Write>(header: &SdtHeader, out: &mut Out<W>) {
-    write!(out, "{:08x}", header.length);
-    write!(out, " {:02x}  ", header.revision);
+    write!(out, "{:08x} {:02x}  ", header.length, header.revision);
     print_text(&header.oem_id, out);
     out.text(" ");
     print_text(&header.oem_table_id, out);

@@ -36,7 +36,10 @@ pub fn dump<S: Sources, W: Write + Drop, E: Write + Drop>(
     let shown = out.ended();
     let told = err.ended();
     match status {
-        Ok(status) => shown.and(told).map(|_| status),
+        Ok(status) => {
+            shown.and(told)?;
+            Ok(status)
+        }
         Err(refusal) => Err(io::Error::from(refusal)),
     }
 }

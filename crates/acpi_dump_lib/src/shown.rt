@@ -35,6 +35,16 @@ pub(crate) fn print_tables<W: Write>(
     }
 }
 
+/// Whether a choice has some table.
+fn is_there(entries: &[Entry<'_>], choice: Choice) -> bool {
+    for entry in entries {
+        if chooses(choice, entry) {
+            return true;
+        }
+    }
+    false
+}
+
 /// Whether a signature that is chosen has no table. For each such one it says so.
 pub(crate) fn missing<E: Write>(
     entries: &[Entry<'_>],
@@ -45,7 +55,7 @@ pub(crate) fn missing<E: Write>(
     let mut any = false;
     for choice in choices {
         if let Some(signature) = choice.signature
-            && !entries.iter().any(|entry| chooses(*choice, entry))
+            && !is_there(entries, *choice)
         {
             any = true;
             tell(err, name, &format_args!("no table {signature}"));

@@ -47,6 +47,11 @@ impl Facts {
         }
     }
 
+    /// Adds a fact about one of several things, by its number.
+    fn add_numbered(&mut self, name: &str, number: u64, text: &impl Display) {
+        self.add(&format_args!("{name} {number}"), text);
+    }
+
     /// Adds why a part isn't known.
     fn add_refused(&mut self, name: &str, refusal: AcpiError) {
         self.add(&name, &format_args!("not known: {refusal}"));
@@ -159,23 +164,28 @@ fn add_processors<H: AcpiHandler>(
     others: &[Processor],
     tables: &AcpiTables<'_, H>,
 ) {
-    let disabled = others
-        .iter()
-        .filter(|it| it.state == ProcessorState::Disabled)
-        .count();
+    let mut disabled = 0usize;
+    for processor in others {
+        if processor.state == ProcessorState::Disabled {
+            disabled = disabled.saturating_add(1);
+        }
+    }
     let all = others.len().saturating_add(1);
     facts.add(
         &"processors",
         &format_args!("{all}, {disabled} of them disabled"),
     );
-    let srat = tables.find_table::<Srat>();
-    let table = match &srat {
-        Ok(srat) => srat.bytes(),
-        Err(_) => &[],
-    };
-    add_processor(facts, boot, table);
+    match &tables.find_table::<Srat>() {
+        Ok(srat) => add_each(facts, boot, others, srat.bytes()),
+        Err(_) => add_each(facts, boot, others, &[]),
+    }
+}
+
+/// Adds each processor, the boot processor first, with its domain by an SRAT's bytes.
+fn add_each(facts: &mut Facts, boot: &Processor, others: &[Processor], srat: &[u8]) {
+    add_processor(facts, boot, srat);
     for processor in others {
-        add_processor(facts, processor, table);
+        add_processor(facts, processor, srat);
     }
 }
 
@@ -185,12 +195,14 @@ fn add_processor(facts: &mut Facts, processor: &Processor, srat: &[u8]) {
     let id = processor.local_apic_id;
     let state = state_word(processor.state);
     match Domains::over(srat).domain_of_apic(id) {
-        Some(domain) => facts.add(
-            &format_args!("processor {uid}"),
+        Some(domain) => facts.add_numbered(
+            "processor",
+            uid as u64,
             &format_args!("local APIC {id}, {state}, domain {domain}"),
         ),
-        None => facts.add(
-            &format_args!("processor {uid}"),
+        None => facts.add_numbered(
+            "processor",
+            uid as u64,
             &format_args!("local APIC {id}, {state}"),
         ),
     }
@@ -244,8 +256,9 @@ fn add_apic(facts: &mut Facts, apic: &Apic<Global>) {
 fn add_io_apic(facts: &mut Facts, io_apic: &IoApic) {
     let (id, address) = (io_apic.id, io_apic.address);
     let base = io_apic.global_system_interrupt_base;
-    facts.add(
-        &format_args!("I/O APIC {id}"),
+    facts.add_numbered(
+        "I/O APIC",
+        id as u64,
         &format_args!("at 0x{address:x}, interrupts from {base} on"),
     );
 }
@@ -278,7 +291,7 @@ fn add_nmi_line(facts: &mut Facts, nmi: &NmiLine) {
 /// Adds where an ISA interrupt comes.
 fn add_isa(facts: &mut Facts, apic: &Apic<Global>, irq: u8) {
     let Some(isa) = apic.isa_interrupt(irq) else {
-        return facts.add(&format_args!("ISA interrupt {irq}"), &"comes nowhere");
+        return facts.add_numbered("ISA interrupt", irq as u64, &"comes nowhere");
     };
     let interrupt = isa.global_system_interrupt;
     let (polarity, trigger) = (
@@ -288,15 +301,17 @@ fn add_isa(facts: &mut Facts, apic: &Apic<Global>, irq: u8) {
     match apic.io_apic_for(interrupt) {
         Some(pin) => {
             let (id, number) = (pin.io_apic.id, pin.pin);
-            facts.add(
-                &format_args!("ISA interrupt {irq}"),
+            facts.add_numbered(
+                "ISA interrupt",
+                irq as u64,
                 &format_args!(
                     "interrupt {interrupt}, pin {number} of I/O APIC {id}, {polarity}, {trigger}"
                 ),
             )
         }
-        None => facts.add(
-            &format_args!("ISA interrupt {irq}"),
+        None => facts.add_numbered(
+            "ISA interrupt",
+            irq as u64,
             &format_args!("interrupt {interrupt}, {polarity}, {trigger}"),
         ),
     }
@@ -321,8 +336,9 @@ fn add_hpet(facts: &mut Facts, info: &HpetInfo) {
     } else {
         32
     };
-    facts.add(
-        &format_args!("HPET {number}"),
+    facts.add_numbered(
+        "HPET",
+        number as u64,
         &format_args!(
             "at 0x{address:x}, {bits} bits, {comparators} comparators, periods of {tick} ticks or more"
         ),
@@ -346,8 +362,9 @@ fn size_of(bytes: u64) -> (u64, &'static str) {
 fn add_region(facts: &mut Facts, region: PciConfigEntry) {
     let (first, last) = region.bus_range.into_inner();
     let (segment, address) = (region.segment_group, region.physical_address);
-    facts.add(
-        &format_args!("PCI segment {segment}"),
+    facts.add_numbered(
+        "PCI segment",
+        segment as u64,
         &format_args!("buses {first} to {last}, from 0x{address:x} on"),
     )
 }
@@ -361,8 +378,9 @@ fn add_range(facts: &mut Facts, range: &MemoryRange) {
     } else {
         ""
     };
-    facts.add(
-        &format_args!("memory domain {domain}"),
+    facts.add_numbered(
+        "memory domain",
+        domain as u64,
         &format_args!("{size} {unit} from 0x{base:x} on{plug}"),
     )
 }

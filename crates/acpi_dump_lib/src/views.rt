@@ -7,7 +7,7 @@ use crate::arguments::{Asked, View};
 use crate::entries::{Entry, entries_of, entries_of_files, lent_at};
 use crate::errors::tell;
 use crate::find::{candidates_of, print_candidates, print_facts, values_of};
-use crate::input::candidates::{candidates, ebda_of, starts};
+use crate::input::candidates::{Candidate, candidates, ebda_of, starts};
 use crate::input::gather::Input;
 use crate::input::tables::TableFile;
 use crate::json::{chosen_of, lines_of, print_document};
@@ -20,7 +20,7 @@ use acpi::{AcpiError, AcpiTables};
 use acpi_cli::root::Root;
 use acpi_image_reader::MemoryImage;
 pub(crate) use compared::print_compared;
-use packed::{facts_of_packed, packed_of};
+use packed::facts_of_files;
 use serde_json::Value;
 use std::alloc::{AllocError, Global};
 use std::io::Write;
@@ -121,7 +121,10 @@ fn start_of<E: Write>(
             &"no valid RSDP: --find shows those that there are, --start says where to begin",
         );
     }
-    Ok(first.map(|address| Root::Rsdp { address }))
+    match first {
+        Some(address) => Ok(Some(Root::Rsdp { address })),
+        None => Ok(None),
+    }
 }
 
 /// Says why the root table isn't opened.
@@ -245,12 +248,12 @@ fn print_entries<W: Write, E: Write>(
 
 /// The status if all is shown: 3 if a table is invalid and that counts.
 fn strict_status(output: Output<'_, '_>, entries: &[Entry<'_>]) -> u8 {
-    let is_invalid = entries.iter().any(|entry| entry.status.is_invalid());
-    if output.asked.is_strict && is_invalid {
-        3
-    } else {
-        0
+    for entry in entries {
+        if output.asked.is_strict && entry.status.is_invalid() {
+            return 3;
+        }
     }
+    0
 }
 
 /// Prints the RSDPs of a memory.
@@ -260,19 +263,29 @@ fn print_found<W: Write, E: Write>(
     out: &mut Out<W>,
     err: &mut Out<E>,
 ) -> Result<u8, AllocError> {
-    let Loaded::Memory(image) = loaded else {
-        tell(
-            err,
-            output.name(0),
-            &"tables, not memory: there is no RSDP to find",
-        );
-        return Ok(1);
-    };
-    let found = candidates(output.alloc, image)?;
+    match loaded {
+        Loaded::Memory(image) => {
+            print_rsdps(output, &candidates(output.alloc, image)?, out, err)
+        }
+        Loaded::Tables(_) => {
+            let what = "tables, not memory: there is no RSDP to find";
+            tell(err, output.name(0), &what);
+            Ok(1)
+        }
+    }
+}
+
+/// Prints RSDPs.
+fn print_rsdps<W: Write, E: Write>(
+    output: Output<'_, '_>,
+    found: &[Candidate],
+    out: &mut Out<W>,
+    err: &mut Out<E>,
+) -> Result<u8, AllocError> {
     if output.asked.is_json {
-        output.document("find", "rsdps", candidates_of(output.alloc, &found), out)?;
+        output.document("find", "rsdps", candidates_of(output.alloc, found), out)?;
     } else {
-        print_candidates(&found, out);
+        print_candidates(found, out);
     }
     if found.is_empty() {
         tell(err, output.name(0), &"no RSDP");
@@ -288,14 +301,20 @@ fn facts_in<E: Write>(
     err: &mut Out<E>,
 ) -> Result<Option<Vec<Fact>>, AllocError> {
     match loaded {
-        Loaded::Memory(image) => match open(output, 0, image, err)? {
-            Some(tables) => Ok(Some(facts_of(output.alloc, &tables)?)),
-            None => Ok(None),
-        },
-        Loaded::Tables(files) => match &packed_of(output, *files, err)? {
-            Some(packed) => facts_of_packed(output, packed, err),
-            None => Ok(None),
-        },
+        Loaded::Memory(image) => facts_of_image(output, image, err),
+        Loaded::Tables(files) => facts_of_files(output, *files, err),
+    }
+}
+
+/// The facts of a memory, or `None`, after saying why, if it has no tables.
+fn facts_of_image<E: Write>(
+    output: Output<'_, '_>,
+    image: &MemoryImage<'_>,
+    err: &mut Out<E>,
+) -> Result<Option<Vec<Fact>>, AllocError> {
+    match open(output, 0, image, err)? {
+        Some(tables) => Ok(Some(facts_of(output.alloc, &tables)?)),
+        None => Ok(None),
     }
 }
 

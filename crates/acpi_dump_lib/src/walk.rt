@@ -5,10 +5,8 @@ mod parts;
 
 ghost use Rattle.std.specs.Prelude.{◌<◌, length};
 
-use crate::language::{
-    Meaning, cut_at, is_number, lines_of, next_word, number_of, sum_of, text_of,
-};
-use crate::layouts::{header, layout_of};
+use crate::language::{Meaning, is_number, lines_of, next_word, number_of, sum_of};
+use crate::layouts::{HEADER, layout_of};
 use acpi::sdt::Signature;
 use entry::{Entry, next_entry};
 pub(crate) use parts::cut;
@@ -91,9 +89,9 @@ pub(crate) fn walk_table<S: Show>(signature: Signature, table: &[u8], show: &mut
         text,
     };
     let head = if signature == Signature::FACS {
-        b""
+        ""
     } else {
-        header()
+        HEADER
     };
     walk_structure(piece, head, lines, DEEPEST, show)
 }
@@ -102,8 +100,8 @@ pub(crate) fn walk_table<S: Show>(signature: Signature, table: &[u8], show: &mut
 #[cycle(walk)]
 fn walk_structure<S: Show>(
     piece: Piece<'_>,
-    head: &'static [u8],
-    lines: &'static [u8],
+    head: &'static str,
+    lines: &'static str,
     depth: u32,
     show: &mut S,
 ) {
@@ -121,7 +119,7 @@ fn walk_structure<S: Show>(
 #[cycle(walk)]
 fn walk_lines<S: Show>(
     piece: Piece<'_>,
-    lines: &'static [u8],
+    lines: &'static str,
     from: usize,
     depth: u32,
     show: &mut S,
@@ -130,12 +128,9 @@ fn walk_lines<S: Show>(
     if depth == 0 {
         return shown;
     }
-    let mut left = lines;
-    'lines: while !left.is_empty() {
-        let (line, others) = cut_at(left, b'\n');
-        left = others;
+    for line in lines.split('\n') {
         let (word, rest) = next_word(line);
-        shown = match text_of(word) {
+        shown = match word {
             "" => shown,
             "if" => walk_lines(piece, chosen_lines(piece, rest), shown, depth - 1, show),
             "with" => walk_lines(piece, lines_of(piece.text, rest), shown, depth - 1, show),
@@ -160,18 +155,18 @@ fn walk_lines<S: Show>(
 fn walk_part<S: Show>(
     piece: Piece<'_>,
     shown: usize,
-    word: &'static [u8],
-    rest: &'static [u8],
+    word: &'static str,
+    rest: &'static str,
     depth: u32,
     show: &mut S,
 ) -> usize {
-    let start = if matches!(word, b">") {
+    let start = if word == ">" {
         shown
     } else {
         sum_of(word, piece.bytes).number as usize
     };
     let (length, rest) = next_word(rest);
-    if let [b'{', count @ ..] = length {
+    if let Some(count) = length.strip_prefix('{') {
         let extent = list_extent(piece.bytes, start, count);
         if depth > 0 && show_start(piece, shown, extent, show) {
             return walk_list(piece, extent, rest, depth - 1, show);
@@ -186,7 +181,7 @@ fn walk_part<S: Show>(
 fn walk_list<S: Show>(
     piece: Piece<'_>,
     extent: Extent,
-    how: &'static [u8],
+    how: &'static str,
     depth: u32,
     show: &mut S,
 ) -> usize {
@@ -257,7 +252,7 @@ fn rest_of(piece: Piece<'_>, start: usize) -> Piece<'_> {
 
 /// The lines of the block that the fourth word names, if the number at the place that is the first
 /// is neither less than the second nor more than the third.
-fn chosen_lines(piece: Piece<'_>, rest: &'static [u8]) -> &'static [u8] {
+fn chosen_lines(piece: Piece<'_>, rest: &'static str) -> &'static str {
     let (place, rest) = next_word(rest);
     let (first, rest) = next_word(rest);
     let (last, rest) = next_word(rest);
@@ -265,6 +260,6 @@ fn chosen_lines(piece: Piece<'_>, rest: &'static [u8]) -> &'static [u8] {
     if number_of(first) <= number && number <= number_of(last) {
         lines_of(piece.text, rest)
     } else {
-        b""
+        ""
     }
 }

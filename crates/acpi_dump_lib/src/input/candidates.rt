@@ -1,7 +1,7 @@
 //! The RSDPs in memory, valid or not (section 5.2.5.1): each lies at a multiple of 16.
 
 use acpi::rsdp::Rsdp;
-use acpi::{AcpiError, AcpiResult, PhysicalRecord};
+use acpi::{AcpiError, AcpiResult, AddressRange, PhysicalRecord};
 use acpi_base::bytes::field;
 use acpi_image_reader::MemoryImage;
 use std::alloc::{AllocError, Global};
@@ -51,13 +51,11 @@ fn candidate_of(address: u64, lent: &[u8]) -> Candidate {
 
 /// The refusal of an RSDP in a file of its own, which for revision 0 has 20 bytes.
 pub(crate) fn check_file(bytes: &[u8]) -> AcpiResult<()> {
-    let mut padded = [0u8; 36];
     if bytes.len() >= Rsdp::MIN_LENGTH {
         return Rsdp::read(bytes).validate(bytes);
     }
-    for (slot, byte) in padded.iter_mut().zip(bytes) {
-        *slot = *byte;
-    }
+    let mut padded = [0u8; 36];
+    padded[..bytes.len()].copy_from_slice(bytes);
     let padded: &[u8] = &padded;
     let rsdp = Rsdp::read(padded);
     if bytes.len() < 20 || rsdp.revision() != 0 {
@@ -123,21 +121,32 @@ pub(crate) fn starts(
 ) -> Result<Vec<u64>, AllocError> {
     let [first, second] = acpi::rsdp::bios_areas(ebda);
     let mut addresses = Vec::new(alloc);
-    for area in [second, first] {
-        for candidate in found {
-            let is_inside = candidate.address >= area.address
-                && candidate.address - area.address < area.length;
-            if is_inside && candidate.refusal.is_none() {
-                addresses.push(candidate.address)?;
-            }
-        }
-    }
+    push_valid(&mut addresses, found, second)?;
+    push_valid(&mut addresses, found, first)?;
     if addresses.is_empty() {
-        for candidate in found {
-            if candidate.refusal.is_none() {
-                addresses.push(candidate.address)?;
-            }
-        }
+        push_valid(&mut addresses, found, ANYWHERE)?;
     }
     Ok(addresses)
+}
+
+/// An area that has all addresses of an RSDP.
+const ANYWHERE: AddressRange = AddressRange {
+    address: 0,
+    length: u64::MAX,
+};
+
+/// Adds the addresses of the valid candidates in an area.
+fn push_valid(
+    addresses: &mut Vec<u64>,
+    found: &[Candidate],
+    area: AddressRange,
+) -> Result<(), AllocError> {
+    for candidate in found {
+        let is_inside = candidate.address >= area.address
+            && candidate.address - area.address < area.length;
+        if is_inside && candidate.refusal.is_none() {
+            addresses.push(candidate.address)?;
+        }
+    }
+    Ok(())
 }

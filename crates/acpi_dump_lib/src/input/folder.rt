@@ -13,12 +13,8 @@ use std::io::Write;
 
 /// The name of a file in a folder.
 fn path_of(alloc: Global, folder: &str, name: &str) -> Result<String, AllocError> {
-    let mut path = String::from_str(alloc, folder)?;
-    if !folder.ends_with('/') {
-        path.push('/')?;
-    }
-    path.push_str(name)?;
-    Ok(path)
+    let mark = if folder.ends_with('/') { "" } else { "/" };
+    format!(in alloc; "{folder}{mark}{name}")
 }
 
 /// Adds the tables of a file in a folder. A folder in it is skipped, and so is a file without tables, with a message.
@@ -58,23 +54,29 @@ fn add_named<S: Sources, E: Write>(
     add_within(alloc, tables, path.as_str(), sources, err)
 }
 
-/// The names of what lies in a folder, in order, or `None`, after saying why, if the system refuses it.
-fn names_in<S: Sources, E: Write>(
+/// Adds the tables of the files of these names in a folder, in the order of their names.
+fn add_names<S: Sources, E: Write>(
     alloc: Global,
+    tables: &mut Vec<TableFile>,
     folder: &str,
+    names: &[&str],
     sources: &mut S,
     err: &mut Out<E>,
-) -> Result<Option<Vec<String>>, AllocError> {
-    match &sources.names_in(alloc, folder) {
-        Ok(names) => Ok(Some(in_order(alloc, &borrowed(alloc, names)?)?)),
-        Err(refusal) => {
-            tell(err, folder, &reason_of(refusal));
-            Ok(None)
+) -> Result<bool, AllocError> {
+    let before = tables.len();
+    for name in &in_order(alloc, names)? {
+        if !add_named(alloc, tables, folder, *name, sources, err)? {
+            return Ok(false);
         }
     }
+    let is_some = tables.len() > before;
+    if !is_some {
+        tell(err, folder, &"no table in it");
+    }
+    Ok(is_some)
 }
 
-/// Adds the tables of a folder, in the order of their names.
+/// Adds the tables of a folder, and answers whether they are some, after saying why not.
 pub(crate) fn add_folder<S: Sources, E: Write>(
     alloc: Global,
     tables: &mut Vec<TableFile>,
@@ -82,18 +84,18 @@ pub(crate) fn add_folder<S: Sources, E: Write>(
     sources: &mut S,
     err: &mut Out<E>,
 ) -> Result<bool, AllocError> {
-    let Some(names) = names_in(alloc, folder, sources, err)? else {
-        return Ok(false);
-    };
-    let before = tables.len();
-    for name in &names {
-        if !add_named(alloc, tables, folder, name.as_str(), sources, err)? {
-            return Ok(false);
+    match &sources.names_in(alloc, folder) {
+        Ok(names) => add_names(
+            alloc,
+            tables,
+            folder,
+            &borrowed(alloc, names)?,
+            sources,
+            err,
+        ),
+        Err(refusal) => {
+            tell(err, folder, &reason_of(refusal));
+            Ok(false)
         }
     }
-    if tables.len() == before {
-        tell(err, folder, &"no table in it");
-        return Ok(false);
-    }
-    Ok(true)
 }

@@ -50,8 +50,11 @@ fn gather_file<S: Sources, E: Write>(
     err: &mut Out<E>,
 ) -> Result<Option<Input>, AllocError> {
     // What is said to be an image may be empty.
-    if reading.kind == Some(Kind::Image) {
-        return Ok(read_any(alloc, name, sources, err).map(Input::Memory));
+    if let Some(Kind::Image) = reading.kind {
+        return Ok(match read_any(alloc, name, sources, err) {
+            Some(bytes) => Some(Input::Memory(bytes)),
+            None => None,
+        });
     }
     let Some(bytes) = read_input(alloc, name, sources, err) else {
         return Ok(None);
@@ -128,7 +131,7 @@ fn add_words<S: Sources, E: Write>(
     err: &mut Out<E>,
 ) -> Result<bool, AllocError> {
     for name in &in_order(alloc, names)? {
-        if !add_word(alloc, tables, name.as_str(), reading, sources, err)? {
+        if !add_word(alloc, tables, *name, reading, sources, err)? {
             return Ok(false);
         }
     }

@@ -1,13 +1,13 @@
 //! Which kind of input bytes are.
 
 use crate::input::candidates::has_valid_rsdp;
-use crate::input::text::{first_line, heading_in};
+use crate::input::text::heading_in;
 use acpi::sdt::field;
 use acpi_image_reader::MemoryImage;
 use std::alloc::Global;
 
 /// A kind of input.
-#[derive(Clone, Copy, PartialEq, Eq)]
+#[derive(Clone, Copy)]
 pub(crate) enum Kind {
     /// An image of `acpi_pack`.
     Image,
@@ -63,28 +63,26 @@ pub(crate) fn text_in(bytes: &[u8]) -> Option<&str> {
 
 /// Whether bytes are a text with a heading of a table in it.
 fn is_text(bytes: &[u8]) -> bool {
-    let Some(mut rest) = text_in(bytes) else {
-        return false;
-    };
-    while !rest.is_empty() {
-        let (line, after) = first_line(rest);
-        if heading_in(line).is_some() {
-            return true;
+    if let Some(text) = text_in(bytes) {
+        for line in text.split('\n') {
+            if heading_in(line).is_some() {
+                return true;
+            }
         }
-        rest = after;
     }
     false
 }
 
 /// Whether bytes are an image that lends some.
 fn is_image(alloc: Global, bytes: &[u8]) -> bool {
-    match &MemoryImage::from_bytes(alloc, bytes) {
-        Ok(image) => image
-            .records()
-            .iter()
-            .any(|record| !record.bytes.is_empty()),
-        Err(_) => false,
+    if let Ok(image) = &MemoryImage::from_bytes(alloc, bytes) {
+        for record in image.records() {
+            if !record.bytes.is_empty() {
+                return true;
+            }
+        }
     }
+    false
 }
 
 /// The kind of input that bytes are, or `None` if they are none. A table whose length isn't that of the bytes

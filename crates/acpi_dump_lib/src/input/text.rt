@@ -20,7 +20,7 @@ pub(crate) struct SpelledTable {
 }
 
 /// Why a text is refused.
-#[derive(Clone, Copy, Debug, PartialEq, Eq)]
+#[derive(Clone, Copy)]
 pub(crate) enum TextError {
     /// The line of this number, counted from 1, is wrong.
     Line(usize),

@@ -7,16 +7,21 @@ pub(crate) fn is_wide(bytes: &[u8]) -> bool {
     matches!(bytes, [0xff, 0xfe, ..])
 }
 
+/// The letter that two bytes are, or `?` if it isn't ASCII.
+fn letter_of(unit: &[u8]) -> u8 {
+    match unit {
+        [letter, 0] if letter.is_ascii() => *letter,
+        _ => b'?',
+    }
+}
+
 /// The text after the mark, with `?` in place of what isn't ASCII.
 ///
 /// Fails if memory runs out.
 pub(crate) fn narrowed(alloc: Global, bytes: &[u8]) -> Result<Vec<u8>, AllocError> {
     let mut text = Vec::new(alloc);
     for unit in bytes.get(2..).unwrap_or(&[]).chunks(2) {
-        text.push(match unit {
-            [letter, 0] if letter.is_ascii() => *letter,
-            _ => b'?',
-        })?;
+        text.push(letter_of(unit))?;
     }
     Ok(text)
 }

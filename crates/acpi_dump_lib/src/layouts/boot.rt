@@ -5,11 +5,7 @@
 /// Simple Boot Flag Specification 2.1, Software Licensing Tables, Windows Platform Binary Table, Windows SMM Security
 /// Mitigations Table), the STAO and the XENV (Xen Project), the PHAT (ACPI 6.5, section 5.2.32) and the PRMT (Platform
 /// Runtime Mechanism 1.0).
-pub(crate) fn boot() -> &'static [u8] {
-    BOOT
-}
-
-const BOOT: &[u8] = b"
+pub(crate) const BOOT: &str = "
 = BGRT * - Boot Graphics Resource Table
 36 2 - Version
 38 1 flags Status | 0 displayed | 1 turned by 90 degrees | 2 turned by 180 degrees

@@ -3,11 +3,7 @@
 /// PCI configuration space, consoles and debug ports: the MCFG (PCI Firmware Specification 3.3, tables 4-2
 /// and 4-3), the SPCR, the DBG2 and the DBGP (Microsoft: Serial Port Console Redirection Table,
 /// Microsoft Debug Port Table 2, Debug Port Specification).
-pub(crate) fn ports() -> &'static [u8] {
-    PORTS
-}
-
-const PORTS: &[u8] = b"
+pub(crate) const PORTS: &str = "
 = MCFG * - PCI Express memory mapped configuration space base address description table
 36 8 - Reserved
 44 {*} each 16 MCFG-entry
@@ -116,11 +112,7 @@ if 12:2 0x8003 0xffff DBG2-other
 /// WDAT (Microsoft: Windows ACPI Emulated Devices Table, Watchdog Timer Hardware Requirements, Hardware
 /// Watchdog Timers Design Specification), the WDDT (Intel: Watchdog Descriptor Table), the VRTC and
 /// the MTMR (Intel: Simple Firmware Interface's tables under ACPI).
-pub(crate) fn timers() -> &'static [u8] {
-    TIMERS
-}
-
-const TIMERS: &[u8] = b"
+pub(crate) const TIMERS: &str = "
 = HPET * - IA-PC High Precision Event Timer Table
 36 4 - Event Timer Block ID
 40 12 gas BASE_ADDRESS

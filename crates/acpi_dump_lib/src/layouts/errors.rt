@@ -1,11 +1,7 @@
 //! Errors of the hardware (ACPI 6.5, chapter 18; the CPEP: section 5.2.18).
 
 /// The BERT (table 18.16), the CPEP, the EINJ (18.25), the ERST (18.17) and the HEST (18.3).
-pub(crate) fn errors() -> &'static [u8] {
-    ERRORS
-}
-
-const ERRORS: &[u8] = b"
+pub(crate) const ERRORS: &str = "
 = BERT * - Boot Error Record Table
 36 4 dec Boot Error Region Length
 40 8 - Boot Error Region

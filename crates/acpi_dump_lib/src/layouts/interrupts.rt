@@ -1,11 +1,7 @@
 //! The MADT and the GTDT (ACPI 6.5).
 
 /// The MADT (section 5.2.12, table 5.19).
-pub(crate) fn madt() -> &'static [u8] {
-    MADT
-}
-
-const MADT: &[u8] = b"
+pub(crate) const MADT: &str = "
 = APIC * - Multiple APIC Description Table
 36 4 - Local Interrupt Controller Address
 40 4 flags Flags | 0 PCAT_COMPAT
@@ -236,11 +232,7 @@ const MADT: &[u8] = b"
 
 /// The GTDT (section 5.2.25, table 5.122). Its fields of the virtual timer of EL2 came with revision 3,
 /// and structures of platform timers may begin in their place.
-pub(crate) fn gtdt() -> &'static [u8] {
-    GTDT
-}
-
-const GTDT: &[u8] = b"
+pub(crate) const GTDT: &str = "
 = GTDT * - Generic Timer Description Table
 36 8 - CntControlBase Physical Address
 44 4 - Reserved

@@ -1,11 +1,7 @@
 //! Units that translate the addresses of devices.
 
 /// The DMAR (Intel Virtualization Technology for Directed I/O 4.0, chapter 8).
-pub(crate) fn dmar() -> &'static [u8] {
-    DMAR
-}
-
-const DMAR: &[u8] = b"
+pub(crate) const DMAR: &str = "
 = DMAR * - DMA Remapping Reporting Structure
 36 1 dec Host Address Width
 37 1 flags Flags | 0 INTR_REMAP | 1 X2APIC_OPT_OUT | 2 DMA_CTRL_PLATFORM_OPT_IN_FLAG
@@ -77,11 +73,7 @@ const DMAR: &[u8] = b"
 ";
 
 /// The IVRS (AMD I/O Virtualization Technology (IOMMU) Specification 3.08, section 5.2).
-pub(crate) fn ivrs() -> &'static [u8] {
-    IVRS
-}
-
-const IVRS: &[u8] = b"
+pub(crate) const IVRS: &str = "
 = IVRS * - I/O Virtualization Reporting Structure
 36 4 flags IVinfo | 0 EFRSup | 1 DmaRemapSup | 7:5 GVASize | 14:8 PASize | 21:15 VASize | 22 HtAtsResv
 40 8 - Reserved
@@ -219,11 +211,7 @@ with IVMD
 ";
 
 /// The IORT (Arm DEN0049, E.f), and the VIOT (Virtual I/O Translation Table, version 0).
-pub(crate) fn iort() -> &'static [u8] {
-    IORT
-}
-
-const IORT: &[u8] = b"
+pub(crate) const IORT: &str = "
 = IORT * - I/O Remapping Table
 36 4 dec Number of IORT Nodes
 40 4 - Offset to Array of IORT Nodes

@@ -2,11 +2,7 @@
 
 /// The SRAT (section 5.2.16), the SLIT (5.2.17), the MSCT (5.2.19) and the HMAT (5.2.29, whose
 /// revision 1 is that of ACPI 6.2).
-pub(crate) fn localities() -> &'static [u8] {
-    LOCALITIES
-}
-
-const LOCALITIES: &[u8] = b"
+pub(crate) const LOCALITIES: &str = "
 = SRAT * - System Resource Affinity Table
 36 4 - Reserved
 40 8 - Reserved

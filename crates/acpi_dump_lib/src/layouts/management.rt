@@ -3,11 +3,7 @@
 /// The ASF! (DMTF DSP0136, Alert Standard Format 2.0), the MCHI (DMTF DSP0256, Management Component Transport
 /// Protocol), the SPMI (IPMI 2.0, appendix C), the SBST (ACPI 6.5, section 5.2.14), the ECDT (5.2.15)
 /// and the NHLT (Intel: Non HD Audio ACPI Specification 0.8).
-pub(crate) fn management() -> &'static [u8] {
-    MANAGEMENT
-}
-
-const MANAGEMENT: &[u8] = b"
+pub(crate) const MANAGEMENT: &str = "
 = ASF! * - Alert Standard Format Table
 36 {*} typed 0:1 2:2 ASF-record
 

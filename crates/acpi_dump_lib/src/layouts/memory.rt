@@ -2,11 +2,7 @@
 
 /// The MPST (ACPI 6.5, section 5.2.22), the PMTT (5.2.21.12; up to revision 1 that of ACPI 6.3), the RASF (5.2.20), the RAS2
 /// (5.2.21), the BDAT and the MISC (5.2.34).
-pub(crate) fn memory() -> &'static [u8] {
-    MEMORY
-}
-
-const MEMORY: &[u8] = b"
+pub(crate) const MEMORY: &str = "
 = MPST * - Memory Power State Table
 36 1 - Memory PCC Identifier
 37 3 - Reserved
@@ -144,11 +140,7 @@ if 8:1 2 255 PMTT-2
 ";
 
 /// The NFIT (ACPI 6.5, section 5.2.26) and the CEDT (CXL 3.0, section 9.17.1).
-pub(crate) fn nfit() -> &'static [u8] {
-    NFIT
-}
-
-const NFIT: &[u8] = b"
+pub(crate) const NFIT: &str = "
 = NFIT * - NVDIMM Firmware Interface Table
 36 4 - Reserved
 40 {*} typed 0:2 2:2 NFIT-structure

@@ -3,11 +3,7 @@
 
 /// The PPTT (ACPI 6.5, section 5.2.30), the LPIT (Intel Low Power S0 Idle), the PCCT (chapter 14), the
 /// PDTT (section 5.2.29) and the CSRT (Microsoft: Core System Resources Table).
-pub(crate) fn processors() -> &'static [u8] {
-    PROCESSORS
-}
-
-const PROCESSORS: &[u8] = b"
+pub(crate) const PROCESSORS: &str = "
 = PPTT * - Processor Properties Topology Table
 36 {*} typed 0:1 1:1 PPTT-node
 
@@ -193,11 +189,7 @@ if 20:4 29 0xffffffff CSRT-shared
 /// Tables of Arm machines: the AEST (Arm DEN0085, revision 1), the AGDI (DEN0093), the APMT (DEN0117), the MPAM
 /// (DEN0065, 2.0) and the SDEI (DEN0054, which has no fields); and the RHCT of RISC-V (RISC-V
 /// Hart Capabilities Table, ACPI 6.6).
-pub(crate) fn machines() -> &'static [u8] {
-    MACHINES
-}
-
-const MACHINES: &[u8] = b"
+pub(crate) const MACHINES: &str = "
 = SDEI * - Software Delegated Exceptions Interface Table
 
 = AEST * - Arm Error Source Table

@@ -2,11 +2,7 @@
 
 /// The header that every table begins with (section 5.2.6, table 5.4). An S3PT and an FBPT have only its first
 /// two fields: after their records, fields at lower offsets aren't shown.
-pub(crate) fn header() -> &'static [u8] {
-    HEADER
-}
-
-const HEADER: &[u8] = b"
+pub(crate) const HEADER: &str = "
 0 4 text Signature
 4 4 dec Length
 if 0:4 0x54503353 0x54503353 S3PT-records
@@ -21,11 +17,7 @@ if 0:4 0x54504246 0x54504246 FBPT-records
 ";
 
 /// The RSDT (section 5.2.7), the XSDT (5.2.8), the FADT (5.2.9) and the FACS (5.2.10).
-pub(crate) fn roots() -> &'static [u8] {
-    ROOTS
-}
-
-const ROOTS: &[u8] = b"
+pub(crate) const ROOTS: &str = "
 = RSDT * - Root System Description Table
 36 4[*] - Entry
 

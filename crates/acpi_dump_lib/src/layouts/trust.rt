@@ -2,11 +2,7 @@
 
 /// The TPM2 and the TCPA (TCG ACPI Specification 1.2), the DRTM (TCG D-RTM Architecture 1.0), the SDEV (ACPI
 /// 6.5, section 5.2.27), the CCEL (5.2.36) and the SVKL (5.2.34.2, Intel TDX).
-pub(crate) fn trust() -> &'static [u8] {
-    TRUST
-}
-
-const TRUST: &[u8] = b"
+pub(crate) const TRUST: &str = "
 = TPM2 * - Trusted Computing Platform 2 Table
 36 2 codes Platform Class | 0 client | 1 server
 38 2 - Reserved

@@ -1,14 +1,13 @@
 //! The facts of tables that come as files: of the valid ones, in a memory where each has a place.
 
-use super::Output;
+use super::{Output, facts_of_image};
 use crate::entries::{Entry, entries_of_files};
 use crate::errors::tell;
 use crate::input::machine::letters_of;
 use crate::input::tables::TableFile;
 use crate::out::Out;
 use crate::status::Status;
-use crate::summary::{Fact, facts_of};
-use acpi::AcpiTables;
+use crate::summary::Fact;
 use acpi_image::{PlacedTable, write_image};
 use acpi_image_reader::MemoryImage;
 use std::alloc::{AllocError, Global};
@@ -41,7 +40,7 @@ fn placed_of<'e>(alloc: Global, entries: &[Entry<'e>]) -> Result<Vec<PlacedTable
 }
 
 /// An image of the valid ones of tables that come as files, or `None`, after saying why, if there is none.
-pub(super) fn packed_of<E: Write>(
+fn packed_of<E: Write>(
     output: Output<'_, '_>,
     files: &[TableFile],
     err: &mut Out<E>,
@@ -57,20 +56,17 @@ pub(super) fn packed_of<E: Write>(
     }
 }
 
-/// The facts of an image that was packed.
-pub(super) fn facts_of_packed<E: Write>(
+/// The facts of tables that come as files, or `None`, after saying why, if they are no memory's.
+pub(super) fn facts_of_files<E: Write>(
     output: Output<'_, '_>,
-    packed: &[u8],
+    files: &[TableFile],
     err: &mut Out<E>,
 ) -> Result<Option<Vec<Fact>>, AllocError> {
-    let Ok(image) = &MemoryImage::from_bytes(output.alloc, packed) else {
-        return Err(AllocError);
+    let Some(packed) = packed_of(output, files, err)? else {
+        return Ok(None);
     };
-    match &AcpiTables::from_rsdp(image, 0xe0000) {
-        Ok(tables) => Ok(Some(facts_of(output.alloc, tables)?)),
-        Err(refusal) => {
-            tell(err, output.name(0), refusal);
-            Ok(None)
-        }
+    match &MemoryImage::from_bytes(output.alloc, &packed) {
+        Ok(image) => facts_of_image(output, image, err),
+        Err(_) => Err(AllocError),
     }
 }

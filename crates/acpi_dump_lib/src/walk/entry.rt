@@ -2,7 +2,7 @@
 
 use super::Fault;
 use super::parts::{Piece, after_zero};
-use crate::language::{Block, find_block, lines_of, next_word, sum_of, text_of};
+use crate::language::{Block, find_block, lines_of, next_word, sum_of};
 
 /// What is known of an entry: its length, its name, its type, and the lines of its layout.
 #[derive(Clone, Copy)]
@@ -10,21 +10,17 @@ pub(super) struct Entry {
     pub(super) length: usize,
     pub(super) name: &'static str,
     pub(super) kind: Option<u64>,
-    pub(super) head: &'static [u8],
-    pub(super) lines: &'static [u8],
+    pub(super) head: &'static str,
+    pub(super) lines: &'static str,
 }
 
 /// The entry that bytes in a structure begin with, or why they don't begin with one.
-pub(super) fn next_entry(
-    piece: Piece<'_>,
-    rest: &[u8],
-    how: &'static [u8],
-) -> Result<Entry, Fault> {
+pub(super) fn next_entry(piece: Piece<'_>, rest: &[u8], how: &'static str) -> Result<Entry, Fault> {
     let (word, how) = next_word(how);
     let (first, how) = next_word(how);
-    match text_of(word) {
+    match word {
         "each" => {
-            let length = if matches!(first, b"z") {
+            let length = if first == "z" {
                 after_zero(rest, 0)
             } else {
                 sum_of(first, piece.bytes).number as usize
@@ -63,23 +59,23 @@ fn checked_length(rest: &[u8], length: usize, least: usize) -> Result<usize, Fau
 }
 
 /// The length that stands in the entry that bytes begin with, which is at least so much.
-fn own_length(rest: &[u8], size: &'static [u8], least: usize) -> Result<usize, Fault> {
+fn own_length(rest: &[u8], size: &'static str, least: usize) -> Result<usize, Fault> {
     let length = sum_of(size, rest);
     checked_length(rest, length.number as usize, length.end.max(least))
 }
 
 /// An entry without a type.
-fn plain_entry(text: &'static [u8], length: usize, how: &'static [u8]) -> Result<Entry, Fault> {
+fn plain_entry(text: &'static str, length: usize, how: &'static str) -> Result<Entry, Fault> {
     let (name, _) = next_word(how);
-    Ok(entry_of(length, None, b"", find_block(text, name, None)))
+    Ok(entry_of(length, None, "", find_block(text, name, None)))
 }
 
 /// An entry of a type.
 fn typed_entry(
-    text: &'static [u8],
+    text: &'static str,
     length: usize,
     kind: u64,
-    how: &'static [u8],
+    how: &'static str,
 ) -> Result<Entry, Fault> {
     let (name, _) = next_word(how);
     let block = find_block(text, name, Some(kind));
@@ -88,11 +84,11 @@ fn typed_entry(
 
 /// An entry of a type that determines its length.
 fn sized_entry(
-    text: &'static [u8],
+    text: &'static str,
     rest: &[u8],
     kind: u64,
     least: usize,
-    how: &'static [u8],
+    how: &'static str,
 ) -> Result<Entry, Fault> {
     if rest.len() < least {
         return Err(Fault::Cut);
@@ -107,10 +103,10 @@ fn sized_entry(
 }
 
 /// An entry that a block describes.
-fn entry_of(length: usize, kind: Option<u64>, head: &'static [u8], block: Option<Block>) -> Entry {
+fn entry_of(length: usize, kind: Option<u64>, head: &'static str, block: Option<Block>) -> Entry {
     let (name, lines) = match block {
-        Some(block) => (text_of(block.title), block.lines),
-        None => ("", NO_LINES),
+        Some(block) => (block.title, block.lines),
+        None => ("", ""),
     };
     Entry {
         length,
@@ -120,5 +116,3 @@ fn entry_of(length: usize, kind: Option<u64>, head: &'static [u8], block: Option
         lines,
     }
 }
-
-const NO_LINES: &[u8] = b"";

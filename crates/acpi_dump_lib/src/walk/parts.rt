@@ -8,7 +8,7 @@ use crate::language::{cut_at, field_of, is_number, sum_of};
 pub(super) struct Piece<'a> {
     pub(super) base: u64,
     pub(super) bytes: &'a [u8],
-    pub(super) text: &'static [u8],
+    pub(super) text: &'static str,
 }
 
 /// Where a part of a structure begins and ends, and how many elements it has if they are counted.
@@ -38,39 +38,34 @@ pub(super) fn is_more(extent: Extent, number: u64) -> bool {
 
 /// The offset after the first zero from an offset on, or after all bytes if there is none.
 pub(super) fn after_zero(bytes: &[u8], start: usize) -> usize {
-    match cut(bytes, start, bytes.len()) {
-        Some(text) => {
-            let length = text.iter().take_while(|byte| **byte != 0).count();
-            start
-                .saturating_add(length)
-                .saturating_add(1)
-                .min(bytes.len())
+    for place in start..bytes.len() {
+        if bytes[place] == 0 {
+            return place + 1;
         }
-        None => start,
     }
+    start.max(bytes.len())
 }
 
 /// Where a list ends that begins at an offset of a structure, and how many entries it has, by the word
 /// after `{`.
-pub(super) fn list_extent(bytes: &[u8], start: usize, word: &'static [u8]) -> Extent {
-    let (word, _) = cut_at(word, b'}');
-    match word {
-        b"*" => Extent {
-            start,
-            end: bytes.len(),
-            count: None,
-        },
-        [b'~', length @ ..] => Extent {
-            start,
-            end: start.saturating_add(sum_of(length, bytes).number as usize),
-            count: None,
-        },
-        _ => Extent {
-            start,
-            end: bytes.len(),
-            count: Some(sum_of(word, bytes).number),
-        },
+pub(super) fn list_extent(bytes: &[u8], start: usize, word: &'static str) -> Extent {
+    let (word, _) = cut_at(word, '}');
+    let (end, count) = match word.strip_prefix('~') {
+        Some(length) => {
+            let length = sum_of(length, bytes).number as usize;
+            (start.saturating_add(length), None)
+        }
+        None => (bytes.len(), count_of(bytes, word)),
+    };
+    Extent { start, end, count }
+}
+
+/// How many elements a word says that there are: `None` if as many as fit.
+fn count_of(bytes: &[u8], word: &str) -> Option<u64> {
+    if word == "*" {
+        return None;
     }
+    Some(sum_of(word, bytes).number)
 }
 
 /// Shows the bytes up to where a part begins in a structure, of which so many bytes are shown, or why it
@@ -139,11 +134,11 @@ pub(super) fn show_fields<S: Show>(
     shown: usize,
     start: usize,
     is_fixed: bool,
-    word: &'static [u8],
-    rest: &'static [u8],
+    word: &'static str,
+    rest: &'static str,
     show: &mut S,
 ) -> usize {
-    let (length, count) = cut_at(word, b'[');
+    let (length, count) = cut_at(word, '[');
     if !count.is_empty() {
         let extent = array_extent(piece.bytes, start, count);
         if show_start(piece, shown, extent, show) {
@@ -151,12 +146,7 @@ pub(super) fn show_fields<S: Show>(
         }
         return shown;
     }
-    let end = match length {
-        b"*" => piece.bytes.len(),
-        b"z" => after_zero(piece.bytes, start),
-        [b'<', end @ ..] => sum_of(end, piece.bytes).number as usize,
-        _ => start.saturating_add(sum_of(length, piece.bytes).number as usize),
-    };
+    let end = field_end(piece.bytes, start, length);
     let extent = Extent {
         start,
         end,
@@ -173,18 +163,26 @@ pub(super) fn show_fields<S: Show>(
     show_field(piece, extent, rest, show)
 }
 
+/// Where a field ends that begins at an offset of a structure, by the word for its length.
+fn field_end(bytes: &[u8], start: usize, length: &str) -> usize {
+    match length {
+        "*" => bytes.len(),
+        "z" => after_zero(bytes, start),
+        _ => match length.strip_prefix('<') {
+            Some(end) => sum_of(end, bytes).number as usize,
+            None => start.saturating_add(sum_of(length, bytes).number as usize),
+        },
+    }
+}
+
 /// Where fields of one length end that begin at an offset of a structure, and how many there are, by the
 /// word after `[`.
-fn array_extent(bytes: &[u8], start: usize, word: &'static [u8]) -> Extent {
-    let (word, _) = cut_at(word, b']');
+fn array_extent(bytes: &[u8], start: usize, word: &str) -> Extent {
+    let (word, _) = cut_at(word, ']');
     Extent {
         start,
         end: bytes.len(),
-        count: if matches!(word, b"*") {
-            None
-        } else {
-            Some(sum_of(word, bytes).number)
-        },
+        count: count_of(bytes, word),
     }
 }
 
@@ -192,7 +190,7 @@ fn array_extent(bytes: &[u8], start: usize, word: &'static [u8]) -> Extent {
 fn show_field<S: Show>(
     piece: Piece<'_>,
     extent: Extent,
-    rest: &'static [u8],
+    rest: &'static str,
     show: &mut S,
 ) -> usize {
     let Some(bytes) = cut(piece.bytes, extent.start, extent.end) else {
@@ -213,8 +211,8 @@ fn show_field<S: Show>(
 fn show_numbers<S: Show>(
     piece: Piece<'_>,
     extent: Extent,
-    length: &'static [u8],
-    rest: &'static [u8],
+    length: &'static str,
+    rest: &'static str,
     show: &mut S,
 ) -> usize {
     let length = sum_of(length, piece.bytes).number as usize;

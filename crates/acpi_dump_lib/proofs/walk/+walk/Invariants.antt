@@ -14,10 +14,6 @@ decreases-walk_part g l = l.depth
 abbrev pub decreases-walk_list : goal.decreases-walk_list
 decreases-walk_list g l = l.depth
 
--- each line leaves fewer bytes
-abbrev pub decreases-walk_lines-lines : goal.decreases-walk_lines-lines
-decreases-walk_lines-lines g l = length l.left
-
 -- each entry leaves fewer bytes
 abbrev pub decreases-walk_list-entries : goal.decreases-walk_list-entries
 decreases-walk_list-entries g l = length l.rest
