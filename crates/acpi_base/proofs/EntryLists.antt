@@ -6,7 +6,7 @@ use Rattle.std.specs.Result.{result_err, result_ok}
 use Rattle.acpi_base.specs.Interrupts.{item_of}
 use Rattle.acpi_base.specs.Madt.{entry_of, madt_grammar, madt_layout, cut_of, entries_of}
 use Rattle.acpi_base.specs.Model.{fault_in, item_in, fault_of, first_fault, processor_in, processors_of}
-use Rattle.acpi_base.specs.Items.{item_said, said_of, counted, said_in}
+use Rattle.acpi_base.specs.Items.{item_said, said_of, model_counts, said_in}
 use Rattle.acpi_base.specs.declared.error.MadtError.{MadtError}
 use Rattle.acpi_base.specs.declared.tables.madt.entry.MadtEntry.{MadtEntry}
 use Rattle.acpi_base.specs.declared.model.item.MadtItem.{MadtItem}
@@ -18,6 +18,7 @@ use Rattle.acpi_base.specs.Entries.{IsEntry, after_one, cut, with_entry}
 use Rattle.acpi_base.specs.MadtWalk.{BeginsDefined}
 use Rattle.acpi_base.proofs.Cuts.{cut_is_cut}
 use Rattle.acpi_base.specs.declared.error.MadtError.TheVariants.{InvalidEntryLength}
+use Rattle.acpi_base.specs.declared.error.AcpiError.TheVariants.{InvalidMadt}
 use Rattle.acpi_base.specs.Mcfg.{mcfg_entries_in, mcfg_entries_of, whole_mcfg_entries}
 
 one_fault : (o : Option MadtEntry) (xs : List (Result MadtItem MadtError)) (ys : List MadtEntry) → filter_map result_err xs ≡ filter_map fault_in ys
@@ -122,12 +123,12 @@ fault_at_rest faults [] none some = absurd (omega (arith, some))
 fault_at_rest faults (b ∷ rest) none some = rw none refl
 
 -- a walk that refused no entry, and ends with bytes left
-pub counted_short : (table rest : List ℕ) → cut madt_grammar rest ≡ ([], rest) → 1 ≤ length rest → filter_map result_err (said_in rest) ≡ filter_map fault_in (entries_of table) → (cut madt_grammar rest).1 ≡ (cut_of table).1 → Err InvalidEntryLength ≡ counted table
+pub counted_short : (table rest : List ℕ) → cut madt_grammar rest ≡ ([], rest) → 1 ≤ length rest → filter_map result_err (said_in rest) ≡ filter_map fault_in (entries_of table) → (cut madt_grammar rest).1 ≡ (cut_of table).1 → Err (InvalidMadt InvalidEntryLength) ≡ model_counts table
 counted_short table rest stuck some passed same =
     let said : filter_map result_err (said_in rest) ≡ [] = rw stuck refl in
     let left : rest ≡ (cut_of table).1 = ap (λ x. x.1) (sym stuck) ∙ same in
     let fault : fault_of table ≡ Some InvalidEntryLength = fault_at_rest _ _ (sym passed ∙ said) (rw left at some) in
-    rw (fault, counted) refl
+    rw (fault, model_counts) refl
 
 pub items_few : (table : List ℕ) → 2 * length (filter_map result_ok (said_in (drop 44 table))) ≤ length table - 44
 items_few table = omega (arith, length-filter_map result_ok (said_in (drop 44 table)), said_few table)

@@ -51,13 +51,6 @@ abbrev pub counts_of : List MadtItem → Counts
 counts_of items = counted_behind no_counts items
 
 -- all counts, or the first refusal
-abbrev pub counted : List ℕ → Result Counts MadtError
-counted table = elim (fault_of table) [
-  | Some fault ↦ Err fault
-  | None ↦ Ok (counts_of (items_of table))
-]
-
--- the same counts, and the refusal as the library's
 abbrev pub model_counts : List ℕ → Result Counts AcpiError
 model_counts table = elim (fault_of table) [
   | Some fault ↦ Err (InvalidMadt fault)

@@ -123,19 +123,6 @@ fn front<const KINDS: usize>(layout: &EntryLayout<KINDS>, bytes: &[u8]) -> Optio
     }
 }
 
-/// The length of the entry that the bytes begin with, or `None` if they begin with none, or no more entries
-/// may come.
-#[inline(always)]
-#[tactic(auto, unfolding(crate::specs::Entries::next_front))]
-fn next_front<const KINDS: usize>(grammar: &Grammar<KINDS>, bytes: &[u8]) -> Option<usize>
-    ensures { result ≡ next_front grammar.now bytes.now }
-{
-    match grammar.most {
-        Some(0) => None,
-        _ => front(&grammar.layout, bytes),
-    }
-}
-
 /// The entry of this length that the bytes begin with, and the bytes after it.
 #[inline(always)]
 fn split_next<'a, const KINDS: usize>(
@@ -157,7 +144,7 @@ fn split_next<'a, const KINDS: usize>(
 /// the least of its type, or goes past the bytes. Those that follow are entries by the same grammar
 /// with one less of them.
 #[inline(always)]
-#[tactic(auto, using(crate::proofs::Cuts::cut_stuck))]
+#[tactic(auto, using(crate::proofs::Cuts::cut_stuck), unfolding(crate::specs::Entries::next_front))]
 pub fn split_front<'a, const KINDS: usize>(
     grammar: &Grammar<KINDS>,
     bytes: &'a [u8],
@@ -168,7 +155,10 @@ pub fn split_front<'a, const KINDS: usize>(
     ensures shorter { IfSome result (λ x. length x.1.now < length bytes.now) }
     ensures none { IfNone result (cut grammar.now bytes.now ≡ ([], bytes.now)) }
 {
-    let size = next_front(grammar, bytes)?;
+    if let Some(0) = grammar.most {
+        return None;
+    }
+    let size = front(&grammar.layout, bytes)?;
     Some(split_next(grammar, bytes, size))
 }
 

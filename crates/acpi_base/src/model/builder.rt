@@ -1,6 +1,5 @@
 //! A model that is being gathered.
 ghost use Rattle.std.specs.Prelude.{◌≡◌, [], vec_capacity, vec_len, IfOk};
-ghost use Rattle.acpi_base.specs.Model.{state_of};
 ghost use Rattle.acpi_base.specs.declared.error.AcpiError.TheVariants.{AllocError as NoMemory};
 
 use super::ModelAndProcessors;
@@ -92,14 +91,22 @@ impl<A: Allocator> ModelBuilder<A> {
                     self.application_processors.push_reserved(Processor {
                         processor_uid,
                         local_apic_id,
-                        state: state_of(true, is_enabled),
+                        state: if is_enabled {
+                            ProcessorState::WaitingForSipi
+                        } else {
+                            ProcessorState::Disabled
+                        },
                         is_ap: true,
                     });
                 } else {
                     self.boot_processor = Some(Processor {
                         processor_uid,
                         local_apic_id,
-                        state: state_of(false, is_enabled),
+                        state: if is_enabled {
+                            ProcessorState::Running
+                        } else {
+                            ProcessorState::Disabled
+                        },
                         is_ap: false,
                     });
                 }
@@ -194,15 +201,4 @@ fn room<T, A: Allocator + Clone>(allocator: &A, count: usize) -> Result<Vec<T, A
     ensures capacity { IfOk result (λ v. vec_capacity v ≡ count) }
 {
     Vec::with_capacity(allocator.clone()?, count)
-}
-
-/// The state of a processor, by whether it is an application processor and whether it can be used.
-fn state_of(is_ap: bool, is_enabled: bool) -> ProcessorState
-    ensures { result ≡ state_of is_ap is_enabled }
-{
-    match (is_ap, is_enabled) {
-        (_, false) => ProcessorState::Disabled,
-        (true, true) => ProcessorState::WaitingForSipi,
-        (false, true) => ProcessorState::Running,
-    }
 }

@@ -1,6 +1,6 @@
 //! The number of items to gather, or the refusal.
 ghost use Rattle.std.specs.Prelude.{◌≡◌};
-ghost use Rattle.acpi_base.specs.Items.{counted, model_counts};
+ghost use Rattle.acpi_base.specs.Items.{model_counts};
 
 use super::item::MadtItem;
 use crate::bytes::skip;
@@ -29,20 +29,10 @@ pub struct Counts {
 impl Counts {
     /// The counts of the items in a MADT's bytes.
     ///
-    /// Fails with `InvalidMadt`, carrying the first fault.
-    pub(super) fn of_madt(table: &[u8]) -> AcpiResult<Counts>
+    /// Fails with `InvalidMadt`, carrying the first fault: that of an entry, or `InvalidEntryLength` if bytes are left
+    /// in which no entry begins.
+    pub(super) fn of(table: &[u8]) -> AcpiResult<Counts>
         ensures { result ≡ model_counts table.now }
-    {
-        match Counts::of(table) {
-            Ok(counts) => Ok(counts),
-            Err(fault) => Err(AcpiError::InvalidMadt(fault)),
-        }
-    }
-
-    /// The counts of the items in a MADT's bytes, or the first fault: that of an entry, or
-    /// `InvalidEntryLength` if bytes are left in which no entry begins.
-    fn of(table: &[u8]) -> Result<Counts, MadtError>
-        ensures { result ≡ counted table.now }
     {
         let mut counts = Counts {
             processors: 0,
@@ -58,7 +48,11 @@ impl Counts {
             let Some(said) = MadtItem::said(entry) else {
                 continue;
             };
-            match said? {
+            let item = match said {
+                Ok(item) => item,
+                Err(fault) => return Err(AcpiError::InvalidMadt(fault)),
+            };
+            match item {
                 MadtItem::Processor { .. } => counts.processors += 1,
                 MadtItem::IoApic(_) => counts.io_apics += 1,
                 MadtItem::Override(_) => counts.overrides += 1,
@@ -71,7 +65,7 @@ impl Counts {
         }
         match rest {
             [] => Ok(counts),
-            [_, ..] => Err(MadtError::InvalidEntryLength),
+            [_, ..] => Err(AcpiError::InvalidMadt(MadtError::InvalidEntryLength)),
         }
     }
 }

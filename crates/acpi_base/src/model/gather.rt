@@ -51,7 +51,7 @@ pub(crate) fn model_in<A: Allocator + Clone>(
 ) -> AcpiResult<ModelAndProcessors<A>>
     ensures { GivesOrFull (AsksMemory table.now) result (model_with madt.now table.now) }
 {
-    let counts = Counts::of_madt(table)?;
+    let counts = Counts::of(table)?;
     if !counts.is_of_apic {
         return Ok((InterruptModel::Unknown, None));
     }

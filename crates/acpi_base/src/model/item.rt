@@ -62,7 +62,14 @@ impl MadtItem {
     {
         match entry[0] {
             0x00 => Some(Ok(processor_of(&LocalApicEntry::read(entry)))),
-            0x01 => Some(Ok(MadtItem::IoApic(io_apic_of(&IoApicEntry::read(entry))))),
+            0x01 => {
+                let e = IoApicEntry::read(entry);
+                Some(Ok(MadtItem::IoApic(IoApic {
+                    id: e.io_apic_id,
+                    address: e.io_apic_address,
+                    global_system_interrupt_base: e.global_system_interrupt_base,
+                })))
+            }
             0x02 => Some(override_item(&InterruptSourceOverrideEntry::read(entry))),
             0x03 => Some(nmi_source_item(&NmiSourceEntry::read(entry))),
             0x04 => Some(nmi_line_item(&LocalApicNmiEntry::read(entry))),
@@ -123,17 +130,6 @@ fn x2apic_nmi_line_item(entry: &X2ApicNmiEntry) -> Result<MadtItem, MadtError>
 {
     let processor = processor_for(0xffffffff, entry.processor_uid);
     nmi_line_for(processor, entry.nmi_line)
-}
-
-/// The fields of an I/O APIC.
-fn io_apic_of(entry: &IoApicEntry) -> IoApic
-    ensures { result ≡ io_apic_of entry.now }
-{
-    IoApic {
-        id: entry.io_apic_id,
-        address: entry.io_apic_address,
-        global_system_interrupt_base: entry.global_system_interrupt_base,
-    }
 }
 
 /// The wiring that an override gives (section 5.2.12.5). The bus is tested before the flags.

@@ -55,7 +55,7 @@ impl<'h, H: Lender> PhysicalMapping<'h, H, Madt> {
     pub fn model_counts(&self) -> AcpiResult<Counts>
         ensures { result ≡ model_counts (bytes_of self.now) }
     {
-        Counts::of_madt(self.bytes())
+        Counts::of(self.bytes())
     }
 }
 

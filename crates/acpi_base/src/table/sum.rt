@@ -48,21 +48,10 @@ fn plain_sum(bytes: &[u8]) -> u8
 
 /// The sum of many bytes modulo 256, out of line, so that callers hold the code for few alone.
 #[inline(never)]
+#[tactic(auto, using(crate::proofs::Sums::adds_up_nothing))]
 fn long_sum(bytes: &[u8]) -> u8
     requires { BLOCK ≤ length bytes.now }
     ensures { result ≡ sum_of bytes.now }
-{
-    let (lanes, at) = summed_blocks(bytes);
-    finished(lanes, bytes, at)
-}
-
-/// The lanes' sums over the whole blocks, and where these end.
-#[inline(always)]
-#[tactic(auto, using(crate::proofs::Sums::adds_up_nothing))]
-fn summed_blocks(bytes: &[u8]) -> (u8x16, usize)
-    ensures within { result.1 ≤ length bytes.now }
-    ensures whole { length bytes.now - result.1 < BLOCK }
-    ensures sums { AddsUp result.0 (take result.1 bytes.now) }
 {
     let mut lanes = u8x16::splat(0);
     let mut at = 0;
@@ -73,7 +62,7 @@ fn summed_blocks(bytes: &[u8]) -> (u8x16, usize)
         lanes = with_vector(lanes, bytes, at + 3 * LANES);
         at += BLOCK;
     }
-    (lanes, at)
+    finished(lanes, bytes, at)
 }
 
 /// The sum of all bytes, if lanes hold that of the bytes before a place and less than a block
