@@ -106,14 +106,14 @@ impl Rsdp {
     pub fn length(&self) -> Option<u32>
         ensures { result ≡ extended_length_of self.now }
     {
-        self.unless_first(self.length)
+        (self.revision != 0).then_some(self.length)
     }
 
     /// XsdtAddress: the physical address of the XSDT, or `None` for revision 0 (section 5.2.5.3).
     pub fn xsdt_address(&self) -> Option<u64>
         ensures { result ≡ unless_first self.now self.now.xsdt_address }
     {
-        self.unless_first(self.xsdt_address)
+        (self.revision != 0).then_some(self.xsdt_address)
     }
 
     /// Extended Checksum: the byte by which all bytes of a valid RSDP sum to 0 modulo 256, or `None` for
@@ -121,18 +121,7 @@ impl Rsdp {
     pub fn ext_checksum(&self) -> Option<u8>
         ensures { result ≡ unless_first self.now self.now.ext_checksum }
     {
-        self.unless_first(self.ext_checksum)
-    }
-
-    /// A field that revision 0 does not have, or `None` for that revision.
-    fn unless_first<T: Copy>(&self, field: T) -> Option<T>
-        ensures { result ≡ unless_first self.now field }
-    {
-        if self.revision == 0 {
-            None
-        } else {
-            Some(field)
-        }
+        (self.revision != 0).then_some(self.ext_checksum)
     }
 
     /// The root table that a valid RSDP leads to: the RSDT if the revision or the XSDT's address is 0,

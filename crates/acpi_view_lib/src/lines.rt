@@ -27,7 +27,7 @@ use acpi::{
     AcpiError, AcpiHandler, AcpiResult, AcpiTable, AcpiTables, AmlTable, HpetInfo, Lender,
     PciConfigRegions, SdtHeaderIterator, SsdtIterator, TableFault, TableFaults,
 };
-pub(crate) use listed::{Line, Walk, print_each, print_walk};
+pub(crate) use listed::{Line, Walk, print_walk};
 pub use pieces::Printed;
 pub(crate) use pieces::{Piece, Pieces, print_line, setting};
 pub use platform::print_platform;

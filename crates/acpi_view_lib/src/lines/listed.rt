@@ -68,11 +68,3 @@ impl<L: Line> Walk for Iter<'_, L> {
 
     ghost end = { λ s t e. ap (flat_map L.item_text) (nil_from_length (iter_rest s) e.0) };
 }
-
-/// Prints the line of each item, in order.
-pub fn print_each<L: Line, W: Write>(printed: Printed, items: &[L], out: &mut W) -> Printed
-    ensures { Grows printed result (W.contents out.old) (W.contents out.new)
-        (flat_map L.item_text items.now) }
-{
-    print_walk(printed, items.iter(), out)
-}

@@ -12,7 +12,7 @@ ghost use Rattle.acpi_view_lib.specs.PlatformLines.{profile_line, profile_number
 ghost use Rattle.acpi_view_lib.specs.PlatformLines.{timer_line, trigger_word};
 ghost use Rattle.acpi_view_lib.specs.Writing.{Grows, GrowsSome};
 
-use super::{Line, Piece, Pieces, Printed, print_each, print_line, refused_pieces, yes_or_no};
+use super::{Line, Piece, Pieces, Printed, print_line, print_walk, refused_pieces, yes_or_no};
 use acpi::platform::interrupt::{
     Apic, InterruptModel, InterruptSourceOverride, IoApic, LocalInterruptLine, NmiLine,
     NmiProcessor, NmiSource, Polarity, TriggerMode,
@@ -120,10 +120,14 @@ fn print_apic<A: Allocator, W: Write>(printed: Printed, apic: &Apic<A>, out: &mu
         (apic_lines apic.now) }
 {
     let printed = print_line(printed, local_apic_pieces(apic), out);
-    let printed = print_each(printed, apic.io_apics.as_slice(), out);
-    let printed = print_each(printed, apic.interrupt_source_overrides.as_slice(), out);
-    let printed = print_each(printed, apic.nmi_sources.as_slice(), out);
-    print_each(printed, apic.local_apic_nmi_lines.as_slice(), out)
+    let printed = print_walk(printed, apic.io_apics.as_slice().iter(), out);
+    let printed = print_walk(
+        printed,
+        apic.interrupt_source_overrides.as_slice().iter(),
+        out,
+    );
+    let printed = print_walk(printed, apic.nmi_sources.as_slice().iter(), out);
+    print_walk(printed, apic.local_apic_nmi_lines.as_slice().iter(), out)
 }
 
 /// `model apic ADDRESS pics yes|no`.
@@ -237,7 +241,7 @@ fn print_processors<A: Allocator, W: Write>(
         return printed;
     };
     let printed = print_line(printed, info.boot_processor.pieces(), out);
-    print_each(printed, info.application_processors.as_slice(), out)
+    print_walk(printed, info.application_processors.as_slice().iter(), out)
 }
 
 /// `processor UID ID running|waiting|disabled`.
