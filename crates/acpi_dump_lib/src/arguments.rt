@@ -266,18 +266,21 @@ fn said_by<'w>(matches: &ArgMatches<'w>, mistakes: &mut Mistakes<'w>) -> Said {
 
 /// The request that matches make.
 ///
-/// Fails with the first mistake, in this order: the words of options, the choices, the views, the way to the root
-/// table, and memory for the inputs.
+/// Fails with the first mistake, in this order: the words of options, memory for the inputs, the choices, the views,
+/// and the way to the root table.
 pub(crate) fn asked_by<'w>(
     alloc: Global,
     matches: &ArgMatches<'w>,
 ) -> Result<Asked<'w>, Mistake<'w>> {
     let mut mistakes = Mistakes { first: None };
     let said = said_by(matches, &mut mistakes);
+    let mut inputs = inputs_of(alloc, matches, &mut mistakes);
     let choices = choices_of(alloc, matches, &mut mistakes);
     let view = view_of(matches, !choices.is_empty(), &mut mistakes);
     let root = root_after(matches, &mut mistakes);
-    let inputs = inputs_of(alloc, matches, root.is_some(), &mut mistakes);
+    if root.is_some() {
+        inputs.truncate(1);
+    }
     if let Some(mistake) = mistakes.first {
         return Err(mistake);
     }
@@ -299,20 +302,15 @@ pub(crate) fn asked_by<'w>(
     })
 }
 
-/// The words that name inputs: the first alone, if a way to the root table follows it.
+/// The words that name inputs, and those of a way to the root table that may follow the first.
 fn inputs_of<'w>(
     alloc: Global,
     matches: &ArgMatches<'w>,
-    has_root: bool,
     mistakes: &mut Mistakes<'w>,
 ) -> Vec<&'w str> {
     let mut inputs = Vec::new(alloc);
     let words = matches.get_strs("input").unwrap_or(&[]);
-    let count = if has_root { 1 } else { words.len() };
-    if inputs
-        .extend_from_slice(words.get(..count).unwrap_or(words))
-        .is_err()
-    {
+    if inputs.extend_from_slice(words).is_err() {
         mistakes.add(Mistake::OutOfMemory);
     }
     inputs
