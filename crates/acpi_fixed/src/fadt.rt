@@ -4,7 +4,6 @@ ghost use Rattle.std.specs.Prelude.{◌≡◌, ◌≤◌, length, true};
 ghost use Rattle.acpi_fixed.specs.Fadt.{fadt_at, profile_for};
 ghost use Rattle.acpi_fixed.specs.Registers.{HasBlocks};
 
-mod extended;
 mod flags;
 mod places;
 mod registers;
@@ -15,10 +14,9 @@ use acpi_base::bytes::{field, field_in, u8_in, u16_in, u32_in};
 use acpi_base::sdt::SdtHeader;
 use acpi_base::table::sum_refusal;
 use acpi_base::{AcpiError, AcpiResult, AcpiTable, PhysicalRecord, Signature};
-use extended::extended_number_in;
 pub use flags::{ArmBootArchFlags, FixedFeatureFlags, IaPcBootArchFlags};
 pub use registers::GpeBlock;
-use registers::{Registers, address_from, register_from};
+use registers::{Registers, address_from, extended_number_in, register_from};
 pub use view::FadtView;
 
 /// Preferred_PM_Profile: the machine's purpose (ACPI 6.4, section 5.2.9).

@@ -3,8 +3,10 @@
 
 ghost use Rattle.std.specs.Prelude.{◌≡◌, ◌+◌, ◌≤◌, length};
 
-use super::extended::{extended_address_in, extended_number_in};
-use super::registers::{BlockPlace, RegisterBlock, address_from, base_beside, register_from};
+use super::registers::{
+    BlockPlace, RegisterBlock, address_from, base_beside, extended_address_in, extended_number_in,
+    register_from,
+};
 use super::{
     ArmBootArchFlags, Fadt, FixedFeatureFlags, GpeBlock, IaPcBootArchFlags, PowerProfile, places,
     profile_from,
