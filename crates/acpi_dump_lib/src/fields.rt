@@ -57,6 +57,9 @@ pub(crate) fn print_value<W: Write>(value: &[u8], meaning: Meaning, out: &mut Ou
     if value.len() > 8 || matches!(meaning, Meaning::Text | Meaning::Wide | Meaning::Row) {
         return print_hex(value, out);
     }
+    if value.is_empty() {
+        return out.text("0x");
+    }
     let (number, digits) = (number_of(value), 2 * value.len());
     write!(out, "0x{number:0digits$x}")
 }
