@@ -25,7 +25,10 @@ use Rattle.acpi_view_lib.specs.View.{Views, first_of}
 
 -- nothing is printed
 pub grows_nothing : {T E : Type 0} (r : Result T E) (a : Option (List ℕ)) → Grows r r a a []
-grows_nothing r a = record { grows = λ ok. (ok, Appends-nil a) }
+grows_nothing r a = record {
+  grows = λ ok. (ok, Appends-nil a);
+  stays = λ error is. (is, refl);
+}
 
 -- these bytes are printed, and then those
 pub grows_more : {T E : Type 0} {r s t : Result T E} {a b c : Option (List ℕ)} {here rest : List ℕ}
@@ -35,6 +38,10 @@ grows_more first then = record {
       let later = then.grows ok in
       let sooner = first.grows later.0 in
       (sooner.0, Appends-trans _ _ _ _ _ sooner.1 later.1);
+  stays = λ error is.
+      let sooner = first.stays error is in
+      let later = then.stays error sooner.0 in
+      (later.0, later.1 ∙ sooner.1);
 }
 
 -- at first all are left
