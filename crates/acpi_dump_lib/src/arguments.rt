@@ -47,25 +47,6 @@ pub(crate) enum Color {
     Never,
 }
 
-/// What the arguments ask for.
-#[derive(Drop)]
-pub(crate) struct Asked<'w> {
-    /// The names of what is read.
-    pub(crate) inputs: Vec<&'w str>,
-    /// The kind of the inputs, if it is said.
-    pub(crate) kind: Option<Kind>,
-    /// The physical address of memory's first byte.
-    pub(crate) at: Option<u64>,
-    /// The way to the root table, if it is said.
-    pub(crate) start: Option<Root>,
-    pub(crate) view: View,
-    /// The tables whose contents are shown, in this order.
-    pub(crate) choices: Vec<Choice>,
-    pub(crate) is_json: bool,
-    pub(crate) is_strict: bool,
-    pub(crate) color: Color,
-}
-
 /// A word that is wrong: the option that it belongs to, the word, and what would be right.
 #[derive(Clone, Copy)]
 pub(crate) struct WrongWord<'w> {
@@ -83,42 +64,25 @@ pub(crate) enum Mistake<'w> {
     OutOfMemory,
 }
 
-/// The first mistake of those that the arguments have.
-#[derive(Clone, Copy)]
-struct Mistakes<'w> {
-    first: Option<Mistake<'w>>,
-}
-
-impl<'w> Mistakes<'w> {
-    /// Keeps a mistake, unless one was made before.
-    fn add(&mut self, mistake: Mistake<'w>) {
-        if self.first.is_none() {
-            self.first = Some(mistake);
-        }
-    }
-
-    /// Keeps that a word is wrong.
-    fn add_word(&mut self, option: &'static str, word: &'w str, usage: &'static str) {
-        self.add(Mistake::Word(WrongWord {
-            option,
-            word,
-            usage,
-        }));
-    }
-
-    /// Keeps that the word of an option is wrong, if it has no value. It answers the value.
-    fn checked<T: Copy>(
-        &mut self,
-        option: &'static str,
-        word: &'w str,
-        value: Option<T>,
-        usage: &'static str,
-    ) -> Option<T> {
-        if value.is_none() {
-            self.add_word(option, word, usage);
-        }
-        value
-    }
+/// What the arguments ask for.
+#[derive(Drop)]
+pub(crate) struct Asked<'w> {
+    /// The names of what is read.
+    pub(crate) inputs: Vec<&'w str>,
+    /// The kind of the inputs, if it is said.
+    pub(crate) kind: Option<Kind>,
+    /// The physical address of memory's first byte.
+    pub(crate) at: Option<u64>,
+    /// The way to the root table, if it is said.
+    pub(crate) start: Option<Root>,
+    pub(crate) view: View,
+    /// The tables whose contents are shown, in this order.
+    pub(crate) choices: Vec<Choice>,
+    pub(crate) is_json: bool,
+    pub(crate) is_strict: bool,
+    pub(crate) color: Color,
+    /// The first mistake that the arguments have.
+    pub(crate) mistake: Option<Mistake<'w>>,
 }
 
 /// A signature in either case: four bytes, in upper case if no table has lower-case letters.
@@ -129,35 +93,6 @@ fn parse_signature(word: &str) -> Option<Option<Signature>> {
     match word.as_bytes() {
         [a, b, c, d] => Some(Some(Signature::from_bytes([*a, *b, *c, *d]))),
         _ => None,
-    }
-}
-
-/// Adds the choices that the values of an option make to others.
-fn push_choices<'w>(
-    choices: &mut Vec<Choice>,
-    matches: &ArgMatches<'w>,
-    option: &'static str,
-    contents: Contents,
-    mistakes: &mut Mistakes<'w>,
-) {
-    let Some(words) = matches.get_strs(option) else {
-        return;
-    };
-    for word in words {
-        match parse_signature(*word) {
-            Some(signature) => {
-                let choice = Choice {
-                    signature,
-                    contents,
-                };
-                if choices.push(choice).is_err() {
-                    mistakes.add(Mistake::OutOfMemory);
-                }
-            }
-            None => {
-                mistakes.add_word(option, *word, "SIG, four letters of either case, or all");
-            }
-        }
     }
 }
 
@@ -189,41 +124,7 @@ const VIEWS: [(&str, View); 3] = [
     ("compare", View::Differences),
 ];
 
-/// The view that the options ask for, of which at most one kind may be there.
-fn view_of<'w>(matches: &ArgMatches<'w>, has_choices: bool, mistakes: &mut Mistakes<'w>) -> View {
-    let mut view = if has_choices {
-        View::Tables
-    } else {
-        View::Lines
-    };
-    let mut is_asked = has_choices;
-    for (option, asked) in &VIEWS {
-        if matches.get_flag(*option) {
-            if is_asked {
-                mistakes.add_word("", "two views", ONE_VIEW);
-            }
-            view = *asked;
-            is_asked = true;
-        }
-    }
-    view
-}
-
 const ONE_VIEW: &str = "[--table SIG].. [--hex SIG].. | --summary | --find | --compare";
-
-/// The way to the root table that words after an image say, in place of more inputs.
-fn root_after<'w>(matches: &ArgMatches<'w>, mistakes: &mut Mistakes<'w>) -> Option<Root> {
-    let words = matches.get_strs("input")?;
-    match words {
-        [_, form, ..] if matches!(*form, "rsdt" | "rsdp" | "bios") => mistakes.checked(
-            "",
-            *form,
-            parse_root(&words[1..]),
-            "IMAGE rsdt REVISION ADDRESS | rsdp ADDRESS | bios",
-        ),
-        _ => None,
-    }
-}
 
 const KINDS: &str = "image | memory | text | table";
 
@@ -233,97 +134,150 @@ const START: &str = "rsdt:REVISION:ADDRESS | rsdp:ADDRESS | bios";
 
 const COLORS: &str = "auto | always | never";
 
-/// What options with a word say.
-#[derive(Clone, Copy)]
-struct Said {
-    kind: Option<Kind>,
-    at: Option<u64>,
-    start: Option<Root>,
-    color: Option<Color>,
+const CHOICE: &str = "SIG, four letters of either case, or all";
+
+const ROOT: &str = "IMAGE rsdt REVISION ADDRESS | rsdp ADDRESS | bios";
+
+/// The word of an option, or no letters, which are no value of any, if it isn't there.
+fn word_of<'w>(matches: &ArgMatches<'w>, option: &str) -> &'w str {
+    matches.get_str(option).unwrap_or("")
 }
 
-/// What the options with a word say.
-fn said_by<'w>(matches: &ArgMatches<'w>, mistakes: &mut Mistakes<'w>) -> Said {
-    Said {
-        kind: match matches.get_str("as") {
-            Some(word) => mistakes.checked("as", word, parse_kind(word), KINDS),
-            None => None,
-        },
-        at: match matches.get_str("at") {
-            Some(word) => mistakes.checked("at", word, parse_address(word), AT),
-            None => None,
-        },
-        start: match matches.get_str("start") {
-            Some(word) => mistakes.checked("start", word, parse_start(word), START),
-            None => None,
-        },
-        color: match matches.get_str("color") {
-            Some(word) => mistakes.checked("color", word, parse_color(word), COLORS),
-            None => None,
-        },
+impl<'w> Asked<'w> {
+    /// Keeps a mistake, unless one was made before.
+    fn refuse(&mut self, mistake: Mistake<'w>) {
+        if self.mistake.is_none() {
+            self.mistake = Some(mistake);
+        }
+    }
+
+    /// Keeps that a word is wrong.
+    fn refuse_word(&mut self, option: &'static str, word: &'w str, usage: &'static str) {
+        self.refuse(Mistake::Word(WrongWord {
+            option,
+            word,
+            usage,
+        }));
+    }
+
+    /// Keeps that the word of an option is wrong, if it is there and has no value. It answers the value.
+    fn checked<T: Copy>(
+        &mut self,
+        matches: &ArgMatches<'w>,
+        option: &'static str,
+        value: Option<T>,
+        usage: &'static str,
+    ) -> Option<T> {
+        if value.is_none()
+            && let Some(word) = matches.get_str(option)
+        {
+            self.refuse_word(option, word, usage);
+        }
+        value
+    }
+
+    /// Adds what the options with a word say.
+    fn add_words(&mut self, matches: &ArgMatches<'w>) {
+        let kind = parse_kind(word_of(matches, "as"));
+        let at = parse_address(word_of(matches, "at"));
+        let start = parse_start(word_of(matches, "start"));
+        let color = parse_color(word_of(matches, "color"));
+        self.kind = self.checked(matches, "as", kind, KINDS);
+        self.at = self.checked(matches, "at", at, AT);
+        self.start = self.checked(matches, "start", start, START);
+        self.color = self
+            .checked(matches, "color", color, COLORS)
+            .unwrap_or(Color::Auto);
+    }
+
+    /// Adds the words that name inputs, and those of a way to the root table that may follow the first.
+    fn add_inputs(&mut self, matches: &ArgMatches<'w>) {
+        let words = matches.get_strs("input").unwrap_or(&[]);
+        if self.inputs.extend_from_slice(words).is_err() {
+            self.refuse(Mistake::OutOfMemory);
+        }
+    }
+
+    /// Adds a choice that the word of an option makes.
+    fn add_choice(&mut self, option: &'static str, word: &'w str, contents: Contents) {
+        let Some(signature) = parse_signature(word) else {
+            return self.refuse_word(option, word, CHOICE);
+        };
+        let choice = Choice {
+            signature,
+            contents,
+        };
+        if self.choices.push(choice).is_err() {
+            self.refuse(Mistake::OutOfMemory);
+        }
+    }
+
+    /// Adds the choices that the words of an option make.
+    fn add_choices(&mut self, matches: &ArgMatches<'w>, option: &'static str, contents: Contents) {
+        for word in matches.get_strs(option).unwrap_or(&[]) {
+            self.add_choice(option, *word, contents);
+        }
+    }
+
+    /// Adds the view that the options ask for, of which at most one kind may be there.
+    fn add_view(&mut self, matches: &ArgMatches<'w>) {
+        let mut is_asked = !self.choices.is_empty();
+        if is_asked {
+            self.view = View::Tables;
+        }
+        for (option, view) in &VIEWS {
+            if matches.get_flag(*option) {
+                if is_asked {
+                    self.refuse_word("", "two views", ONE_VIEW);
+                }
+                self.view = *view;
+                is_asked = true;
+            }
+        }
+    }
+
+    /// Takes the words after an image as a way to the root table, in place of more inputs, if they are to be one.
+    fn take_root(&mut self, matches: &ArgMatches<'w>) {
+        let [_, words @ ..] = matches.get_strs("input").unwrap_or(&[]) else {
+            return;
+        };
+        let [form, ..] = words else {
+            return;
+        };
+        if !matches!(*form, "rsdt" | "rsdp" | "bios") {
+            return;
+        }
+        let Some(root) = parse_root(words) else {
+            return self.refuse_word("", *form, ROOT);
+        };
+        self.inputs.truncate(1);
+        self.start = Some(root);
+        if self.kind.is_none() && self.at.is_none() {
+            self.kind = Some(Kind::Image);
+        }
     }
 }
 
-/// The request that matches make.
-///
-/// Fails with the first mistake, in this order: the words of options, memory for the inputs, the choices, the views,
-/// and the way to the root table.
-pub(crate) fn asked_by<'w>(
-    alloc: Global,
-    matches: &ArgMatches<'w>,
-) -> Result<Asked<'w>, Mistake<'w>> {
-    let mut mistakes = Mistakes { first: None };
-    let said = said_by(matches, &mut mistakes);
-    let mut inputs = inputs_of(alloc, matches, &mut mistakes);
-    let choices = choices_of(alloc, matches, &mut mistakes);
-    let view = view_of(matches, !choices.is_empty(), &mut mistakes);
-    let root = root_after(matches, &mut mistakes);
-    if root.is_some() {
-        inputs.truncate(1);
-    }
-    if let Some(mistake) = mistakes.first {
-        return Err(mistake);
-    }
-    let is_image = root.is_some() && said.kind.is_none() && said.at.is_none();
-    Ok(Asked {
-        inputs,
-        kind: if is_image {
-            Some(Kind::Image)
-        } else {
-            said.kind
-        },
-        at: said.at,
-        start: root.or(said.start),
-        view,
-        choices,
+/// The request that matches make, with the first mistake, in this order: the words of options, memory for the inputs,
+/// the choices, the views, and the way to the root table.
+pub(crate) fn asked_by<'w>(alloc: Global, matches: &ArgMatches<'w>) -> Asked<'w> {
+    let mut asked = Asked {
+        inputs: Vec::new(alloc),
+        kind: None,
+        at: None,
+        start: None,
+        view: View::Lines,
+        choices: Vec::new(alloc),
         is_json: matches.get_flag("json"),
         is_strict: matches.get_flag("strict"),
-        color: said.color.unwrap_or(Color::Auto),
-    })
-}
-
-/// The words that name inputs, and those of a way to the root table that may follow the first.
-fn inputs_of<'w>(
-    alloc: Global,
-    matches: &ArgMatches<'w>,
-    mistakes: &mut Mistakes<'w>,
-) -> Vec<&'w str> {
-    let mut inputs = Vec::new(alloc);
-    let words = matches.get_strs("input").unwrap_or(&[]);
-    if inputs.extend_from_slice(words).is_err() {
-        mistakes.add(Mistake::OutOfMemory);
-    }
-    inputs
-}
-
-/// The choices that the options make.
-fn choices_of<'w>(
-    alloc: Global,
-    matches: &ArgMatches<'w>,
-    mistakes: &mut Mistakes<'w>,
-) -> Vec<Choice> {
-    let mut choices = Vec::new(alloc);
-    push_choices(&mut choices, matches, "table", Contents::Fields, mistakes);
-    push_choices(&mut choices, matches, "hex", Contents::Bytes, mistakes);
-    choices
+        color: Color::Auto,
+        mistake: None,
+    };
+    asked.add_words(matches);
+    asked.add_inputs(matches);
+    asked.add_choices(matches, "table", Contents::Fields);
+    asked.add_choices(matches, "hex", Contents::Bytes);
+    asked.add_view(matches);
+    asked.take_root(matches);
+    asked
 }

@@ -2,62 +2,70 @@
 
 use crate::entries::Entry;
 use crate::fields::{print_hex, print_meaning, print_value};
-use crate::json::{List, Object, table_of};
 use crate::out::Out;
 use crate::shown::print_name;
-use crate::walk::{Fault, Group, Show, Shown, walk_table};
-use serde_json::Value;
+use crate::walk::{Fault, Group, Show, Shown, cut, walk_table};
 use std::alloc::{AllocError, Global};
 use std::io::Write;
 
-/// A field or a run of bytes of a table: where it is, its name, and its value as text.
-#[derive(Drop)]
+/// A field or a run of bytes of a table: where it is, its name, and where its value stands in the text of all values.
+#[derive(Clone, Copy)]
 struct Item {
     offset: u64,
     name: &'static str,
-    value: Out<Vec<u8>>,
+    start: usize,
+    end: usize,
 }
 
-/// The items of a table, in the order of its bytes.
+/// The items of a table, in the order of its bytes, and their values as one text.
 #[derive(Drop)]
 struct Items {
-    alloc: Global,
     items: Vec<Item>,
+    values: Out<Vec<u8>>,
     /// Whether memory for an item was refused.
     is_refused: bool,
 }
 
 impl Items {
-    /// Adds an item, and keeps whether there was memory for its value.
-    fn add(&mut self, item: Item) {
-        let is_printed = item.value.printed().is_some();
-        let is_added = self.items.push(item).is_ok();
-        self.is_refused |= !(is_printed && is_added);
+    /// Adds an item, whose value is what was printed from a place of the text on.
+    fn add(&mut self, offset: u64, name: &'static str, start: usize) {
+        let item = Item {
+            offset,
+            name,
+            start,
+            end: self.values.length(),
+        };
+        if self.items.push(item).is_err() {
+            self.is_refused = true;
+        }
+    }
+
+    /// These items, if memory sufficed for them and their values.
+    fn side(&self) -> Result<Side<'_>, AllocError> {
+        match self.values.printed() {
+            Some(values) if !self.is_refused => Ok(Side {
+                items: self.items.as_slice(),
+                values,
+            }),
+            _ => Err(AllocError),
+        }
     }
 }
 
 impl Show for Items {
     fn field(&mut self, shown: &Shown<'_>) {
-        let mut value = Out::new(Vec::new(self.alloc));
-        print_value(shown.bytes, shown.meaning, &mut value);
-        print_meaning(shown.bytes, shown.meaning, &mut value);
-        self.add(Item {
-            offset: shown.offset,
-            name: shown.name,
-            value,
-        });
+        let start = self.values.length();
+        print_value(shown.bytes, shown.meaning, &mut self.values);
+        print_meaning(shown.bytes, shown.meaning, &mut self.values);
+        self.add(shown.offset, shown.name, start);
     }
 
     fn bytes(&mut self, offset: u64, bytes: &[u8]) {
         let mut offset = offset;
         for line in bytes.chunks(16) {
-            let mut value = Out::new(Vec::new(self.alloc));
-            print_hex(line, &mut value);
-            self.add(Item {
-                offset,
-                name: "bytes",
-                value,
-            });
+            let start = self.values.length();
+            print_hex(line, &mut self.values);
+            self.add(offset, "bytes", start);
             offset = offset.saturating_add(16);
         }
     }
@@ -69,41 +77,45 @@ impl Show for Items {
     fn malformed(&mut self, _offset: u64, _fault: Fault) {}
 }
 
+/// The items of a table, with the text that their values stand in.
+#[derive(Clone, Copy)]
+struct Side<'a> {
+    items: &'a [Item],
+    values: &'a str,
+}
+
+impl<'a> Side<'a> {
+    /// The value of an item, if there is one.
+    fn value(self, item: Option<Item>) -> Option<&'a str> {
+        let Item { start, end, .. } = item?;
+        self.values.get(start..end)
+    }
+}
+
 /// The items of a table.
-fn items_of(alloc: Global, entry: &Entry<'_>) -> Result<Vec<Item>, AllocError> {
-    let mut shown = Items {
-        alloc,
+fn items_of(alloc: Global, entry: &Entry<'_>) -> Items {
+    let mut items = Items {
         items: Vec::new(alloc),
+        values: Out::new(Vec::new(alloc)),
         is_refused: false,
     };
     if let Some(signature) = entry.signature() {
-        walk_table(signature, entry.bytes, &mut shown);
+        walk_table(signature, entry.bytes, &mut items);
     }
-    let Items {
-        items,
-        is_refused,
-        ..
-    } = shown;
-    if is_refused {
-        return Err(AllocError);
-    }
-    Ok(items)
+    items
 }
 
 /// A difference: where it is, and the values in the two inputs, if they have it.
 #[derive(Clone, Copy)]
-struct Difference<'a> {
-    offset: u64,
-    name: &'static str,
-    old: Option<&'a str>,
-    new: Option<&'a str>,
+pub(crate) struct Difference<'a> {
+    pub(crate) offset: u64,
+    pub(crate) name: &'static str,
+    pub(crate) old: Option<&'a str>,
+    pub(crate) new: Option<&'a str>,
 }
 
 /// The item that comes first of those that are left on two sides, with the one beside it if that is the same field.
-fn next_pair<'a>(
-    old: Option<&'a Item>,
-    new: Option<&'a Item>,
-) -> (Option<&'a Item>, Option<&'a Item>) {
+fn next_pair(old: Option<Item>, new: Option<Item>) -> (Option<Item>, Option<Item>) {
     match (old, new) {
         (Some(a), Some(b)) if a.offset == b.offset && a.name == b.name => (old, new),
         (Some(a), Some(b)) if b.offset < a.offset => (None, new),
@@ -112,71 +124,61 @@ fn next_pair<'a>(
     }
 }
 
-/// The difference between an item and the one beside it, if there is one.
-fn difference_of<'a>(old: Option<&'a Item>, new: Option<&'a Item>) -> Option<Difference<'a>> {
-    let item = old.or(new)?;
-    let (old, new) = (value_of(old), value_of(new));
-    if old == new {
-        return None;
-    }
-    Some(Difference {
-        offset: item.offset,
-        name: item.name,
-        old,
-        new,
-    })
-}
-
 /// The differences between the items of two tables, in the order of their offsets.
 fn differences<'a>(
     alloc: Global,
-    old: &'a [Item],
-    new: &'a [Item],
+    old: &'a Items,
+    new: &'a Items,
 ) -> Result<Vec<Difference<'a>>, AllocError> {
+    let (old, new) = (old.side()?, new.side()?);
     let mut found = Vec::new(alloc);
     let (mut i, mut j) = (0usize, 0usize);
-    for _ in 0..old.len().saturating_add(new.len()) {
-        let (a, b) = next_pair(old.get(i), new.get(j));
+    for _ in 0..old.items.len().saturating_add(new.items.len()) {
+        let (a, b) = next_pair(old.items.get(i).copied(), new.items.get(j).copied());
         i = i.saturating_add(a.is_some() as usize);
         j = j.saturating_add(b.is_some() as usize);
-        if let Some(difference) = difference_of(a, b) {
-            found.push(difference)?;
+        let (old, new) = (old.value(a), new.value(b));
+        if let Some(item) = a.or(b)
+            && old != new
+        {
+            found.push(Difference {
+                offset: item.offset,
+                name: item.name,
+                old,
+                new,
+            })?;
         }
     }
     Ok(found)
 }
 
-/// The value of an item, if there is one.
-fn value_of(item: Option<&Item>) -> Option<&str> {
-    item?.value.printed()
+/// The letters from one place of a table on to another, or none if it ends before.
+fn letters_in<'a>(entry: &Entry<'a>, start: usize, end: usize) -> &'a [u8] {
+    cut(entry.bytes, start, end).unwrap_or(&[])
 }
 
-/// The letters by which a table is found again in another input: its signature and, of an SSDT, its OEM table id.
-fn key_of<'a>(entry: &Entry<'a>) -> (&'a [u8], &'a [u8]) {
-    let signature = entry.bytes.get(..4).unwrap_or(&[]);
-    let own = if signature == b"SSDT".as_slice() {
-        entry.bytes.get(16..24).unwrap_or(&[])
-    } else {
-        &[]
-    };
-    (signature, own)
+/// Whether a table is the same in two inputs, as far as its letters say: its signature and, of an SSDT, its OEM table id.
+fn is_alike(one: &Entry<'_>, other: &Entry<'_>) -> bool {
+    let signature = letters_in(one, 0, 4);
+    if signature != letters_in(other, 0, 4) {
+        return false;
+    }
+    signature != b"SSDT".as_slice() || letters_in(one, 16, 24) == letters_in(other, 16, 24)
 }
 
-/// The table of another input that is the same as one by its key, and by how many of this key stand before it.
+/// The table of another input that is the same as one by its letters, and by how many with these stand before it.
 fn same_in<'e, 'a>(
     entries: &[Entry<'_>],
     index: usize,
     others: &'e [Entry<'a>],
 ) -> Option<&'e Entry<'a>> {
-    let key = key_of(entries.get(index)?);
+    let wanted = entries.get(index)?;
     let mut before = 0usize;
-    for entry in entries.iter().take(index) {
-        if key_of(entry) == key {
-            before = before.saturating_add(1);
-        }
+    for entry in entries.get(..index)? {
+        before = before.saturating_add(is_alike(entry, wanted) as usize);
     }
     for other in others {
-        if key_of(other) == key {
+        if is_alike(other, wanted) {
             if before == 0 {
                 return Some(other);
             }
@@ -186,21 +188,42 @@ fn same_in<'e, 'a>(
     None
 }
 
-/// Prints a value, or that there is none.
-fn print_side<W: Write>(value: Option<&str>, out: &mut Out<W>) {
-    out.text(value.unwrap_or("none"));
+/// What the differences between two inputs are shown to.
+pub(crate) trait ShowDifferences {
+    /// Shows a table that is in one input alone, the first or else the second.
+    fn alone(&mut self, is_first: bool, entry: &Entry<'_>);
+
+    /// Shows the fields that differ between two tables, of which there are some.
+    fn pair(&mut self, old: &Entry<'_>, new: &Entry<'_>, found: &[Difference<'_>]);
 }
 
-/// Prints differences between two tables, under their names, if there are some.
+/// Differences as lines of text: the names of the two inputs, and where the lines are written to.
+#[derive(Drop)]
+pub(crate) struct DifferenceLines<'a, W> {
+    pub(crate) names: (&'a str, &'a str),
+    pub(crate) out: &'a mut Out<W>,
+}
+
+impl<W: Write> ShowDifferences for DifferenceLines<'_, W> {
+    fn alone(&mut self, is_first: bool, entry: &Entry<'_>) {
+        let name = if is_first { self.names.0 } else { self.names.1 };
+        write!(self.out, "only in {name}: ");
+        print_name(entry, self.out);
+        self.out.text("\n");
+    }
+
+    fn pair(&mut self, old: &Entry<'_>, new: &Entry<'_>, found: &[Difference<'_>]) {
+        print_found(old, new, found, self.out)
+    }
+}
+
+/// Prints differences between two tables, under their names.
 fn print_found<W: Write>(
     old: &Entry<'_>,
     new: &Entry<'_>,
     found: &[Difference<'_>],
     out: &mut Out<W>,
 ) {
-    if found.is_empty() {
-        return;
-    }
     print_name(old, out);
     out.text(" and ");
     print_name(new, out);
@@ -208,122 +231,47 @@ fn print_found<W: Write>(
     for difference in found {
         let (offset, name) = (difference.offset, difference.name);
         write!(out, "  {offset:04x}  {name:<38}  ");
-        print_side(difference.old, out);
+        out.text(difference.old.unwrap_or("none"));
         out.text(" -> ");
-        print_side(difference.new, out);
+        out.text(difference.new.unwrap_or("none"));
         out.text("\n");
     }
 }
 
-/// Prints the differences between two tables.
-fn print_pair<W: Write>(
+/// Shows the differences between two tables, if there are some.
+fn compare_pair<S: ShowDifferences>(
     alloc: Global,
     old: &Entry<'_>,
     new: &Entry<'_>,
-    out: &mut Out<W>,
+    show: &mut S,
 ) -> Result<(), AllocError> {
-    let items = items_of(alloc, old)?;
-    let others = items_of(alloc, new)?;
+    let (items, others) = (items_of(alloc, old), items_of(alloc, new));
     let found = differences(alloc, &items, &others)?;
-    print_found(old, new, &found, out);
-    Ok(())
-}
-
-/// Prints the tables that are in one input alone, and of those in both the fields that differ.
-///
-/// Fails if memory runs out.
-pub(crate) fn print_differences<W: Write>(
-    alloc: Global,
-    names: (&str, &str),
-    old: &[Entry<'_>],
-    new: &[Entry<'_>],
-    out: &mut Out<W>,
-) -> Result<(), AllocError> {
-    for index in 0..old.len() {
-        match same_in(old, index, new) {
-            Some(other) => print_pair(alloc, &old[index], other, out)?,
-            None => print_alone(names.0, &old[index], out),
-        }
-    }
-    for index in 0..new.len() {
-        if same_in(new, index, old).is_none() {
-            print_alone(names.1, &new[index], out);
-        }
+    if !found.is_empty() {
+        show.pair(old, new, &found);
     }
     Ok(())
 }
 
-/// Prints that a table is in one input alone.
-fn print_alone<W: Write>(name: &str, entry: &Entry<'_>, out: &mut Out<W>) {
-    write!(out, "only in {name}: ");
-    print_name(entry, out);
-    out.text("\n");
-}
-
-/// The differences as a value: for each pair of tables that differ its fields, and the tables that are in one
-/// input alone.
+/// Shows the tables that are in one input alone, and of those in both the fields that differ.
 ///
 /// Fails if memory runs out.
-pub(crate) fn differences_of(
+pub(crate) fn compare<S: ShowDifferences>(
     alloc: Global,
     old: &[Entry<'_>],
     new: &[Entry<'_>],
-) -> Result<Value, AllocError> {
-    let mut tables = List::new(alloc);
+    show: &mut S,
+) -> Result<(), AllocError> {
     for index in 0..old.len() {
         match same_in(old, index, new) {
-            Some(other) => add_pair(alloc, &old[index], other, &mut tables),
-            None => add_alone(alloc, &old[index], "first", &mut tables),
+            Some(other) => compare_pair(alloc, &old[index], other, show)?,
+            None => show.alone(true, &old[index]),
         }
     }
     for index in 0..new.len() {
         if same_in(new, index, old).is_none() {
-            add_alone(alloc, &new[index], "second", &mut tables);
+            show.alone(false, &new[index]);
         }
     }
-    tables.value()
-}
-
-/// Adds a table that is in one input alone.
-fn add_alone(alloc: Global, entry: &Entry<'_>, side: &str, tables: &mut List) {
-    let mut object = table_of(alloc, entry);
-    object.text("only", side);
-    tables.add(object);
-}
-
-/// Adds two tables of one name, if they differ.
-fn add_pair(alloc: Global, old: &Entry<'_>, new: &Entry<'_>, tables: &mut List) {
-    let fields = changed_of(alloc, old, new);
-    if matches!(&fields, Ok(Value::Array(fields)) if fields.is_empty()) {
-        return;
-    }
-    let mut object = table_of(alloc, old);
-    object.put("fields", fields);
-    tables.add(object);
-}
-
-/// The fields that differ between two tables, as values.
-fn changed_of(alloc: Global, old: &Entry<'_>, new: &Entry<'_>) -> Result<Value, AllocError> {
-    let items = items_of(alloc, old)?;
-    let others = items_of(alloc, new)?;
-    let found = differences(alloc, &items, &others)?;
-    values_of(alloc, &found)
-}
-
-/// Differences as values.
-fn values_of(alloc: Global, found: &[Difference<'_>]) -> Result<Value, AllocError> {
-    let mut fields = List::new(alloc);
-    for difference in found {
-        let mut object = Object::new(alloc);
-        object.number("offset", difference.offset);
-        object.text("name", difference.name);
-        if let Some(value) = difference.old {
-            object.text("old", value);
-        }
-        if let Some(value) = difference.new {
-            object.text("new", value);
-        }
-        fields.add(object);
-    }
-    fields.value()
+    Ok(())
 }

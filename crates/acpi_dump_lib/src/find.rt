@@ -1,32 +1,21 @@
-//! The RSDPs of a memory, valid or not, and the facts of a summary, as lines and as values.
+//! The RSDPs of a memory, valid or not, and the facts of a summary, as lines and in a document.
 
-use crate::input::candidates::{Candidate, Pointers};
-use crate::json::{List, Object};
+use crate::document::Document;
+use crate::input::candidates::Candidate;
+use crate::language::cut_at;
 use crate::out::Out;
-use crate::summary::Fact;
-use serde_json::Value;
-use std::alloc::{AllocError, Global};
 use std::io::Write;
-
-/// Prints what the fields of an RSDP point to.
-fn print_pointers<W: Write>(fields: Pointers, out: &mut Out<W>) {
-    let Pointers {
-        revision,
-        rsdt,
-        xsdt,
-    } = fields;
-    write!(out, " revision {revision} RSDT 0x{rsdt:x}");
-    if let Some(xsdt) = xsdt {
-        write!(out, " XSDT 0x{xsdt:x}");
-    }
-}
 
 /// Prints a line for each RSDP: its address, what it points to, and what the checks say.
 pub(crate) fn print_candidates<W: Write>(found: &[Candidate], out: &mut Out<W>) {
     for candidate in found {
         write!(out, "RSDP at {:016x}", candidate.address);
         if let Some(fields) = candidate.fields {
-            print_pointers(fields, out);
+            let (revision, rsdt) = (fields.revision, fields.rsdt);
+            write!(out, " revision {revision} RSDT 0x{rsdt:x}");
+            if let Some(xsdt) = fields.xsdt {
+                write!(out, " XSDT 0x{xsdt:x}");
+            }
         }
         match candidate.refusal {
             Some(refusal) => writeln!(out, ": {refusal}"),
@@ -35,55 +24,49 @@ pub(crate) fn print_candidates<W: Write>(found: &[Candidate], out: &mut Out<W>) 
     }
 }
 
-/// An RSDP as an object.
-fn candidate_of(alloc: Global, candidate: &Candidate) -> Object {
-    let mut object = Object::new(alloc);
-    object.address("address", candidate.address);
+/// Adds an RSDP.
+fn add_candidate(document: &mut Document, candidate: &Candidate) {
+    document.begin_object();
+    document.address("address", candidate.address);
     if let Some(fields) = candidate.fields {
-        object.number("revision", fields.revision as u64);
-        object.address("rsdt", fields.rsdt as u64);
-        if let Some(xsdt) = fields.xsdt {
-            object.address("xsdt", xsdt);
-        }
+        document.number("revision", fields.revision as u64);
+        document.address("rsdt", fields.rsdt as u64);
     }
     match &candidate.refusal {
-        Some(refusal) => object.shown("status", refusal),
-        None => object.text("status", "ok"),
+        Some(refusal) => document.shown("status", refusal),
+        None => document.text("status", "ok"),
     }
-    object.flag("valid", candidate.refusal.is_none());
-    object
+    document.flag("valid", candidate.refusal.is_none());
+    if let Some(fields) = candidate.fields
+        && let Some(xsdt) = fields.xsdt
+    {
+        document.address("xsdt", xsdt);
+    }
+    document.end_object();
 }
 
-/// The RSDPs as values.
-pub(crate) fn candidates_of(alloc: Global, found: &[Candidate]) -> Result<Value, AllocError> {
-    let mut values = List::new(alloc);
+/// Adds RSDPs.
+pub(crate) fn add_candidates(document: &mut Document, found: &[Candidate]) {
     for candidate in found {
-        values.add(candidate_of(alloc, candidate));
+        add_candidate(document, candidate);
     }
-    values.value()
 }
 
-/// Prints facts in two columns.
-pub(crate) fn print_facts<W: Write>(facts: &[Fact], out: &mut Out<W>) {
-    for fact in facts {
-        let (name, text) = (fact.name.as_str(), fact.text.as_str());
+/// Prints the lines of facts in two columns.
+pub(crate) fn print_facts<W: Write>(facts: &str, out: &mut Out<W>) {
+    for fact in facts.lines() {
+        let (name, text) = cut_at(fact, '\t');
         writeln!(out, "{name:<20} {text}");
     }
 }
 
-/// A fact as an object.
-fn value_of(alloc: Global, fact: &Fact) -> Object {
-    let mut object = Object::new(alloc);
-    object.text("name", fact.name.as_str());
-    object.text("value", fact.text.as_str());
-    object
-}
-
-/// Facts as values.
-pub(crate) fn values_of(alloc: Global, facts: &[Fact]) -> Result<Value, AllocError> {
-    let mut values = List::new(alloc);
-    for fact in facts {
-        values.add(value_of(alloc, fact));
+/// Adds the lines of facts.
+pub(crate) fn add_fact_lines(document: &mut Document, facts: &str) {
+    for fact in facts.lines() {
+        let (name, text) = cut_at(fact, '\t');
+        document.begin_object();
+        document.text("name", name);
+        document.text("value", text);
+        document.end_object();
     }
-    values.value()
 }

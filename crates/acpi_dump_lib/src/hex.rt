@@ -7,11 +7,11 @@ use std::io::Write;
 /// Prints bytes in lines of 16: the offset, the bytes in hexadecimal, and their characters. Lines
 /// that are the same as the one before are one `*`. At last comes the number of bytes.
 pub(crate) fn print_dump<W: Write>(bytes: &[u8], out: &mut Out<W>) {
-    let mut before: Option<&[u8]> = None;
+    let mut before: &[u8] = &[];
     let mut starred = false;
     let mut offset: u64 = 0;
     for line in bytes.chunks(16) {
-        if before == Some(line) {
+        if line == before {
             if !starred {
                 out.text("*\n");
             }
@@ -20,7 +20,7 @@ pub(crate) fn print_dump<W: Write>(bytes: &[u8], out: &mut Out<W>) {
             print_line(offset, line, out);
             starred = false;
         }
-        before = Some(line);
+        before = line;
         offset = offset.saturating_add(line.len() as u64);
     }
     writeln!(out, "{offset:08x}")

@@ -7,6 +7,7 @@
 mod arguments;
 mod compare;
 mod contents;
+mod document;
 mod entries;
 mod errors;
 mod fields;
@@ -14,7 +15,6 @@ mod find;
 mod getters;
 mod hex;
 mod input;
-mod json;
 mod language;
 mod layouts;
 mod listing;

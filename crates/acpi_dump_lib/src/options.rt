@@ -1,60 +1,34 @@
 //! The options, and what the help says of them.
 
+use crate::language::next_word;
 use clap::{Arg, ArgAction, Command};
 use std::alloc::{AllocError, Global};
 
-/// What an option takes, and what that is called.
-#[derive(Clone, Copy)]
-enum Takes {
-    Nothing,
-    /// One value.
-    Value(&'static str),
-    /// A value each time that it comes, or several between commas.
-    Values(&'static str),
-}
+/// The options, a line for each: what it is called, what it takes, and what the help says of it. It takes nothing (`-`),
+/// one value, or with `..` after the value's name a value each time that it comes, or several between commas.
+const OPTIONS: &str = "as KIND What the input is: image, memory, text or table
+at ADDRESS The address of raw memory's first byte
+start START The way to the root table: rsdt:REVISION:ADDRESS, rsdp:ADDRESS or bios
+table SIG.. The fields of the tables of a signature, or of all
+hex SIG.. The bytes of the tables of a signature, or of all
+summary - The machine in short
+find - Every RSDP in memory, valid or not
+compare - What differs between two inputs
+json - One JSON document of what is shown
+strict - Status 3 if a table is invalid
+color WHEN auto, always or never";
 
-/// The options: what each is called, what it takes, and what the help says of it.
-const OPTIONS: &[(&str, Takes, &str)] = &[
-    (
-        "as",
-        Takes::Value("KIND"),
-        "What the input is: image, memory, text or table",
-    ),
-    (
-        "at",
-        Takes::Value("ADDRESS"),
-        "The address of raw memory's first byte",
-    ),
-    (
-        "start",
-        Takes::Value("START"),
-        "The way to the root table: rsdt:REVISION:ADDRESS, rsdp:ADDRESS or bios",
-    ),
-    (
-        "table",
-        Takes::Values("SIG"),
-        "The fields of the tables of a signature, or of all",
-    ),
-    (
-        "hex",
-        Takes::Values("SIG"),
-        "The bytes of the tables of a signature, or of all",
-    ),
-    ("summary", Takes::Nothing, "The machine in short"),
-    ("find", Takes::Nothing, "Every RSDP in memory, valid or not"),
-    ("compare", Takes::Nothing, "What differs between two inputs"),
-    ("json", Takes::Nothing, "One JSON document of what is shown"),
-    ("strict", Takes::Nothing, "Status 3 if a table is invalid"),
-    ("color", Takes::Value("WHEN"), "auto, always or never"),
-];
-
-/// An option.
-fn option<'a>(alloc: Global, name: &'static str, takes: Takes, help: &'static str) -> Arg<'a> {
+/// The option that a line describes.
+fn option<'a>(alloc: Global, line: &'static str) -> Arg<'a> {
+    let (name, line) = next_word(line);
+    let (takes, help) = next_word(line);
     let option = Arg::new(alloc, name).long(name).help(help);
-    match takes {
-        Takes::Nothing => option.action(ArgAction::SetTrue),
-        Takes::Value(value) => option.value_name(value).action(ArgAction::Set),
-        Takes::Values(value) => option
+    if takes == "-" {
+        return option.action(ArgAction::SetTrue);
+    }
+    match takes.strip_suffix("..") {
+        None => option.value_name(takes).action(ArgAction::Set),
+        Some(value) => option
             .value_name(value)
             .action(ArgAction::Append)
             .value_delimiter(','),
@@ -85,8 +59,8 @@ pub(crate) fn command<'a>(alloc: Global) -> Result<Command<'a>, AllocError> {
         .after_help(AFTER)
         .no_binary_name(true)
         .arg(inputs(alloc))?;
-    for (name, takes, help) in OPTIONS {
-        command = command.arg(option(alloc, *name, *takes, *help))?;
+    for line in OPTIONS.split('\n') {
+        command = command.arg(option(alloc, line))?;
     }
     Ok(command)
 }

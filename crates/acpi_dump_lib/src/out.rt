@@ -59,6 +59,11 @@ impl<W: Write> Out<W> {
 }
 
 impl Out<Vec<u8>> {
+    /// How many bytes were printed.
+    pub(crate) fn length(&self) -> usize {
+        self.writer.len()
+    }
+
     /// What was printed, if memory sufficed for it.
     pub(crate) fn printed(&self) -> Option<&str> {
         if self.refused.is_some() {

@@ -67,13 +67,14 @@ fn print_matched<S: Sources, W: Write, E: Write>(
     out: &mut Out<W>,
     err: &mut Out<E>,
 ) -> Result<u8, AllocError> {
-    match &asked_by(alloc, matches) {
-        Ok(asked) => print_inputs(alloc, asked, sources, out, err),
-        Err(Mistake::Word(wrong)) => {
-            tell_word(err, *wrong);
+    let asked = asked_by(alloc, matches);
+    match asked.mistake {
+        None => print_inputs(alloc, &asked, sources, out, err),
+        Some(Mistake::Word(wrong)) => {
+            tell_word(err, wrong);
             Ok(2)
         }
-        Err(Mistake::OutOfMemory) => Err(AllocError),
+        Some(Mistake::OutOfMemory) => Err(AllocError),
     }
 }
 

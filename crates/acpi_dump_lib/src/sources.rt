@@ -1,6 +1,6 @@
 //! What the program reads: folders, files and standard input, and whether its output is a terminal.
 
-use std::alloc::Global;
+use std::alloc::{AllocError, Global};
 use std::io::{ErrorKind, IsTerminal, Read};
 use std::{env, fs, io};
 
@@ -51,9 +51,7 @@ impl Sources for HostSources<'_> {
     fn names_in(&mut self, alloc: Global, folder: &str) -> io::Result<Vec<String>> {
         let mut names = Vec::new(alloc);
         for entry in fs::read_dir(self.rt, folder)? {
-            let entry = entry?;
-            let name = String::from_str(alloc, entry.file_name())?;
-            names.push(name)?;
+            push_name(alloc, &mut names, entry?.file_name())?;
         }
         Ok(names)
     }
@@ -76,6 +74,12 @@ impl Sources for HostSources<'_> {
         };
         !asked_not && self.rt.stdout().is_terminal()
     }
+}
+
+/// Adds a name.
+fn push_name(alloc: Global, names: &mut Vec<String>, name: &str) -> Result<(), AllocError> {
+    let name = String::from_str(alloc, name)?;
+    Ok(names.push(name)?)
 }
 
 /// Why the system refuses, in a few words.

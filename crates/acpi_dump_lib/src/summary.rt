@@ -1,5 +1,6 @@
 //! The machine in short: processors, interrupts, timers, PCI, memory domains and the console, one fact a line.
 
+use crate::out::Out;
 use acpi::mcfg::PciConfigEntry;
 use acpi::platform::interrupt::{
     Apic, InterruptModel, IoApic, LocalInterruptLine, NmiLine, NmiProcessor, NmiSource, Polarity,
@@ -9,100 +10,46 @@ use acpi::platform::{PmTimer, Processor, ProcessorState};
 use acpi::spcr::Spcr;
 use acpi::{AcpiError, AcpiHandler, AcpiTables, HpetInfo, PciConfigRegions, PlatformInfo};
 use acpi_numa::{Domains, MemoryAffinities, MemoryRange, Srat};
-use std::alloc::{AllocError, Global};
-use std::fmt::Display;
+use std::alloc::Global;
 
-/// A fact: what it is about, and what holds.
-#[derive(Drop)]
-pub(crate) struct Fact {
-    pub(crate) name: String,
-    pub(crate) text: String,
+/// Facts as text, a line for each: its name, a tab, and what holds.
+pub(crate) type Facts = Out<Vec<u8>>;
+
+/// Adds why a part isn't known.
+fn add_refused(facts: &mut Facts, name: &str, refusal: AcpiError) {
+    writeln!(facts, "{name}\tnot known: {refusal}");
 }
 
-/// Facts, in order.
-#[derive(Drop)]
-struct Facts {
-    alloc: Global,
-    facts: Vec<Fact>,
-    /// Whether memory for a fact was refused.
-    is_refused: bool,
-}
-
-/// A fact from what is printed of it.
-fn fact_of(alloc: Global, name: &impl Display, text: &impl Display) -> Result<Fact, AllocError> {
-    let name = format!(in alloc; "{name}")?;
-    let text = format!(in alloc; "{text}")?;
-    Ok(Fact { name, text })
-}
-
-impl Facts {
-    /// Adds a fact, if there is memory for it.
-    fn add(&mut self, name: &impl Display, text: &impl Display) {
-        let is_added = match fact_of(self.alloc, name, text) {
-            Ok(fact) => self.facts.push(fact).is_ok(),
-            Err(_) => false,
-        };
-        if !is_added {
-            self.is_refused = true;
-        }
-    }
-
-    /// Adds a fact about one of several things, by its number.
-    fn add_numbered(&mut self, name: &str, number: u64, text: &impl Display) {
-        self.add(&format_args!("{name} {number}"), text);
-    }
-
-    /// Adds why a part isn't known.
-    fn add_refused(&mut self, name: &str, refusal: AcpiError) {
-        self.add(&name, &format_args!("not known: {refusal}"));
-    }
-
-    /// Adds why a part isn't known, unless it isn't there.
-    fn add_unless_missing(&mut self, name: &str, refusal: AcpiError) {
-        if !matches!(refusal, AcpiError::TableMissing(_)) {
-            self.add_refused(name, refusal);
-        }
+/// Adds why a part isn't known, unless it isn't there.
+fn add_unless_missing(facts: &mut Facts, name: &str, refusal: AcpiError) {
+    if !matches!(refusal, AcpiError::TableMissing(_)) {
+        add_refused(facts, name, refusal);
     }
 }
 
-/// The facts of a machine's tables.
-///
-/// Fails if memory runs out.
-pub(crate) fn facts_of<H: AcpiHandler>(
+/// Adds the facts of a machine's tables.
+pub(crate) fn add_facts<H: AcpiHandler>(
     alloc: Global,
     tables: &AcpiTables<'_, H>,
-) -> Result<Vec<Fact>, AllocError> {
-    let mut facts = Facts {
-        alloc,
-        facts: Vec::new(alloc),
-        is_refused: false,
-    };
-    add_platform(&mut facts, tables);
+    facts: &mut Facts,
+) {
+    add_platform(alloc, tables, facts);
     match HpetInfo::new(tables) {
-        Ok(info) => add_hpet(&mut facts, &info),
-        Err(refusal) => facts.add_unless_missing("HPET", refusal),
+        Ok(info) => add_hpet(facts, &info),
+        Err(refusal) => add_unless_missing(facts, "HPET", refusal),
     }
-    add_regions(&mut facts, tables);
-    add_ranges(&mut facts, tables);
+    add_regions(alloc, tables, facts);
+    add_ranges(alloc, tables, facts);
     if let Ok(console) = &tables.find_table::<Spcr>() {
-        add_console(&mut facts, console.get());
+        add_console(facts, console.get());
     }
-    let Facts {
-        facts,
-        is_refused,
-        ..
-    } = facts;
-    if is_refused {
-        return Err(AllocError);
-    }
-    Ok(facts)
 }
 
 /// Adds the facts of the platform.
-fn add_platform<H: AcpiHandler>(facts: &mut Facts, tables: &AcpiTables<'_, H>) {
-    match &tables.platform_info(facts.alloc) {
+fn add_platform<H: AcpiHandler>(alloc: Global, tables: &AcpiTables<'_, H>, facts: &mut Facts) {
+    match &tables.platform_info(alloc) {
         Ok(platform) => add_parts(facts, platform, tables),
-        Err(refusal) => facts.add_refused("platform", *refusal),
+        Err(refusal) => add_refused(facts, "platform", *refusal),
     }
 }
 
@@ -112,14 +59,13 @@ fn add_parts<H: AcpiHandler>(
     platform: &PlatformInfo<Global>,
     tables: &AcpiTables<'_, H>,
 ) {
-    let profile = platform.power_profile;
-    facts.add(&"profile", &format_args!("{profile:?}"));
+    writeln!(facts, "profile\t{:?}", platform.power_profile);
     if let Some(info) = &platform.processor_info {
         let others = info.application_processors.as_slice();
         add_processors(facts, &info.boot_processor, others, tables);
     }
     match &platform.interrupt_model {
-        InterruptModel::Unknown => facts.add(&"interrupts", &"not described by local APICs"),
+        InterruptModel::Unknown => facts.text("interrupts\tnot described by local APICs\n"),
         InterruptModel::Apic(apic) => add_apic(facts, apic),
     }
     if let Some(timer) = platform.pm_timer {
@@ -128,32 +74,23 @@ fn add_parts<H: AcpiHandler>(
 }
 
 /// Adds the regions of PCI configuration space.
-fn add_regions<H: AcpiHandler>(facts: &mut Facts, tables: &AcpiTables<'_, H>) {
-    match &PciConfigRegions::new(facts.alloc, tables) {
+fn add_regions<H: AcpiHandler>(alloc: Global, tables: &AcpiTables<'_, H>, facts: &mut Facts) {
+    match &PciConfigRegions::new(alloc, tables) {
         Ok(regions) => {
             for region in regions.iter() {
                 add_region(facts, region);
             }
         }
-        Err(refusal) => facts.add_unless_missing("PCI", *refusal),
+        Err(refusal) => add_unless_missing(facts, "PCI", *refusal),
     }
 }
 
 /// Adds the ranges of memory with their domains.
-fn add_ranges<H: AcpiHandler>(facts: &mut Facts, tables: &AcpiTables<'_, H>) {
-    if let Ok(affinities) = &MemoryAffinities::new(facts.alloc, tables) {
+fn add_ranges<H: AcpiHandler>(alloc: Global, tables: &AcpiTables<'_, H>, facts: &mut Facts) {
+    if let Ok(affinities) = &MemoryAffinities::new(alloc, tables) {
         for range in affinities.ranges() {
             add_range(facts, range);
         }
-    }
-}
-
-/// The word of a processor's state.
-fn state_word(state: ProcessorState) -> &'static str {
-    match state {
-        ProcessorState::Disabled => "disabled",
-        ProcessorState::WaitingForSipi => "waiting",
-        ProcessorState::Running => "running",
     }
 }
 
@@ -171,10 +108,7 @@ fn add_processors<H: AcpiHandler>(
         }
     }
     let all = others.len().saturating_add(1);
-    facts.add(
-        &"processors",
-        &format_args!("{all}, {disabled} of them disabled"),
-    );
+    writeln!(facts, "processors\t{all}, {disabled} of them disabled");
     match &tables.find_table::<Srat>() {
         Ok(srat) => add_each(facts, boot, others, srat.bytes()),
         Err(_) => add_each(facts, boot, others, &[]),
@@ -191,21 +125,17 @@ fn add_each(facts: &mut Facts, boot: &Processor, others: &[Processor], srat: &[u
 
 /// Adds a processor, with its domain by an SRAT's bytes.
 fn add_processor(facts: &mut Facts, processor: &Processor, srat: &[u8]) {
-    let uid = processor.processor_uid;
-    let id = processor.local_apic_id;
-    let state = state_word(processor.state);
-    match Domains::over(srat).domain_of_apic(id) {
-        Some(domain) => facts.add_numbered(
-            "processor",
-            uid as u64,
-            &format_args!("local APIC {id}, {state}, domain {domain}"),
-        ),
-        None => facts.add_numbered(
-            "processor",
-            uid as u64,
-            &format_args!("local APIC {id}, {state}"),
-        ),
+    let (uid, id) = (processor.processor_uid, processor.local_apic_id);
+    let state = match processor.state {
+        ProcessorState::Disabled => "disabled",
+        ProcessorState::WaitingForSipi => "waiting",
+        ProcessorState::Running => "running",
+    };
+    write!(facts, "processor {uid}\tlocal APIC {id}, {state}");
+    if let Some(domain) = Domains::over(srat).domain_of_apic(id) {
+        write!(facts, ", domain {domain}");
     }
+    facts.text("\n");
 }
 
 /// The words of a polarity.
@@ -228,16 +158,13 @@ fn trigger_words(trigger: TriggerMode) -> &'static str {
 
 /// Adds the controllers, where each ISA interrupt comes, and the interrupts that can't be masked.
 fn add_apic(facts: &mut Facts, apic: &Apic<Global>) {
+    let address = apic.local_apic_address;
     let pics = if apic.also_has_legacy_pics {
         "and a pair of 8259s"
     } else {
         "no 8259s"
     };
-    let address = apic.local_apic_address;
-    facts.add(
-        &"interrupts",
-        &format_args!("local APICs at 0x{address:x}, {pics}"),
-    );
+    writeln!(facts, "interrupts\tlocal APICs at 0x{address:x}, {pics}");
     for io_apic in apic.io_apics.as_slice() {
         add_io_apic(facts, io_apic);
     }
@@ -256,22 +183,22 @@ fn add_apic(facts: &mut Facts, apic: &Apic<Global>) {
 fn add_io_apic(facts: &mut Facts, io_apic: &IoApic) {
     let (id, address) = (io_apic.id, io_apic.address);
     let base = io_apic.global_system_interrupt_base;
-    facts.add_numbered(
-        "I/O APIC",
-        id as u64,
-        &format_args!("at 0x{address:x}, interrupts from {base} on"),
+    writeln!(
+        facts,
+        "I/O APIC {id}\tat 0x{address:x}, interrupts from {base} on"
     );
+}
+
+/// Adds what signals an interrupt, at the end of its line.
+fn add_signal(facts: &mut Facts, polarity: Polarity, trigger: TriggerMode) {
+    let (polarity, trigger) = (polarity_words(polarity), trigger_words(trigger));
+    writeln!(facts, ", {polarity}, {trigger}");
 }
 
 /// Adds an interrupt that can't be masked.
 fn add_nmi_source(facts: &mut Facts, source: &NmiSource) {
-    let interrupt = source.global_system_interrupt;
-    let polarity = polarity_words(source.polarity);
-    let trigger = trigger_words(source.trigger_mode);
-    facts.add(
-        &"NMI",
-        &format_args!("interrupt {interrupt}, {polarity}, {trigger}"),
-    );
+    write!(facts, "NMI\tinterrupt {}", source.global_system_interrupt);
+    add_signal(facts, source.polarity, source.trigger_mode);
 }
 
 /// Adds the pin of local APICs that such interrupts come to.
@@ -281,68 +208,50 @@ fn add_nmi_line(facts: &mut Facts, nmi: &NmiLine) {
         LocalInterruptLine::Lint1 => "LINT1",
     };
     match nmi.processor {
-        NmiProcessor::All => facts.add(&"NMI", &format_args!("{line} of every processor")),
-        NmiProcessor::ProcessorUid(uid) => {
-            facts.add(&"NMI", &format_args!("{line} of processor {uid}"));
-        }
+        NmiProcessor::All => writeln!(facts, "NMI\t{line} of every processor"),
+        NmiProcessor::ProcessorUid(uid) => writeln!(facts, "NMI\t{line} of processor {uid}"),
     }
 }
 
 /// Adds where an ISA interrupt comes.
 fn add_isa(facts: &mut Facts, apic: &Apic<Global>, irq: u8) {
+    write!(facts, "ISA interrupt {irq}\t");
     let Some(isa) = apic.isa_interrupt(irq) else {
-        return facts.add_numbered("ISA interrupt", irq as u64, &"comes nowhere");
+        return facts.text("comes nowhere\n");
     };
     let interrupt = isa.global_system_interrupt;
-    let (polarity, trigger) = (
-        polarity_words(isa.polarity),
-        trigger_words(isa.trigger_mode),
-    );
-    match apic.io_apic_for(interrupt) {
-        Some(pin) => {
-            let (id, number) = (pin.io_apic.id, pin.pin);
-            facts.add_numbered(
-                "ISA interrupt",
-                irq as u64,
-                &format_args!(
-                    "interrupt {interrupt}, pin {number} of I/O APIC {id}, {polarity}, {trigger}"
-                ),
-            )
-        }
-        None => facts.add_numbered(
-            "ISA interrupt",
-            irq as u64,
-            &format_args!("interrupt {interrupt}, {polarity}, {trigger}"),
-        ),
+    write!(facts, "interrupt {interrupt}");
+    if let Some(pin) = apic.io_apic_for(interrupt) {
+        let (number, id) = (pin.pin, pin.io_apic.id);
+        write!(facts, ", pin {number} of I/O APIC {id}");
     }
+    add_signal(facts, isa.polarity, isa.trigger_mode);
 }
 
 /// Adds the power management timer.
 fn add_timer(facts: &mut Facts, timer: PmTimer) {
     let bits = if timer.supports_32bit { 32 } else { 24 };
     let (space, address) = (timer.base.address_space, timer.base.address);
-    facts.add(
-        &"PM timer",
-        &format_args!("{bits} bits, {space:?} 0x{address:x}, 3579545 Hz"),
-    )
+    writeln!(
+        facts,
+        "PM timer\t{bits} bits, {space:?} 0x{address:x}, 3579545 Hz"
+    );
 }
 
 /// Adds the high precision event timers.
 fn add_hpet(facts: &mut Facts, info: &HpetInfo) {
     let (number, address) = (info.hpet_number, info.base_address);
-    let (comparators, tick) = (info.num_comparators(), info.clock_tick_unit);
     let bits = if info.main_counter_is_64bits() {
         64
     } else {
         32
     };
-    facts.add_numbered(
-        "HPET",
-        number as u64,
-        &format_args!(
-            "at 0x{address:x}, {bits} bits, {comparators} comparators, periods of {tick} ticks or more"
-        ),
-    )
+    write!(facts, "HPET {number}\tat 0x{address:x}, {bits} bits, ");
+    let (comparators, tick) = (info.num_comparators(), info.clock_tick_unit);
+    writeln!(
+        facts,
+        "{comparators} comparators, periods of {tick} ticks or more"
+    );
 }
 
 /// A number of bytes in the largest unit that has a whole number of it.
@@ -362,11 +271,10 @@ fn size_of(bytes: u64) -> (u64, &'static str) {
 fn add_region(facts: &mut Facts, region: PciConfigEntry) {
     let (first, last) = region.bus_range.into_inner();
     let (segment, address) = (region.segment_group, region.physical_address);
-    facts.add_numbered(
-        "PCI segment",
-        segment as u64,
-        &format_args!("buses {first} to {last}, from 0x{address:x} on"),
-    )
+    writeln!(
+        facts,
+        "PCI segment {segment}\tbuses {first} to {last}, from 0x{address:x} on"
+    );
 }
 
 /// Adds a range of memory and its domain.
@@ -378,26 +286,23 @@ fn add_range(facts: &mut Facts, range: &MemoryRange) {
     } else {
         ""
     };
-    facts.add_numbered(
-        "memory domain",
-        domain as u64,
-        &format_args!("{size} {unit} from 0x{base:x} on{plug}"),
-    )
+    writeln!(
+        facts,
+        "memory domain {domain}\t{size} {unit} from 0x{base:x} on{plug}"
+    );
 }
 
 /// Adds the serial console.
 fn add_console(facts: &mut Facts, console: &Spcr) {
     let base = match console.base_address() {
-        None => return facts.add(&"console", &"off"),
-        Some(Err(refusal)) => return facts.add_refused("console", refusal),
+        None => return facts.text("console\toff\n"),
+        Some(Err(refusal)) => return add_refused(facts, "console", refusal),
         Some(Ok(base)) => base,
     };
     let (space, address) = (base.address_space, base.address);
-    match console.baud_rate() {
-        Some(rate) => facts.add(
-            &"console",
-            &format_args!("{space:?} 0x{address:x}, {rate} bits per second"),
-        ),
-        None => facts.add(&"console", &format_args!("{space:?} 0x{address:x}")),
+    write!(facts, "console\t{space:?} 0x{address:x}");
+    if let Some(rate) = console.baud_rate() {
+        write!(facts, ", {rate} bits per second");
     }
+    facts.text("\n");
 }

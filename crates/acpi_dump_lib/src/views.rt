@@ -4,24 +4,23 @@ mod compared;
 mod packed;
 
 use crate::arguments::{Asked, View};
+use crate::document::{Document, add_all, add_chosen};
 use crate::entries::{Entry, entries_of, entries_of_files, lent_at};
 use crate::errors::tell;
-use crate::find::{candidates_of, print_candidates, print_facts, values_of};
+use crate::find::{add_candidates, add_fact_lines, print_candidates, print_facts};
 use crate::input::candidates::{Candidate, candidates, ebda_of, starts};
 use crate::input::gather::Input;
 use crate::input::tables::TableFile;
-use crate::json::{chosen_of, lines_of, print_document};
 use crate::listing::print_lines;
 use crate::out::Out;
 use crate::paint::Paint;
 use crate::shown::{missing, print_tables};
-use crate::summary::{Fact, facts_of};
+use crate::summary::{Facts, add_facts};
 use acpi::{AcpiError, AcpiTables};
 use acpi_cli::root::Root;
 use acpi_image_reader::MemoryImage;
 pub(crate) use compared::print_compared;
-use packed::facts_of_files;
-use serde_json::Value;
+use packed::add_facts_of_files;
 use std::alloc::{AllocError, Global};
 use std::io::Write;
 
@@ -51,15 +50,20 @@ impl<'w> Output<'_, 'w> {
         }
     }
 
-    /// Prints a document of what a view shows.
-    fn document<W: Write>(
+    /// The beginning of a document of what a view shows in the member of this name.
+    fn document(self, part: &str) -> Document {
+        Document::new(self.alloc, &self.asked.inputs, part)
+    }
+
+    /// Prints a document that is begun so.
+    fn print<W: Write>(
         self,
+        document: Document,
         view: &str,
         part: &str,
-        shown: Result<Value, AllocError>,
         out: &mut Out<W>,
     ) -> Result<(), AllocError> {
-        print_document(self.alloc, view, &self.asked.inputs, part, shown, out)
+        document.print(view, &self.asked.inputs, part, out)
     }
 }
 
@@ -221,29 +225,36 @@ fn print_entries<W: Write, E: Write>(
     out: &mut Out<W>,
     err: &mut Out<E>,
 ) -> Result<u8, AllocError> {
-    let alloc = output.alloc;
     let choices = output.asked.choices.as_slice();
-    match output.asked.view {
-        View::Tables => {
-            if output.asked.is_json {
-                let shown = chosen_of(alloc, entries, choices);
-                output.document("contents", "tables", shown, out)?;
-            } else {
-                print_tables(entries, choices, output.paint, out);
-            }
-            if missing(entries, choices, output.name(0), err) {
-                return Ok(1);
-            }
-        }
-        _ => {
-            if output.asked.is_json {
-                output.document("tables", "tables", lines_of(alloc, entries), out)?;
-            } else {
-                print_lines(entries, output.paint, out);
-            }
-        }
+    let is_chosen = matches!(output.asked.view, View::Tables);
+    if output.asked.is_json {
+        print_document(output, entries, is_chosen, out)?;
+    } else if is_chosen {
+        print_tables(entries, choices, output.paint, out);
+    } else {
+        print_lines(entries, output.paint, out);
+    }
+    if is_chosen && missing(entries, choices, output.name(0), err) {
+        return Ok(1);
     }
     Ok(strict_status(output, entries))
+}
+
+/// Prints tables as a document: those that are chosen, with their contents, or all of them without.
+fn print_document<W: Write>(
+    output: Output<'_, '_>,
+    entries: &[Entry<'_>],
+    is_chosen: bool,
+    out: &mut Out<W>,
+) -> Result<(), AllocError> {
+    let mut document = output.document("tables");
+    if is_chosen {
+        add_chosen(&mut document, entries, &output.asked.choices);
+    } else {
+        add_all(&mut document, entries);
+    }
+    let view = if is_chosen { "contents" } else { "tables" };
+    output.print(document, view, "tables", out)
 }
 
 /// The status if all is shown: 3 if a table is invalid and that counts.
@@ -283,7 +294,9 @@ fn print_rsdps<W: Write, E: Write>(
     err: &mut Out<E>,
 ) -> Result<u8, AllocError> {
     if output.asked.is_json {
-        output.document("find", "rsdps", candidates_of(output.alloc, found), out)?;
+        let mut document = output.document("rsdps");
+        add_candidates(&mut document, found);
+        output.print(document, "find", "rsdps", out)?;
     } else {
         print_candidates(found, out);
     }
@@ -294,27 +307,33 @@ fn print_rsdps<W: Write, E: Write>(
     Ok(0)
 }
 
-/// The facts of an input, or `None`, after saying why, if there are none. Those of files are those of the valid ones.
-fn facts_in<E: Write>(
+/// Adds the facts of an input, and answers whether there are some, after saying why not. Those of files are those of
+/// the valid ones.
+fn add_facts_in<E: Write>(
     output: Output<'_, '_>,
     loaded: &Loaded<'_>,
+    facts: &mut Facts,
     err: &mut Out<E>,
-) -> Result<Option<Vec<Fact>>, AllocError> {
+) -> Result<bool, AllocError> {
     match loaded {
-        Loaded::Memory(image) => facts_of_image(output, image, err),
-        Loaded::Tables(files) => facts_of_files(output, *files, err),
+        Loaded::Memory(image) => add_facts_of_image(output, image, facts, err),
+        Loaded::Tables(files) => add_facts_of_files(output, *files, facts, err),
     }
 }
 
-/// The facts of a memory, or `None`, after saying why, if it has no tables.
-fn facts_of_image<E: Write>(
+/// Adds the facts of a memory, and answers whether it has tables, after saying why not.
+fn add_facts_of_image<E: Write>(
     output: Output<'_, '_>,
     image: &MemoryImage<'_>,
+    facts: &mut Facts,
     err: &mut Out<E>,
-) -> Result<Option<Vec<Fact>>, AllocError> {
-    match open(output, 0, image, err)? {
-        Some(tables) => Ok(Some(facts_of(output.alloc, &tables)?)),
-        None => Ok(None),
+) -> Result<bool, AllocError> {
+    match &open(output, 0, image, err)? {
+        Some(tables) => {
+            add_facts(output.alloc, tables, facts);
+            Ok(true)
+        }
+        None => Ok(false),
     }
 }
 
@@ -325,13 +344,19 @@ fn print_summary<W: Write, E: Write>(
     out: &mut Out<W>,
     err: &mut Out<E>,
 ) -> Result<u8, AllocError> {
-    let Some(facts) = facts_in(output, loaded, err)? else {
+    let mut facts = Out::new(Vec::new(output.alloc));
+    if !add_facts_in(output, loaded, &mut facts, err)? {
         return Ok(1);
+    }
+    let Some(facts) = facts.printed() else {
+        return Err(AllocError);
     };
     if output.asked.is_json {
-        output.document("summary", "facts", values_of(output.alloc, &facts), out)?;
+        let mut document = output.document("facts");
+        add_fact_lines(&mut document, facts);
+        output.print(document, "summary", "facts", out)?;
     } else {
-        print_facts(&facts, out);
+        print_facts(facts, out);
     }
     Ok(0)
 }

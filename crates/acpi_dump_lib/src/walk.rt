@@ -130,21 +130,17 @@ fn walk_lines<S: Show>(
     }
     for line in lines.split('\n') {
         let (word, rest) = next_word(line);
-        shown = match word {
-            "" => shown,
-            "if" => walk_lines(piece, chosen_lines(piece, rest), shown, depth - 1, show),
-            "with" => walk_lines(piece, lines_of(piece.text, rest), shown, depth - 1, show),
-            "then" => {
-                let inner = walk_lines(
-                    rest_of(piece, shown),
-                    lines_of(piece.text, rest),
-                    0,
-                    depth - 1,
-                    show,
-                );
-                shown.saturating_add(inner)
+        if word.is_empty() {
+            continue;
+        }
+        shown = match block_lines(piece, word, rest) {
+            Some(inner) => {
+                let start = if word == "then" { shown } else { 0 };
+                let from = shown.saturating_sub(start);
+                let end = walk_lines(rest_of(piece, start), inner, from, depth - 1, show);
+                start.saturating_add(end)
             }
-            _ => walk_part(piece, shown, word, rest, depth - 1, show),
+            None => walk_part(piece, shown, word, rest, depth - 1, show),
         };
     }
     shown
@@ -185,9 +181,7 @@ fn walk_list<S: Show>(
     depth: u32,
     show: &mut S,
 ) -> usize {
-    let Some(mut rest) = cut(piece.bytes, extent.start, extent.end) else {
-        return extent.start;
-    };
+    let mut rest = cut(piece.bytes, extent.start, extent.end).unwrap_or(&[]);
     let mut offset = piece.base.saturating_add(extent.start as u64);
     let mut number: u64 = 0;
     if depth == 0 {
@@ -247,6 +241,15 @@ fn rest_of(piece: Piece<'_>, start: usize) -> Piece<'_> {
         base: piece.base.saturating_add(start as u64),
         bytes: cut(piece.bytes, start, piece.bytes.len()).unwrap_or(&[]),
         text: piece.text,
+    }
+}
+
+/// The lines that stand for a line, which follow its first word, if that is `if`, `with` or `then`.
+fn block_lines(piece: Piece<'_>, word: &str, rest: &'static str) -> Option<&'static str> {
+    match word {
+        "if" => Some(chosen_lines(piece, rest)),
+        "with" | "then" => Some(lines_of(piece.text, rest)),
+        _ => None,
     }
 }
 

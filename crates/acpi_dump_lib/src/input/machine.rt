@@ -28,9 +28,13 @@ fn second_of<'t>(
     None
 }
 
+/// The signatures of which a machine has one table each.
+const SINGLE: [&str; 6] = ["FACP", "DSDT", "FACS", "RSDT", "XSDT", "RSD "];
+
 /// Whether tables are those of one machine: it has one of each of these. If not, it says which file is the second.
 pub(crate) fn are_of_one_machine<E: Write>(tables: &[TableFile], err: &mut Out<E>) -> bool {
-    for signature in ["FACP", "DSDT", "FACS", "RSDT", "XSDT", "RSD "] {
+    for signature in &SINGLE {
+        let signature = *signature;
         if let Some((second, first)) = second_of(tables, signature.as_bytes()) {
             let other = first.name.as_str();
             tell(

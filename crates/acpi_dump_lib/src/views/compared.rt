@@ -1,7 +1,7 @@
 //! What differs between two inputs.
 
 use super::{Loaded, Output, entries_in, load, strict_status};
-use crate::compare::{differences_of, print_differences};
+use crate::compare::{DifferenceLines, compare};
 use crate::entries::Entry;
 use crate::input::gather::Input;
 use crate::out::Out;
@@ -63,9 +63,12 @@ fn compare_entries<W: Write>(
 ) -> Result<u8, AllocError> {
     let alloc = output.alloc;
     if output.asked.is_json {
-        output.document("compare", "tables", differences_of(alloc, old, new), out)?;
+        let mut document = output.document("tables");
+        compare(alloc, old, new, &mut document)?;
+        output.print(document, "compare", "tables", out)?;
     } else {
-        print_differences(alloc, (output.name(0), output.name(1)), old, new, out)?;
+        let names = (output.name(0), output.name(1));
+        compare(alloc, old, new, &mut DifferenceLines { names, out })?;
     }
     Ok(strict_status(output, old).max(strict_status(output, new)))
 }

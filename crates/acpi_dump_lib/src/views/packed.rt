@@ -1,13 +1,13 @@
 //! The facts of tables that come as files: of the valid ones, in a memory where each has a place.
 
-use super::{Output, facts_of_image};
+use super::{Output, add_facts_of_image};
 use crate::entries::{Entry, entries_of_files};
 use crate::errors::tell;
 use crate::input::machine::letters_of;
 use crate::input::tables::TableFile;
 use crate::out::Out;
 use crate::status::Status;
-use crate::summary::Fact;
+use crate::summary::Facts;
 use acpi_image::{PlacedTable, write_image};
 use acpi_image_reader::MemoryImage;
 use std::alloc::{AllocError, Global};
@@ -56,17 +56,18 @@ fn packed_of<E: Write>(
     }
 }
 
-/// The facts of tables that come as files, or `None`, after saying why, if they are no memory's.
-pub(super) fn facts_of_files<E: Write>(
+/// Adds the facts of tables that come as files, and answers whether they are some machine's, after saying why not.
+pub(super) fn add_facts_of_files<E: Write>(
     output: Output<'_, '_>,
     files: &[TableFile],
+    facts: &mut Facts,
     err: &mut Out<E>,
-) -> Result<Option<Vec<Fact>>, AllocError> {
+) -> Result<bool, AllocError> {
     let Some(packed) = packed_of(output, files, err)? else {
-        return Ok(None);
+        return Ok(false);
     };
     match &MemoryImage::from_bytes(output.alloc, &packed) {
-        Ok(image) => facts_of_image(output, image, err),
+        Ok(image) => add_facts_of_image(output, image, facts, err),
         Err(_) => Err(AllocError),
     }
 }

@@ -1,0 +1,274 @@
+//! One JSON document of what is shown. Its form stands in docs/PROGRAMS.md.
+//!
+//! The members of an object stand in the order of their names.
+
+mod tables;
+
+use crate::fields::{number_of, print_hex, print_meaning, print_text, print_value};
+use crate::language::Meaning;
+use crate::out::Out;
+use crate::text::print_fault;
+use crate::walk::{Fault, Group, Show, Shown};
+use json::{Pretty, Token, is_number};
+use std::alloc::{AllocError, Global};
+use std::fmt::Display;
+use std::io::Write;
+pub(crate) use tables::{add_all, add_chosen};
+
+/// The version of the document's form.
+const VERSION: u64 = 1;
+
+/// The name of the one member with what a view shows that comes before the inputs.
+const BEFORE_INPUTS: &str = "facts";
+
+/// A document that is written piece by piece.
+#[derive(Drop)]
+pub(crate) struct Document {
+    alloc: Global,
+    pieces: Pretty,
+    /// The structures that have begun in the table that is shown, and haven't ended.
+    open: Vec<Group>,
+    /// Whether memory for a piece was refused.
+    is_refused: bool,
+}
+
+impl Document {
+    /// The beginning of a document, up to the list of what a view shows, which is a member of this name.
+    pub(crate) fn new(alloc: Global, inputs: &[&str], part: &str) -> Document {
+        let mut document = Document {
+            alloc,
+            pieces: Pretty::new(alloc),
+            open: Vec::new(alloc),
+            is_refused: false,
+        };
+        document.begin_object();
+        if part != BEFORE_INPUTS {
+            document.inputs(inputs);
+        }
+        document.begin_list(part);
+        document
+    }
+
+    /// Prints the document, after its end: the view's name and the version, and the inputs if they come after what the
+    /// view shows.
+    ///
+    /// Fails if memory for a piece was refused.
+    pub(crate) fn print<W: Write>(
+        mut self,
+        view: &str,
+        inputs: &[&str],
+        part: &str,
+        out: &mut Out<W>,
+    ) -> Result<(), AllocError> {
+        self.end_list();
+        if part == BEFORE_INPUTS {
+            self.inputs(inputs);
+        }
+        self.number("version", VERSION);
+        self.text("view", view);
+        self.end_object();
+        if self.is_refused {
+            return Err(AllocError);
+        }
+        let Document { pieces, .. } = self;
+        out.bytes(&pieces.into_inner());
+        out.text("\n");
+        Ok(())
+    }
+
+    /// Begins an object.
+    pub(crate) fn begin_object(&mut self) {
+        let put = self.pieces.token(Token::BeginObject);
+        self.is_refused |= put.is_err();
+    }
+
+    /// Ends an object.
+    pub(crate) fn end_object(&mut self) {
+        let put = self.pieces.token(Token::EndObject);
+        self.is_refused |= put.is_err();
+    }
+
+    /// Adds the name of a member.
+    fn key(&mut self, name: &str) {
+        let put = self.pieces.token(Token::Key(name));
+        self.is_refused |= put.is_err();
+    }
+
+    /// Begins a member that is a list.
+    fn begin_list(&mut self, name: &str) {
+        self.key(name);
+        let put = self.pieces.token(Token::BeginArray);
+        self.is_refused |= put.is_err();
+    }
+
+    /// Ends a list.
+    fn end_list(&mut self) {
+        let put = self.pieces.token(Token::EndArray);
+        self.is_refused |= put.is_err();
+    }
+
+    /// Adds a text to a list, or after the name of a member.
+    fn string(&mut self, text: &str) {
+        let put = self.pieces.token(Token::String(text));
+        self.is_refused |= put.is_err();
+    }
+
+    /// Adds a text.
+    pub(crate) fn text(&mut self, name: &str, text: &str) {
+        self.key(name);
+        self.string(text);
+    }
+
+    /// Adds a number.
+    pub(crate) fn number(&mut self, name: &str, number: u64) {
+        let mut text = Out::new(Vec::new(self.alloc));
+        write!(text, "{number}");
+        self.key(name);
+        match text.printed() {
+            Some(digits) if is_number(digits) => {
+                let put = self.pieces.token(Token::Number(digits));
+                self.is_refused |= put.is_err();
+            }
+            _ => self.is_refused = true,
+        }
+    }
+
+    /// Adds a yes or no.
+    pub(crate) fn flag(&mut self, name: &str, is_so: bool) {
+        self.key(name);
+        let put = self.pieces.token(Token::Bool(is_so));
+        self.is_refused |= put.is_err();
+    }
+
+    /// Adds what was printed.
+    fn printed(&mut self, name: &str, text: &Out<Vec<u8>>) {
+        match text.printed() {
+            Some(text) => self.text(name, text),
+            None => self.is_refused = true,
+        }
+    }
+
+    /// Adds what a value is as a text.
+    pub(crate) fn shown(&mut self, name: &str, value: &impl Display) {
+        let mut text = Out::new(Vec::new(self.alloc));
+        write!(text, "{value}");
+        self.printed(name, &text);
+    }
+
+    /// Adds an address.
+    pub(crate) fn address(&mut self, name: &str, address: u64) {
+        self.shown(name, &format_args!("0x{address:x}"));
+    }
+
+    /// Adds a text of bytes, those that aren't printable ASCII as `.`.
+    fn letters(&mut self, name: &str, bytes: &[u8]) {
+        let mut text = Out::new(Vec::new(self.alloc));
+        print_text(bytes, &mut text);
+        self.printed(name, &text);
+    }
+
+    /// Adds bytes as pairs of hexadecimal digits.
+    fn hex(&mut self, name: &str, bytes: &[u8]) {
+        let mut text = Out::new(Vec::new(self.alloc));
+        print_hex(bytes, &mut text);
+        self.printed(name, &text);
+    }
+
+    /// Adds the names of the inputs.
+    fn inputs(&mut self, inputs: &[&str]) {
+        self.begin_list("inputs");
+        for name in inputs {
+            self.string(*name);
+        }
+        self.end_list();
+    }
+}
+
+impl Show for Document {
+    fn field(&mut self, shown: &Shown<'_>) {
+        self.begin_object();
+        self.number("length", shown.bytes.len() as u64);
+        if !matches!(shown.meaning, Meaning::Decimal) {
+            add_meaning(self, shown);
+        }
+        self.text("name", shown.name);
+        if let Some(number) = shown.number {
+            self.number("number", number);
+        }
+        self.number("offset", shown.offset);
+        add_value(self, shown);
+        self.end_object();
+    }
+
+    fn bytes(&mut self, offset: u64, bytes: &[u8]) {
+        if bytes.is_empty() {
+            return;
+        }
+        self.begin_object();
+        self.hex("bytes", bytes);
+        self.number("length", bytes.len() as u64);
+        self.number("offset", offset);
+        self.end_object();
+    }
+
+    fn begin(&mut self, group: &Group) {
+        self.begin_object();
+        self.number("entry", group.number);
+        self.begin_list("fields");
+        let pushed = self.open.push(*group);
+        self.is_refused |= pushed.is_err();
+    }
+
+    fn end(&mut self) {
+        let Some(group) = self.open.pop() else {
+            return;
+        };
+        self.end_list();
+        self.number("length", group.length);
+        self.text("name", group.name);
+        self.number("offset", group.offset);
+        if let Some(kind) = group.kind {
+            self.number("type", kind);
+        }
+        self.end_object();
+    }
+
+    fn malformed(&mut self, offset: u64, fault: Fault) {
+        let mut why = Out::new(Vec::new(self.alloc));
+        print_fault(offset, fault, &mut why);
+        self.begin_object();
+        self.printed("malformed", &why);
+        self.number("offset", offset);
+        self.end_object();
+    }
+}
+
+/// Adds the value of a field: a number of up to four bytes as one, and else hexadecimal text.
+fn add_value(document: &mut Document, shown: &Shown<'_>) {
+    let is_number = !matches!(
+        shown.meaning,
+        Meaning::Text | Meaning::Wide | Meaning::Row | Meaning::Guid
+    );
+    if is_number && shown.bytes.len() <= 4 {
+        document.number("value", number_of(shown.bytes));
+    } else {
+        let mut text = Out::new(Vec::new(document.alloc));
+        print_value(shown.bytes, shown.meaning, &mut text);
+        document.printed("value", &text);
+    }
+}
+
+/// Adds the meaning of a field, if it has one.
+fn add_meaning(document: &mut Document, shown: &Shown<'_>) {
+    let mut text = Out::new(Vec::new(document.alloc));
+    print_meaning(shown.bytes, shown.meaning, &mut text);
+    match text.printed() {
+        None => document.is_refused = true,
+        Some(meaning) => {
+            let meaning = meaning.trim();
+            if !meaning.is_empty() {
+                document.text("meaning", meaning);
+            }
+        }
+    }
+}
