@@ -46,7 +46,10 @@ impl Shown<'_> {
     fn of(self, earlier: usize, size: usize, whole: usize) -> Option<(usize, usize)> {
         match self {
             Shown::AsAsked => Some((size, whole)),
-            Shown::These(lengths) => lengths.get(earlier).map(|it| (*it, *it)),
+            Shown::These(lengths) => match lengths.get(earlier) {
+                Some(length) => Some((*length, *length)),
+                None => None,
+            },
         }
     }
 }
@@ -85,8 +88,8 @@ pub type Places = [(u64, usize); LOANS];
 /// These loans, by their addresses and lengths, in the form in which `History::open` answers them.
 pub fn places(loans: &[(u64, usize)]) -> Result<Places, Flaw> {
     let mut places = [(0, 0); LOANS];
-    for (place, loan) in places.iter_mut().zip(loans) {
-        *place = *loan;
+    for i in 0..loans.len().min(LOANS) {
+        places[i] = loans[i];
     }
     Ok(places)
 }

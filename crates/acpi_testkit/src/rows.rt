@@ -40,10 +40,10 @@ pub struct Row {
 }
 
 impl Row {
-    /// A row that has no bytes.
-    fn named(alloc: Global, name: String) -> Row {
+    /// A row that has no name and no bytes.
+    fn new(alloc: Global) -> Row {
         Row {
-            name,
+            name: String::new(alloc),
             kind: String::new(alloc),
             regions: Vec::new(alloc),
         }
@@ -69,34 +69,27 @@ impl Row {
     }
 
     /// Becomes of a kind, and has no bytes.
-    fn begin(&mut self, kind: &str) -> Result<(), AllocError> {
+    fn begin(&mut self, kind: &str) -> Result<bool, AllocError> {
         self.regions.clear();
         self.kind.clear();
-        self.kind.push_str(kind)
+        self.kind.push_str(kind).and(Ok(true))
     }
 
     /// Takes the kind and the bytes of another row.
     fn copy(&mut self, other: &Row) -> Result<bool, AllocError> {
-        self.begin(other.kind.as_str())?;
+        let mut kept = self.begin(other.kind.as_str());
         for region in &other.regions {
-            let bytes = region.bytes.clone()?;
-            self.regions.push(Region {
-                address: region.address,
-                bytes,
-            })?;
+            kept = kept.and(self.add(region.address, region.bytes.clone()));
         }
-        Ok(true)
+        kept
     }
 
     /// Begins a region of zeros, or goes back to one.
     fn go_to(&mut self, alloc: Global, place: &str) -> Result<bool, AllocError> {
         match place.split_once(' ') {
-            None => match self.take_out(place) {
-                None => Ok(false),
-                Some(region) => self.add(region),
-            },
+            None => Ok(self.go_back(place)),
             Some((address, count)) => match (parse_address(address), count.parse::<u32>()) {
-                (Some(address), Ok(count)) => self.add_zeros(alloc, address, count),
+                (Some(address), Ok(count)) => self.add(address, vec![in alloc; 0; count as usize]),
                 _ => Ok(false),
             },
         }
@@ -106,31 +99,59 @@ impl Row {
     fn begin_table(&mut self, alloc: Global, kind: &str, count: &str) -> Result<bool, AllocError> {
         match count.parse::<u32>() {
             Ok(count) if !kind.ends_with(':') => {
-                self.begin(kind)?;
-                self.add_zeros(alloc, 0, count)
+                let begun = self.begin(kind);
+                begun.and(self.add(0, vec![in alloc; 0; count as usize]))
             }
             _ => Ok(false),
         }
     }
 
-    /// Adds so many zeros at an address.
-    fn add_zeros(&mut self, alloc: Global, address: u64, count: u32) -> Result<bool, AllocError> {
-        let mut bytes = Vec::new(alloc);
-        bytes.resize(count as usize, 0)?;
-        self.add(Region { address, bytes })
+    /// Adds a region, or what its bytes are refused with.
+    fn add(
+        &mut self,
+        address: u64,
+        bytes: Result<Vec<u8>, AllocError>,
+    ) -> Result<bool, AllocError> {
+        match bytes {
+            Ok(bytes) => {
+                self.regions.push(Region { address, bytes })?;
+                Ok(true)
+            }
+            Err(refusal) => Err(refusal),
+        }
     }
 
-    fn add(&mut self, region: Region) -> Result<bool, AllocError> {
-        self.regions.push(region)?;
-        Ok(true)
+    /// Makes the region at an address the last, and says whether there is one.
+    fn go_back(&mut self, address: &str) -> bool {
+        let index = self.index_of(address);
+        let is_found = index < self.regions.len();
+        if is_found {
+            self.regions[index..].rotate_left(1);
+        }
+        is_found
     }
 
-    /// Takes the region at an address out.
-    fn take_out(&mut self, address: &str) -> Option<Region> {
-        let address = parse_address(address)?;
-        let mut regions = self.regions.iter();
-        let index = regions.position(|region| region.address == address)?;
-        Some(self.regions.remove(index))
+    /// Takes the region at an address away, and says whether there is one.
+    fn take_out(&mut self, address: &str) -> bool {
+        let index = self.index_of(address);
+        let is_found = index < self.regions.len();
+        if is_found {
+            self.regions.remove(index);
+        }
+        is_found
+    }
+
+    /// How many regions stand before the one at an address, or how many there are if none is.
+    fn index_of(&self, address: &str) -> usize {
+        let address = parse_address(address);
+        let mut index = 0usize;
+        for region in &self.regions {
+            if Some(region.address) == address {
+                return index;
+            }
+            index = index.wrapping_add(1);
+        }
+        index
     }
 
     /// Puts the bytes that a text encodes, and says whether they all have a place.
@@ -165,7 +186,7 @@ impl Rows {
         Rows {
             alloc,
             earlier: Vec::new(alloc),
-            row: Row::named(alloc, String::new(alloc)),
+            row: Row::new(alloc),
         }
     }
 
@@ -180,7 +201,7 @@ impl Rows {
             "=" => self.begin(rest),
             "like" => self.copy(rest),
             "@" => self.row.go_to(self.alloc, rest),
-            "drop" => Ok(self.row.take_out(rest).is_some()),
+            "drop" => Ok(self.row.take_out(rest)),
             "sum" => Ok(self.row.sum(rest)),
             _ => match first.parse::<u32>() {
                 Ok(offset) => Ok(self.row.put(offset as usize, rest)),
@@ -191,9 +212,10 @@ impl Rows {
 
     /// Begins a row, unless there is one of this name.
     fn begin(&mut self, name: &str) -> Result<bool, AllocError> {
-        let row = Row::named(self.alloc, String::from_str(self.alloc, name)?);
-        self.earlier.push(mem::replace(&mut self.row, row))?;
-        Ok(row_of(&self.earlier, name).is_none())
+        self.earlier
+            .push(mem::replace(&mut self.row, Row::new(self.alloc)))?;
+        let is_new = row_of(&self.earlier, name).is_none();
+        self.row.name.push_str(name).and(Ok(is_new))
     }
 
     /// Gives the row the bytes of an earlier one.

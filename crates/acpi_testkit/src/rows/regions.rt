@@ -1,5 +1,7 @@
 //! Bytes that rows encode.
 
+use crate::samples::seal_table;
+
 /// Bytes that lie together, from an address on.
 #[derive(Drop)]
 pub struct Region {
@@ -16,20 +18,18 @@ impl Region {
             let letters = quoted.strip_suffix('"').unwrap_or(quoted);
             return self.put_letters(offset, letters.as_bytes());
         }
-        let mut offset = offset;
+        let mut end = offset;
+        let mut are_put = true;
         for part in text.split(' ') {
             let (digits, times) = part.split_once('*').unwrap_or((part, "1"));
-            let Ok(times) = times.parse::<u16>() else {
-                return false;
-            };
-            for _ in 0..times {
-                if !self.put_digits(offset, digits) {
-                    return false;
-                }
-                offset = offset.saturating_add(digits.len() / 2);
+            let times = times.parse::<u16>();
+            are_put &= times.is_ok();
+            for _ in 0..times.unwrap_or(0) {
+                are_put &= self.put_digits(end, digits);
+                end = end.saturating_add(digits.len() / 2);
             }
         }
-        true
+        are_put
     }
 
     /// Puts letters, as far as they have a place, and says whether they all have one.
@@ -52,21 +52,18 @@ impl Region {
     }
 
     /// Changes byte 9 so that the first bytes, so many or else all, sum to 0, and says whether there
-    /// are as many.
+    /// are as many, and byte 9 among them.
     pub(crate) fn sum(&mut self, count: &str) -> bool {
-        let count = match count.parse::<u32>() {
-            Ok(count) => count as usize,
-            Err(_) if count.is_empty() => self.bytes.len(),
-            Err(_) => return false,
+        let all = self.bytes.len();
+        let count = if count.is_empty() {
+            all
+        } else {
+            count.parse::<u32>().unwrap_or(0) as usize
         };
-        if count > self.bytes.len() || self.bytes.len() < 10 {
-            return false;
+        let has_sum = 9 < count && count <= all;
+        if has_sum {
+            seal_table(&mut self.bytes, 0, count);
         }
-        let mut total: u8 = 0;
-        for byte in &self.bytes[..count] {
-            total = total.wrapping_add(*byte);
-        }
-        self.bytes[9] = self.bytes[9].wrapping_sub(total);
-        true
+        has_sum
     }
 }

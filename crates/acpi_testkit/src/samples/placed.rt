@@ -37,8 +37,9 @@ pub fn add_record(
     let count = count.wrapping_add(margins.behind);
     let mut head = [0; 16];
     put_head(&mut head, 0, start, count as u64);
-    file.extend_from_slice(&head)?;
-    file.resize(file.len().saturating_add(margins.before), margins.byte)?;
-    file.extend_from_slice(table)?;
-    file.resize(file.len().saturating_add(margins.behind), margins.byte)
+    let begun = file.extend_from_slice(&head);
+    let filled = file.resize(file.len().saturating_add(margins.before), margins.byte);
+    let put = file.extend_from_slice(table);
+    let ended = file.resize(file.len().saturating_add(margins.behind), margins.byte);
+    begun.and(filled).and(put).and(ended)
 }
