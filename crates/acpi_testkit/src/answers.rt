@@ -8,6 +8,8 @@ use acpi::{AcpiHandler, AcpiResult, AcpiTable, AcpiTables};
 pub fn place_of<T: AcpiTable, H: AcpiHandler>(
     tables: &AcpiTables<'_, H>,
 ) -> AcpiResult<(u64, usize)> {
-    let table = tables.find_table::<T>()?;
-    Ok((table.physical_start(), table.region_length()))
+    match tables.find_table::<T>() {
+        Ok(table) => Ok((table.physical_start(), table.region_length())),
+        Err(refusal) => Err(refusal),
+    }
 }

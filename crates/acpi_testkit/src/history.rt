@@ -235,7 +235,9 @@ impl History {
         }
         let mut loans = Loans::NONE;
         for event in self.events() {
-            loans.follow(*event, shown)?;
+            if let Err(flaw) = loans.follow(*event, shown) {
+                return Err(flaw);
+            }
         }
         Ok(loans)
     }
@@ -245,7 +247,10 @@ impl History {
     /// Fails with `Full` if there were more events than there is room for, and with `Unmatched` for the
     /// first notice that names no open loan.
     pub fn open(&self, shown: Shown<'_>) -> Result<Places, Flaw> {
-        Ok(self.loans(shown)?.places())
+        match self.loans(shown) {
+            Ok(loans) => Ok(loans.places()),
+            Err(flaw) => Err(flaw),
+        }
     }
 
     /// The first flaw of the history, or `None` if each loan has its one notice, at a time when all loans

@@ -62,10 +62,12 @@ impl Row {
     /// Fails if memory for it is refused.
     pub fn file(&self, alloc: Global) -> Result<Vec<u8>, AllocError> {
         let mut file = Vec::new(alloc);
+        let mut is_kept = true;
         for region in &self.regions {
-            add_record(&mut file, region.address, &region.bytes, Margins::NONE)?;
+            let added = add_record(&mut file, region.address, &region.bytes, Margins::NONE);
+            is_kept &= added.is_ok();
         }
-        Ok(file)
+        if is_kept { Ok(file) } else { Err(AllocError) }
     }
 
     /// Becomes of a kind, and has no bytes.
@@ -114,8 +116,11 @@ impl Row {
     ) -> Result<bool, AllocError> {
         match bytes {
             Ok(bytes) => {
-                self.regions.push(Region { address, bytes })?;
-                Ok(true)
+                if self.regions.push(Region { address, bytes }).is_ok() {
+                    Ok(true)
+                } else {
+                    Err(AllocError)
+                }
             }
             Err(refusal) => Err(refusal),
         }
@@ -212,10 +217,14 @@ impl Rows {
 
     /// Begins a row, unless there is one of this name.
     fn begin(&mut self, name: &str) -> Result<bool, AllocError> {
-        self.earlier
-            .push(mem::replace(&mut self.row, Row::new(self.alloc)))?;
-        let is_new = row_of(&self.earlier, name).is_none();
-        self.row.name.push_str(name).and(Ok(is_new))
+        let before = mem::replace(&mut self.row, Row::new(self.alloc));
+        let is_kept = self.earlier.push(before).is_ok();
+        let is_named = self.row.name.push_str(name).is_ok();
+        if is_kept && is_named {
+            Ok(row_of(&self.earlier, name).is_none())
+        } else {
+            Err(AllocError)
+        }
     }
 
     /// Gives the row the bytes of an earlier one.

@@ -99,11 +99,11 @@ fn ask<A: Answers>(rt: &HostRuntime, answers: &A, row: &Row, line: &str) -> io::
     let Some((question, wanted)) = line.split_once(": ") else {
         return complain(rt, row, line, "not understood");
     };
-    let answer = answers.answer(rt.alloc(), row, question)?;
-    if answer.as_str() == wanted {
-        return Ok(());
+    match answers.answer(rt.alloc(), row, question) {
+        Ok(answer) if answer.as_str() == wanted => Ok(()),
+        Ok(answer) => complain(rt, row, line, answer.as_str()),
+        Err(refusal) => Err(io::Error::from(refusal)),
     }
-    complain(rt, row, line, answer.as_str())
 }
 
 /// Prints a line of a row, and the answer in fact.

@@ -1,6 +1,6 @@
 //! Bytes that rows encode.
 
-use crate::samples::seal_table;
+use crate::samples::{put, seal_table};
 
 /// Bytes that lie together, from an address on.
 #[derive(Drop)]
@@ -32,16 +32,14 @@ impl Region {
         are_put
     }
 
-    /// Puts letters, as far as they have a place, and says whether they all have one.
+    /// Puts letters if they all have a place, and says whether they do.
     fn put_letters(&mut self, offset: usize, letters: &[u8]) -> bool {
-        let mut are_put = true;
-        for (i, letter) in letters.iter().enumerate() {
-            match self.bytes.get_mut(offset.saturating_add(i)) {
-                None => are_put = false,
-                Some(there) => *there = *letter,
-            }
+        let count = self.bytes.len();
+        let have_place = offset <= count && letters.len() <= count - offset;
+        if have_place {
+            put(&mut self.bytes, offset, letters);
         }
-        are_put
+        have_place
     }
 
     /// Puts the bytes of hexadecimal digits if they all have a place, and says whether they are digits and do.
