@@ -28,8 +28,12 @@ pub(crate) fn of_command(
 ) -> Result<String, AllocError> {
     match (question, bytes) {
         ("command", [low, high]) => {
-            let command = MpProtectedModeWakeupCommand::try_from(u16::from_le_bytes([*low, *high]));
-            in_hex(alloc, &command.map(|command| (command, command as u16)))
+            let number = u16::from_le_bytes([*low, *high]);
+            let command = match MpProtectedModeWakeupCommand::try_from(number) {
+                Ok(command) => Ok((command, command as u16)),
+                Err(refusal) => Err(refusal),
+            };
+            in_hex(alloc, &command)
         }
         _ => Ok(String::new(alloc)),
     }

@@ -46,9 +46,13 @@ pub(crate) fn answer(alloc: Global, table: &[u8], question: &str) -> Result<Stri
 
 /// What it answers where no memory is left.
 fn in_full_heap(alloc: Global, table: &[u8], question: &str) -> Result<String, AllocError> {
-    let heap = LocalHeap::new(alloc, 16)?;
-    let _filled = ManagedSlice::new_in(16, 0u8, &heap);
-    said(alloc, GicModel::of(table, &heap), question)
+    match LocalHeap::new(alloc, 16) {
+        Ok(heap) => {
+            let _filled = ManagedSlice::new_in(16, 0u8, &heap);
+            said(alloc, GicModel::of(table, &heap), question)
+        }
+        Err(_) => Err(AllocError),
+    }
 }
 
 /// The part of a model, or that there is none, or the refusal.
@@ -71,42 +75,42 @@ fn of_model<A: Allocator>(
     part: &str,
 ) -> Result<String, AllocError> {
     let interfaces = model.cpu_interfaces.as_slice();
-    let first = interfaces.first();
+    let redistributors = model.redistributors.as_slice();
+    let services = model.translation_services.as_slice();
+    let frames = model.msi_frames.as_slice();
+    let counts = [
+        interfaces.len(),
+        redistributors.len(),
+        services.len(),
+        frames.len(),
+    ];
+    let (flags, trace) = of_first(interfaces);
     let values = (
         ("distributor", &model.distributor),
         ("interfaces", interfaces),
-        ("redistributors", model.redistributors.as_slice()),
-        ("services", model.translation_services.as_slice()),
-        ("frames", model.msi_frames.as_slice()),
-        ("counts", counts(model)),
-        ("interface flags", first.map(flags)),
-        ("trace buffer", first.map(trace)),
+        ("redistributors", redistributors),
+        ("services", services),
+        ("frames", frames),
+        ("counts", counts),
+        ("interface flags", flags),
+        ("trace buffer", trace),
     );
     one_of(alloc, &values, part)
 }
 
-/// How many items each list has.
-fn counts<A: Allocator>(model: &GicModel<A>) -> [usize; 4] {
-    [
-        model.cpu_interfaces.as_slice().len(),
-        model.redistributors.as_slice().len(),
-        model.translation_services.as_slice().len(),
-        model.msi_frames.as_slice().len(),
-    ]
-}
-
 /// Whether a processor is enabled and can be enabled later, and how its two interrupts come: that of
 /// the performance counters, and the maintenance interrupt.
-fn flags(interface: &GicCpuInterface) -> (bool, bool, TriggerMode, TriggerMode) {
-    (
-        interface.is_enabled,
-        interface.is_online_capable,
-        interface.performance_trigger,
-        interface.maintenance_trigger,
-    )
-}
+type Flags = (bool, bool, TriggerMode, TriggerMode);
 
-/// The interrupt of a processor's trace buffer.
-fn trace(interface: &GicCpuInterface) -> Option<u16> {
-    interface.trace_buffer_interrupt
+/// The flags of the first processor, and the interrupt of its trace buffer.
+fn of_first(interfaces: &[GicCpuInterface]) -> (Option<Flags>, Option<Option<u16>>) {
+    match interfaces {
+        [] => (None, None),
+        [first, ..] => {
+            let states = (first.is_enabled, first.is_online_capable);
+            let triggers = (first.performance_trigger, first.maintenance_trigger);
+            let flags = (states.0, states.1, triggers.0, triggers.1);
+            (Some(flags), Some(first.trace_buffer_interrupt))
+        }
+    }
 }

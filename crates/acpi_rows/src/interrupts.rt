@@ -1,8 +1,9 @@
 //! Where interrupts come to, as the overrides, the I/O APICs and the local NMIs of a MADT say.
 
-use crate::hex_text::in_hex;
+use crate::hex_text::{hex_of, in_hex};
 use crate::named::one_in_hex;
 use crate::platforms::said_model;
+use crate::texts::{first_word, listed};
 use acpi::handler::MappedRegion;
 use acpi::madt::{Madt, MadtEntry};
 use acpi::platform::interrupt::{Apic, InterruptModel};
@@ -29,53 +30,57 @@ pub(crate) fn model<A: Allocator + Clone>(
 
 /// The model of a table, gathered in a heap of 16 bytes, which has to be free again.
 pub(crate) fn model_in_16_bytes(alloc: Global, table: &[u8]) -> Result<String, AllocError> {
-    let heap = LocalHeap::new(alloc, 16)?;
-    let text = model(alloc, &heap, table)?;
-    match heap.used() {
-        0 => Ok(text),
-        used => shown(alloc, &used),
+    match LocalHeap::new(alloc, 16) {
+        Ok(heap) => {
+            let text = model(alloc, &heap, table);
+            match heap.used() {
+                0 => text,
+                used => shown(alloc, &used),
+            }
+        }
+        Err(_) => Err(AllocError),
     }
 }
 
-/// What a model of APICs answers: `isa`, `sci`, `pin` and `lines` of a decimal number.
+/// What a model answers: `interrupts`, and of APICs `isa`, `sci`, `pin` and `lines` of a decimal number.
 pub(crate) fn of_model(
     alloc: Global,
     model: &InterruptModel<Global>,
     question: &str,
 ) -> Result<String, AllocError> {
-    let (word, number) = question.split_once(' ').unwrap_or((question, ""));
-    match (model, number.parse::<u32>()) {
-        (InterruptModel::Apic(apic), Ok(number)) => of_apic(alloc, apic, word, number),
-        _ => Ok(String::new(alloc)),
+    match model {
+        InterruptModel::Unknown => String::from_str(alloc, "Unknown"),
+        InterruptModel::Apic(apic) => of_apic(alloc, apic, question),
     }
 }
 
 /// What the APICs of a model answer. A number that is too large for what is asked counts as its low bits.
-fn of_apic(
-    alloc: Global,
-    apic: &Apic<Global>,
-    word: &str,
-    number: u32,
-) -> Result<String, AllocError> {
+fn of_apic(alloc: Global, apic: &Apic<Global>, question: &str) -> Result<String, AllocError> {
+    let (word, number) = first_word(question);
+    let number = number.parse::<u32>().unwrap_or(0);
     if word == "lines" {
-        return lines(alloc, apic, number);
+        return hex_of(alloc, listed(alloc, apic.local_nmi_lines_for(number)));
     }
-    let pin = apic.io_apic_for(number).map(|it| (it.io_apic.id, it.pin));
+    let (overrides, sources) = (&apic.interrupt_source_overrides, &apic.nmi_sources);
+    let lines = apic.local_apic_nmi_lines.as_slice();
     let values = (
         ("isa", apic.isa_interrupt((number % 0x100) as u8)),
         ("sci", apic.sci_interrupt((number % 0x10000) as u16)),
-        ("pin", pin),
+        ("pin", pin_of(apic, number)),
+        (
+            "interrupts",
+            (overrides.as_slice(), sources.as_slice(), lines),
+        ),
     );
     one_in_hex(alloc, &values, word)
 }
 
-/// The inputs that NMIs come to of one processor.
-fn lines(alloc: Global, apic: &Apic<Global>, processor_uid: u32) -> Result<String, AllocError> {
-    let mut lines = Vec::new(alloc);
-    for line in apic.local_nmi_lines_for(processor_uid) {
-        lines.push(line)?;
+/// The I/O APIC and the input that an interrupt comes to.
+fn pin_of(apic: &Apic<Global>, number: u32) -> Option<(u8, u32)> {
+    match apic.io_apic_for(number) {
+        Some(it) => Some((it.io_apic.id, it.pin)),
+        None => None,
     }
-    in_hex(alloc, &lines)
 }
 
 /// What the flags of an entry say: of a processor whether it is enabled and whether it can be enabled

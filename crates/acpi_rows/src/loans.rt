@@ -82,9 +82,11 @@ fn answered_next(
     if question.starts_with("exact ") || question.starts_with("generous ") {
         steps.clear();
     }
-    steps.push_str(question)?;
-    steps.push('\n')?;
-    answered(alloc, row, steps.as_str())
+    let kept = steps.push_str(question).and(steps.push('\n'));
+    match kept {
+        Ok(()) => answered(alloc, row, steps.as_str()),
+        Err(refusal) => Err(refusal),
+    }
 }
 
 /// Whether bytes are a valid table of this name, or why they aren't.
@@ -98,10 +100,12 @@ pub(crate) fn validity(alloc: Global, bytes: &[u8], name: &str) -> Result<String
 
 /// What the last of these steps comes to over the memory of a row.
 fn answered(alloc: Global, row: &Row, scene: &str) -> Result<String, AllocError> {
-    let file = row.file(alloc)?;
-    match MemoryImage::from_bytes(alloc, &file) {
-        Ok(image) => answered_over(alloc, &image, scene),
-        Err(_) => Ok(String::new(alloc)),
+    match row.file(alloc) {
+        Ok(file) => match MemoryImage::from_bytes(alloc, &file) {
+            Ok(image) => answered_over(alloc, &image, scene),
+            Err(_) => Ok(String::new(alloc)),
+        },
+        Err(refusal) => Err(refusal),
     }
 }
 

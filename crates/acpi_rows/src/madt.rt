@@ -6,7 +6,6 @@ use crate::named::one_in_hex;
 use crate::{gic, interrupts};
 use acpi::PhysicalMapping;
 use acpi::handler::MappedRegion;
-use acpi::platform::interrupt::InterruptModel;
 use acpi_base::madt::{Madt, MadtEntry, MadtEntryIter};
 use std::alloc::{AllocError, Global};
 
@@ -52,9 +51,9 @@ fn walked(alloc: Global, bytes: &[u8], question: &str) -> Result<String, AllocEr
 /// gives an entry.
 fn steps(mut entries: MadtEntryIter<'_>) -> [(bool, bool); 4] {
     let mut steps = [(false, false); 4];
-    for step in &mut steps {
+    for i in 0..4 {
         let ended = entries.ended_malformed();
-        *step = (ended, entries.next().is_some());
+        steps[i] = (ended, entries.next().is_some());
     }
     steps
 }
@@ -81,29 +80,27 @@ fn of_mapping(alloc: Global, bytes: &[u8], question: &str) -> Result<String, All
         bytes.len(),
         &region,
     );
-    if question == "interrupts" {
-        return of_model(alloc, &madt, question);
-    }
-    match question.strip_prefix("model ") {
-        Some(asked) => of_model(alloc, &madt, asked),
-        None => one_value(alloc, &madt, madt.entries().count(), question),
-    }
+    of_madt(alloc, &madt, madt.entries().count(), question)
 }
 
-/// How many entries a mapping has and the mailbox, what it says of older interrupt controllers, and its fields.
-fn one_value(
+/// What the interrupt model answers, or else how many entries a mapping has and the mailbox, what it says of older
+/// interrupt controllers, and its fields.
+fn of_madt(
     alloc: Global,
     madt: &PhysicalMapping<'_, MappedRegion<'_>, Madt>,
     count: usize,
-    name: &str,
+    question: &str,
 ) -> Result<String, AllocError> {
+    if question == "interrupts" || question.starts_with("model ") {
+        return of_model(alloc, madt, question);
+    }
     let mapped = (count, madt.get_mpwk_mailbox_addr());
     let values = (
         ("mapped", mapped),
         ("8259", madt.supports_8259()),
         madt.get(),
     );
-    one_in_hex(alloc, &values, name)
+    one_in_hex(alloc, &values, question)
 }
 
 /// What the interrupt model answers.
@@ -112,21 +109,9 @@ fn of_model(
     madt: &PhysicalMapping<'_, MappedRegion<'_>, Madt>,
     question: &str,
 ) -> Result<String, AllocError> {
+    let asked = question.strip_prefix("model ").unwrap_or(question);
     match madt.parse_interrupt_model_in(alloc) {
-        Ok((model, _processors)) if question == "interrupts" => interrupts_of(alloc, &model),
-        Ok((model, _processors)) => interrupts::of_model(alloc, &model, question),
+        Ok((model, _processors)) => interrupts::of_model(alloc, &model, asked),
         Err(refusal) => in_hex(alloc, &refusal),
-    }
-}
-
-/// The overrides, the NMI sources and the NMI lines of a model.
-fn interrupts_of(alloc: Global, model: &InterruptModel<Global>) -> Result<String, AllocError> {
-    match model {
-        InterruptModel::Unknown => String::from_str(alloc, "Unknown"),
-        InterruptModel::Apic(apic) => {
-            let (overrides, sources) = (&apic.interrupt_source_overrides, &apic.nmi_sources);
-            let lines = apic.local_apic_nmi_lines.as_slice();
-            in_hex(alloc, &(overrides.as_slice(), sources.as_slice(), lines))
-        }
     }
 }

@@ -24,7 +24,7 @@ mod types;
 pub(crate) mod ways;
 
 use crate::hex_text::in_hex;
-use crate::texts::Parts;
+use crate::texts::{Parts, first_word};
 use acpi::AcpiHandler;
 use acpi_image::{ImageError, MemoryImage};
 use acpi_testkit::handlers::{Exact, Recording};
@@ -42,12 +42,24 @@ pub(crate) fn answer(alloc: Global, row: &Row, question: &str) -> Result<String,
         return of_bios(alloc, ebda);
     }
     let (change, asked) = changes::parse(question);
-    let file = changed_file(alloc, &row.regions, change)?;
-    if asked == "fronts of the file" {
-        return fronts(alloc, &file);
+    match changed_file(alloc, &row.regions, change) {
+        Ok(file) => of_file(alloc, &file, &row.regions, asked),
+        Err(refusal) => Err(refusal),
     }
-    match MemoryImage::from_bytes(alloc, &file) {
-        Ok(image) => over_handlers(alloc, &image, &row.regions, asked),
+}
+
+/// The answer about the memory of a file.
+fn of_file(
+    alloc: Global,
+    file: &[u8],
+    regions: &[Region],
+    asked: &str,
+) -> Result<String, AllocError> {
+    if asked == "fronts of the file" {
+        return fronts(alloc, file);
+    }
+    match MemoryImage::from_bytes(alloc, file) {
+        Ok(image) => over_handlers(alloc, &image, regions, asked),
         Err(refusal) => shown(alloc, &refusal),
     }
 }
@@ -55,14 +67,20 @@ pub(crate) fn answer(alloc: Global, row: &Row, question: &str) -> Result<String,
 /// How many bytes the fronts of a file have that are files too, if all others are cut short.
 fn fronts(alloc: Global, file: &[u8]) -> Result<String, AllocError> {
     let mut whole = Vec::new(alloc);
+    let mut is_kept = true;
+    let mut other = None;
     for count in 0..file.len() {
-        match MemoryImage::from_bytes(alloc, front(file, count)) {
-            Ok(_) => whole.push(count)?,
-            Err(ImageError::Truncated) => {}
-            Err(refusal) => return shown(alloc, &refusal),
+        match MemoryImage::from_bytes(alloc, front(file, count)).err() {
+            None => is_kept &= whole.push(count).is_ok(),
+            Some(ImageError::Truncated) => {}
+            refusal => other = refusal,
         }
     }
-    shown(alloc, &whole)
+    match other {
+        Some(refusal) => shown(alloc, &refusal),
+        None if is_kept => shown(alloc, &whole),
+        None => Err(AllocError),
+    }
 }
 
 /// Over which of the two handlers a question is asked, and whether the requests are counted.
@@ -125,24 +143,25 @@ fn recorded<H: AcpiHandler>(
 ) -> Result<String, AllocError> {
     let recording = Recording::new(handler);
     let text = over(alloc, &recording, question);
-    match (recording.flaw(), counted) {
-        (None | Some(Flaw::Full), None) => text,
-        (None | Some(Flaw::Full), Some(regions)) => {
-            with_number(alloc, most_requests(&recording.history(), regions), text)
-        }
-        (Some(flaw), _) => shown(alloc, &flaw),
+    match recording.flaw() {
+        None | Some(Flaw::Full) => with_number(alloc, &recording.history(), counted, text),
+        Some(flaw) => shown(alloc, &flaw),
     }
 }
 
-/// A number, and then a text.
+/// How often regions are asked for, if they are passed, and then a text.
 fn with_number(
     alloc: Global,
-    number: usize,
+    history: &History,
+    counted: Option<&[Region]>,
     text: Result<String, AllocError>,
 ) -> Result<String, AllocError> {
-    match text {
-        Ok(text) => format!(in alloc; "{number} {text}"),
-        refused => refused,
+    match (counted, text) {
+        (Some(regions), Ok(text)) => {
+            let number = most_requests(history, regions);
+            format!(in alloc; "{number} {text}")
+        }
+        (_, text) => text,
     }
 }
 
@@ -157,7 +176,7 @@ fn most_requests(history: &History, regions: &[Region]) -> usize {
 
 /// What is answered over a handler.
 fn over<H: AcpiHandler>(alloc: Global, handler: &H, question: &str) -> Result<String, AllocError> {
-    let (word, areas) = question.split_once(' ').unwrap_or((question, ""));
+    let (word, areas) = first_word(question);
     match word {
         "search" => in_hex(alloc, &searched(alloc, handler, None)),
         "areas" => in_hex(alloc, &searched(alloc, handler, Some(areas))),

@@ -1,25 +1,25 @@
 //! Flags, values and fields by their names.
 
 use crate::hex_text::in_hex;
+use crate::texts::Parts;
 use acpi_testkit::rows::shown;
 use std::alloc::{AllocError, Global};
 use std::fmt::Debug;
 
 /// The names of the flags that are set, in order, or `none`.
 pub(crate) fn set_names(alloc: Global, lists: &[&[(&str, bool)]]) -> Result<String, AllocError> {
-    let mut text = String::new(alloc);
+    let mut names = Parts::parted_by(alloc, " ");
     for flags in lists {
         for (name, is_set) in *flags {
             if *is_set {
-                let mark = if text.is_empty() { "" } else { " " };
-                write!(text, "{mark}{name}")?;
+                names.add_words(name);
             }
         }
     }
-    if text.is_empty() {
-        return String::from_str(alloc, "none");
+    if names.is_empty() {
+        names.add_words("none");
     }
-    Ok(text)
+    names.text()
 }
 
 /// The text of the value of a name among values, as they are debugged: it stands in a pair, after the
@@ -29,7 +29,7 @@ pub(crate) fn one_of<T: Debug>(
     values: &T,
     name: &str,
 ) -> Result<String, AllocError> {
-    one_in(alloc, shown(alloc, values)?.as_str(), name)
+    one_in(alloc, shown(alloc, values), name)
 }
 
 /// The same, with its numbers in hexadecimal.
@@ -38,37 +38,51 @@ pub(crate) fn one_in_hex<T: Debug>(
     values: &T,
     name: &str,
 ) -> Result<String, AllocError> {
-    one_in(alloc, in_hex(alloc, values)?.as_str(), name)
+    one_in(alloc, in_hex(alloc, values), name)
 }
 
 /// The text of the value of a name in a text of values.
-fn one_in(alloc: Global, text: &str, name: &str) -> Result<String, AllocError> {
-    let pair = format!(in alloc; "(\"{name}\", ")?;
-    if let Some((_, rest)) = text.split_once(pair.as_str()) {
-        return whole_value(alloc, rest);
-    }
-    let field = format!(in alloc; " {name}: ")?;
-    match text.split_once(field.as_str()) {
-        Some((_, rest)) => whole_value(alloc, rest),
-        None => Ok(String::new(alloc)),
+fn one_in(
+    alloc: Global,
+    text: Result<String, AllocError>,
+    name: &str,
+) -> Result<String, AllocError> {
+    match (text, format!(in alloc; "(\"{name}\", | {name}: ")) {
+        (Ok(text), Ok(forms)) => {
+            String::from_str(alloc, value_after(text.as_str(), forms.as_str()))
+        }
+        _ => Err(AllocError),
     }
 }
 
-/// The value that a text begins with: up to a comma or a bracket that ends what the value is in.
-fn whole_value(alloc: Global, text: &str) -> Result<String, AllocError> {
-    let mut value = String::new(alloc);
+/// The value that stands in a text after the first of two forms with `|` between them, or else after the second.
+fn value_after<'t>(text: &'t str, forms: &str) -> &'t str {
+    let (pair, field) = forms.split_once('|').unwrap_or((forms, ""));
+    match (text.split_once(pair), text.split_once(field)) {
+        (Some((_, rest)), _) => whole_value(rest),
+        (None, Some((_, rest))) => whole_value(rest),
+        (None, None) => "",
+    }
+}
+
+/// The value that a text begins with.
+fn whole_value(text: &str) -> &str {
+    text.get(..length_of_value(text)).unwrap_or(text).trim_end()
+}
+
+/// How many bytes it has: it goes up to a comma or a bracket that ends what the value is in.
+fn length_of_value(text: &str) -> usize {
     let mut depth = 0u32;
     let mut is_quoted = false;
-    for letter in text.chars() {
+    for (index, letter) in text.char_indices() {
         is_quoted ^= letter == '"';
         let is_end = depth == 0 && matches!(letter, ',' | ')' | ']' | '}');
         if is_end && !is_quoted {
-            break;
+            return index;
         }
         depth = depth_after(depth, letter, is_quoted);
-        value.push(letter)?;
     }
-    String::from_str(alloc, value.as_str().trim_end())
+    text.len()
 }
 
 /// In how many brackets the letter after this one stands.

@@ -1,5 +1,6 @@
 //! Signatures and refusals, and their texts.
 
+use crate::texts::first_word;
 use acpi::sdt::Signature;
 use acpi::{AcpiError, MadtError};
 use acpi_testkit::rows::{named, printed, shown};
@@ -120,7 +121,7 @@ pub(crate) fn answer(alloc: Global, bytes: &[u8], question: &str) -> Result<Stri
         return Ok(String::new(alloc));
     };
     let signature = Signature::from_bytes(*letters);
-    let (word, name) = question.split_once(' ').unwrap_or((question, ""));
+    let (word, name) = first_word(question);
     match word {
         "printed" => printed(alloc, &signature),
         "shown" => shown(

@@ -26,19 +26,28 @@ pub(crate) fn said_platform<A: Allocator, E: Debug + Drop>(
     alloc: Global,
     answer: Result<PlatformInfo<A>, E>,
 ) -> Result<String, AllocError> {
-    let mut parts = Parts::new(alloc);
     match answer {
         Ok(platform) => {
-            parts.add("for", &platform.power_profile);
-            if let Some(timer) = &platform.pm_timer {
-                parts.add("timer", timer);
-            }
-            add_model(&mut parts, &platform.interrupt_model);
-            add_processors(&mut parts, &platform.processor_info);
+            let text = platform_text(alloc, &platform);
             let_go(platform);
+            text
         }
-        Err(refusal) => parts.add_text(shown(alloc, &refusal)),
+        Err(refusal) => shown(alloc, &refusal),
     }
+}
+
+/// What a platform says.
+fn platform_text<A: Allocator>(
+    alloc: Global,
+    platform: &PlatformInfo<A>,
+) -> Result<String, AllocError> {
+    let (model, processors) = (&platform.interrupt_model, &platform.processor_info);
+    let mut parts = Parts::new(alloc);
+    parts.add("for", &platform.power_profile);
+    if let Some(timer) = &platform.pm_timer {
+        parts.add("timer", timer);
+    }
+    parts.add_text(model_text(alloc, model, processors));
     parts.text()
 }
 
@@ -56,13 +65,23 @@ pub(crate) fn said_model<A: Allocator, E: Debug + Drop>(
     alloc: Global,
     answer: Result<ModelAndProcessors<A>, E>,
 ) -> Result<String, AllocError> {
-    let mut parts = Parts::new(alloc);
     match answer {
-        Ok((model, processors)) => {
-            add_model(&mut parts, &model);
-            add_processors(&mut parts, &processors);
-        }
-        Err(refusal) => parts.add_text(shown(alloc, &refusal)),
+        Ok((model, processors)) => model_text(alloc, &model, &processors),
+        Err(refusal) => shown(alloc, &refusal),
+    }
+}
+
+/// What an interrupt model and the processors say.
+fn model_text<A: Allocator>(
+    alloc: Global,
+    model: &InterruptModel<A>,
+    processors: &Option<ProcessorInfo<A>>,
+) -> Result<String, AllocError> {
+    let mut parts = Parts::new(alloc);
+    add_model(&mut parts, model);
+    if let Some(processors) = processors {
+        parts.add("boot", &processors.boot_processor);
+        parts.add_list("others", processors.application_processors.as_slice());
     }
     parts.text()
 }
@@ -83,14 +102,6 @@ fn add_apics<A: Allocator>(parts: &mut Parts, apic: &Apic<A>) {
     parts.add_list("nmi lines", apic.local_apic_nmi_lines.as_slice());
     parts.add_list("overrides", apic.interrupt_source_overrides.as_slice());
     parts.add_list("nmi sources", apic.nmi_sources.as_slice());
-}
-
-/// Adds the processors, if there are any.
-fn add_processors<A: Allocator>(parts: &mut Parts, processors: &Option<ProcessorInfo<A>>) {
-    if let Some(processors) = processors {
-        parts.add("boot", &processors.boot_processor);
-        parts.add_list("others", processors.application_processors.as_slice());
-    }
 }
 
 /// What is asked of a platform. Nothing is said of one that is refused.
@@ -118,9 +129,7 @@ fn of_platform<A: Allocator + Clone>(
 ) -> Result<String, AllocError> {
     match asked {
         "clone" => said_platform(alloc, platform.clone()),
-        "clone of the model" => {
-            said_model(alloc, platform.interrupt_model.clone().map(|it| (it, None)))
-        }
+        "clone of the model" => said_clone(alloc, platform.interrupt_model.clone()),
         _ => match (&platform.interrupt_model, &platform.processor_info) {
             (InterruptModel::Apic(apic), Some(processors)) => {
                 of_parts(alloc, apic, processors, asked)
@@ -142,24 +151,45 @@ fn of_parts<A: Allocator + Clone>(
             Ok(clone) => shown(alloc, &clone.as_slice()),
             Err(refusal) => shown(alloc, &refusal),
         },
-        "clone of the apics" => {
-            said_model(
-                alloc,
-                apic.clone().map(|it| (InterruptModel::Apic(it), None)),
-            )
-        }
-        "clone of the processors" => {
-            said_model(
-                alloc,
-                processors
-                    .clone()
-                    .map(|it| (InterruptModel::Unknown, Some(it))),
-            )
-        }
+        "clone of the apics" => said_apics(alloc, apic.clone()),
+        "clone of the processors" => said_processors(alloc, processors.clone()),
         _ => match asked.strip_prefix("processor ") {
             Some(index) => processor(alloc, processors, index),
             None => Ok(String::new(alloc)),
         },
+    }
+}
+
+/// What a clone of a model says, or the refusal.
+fn said_clone<A: Allocator>(
+    alloc: Global,
+    clone: Result<InterruptModel<A>, AllocError>,
+) -> Result<String, AllocError> {
+    match clone {
+        Ok(model) => model_text(alloc, &model, &None),
+        Err(refusal) => shown(alloc, &refusal),
+    }
+}
+
+/// What a clone of APICs says, or the refusal.
+fn said_apics<A: Allocator>(
+    alloc: Global,
+    clone: Result<Apic<A>, AllocError>,
+) -> Result<String, AllocError> {
+    match clone {
+        Ok(apic) => model_text(alloc, &InterruptModel::Apic(apic), &None),
+        Err(refusal) => shown(alloc, &refusal),
+    }
+}
+
+/// What a clone of processors says, with no model, or the refusal.
+fn said_processors<A: Allocator>(
+    alloc: Global,
+    clone: Result<ProcessorInfo<A>, AllocError>,
+) -> Result<String, AllocError> {
+    match clone {
+        Ok(processors) => model_text(alloc, &InterruptModel::Unknown, &Some(processors)),
+        Err(refusal) => shown(alloc, &refusal),
     }
 }
 

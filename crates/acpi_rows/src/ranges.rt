@@ -2,6 +2,7 @@
 //! refusal as it is printed), and `domain ADDRESS`. A refusal is the answer to each.
 
 use crate::named::one_of;
+use crate::texts::first_word;
 use acpi_cli::parse_address;
 use acpi_numa::{MemoryAffinities, NumaResult};
 use acpi_testkit::rows::{printed, shown};
@@ -30,7 +31,7 @@ fn of_ranges<A: Allocator>(
     affinities: &MemoryAffinities<A>,
     question: &str,
 ) -> Result<String, AllocError> {
-    let (word, address) = question.split_once(' ').unwrap_or((question, ""));
+    let (word, address) = first_word(question);
     let ranges = affinities.ranges();
     let values = (
         ("ranges", ranges),

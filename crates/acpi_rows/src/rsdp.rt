@@ -11,20 +11,15 @@ pub(crate) fn answer(alloc: Global, bytes: &[u8], question: &str) -> Result<Stri
         return Ok(String::new(alloc));
     }
     let rsdp = Rsdp::read(bytes);
+    // Revision and length, both checksums, and the addresses of both root tables.
+    let head = (rsdp.revision(), rsdp.length());
+    let sums = (rsdp.checksum(), rsdp.ext_checksum());
+    let roots = (rsdp.rsdt_address(), rsdp.xsdt_address());
     let values = (
         ("valid", rsdp.validate(bytes)),
         ("signature", rsdp.signature()),
         ("oem id", rsdp.oem_id()),
-        ("fields", fields_of(&rsdp)),
+        ("fields", (head, sums, roots)),
     );
     one_in_hex(alloc, &values, question)
-}
-
-/// Revision and length, both checksums, and the addresses of both root tables.
-fn fields_of(rsdp: &Rsdp) -> ((u8, Option<u32>), (u8, Option<u8>), (u32, Option<u64>)) {
-    (
-        (rsdp.revision(), rsdp.length()),
-        (rsdp.checksum(), rsdp.ext_checksum()),
-        (rsdp.rsdt_address(), rsdp.xsdt_address()),
-    )
 }

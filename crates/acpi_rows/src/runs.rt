@@ -8,6 +8,7 @@ mod heaps;
 mod refusing;
 mod writes;
 
+use crate::texts::first_word;
 use acpi_cli::root::Root;
 use acpi_image::{PlacedTable, write_image};
 use acpi_testkit::rows::shown;
@@ -42,24 +43,38 @@ fn written(alloc: Global, table: &[u8], kind: &str) -> Option<Vec<u8>> {
         address: 0x2000,
         bytes: table,
     };
-    let revision = kind.strip_prefix("written-")?.parse::<u8>().ok()?;
-    write_image(alloc, 0x500, 0x1000, revision, &[placed]).ok()
+    let revision = kind.strip_prefix("written-").unwrap_or("");
+    match revision.parse::<u8>() {
+        Ok(revision) => write_image(alloc, 0x500, 0x1000, revision, &[placed]).ok(),
+        Err(_) => None,
+    }
 }
 
 /// The lines of a run with words, each of them after a `|`.
 fn shown_run(alloc: Global, file: Option<&[u8]>, question: &str) -> Result<String, AllocError> {
     let (asks, words) = question.split_once(" of run").unwrap_or((question, ""));
-    let words = split_words(alloc, words)?;
-    shown(alloc, &lines(alloc, &words, file, asks)?)
+    match split_words(alloc, words) {
+        Ok(words) => quoted(alloc, lines(alloc, &words, file, asks)),
+        Err(refusal) => Err(refusal),
+    }
+}
+
+/// A text as it is debugged.
+fn quoted(alloc: Global, text: Result<String, AllocError>) -> Result<String, AllocError> {
+    match text {
+        Ok(text) => shown(alloc, &text),
+        refused => refused,
+    }
 }
 
 /// The words, without what stands before the first `|`.
 fn split_words(alloc: Global, words: &str) -> Result<Vec<&str>, AllocError> {
     let mut split = Vec::new(alloc);
+    let mut is_kept = true;
     for word in words.split('|').skip(1) {
-        split.push(word)?;
+        is_kept &= split.push(word).is_ok();
     }
-    Ok(split)
+    if is_kept { Ok(split) } else { Err(AllocError) }
 }
 
 /// The lines of an answer that are asked for. Each is of the parts that it begins with: `out bgrt`
@@ -76,7 +91,7 @@ impl Chosen<'_> {
     /// Whether a line of this kind is asked for.
     fn is_asked(&self, kind: &str, line: &str) -> bool {
         for part in self.asks.split('|') {
-            let (asked, front) = part.split_once(' ').unwrap_or((part, ""));
+            let (asked, front) = first_word(part);
             if asked == kind && is_of(line, front) {
                 return true;
             }

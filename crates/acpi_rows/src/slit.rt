@@ -1,6 +1,7 @@
 //! Questions about a SLIT: `localities`, `sane`, and `distance FROM TO`.
 
 use crate::named::one_of;
+use crate::texts::first_word;
 use acpi_numa::{Distances, SlitCalls};
 use std::alloc::{AllocError, Global};
 
@@ -33,8 +34,8 @@ pub(crate) fn of_mapping<T: SlitCalls>(
 
 /// The word of a question, and the two localities of `distance FROM TO`.
 fn parts_of(question: &str) -> (&str, u64, u64) {
-    let (word, pair) = question.split_once(' ').unwrap_or((question, ""));
-    let (from, to) = pair.split_once(' ').unwrap_or((pair, ""));
+    let (word, pair) = first_word(question);
+    let (from, to) = first_word(pair);
     (
         word,
         from.parse::<u64>().unwrap_or(0),

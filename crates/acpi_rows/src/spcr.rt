@@ -48,29 +48,19 @@ fn one_value(
 ) -> Result<String, AllocError> {
     let interrupts = (table.irq(), table.global_system_interrupt());
     let rates = (table.baud_rate(), table.uart_clock_frequency());
+    let ids = (table.pci_device_id(), table.pci_vendor_id());
+    let (bus, device) = (table.pci_bus_number(), table.pci_device_number());
+    let place = (bus, device, table.pci_function_number());
     let values = (
         ("valid", valid),
         ("interface", table.interface_type()),
         ("base", table.base_address()),
         ("interrupts", interrupts),
         ("rates", rates),
-        ("pci", pci_of(table)),
+        ("pci", (ids.0, ids.1, place)),
         table,
     );
     one_in_hex(alloc, &values, name)
-}
-
-/// The ids of the device and of its vendor, and its bus, device and function.
-fn pci_of(
-    table: &Spcr,
-) -> (
-    Option<u16>,
-    Option<u16>,
-    (Option<u8>, Option<u8>, Option<u8>),
-) {
-    let device = (table.pci_bus_number(), table.pci_device_number());
-    let place = (device.0, device.1, table.pci_function_number());
-    (table.pci_device_id(), table.pci_vendor_id(), place)
 }
 
 /// The name of its device in the namespace, which a mapping answers.

@@ -9,6 +9,7 @@
 
 use crate::named::one_of;
 use crate::ranges;
+use crate::texts::first_word;
 use acpi_numa::{Domains, MemoryAffinities, SratCalls, SratEntry, SratEntryIter};
 use acpi_testkit::rows::shown;
 use std::alloc::{AllocError, Global};
@@ -51,7 +52,7 @@ pub(crate) fn of_mapping<T: SratCalls>(
 
 /// The word of a question, and the number after it.
 fn asked(question: &str) -> (&str, u32) {
-    let (word, number) = question.split_once(' ').unwrap_or((question, ""));
+    let (word, number) = first_word(question);
     (word, number.parse::<u32>().unwrap_or(0))
 }
 

@@ -5,6 +5,11 @@ use acpi_testkit::rows::shown;
 use std::alloc::{AllocError, Global};
 use std::fmt::Debug;
 
+/// The first word of a text, and what stands after the blank that ends it.
+pub(crate) fn first_word(text: &str) -> (&str, &str) {
+    text.split_once(' ').unwrap_or((text, ""))
+}
+
 /// The items that an iterator gives.
 pub(crate) fn listed<I: Iterator + Drop>(alloc: Global, items: I) -> Result<String, AllocError>
 where
@@ -23,17 +28,23 @@ where
 /// it is the text that is refused.
 #[derive(Drop)]
 pub(crate) struct Parts {
-    alloc: Global,
     text: String,
+    /// What stands between two parts.
+    mark: &'static str,
     is_refused: bool,
 }
 
 impl Parts {
     /// No parts.
     pub(crate) fn new(alloc: Global) -> Parts {
+        Parts::parted_by(alloc, "; ")
+    }
+
+    /// No parts, between which a mark will stand.
+    pub(crate) fn parted_by(alloc: Global, mark: &'static str) -> Parts {
         Parts {
-            alloc,
             text: String::new(alloc),
+            mark,
             is_refused: false,
         }
     }
@@ -61,19 +72,28 @@ impl Parts {
 
     /// Adds a word or two.
     pub(crate) fn add_words(&mut self, words: &str) {
-        let mark = if self.text.is_empty() { "" } else { "; " };
-        let is_added = write!(self.text, "{mark}{words}").is_ok();
-        self.is_refused |= !is_added;
+        let mark = self.mark();
+        let added = write!(self.text, "{mark}{words}");
+        self.is_refused |= added.is_err();
+    }
+
+    /// What stands before the next part.
+    fn mark(&self) -> &'static str {
+        if self.text.is_empty() { "" } else { self.mark }
     }
 
     /// Adds a part.
     pub(crate) fn add<T: Debug>(&mut self, name: &str, value: &T) {
-        self.add_text(format!(in self.alloc; "{name} {value:?}"));
+        let mark = self.mark();
+        let added = write!(self.text, "{mark}{name} {value:?}");
+        self.is_refused |= added.is_err();
     }
 
     /// Adds an address.
     pub(crate) fn add_place(&mut self, name: &str, address: u64) {
-        self.add_text(format!(in self.alloc; "{name} 0x{address:x}"));
+        let mark = self.mark();
+        let added = write!(self.text, "{mark}{name} 0x{address:x}");
+        self.is_refused |= added.is_err();
     }
 
     /// Adds a list, unless it is empty.

@@ -8,27 +8,29 @@
 //! - `scopes N`: as `structures`, of its scopes, each with Type, Flags, Enumeration ID, Start Bus Number and hops;
 //! - `unit DEVICE`, `io_apic ID`, `hpet NUMBER`, `reserved DEVICE`, where `hops` says what a device is.
 
-use super::hops::device_of;
+use super::hops::Device;
+use crate::named::one_of;
+use crate::texts::first_word;
 use acpi_base::PhysicalRecord;
 use acpi_iommu::{
     Dmar, DmarCalls, DmarFields, DmarStructure, DmarStructureIter, DmarUnits, Drhd, IommuResult,
     ReservedIter, UnitSource,
 };
-use acpi_testkit::rows::shown;
+use acpi_testkit::rows::{printed, shown};
 use std::alloc::{AllocError, Global};
 
 /// What a DMAR's bytes answer.
 pub(crate) fn answer(alloc: Global, table: &[u8], question: &str) -> Result<String, AllocError> {
     let units = DmarUnits::over(table);
-    let (word, rest) = question.split_once(' ').unwrap_or((question, ""));
+    let (word, rest) = first_word(question);
     match word {
         "table" => of_table(alloc, table),
         "structures" => shown(alloc, &walked(units.structures())),
         "unit" => {
-            let device = device_of(alloc, rest)?;
+            let device = Device::of(rest);
             of_unit(
                 alloc,
-                units.unit_for(device.segment, device.bus, &device.hops),
+                units.unit_for(device.segment, device.bus, device.hops()),
             )
         }
         "io_apic" => of_source(
@@ -37,10 +39,10 @@ pub(crate) fn answer(alloc: Global, table: &[u8], question: &str) -> Result<Stri
         ),
         "hpet" => of_source(alloc, units.unit_of_hpet(rest.parse::<u8>().unwrap_or(0))),
         "reserved" => {
-            let device = device_of(alloc, rest)?;
+            let device = Device::of(rest);
             of_reserved(
                 alloc,
-                units.reserved_for(device.segment, device.bus, &device.hops),
+                units.reserved_for(device.segment, device.bus, device.hops()),
             )
         }
         _ => of_structure(alloc, units.structures(), word, rest),
@@ -53,24 +55,25 @@ pub(crate) fn of_mapping<T: DmarCalls>(
     dmar: &T,
     question: &str,
 ) -> Result<String, AllocError> {
-    let (word, rest) = question.split_once(' ').unwrap_or((question, ""));
+    let (word, rest) = first_word(question);
     let number = rest.parse::<u8>().unwrap_or(0);
     match word {
         "structures" => shown(alloc, &walked(dmar.structures())),
         "io_apic" => of_source(alloc, dmar.unit_of_io_apic(number)),
         "hpet" => of_source(alloc, dmar.unit_of_hpet(number)),
+        "unit" => {
+            let device = Device::of(rest);
+            of_unit(
+                alloc,
+                dmar.unit_for(device.segment, device.bus, device.hops()),
+            )
+        }
         _ => {
-            let device = device_of(alloc, rest)?;
-            match word {
-                "unit" => of_unit(
-                    alloc,
-                    dmar.unit_for(device.segment, device.bus, &device.hops),
-                ),
-                _ => of_reserved(
-                    alloc,
-                    dmar.reserved_for(device.segment, device.bus, &device.hops),
-                ),
-            }
+            let device = Device::of(rest);
+            of_reserved(
+                alloc,
+                dmar.reserved_for(device.segment, device.bus, device.hops()),
+            )
         }
     }
 }
@@ -122,12 +125,14 @@ fn of_structure(
 
 /// What is asked of a structure's fields.
 fn of_fields(alloc: Global, fields: Option<DmarFields>, word: &str) -> Result<String, AllocError> {
-    match (word, fields) {
-        ("flag", Some(DmarFields::Drhd(unit))) => shown(alloc, &unit.includes_pci_all()),
-        ("flag", Some(DmarFields::Atsr(ports))) => shown(alloc, &ports.has_all_ports()),
-        ("flag", Some(DmarFields::Satc(devices))) => shown(alloc, &devices.requires_cache()),
-        ("registers", Some(DmarFields::Drhd(unit))) => shown(alloc, &unit.register_bytes()),
-        ("range", Some(DmarFields::Rmrr(range))) => shown(alloc, &range.length()),
+    match fields {
+        Some(DmarFields::Drhd(unit)) => {
+            let (flag, count) = (unit.includes_pci_all(), unit.register_bytes());
+            one_of(alloc, &(("flag", flag), ("registers", count)), word)
+        }
+        Some(DmarFields::Atsr(ports)) => one_of(alloc, &("flag", ports.has_all_ports()), word),
+        Some(DmarFields::Satc(devices)) => one_of(alloc, &("flag", devices.requires_cache()), word),
+        Some(DmarFields::Rmrr(range)) => one_of(alloc, &("range", range.length()), word),
         _ => Ok(String::new(alloc)),
     }
 }
@@ -202,16 +207,16 @@ fn of_reserved(
     alloc: Global,
     ranges: IommuResult<ReservedIter<'_, '_>>,
 ) -> Result<String, AllocError> {
-    let mut text = String::new(alloc);
-    let mut kept = Ok(());
     match ranges {
         Ok(ranges) => {
+            let mut text = String::new(alloc);
+            let mut kept = Ok(());
             for range in ranges {
                 let (base, limit, length) = (range.base, range.limit, range.length());
                 kept = kept.and(write!(text, "{base:#x} {limit:#x} {length:?};"));
             }
+            whole(text, kept)
         }
-        Err(refusal) => kept = write!(text, "{refusal}"),
+        Err(refusal) => printed(alloc, &refusal),
     }
-    whole(text, kept)
 }

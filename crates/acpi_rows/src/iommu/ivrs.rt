@@ -9,24 +9,25 @@
 //! - `unit SEGMENT ID`, `memory ID`, ids in hexadecimal.
 
 use super::dmar::{end_of, whole};
+use crate::texts::first_word;
 use acpi_base::PhysicalRecord;
 use acpi_iommu::{
     BestBlockIter, DeviceEntry, DeviceUnit, IommuResult, Ivrs, IvrsBlock, IvrsBlockIter,
     IvrsBlocks, IvrsCalls, IvrsFields, MemoryIter,
 };
-use acpi_testkit::rows::shown;
+use acpi_testkit::rows::{printed, shown};
 use std::alloc::{AllocError, Global};
 
 /// What an IVRS' bytes answer.
 pub(crate) fn answer(alloc: Global, table: &[u8], question: &str) -> Result<String, AllocError> {
     let all = IvrsBlocks::over(table);
-    let (word, rest) = question.split_once(' ').unwrap_or((question, ""));
+    let (word, rest) = first_word(question);
     match word {
         "table" => of_table(alloc, table),
         "blocks" => shown(alloc, &walked(all.blocks())),
         "best" => of_best(alloc, all.blocks_of_best_type()),
         "unit" => {
-            let (segment, id) = rest.split_once(' ').unwrap_or((rest, ""));
+            let (segment, id) = first_word(rest);
             of_unit(
                 alloc,
                 all.block_for(segment.parse::<u16>().unwrap_or(0), id_of(id)),
@@ -47,7 +48,7 @@ pub(crate) fn of_mapping<T: IvrsCalls>(
     ivrs: &T,
     question: &str,
 ) -> Result<String, AllocError> {
-    let (word, rest) = question.split_once(' ').unwrap_or((question, ""));
+    let (word, rest) = first_word(question);
     match word {
         "blocks" => shown(alloc, &walked(ivrs.blocks())),
         "best" => of_best(alloc, ivrs.blocks_of_best_type()),
@@ -81,19 +82,19 @@ fn walked(mut blocks: IvrsBlockIter<'_>) -> (bool, u32, bool) {
 
 /// The types and bases of the blocks of the best type.
 fn of_best(alloc: Global, blocks: IommuResult<BestBlockIter<'_>>) -> Result<String, AllocError> {
-    let mut text = String::new(alloc);
-    let mut kept = Ok(());
     match blocks {
         Ok(blocks) => {
+            let mut text = String::new(alloc);
+            let mut kept = Ok(());
             for block in blocks {
                 if let Some(IvrsFields::Ivhd(unit)) = block.fields() {
                     kept = kept.and(write!(text, "{:#x} {:#x};", unit.kind, unit.base));
                 }
             }
+            whole(text, kept)
         }
-        Err(refusal) => kept = write!(text, "{refusal}"),
+        Err(refusal) => printed(alloc, &refusal),
     }
-    whole(text, kept)
 }
 
 /// The device entries of a block, and whether they have ended malformed.
@@ -152,16 +153,16 @@ fn of_unit(alloc: Global, unit: IommuResult<Option<DeviceUnit>>) -> Result<Strin
 
 /// The memory with rules for a device.
 fn of_memory(alloc: Global, ranges: IommuResult<MemoryIter<'_>>) -> Result<String, AllocError> {
-    let mut text = String::new(alloc);
-    let mut kept = Ok(());
     match ranges {
         Ok(ranges) => {
+            let mut text = String::new(alloc);
+            let mut kept = Ok(());
             for range in ranges {
                 let (start, length, flags) = (range.start, range.length, range.flags);
                 kept = kept.and(write!(text, "{start:#x} {length:#x} {flags:#x};"));
             }
+            whole(text, kept)
         }
-        Err(refusal) => kept = write!(text, "{refusal}"),
+        Err(refusal) => printed(alloc, &refusal),
     }
-    whole(text, kept)
 }

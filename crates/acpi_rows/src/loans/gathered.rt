@@ -65,23 +65,32 @@ fn say_number<E: Display + Drop>(transcript: &mut Transcript<'_>, number: Result
 /// How many writes wake a processor, if it answers the mailbox in so many reads.
 fn wake<H: AcpiHandler>(tables: &AcpiTables<'_, H>, reads: u16) -> AcpiResult<u64> {
     let mut mailbox = ScriptedMailbox::new(&[0]);
-    wakeup_aps(tables, &mut mailbox, 1, 0x8000, reads as u64)?;
-    Ok(mailbox.writes().len() as u64)
+    match wakeup_aps(tables, &mut mailbox, 1, 0x8000, reads as u64) {
+        Ok(()) => Ok(mailbox.writes().len() as u64),
+        Err(refusal) => Err(refusal),
+    }
 }
 
 fn base_of(timers: AcpiResult<HpetInfo>) -> AcpiResult<u64> {
-    Ok(timers?.base_address)
+    match timers {
+        Ok(timers) => Ok(timers.base_address),
+        Err(refusal) => Err(refusal),
+    }
 }
 
 fn regions_of<A: Allocator>(regions: AcpiResult<PciConfigRegions<A>>) -> AcpiResult<u64> {
-    Ok(regions?.iter().count() as u64)
+    match regions {
+        Ok(regions) => Ok(regions.iter().count() as u64),
+        Err(refusal) => Err(refusal),
+    }
 }
 
 /// How many parts a GIC has: its distributor and what its four lists have; 0 if there is none.
 fn parts_of<A: Allocator>(gic: AcpiResult<Option<GicModel<A>>>) -> AcpiResult<u64> {
-    match gic? {
-        Some(gic) => Ok(1u64.saturating_add(listed(&gic) as u64)),
-        None => Ok(0),
+    match gic {
+        Ok(Some(gic)) => Ok(1u64.saturating_add(listed(&gic) as u64)),
+        Ok(None) => Ok(0),
+        Err(refusal) => Err(refusal),
     }
 }
 
@@ -97,11 +106,19 @@ fn listed<A: Allocator>(gic: &GicModel<A>) -> usize {
 }
 
 fn ranges_of<A: Allocator>(memory: NumaResult<MemoryAffinities<A>>) -> NumaResult<u64> {
-    Ok(memory?.ranges().len() as u64)
+    match memory {
+        Ok(memory) => Ok(memory.ranges().len() as u64),
+        Err(refusal) => Err(refusal),
+    }
 }
 
 /// 0, if there is a platform.
 fn platform_of<A: Allocator>(answer: AcpiResult<PlatformInfo<A>>) -> AcpiResult<u64> {
-    let_go(answer?);
-    Ok(0)
+    match answer {
+        Ok(platform) => {
+            let_go(platform);
+            Ok(0)
+        }
+        Err(refusal) => Err(refusal),
+    }
 }

@@ -55,8 +55,14 @@ pub(crate) fn mapped<'h, H: AcpiHandler>(
     step: Step<'_>,
 ) -> AcpiResult<Kept<'h, H>> {
     match step.verb {
-        Verb::Table => Ok(Kept::Graphic(map_table(handler, step.address)?)),
-        _ => Ok(Kept::Header(header_mapped(handler, step)?)),
+        Verb::Table => match map_table(handler, step.address) {
+            Ok(graphic) => Ok(Kept::Graphic(graphic)),
+            Err(refusal) => Err(refusal),
+        },
+        _ => match header_mapped(handler, step) {
+            Ok(header) => Ok(Kept::Header(header)),
+            Err(refusal) => Err(refusal),
+        },
     }
 }
 
@@ -79,6 +85,8 @@ fn header_given<H: AcpiHandler>(
     handler: &H,
     address: u64,
 ) -> AcpiResult<PhysicalMapping<'_, H, SdtHeader>> {
-    let bytes = handler.map_physical_region(address, 40)?;
-    Ok(PhysicalMapping::new(address, bytes, 40, handler))
+    match handler.map_physical_region(address, 40) {
+        Ok(bytes) => Ok(PhysicalMapping::new(address, bytes, 40, handler)),
+        Err(refusal) => Err(refusal),
+    }
 }

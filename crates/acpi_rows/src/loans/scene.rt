@@ -122,5 +122,8 @@ impl<'r, H: AcpiHandler> Scene<'r, H> {
 
 /// The boot graphic that is found.
 fn found_graphic<'r, H: AcpiHandler>(tables: &AcpiTables<'r, H>) -> AcpiResult<Kept<'r, H>> {
-    Ok(Kept::Graphic(tables.find_table()?))
+    match tables.find_table() {
+        Ok(graphic) => Ok(Kept::Graphic(graphic)),
+        Err(refusal) => Err(refusal),
+    }
 }

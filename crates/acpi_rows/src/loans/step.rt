@@ -1,6 +1,7 @@
 //! What a step says.
 
 use super::verb::Verb;
+use crate::texts::first_word;
 use acpi_cli::parse_address;
 
 /// What a step is made of: a verb, and a name, a number and an address if it has them, in any
@@ -16,7 +17,7 @@ pub(crate) struct Step<'s> {
 
 impl<'s> Step<'s> {
     pub(crate) fn of(text: &'s str) -> Step<'s> {
-        let (verb, rest) = text.split_once(' ').unwrap_or((text, ""));
+        let (verb, rest) = first_word(text);
         let mut step = Step {
             text,
             verb: Verb::of(verb),

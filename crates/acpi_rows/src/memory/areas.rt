@@ -1,6 +1,7 @@
 //! Areas in which an RSDP is searched for.
 
 use crate::hex_text::in_hex;
+use crate::texts::first_word;
 use acpi::rsdp::bios_areas;
 use acpi::{AcpiError, AcpiResult, AddressRange};
 use acpi_cli::parse_address;
@@ -25,7 +26,7 @@ pub(super) fn areas_of(alloc: Global, text: &str) -> AcpiResult<Vec<AddressRange
 
 /// Adds an area: its address and its length.
 fn add_area(areas: &mut Vec<AddressRange>, text: &str) -> AcpiResult<()> {
-    let (address, length) = text.split_once(' ').unwrap_or((text, ""));
+    let (address, length) = first_word(text);
     let (Some(address), Ok(length)) = (parse_address(address), length.parse::<u64>()) else {
         return Err(AcpiError::InvalidGenericAddress);
     };

@@ -7,6 +7,7 @@
 //! - `front COUNT ADDRESS`: the region at an address ends after so many bytes;
 //! - `body ADDRESS`: each byte after the header of the table there is another one.
 
+use crate::texts::first_word;
 use acpi_cli::parse_address;
 use acpi_testkit::rows::Region;
 use acpi_testkit::samples::front;
@@ -47,7 +48,7 @@ pub(super) fn parse(question: &str) -> (Change, &str) {
 
 /// The change that words name.
 fn change_of(words: &str) -> Option<Change> {
-    let (word, rest) = words.split_once(' ')?;
+    let (word, rest) = first_word(words);
     let (first, last) = rest.split_once(' ').unwrap_or((rest, rest));
     let count = first.parse::<u16>().unwrap_or(0) as usize;
     let byte = u8::from_str_radix(last, 16).unwrap_or(0);
@@ -79,20 +80,21 @@ pub(super) fn changed_file(
     change: Change,
 ) -> Result<Vec<u8>, AllocError> {
     let mut file = Vec::new(alloc);
+    let mut is_kept = true;
     for region in regions {
         let is_changed = change.address.is_none() || change.address == Some(region.address);
         let change = if is_changed { change } else { Change::NOTHING };
         let bytes = front(&region.bytes, change.end);
-        add_record(&mut file, region.address, bytes, change.margins)?;
+        is_kept &= add_record(&mut file, region.address, bytes, change.margins).is_ok();
         change_last(&mut file, bytes.len().saturating_sub(change.kept));
     }
-    Ok(file)
+    if is_kept { Ok(file) } else { Err(AllocError) }
 }
 
 /// Makes each of the last bytes another one, so many.
 fn change_last(file: &mut [u8], count: usize) {
     let start = file.len().saturating_sub(count);
-    for byte in file.iter_mut().skip(start) {
-        *byte ^= 0xFF;
+    for i in start..file.len() {
+        file[i] ^= 0xFF;
     }
 }

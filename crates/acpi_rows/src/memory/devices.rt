@@ -1,7 +1,7 @@
 //! Questions about timers, the configuration space of PCI functions and mailboxes.
 
 use crate::named::one_of;
-use crate::texts::listed;
+use crate::texts::{first_word, listed};
 use acpi::mcfg::PciConfigRegions;
 use acpi::platform::{ScriptedMailbox, wakeup_aps};
 use acpi::{AcpiHandler, AcpiResult, AcpiTables, HpetInfo};
@@ -16,12 +16,19 @@ pub(super) fn timers<H: AcpiHandler>(
     asked: &str,
 ) -> Result<String, AllocError> {
     let info = HpetInfo::new(tables);
-    let parts = info.map(|info| {
-        let counts = (info.hardware_rev(), info.num_comparators());
-        let flags = (info.main_counter_is_64bits(), info.legacy_irq_capable());
-        (counts, flags, info.pci_vendor_id())
-    });
-    one_of(alloc, &(("hpet", info), ("hpet id", parts)), asked)
+    one_of(alloc, &(("hpet", info), ("hpet id", id_of(info))), asked)
+}
+
+/// What the id of a block of timers says.
+fn id_of(info: AcpiResult<HpetInfo>) -> AcpiResult<((u8, u8), (bool, bool), u16)> {
+    match info {
+        Ok(info) => {
+            let counts = (info.hardware_rev(), info.num_comparators());
+            let flags = (info.main_counter_is_64bits(), info.legacy_irq_capable());
+            Ok((counts, flags, info.pci_vendor_id()))
+        }
+        Err(refusal) => Err(refusal),
+    }
 }
 
 /// `regions`, those of configuration space, `ecam ranges`, where each lies by the base of bus 0, `function` and
@@ -42,12 +49,13 @@ pub(super) fn of_regions<A: Allocator>(
 /// The address of a function. Five bytes in hexadecimal digits name it: its segment group, its bus, its
 /// device and its own number.
 fn address_in<A: Allocator>(regions: &PciConfigRegions<A>, asked: &str) -> Option<u64> {
-    let (word, digits) = asked.split_once(' ')?;
+    let (word, digits) = first_word(asked);
     let mut bytes = [0; 5];
-    hex::decode_to_slice(digits, &mut bytes).ok()?;
+    let is_read = hex::decode_to_slice(digits, &mut bytes).is_ok();
     let [high, low, bus, device, number] = bytes;
     let segment = u16::from_be_bytes([high, low]);
     match word {
+        _ if !is_read => None,
         "function" => regions.physical_address(segment, bus, device, number),
         _ => regions.ecam_address(segment, bus, device, number),
     }

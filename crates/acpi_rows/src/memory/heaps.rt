@@ -9,7 +9,7 @@
 use super::devices::of_regions;
 use crate::platforms::{let_go, of_answer, said_model, said_platform};
 use crate::ranges;
-use crate::texts::Parts;
+use crate::texts::{Parts, first_word};
 use acpi::madt::Madt;
 use acpi::platform::PlatformInfo;
 use acpi::{AcpiHandler, AcpiResult, AcpiTables, ManagedSlice, PciConfigRegions};
@@ -25,7 +25,7 @@ pub(super) fn answer<H: AcpiHandler>(
     asked: &str,
     heap: &str,
 ) -> Result<String, AllocError> {
-    let (size, taken) = heap.split_once(' ').unwrap_or((heap, ""));
+    let (size, taken) = first_word(heap);
     let taken = taken.parse::<u32>().unwrap_or(0) as usize;
     match size.parse::<u32>() {
         Ok(size) => over_heap(alloc, tables, asked, size as usize, taken),
@@ -42,11 +42,15 @@ fn over_heap<H: AcpiHandler>(
     size: usize,
     taken: usize,
 ) -> Result<String, AllocError> {
-    let heap = LocalHeap::new(alloc, size)?;
-    let _filled = ManagedSlice::new_in(taken, 0u8, &heap);
-    let used = heap.used();
-    let text = answer_in(alloc, tables, &heap, asked);
-    unless_left(alloc, text, heap.used() == used)
+    match LocalHeap::new(alloc, size) {
+        Ok(heap) => {
+            let _filled = ManagedSlice::new_in(taken, 0u8, &heap);
+            let used = heap.used();
+            let text = answer_in(alloc, tables, &heap, asked);
+            unless_left(alloc, text, heap.used() == used)
+        }
+        Err(_) => Err(AllocError),
+    }
 }
 
 /// A text, unless memory was left allocated.
@@ -99,7 +103,7 @@ fn answer_in<H: AcpiHandler>(
     asked: &str,
 ) -> Result<String, AllocError> {
     let used = heap.used();
-    let (word, _) = asked.split_once(' ').unwrap_or((asked, ""));
+    let (word, _) = first_word(asked);
     match word {
         "platform" => said_platform(alloc, tables.platform_info_in(heap)),
         "held" if asked == "held by platform" => {
@@ -137,16 +141,28 @@ fn over_growing_heaps<H: AcpiHandler>(
     let mut refused = 0u32;
     let mut parts = Parts::new(alloc);
     for blocks in 1..33usize {
-        let text = over_heap(alloc, tables, asked, 16 * blocks, 16)?;
-        if parts.is_empty() && matches!(text.as_str(), "AllocError" | "Acpi(AllocError)") {
+        if is_refused(&mut parts, over_heap(alloc, tables, asked, 16 * blocks, 16)) {
             refused = refused.wrapping_add(1);
-        } else {
-            parts.add_other(Ok(text));
         }
     }
-    let times = times_refused(refused, asked);
-    let text = parts.text()?;
-    format!(in alloc; "{times}; {text}")
+    let mut said = Parts::new(alloc);
+    said.add_words(times_refused(refused, asked));
+    said.add_text(parts.text());
+    said.text()
+}
+
+/// Whether an answer says that memory is refused, and all so far did. Else it is added to the others.
+fn is_refused(others: &mut Parts, answer: Result<String, AllocError>) -> bool {
+    match answer {
+        Ok(text)
+            if others.is_empty() && matches!(text.as_str(), "AllocError" | "Acpi(AllocError)") => {
+            true
+        }
+        answer => {
+            others.add_other(answer);
+            false
+        }
+    }
 }
 
 /// How often memory is refused. Of ranges it is not said how often.

@@ -4,7 +4,7 @@
 use crate::{slit, srat};
 use acpi::{AcpiHandler, AcpiResult, AcpiTables};
 use acpi_cli::parse_address;
-use acpi_numa::{MemoryAffinities, NumaResult, Slit, SlitCalls, Srat, SratCalls};
+use acpi_numa::{MemoryAffinities, NumaError, NumaResult, Slit, SlitCalls, Srat, SratCalls};
 use acpi_testkit::rows::shown;
 use std::alloc::{AllocError, Global};
 
@@ -51,10 +51,12 @@ fn distance_to<H: AcpiHandler>(
 ) -> NumaResult<Option<u8>> {
     let to = domain_at(alloc, tables, address)?;
     let from = domain_of(tables, apic_id)?;
-    let slit = tables.find_table::<Slit>()?;
-    match (from, to) {
-        (Some(from), Some(to)) => Ok(slit.distance(u64::from(from), u64::from(to))),
-        _ => Ok(None),
+    match tables.find_table::<Slit>() {
+        Ok(slit) => match (from, to) {
+            (Some(from), Some(to)) => Ok(slit.distance(u64::from(from), u64::from(to))),
+            _ => Ok(None),
+        },
+        Err(refusal) => Err(NumaError::Acpi(refusal)),
     }
 }
 
@@ -64,12 +66,16 @@ fn domain_at<H: AcpiHandler>(
     tables: &AcpiTables<'_, H>,
     address: u64,
 ) -> NumaResult<Option<u32>> {
-    let memory = MemoryAffinities::new(alloc, tables)?;
-    Ok(memory.domain_of(address))
+    match MemoryAffinities::new(alloc, tables) {
+        Ok(memory) => Ok(memory.domain_of(address)),
+        Err(refusal) => Err(refusal),
+    }
 }
 
 /// The domain of the processor of a local APIC.
 fn domain_of<H: AcpiHandler>(tables: &AcpiTables<'_, H>, apic_id: u32) -> AcpiResult<Option<u32>> {
-    let srat = tables.find_table::<Srat>()?;
-    Ok(srat.domain_of_apic(apic_id))
+    match tables.find_table::<Srat>() {
+        Ok(srat) => Ok(srat.domain_of_apic(apic_id)),
+        Err(refusal) => Err(refusal),
+    }
 }

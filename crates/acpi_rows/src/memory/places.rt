@@ -4,7 +4,7 @@
 
 use super::types;
 use crate::names::signature_of;
-use crate::texts::listed;
+use crate::texts::{first_word, listed};
 use acpi::sdt::Signature;
 use acpi::{AcpiHandler, AcpiResult, AcpiTables, AddressRange, TableMember};
 use acpi_testkit::rows::shown;
@@ -16,20 +16,22 @@ pub(super) fn answer<H: AcpiHandler>(
     tables: &AcpiTables<'_, H>,
     asked: &str,
 ) -> Result<String, AllocError> {
-    let (word, name) = asked.split_once(' ').unwrap_or((asked, ""));
+    let (word, name) = first_word(asked);
     match word {
         "members" => listed(alloc, tables.members().map(front_of)),
         "ranges" => listed(alloc, tables.ranges().map(ends_of)),
         "facs" => shown(alloc, &tables.facs().map(ends_of)),
-        "sdt" => {
-            let found = tables.find_sdt(signature_of(name));
-            shown(
-                alloc,
-                &found.map(|it| (it.physical_start(), it.region_length())),
-            )
-        }
+        "sdt" => shown(alloc, &sdt_of(tables, name)),
         "root" => shown(alloc, &root_of(tables)),
         _ => types::answer(alloc, tables, word, name),
+    }
+}
+
+/// Where the first table of a signature lies, and how many bytes it has.
+fn sdt_of<H: AcpiHandler>(tables: &AcpiTables<'_, H>, name: &str) -> AcpiResult<(u64, usize)> {
+    match tables.find_sdt(signature_of(name)) {
+        Ok(table) => Ok((table.physical_start(), table.region_length())),
+        Err(refusal) => Err(refusal),
     }
 }
 

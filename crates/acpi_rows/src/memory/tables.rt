@@ -8,7 +8,7 @@ use super::ways::open;
 use super::{arm, devices, heaps, iommu, numa, places, types};
 use crate::hex_text::in_hex;
 use crate::platforms::{of_answer, platform};
-use crate::texts::{Parts, listed};
+use crate::texts::{Parts, first_word, listed};
 use crate::{gic, ranges};
 use acpi::bgrt::Bgrt;
 use acpi::fadt::Fadt;
@@ -106,7 +106,7 @@ fn answer_of<H: AcpiHandler>(
     tables: &AcpiTables<'_, H>,
     asked: &str,
 ) -> Result<String, AllocError> {
-    let (word, name) = asked.split_once(' ').unwrap_or((asked, ""));
+    let (word, name) = first_word(asked);
     match named(&SUBJECTS, word) {
         Some(subject) => about(alloc, tables, subject, asked),
         None if gic::is_asked(asked) => gic::said(alloc, GicModel::new(alloc, tables), asked),
@@ -123,7 +123,7 @@ fn about<H: AcpiHandler>(
     subject: Subject,
     asked: &str,
 ) -> Result<String, AllocError> {
-    let (word, name) = asked.split_once(' ').unwrap_or((asked, ""));
+    let (word, name) = first_word(asked);
     match subject {
         Subject::Headers => headers(alloc, tables, asked),
         Subject::Places => places::answer(alloc, tables, name),
@@ -183,11 +183,12 @@ fn front_of(header: SdtHeader) -> (Signature, u32, u8, u8) {
 /// How many entries the MADT has and how many the MCFG, the addresses of the DSDT and the FACS, and
 /// the name of the console: what stands last in its table.
 fn ends<H: AcpiHandler>(alloc: Global, tables: &AcpiTables<'_, H>) -> Result<String, AllocError> {
-    match (counts_and_addresses(tables), tables.find_table::<Spcr>()) {
-        (Ok((counts, addresses)), Ok(spcr)) => {
-            shown(alloc, &(counts, addresses, spcr.namespace_string()))
-        }
-        (Err(refusal), _) | (_, Err(refusal)) => shown(alloc, &refusal),
+    match counts_and_addresses(tables) {
+        Ok((counts, addresses)) => match tables.find_table::<Spcr>() {
+            Ok(spcr) => shown(alloc, &(counts, addresses, spcr.namespace_string())),
+            Err(refusal) => shown(alloc, &refusal),
+        },
+        Err(refusal) => shown(alloc, &refusal),
     }
 }
 
@@ -201,15 +202,19 @@ fn counts_and_addresses<H: AcpiHandler>(
 }
 
 fn region_count<H: AcpiHandler>(tables: &AcpiTables<'_, H>) -> AcpiResult<usize> {
-    let mcfg = tables.find_table::<Mcfg>()?;
-    Ok(mcfg.entries().count())
+    match tables.find_table::<Mcfg>() {
+        Ok(mcfg) => Ok(mcfg.entries().count()),
+        Err(refusal) => Err(refusal),
+    }
 }
 
 fn addresses_of<H: AcpiHandler>(
     tables: &AcpiTables<'_, H>,
 ) -> AcpiResult<(AcpiResult<u64>, AcpiResult<u64>)> {
-    let fadt = tables.find_table::<Fadt>()?;
-    Ok((fadt.dsdt_address(), fadt.facs_address()))
+    match tables.find_table::<Fadt>() {
+        Ok(fadt) => Ok((fadt.dsdt_address(), fadt.facs_address())),
+        Err(refusal) => Err(refusal),
+    }
 }
 
 /// How many headers there are and how many SSDTs, and what comes if one more of each is asked for.
@@ -227,11 +232,15 @@ fn after_the_last<H: AcpiHandler>(
 fn entries_of<H: AcpiHandler>(
     tables: &AcpiTables<'_, H>,
 ) -> AcpiResult<((u64, usize), (usize, bool))> {
-    let madt = tables.find_table::<Madt>()?;
-    let place = (madt.physical_start(), madt.region_length());
-    let mut entries = madt.entries();
-    let count = entries.by_ref().count();
-    Ok((place, (count, entries.ended_malformed())))
+    match tables.find_table::<Madt>() {
+        Ok(madt) => {
+            let place = (madt.physical_start(), madt.region_length());
+            let mut entries = madt.entries();
+            let count = entries.by_ref().count();
+            Ok((place, (count, entries.ended_malformed())))
+        }
+        Err(refusal) => Err(refusal),
+    }
 }
 
 /// Where the serial console's table lies and how many bytes it has, its interrupts, its baud rate
@@ -240,15 +249,16 @@ fn console<H: AcpiHandler>(
     alloc: Global,
     tables: &AcpiTables<'_, H>,
 ) -> Result<String, AllocError> {
-    let console = match tables.find_table::<Spcr>() {
-        Ok(console) => console,
-        Err(refusal) => return shown(alloc, &refusal),
-    };
-    let place = (console.physical_start(), console.region_length());
-    let interrupts = (console.irq(), console.global_system_interrupt());
-    let rates = (console.baud_rate(), console.uart_clock_frequency());
-    in_hex(
-        alloc,
-        &(place, interrupts, rates, console.namespace_string()),
-    )
+    match tables.find_table::<Spcr>() {
+        Ok(console) => {
+            let place = (console.physical_start(), console.region_length());
+            let interrupts = (console.irq(), console.global_system_interrupt());
+            let rates = (console.baud_rate(), console.uart_clock_frequency());
+            in_hex(
+                alloc,
+                &(place, interrupts, rates, console.namespace_string()),
+            )
+        }
+        Err(refusal) => shown(alloc, &refusal),
+    }
 }

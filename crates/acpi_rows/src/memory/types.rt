@@ -117,7 +117,11 @@ fn lent_of<T: AcpiTable, H: AcpiHandler>(
     alloc: Global,
     found: AcpiResult<PhysicalMapping<'_, H, T>>,
 ) -> Result<String, AllocError> {
-    shown(alloc, &found.map(|table| table.mapped_length()))
+    let lent: AcpiResult<usize> = match found {
+        Ok(table) => Ok(table.mapped_length()),
+        Err(refusal) => Err(refusal),
+    };
+    shown(alloc, &lent)
 }
 
 /// Where a table lies, and how long it is.

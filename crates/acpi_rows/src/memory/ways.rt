@@ -1,6 +1,7 @@
 //! Ways to the tables in a memory, and searches for an RSDP.
 
 use super::areas::areas_of;
+use crate::texts::first_word;
 use acpi::rsdp::Rsdp;
 use acpi::{AcpiHandler, AcpiResult, AcpiTables, AddressRange, PhysicalMapping};
 use acpi_cli::{parse_address, parse_revision};
@@ -13,7 +14,10 @@ pub(crate) fn candidate<'h, H: AcpiHandler>(
     areas: Option<&str>,
 ) -> AcpiResult<PhysicalMapping<'h, H, Rsdp>> {
     match areas {
-        Some(areas) => Rsdp::search_in(handler, &areas_of(alloc, areas)?),
+        Some(areas) => match areas_of(alloc, areas) {
+            Ok(areas) => Rsdp::search_in(handler, &areas),
+            Err(refusal) => Err(refusal),
+        },
         None => Rsdp::search_for_on_bios(handler),
     }
 }
@@ -24,8 +28,10 @@ pub(super) fn searched<H: AcpiHandler>(
     handler: &H,
     areas: Option<&str>,
 ) -> AcpiResult<(u64, usize)> {
-    let found = candidate(alloc, handler, areas)?;
-    Ok((found.physical_start(), found.region_length()))
+    match candidate(alloc, handler, areas) {
+        Ok(found) => Ok((found.physical_start(), found.region_length())),
+        Err(refusal) => Err(refusal),
+    }
 }
 
 /// The tables that a way leads to: `bios`, `candidate` or `validated`, the areas after `areas` or `within`, `area LENGTH
@@ -35,7 +41,7 @@ pub(crate) fn open<'h, H: AcpiHandler>(
     handler: &'h H,
     way: &str,
 ) -> AcpiResult<AcpiTables<'h, H>> {
-    let (word, place) = way.split_once(' ').unwrap_or((way, ""));
+    let (word, place) = first_word(way);
     let (number, address) = place.rsplit_once(' ').unwrap_or(("", place));
     let address = parse_address(address).unwrap_or(0);
     match word {
@@ -43,10 +49,16 @@ pub(crate) fn open<'h, H: AcpiHandler>(
             let length = number.parse::<u64>().unwrap_or(0);
             AcpiTables::search_in(handler, &[AddressRange { address, length }])
         }
-        "areas" | "within" => AcpiTables::search_in(handler, &areas_of(alloc, place)?),
+        "areas" | "within" => match areas_of(alloc, place) {
+            Ok(areas) => AcpiTables::search_in(handler, &areas),
+            Err(refusal) => Err(refusal),
+        },
         "bios" => AcpiTables::search_for_rsdp_bios(handler),
         "candidate" | "validated" => {
-            AcpiTables::from_validated_rsdp(handler, Rsdp::search_for_on_bios(handler)?)
+            match Rsdp::search_for_on_bios(handler) {
+                Ok(rsdp) => AcpiTables::from_validated_rsdp(handler, rsdp),
+                Err(refusal) => Err(refusal),
+            }
         }
         "rsdp" => AcpiTables::from_rsdp(handler, address),
         _ => AcpiTables::from_rsdt(handler, parse_revision(number).unwrap_or(0), address),

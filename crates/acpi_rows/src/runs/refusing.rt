@@ -52,8 +52,10 @@ impl Write for Refusing {
                 Err(io::Error::from(io::ErrorKind::Other))
             }
             _ => {
-                self.bytes.extend_from_slice(buf)?;
-                Ok(buf.len())
+                match self.bytes.extend_from_slice(buf) {
+                    Ok(()) => Ok(buf.len()),
+                    Err(refusal) => Err(io::Error::from(refusal)),
+                }
             }
         }
     }

@@ -30,7 +30,10 @@ pub(super) fn names_in<F: Flags<Bits = u8>>(alloc: Global, set: &F) -> Result<St
 fn bits_of<F: Flags<Bits = u8>>(word: &str) -> Option<u8> {
     let set = match parse_address(word) {
         None => F::from_name(word),
-        Some(bits) => F::from_bits(u8::try_from(bits).ok()?),
+        Some(bits) => match u8::try_from(bits) {
+            Ok(bits) => F::from_bits(bits),
+            Err(_) => None,
+        },
     };
     match set {
         None => None,
