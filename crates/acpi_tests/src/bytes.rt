@@ -4,7 +4,7 @@
 pub(crate) type Part = (usize, &'static [u8]);
 
 /// Room for a file. It is no list, so that no test has to say what comes of memory that is refused.
-#[derive(Clone, Copy)]
+#[derive(Drop)]
 pub(crate) struct Room {
     bytes: [u8; 1024],
     length: usize,

@@ -17,6 +17,23 @@ pub(crate) fn check_at(rt: &impl Abort, name: &str, place: u64, is_right: bool) 
     check(rt, name, (place, is_right), (place, true));
 }
 
+/// The first place where bytes differ from others, or where one of them ends before the other.
+fn difference(found: &[u8], wanted: &[u8]) -> Option<usize> {
+    let mut place = 0usize;
+    for (byte, want) in found.iter().zip(wanted) {
+        if *byte != *want {
+            return Some(place);
+        }
+        place = place.wrapping_add(1);
+    }
+    (found.len() != wanted.len()).then_some(place)
+}
+
+/// Checks bytes, of which a message names the first place where they differ from what is wanted.
+pub(crate) fn check_same(rt: &impl Abort, name: &str, found: &[u8], wanted: &[u8]) {
+    check(rt, name, difference(found, wanted), None);
+}
+
 /// Checks bytes against their length and what they have at some offsets.
 pub(crate) fn check_bytes(
     rt: &impl Abort,

@@ -20,7 +20,7 @@ use acpi_testkit::history::Event;
 use acpi_testkit::samples::graphics::two_tables;
 use acpi_testkit::samples::madts::with_madt;
 use acpi_testkit::samples::rsdps::two_roots;
-use acpi_testkit::samples::{front, put, put_graphic, put_table, seal_table};
+use acpi_testkit::samples::{front, put_graphic, seal_table};
 use std::alloc::Global;
 use std::process::Abort;
 
@@ -73,10 +73,8 @@ fn check_asked(rt: &impl Abort, region: &MappedRegion<'_>) {
     check(rt, "first", first, Ok(0x2C_5444_5352));
     let second = number_within(&recording, &listed, 0x10A4);
     check(rt, "second", second, Err(AcpiError::MapFailed));
-    assert!(rt;
-        recording.history().events() == ASKED.as_slice(),
-        "the requests"
-    );
+    let history = recording.history();
+    check(rt, "requests", history.events(), ASKED.as_slice());
 }
 
 #[test]
@@ -115,45 +113,31 @@ fn a_kernel_finds_a_table_of_its_own(rt: HostRuntime) {
 }
 
 /// How many ranges were reserved, the bytes in them, and where the last one begins.
-#[derive(Clone, Copy, Debug, PartialEq)]
-struct Reserved {
-    ranges: u32,
-    bytes: u64,
-    last: u64,
-}
+#[derive(Drop)]
+struct Reserved((u32, u64, u64));
 
 impl MemoryMap for Reserved {
     fn reserve(&mut self, address: u64, length: u64) {
-        self.ranges = self.ranges.wrapping_add(1);
-        self.bytes = self.bytes.wrapping_add(length);
-        self.last = address;
+        let (ranges, bytes, _) = self.0;
+        self.0 = (ranges.wrapping_add(1), bytes.wrapping_add(length), address);
     }
 }
 
-/// What a boot loader reserves whose memory lies from 0x1000 on.
-fn reserved_in(memory: &[u8]) -> AcpiResult<Reserved> {
-    let mut map = Reserved {
-        ranges: 0,
-        bytes: 0,
-        last: 0,
-    };
-    let Ok(region) = MappedRegion::new(0x1000, memory) else {
-        return Ok(map);
-    };
-    let tables = AcpiTables::from_rsdt(&region, 0, 0x1000)?;
+/// What a boot loader reserves whose memory this is.
+fn reserved_in(region: &MappedRegion<'_>) -> AcpiResult<(u32, u64, u64)> {
+    let tables = AcpiTables::from_rsdt(region, 0, 0x1000)?;
+    let mut map = Reserved((0, 0, 0));
     reserve_tables(&tables, &mut map);
-    Ok(map)
+    Ok(map.0)
 }
 
 #[test]
 fn the_memory_of_the_tables_is_reserved(rt: HostRuntime) {
     // The RSDT has 44 bytes, the boot graphic 56 and the WSMT 40; no FADT is listed.
-    let wanted = Reserved {
-        ranges: 3,
-        bytes: 140,
-        last: 0x1080,
-    };
-    check(&rt, "reserved", reserved_in(&two_tables()), Ok(wanted));
+    match MappedRegion::new(0x1000, &two_tables()) {
+        Ok(region) => check(&rt, "reserved", reserved_in(&region), Ok((3, 140, 0x1080))),
+        Err(error) => check(&rt, "mapped", Some(error), None),
+    }
 }
 
 /// Addresses of RSDPs, and the answers that are found from them.
@@ -261,9 +245,36 @@ fn a_guest_finds_the_tables_that_were_placed(rt: HostRuntime) {
     }
 }
 
-/// Three local APICs (section 5.2.12.2): the ACPI processor UID, the APIC ID, and whether it is enabled.
-const LOCAL_APICS: [u8; 24] = [
+/// A FADT of revision 0, whose fields are all zero.
+#[rattlefmt::skip]
+const FADT_BYTES: [u8; 116] = [
+    b'F', b'A', b'C', b'P', 116, 0, 0, 0, 0, 0x72, // Signature, Length, Revision, Checksum
+    0, 0, 0, 0, 0, 0, 0, 0, 0, 0, 0, 0, 0, 0, 0, 0, 0, 0, 0, 0, 0, 0, 0, 0, 0, 0, // up to 36
+    0, 0, 0, 0, 0, 0, 0, 0, 0, 0, 0, 0, 0, 0, 0, 0, 0, 0, 0, 0, 0, 0, 0, 0, 0, 0, 0, 0, 0, 0, 0, 0, // up to 68
+    0, 0, 0, 0, 0, 0, 0, 0, 0, 0, 0, 0, 0, 0, 0, 0, 0, 0, 0, 0, 0, 0, 0, 0, 0, 0, 0, 0, 0, 0, 0, 0, // up to 100
+    0, 0, 0, 0, 0, 0, 0, 0, 0, 0, 0, 0, 0, 0, 0, 0,
+];
+
+/// A MADT with three local APICs (section 5.2.12.2): the ACPI processor UID, the APIC ID, and whether it is
+/// enabled.
+#[rattlefmt::skip]
+const MADT_BYTES: [u8; 68] = [
+    b'A', b'P', b'I', b'C', 68, 0, 0, 0, 0, 0x75, // Signature, Length, Revision, Checksum
+    0, 0, 0, 0, 0, 0, 0, 0, 0, 0, 0, 0, 0, 0, 0, 0, 0, 0, 0, 0, 0, 0, 0, 0, 0, 0, // up to 36
+    0, 0, 0, 0, 0, 0, 0, 0, // Local Interrupt Controller Address, Flags
     0, 8, 1, 0, 1, 0, 0, 0, 0, 8, 2, 4, 1, 0, 0, 0, 0, 8, 3, 6, 0, 0, 0, 0,
+];
+
+/// Both, and where they lie.
+const PLACED: [PlacedTable<'static>; 2] = [
+    PlacedTable {
+        address: 0x2000,
+        bytes: &FADT_BYTES,
+    },
+    PlacedTable {
+        address: 0x3000,
+        bytes: &MADT_BYTES,
+    },
 ];
 
 /// Addresses of RSDPs, and what is printed from there.
@@ -275,38 +286,25 @@ static PRINTED: [(u64, &str); 2] = [
     (0x501, "platform: MapFailed\n"),
 ];
 
-/// What is printed of an image with a FADT and a MADT of these local APICs.
-fn printed(alloc: Global, rsdp: u64) -> Option<Vec<u8>> {
-    let (mut fadt, mut madt) = ([0; 116], [0; 68]);
-    put_table(&mut fadt, 0, b"FACP", 116);
-    put_table(&mut madt, 0, b"APIC", 68);
-    put(&mut madt, 44, &LOCAL_APICS);
-    seal_table(&mut fadt, 0, 116);
-    seal_table(&mut madt, 0, 68);
-    let tables = [
-        PlacedTable {
-            address: 0x2000,
-            bytes: &fadt,
-        },
-        PlacedTable {
-            address: 0x3000,
-            bytes: &madt,
-        },
-    ];
-    let file = write_image(alloc, 0x500, 0x1000, 2, &tables).ok()?;
+/// Whether this is printed of an image, from an RSDP.
+fn is_printed(alloc: Global, file: &[u8], rsdp: u64, wanted: &str) -> bool {
     let mut out = Vec::new(alloc);
-    print_processors(alloc, &file, rsdp, &mut out).ok()?;
-    Some(out)
+    let is_written = print_processors(alloc, file, rsdp, &mut out).is_ok();
+    is_written && out.as_slice() == wanted.as_bytes()
+}
+
+/// Checks what is printed of an image.
+fn check_printed(rt: &impl Abort, alloc: Global, file: &[u8]) {
+    for (rsdp, wanted) in &PRINTED {
+        let is_right = is_printed(alloc, file, *rsdp, wanted);
+        check_at(rt, "processors", *rsdp, is_right);
+    }
 }
 
 #[test]
 fn the_processors_are_printed(rt: HostRuntime) {
-    for (rsdp, wanted) in &PRINTED {
-        let printed = printed(rt.alloc(), *rsdp);
-        let is_right = match &printed {
-            Some(text) => text.as_slice() == wanted.as_bytes(),
-            None => false,
-        };
-        check_at(&rt, "processors", *rsdp, is_right);
+    match write_image(rt.alloc(), 0x500, 0x1000, 2, &PLACED) {
+        Ok(file) => check_printed(&rt, rt.alloc(), &file),
+        Err(error) => check(&rt, "written", Some(error), None),
     }
 }

@@ -86,18 +86,25 @@ impl<'c> Clone for Counted<'c> {
     }
 }
 
-/// How many items there are after a slice of so many is made, after it is cloned, after it is
-/// dropped, and after the clone is. `None` if memory runs out.
-fn counts_of(alloc: Global, count: usize) -> Option<[u32; 4]> {
-    let alive = Cell::new(0);
-    let slice = ManagedSlice::new(alloc, count, Counted::new(&alive)).ok()?;
+/// How many items there are now that a slice is made, after it is cloned, after it is dropped, and after
+/// the clone is.
+fn counts_with(alive: &Cell<u32>, slice: ManagedSlice<Counted<'_>, Global>) -> [u32; 4] {
     let made = alive.get();
-    let clone = slice.clone().ok()?;
+    let clone = slice.clone();
     let cloned = alive.get();
     drop(slice);
     let left = alive.get();
     drop(clone);
-    Some([made, cloned, left, alive.get()])
+    [made, cloned, left, alive.get()]
+}
+
+/// What `counts_with` answers for a slice of so many items. `None` if memory for it runs out.
+fn counts_of(alloc: Global, count: usize) -> Option<[u32; 4]> {
+    let alive = Cell::new(0);
+    match ManagedSlice::new(alloc, count, Counted::new(&alive)) {
+        Ok(slice) => Some(counts_with(&alive, slice)),
+        Err(_) => None,
+    }
 }
 
 /// Why there is no slice of five items where there is no memory for them, and how many items there

@@ -7,7 +7,6 @@ use std::alloc::Global;
 use std::fmt::Display;
 
 /// A refusal of what is read, written or packed.
-#[derive(Clone, Copy)]
 enum Refused {
     Reading(ImageError),
     Writing(WriteError),
@@ -43,7 +42,7 @@ static TEXTS: [(Refused, &str); 20] = [
 ];
 
 /// Whether a value prints this text.
-fn is_printed<T: Display + Copy>(alloc: Global, value: T, text: &str) -> bool {
+fn is_printed<T: Display>(alloc: Global, value: &T, text: &str) -> bool {
     match format!(in alloc; "{value}") {
         Ok(said) => said.as_str() == text,
         Err(_) => false,
@@ -51,7 +50,7 @@ fn is_printed<T: Display + Copy>(alloc: Global, value: T, text: &str) -> bool {
 }
 
 /// Whether a refusal prints this text.
-fn is_text_of(alloc: Global, refused: Refused, text: &str) -> bool {
+fn is_text_of(alloc: Global, refused: &Refused, text: &str) -> bool {
     match refused {
         Refused::Reading(error) => is_printed(alloc, error, text),
         Refused::Writing(error) => is_printed(alloc, error, text),
@@ -63,6 +62,6 @@ fn is_text_of(alloc: Global, refused: Refused, text: &str) -> bool {
 #[test]
 fn refusals_print_their_names(rt: HostRuntime) {
     for (refused, text) in &TEXTS {
-        check(&rt, text, is_text_of(rt.alloc(), *refused, text), true);
+        check(&rt, text, is_text_of(rt.alloc(), refused, text), true);
     }
 }

@@ -14,3 +14,17 @@ mod roots;
 mod samples;
 mod tables;
 mod whole;
+
+use calls::check_calls;
+
+#[test]
+fn each_call_writes_a_table_or_is_refused(rt: HostRuntime) {
+    check_calls(&rt, &roots::CALLS);
+    check_calls(&rt, &tables::CALLS);
+    check_calls(&rt, &fadt::CALLS);
+    check_calls(&rt, &gic::CALLS);
+    check_calls(&rt, &gtdt::CALLS);
+    check_calls(&rt, &affinities::CALLS);
+    check_calls(&rt, &devices::CALLS);
+    check_calls(&rt, &refused::CALLS);
+}

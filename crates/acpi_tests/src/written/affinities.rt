@@ -1,6 +1,6 @@
 //! A SRAT with an entry of each kind, byte by byte, and what isn't written (ACPI 6.4, section 5.2.16).
 
-use super::calls::{Call, Contents, check_calls};
+use super::calls::{Call, Contents};
 use super::refused::BAD;
 use super::samples::IDS;
 use acpi_numa::MemoryRange;
@@ -64,17 +64,6 @@ pub(super) const SRAT_BYTES: [u8; 186] = [
     0, 0, 0, 0, 5, 0, 0, 0, 0, 0, 0, 0, 0, 0, 0, 0, // Flags: Enabled, NonVolatile
 ];
 
-#[rattlefmt::skip]
-static FILLED: [Call; 2] = [
-    ("SRAT", &IDS, Contents::Srat(SRAT), 186, Ok(&SRAT_BYTES)),
-    ("less", &IDS, Contents::Srat(SRAT), 185, Err(WriterError::NoRoom)),
-];
-
-#[test]
-fn affinities_fill_their_room(rt: HostRuntime) {
-    check_calls(&rt, &FILLED);
-}
-
 /// No byte.
 const EMPTY: MemoryRange = MemoryRange { length: 0, ..LOW };
 
@@ -112,17 +101,16 @@ const WITH_PAST_END: SratContents<'static> = SratContents {
     ..SRAT
 };
 
-/// Each with ids that aren't valid UTF-8 too.
+/// A SRAT, and what is none.
 #[rattlefmt::skip]
-static REFUSED: [Call; 5] = [
+pub(super) static CALLS: [Call; 7] = [
+    // in its room, and in a byte less
+    ("SRAT", &IDS, Contents::Srat(SRAT), 186, Ok(&SRAT_BYTES)),
+    ("less", &IDS, Contents::Srat(SRAT), 185, Err(WriterError::NoRoom)),
+    // an id is of one processor, and a range has bytes; each with ids that aren't valid UTF-8 too
     ("APICs", &BAD, Contents::Srat(OF_ALL_APICS), 185, Err(WriterError::IdOfAll)),
     ("GICCs", &BAD, Contents::Srat(OF_ALL_GICCS), 185, Err(WriterError::IdOfAll)),
     ("empty", &BAD, Contents::Srat(WITH_EMPTY), 185, Err(WriterError::BadRange)),
     ("past the end", &BAD, Contents::Srat(WITH_PAST_END), 185, Err(WriterError::BadRange)),
     ("names", &BAD, Contents::Srat(SRAT), 185, Err(WriterError::BadName)),
 ];
-
-#[test]
-fn affinities_are_of_one_processor_and_of_bytes(rt: HostRuntime) {
-    check_calls(&rt, &REFUSED);
-}

@@ -1,6 +1,6 @@
 //! Calls that write one table each into a slice of sevens.
 
-use super::samples::check;
+use crate::checks::{check, check_same};
 use acpi::HpetInfo;
 use acpi_base::mcfg::McfgEntry;
 use acpi_writer::{
@@ -75,25 +75,23 @@ fn before_sevens(table: &[u8]) -> [u8; MOST] {
     left
 }
 
-/// Checks what a call returns, and the slice after it.
-fn check_call(
-    rt: &impl Abort,
-    name: &str,
-    found: Result<usize, WriterError>,
-    wanted: Result<&[u8], WriterError>,
-    out: &[u8],
-) {
+/// What a call that is to write a table returns, and the table, or no bytes.
+fn wanted_of(
+    wanted: Result<&'static [u8], WriterError>,
+) -> (Result<usize, WriterError>, &'static [u8]) {
     match wanted {
-        Ok(table) => check(rt, name, found, Ok(table.len()), out, &before_sevens(table)),
-        Err(error) => check(rt, name, found, Err(error), out, &[7; MOST]),
+        Ok(table) => (Ok(table.len()), table),
+        Err(error) => (Err(error), &[]),
     }
 }
 
-/// Makes and checks calls.
+/// Makes calls, and checks what each returns, and the slice after it.
 pub(super) fn check_calls(rt: &impl Abort, calls: &[Call]) {
     for (name, ids, contents, room, wanted) in calls {
         let mut out = [7; MOST];
         let found = write(&mut out[..(*room).min(MOST)], ids, contents);
-        check_call(rt, name, found, *wanted, &out);
+        let (returned, table) = wanted_of(*wanted);
+        check(rt, name, found, returned);
+        check_same(rt, name, &out, &before_sevens(table));
     }
 }

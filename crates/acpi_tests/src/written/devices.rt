@@ -1,6 +1,6 @@
 //! An SPCR and a BGRT, byte by byte, and what isn't written (ACPI 6.4, section 5.2.22; the SPCR's layout is Microsoft's).
 
-use super::calls::{Call, Contents, check_calls};
+use super::calls::{Call, Contents};
 use super::refused::BAD;
 use super::samples::IDS;
 use acpi_base::address::{AccessSize, AddressSpace, GenericAddress};
@@ -105,30 +105,6 @@ pub(super) const BGRT_BYTES: [u8; 56] = [
     2, 1, 0, 0, 5, 4, 3, 0, // Image Offset X, Image Offset Y
 ];
 
-#[rattlefmt::skip]
-static FILLED: [Call; 3] = [
-    ("SPCR", &IDS, Contents::Spcr(PORT), 98, Ok(&SPCR_BYTES)),
-    ("none", &IDS, Contents::Spcr(NONE), 90, Ok(&NONE_BYTES)),
-    ("BGRT", &IDS, Contents::Bgrt(IMAGE), 56, Ok(&BGRT_BYTES)),
-];
-
-#[test]
-fn devices_fill_their_room(rt: HostRuntime) {
-    check_calls(&rt, &FILLED);
-}
-
-#[rattlefmt::skip]
-static SHORT: [Call; 3] = [
-    ("SPCR", &IDS, Contents::Spcr(PORT), 97, Err(WriterError::NoRoom)),
-    ("BGRT", &IDS, Contents::Bgrt(IMAGE), 55, Err(WriterError::NoRoom)),
-    ("name", &BAD, Contents::Bgrt(IMAGE), 55, Err(WriterError::BadName)),
-];
-
-#[test]
-fn devices_need_their_room(rt: HostRuntime) {
-    check_calls(&rt, &SHORT);
-}
-
 const NOWHERE: SpcrContents<'static> = SpcrContents {
     base_address: Some(GenericAddress { address: 0, ..COM }),
     ..PORT
@@ -148,16 +124,20 @@ const NO_SPACE: SpcrContents<'static> = SpcrContents {
     ..PORT
 };
 
-/// Each with ids that aren't valid UTF-8 too.
+/// SPCRs and a BGRT, and what is none.
 #[rattlefmt::skip]
-static REFUSED: [Call; 4] = [
+pub(super) static CALLS: [Call; 10] = [
+    // in their room
+    ("SPCR", &IDS, Contents::Spcr(PORT), 98, Ok(&SPCR_BYTES)),
+    ("none", &IDS, Contents::Spcr(NONE), 90, Ok(&NONE_BYTES)),
+    ("BGRT", &IDS, Contents::Bgrt(IMAGE), 56, Ok(&BGRT_BYTES)),
+    // in a byte less
+    ("SPCR", &IDS, Contents::Spcr(PORT), 97, Err(WriterError::NoRoom)),
+    ("BGRT", &IDS, Contents::Bgrt(IMAGE), 55, Err(WriterError::NoRoom)),
+    ("name", &BAD, Contents::Bgrt(IMAGE), 55, Err(WriterError::BadName)),
+    // a port has codes and an address; each with ids that aren't valid UTF-8 too
     ("interface", &BAD, Contents::Spcr(NO_INTERFACE), 98, Err(WriterError::BadCode)),
     ("space", &BAD, Contents::Spcr(NO_SPACE), 98, Err(WriterError::BadCode)),
     ("nowhere", &BAD, Contents::Spcr(NOWHERE), 98, Err(WriterError::NoAddress)),
     ("names", &BAD, Contents::Spcr(PORT), 98, Err(WriterError::BadName)),
 ];
-
-#[test]
-fn ports_have_codes_and_an_address(rt: HostRuntime) {
-    check_calls(&rt, &REFUSED);
-}

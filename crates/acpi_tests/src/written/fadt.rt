@@ -1,7 +1,7 @@
 //! A FADT of fixed hardware, one of reduced hardware, and a FACS, byte by byte, in their room and in a byte less (ACPI
 //! 6.4, sections 5.2.9 and 5.2.10).
 
-use super::calls::{Call, Contents, check_calls};
+use super::calls::{Call, Contents};
 use super::samples::IDS;
 use acpi_base::address::{AccessSize, AddressSpace, GenericAddress};
 use acpi_fixed::fadt::{GpeBlock, PowerProfile};
@@ -226,29 +226,6 @@ const EMPTY: Option<GpeBlock> = Some(GpeBlock {
     byte_length: 0,
 });
 
-#[rattlefmt::skip]
-static FILLED: [Call; 3] = [
-    ("fixed", &IDS, Contents::Fadt(FIXED), 276, Ok(&FIXED_BYTES)),
-    ("reduced", &IDS, Contents::Fadt(REDUCED), 276, Ok(&REDUCED_BYTES)),
-    ("FACS", &IDS, Contents::Facs(FACS), 64, Ok(&FACS_BYTES)),
-];
-
-#[test]
-fn fadt_and_facs_fill_their_room(rt: HostRuntime) {
-    check_calls(&rt, &FILLED);
-}
-
-#[rattlefmt::skip]
-static SHORT: [Call; 2] = [
-    ("FADT", &IDS, Contents::Fadt(FIXED), 275, Err(WriterError::NoRoom)),
-    ("FACS", &IDS, Contents::Facs(FACS), 63, Err(WriterError::NoRoom)),
-];
-
-#[test]
-fn fadt_and_facs_need_their_room(rt: HostRuntime) {
-    check_calls(&rt, &SHORT);
-}
-
 const NO_DSDT: FadtContents = FadtContents { dsdt: 0, ..FIXED };
 
 const FACS_AT_0: FadtContents = FadtContents {
@@ -289,8 +266,17 @@ const EVENTS_EMPTY: FadtContents = FadtContents {
     ..FIXED
 };
 
+/// FADTs and a FACS, and what is none.
 #[rattlefmt::skip]
-static REFUSED: [Call; 7] = [
+pub(super) static CALLS: [Call; 12] = [
+    // in their room
+    ("fixed", &IDS, Contents::Fadt(FIXED), 276, Ok(&FIXED_BYTES)),
+    ("reduced", &IDS, Contents::Fadt(REDUCED), 276, Ok(&REDUCED_BYTES)),
+    ("FACS", &IDS, Contents::Facs(FACS), 64, Ok(&FACS_BYTES)),
+    // in a byte less
+    ("FADT", &IDS, Contents::Fadt(FIXED), 275, Err(WriterError::NoRoom)),
+    ("FACS", &IDS, Contents::Facs(FACS), 63, Err(WriterError::NoRoom)),
+    // bad contents come before room
     ("DSDT", &IDS, Contents::Fadt(NO_DSDT), 8, Err(WriterError::NoAddress)),
     ("FACS", &IDS, Contents::Fadt(FACS_AT_0), 8, Err(WriterError::NoAddress)),
     ("profile", &IDS, Contents::Fadt(NO_PROFILE), 8, Err(WriterError::BadProfile)),
@@ -299,8 +285,3 @@ static REFUSED: [Call; 7] = [
     ("timer", &IDS, Contents::Fadt(TIMER_NOWHERE), 8, Err(WriterError::BadRegister)),
     ("events", &IDS, Contents::Fadt(EVENTS_EMPTY), 8, Err(WriterError::BadRegister)),
 ];
-
-#[test]
-fn bad_contents_come_before_room(rt: HostRuntime) {
-    check_calls(&rt, &REFUSED);
-}

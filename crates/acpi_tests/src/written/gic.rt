@@ -1,6 +1,6 @@
 //! The MADT of an Arm machine, byte by byte, in its room and in a byte less (ACPI 6.4, sections 5.2.12.14 to 5.2.12.18).
 
-use super::calls::{Call, Contents, check_calls};
+use super::calls::{Call, Contents};
 use super::samples::IDS;
 use acpi_arm::gic::{
     GicCpuInterface, GicDistributor, GicMsiFrame, GicRedistributors, GicTranslationService,
@@ -114,17 +114,6 @@ pub(super) const GIC_BYTES: [u8; 314] = [
     13, 24, 0, 0, 8, 0, 0, 0, 0, 0, 0x1d, 0x2c, 0, 0, 0, 0, 0, 0, 0, 0, 0, 0, 0, 0, // GIC MSI Frame: its registers tell its interrupts
 ];
 
-#[rattlefmt::skip]
-static FILLED: [Call; 2] = [
-    ("GIC", &IDS, Contents::GicMadt(GIC), 314, Ok(&GIC_BYTES)),
-    ("GIC", &IDS, Contents::GicMadt(GIC), 313, Err(WriterError::NoRoom)),
-];
-
-#[test]
-fn gic_fills_its_room(rt: HostRuntime) {
-    check_calls(&rt, &FILLED);
-}
-
 const NO_PROCESSOR: GicContents<'static> = GicContents {
     cpu_interfaces: &[],
     ..GIC
@@ -141,13 +130,13 @@ const BY_BUS: GicContents<'static> = GicContents {
     ..GIC
 };
 
+/// A GIC, and what is none.
 #[rattlefmt::skip]
-static REFUSED: [Call; 2] = [
+pub(super) static CALLS: [Call; 4] = [
+    // in its room, and in a byte less
+    ("GIC", &IDS, Contents::GicMadt(GIC), 314, Ok(&GIC_BYTES)),
+    ("GIC", &IDS, Contents::GicMadt(GIC), 313, Err(WriterError::NoRoom)),
+    // it needs a processor, and no interrupt is as its bus has it
     ("empty", &IDS, Contents::GicMadt(NO_PROCESSOR), 8, Err(WriterError::NoProcessor)),
     ("bus", &IDS, Contents::GicMadt(BY_BUS), 8, Err(WriterError::SameAsBus)),
 ];
-
-#[test]
-fn gic_needs_a_processor_and_no_bus(rt: HostRuntime) {
-    check_calls(&rt, &REFUSED);
-}

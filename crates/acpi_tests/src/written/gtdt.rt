@@ -1,6 +1,6 @@
 //! The GTDT of an Arm machine, byte by byte, in its room and in a byte less (ACPI 6.4, section 5.2.24).
 
-use super::calls::{Call, Contents, check_calls};
+use super::calls::{Call, Contents};
 use super::samples::IDS;
 use acpi_arm::gtdt::{ArmTimer, GtFrame, SbsaWatchdog, TimerInterrupt};
 use acpi_base::model::{Polarity, TriggerMode};
@@ -117,17 +117,6 @@ pub(super) const GTDT_BYTES: [u8; 232] = [
     1, 28, 0, 0, 0, 0, 0x45, 0x2a, 0, 0, 0, 0, 0, 0, 0x44, 0x2a, 1, 0, 0, 0, 61, 3, 0, 0, 6, 0, 0, 0, // Arm Generic Watchdog
 ];
 
-#[rattlefmt::skip]
-static FILLED: [Call; 2] = [
-    ("GTDT", &IDS, Contents::Gtdt(GTDT), 232, Ok(&GTDT_BYTES)),
-    ("GTDT", &IDS, Contents::Gtdt(GTDT), 231, Err(WriterError::NoRoom)),
-];
-
-#[test]
-fn timers_fill_their_room(rt: HostRuntime) {
-    check_calls(&rt, &FILLED);
-}
-
 /// The second frame has the base that stands for none.
 const ALL_ONES: GtdtContents<'static> = GtdtContents {
     platform_timers: &[PlatformTimerContents::GtBlock(GtBlockContents {
@@ -180,15 +169,15 @@ const TOO_MANY: GtdtContents<'static> = GtdtContents {
     ..GTDT
 };
 
+/// A GTDT, and what is none.
 #[rattlefmt::skip]
-static REFUSED: [Call; 4] = [
+pub(super) static CALLS: [Call; 6] = [
+    // in its room, and in a byte less
+    ("GTDT", &IDS, Contents::Gtdt(GTDT), 232, Ok(&GTDT_BYTES)),
+    ("GTDT", &IDS, Contents::Gtdt(GTDT), 231, Err(WriterError::NoRoom)),
+    // timers need their modes, and frames their bases and room
     ("all ones", &IDS, Contents::Gtdt(ALL_ONES), 8, Err(WriterError::NoAddress)),
     ("bus", &IDS, Contents::Gtdt(BY_BUS), 8, Err(WriterError::SameAsBus)),
     ("1637", &IDS, Contents::Gtdt(MOST_FRAMES), 8, Err(WriterError::NoRoom)),
     ("1638", &IDS, Contents::Gtdt(TOO_MANY), 8, Err(WriterError::TooManyFrames)),
 ];
-
-#[test]
-fn timers_need_their_modes_and_bases(rt: HostRuntime) {
-    check_calls(&rt, &REFUSED);
-}

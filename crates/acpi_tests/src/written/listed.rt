@@ -7,8 +7,9 @@ use super::fadt::{FIXED, FIXED_BYTES};
 use super::gic::{GIC, GIC_BYTES};
 use super::gtdt::{GTDT, GTDT_BYTES};
 use super::madt::MADT_BYTES;
-use super::samples::{IDS, MADT, check};
+use super::samples::{IDS, MADT};
 use super::whole::stands;
+use crate::checks::{check, check_same};
 use acpi_writer::{Machine, TableContents, WriterError, tables_size, write_tables};
 use std::process::Abort;
 
@@ -39,14 +40,15 @@ fn alone(
         tables,
     };
     let mut out = [7; 416];
-    if let Some(less) = out.get_mut(..size.wrapping_sub(1)) {
-        let found = write_tables(less, 0x1000, &machine);
-        check(rt, name, found, Err(WriterError::NoRoom), &out, &[7; 416]);
-    }
+    let less = &mut out[..size.min(416).saturating_sub(1)];
+    let refused = write_tables(less, 0x1000, &machine);
+    check_same(rt, name, &out, &[7; 416]);
     let found = write_tables(&mut out, 0x1000, &machine);
-    assert!(rt;
-        found == Ok(size) && tables_size(&machine) == Ok(size),
-        "{name}: {found:?}"
+    check(
+        rt,
+        name,
+        [refused, found, tables_size(&machine)],
+        [Err(WriterError::NoRoom), Ok(size), Ok(size)],
     );
     stands(rt, name, &out, 96, bytes);
 }

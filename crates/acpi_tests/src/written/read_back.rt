@@ -6,14 +6,16 @@ use super::fadt::{FACS, FACS_BYTES, FIXED};
 use super::roots::AML;
 use super::samples::IDS;
 use super::whole::stands;
-use acpi::AcpiTables;
+use crate::checks::check;
 use acpi::handler::MappedRegion;
+use acpi::{AcpiResult, AcpiTables};
 use acpi_base::AddressRange;
 use acpi_numa::{Slit, SlitCalls, Srat, SratCalls};
 use acpi_writer::{
     AmlContents, FadtContents, Machine, SlitContents, TableContents, dsdt_address, facs_address,
     write_tables,
 };
+use std::process::Abort;
 
 /// Three tables after an XSDT of 60 bytes: the DSDT lies at 0x1070, and after its 42 bytes the FACS at 0x10c0.
 const FADT: FadtContents = FadtContents {
@@ -42,21 +44,39 @@ const MACHINE: Machine<'static> = Machine {
     ],
 };
 
-/// Where the AML and the FACS that the FADT leads to lie, the domain of the processor whose APIC has this id, and the
-/// distance from the first locality to the second, by the tables in memory from 0x1000 on.
-fn said(memory: &[u8], apic: u32) -> Option<(u64, AddressRange, u32, u8)> {
-    let region = MappedRegion::new(0x1000, memory).ok()?;
-    let tables = AcpiTables::from_rsdp(&region, 0x1000).ok()?;
-    let aml = tables.dsdt().ok()?;
-    let facs = tables.facs().ok()?;
-    let srat = tables.find_table::<Srat>().ok()?;
-    let slit = tables.find_table::<Slit>().ok()?;
-    Some((
-        aml.address,
-        facs,
-        srat.domain_of_apic(apic)?,
-        slit.distance(0, 1)?,
-    ))
+type Opened<'h, 'm> = AcpiTables<'h, MappedRegion<'m>>;
+
+/// Where the AML lies that the FADT leads to.
+fn aml_address(tables: &Opened<'_, '_>) -> AcpiResult<u64> {
+    match tables.dsdt() {
+        Ok(aml) => Ok(aml.address),
+        Err(error) => Err(error),
+    }
+}
+
+/// The domain of the processor whose APIC has an id.
+fn domain_of(tables: &Opened<'_, '_>, apic: u32) -> AcpiResult<Option<u32>> {
+    match tables.find_table::<Srat>() {
+        Ok(srat) => Ok(srat.domain_of_apic(apic)),
+        Err(error) => Err(error),
+    }
+}
+
+/// The distance from the first locality to the second.
+fn distance_in(tables: &Opened<'_, '_>) -> AcpiResult<Option<u8>> {
+    match tables.find_table::<Slit>() {
+        Ok(slit) => Ok(slit.distance(0, 1)),
+        Err(error) => Err(error),
+    }
+}
+
+/// Checks where the AML and the FACS that the FADT leads to lie, the domains, and the distance.
+fn check_said(rt: &impl Abort, tables: &Opened<'_, '_>) {
+    check(rt, "AML", aml_address(tables), Ok(0x1094));
+    check(rt, "FACS", tables.facs(), Ok(AT_10C0));
+    check(rt, "small id", domain_of(tables, 254), Ok(Some(0x01020304)));
+    check(rt, "large id", domain_of(tables, 255), Ok(Some(5)));
+    check(rt, "distance", distance_in(tables), Ok(Some(21)));
 }
 
 const AT_10C0: AddressRange = AddressRange {
@@ -64,18 +84,23 @@ const AT_10C0: AddressRange = AddressRange {
     length: 64,
 };
 
+/// Opens the tables in memory from 0x1000 on, and checks what is read in them.
+fn check_opened(rt: &impl Abort, region: &MappedRegion<'_>) {
+    match AcpiTables::from_rsdp(region, 0x1000) {
+        Ok(tables) => check_said(rt, &tables),
+        Err(error) => check(rt, "opened", Some(error), None),
+    }
+}
+
 #[test]
 fn a_reader_finds_what_was_passed(rt: HostRuntime) {
     let mut out = [7; 816];
     let found = write_tables(&mut out, 0x1000, &MACHINE);
-    assert!(rt; found == Ok(816), "{found:?}");
-    let small = said(&out, 254);
-    assert!(rt;
-        small == Some((0x1094, AT_10C0, 0x01020304, 21)),
-        "{small:?}"
-    );
-    let large = said(&out, 255);
-    assert!(rt; large == Some((0x1094, AT_10C0, 5, 21)), "{large:?}");
+    check(&rt, "machine", found, Ok(816));
+    match MappedRegion::new(0x1000, &out) {
+        Ok(region) => check_opened(&rt, &region),
+        Err(error) => check(&rt, "mapped", Some(error), None),
+    }
 }
 
 /// An address of the RSDP, and that of the FACS: the first multiple of 64 that isn't below the first one and 0xa0.
@@ -91,10 +116,10 @@ const PLACES: [(u64, Option<u64>); 6] = [
 #[test]
 fn the_addresses_are_known_before(rt: HostRuntime) {
     let dsdt = dsdt_address(0x1000, 3);
-    assert!(rt; dsdt == Some(FADT.dsdt), "{dsdt:?}");
+    check(&rt, "DSDT", dsdt, Some(FADT.dsdt));
     for (address, wanted) in &PLACES {
         let facs = facs_address(*address, 3, MACHINE.dsdt);
-        assert!(rt; facs == *wanted, "{facs:?}");
+        check(&rt, "FACS", facs, *wanted);
     }
 }
 
@@ -103,7 +128,7 @@ fn the_facs_stands_between_zeros(rt: HostRuntime) {
     for (address, wanted) in PLACES.iter().take(4) {
         let mut out = [7; 816];
         let found = write_tables(&mut out, *address, &MACHINE);
-        assert!(rt; found == Ok(816), "{found:?}");
+        check(&rt, "machine", found, Ok(816));
         let mut bytes = [0; 128];
         let at = wanted
             .unwrap_or(0)

@@ -1,6 +1,6 @@
 //! What is refused for other reasons than room, in order. `TooLong` isn't tried: it needs a slice of 4 GiB.
 
-use super::calls::{Call, Contents, check_calls};
+use super::calls::{Call, Contents};
 use super::samples::{HPET, IDS, MADT, PROCESSOR, REGIONS};
 use acpi_base::model::{LocalInterruptLine, NmiLine, NmiProcessor};
 use acpi_writer::{MadtContents, MadtProcessor, TableIds, WriterError};
@@ -64,8 +64,10 @@ const PROCESSOR_OF_ALL: MadtContents<'static> = MadtContents {
     ..UID_OF_ALL
 };
 
+/// What is refused.
 #[rattlefmt::skip]
-static IN_ORDER: [Call; 8] = [
+pub(super) static CALLS: [Call; 28] = [
+    // contents come before names, and names before room
     ("empty", &BAD, Contents::Madt(NO_PROCESSOR), 8, Err(WriterError::NoProcessor)),
     ("id of all", &BAD, Contents::Madt(ID_OF_ALL), 8, Err(WriterError::IdOfAll)),
     ("id of all", &BAD, Contents::Madt(PROCESSOR_OF_ALL), 8, Err(WriterError::IdOfAll)),
@@ -74,15 +76,7 @@ static IN_ORDER: [Call; 8] = [
     ("MCFG", &BAD, Contents::Mcfg(&REGIONS), 8, Err(WriterError::BadName)),
     ("HPET", &BAD, Contents::Hpet(HPET), 8, Err(WriterError::BadName)),
     ("room", &IDS, Contents::Hpet(HPET), 8, Err(WriterError::NoRoom)),
-];
-
-#[test]
-fn contents_come_before_names_and_names_before_room(rt: HostRuntime) {
-    check_calls(&rt, &IN_ORDER);
-}
-
-#[rattlefmt::skip]
-static BAD_NAMES: [Call; 20] = [
+    // each name is asked of each table, after its contents
     ("RSDP", &BAD, Contents::Rsdp(0x1000), 8, Err(WriterError::BadName)),
     ("RSDT", &BAD, Contents::Rsdt(&[0x1000]), 8, Err(WriterError::BadName)),
     ("XSDT", &BAD, Contents::Xsdt(&[0x1000]), 8, Err(WriterError::BadName)),
@@ -104,8 +98,3 @@ static BAD_NAMES: [Call; 20] = [
     ("no square", &BAD, Contents::Slit(2, &[10]), 8, Err(WriterError::BadMatrix)),
     ("address 0", &BAD, Contents::Rsdp(0), 8, Err(WriterError::NoAddress)),
 ];
-
-#[test]
-fn each_name_is_asked_of_each_table(rt: HostRuntime) {
-    check_calls(&rt, &BAD_NAMES);
-}

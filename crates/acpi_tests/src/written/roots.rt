@@ -1,7 +1,7 @@
 //! The RSDP, root tables, tables of AML and distances, byte by byte, in their room and in a byte less (ACPI 6.4,
 //! sections 5.2.5.3, 5.2.7, 5.2.8, 5.2.11 and 5.2.17).
 
-use super::calls::{Call, Contents, check_calls};
+use super::calls::{Call, Contents};
 use super::samples::IDS;
 use acpi_writer::WriterError;
 
@@ -68,23 +68,17 @@ const SLIT_BYTES: [u8; 48] = [
     10, 21, 22, 10, // Entry[0][0], Entry[0][1], Entry[1][0], Entry[1][1]
 ];
 
+/// Root tables, AML and distances, and what is none.
 #[rattlefmt::skip]
-static WRITTEN: [Call; 6] = [
+pub(super) static CALLS: [Call; 15] = [
+    // in their room
     ("RSDP", &IDS, Contents::Rsdp(0x1_00001000), 36, Ok(&RSDP_BYTES)),
     ("XSDT", &IDS, Contents::Xsdt(&[0x1_00002000, 0x3000]), 52, Ok(&XSDT_BYTES)),
     ("RSDT", &IDS, Contents::Rsdt(&[0x2000, 0x3000]), 44, Ok(&RSDT_BYTES)),
     ("DSDT", &IDS, Contents::Dsdt(2, &AML), 42, Ok(&DSDT_BYTES)),
     ("SSDT", &IDS, Contents::Ssdt(2, &AML), 42, Ok(&SSDT_BYTES)),
     ("SLIT", &IDS, Contents::Slit(2, &[10, 21, 22, 10]), 48, Ok(&SLIT_BYTES)),
-];
-
-#[test]
-fn roots_fill_their_room(rt: HostRuntime) {
-    check_calls(&rt, &WRITTEN);
-}
-
-#[rattlefmt::skip]
-static REFUSED: [Call; 7] = [
+    // in a byte less
     ("RSDP", &IDS, Contents::Rsdp(0x1000), 35, Err(WriterError::NoRoom)),
     ("address 0", &IDS, Contents::Rsdp(0), 35, Err(WriterError::NoAddress)),
     ("XSDT", &IDS, Contents::Xsdt(&[0x2000, 0x3000]), 51, Err(WriterError::NoRoom)),
@@ -92,20 +86,7 @@ static REFUSED: [Call; 7] = [
     ("DSDT", &IDS, Contents::Dsdt(2, &AML), 41, Err(WriterError::NoRoom)),
     ("SSDT", &IDS, Contents::Ssdt(2, &AML), 41, Err(WriterError::NoRoom)),
     ("SLIT", &IDS, Contents::Slit(2, &[10, 21, 22, 10]), 47, Err(WriterError::NoRoom)),
-];
-
-#[test]
-fn roots_need_their_room(rt: HostRuntime) {
-    check_calls(&rt, &REFUSED);
-}
-
-#[rattlefmt::skip]
-static NO_PAIRS: [Call; 2] = [
+    // distances are of pairs
     ("no square", &IDS, Contents::Slit(2, &[10, 21, 22]), 47, Err(WriterError::BadMatrix)),
     ("2^64 pairs", &IDS, Contents::Slit(0x1_00000000, &[]), 47, Err(WriterError::BadMatrix)),
 ];
-
-#[test]
-fn distances_are_of_pairs(rt: HostRuntime) {
-    check_calls(&rt, &NO_PAIRS);
-}

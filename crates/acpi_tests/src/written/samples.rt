@@ -7,8 +7,7 @@ use acpi_base::model::{
     InterruptSourceOverride, IoApic, LocalInterruptLine, NmiLine, NmiProcessor, NmiSource,
     Polarity, TriggerMode,
 };
-use acpi_writer::{MadtContents, MadtProcessor, TableIds, WriterError};
-use std::process::Abort;
+use acpi_writer::{MadtContents, MadtProcessor, TableIds};
 
 pub(super) const IDS: TableIds = TableIds {
     oem_id: *b"GUEST ",
@@ -172,25 +171,3 @@ pub(super) const HPET: HpetInfo = HpetInfo {
     clock_tick_unit: 0x80,
     page_protection: PageProtection::Protected4K,
 };
-
-/// Checks what a call returned, and that the slice after it is this.
-pub(super) fn check(
-    rt: &impl Abort,
-    name: &str,
-    found: Result<usize, WriterError>,
-    wanted: Result<usize, WriterError>,
-    out: &[u8],
-    left: &[u8],
-) {
-    assert!(rt;
-        found == wanted,
-        "{name}: {found:?}, but {wanted:?} is wanted"
-    );
-    for (at, (byte, want)) in out.iter().zip(left).enumerate() {
-        assert!(rt;
-            *byte == *want,
-            "{name}: byte {at} is {byte}, but {want} is wanted"
-        );
-    }
-    assert!(rt; out.len() == left.len(), "{name}: the lengths differ");
-}

@@ -1,10 +1,12 @@
 //! A whole machine, laid out from 0x1000 on (ACPI 6.4, sections 5.2.5.3 and 5.2.8), and opened there.
 
 use super::roots::{AML, DSDT_BYTES};
-use super::samples::{HPET, IDS, REGIONS, check};
+use super::samples::{HPET, IDS, REGIONS};
 use super::tables::{HPET_BYTES, MCFG_BYTES};
+use crate::checks::{check, check_same};
 use acpi::handler::MappedRegion;
 use acpi::{AcpiTables, HpetInfo};
+use acpi_testkit::samples::front;
 use acpi_writer::{
     AmlContents, Machine, SlitContents, TableContents, TableIds, WriterError, tables_size,
     write_tables, write_tables_without_rsdp,
@@ -54,49 +56,37 @@ const XSDT_BYTES: [u8; 64] = [
 
 /// Checks that bytes stand at a place, and after them zeros up to the next multiple of 16.
 pub(super) fn stands(rt: &impl Abort, name: &str, out: &[u8], place: usize, bytes: &[u8]) {
-    for (at, byte) in bytes.iter().enumerate() {
-        assert!(rt;
-            out.get(place.wrapping_add(at)) == Some(byte),
-            "{name}: byte {at} differs"
-        );
+    let whole = bytes.len().next_multiple_of(16);
+    let found = front(&out[place.min(out.len())..], whole);
+    let mut wanted = [0; 320];
+    for (there, byte) in wanted.iter_mut().zip(bytes) {
+        *there = *byte;
     }
-    for at in bytes.len()..bytes.len().next_multiple_of(16) {
-        assert!(rt;
-            out.get(place.wrapping_add(at)) == Some(&0),
-            "{name}: byte {at} is no zero"
-        );
-    }
+    check_same(rt, name, found, front(&wanted, whole));
 }
 
-#[test]
-fn each_table_stands_at_its_place(rt: HostRuntime) {
-    let mut out = [7; 384];
-    let found = write_tables(&mut out, 0x1000, &MACHINE);
-    assert!(rt;
-        found == Ok(368) && tables_size(&MACHINE) == Ok(368),
-        "{found:?}"
-    );
-    let mut second = HPET_BYTES;
-    second[9] = 0x66; // Checksum
-    second[52] = 7; // HPET Number
-    stands(&rt, "RSDP", &out, 0, &RSDP_BYTES);
-    stands(&rt, "XSDT", &out, 48, &XSDT_BYTES);
-    stands(&rt, "DSDT", &out, 112, &DSDT_BYTES);
-    stands(&rt, "HPET", &out, 160, &HPET_BYTES);
-    stands(&rt, "MCFG", &out, 224, &MCFG_BYTES);
-    stands(&rt, "second HPET", &out, 304, &second);
-    stands(&rt, "the rest", &out, 368, &[7; 16]);
-    let mut apart = [7; 320];
-    let found = write_tables_without_rsdp(&mut apart, 0x1030, &MACHINE);
-    check(
-        &rt,
-        "without RSDP",
-        found,
-        Ok(320),
-        &apart,
-        out.get(48..368).unwrap_or(&[]),
-    );
-}
+/// A second HPET, of another number.
+#[rattlefmt::skip]
+const SECOND_BYTES: [u8; 56] = [
+    b'H', b'P', b'E', b'T', 56, 0, 0, 0, 1, 0x66, // Signature, Length, Revision, Checksum
+    b'G', b'U', b'E', b'S', b'T', b' ', // OEMID
+    b'M', b'A', b'C', b'H', b'I', b'N', b'E', b' ', // OEM Table ID
+    4, 3, 2, 1, b'Z', b'U', b'G', b'Z', 8, 7, 6, 5, // OEM Revision, Creator ID, Creator Revision
+    1, 0xa2, 0x86, 0x80, // Event Timer Block ID
+    0, 0, 0, 0, 0, 0, 0xd0, 0xfe, 0, 0, 0, 0, // BASE_ADDRESS: an address in memory
+    7, 0x80, 0, 1, // HPET Number, Main Counter Minimum Clock_tick, Page Protection
+];
+
+/// What stands in the machine's memory: a name, an offset, and bytes.
+const PARTS: [(&str, usize, &[u8]); 7] = [
+    ("RSDP", 0, &RSDP_BYTES),
+    ("XSDT", 48, &XSDT_BYTES),
+    ("DSDT", 112, &DSDT_BYTES),
+    ("HPET", 160, &HPET_BYTES),
+    ("MCFG", 224, &MCFG_BYTES),
+    ("second HPET", 304, &SECOND_BYTES),
+    ("the rest", 368, &[7; 16]),
+];
 
 /// The number of the HPET of the tables in memory from 0x1000 on.
 fn hpet_number(memory: &[u8]) -> Option<u8> {
@@ -107,12 +97,22 @@ fn hpet_number(memory: &[u8]) -> Option<u8> {
 }
 
 #[test]
-fn a_reader_finds_the_first(rt: HostRuntime) {
+fn each_table_stands_at_its_place_and_a_reader_finds_the_first(rt: HostRuntime) {
     let mut out = [7; 384];
     let found = write_tables(&mut out, 0x1000, &MACHINE);
-    assert!(rt; found == Ok(368), "{found:?}");
-    let number = hpet_number(&out);
-    assert!(rt; number == Some(2), "{number:?}");
+    let mut apart = [7; 320];
+    let without_rsdp = write_tables_without_rsdp(&mut apart, 0x1030, &MACHINE);
+    check(
+        &rt,
+        "machine",
+        [found, tables_size(&MACHINE), without_rsdp],
+        [Ok(368), Ok(368), Ok(320)],
+    );
+    for (name, place, bytes) in &PARTS {
+        stands(&rt, name, &out, *place, bytes);
+    }
+    check_same(&rt, "without RSDP", &apart, &out[48..368]);
+    check(&rt, "HPET", hpet_number(&out), Some(2));
 }
 
 /// Room, an address, and the error.
@@ -128,48 +128,47 @@ const REFUSED: [(usize, u64, WriterError); 5] = [
 fn room_comes_before_the_address(rt: HostRuntime) {
     let mut out = [7; 368];
     for (room, address, error) in &REFUSED {
-        let Some(front) = out.get_mut(..*room) else {
-            continue;
-        };
-        let found = write_tables(front, *address, &MACHINE);
-        check(&rt, "machine", found, Err(*error), &out, &[7; 368]);
+        let found = write_tables(&mut out[..(*room).min(368)], *address, &MACHINE);
+        check(&rt, "machine", found, Err(*error));
+        check_same(&rt, "machine", &out, &[7; 368]);
     }
     let found = write_tables(&mut out, 0xffff_ffff_ffff_fe80, &MACHINE);
-    assert!(rt; found == Ok(368), "{found:?}");
+    check(&rt, "machine", found, Ok(368));
 }
+
+/// A machine whose second table is a SLIT without distances.
+const NO_MATRIX: Machine<'static> = Machine {
+    tables: &[
+        TableContents::Hpet(HPET),
+        TableContents::Slit(SlitContents {
+            localities: 2,
+            distances: &[],
+        }),
+        TableContents::Mcfg(&REGIONS),
+    ],
+    ..MACHINE
+};
+
+/// The same machine, of a name that is no text.
+const NO_NAME: Machine<'static> = Machine {
+    ids: TableIds {
+        oem_id: [0xff; 6],
+        ..IDS
+    },
+    ..NO_MATRIX
+};
+
+const BAD: [(Machine<'static>, WriterError); 2] = [
+    (NO_MATRIX, WriterError::BadMatrix),
+    (NO_NAME, WriterError::BadName),
+];
 
 #[test]
 fn the_first_error_counts(rt: HostRuntime) {
-    let slit = SlitContents {
-        localities: 2,
-        distances: &[],
-    };
-    let bad = [TABLES[0], TableContents::Slit(slit), TABLES[1]];
-    let machine = Machine {
-        tables: &bad,
-        ..MACHINE
-    };
-    let ids = TableIds {
-        oem_id: [0xff; 6],
-        ..IDS
-    };
-    let mut out = [7; 8];
-    let found = write_tables(&mut out, 0, &machine);
-    check(
-        &rt,
-        "SLIT",
-        found,
-        Err(WriterError::BadMatrix),
-        &out,
-        &[7; 8],
-    );
-    let found = write_tables(&mut out, 0, &Machine { ids, ..machine });
-    check(
-        &rt,
-        "names",
-        found,
-        Err(WriterError::BadName),
-        &out,
-        &[7; 8],
-    );
+    for (machine, error) in &BAD {
+        let mut out = [7; 8];
+        let found = write_tables(&mut out, 0, machine);
+        check(&rt, "first", found, Err(*error));
+        check_same(&rt, "first", &out, &[7; 8]);
+    }
 }
