@@ -114,16 +114,30 @@ static SCENARIOS: [Row; 4] = [
     (BOTH_ENDED, Shown::These(&[36]), Some(Flaw::Full)),
 ];
 
-/// Nine loans, which are one more than there is room for.
-static NINE: [Event; 9] = [LENT; 9];
+/// As many events as there is room for: loans that end at once.
+#[rattlefmt::skip]
+const LOANS: [Event; 64] = [
+    LENT, RIGHT, LENT, RIGHT, LENT, RIGHT, LENT, RIGHT, LENT, RIGHT, LENT, RIGHT, LENT, RIGHT, LENT, RIGHT,
+    LENT, RIGHT, LENT, RIGHT, LENT, RIGHT, LENT, RIGHT, LENT, RIGHT, LENT, RIGHT, LENT, RIGHT, LENT, RIGHT,
+    LENT, RIGHT, LENT, RIGHT, LENT, RIGHT, LENT, RIGHT, LENT, RIGHT, LENT, RIGHT, LENT, RIGHT, LENT, RIGHT,
+    LENT, RIGHT, LENT, RIGHT, LENT, RIGHT, LENT, RIGHT, LENT, RIGHT, LENT, RIGHT, LENT, RIGHT, LENT, RIGHT,
+];
 
-/// As many events as there is room for, and one more: loans that end at once.
-static LOANS: [Event; 65] = [
-    LENT, RIGHT, LENT, RIGHT, LENT, RIGHT, LENT, RIGHT, LENT, RIGHT, LENT, RIGHT, LENT, RIGHT,
-    LENT, RIGHT, LENT, RIGHT, LENT, RIGHT, LENT, RIGHT, LENT, RIGHT, LENT, RIGHT, LENT, RIGHT,
-    LENT, RIGHT, LENT, RIGHT, LENT, RIGHT, LENT, RIGHT, LENT, RIGHT, LENT, RIGHT, LENT, RIGHT,
-    LENT, RIGHT, LENT, RIGHT, LENT, RIGHT, LENT, RIGHT, LENT, RIGHT, LENT, RIGHT, LENT, RIGHT,
-    LENT, RIGHT, LENT, RIGHT, LENT, RIGHT, LENT, RIGHT, LENT,
+/// One more.
+#[rattlefmt::skip]
+const MORE_LOANS: [Event; 65] = [
+    LENT, RIGHT, LENT, RIGHT, LENT, RIGHT, LENT, RIGHT, LENT, RIGHT, LENT, RIGHT, LENT, RIGHT, LENT, RIGHT,
+    LENT, RIGHT, LENT, RIGHT, LENT, RIGHT, LENT, RIGHT, LENT, RIGHT, LENT, RIGHT, LENT, RIGHT, LENT, RIGHT,
+    LENT, RIGHT, LENT, RIGHT, LENT, RIGHT, LENT, RIGHT, LENT, RIGHT, LENT, RIGHT, LENT, RIGHT, LENT, RIGHT,
+    LENT, RIGHT, LENT, RIGHT, LENT, RIGHT, LENT, RIGHT, LENT, RIGHT, LENT, RIGHT, LENT, RIGHT, LENT, RIGHT,
+    LENT,
+];
+
+/// Histories that are too long, and one that isn't. Nine loans are one more than there is room for at a time.
+static LONG_ONES: [Row; 3] = [
+    (&LOANS, AS_ASKED, None),
+    (&MORE_LOANS, AS_ASKED, Some(Flaw::Full)),
+    (&[LENT; 9], AS_ASKED, Some(Flaw::Full)),
 ];
 
 fn history_of(events: &[Event]) -> History {
@@ -134,33 +148,18 @@ fn history_of(events: &[Event]) -> History {
     history
 }
 
-/// Checks what is wrong with these events.
-fn check_flaw(rt: &impl Abort, events: &[Event], shown: Shown<'_>, wanted: Option<Flaw>) {
-    check(rt, "flaw", history_of(events).flaw(shown), wanted);
-}
-
 /// Checks what is wrong with the events of rows.
 fn check_flaws(rt: &impl Abort, rows: &[Row]) {
     for (events, shown, flaw) in rows {
-        check_flaw(rt, events, *shown, *flaw);
+        check(rt, "flaw", history_of(events).flaw(*shown), *flaw);
     }
 }
 
 #[test]
-fn a_wrong_notice_is_seen(rt: HostRuntime) {
+fn a_flaw_is_seen_and_loans_that_are_open(rt: HostRuntime) {
     check_flaws(&rt, &HISTORIES);
-}
-
-#[test]
-fn a_scenario_says_what_is_shown(rt: HostRuntime) {
     check_flaws(&rt, &SCENARIOS);
+    check_flaws(&rt, &LONG_ONES);
     let open = history_of(&[LENT, LENT, RIGHT]).open(BOTH);
     check(&rt, "open", open, places(&[(0x2000, 36)]));
-}
-
-#[test]
-fn a_history_that_is_too_long_is_refused(rt: HostRuntime) {
-    check_flaw(&rt, &LOANS[..64], AS_ASKED, None);
-    check_flaw(&rt, &LOANS, AS_ASKED, Some(Flaw::Full));
-    check_flaw(&rt, &NINE, AS_ASKED, Some(Flaw::Full));
 }

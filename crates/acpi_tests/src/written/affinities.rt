@@ -105,12 +105,12 @@ const WITH_PAST_END: SratContents<'static> = SratContents {
 #[rattlefmt::skip]
 pub(super) static CALLS: [Call; 7] = [
     // in its room, and in a byte less
-    ("SRAT", &IDS, Contents::Srat(SRAT), 186, Ok(&SRAT_BYTES)),
-    ("less", &IDS, Contents::Srat(SRAT), 185, Err(WriterError::NoRoom)),
+    ("SRAT", &IDS, Contents::Srat(&SRAT), 186, Ok(&SRAT_BYTES)),
+    ("less", &IDS, Contents::Srat(&SRAT), 185, Err(WriterError::NoRoom)),
     // an id is of one processor, and a range has bytes; each with ids that aren't valid UTF-8 too
-    ("APICs", &BAD, Contents::Srat(OF_ALL_APICS), 185, Err(WriterError::IdOfAll)),
-    ("GICCs", &BAD, Contents::Srat(OF_ALL_GICCS), 185, Err(WriterError::IdOfAll)),
-    ("empty", &BAD, Contents::Srat(WITH_EMPTY), 185, Err(WriterError::BadRange)),
-    ("past the end", &BAD, Contents::Srat(WITH_PAST_END), 185, Err(WriterError::BadRange)),
-    ("names", &BAD, Contents::Srat(SRAT), 185, Err(WriterError::BadName)),
+    ("APICs", &BAD, Contents::Srat(&OF_ALL_APICS), 185, Err(WriterError::IdOfAll)),
+    ("GICCs", &BAD, Contents::Srat(&OF_ALL_GICCS), 185, Err(WriterError::IdOfAll)),
+    ("empty", &BAD, Contents::Srat(&WITH_EMPTY), 185, Err(WriterError::BadRange)),
+    ("past the end", &BAD, Contents::Srat(&WITH_PAST_END), 185, Err(WriterError::BadRange)),
+    ("names", &BAD, Contents::Srat(&SRAT), 185, Err(WriterError::BadName)),
 ];

@@ -128,16 +128,16 @@ const NO_SPACE: SpcrContents<'static> = SpcrContents {
 #[rattlefmt::skip]
 pub(super) static CALLS: [Call; 10] = [
     // in their room
-    ("SPCR", &IDS, Contents::Spcr(PORT), 98, Ok(&SPCR_BYTES)),
-    ("none", &IDS, Contents::Spcr(NONE), 90, Ok(&NONE_BYTES)),
-    ("BGRT", &IDS, Contents::Bgrt(IMAGE), 56, Ok(&BGRT_BYTES)),
+    ("SPCR", &IDS, Contents::Spcr(&PORT), 98, Ok(&SPCR_BYTES)),
+    ("none", &IDS, Contents::Spcr(&NONE), 90, Ok(&NONE_BYTES)),
+    ("BGRT", &IDS, Contents::Bgrt(&IMAGE), 56, Ok(&BGRT_BYTES)),
     // in a byte less
-    ("SPCR", &IDS, Contents::Spcr(PORT), 97, Err(WriterError::NoRoom)),
-    ("BGRT", &IDS, Contents::Bgrt(IMAGE), 55, Err(WriterError::NoRoom)),
-    ("name", &BAD, Contents::Bgrt(IMAGE), 55, Err(WriterError::BadName)),
+    ("SPCR", &IDS, Contents::Spcr(&PORT), 97, Err(WriterError::NoRoom)),
+    ("BGRT", &IDS, Contents::Bgrt(&IMAGE), 55, Err(WriterError::NoRoom)),
+    ("name", &BAD, Contents::Bgrt(&IMAGE), 55, Err(WriterError::BadName)),
     // a port has codes and an address; each with ids that aren't valid UTF-8 too
-    ("interface", &BAD, Contents::Spcr(NO_INTERFACE), 98, Err(WriterError::BadCode)),
-    ("space", &BAD, Contents::Spcr(NO_SPACE), 98, Err(WriterError::BadCode)),
-    ("nowhere", &BAD, Contents::Spcr(NOWHERE), 98, Err(WriterError::NoAddress)),
-    ("names", &BAD, Contents::Spcr(PORT), 98, Err(WriterError::BadName)),
+    ("interface", &BAD, Contents::Spcr(&NO_INTERFACE), 98, Err(WriterError::BadCode)),
+    ("space", &BAD, Contents::Spcr(&NO_SPACE), 98, Err(WriterError::BadCode)),
+    ("nowhere", &BAD, Contents::Spcr(&NOWHERE), 98, Err(WriterError::NoAddress)),
+    ("names", &BAD, Contents::Spcr(&PORT), 98, Err(WriterError::BadName)),
 ];

@@ -270,18 +270,18 @@ const EVENTS_EMPTY: FadtContents = FadtContents {
 #[rattlefmt::skip]
 pub(super) static CALLS: [Call; 12] = [
     // in their room
-    ("fixed", &IDS, Contents::Fadt(FIXED), 276, Ok(&FIXED_BYTES)),
-    ("reduced", &IDS, Contents::Fadt(REDUCED), 276, Ok(&REDUCED_BYTES)),
-    ("FACS", &IDS, Contents::Facs(FACS), 64, Ok(&FACS_BYTES)),
+    ("fixed", &IDS, Contents::Fadt(&FIXED), 276, Ok(&FIXED_BYTES)),
+    ("reduced", &IDS, Contents::Fadt(&REDUCED), 276, Ok(&REDUCED_BYTES)),
+    ("FACS", &IDS, Contents::Facs(&FACS), 64, Ok(&FACS_BYTES)),
     // in a byte less
-    ("FADT", &IDS, Contents::Fadt(FIXED), 275, Err(WriterError::NoRoom)),
-    ("FACS", &IDS, Contents::Facs(FACS), 63, Err(WriterError::NoRoom)),
+    ("FADT", &IDS, Contents::Fadt(&FIXED), 275, Err(WriterError::NoRoom)),
+    ("FACS", &IDS, Contents::Facs(&FACS), 63, Err(WriterError::NoRoom)),
     // bad contents come before room
-    ("DSDT", &IDS, Contents::Fadt(NO_DSDT), 8, Err(WriterError::NoAddress)),
-    ("FACS", &IDS, Contents::Fadt(FACS_AT_0), 8, Err(WriterError::NoAddress)),
-    ("profile", &IDS, Contents::Fadt(NO_PROFILE), 8, Err(WriterError::BadProfile)),
-    ("status", &IDS, Contents::Fadt(STATUS_NOWHERE), 8, Err(WriterError::BadRegister)),
-    ("reset", &IDS, Contents::Fadt(RESET_UNNAMED), 8, Err(WriterError::BadRegister)),
-    ("timer", &IDS, Contents::Fadt(TIMER_NOWHERE), 8, Err(WriterError::BadRegister)),
-    ("events", &IDS, Contents::Fadt(EVENTS_EMPTY), 8, Err(WriterError::BadRegister)),
+    ("DSDT", &IDS, Contents::Fadt(&NO_DSDT), 8, Err(WriterError::NoAddress)),
+    ("FACS", &IDS, Contents::Fadt(&FACS_AT_0), 8, Err(WriterError::NoAddress)),
+    ("profile", &IDS, Contents::Fadt(&NO_PROFILE), 8, Err(WriterError::BadProfile)),
+    ("status", &IDS, Contents::Fadt(&STATUS_NOWHERE), 8, Err(WriterError::BadRegister)),
+    ("reset", &IDS, Contents::Fadt(&RESET_UNNAMED), 8, Err(WriterError::BadRegister)),
+    ("timer", &IDS, Contents::Fadt(&TIMER_NOWHERE), 8, Err(WriterError::BadRegister)),
+    ("events", &IDS, Contents::Fadt(&EVENTS_EMPTY), 8, Err(WriterError::BadRegister)),
 ];

@@ -134,9 +134,9 @@ const BY_BUS: GicContents<'static> = GicContents {
 #[rattlefmt::skip]
 pub(super) static CALLS: [Call; 4] = [
     // in its room, and in a byte less
-    ("GIC", &IDS, Contents::GicMadt(GIC), 314, Ok(&GIC_BYTES)),
-    ("GIC", &IDS, Contents::GicMadt(GIC), 313, Err(WriterError::NoRoom)),
+    ("GIC", &IDS, Contents::GicMadt(&GIC), 314, Ok(&GIC_BYTES)),
+    ("GIC", &IDS, Contents::GicMadt(&GIC), 313, Err(WriterError::NoRoom)),
     // it needs a processor, and no interrupt is as its bus has it
-    ("empty", &IDS, Contents::GicMadt(NO_PROCESSOR), 8, Err(WriterError::NoProcessor)),
-    ("bus", &IDS, Contents::GicMadt(BY_BUS), 8, Err(WriterError::SameAsBus)),
+    ("empty", &IDS, Contents::GicMadt(&NO_PROCESSOR), 8, Err(WriterError::NoProcessor)),
+    ("bus", &IDS, Contents::GicMadt(&BY_BUS), 8, Err(WriterError::SameAsBus)),
 ];

@@ -173,11 +173,11 @@ const TOO_MANY: GtdtContents<'static> = GtdtContents {
 #[rattlefmt::skip]
 pub(super) static CALLS: [Call; 6] = [
     // in its room, and in a byte less
-    ("GTDT", &IDS, Contents::Gtdt(GTDT), 232, Ok(&GTDT_BYTES)),
-    ("GTDT", &IDS, Contents::Gtdt(GTDT), 231, Err(WriterError::NoRoom)),
+    ("GTDT", &IDS, Contents::Gtdt(&GTDT), 232, Ok(&GTDT_BYTES)),
+    ("GTDT", &IDS, Contents::Gtdt(&GTDT), 231, Err(WriterError::NoRoom)),
     // timers need their modes, and frames their bases and room
-    ("all ones", &IDS, Contents::Gtdt(ALL_ONES), 8, Err(WriterError::NoAddress)),
-    ("bus", &IDS, Contents::Gtdt(BY_BUS), 8, Err(WriterError::SameAsBus)),
-    ("1637", &IDS, Contents::Gtdt(MOST_FRAMES), 8, Err(WriterError::NoRoom)),
-    ("1638", &IDS, Contents::Gtdt(TOO_MANY), 8, Err(WriterError::TooManyFrames)),
+    ("all ones", &IDS, Contents::Gtdt(&ALL_ONES), 8, Err(WriterError::NoAddress)),
+    ("bus", &IDS, Contents::Gtdt(&BY_BUS), 8, Err(WriterError::SameAsBus)),
+    ("1637", &IDS, Contents::Gtdt(&MOST_FRAMES), 8, Err(WriterError::NoRoom)),
+    ("1638", &IDS, Contents::Gtdt(&TOO_MANY), 8, Err(WriterError::TooManyFrames)),
 ];

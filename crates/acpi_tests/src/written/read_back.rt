@@ -5,21 +5,29 @@ use super::affinities::SRAT;
 use super::fadt::{FACS, FACS_BYTES, FIXED};
 use super::roots::AML;
 use super::samples::IDS;
-use super::whole::stands;
-use crate::checks::check;
+use crate::checks::{check, check_same};
 use acpi::handler::MappedRegion;
 use acpi::{AcpiResult, AcpiTables};
 use acpi_base::AddressRange;
 use acpi_numa::{Slit, SlitCalls, Srat, SratCalls};
+use acpi_testkit::samples::put;
 use acpi_writer::{
     AmlContents, FadtContents, Machine, SlitContents, TableContents, dsdt_address, facs_address,
     write_tables,
 };
 use std::process::Abort;
 
+/// Where the DSDT of three tables lies.
+const DSDT_AT: u64 = 0x1070;
+
+const DSDT: Option<AmlContents<'static>> = Some(AmlContents {
+    revision: 2,
+    bytes: &AML,
+});
+
 /// Three tables after an XSDT of 60 bytes: the DSDT lies at 0x1070, and after its 42 bytes the FACS at 0x10c0.
 const FADT: FadtContents = FadtContents {
-    dsdt: 0x1070,
+    dsdt: DSDT_AT,
     facs: Some(0x10c0),
     ..FIXED
 };
@@ -30,12 +38,9 @@ const SLIT: SlitContents<'static> = SlitContents {
     distances: &[10, 21, 20, 10],
 };
 
-const MACHINE: Machine<'static> = Machine {
+static MACHINE: Machine<'static> = Machine {
     ids: IDS,
-    dsdt: Some(AmlContents {
-        revision: 2,
-        bytes: &AML,
-    }),
+    dsdt: DSDT,
     facs: Some(FACS),
     tables: &[
         TableContents::Fadt(FADT),
@@ -104,7 +109,7 @@ fn a_reader_finds_what_was_passed(rt: HostRuntime) {
 }
 
 /// An address of the RSDP, and that of the FACS: the first multiple of 64 that isn't below the first one and 0xa0.
-const PLACES: [(u64, Option<u64>); 6] = [
+static PLACES: [(u64, Option<u64>); 6] = [
     (0x1000, Some(0x10c0)),
     (0x1010, Some(0x10c0)),
     (0x1020, Some(0x10c0)),
@@ -113,30 +118,21 @@ const PLACES: [(u64, Option<u64>); 6] = [
     (0xffff_ffff_ffff_ff20, Some(0xffff_ffff_ffff_ffc0)),
 ];
 
-#[test]
-fn the_addresses_are_known_before(rt: HostRuntime) {
-    let dsdt = dsdt_address(0x1000, 3);
-    check(&rt, "DSDT", dsdt, Some(FADT.dsdt));
-    for (address, wanted) in &PLACES {
-        let facs = facs_address(*address, 3, MACHINE.dsdt);
-        check(&rt, "FACS", facs, *wanted);
-    }
-}
+/// The first four, and how far behind 0xa0 bytes the FACS lies.
+static OFFSETS: [(u64, usize); 4] = [(0x1000, 0x20), (0x1010, 0x10), (0x1020, 0), (0x1030, 0x30)];
 
 #[test]
-fn the_facs_stands_between_zeros(rt: HostRuntime) {
-    for (address, wanted) in PLACES.iter().take(4) {
+fn the_addresses_are_known_before_and_the_facs_stands_between_zeros(rt: HostRuntime) {
+    check(&rt, "DSDT", dsdt_address(0x1000, 3), Some(DSDT_AT));
+    for (address, wanted) in &PLACES {
+        check(&rt, "FACS", facs_address(*address, 3, DSDT), *wanted);
+    }
+    for (address, offset) in &OFFSETS {
         let mut out = [7; 816];
         let found = write_tables(&mut out, *address, &MACHINE);
         check(&rt, "machine", found, Ok(816));
         let mut bytes = [0; 128];
-        let at = wanted
-            .unwrap_or(0)
-            .wrapping_sub(*address)
-            .wrapping_sub(0xa0) as usize;
-        for (byte, place) in FACS_BYTES.iter().zip(bytes.iter_mut().skip(at)) {
-            *place = *byte;
-        }
-        stands(&rt, "FACS", &out, 0xa0, &bytes);
+        put(&mut bytes, (*offset).min(64), &FACS_BYTES);
+        check_same(&rt, "FACS", &out[0xa0..0x120], &bytes);
     }
 }

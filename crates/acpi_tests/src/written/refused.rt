@@ -68,14 +68,14 @@ const PROCESSOR_OF_ALL: MadtContents<'static> = MadtContents {
 #[rattlefmt::skip]
 pub(super) static CALLS: [Call; 28] = [
     // contents come before names, and names before room
-    ("empty", &BAD, Contents::Madt(NO_PROCESSOR), 8, Err(WriterError::NoProcessor)),
-    ("id of all", &BAD, Contents::Madt(ID_OF_ALL), 8, Err(WriterError::IdOfAll)),
-    ("id of all", &BAD, Contents::Madt(PROCESSOR_OF_ALL), 8, Err(WriterError::IdOfAll)),
-    ("uid of all", &BAD, Contents::Madt(UID_OF_ALL), 8, Err(WriterError::UidOfAll)),
-    ("MADT", &BAD, Contents::Madt(MADT), 8, Err(WriterError::BadName)),
+    ("empty", &BAD, Contents::Madt(&NO_PROCESSOR), 8, Err(WriterError::NoProcessor)),
+    ("id of all", &BAD, Contents::Madt(&ID_OF_ALL), 8, Err(WriterError::IdOfAll)),
+    ("id of all", &BAD, Contents::Madt(&PROCESSOR_OF_ALL), 8, Err(WriterError::IdOfAll)),
+    ("uid of all", &BAD, Contents::Madt(&UID_OF_ALL), 8, Err(WriterError::UidOfAll)),
+    ("MADT", &BAD, Contents::Madt(&MADT), 8, Err(WriterError::BadName)),
     ("MCFG", &BAD, Contents::Mcfg(&REGIONS), 8, Err(WriterError::BadName)),
-    ("HPET", &BAD, Contents::Hpet(HPET), 8, Err(WriterError::BadName)),
-    ("room", &IDS, Contents::Hpet(HPET), 8, Err(WriterError::NoRoom)),
+    ("HPET", &BAD, Contents::Hpet(&HPET), 8, Err(WriterError::BadName)),
+    ("room", &IDS, Contents::Hpet(&HPET), 8, Err(WriterError::NoRoom)),
     // each name is asked of each table, after its contents
     ("RSDP", &BAD, Contents::Rsdp(0x1000), 8, Err(WriterError::BadName)),
     ("RSDT", &BAD, Contents::Rsdt(&[0x1000]), 8, Err(WriterError::BadName)),

@@ -78,22 +78,22 @@ const OTHERWISE_PROTECTED: HpetInfo = HpetInfo {
 #[rattlefmt::skip]
 pub(super) static CALLS: [Call; 14] = [
     // with room for more
-    ("MADT", &IDS, Contents::Madt(MADT), 200, Ok(&MADT_BYTES)),
+    ("MADT", &IDS, Contents::Madt(&MADT), 200, Ok(&MADT_BYTES)),
     ("MCFG", &IDS, Contents::Mcfg(&REGIONS), 200, Ok(&MCFG_BYTES)),
-    ("HPET", &IDS, Contents::Hpet(HPET), 200, Ok(&HPET_BYTES)),
+    ("HPET", &IDS, Contents::Hpet(&HPET), 200, Ok(&HPET_BYTES)),
     // in their room
-    ("MADT", &IDS, Contents::Madt(MADT), 144, Ok(&MADT_BYTES)),
+    ("MADT", &IDS, Contents::Madt(&MADT), 144, Ok(&MADT_BYTES)),
     ("MCFG", &IDS, Contents::Mcfg(&REGIONS), 76, Ok(&MCFG_BYTES)),
-    ("HPET", &IDS, Contents::Hpet(HPET), 56, Ok(&HPET_BYTES)),
+    ("HPET", &IDS, Contents::Hpet(&HPET), 56, Ok(&HPET_BYTES)),
     // ids at the edges
-    ("edges", &IDS, Contents::Madt(EDGES), 142, Ok(&EDGES_BYTES)),
+    ("edges", &IDS, Contents::Madt(&EDGES), 142, Ok(&EDGES_BYTES)),
     // each protection has its code
-    ("none", &IDS, Contents::Hpet(UNPROTECTED), 56, Ok(&high_bytes!(0xa5, 0))),
-    ("4 KiB", &IDS, Contents::Hpet(PROTECTED_4K), 56, Ok(&high_bytes!(0xa4, 1))),
-    ("64 KiB", &IDS, Contents::Hpet(PROTECTED_64K), 56, Ok(&high_bytes!(0xa3, 2))),
-    ("other", &IDS, Contents::Hpet(OTHERWISE_PROTECTED), 56, Ok(&high_bytes!(0xa2, 3))),
+    ("none", &IDS, Contents::Hpet(&UNPROTECTED), 56, Ok(&high_bytes!(0xa5, 0))),
+    ("4 KiB", &IDS, Contents::Hpet(&PROTECTED_4K), 56, Ok(&high_bytes!(0xa4, 1))),
+    ("64 KiB", &IDS, Contents::Hpet(&PROTECTED_64K), 56, Ok(&high_bytes!(0xa3, 2))),
+    ("other", &IDS, Contents::Hpet(&OTHERWISE_PROTECTED), 56, Ok(&high_bytes!(0xa2, 3))),
     // in a byte less
-    ("MADT", &IDS, Contents::Madt(MADT), 143, Err(WriterError::NoRoom)),
+    ("MADT", &IDS, Contents::Madt(&MADT), 143, Err(WriterError::NoRoom)),
     ("MCFG", &IDS, Contents::Mcfg(&REGIONS), 75, Err(WriterError::NoRoom)),
-    ("HPET", &IDS, Contents::Hpet(HPET), 55, Err(WriterError::NoRoom)),
+    ("HPET", &IDS, Contents::Hpet(&HPET), 55, Err(WriterError::NoRoom)),
 ];

@@ -23,7 +23,7 @@ const TABLES: [TableContents<'static>; 3] = [
     }),
 ];
 
-const MACHINE: Machine<'static> = Machine {
+const PLAN: Machine<'static> = Machine {
     ids: IDS,
     dsdt: Some(AmlContents {
         revision: 2,
@@ -32,6 +32,8 @@ const MACHINE: Machine<'static> = Machine {
     facs: None,
     tables: &TABLES,
 };
+
+static MACHINE: Machine<'static> = PLAN;
 
 /// The RSDP at 0x1000, of an XSDT at 0x1030.
 #[rattlefmt::skip]
@@ -78,7 +80,7 @@ const SECOND_BYTES: [u8; 56] = [
 ];
 
 /// What stands in the machine's memory: a name, an offset, and bytes.
-const PARTS: [(&str, usize, &[u8]); 7] = [
+static PARTS: [(&str, usize, &[u8]); 7] = [
     ("RSDP", 0, &RSDP_BYTES),
     ("XSDT", 48, &XSDT_BYTES),
     ("DSDT", 112, &DSDT_BYTES),
@@ -116,7 +118,7 @@ fn each_table_stands_at_its_place_and_a_reader_finds_the_first(rt: HostRuntime) 
 }
 
 /// Room, an address, and the error.
-const REFUSED: [(usize, u64, WriterError); 5] = [
+static REFUSED: [(usize, u64, WriterError); 5] = [
     (367, 0x1000, WriterError::NoRoom),
     (367, 0, WriterError::NoRoom),
     (368, 0, WriterError::NoAddress),
@@ -146,7 +148,7 @@ const NO_MATRIX: Machine<'static> = Machine {
         }),
         TableContents::Mcfg(&REGIONS),
     ],
-    ..MACHINE
+    ..PLAN
 };
 
 /// The same machine, of a name that is no text.
@@ -158,7 +160,7 @@ const NO_NAME: Machine<'static> = Machine {
     ..NO_MATRIX
 };
 
-const BAD: [(Machine<'static>, WriterError); 2] = [
+static BAD: [(Machine<'static>, WriterError); 2] = [
     (NO_MATRIX, WriterError::BadMatrix),
     (NO_NAME, WriterError::BadName),
 ];
