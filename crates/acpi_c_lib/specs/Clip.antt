@@ -1,5 +1,5 @@
 -- Ranges of memory in order, some of them left out, clipped to a window.
-use Rattle.std.specs.Prelude.{◌≡◌, ℕ, ◌+◌, ◌^◌, ◌<◌, ◌≤◌, ◌&&◌, not, nat_le, nat_lt, Bool, true, false, List, [], ◌∷◌, fold, length, if◌then◌else◌}
+use Rattle.std.specs.Prelude.{◌≡◌, ℕ, ◌+◌, ◌^◌, ◌<◌, ◌≤◌, ◌&&◌, not, nat_le, nat_lt, Bool, true, false, List, [], ◌∷◌, fold, length, min, if◌then◌else◌}
 use Rattle.std.specs.List.{AllByRecursion, list_all, list_any}
 use Rattle.acpi_c_lib.specs.Answers.{put_from}
 use Rattle.acpi_c_lib.specs.Codes.{code_of}
@@ -58,15 +58,11 @@ AnswersClip status old new old_count new_count ranges without window =
 
 -- ---- how the ranges are found
 
--- the smaller number
-abbrev pub least : ℕ → ℕ → ℕ
-least x y = if nat_lt x y then x else y
-
 -- the next address after this one at which a range begins or has ended, or the limit if that comes before
 abbrev pub change_of : Range → ℕ → ℕ → ℕ
 change_of r a limit =
-    if nat_lt a r.address then least r.address limit
-    else if nat_lt a (r.address + r.length) then least (r.address + r.length) limit
+    if nat_lt a r.address then min r.address limit
+    else if nat_lt a (r.address + r.length) then min (r.address + r.length) limit
     else limit
 
 -- the next address after this one at which one of several ranges begins or has ended, or the limit

@@ -1,6 +1,6 @@
 -- What the calls answer of the tables that a caller names.
-use Rattle.std.specs.Prelude.{ℕ, List, filter_map, length, map, Option, Some, None, Result, Ok}
-use Rattle.std.specs.Option.{ok_or}
+use Rattle.std.specs.Prelude.{ℕ, List, filter_map, length, map, Option, Result, Ok}
+use Rattle.std.specs.Option.{is_some, ok_or, unwrap_or}
 use Rattle.std.specs.Result.{result_ok}
 use Rattle.acpi_base.specs.Ecam.{ecam_range}
 use Rattle.acpi_base.specs.Header.{header_at}
@@ -9,7 +9,6 @@ use Rattle.acpi_base.specs.Memory.{Memory}
 use Rattle.acpi_base.specs.Steps.{◌>>=◌}
 use Rattle.acpi_base.specs.Table.{own_table_at, plain_kind}
 use Rattle.acpi_base.specs.Text.{letters_of}
-use Rattle.acpi_base.specs.declared.range.AddressRange.{AddressRange}
 pub use Rattle.acpi_base.specs.declared.table.signature.Signature.{Signature}
 use Rattle.acpi_base.specs.declared.tables.mcfg.McfgEntry.{McfgEntry}
 use Rattle.acpi.specs.Ecam.{ecam_address}
@@ -22,6 +21,7 @@ use Rattle.acpi.specs.declared.hpet.HpetInfo.{HpetInfo}
 use Rattle.acpi.specs.declared.records.AmlTable.{AmlTable}
 use Rattle.acpi_c_lib.specs.Answers.{result_map}
 use Rattle.acpi_c_lib.specs.Below.{Refusal, Source, below_first, below_source, first_table, opened_below}
+use Rattle.acpi_c_lib.specs.Devices.{flag}
 use Rattle.acpi_c_lib.specs.Records as records
 use Rattle.acpi_c_lib.specs.declared.fixed_records.EcamRange.{EcamRange}
 use Rattle.acpi_c_lib.specs.declared.records.PciRegion.{PciRegion}
@@ -89,15 +89,17 @@ pci_record e = record {
 abbrev pub pci_regions_below : Source → Result (List PciRegion) Refusal
 pci_regions_below s = below_first mcfg_kind s (λ table. map pci_record (mcfg_entries_of table))
 
--- a segment group and the memory of its buses, or zeros
-abbrev pub span_record : ℕ → Option AddressRange → EcamRange
-span_record group (Some r) =
-    record { address = r.address; length = r.length; segment_group = group; present = 1 }
-span_record group None = record { address = 0; length = 0; segment_group = group; present = 0 }
-
--- the memory of a region's buses, with its base taken as that of bus 0 (PCI Firmware Specification, section 4.1.2)
+-- a segment group and the memory of a region's buses, with its base taken as that of bus 0 (PCI Firmware Specification,
+-- section 4.1.2), or zeros
 abbrev pub ecam_record : McfgEntry → EcamRange
-ecam_record e = span_record e.pci_segment_group (ecam_range e)
+ecam_record e =
+    let range = unwrap_or (ecam_range e) (record { address = 0; length = 0 }) in
+    record {
+      address = range.address;
+      length = range.length;
+      segment_group = e.pci_segment_group;
+      present = flag (is_some (ecam_range e));
+    }
 
 -- the memory of each region of the first valid MCFG, in order
 abbrev pub ecam_ranges_below : Source → Result (List EcamRange) Refusal

@@ -55,7 +55,7 @@ pub struct GicMsiFrame {
 
 /// A timer of every processor (section 5.2.24).
 #[repr(C)]
-#[derive(Clone, Copy)]
+#[derive(Clone, Copy, Default)]
 pub struct ArmTimer {
     pub interrupt: u32,
     pub polarity: u8,

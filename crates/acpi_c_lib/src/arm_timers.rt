@@ -75,13 +75,7 @@ fn timer_or(timer: Option<ArmTimer>) -> records::ArmTimer
 {
     match timer {
         Some(timer) => timer_record(&timer),
-        None => records::ArmTimer {
-            interrupt: 0,
-            polarity: 0,
-            trigger: 0,
-            always_on: 0,
-            present: 0,
-        },
+        None => records::ArmTimer::default(),
     }
 }
 

@@ -1,7 +1,7 @@
 //! Ranges of memory in order: as a firmware's memory map gives them, some of them left out, and
 //! clipped to a window.
 ghost use Rattle.std.specs.Prelude.{◌≡◌, ◌+◌, ◌^◌, ◌<◌, true, ◌-◌, ◌≤◌, ℕ};
-ghost use Rattle.acpi_c_lib.specs.Clip.{all_fit, AnswersClip, any_holds, change_in, change_of, FillsClipped, fits, holds, IsNext, least, wanted};
+ghost use Rattle.acpi_c_lib.specs.Clip.{all_fit, AnswersClip, any_holds, change_in, change_of, FillsClipped, fits, holds, IsNext, wanted};
 
 use crate::lists::put;
 use crate::records::Range;
@@ -70,19 +70,12 @@ fn change_of(range: &Range, address: u64, limit: u64) -> u64
     ensures { result ≡ change_of range.now address limit }
 {
     if address < range.address {
-        return least(range.address, limit);
+        return range.address.min(limit);
     }
     match range.address.checked_add(range.length) {
-        Some(end) if address < end => least(end, limit),
+        Some(end) if address < end => end.min(limit),
         _ => limit,
     }
-}
-
-/// The smaller number.
-fn least(x: u64, y: u64) -> u64
-    ensures { result ≡ least x y }
-{
-    if x < y { x } else { y }
 }
 
 /// The next address after this one at which one of several ranges begins or has ended, or the limit if that comes

@@ -1,6 +1,6 @@
 //! Devices that tables of their own describe.
 ghost use Rattle.std.specs.Prelude.{◌≡◌};
-ghost use Rattle.acpi_c_lib.specs.Devices.{generic_record, graphic_below, graphic_record, no_register, optional_register, register_if, required_register, timer_below, timer_record};
+ghost use Rattle.acpi_c_lib.specs.Devices.{generic_record, graphic_below, graphic_record, optional_register, register_if, required_register, timer_below, timer_record};
 ghost use Rattle.acpi_c_lib.specs.Shown.{hpet_below};
 
 use crate::opening::{first, open};
@@ -50,11 +50,7 @@ fn timer_record(timer: Option<PmTimer>) -> records::PmTimer
             present: 1,
             is_32_bit: timer.supports_32bit as u8,
         },
-        None => records::PmTimer {
-            base: no_register(),
-            present: 0,
-            is_32_bit: 0,
-        },
+        None => records::PmTimer::default(),
     }
 }
 
@@ -71,47 +67,23 @@ pub(crate) fn generic_record(address: &GenericAddress) -> records::GenericAddres
     }
 }
 
-/// What stands for no register: zeros.
-pub(crate) fn no_register() -> records::GenericAddress
-    ensures { result ≡ no_register }
-{
-    records::GenericAddress {
-        address: 0,
-        space: 0,
-        bit_width: 0,
-        bit_offset: 0,
-        access_size: 0,
-    }
-}
-
 /// A register, or that there is none, or that its address is refused.
 pub(crate) fn optional_register(said: AcpiResult<Option<GenericAddress>>) -> Register
     ensures { result ≡ optional_register said }
 {
-    match said {
-        Ok(Some(at)) => Register {
-            at: generic_record(&at),
-            present: 1,
-        },
-        Ok(None) => Register {
-            at: no_register(),
-            present: 0,
-        },
-        Err(_) => Register {
-            at: no_register(),
-            present: 2,
-        },
-    }
+    let (at, present) = match said {
+        Ok(Some(at)) => (generic_record(&at), 1),
+        Ok(None) => (records::GenericAddress::default(), 0),
+        Err(_) => (records::GenericAddress::default(), 2),
+    };
+    Register { at, present }
 }
 
 /// A register, or that its address is refused.
 pub(crate) fn required_register(said: AcpiResult<GenericAddress>) -> Register
     ensures { result ≡ required_register said }
 {
-    match said {
-        Ok(at) => optional_register(Ok(Some(at))),
-        Err(error) => optional_register(Err(error)),
-    }
+    optional_register(said.map(Some))
 }
 
 /// A register, or that there is none, or that its address is refused: for a call that reads the address only if
@@ -119,10 +91,7 @@ pub(crate) fn required_register(said: AcpiResult<GenericAddress>) -> Register
 pub(crate) fn register_if(said: Option<AcpiResult<GenericAddress>>) -> Register
     ensures { result ≡ register_if said }
 {
-    match said {
-        Some(said) => required_register(said),
-        None => optional_register(Ok(None)),
-    }
+    optional_register(said.transpose())
 }
 
 /// The image that the firmware showed, by the first valid BGRT.

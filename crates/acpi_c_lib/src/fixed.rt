@@ -2,7 +2,7 @@
 ghost use Rattle.std.specs.Prelude.{◌≡◌, ◌≤◌, length};
 ghost use Rattle.acpi_fixed.specs.Fadt.{fadt_at};
 ghost use Rattle.acpi_fixed.specs.Flags.{arm_bits, feature_bits, pc_bits};
-ghost use Rattle.acpi_c_lib.specs.Fixed.{fixed_below, fixed_record, gpe_record, no_gpe};
+ghost use Rattle.acpi_c_lib.specs.Fixed.{fixed_below, fixed_record, gpe_record};
 
 use crate::devices::{optional_register, required_register};
 use crate::fixed_records as records;
@@ -108,19 +108,10 @@ fn gpe_record(said: AcpiResult<Option<GpeBlock>>) -> records::GpeBlock
             byte_length: block.byte_length,
             present: 1,
         },
-        Ok(None) => no_gpe(0),
-        Err(_) => no_gpe(2),
-    }
-}
-
-/// What stands for a block that is not there, or is refused: zeros.
-fn no_gpe(present: u8) -> records::GpeBlock
-    ensures { result ≡ no_gpe present }
-{
-    records::GpeBlock {
-        address: 0,
-        space: 0,
-        byte_length: 0,
-        present,
+        Ok(None) => records::GpeBlock::default(),
+        Err(_) => records::GpeBlock {
+            present: 2,
+            ..records::GpeBlock::default()
+        },
     }
 }

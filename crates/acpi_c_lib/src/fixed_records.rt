@@ -4,7 +4,7 @@ use crate::records::Register;
 
 /// A block of registers of general purpose events (section 4.8.4.1), by its length in bytes.
 #[repr(C)]
-#[derive(Clone, Copy)]
+#[derive(Clone, Copy, Default)]
 pub struct GpeBlock {
     pub address: u64,
     pub space: u8,

@@ -115,10 +115,8 @@ impl<R: GicRecord> Listing<u8, R> for MadtEntryIter<'_> {
     fn record(revision: &u8, entry: MadtEntry) -> Option<R>
         ensures { result ≡ option_map R.record_of (R.Part.said_in revision.now entry) }
     {
-        match <R::Part as GicPart>::said(&entry, *revision) {
-            Some(part) => Some(R::of(&part)),
-            None => None,
-        }
+        let part = <R::Part as GicPart>::said(&entry, *revision)?;
+        Some(R::of(&part))
     }
 }
 

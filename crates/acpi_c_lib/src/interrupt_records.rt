@@ -2,7 +2,7 @@
 
 /// Which controllers interrupts come to.
 #[repr(C)]
-#[derive(Clone, Copy)]
+#[derive(Clone, Copy, Default)]
 pub struct InterruptModel {
     pub local_apic_address: u64,
     pub io_apics: usize,
@@ -16,7 +16,7 @@ pub struct InterruptModel {
 
 /// An I/O APIC (section 5.2.12.3).
 #[repr(C)]
-#[derive(Clone, Copy)]
+#[derive(Clone, Copy, Default)]
 pub struct IoApic {
     pub address: u32,
     pub global_system_interrupt_base: u32,
@@ -63,7 +63,7 @@ pub struct Processor {
 
 /// How an interrupt comes to the I/O APICs (section 5.2.12.5).
 #[repr(C)]
-#[derive(Clone, Copy)]
+#[derive(Clone, Copy, Default)]
 pub struct Interrupt {
     pub global_system_interrupt: u32,
     pub polarity: u8,
@@ -72,7 +72,7 @@ pub struct Interrupt {
 
 /// A pin of an I/O APIC (sections 5.2.12.3 and 5.2.13).
 #[repr(C)]
-#[derive(Clone, Copy)]
+#[derive(Clone, Copy, Default)]
 pub struct IoApicPin {
     pub io_apic: IoApic,
     pub pin: u32,
@@ -80,7 +80,7 @@ pub struct IoApicPin {
 
 /// How one of the ISA interrupts comes to the I/O APICs (sections 5.2.12.3 and 5.2.12.5).
 #[repr(C)]
-#[derive(Clone, Copy)]
+#[derive(Clone, Copy, Default)]
 pub struct IsaRoute {
     pub interrupt: Interrupt,
     pub pin: IoApicPin,

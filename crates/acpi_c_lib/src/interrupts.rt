@@ -92,11 +92,7 @@ fn found_madt<'h, H: AcpiHandler>(tables: &AcpiTables<'h, H>) -> AcpiResult<Opti
     match tables.find_table::<Madt>() {
         Ok(madt) => {
             let counts = madt.model_counts()?;
-            if counts.is_of_apic {
-                Ok(Some(ApicMadt { madt, counts }))
-            } else {
-                Ok(None)
-            }
+            Ok(counts.is_of_apic.then_some(ApicMadt { madt, counts }))
         }
         Err(_) => Ok(None),
     }

@@ -7,10 +7,9 @@ ghost use Rattle.acpi_base.specs.IsaOverrides.{IsGathered};
 ghost use Rattle.acpi_base.specs.Mapping.{bytes_of};
 ghost use Rattle.acpi_base.specs.Model.{io_apic_in, items_of, override_in};
 ghost use Rattle.acpi_c_lib.specs.Answers.{result_map};
-ghost use Rattle.acpi_c_lib.specs.IsaList.{isa_list_below, isa_numbers, isa_route, nearer_of, no_pin, no_route, number_of, route_of};
+ghost use Rattle.acpi_c_lib.specs.IsaList.{isa_list_below, isa_numbers, isa_route, nearer_of, no_route, number_of, route_of};
 
-use crate::interrupt_records as records;
-use crate::interrupt_records::{Interrupt, IoApicPin, IsaInterrupts, IsaRoute};
+use crate::interrupt_records::{IoApicPin, IsaInterrupts, IsaRoute};
 use crate::interrupts::{io_apic_record, known_madt};
 use crate::records::Source;
 use crate::refusal::Refusal;
@@ -111,39 +110,9 @@ fn without_pin(interrupt: Option<IsaInterrupt>) -> IsaRoute
     match interrupt {
         Some(interrupt) => IsaRoute {
             interrupt: interrupt_record(interrupt),
-            pin: no_pin(),
             present: 1,
-            has_pin: 0,
+            ..IsaRoute::default()
         },
-        None => no_route(),
-    }
-}
-
-/// What stands for an interrupt that there isn't.
-fn no_route() -> IsaRoute
-    ensures { result ≡ no_route }
-{
-    IsaRoute {
-        interrupt: Interrupt {
-            global_system_interrupt: 0,
-            polarity: 0,
-            trigger: 0,
-        },
-        pin: no_pin(),
-        present: 0,
-        has_pin: 0,
-    }
-}
-
-fn no_pin() -> IoApicPin
-    ensures { result ≡ no_pin }
-{
-    IoApicPin {
-        io_apic: records::IoApic {
-            address: 0,
-            global_system_interrupt_base: 0,
-            id: 0,
-        },
-        pin: 0,
+        None => IsaRoute::default(),
     }
 }

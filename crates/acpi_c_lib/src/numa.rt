@@ -78,10 +78,10 @@ fn domain_in(table: &[u8], address: u64) -> Option<u32>
 {
     let mut entries = Domains::over(table).entries();
     while let Some(entry) = entries.next() {
-        if let Some(range) = entry.memory_range() {
-            if range.holds(address) {
-                return Some(range.domain);
-            }
+        if let Some(range) = entry.memory_range()
+            && range.holds(address)
+        {
+            return Some(range.domain);
         }
     }
     None

@@ -61,10 +61,8 @@ pub(crate) fn ebda_segment<H: AcpiHandler>(handler: &H) -> AcpiResult<u16>
 pub(crate) fn ebda<H: AcpiHandler>(handler: &H) -> Option<u64>
     ensures { result ≡ ebda_in (H.memory handler.now) }
 {
-    match ebda_segment(handler) {
-        Ok(segment) => Some(16 * segment as u64),
-        Err(_) => None,
-    }
+    let segment = ebda_segment(handler).ok()?;
+    Some(16 * segment as u64)
 }
 
 /// The first valid table of a type that a source leads to, in the memory of its regions.

@@ -4,7 +4,7 @@ ghost use Rattle.acpi_base.specs.Mcfg.{mcfg_entries_left};
 ghost use Rattle.acpi.specs.Ecam.{ecam_address};
 ghost use Rattle.acpi.specs.Pci.{region_of};
 ghost use Rattle.acpi_c_lib.specs.Answers.{Fills};
-ghost use Rattle.acpi_c_lib.specs.Shown.{ecam_below, ecam_ranges_below, pci_regions_below, span_record, pci_record, ecam_record};
+ghost use Rattle.acpi_c_lib.specs.Shown.{ecam_below, ecam_ranges_below, pci_regions_below, pci_record, ecam_record};
 ghost use Rattle.acpi_c_lib.specs.Listed.{lists_each};
 
 use crate::fixed_records::EcamRange;
@@ -97,25 +97,17 @@ impl Listing<(), EcamRange> for McfgEntryIter<'_> {
     fn record(_known: &(), entry: McfgEntry) -> Option<EcamRange>
         ensures { result ≡ Some (ecam_record entry) }
     {
-        Some(span_record(entry.pci_segment_group, entry.ecam_range()))
-    }
-}
-
-fn span_record(segment_group: u16, range: Option<AddressRange>) -> EcamRange
-    ensures { result ≡ span_record segment_group range }
-{
-    match range {
-        Some(range) => EcamRange {
-            address: range.address,
-            length: range.length,
-            segment_group,
-            present: 1,
-        },
-        None => EcamRange {
+        let found = entry.ecam_range();
+        let none = AddressRange {
             address: 0,
             length: 0,
-            segment_group,
-            present: 0,
-        },
+        };
+        let range = found.unwrap_or(none);
+        Some(EcamRange {
+            address: range.address,
+            length: range.length,
+            segment_group: entry.pci_segment_group,
+            present: found.is_some() as u8,
+        })
     }
 }

@@ -32,16 +32,7 @@ pub fn model(source: &Source<'_>) -> Result<InterruptModel, Refusal>
             let last = local_apic_address(items_of(&found.madt), address);
             Ok(known_model(&found, last))
         }
-        None => Ok(InterruptModel {
-            local_apic_address: 0,
-            io_apics: 0,
-            overrides: 0,
-            nmi_sources: 0,
-            nmi_lines: 0,
-            processors: 0,
-            known: 0,
-            also_has_8259: 0,
-        }),
+        None => Ok(InterruptModel::default()),
     }
 }
 

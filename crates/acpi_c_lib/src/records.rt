@@ -102,7 +102,7 @@ pub struct PciRegion {
 
 /// A register: a Generic Address Structure (section 5.2.3.2).
 #[repr(C)]
-#[derive(Clone, Copy)]
+#[derive(Clone, Copy, Default)]
 pub struct GenericAddress {
     pub address: u64,
     pub space: u8,
@@ -121,7 +121,7 @@ pub struct Register {
 
 /// The power management timer (section 4.8.3.3).
 #[repr(C)]
-#[derive(Clone, Copy)]
+#[derive(Clone, Copy, Default)]
 pub struct PmTimer {
     pub base: GenericAddress,
     pub present: u8,

@@ -37,10 +37,8 @@ impl<H: AcpiHandler> Listing<H, Table> for Pointers<'_> {
     fn record(handler: &H, address: u64) -> Option<Table>
         ensures { result ≡ table_in (H.memory handler.now) address }
     {
-        match map_own_sdt(handler, address) {
-            Ok(table) => Some(entry(&table)),
-            Err(_) => None,
-        }
+        let table = map_own_sdt(handler, address).ok()?;
+        Some(entry(&table))
     }
 }
 

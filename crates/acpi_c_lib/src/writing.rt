@@ -33,10 +33,7 @@ pub use machine::{
 pub fn written(said: Result<usize, WriterError>, length: &mut usize) -> u32
     ensures { AnswersPlain result length.old length.new (writing.writer_refused said) }
 {
-    match said {
-        Ok(count) => answer_plain(Ok(count), length),
-        Err(error) => answer_plain(Err(Refusal::Writer(error)), length),
-    }
+    answer_plain(said.map_err(Refusal::Writer), length)
 }
 
 impl records::HpetInfo {

@@ -17,17 +17,11 @@ fn orientation(degrees: u16) -> BgrtOrientation
     }
 }
 
-fn is_orientation(degrees: u16) -> bool
-    ensures { result ≡ written.is_orientation degrees }
-{
-    degrees == 0 || degrees == 90 || degrees == 180 || degrees == 270
-}
-
 /// Whether the image has an orientation that there is, and is a bitmap.
 pub(crate) fn has_codes(graphic: &BootGraphic) -> bool
     ensures { result ≡ written.has_codes graphic.now }
 {
-    is_orientation(graphic.orientation) && graphic.image_type == 0
+    matches!(graphic.orientation, 0 | 90 | 180 | 270) && graphic.image_type == 0
 }
 
 /// What the BGRT is to say, as the writer has it.

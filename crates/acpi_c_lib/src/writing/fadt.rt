@@ -45,26 +45,18 @@ pub(crate) fn register(at: records::GenericAddress) -> GenericAddress
 fn optional(given: Register) -> Option<GenericAddress>
     ensures { result ≡ written.optional given }
 {
-    if given.present == 0 || given.at.address == 0 {
-        None
-    } else {
-        Some(register(given.at))
-    }
+    (given.present != 0 && given.at.address != 0).then_some(register(given.at))
 }
 
 /// A block of general purpose events, if there is one.
 fn gpe(given: GpeBlock) -> Option<acpi::fadt::GpeBlock>
     ensures { result ≡ written.gpe given }
 {
-    if given.present == 0 {
-        None
-    } else {
-        Some(acpi::fadt::GpeBlock {
-            space: space(given.space),
-            address: given.address,
-            byte_length: given.byte_length,
-        })
-    }
+    (given.present != 0).then_some(acpi::fadt::GpeBlock {
+        space: space(given.space),
+        address: given.address,
+        byte_length: given.byte_length,
+    })
 }
 
 fn profile(code: u8) -> PowerProfile
@@ -165,58 +157,35 @@ fn hardware(h: &FixedHardware) -> FadtHardware
     })
 }
 
-fn legacy(h: &FixedHardware) -> LegacyFields
-    ensures { result ≡ written.legacy h.now }
-{
-    LegacyFields {
-        worst_c2_latency: h.c2_latency,
-        worst_c3_latency: h.c3_latency,
-        flush_size: h.flush_size,
-        flush_stride: h.flush_stride,
-        duty_offset: h.duty_offset,
-        duty_width: h.duty_width,
-        day_alarm: h.day_alarm,
-        month_alarm: h.month_alarm,
-        century: h.century,
-    }
-}
-
-/// The register that resets the machine, if RESET_REG_SUP says that there is one.
-fn reset(h: &FixedHardware) -> Option<GenericAddress>
-    ensures { result ≡ written.reset h.now }
-{
-    if has_bit(h.flags as u64, 10) {
-        Some(register(h.reset.at))
-    } else {
-        None
-    }
-}
-
-/// The FACS, unless its address is 0.
-fn facs(address: u64) -> Option<u64>
-    ensures { result ≡ written.facs address }
-{
-    if address == 0 { None } else { Some(address) }
-}
-
 /// What the FADT is to say, as the writer has it.
 pub(crate) fn contents(h: &FixedHardware) -> FadtContents
     ensures { result ≡ written.contents h.now }
 {
     FadtContents {
         dsdt: h.dsdt_address,
-        facs: facs(h.facs_address),
+        facs: (h.facs_address != 0).then_some(h.facs_address),
         power_profile: profile(h.power_profile),
         sci_interrupt: h.sci_interrupt,
         hardware: hardware(h),
-        reset_register: reset(h),
+        // RESET_REG_SUP says that there is one.
+        reset_register: has_bit(h.flags as u64, 10).then_some(register(h.reset.at)),
         reset_value: h.reset_value,
         sleep_control: optional(h.sleep_control),
         sleep_status: optional(h.sleep_status),
         features: features(h.flags),
         pc_boot: pc_boot(h.x86_boot_flags),
         arm_boot: arm_boot(h.arm_boot_flags),
-        legacy: legacy(h),
+        legacy: LegacyFields {
+            worst_c2_latency: h.c2_latency,
+            worst_c3_latency: h.c3_latency,
+            flush_size: h.flush_size,
+            flush_stride: h.flush_stride,
+            duty_offset: h.duty_offset,
+            duty_width: h.duty_width,
+            day_alarm: h.day_alarm,
+            month_alarm: h.month_alarm,
+            century: h.century,
+        },
     }
 }
 

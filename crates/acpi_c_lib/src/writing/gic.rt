@@ -32,19 +32,13 @@ impl StandsFor for GicDistributor {
     }
 }
 
-/// TRBE Interrupt, of which 0 is none.
-fn trace(number: u16) -> Option<u16>
-    ensures { result ≡ written.trace_of number }
-{
-    if number == 0 { None } else { Some(number) }
-}
-
 impl StandsFor for GicCpuInterface {
     type Thing = gic::GicCpuInterface;
 
     ghost thing_of = { written.cpu_interface_of };
 
     fn thing(&self) -> gic::GicCpuInterface {
+        let trace = self.trace_buffer_interrupt; // TRBE Interrupt, of which 0 is none
         gic::GicCpuInterface {
             number: self.number,
             processor_uid: self.processor_uid,
@@ -63,7 +57,7 @@ impl StandsFor for GicCpuInterface {
             redistributor_address: self.redistributor_address,
             efficiency_class: self.efficiency_class,
             spe_overflow_interrupt: self.spe_overflow_interrupt,
-            trace_buffer_interrupt: trace(self.trace_buffer_interrupt),
+            trace_buffer_interrupt: (trace != 0).then_some(trace),
         }
     }
 }
@@ -107,14 +101,10 @@ impl StandsFor for GicMsiFrame {
         gic::GicMsiFrame {
             id: self.id,
             address: self.address,
-            spis: if self.has_spis == 0 {
-                None
-            } else {
-                Some(gic::SpiRange {
-                    base: self.spi_base,
-                    count: self.spi_count,
-                })
-            },
+            spis: (self.has_spis != 0).then_some(gic::SpiRange {
+                base: self.spi_base,
+                count: self.spi_count,
+            }),
         }
     }
 }

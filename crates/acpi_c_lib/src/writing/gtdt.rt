@@ -16,11 +16,7 @@ use acpi_writer::{GtdtContents, Listed, TableContents, WriterError, write_gtdt};
 fn base(address: u64) -> Option<u64>
     ensures { result ≡ written.base address }
 {
-    if address == u64::MAX {
-        None
-    } else {
-        Some(address)
-    }
+    (address != u64::MAX).then_some(address)
 }
 
 /// A timer, as the writer has it.

@@ -1,10 +1,8 @@
 //! The tables of a whole machine that are written for C, from the records of each table.
 ghost use Rattle.std.specs.Prelude.{◌≡◌, length, take};
-ghost use Rattle.acpi_base.specs.Steps.{Gives, holds};
+ghost use Rattle.acpi_base.specs.Steps.{Gives};
 ghost use Rattle.acpi_c_lib.specs.Writing.{IsKeptOr};
 ghost use Rattle.acpi_c_lib.specs.WrittenMachine as whole;
-ghost use Rattle.acpi_c_lib.specs.declared.refusal.Refusal.TheVariants.{UnknownCode};
-ghost use Rattle.acpi_c_lib.specs.WrittenMachine.{written_as, listed_written};
 
 use crate::arm_records::ArmTimers;
 use crate::fixed_records::FixedHardware;
@@ -43,33 +41,27 @@ pub enum Contents<'a> {
     Nothing,
 }
 
-/// Whether all codes are those that there are, as a check.
-fn known(has_codes: bool) -> Result<(), Refusal>
-    ensures { result ≡ holds has_codes UnknownCode }
-{
-    require(has_codes, Refusal::UnknownCode)
-}
-
 impl Contents<'_> {
     /// Checks that there is such a kind of table with its record, and that this has no code that is reserved.
     fn check(&self) -> Result<(), Refusal>
         ensures { result ≡ whole.check_contents self.now }
     {
-        match self {
-            Contents::Nothing => Err(Refusal::UnknownTable),
-            Contents::Fadt(hardware) => known(fadt::has_codes(hardware)),
-            Contents::Madt(lists) => known(madt::has_codes(lists)),
-            Contents::Bgrt(graphic) => known(bgrt::has_codes(graphic)),
-            Contents::Gtdt(timers) => known(gtdt::has_codes(timers)),
-            Contents::Spcr(console) => known(spcr::has_codes(console)),
-            Contents::Gic(parts) => known(gic::has_codes(parts)),
-            _ => Ok(()),
-        }
+        let has_codes = match self {
+            Contents::Nothing => return Err(Refusal::UnknownTable),
+            Contents::Fadt(hardware) => fadt::has_codes(hardware),
+            Contents::Madt(lists) => madt::has_codes(lists),
+            Contents::Bgrt(graphic) => bgrt::has_codes(graphic),
+            Contents::Gtdt(timers) => gtdt::has_codes(timers),
+            Contents::Spcr(console) => spcr::has_codes(console),
+            Contents::Gic(parts) => gic::has_codes(parts),
+            _ => true,
+        };
+        require(has_codes, Refusal::UnknownCode)
     }
 }
 
 impl Listed for Contents<'_> {
-    ghost written = { written_as };
+    ghost written = { whole.written_as };
 
     ghost fits = { λ _. Unit {0} };
 
@@ -166,7 +158,7 @@ impl<'a> ListedTable<'a> {
 }
 
 impl Listed for ListedTable<'_> {
-    ghost written = { listed_written };
+    ghost written = { whole.listed_written };
 
     ghost fits = { λ _. Unit {0} };
 

@@ -191,11 +191,7 @@ macro_rules! lists_of {
             interrupt_source_overrides: $contents.overrides,
             nmi_sources: $contents.nmi_sources,
             local_apic_nmi_lines: $contents.nmi_lines,
-            wakeup_mailbox: if $contents.has_wakeup_mailbox == 0 {
-                None
-            } else {
-                Some($contents.wakeup_mailbox)
-            },
+            wakeup_mailbox: ($contents.has_wakeup_mailbox != 0).then_some($contents.wakeup_mailbox),
         }
     };
 }

@@ -20,11 +20,7 @@ use bitflags::Flags;
 fn base(given: Register) -> Option<GenericAddress>
     ensures { result ≡ written.base given }
 {
-    if given.present == 0 {
-        None
-    } else {
-        Some(register(given.at))
-    }
+    (given.present != 0).then_some(register(given.at))
 }
 
 fn is_controllers(bits: u8) -> bool
