@@ -20,6 +20,7 @@ use acpi_base::Signature;
 use acpi_base::model::{InterruptSourceOverride, IoApic, NmiLine, NmiProcessor, NmiSource};
 pub use entries::Fixed;
 use entries::{AddressOverride, Wakeup};
+use std::alloc::AllocError;
 
 /// A processor that a MADT is to list (sections 5.2.12.2 and 5.2.12.12).
 #[derive(Clone, Copy, Debug)]
@@ -89,7 +90,6 @@ fn lines_fit(lines: &[NmiLine]) -> bool
 }
 
 /// What a MADT is to say, as in `MadtContents`, by what stands for the things that are its entries.
-#[derive(Clone, Copy)]
 pub struct MadtLists<'a, P, I, O, S, L> {
     /// The physical address of each processor's local APIC.
     pub local_apic_address: u64,
@@ -107,6 +107,19 @@ pub struct MadtLists<'a, P, I, O, S, L> {
     pub local_apic_nmi_lines: &'a [L],
     /// MailBoxAddress, if there is a mailbox.
     pub wakeup_mailbox: Option<u64>,
+}
+
+// By hand, since a derived `Clone` clones field by field, which takes long to prove.
+impl<P, I, O, S, L> Copy for MadtLists<'_, P, I, O, S, L> {}
+
+impl<P, I, O, S, L> Clone for MadtLists<'_, P, I, O, S, L> {
+    ghost is_clone = { λ x y. y ≡ x };
+
+    ghost is_infallible = { λ _. Unit {0} };
+
+    fn clone(&self) -> Result<Self, AllocError> {
+        Ok(*self)
+    }
 }
 
 /// All after the header of a MADT: the fixed fields, and the entries sort by sort.

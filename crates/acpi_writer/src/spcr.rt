@@ -1,6 +1,6 @@
 //! The Serial Port Console Redirection Table (SPCR, section 5.2.6), from what it says of a serial port. Its layout is
 //! Microsoft's.
-ghost use Rattle.std.specs.Prelude.{◌≡◌, ◌^◌, ◌<◌, ◌&&◌, length, take, IfOk, IsUtf8, Ok};
+ghost use Rattle.std.specs.Prelude.{◌≡◌, ◌+◌, ◌^◌, ◌<◌, ◌&&◌, length, take, IfOk, IsUtf8, Ok};
 ghost use Rattle.acpi_base.specs.Steps.{Gives};
 ghost use Rattle.acpi_base.specs.declared.table.signature.TheConstants.Signature.{SPCR};
 ghost use Rattle.acpi_writer.specs.Contents.{most, sized};
@@ -123,18 +123,26 @@ impl Checked for SpcrContents<'_> {
     }
 }
 
+/// How many bytes NamespaceString has, with the zero that ends it.
+#[tactic(auto, using(crate::proofs::SpcrRead::name_short))]
+fn name_length(contents: &SpcrContents<'_>) -> u16
+    requires { spcr.spcr_checked contents.now ≡ Ok tt }
+    ensures { result ≡ length contents.now.namespace_string.now + 1 }
+{
+    contents.namespace_string.len() as u16 + 1
+}
+
 /// All after the header of an SPCR.
 macro_rules! body_of {
     ($contents:expr) => {{
-        let name = $contents.namespace_string.as_bytes();
         let console = Console {
             device: device_of($contents.pci_device),
             uart_clock_frequency: $contents.uart_clock_frequency,
             baud_rate: $contents.baud_rate,
-            name_length: name.len() as u16 + 1,
+            name_length: name_length($contents),
         };
         // A zero ends the name.
-        let text = Then(Bytes(name), Bytes(&[0]));
+        let text = Then(Bytes($contents.namespace_string.as_bytes()), Bytes(&[0]));
         Then(Port(*$contents), Then(console, text))
     }};
 }
@@ -142,7 +150,6 @@ macro_rules! body_of {
 /// Writes an SPCR whose contents may be written.
 ///
 /// Returns, in this order, `BadName`, `NoRoom` and `TooLong`.
-#[tactic(auto, using(crate::proofs::SpcrRead::name_short))]
 fn write_contents(
     out: &mut [u8],
     ids: &TableIds,
@@ -162,7 +169,6 @@ fn write_contents(
 }
 
 /// How many bytes the SPCR of contents that may be written has, or the first error.
-#[tactic(auto, using(crate::proofs::SpcrRead::name_short))]
 fn contents_size(ids: &TableIds, contents: &SpcrContents<'_>) -> Result<usize, WriterError>
     requires { spcr.spcr_checked contents.now ≡ Ok tt }
     ensures exact { result ≡ sized (table_written most SPCR 4 ids.now (spcr.spcr_body contents.now)) }

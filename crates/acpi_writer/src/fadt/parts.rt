@@ -10,7 +10,7 @@ use super::features::{ArmBootFeatures, PcBootFeatures};
 use crate::flags::flag_number;
 use crate::generic::register_or_zeros;
 use crate::numbers::{dword, qword, word};
-use crate::spelled::Spelled;
+use crate::spelled::{Each, Spelled};
 use acpi_base::address::{AccessSize, AddressSpace, GenericAddress};
 use acpi_fixed::fadt::{GpeBlock, PowerProfile};
 
@@ -180,11 +180,13 @@ impl<'a> Spelled for Pm1Ports<'a> {
 
     #[tactic(auto, unfolding(crate::specs::FadtBytes::pm1_ports, acpi_base::specs::Bytes::spelling))]
     fn put(&self, out: &mut [u8]) {
-        let [a, b, c, d] = dword(port_of(Some(self.0.pm1a_event)));
-        let [e, f, g, h] = dword(port_of(self.0.pm1b_event));
-        let [i, j, k, l] = dword(port_of(Some(self.0.pm1a_control)));
-        let [m, n, o, p] = dword(port_of(self.0.pm1b_control));
-        out.copy_from_slice(&[a, b, c, d, e, f, g, h, i, j, k, l, m, n, o, p]);
+        let ports = [
+            port_of(Some(self.0.pm1a_event)),
+            port_of(self.0.pm1b_event),
+            port_of(Some(self.0.pm1a_control)),
+            port_of(self.0.pm1b_control),
+        ];
+        Each(&ports).put(out);
     }
 }
 
@@ -204,11 +206,13 @@ impl<'a> Spelled for OtherPorts<'a> {
 
     #[tactic(auto, unfolding(crate::specs::FadtBytes::other_ports, acpi_base::specs::Bytes::spelling))]
     fn put(&self, out: &mut [u8]) {
-        let [a, b, c, d] = dword(port_of(self.0.pm2_control));
-        let [e, f, g, h] = dword(port_of(self.0.pm_timer));
-        let [i, j, k, l] = dword(port_of(gpe_register(self.0.gpe0)));
-        let [m, n, o, p] = dword(port_of(gpe_register(self.0.gpe1)));
-        out.copy_from_slice(&[a, b, c, d, e, f, g, h, i, j, k, l, m, n, o, p]);
+        let ports = [
+            port_of(self.0.pm2_control),
+            port_of(self.0.pm_timer),
+            port_of(gpe_register(self.0.gpe0)),
+            port_of(gpe_register(self.0.gpe1)),
+        ];
+        Each(&ports).put(out);
     }
 }
 
