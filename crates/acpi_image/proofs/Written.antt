@@ -149,8 +149,8 @@ sum_is_set offset bytes within =
 
 -- parts before and after the byte stay
 
-pub part_behind : (bytes : List ℕ) (k x o n : ℕ) → k < o → part (set bytes k x) o n ≡ part bytes o n
-part_behind bytes k x o n less = ap (take n) (drop-set-lt o bytes k x less)
+pub part_past : (bytes : List ℕ) (k x o n : ℕ) → k < o → part (set bytes k x) o n ≡ part bytes o n
+part_past bytes k x o n less = ap (take n) (drop-set-lt o bytes k x less)
 
 pub part_front : (bytes : List ℕ) (k x n : ℕ) → n ≤ k → part (set bytes k x) 0 n ≡ part bytes 0 n
 part_front bytes k x n le = take-set-le n bytes k x le
@@ -246,8 +246,8 @@ still b is = record {
   long = omega (arith, is.long, length-with_sum 9 b);
   whole = ap number (part_before b 9 (sum_byte 9 b) 4 4 (lit≤ tt)) ∙ is.whole ∙ sym (length-with_sum 9 b);
   signature = rw (part_front b 9 (sum_byte 9 b) 4 (lit≤ tt)) is.signature;
-  id = rw (part_behind b 9 (sum_byte 9 b) 10 6 (lit< tt)) is.id;
-  table_id = rw (part_behind b 9 (sum_byte 9 b) 16 8 (lit< tt)) is.table_id;
+  id = rw (part_past b 9 (sum_byte 9 b) 10 6 (lit< tt)) is.id;
+  table_id = rw (part_past b 9 (sum_byte 9 b) 16 8 (lit< tt)) is.table_id;
 }
 
 table_sum : (b : List ℕ) → is_table b ≡ true → sum_of (with_sum 9 b) ≡ 0

@@ -8,7 +8,7 @@ use Rattle.acpi_base.specs.Bytes.{field_of, number, part, spelling, sum_of}
 use Rattle.acpi_base.specs.Header.{check_names, check_table, header_at}
 use Rattle.acpi_base.specs.Text.{letters_of}
 use Rattle.acpi_base.specs.declared.table.signature.Signature.{Signature}
-use Rattle.acpi_image.proofs.Written.{part_front, sum_is_set, part_before, part_behind, length-with_sum, IsTable, still}
+use Rattle.acpi_image.proofs.Written.{part_front, sum_is_set, part_before, part_past, length-with_sum, IsTable, still}
 use Rattle.acpi_image.specs.WriteChecks.{is_table}
 use Rattle.acpi_image.specs.Written.{sum_byte, with_sum}
 use Rattle.acpi_writer.specs.ImageLaws.{is_named}
@@ -211,7 +211,7 @@ module _ (s : Signature) (a b c d revision : ℕ) (ids : TableIds) (body : List 
 
   same : (o n : ℕ) → 9 < o → part (table_bytes s revision ids body) o n ≡ part raw o n
   unfolding table_bytes with_sum
-  same o n less = part_behind raw 9 (sum_byte 9 raw) o n less
+  same o n less = part_past raw 9 (sum_byte 9 raw) o n less
 
   raw_revision : part raw 8 1 ≡ revision ∷ []
   unfolding spelling
