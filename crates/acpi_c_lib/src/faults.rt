@@ -71,22 +71,31 @@ fn fill_faults<H: AcpiHandler>(
 fn looked_at<H: AcpiHandler>(handler: &H, address: u64, signature: Signature) -> AcpiResult<()>
     ensures { result ≡ result_map (λ _. tt) (table_at (H.memory handler.now) (kind_named signature) address) }
 {
-    match signature {
-        s if s == Signature::FADT => taken::<H, Fadt>(handler, address),
-        s if s == Signature::MADT => taken::<H, Madt>(handler, address),
-        s if s == Signature::MCFG => taken::<H, Mcfg>(handler, address),
-        s if s == Signature::HPET => taken::<H, HpetTable>(handler, address),
-        s if s == Signature::BGRT => taken::<H, Bgrt>(handler, address),
-        s if s == Signature::SPCR => taken::<H, Spcr>(handler, address),
-        s if s == Signature::GTDT => taken::<H, Gtdt>(handler, address),
-        s if s == Signature::SRAT => taken::<H, Srat>(handler, address),
-        s if s == Signature::SLIT => taken::<H, Slit>(handler, address),
-        s if s == Signature::DMAR => taken::<H, Dmar>(handler, address),
-        s if s == Signature::IVRS => taken::<H, Ivrs>(handler, address),
-        _ => {
-            map_sdt(handler, address, signature)?;
-            Ok(())
-        }
+    if signature == Signature::FADT {
+        taken::<H, Fadt>(handler, address)
+    } else if signature == Signature::MADT {
+        taken::<H, Madt>(handler, address)
+    } else if signature == Signature::MCFG {
+        taken::<H, Mcfg>(handler, address)
+    } else if signature == Signature::HPET {
+        taken::<H, HpetTable>(handler, address)
+    } else if signature == Signature::BGRT {
+        taken::<H, Bgrt>(handler, address)
+    } else if signature == Signature::SPCR {
+        taken::<H, Spcr>(handler, address)
+    } else if signature == Signature::GTDT {
+        taken::<H, Gtdt>(handler, address)
+    } else if signature == Signature::SRAT {
+        taken::<H, Srat>(handler, address)
+    } else if signature == Signature::SLIT {
+        taken::<H, Slit>(handler, address)
+    } else if signature == Signature::DMAR {
+        taken::<H, Dmar>(handler, address)
+    } else if signature == Signature::IVRS {
+        taken::<H, Ivrs>(handler, address)
+    } else {
+        map_sdt(handler, address, signature)?;
+        Ok(())
     }
 }
 
