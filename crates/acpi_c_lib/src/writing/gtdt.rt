@@ -1,16 +1,12 @@
 //! The GTDT that is written for C (section 5.2.24), from the record as which C reads it.
-ghost use Rattle.std.specs.Prelude.{◌≡◌, ◌^◌, ◌<◌, [], length, take, IfOk};
-ghost use Rattle.acpi_base.specs.Steps.{Gives};
+ghost use Rattle.std.specs.Prelude.{◌≡◌, []};
 ghost use Rattle.acpi_c_lib.specs.WrittenGtdt as written;
-ghost use Rattle.acpi_writer.specs.Contents.{most, sized};
-ghost use Rattle.acpi_writer.specs.Table.{Keeps};
 
 use super::madt::{is_wiring, polarity, trigger};
 use crate::arm_records::{ArmTimer, ArmTimers};
-use crate::written_records::TableIds;
 use acpi_arm::gtdt;
 use acpi_base::model::{Polarity, TriggerMode};
-use acpi_writer::{GtdtContents, Listed, TableContents, WriterError, write_gtdt};
+use acpi_writer::GtdtContents;
 
 /// An address, of which all ones stand for none.
 fn base(address: u64) -> Option<u64>
@@ -48,7 +44,7 @@ fn virtual_el2(given: &ArmTimer) -> gtdt::ArmTimer
 }
 
 /// The timers, as the writer has them.
-fn contents<'a>(timers: &ArmTimers) -> GtdtContents<'a>
+pub(crate) fn contents<'a>(timers: &ArmTimers) -> GtdtContents<'a>
     ensures said { result ≡ written.contents result.platform_timers timers.now }
     ensures none { result.platform_timers.now ≡ [] }
 {
@@ -79,29 +75,4 @@ pub(crate) fn has_codes(timers: &ArmTimers) -> bool
         && is_wired(&timers.virtual_el1)
         && is_wired(&timers.el2)
         && is_wired(&timers.virtual_el2)
-}
-
-/// Writes a GTDT of timers whose codes there are.
-///
-/// Returns the errors of `acpi_writer::write_gtdt`, in its order.
-#[tactic(auto, using(crate::proofs::WrittenTables::untimed), unfolding(acpi_writer::specs::Gtdt::gtdt_written))]
-pub(crate) fn write_laid(
-    out: &mut [u8],
-    ids: &TableIds,
-    timers: &ArmTimers,
-) -> Result<usize, WriterError>
-    ensures exact { Gives (λ n. take n out.new) result
-        (written.gtdt_laid (length out.old) ids.now timers.now) }
-    ensures keeps { Keeps result out.old out.new }
-{
-    write_gtdt(out, ids, &contents(timers))
-}
-
-/// How many bytes such a GTDT has, or the first error.
-#[tactic(auto, using(crate::proofs::WrittenTables::untimed), unfolding(acpi_writer::specs::Gtdt::gtdt_written))]
-pub(crate) fn laid_size(ids: &TableIds, timers: &ArmTimers) -> Result<usize, WriterError>
-    ensures exact { result ≡ sized (written.gtdt_laid most ids.now timers.now) }
-    ensures short { IfOk result (λ n. n < 2 ^ 32) }
-{
-    TableContents::Gtdt(contents(timers)).size(ids)
 }

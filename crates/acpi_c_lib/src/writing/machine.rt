@@ -20,8 +20,8 @@ use acpi_writer::slit::slit_size;
 use acpi_writer::spelled::Bytes;
 use acpi_writer::srat::{srat_size_of, write_srat_of};
 use acpi_writer::{
-    Listed, TableIds, WriterError, dsdt_address, require, table_size, write_bgrt, write_fadt,
-    write_hpet, write_slit, write_ssdt,
+    Listed, TableContents, TableIds, WriterError, dsdt_address, require, table_size, write_bgrt,
+    write_fadt, write_gtdt, write_hpet, write_slit, write_spcr, write_ssdt,
 };
 
 /// What a table is to say, or `Nothing` if there is no such kind, or its list is empty.
@@ -65,6 +65,7 @@ impl Listed for Contents<'_> {
 
     ghost fits = { λ _. Unit {0} };
 
+    #[tactic(auto, using(crate::proofs::WrittenTables::named, crate::proofs::WrittenTables::untimed), unfolding(acpi_writer::specs::Spcr::spcr_written, acpi_writer::specs::Spcr::port_fields, acpi_writer::specs::Gtdt::gtdt_written))]
     fn size(&self, ids: &TableIds) -> Result<usize, WriterError> {
         match self {
             Contents::Fadt(hardware) => fadt_size(ids, &fadt::contents(hardware)),
@@ -79,13 +80,14 @@ impl Listed for Contents<'_> {
             Contents::Bgrt(graphic) => {
                 table_size(Signature::BGRT, 1, ids, &bgrt::contents(graphic))
             }
-            Contents::Spcr(console) => spcr::laid_size(ids, console),
-            Contents::Gtdt(timers) => gtdt::laid_size(ids, timers),
+            Contents::Spcr(console) => TableContents::Spcr(spcr::contents(console)).size(ids),
+            Contents::Gtdt(timers) => TableContents::Gtdt(gtdt::contents(timers)).size(ids),
             Contents::Gic(parts) => gic::laid_size(ids, parts),
             Contents::Nothing => Err(WriterError::BadCode),
         }
     }
 
+    #[tactic(auto, using(crate::proofs::WrittenTables::named, crate::proofs::WrittenTables::untimed), unfolding(acpi_writer::specs::Spcr::spcr_written, acpi_writer::specs::Spcr::port_fields, acpi_writer::specs::Gtdt::gtdt_written))]
     fn write(&self, out: &mut [u8], ids: &TableIds) -> Result<usize, WriterError> {
         match self {
             Contents::Fadt(hardware) => write_fadt(out, ids, &fadt::contents(hardware)),
@@ -96,8 +98,8 @@ impl Listed for Contents<'_> {
             Contents::Ssdt(aml) => write_ssdt(out, ids, aml.revision, aml.aml),
             Contents::Srat(domains) => write_srat_of(out, ids, &domains.contents()),
             Contents::Bgrt(graphic) => write_bgrt(out, ids, &bgrt::contents(graphic)),
-            Contents::Spcr(console) => spcr::write_laid(out, ids, console),
-            Contents::Gtdt(timers) => gtdt::write_laid(out, ids, timers),
+            Contents::Spcr(console) => write_spcr(out, ids, &spcr::contents(console)),
+            Contents::Gtdt(timers) => write_gtdt(out, ids, &gtdt::contents(timers)),
             Contents::Gic(parts) => gic::write_laid(out, ids, parts),
             Contents::Nothing => Err(WriterError::BadCode),
         }

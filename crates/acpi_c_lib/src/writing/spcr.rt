@@ -1,19 +1,15 @@
 //! The SPCR that is written for C, from the record as which C reads it. The layout is Microsoft's.
-ghost use Rattle.std.specs.Prelude.{◌≡◌, ◌^◌, ◌<◌, codes, length, take, IfOk};
-ghost use Rattle.acpi_base.specs.Steps.{Gives};
+ghost use Rattle.std.specs.Prelude.{◌≡◌, codes};
 ghost use Rattle.acpi_c_lib.specs.WrittenSpcr as written;
-ghost use Rattle.acpi_writer.specs.Contents.{most, sized};
-ghost use Rattle.acpi_writer.specs.Table.{Keeps};
 
 use crate::fixed_records::Console;
 use crate::records::Register;
 use crate::writing::fadt::{has_codes_at, register};
-use crate::written_records::{SpcrContents, TableIds};
+use crate::written_records::SpcrContents;
 use acpi_base::address::GenericAddress;
 use acpi_base::bytes::has_bit;
 use acpi_base::spcr::{SpcrFlowControl, SpcrInterfaceType, SpcrInterruptType, SpcrTerminalType};
 use acpi_writer::spcr::SpcrPciDevice;
-use acpi_writer::{Listed, TableContents, WriterError, write_spcr as written_spcr};
 use bitflags::Flags;
 
 /// Where the registers lie, if there are any.
@@ -80,7 +76,7 @@ fn baud_rate(console: &Console) -> u32
 }
 
 /// What the SPCR is to say, as the writer has it.
-fn contents<'a>(given: &SpcrContents) -> acpi_writer::SpcrContents<'a>
+pub(crate) fn contents<'a>(given: &SpcrContents) -> acpi_writer::SpcrContents<'a>
     ensures said { result ≡ written.contents result.namespace_string given.now }
     ensures name { result.namespace_string.now ≡ codes "." }
 {
@@ -101,27 +97,4 @@ fn contents<'a>(given: &SpcrContents) -> acpi_writer::SpcrContents<'a>
         uart_clock_frequency: console.clock_frequency,
         namespace_string: ".",
     }
-}
-
-/// Writes an SPCR of a record whose codes there are.
-#[tactic(auto, using(crate::proofs::WrittenTables::named), unfolding(acpi_writer::specs::Spcr::spcr_written, acpi_writer::specs::Spcr::port_fields))]
-pub(crate) fn write_laid(
-    out: &mut [u8],
-    ids: &TableIds,
-    given: &SpcrContents,
-) -> Result<usize, WriterError>
-    ensures exact { Gives (λ n. take n out.new) result
-        (written.spcr_laid (length out.old) ids.now given.now) }
-    ensures keeps { Keeps result out.old out.new }
-{
-    written_spcr(out, ids, &contents(given))
-}
-
-/// How many bytes such an SPCR has, or the first error.
-#[tactic(auto, using(crate::proofs::WrittenTables::named), unfolding(acpi_writer::specs::Spcr::spcr_written, acpi_writer::specs::Spcr::port_fields))]
-pub(crate) fn laid_size(ids: &TableIds, given: &SpcrContents) -> Result<usize, WriterError>
-    ensures exact { result ≡ sized (written.spcr_laid most ids.now given.now) }
-    ensures short { IfOk result (λ n. n < 2 ^ 32) }
-{
-    TableContents::Spcr(contents(given)).size(ids)
 }
