@@ -73,7 +73,7 @@ fn fronts(alloc: Global, file: &[u8]) -> Result<String, AllocError> {
         match MemoryImage::from_bytes(alloc, front(file, count)).err() {
             None => is_kept &= whole.push(count).is_ok(),
             Some(ImageError::Truncated) => {}
-            refusal => other = refusal,
+            refusal => other = other.or(refusal),
         }
     }
     match other {

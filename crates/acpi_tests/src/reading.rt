@@ -321,7 +321,7 @@ static FRONTS: [(usize, Result<usize, ImageError>); 3] = [
 ];
 
 #[test]
-fn memory_is_asked_for_behind_the_checks(rt: HostRuntime) {
+fn memory_is_asked_for_after_the_checks(rt: HostRuntime) {
     for (left, answer) in &FRONTS {
         let file = file_of(&[ROOT, GRAPHIC], *left);
         let found = sevens_within(rt.alloc(), 0, file.bytes());

@@ -20,7 +20,7 @@ pub(crate) struct Device {
     pub(crate) segment: u16,
     /// The bus from which the hops go.
     pub(crate) bus: u8,
-    /// The hops to it. Others follow.
+    /// The hops to it, and then hops of zeros.
     hops: [Hop; ROOM],
     /// How many hops there are.
     count: usize,

@@ -65,10 +65,10 @@ fn change_of(words: &str) -> Option<Change> {
 }
 
 /// So many bytes before each region and after it.
-fn margins(before: usize, behind: usize, byte: u8) -> Margins {
+fn margins(before: usize, after: usize, byte: u8) -> Margins {
     Margins {
         before,
-        behind,
+        after,
         byte,
     }
 }

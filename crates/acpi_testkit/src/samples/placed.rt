@@ -9,7 +9,7 @@ pub struct Margins {
     /// How many bytes lie before the table.
     pub before: usize,
     /// How many bytes lie after the table.
-    pub behind: usize,
+    pub after: usize,
     /// The value of each of them.
     pub byte: u8,
 }
@@ -18,7 +18,7 @@ impl Margins {
     /// No bytes around a table: its record has its bytes and nothing else.
     pub const NONE: Margins = Margins {
         before: 0,
-        behind: 0,
+        after: 0,
         byte: 0,
     };
 }
@@ -34,12 +34,12 @@ pub fn add_record(
 ) -> Result<(), AllocError> {
     let start = address.wrapping_sub(margins.before as u64);
     let count = table.len().wrapping_add(margins.before);
-    let count = count.wrapping_add(margins.behind);
+    let count = count.wrapping_add(margins.after);
     let mut head = [0; 16];
     put_head(&mut head, 0, start, count as u64);
     let begun = file.extend_from_slice(&head);
     let filled = file.resize(file.len().saturating_add(margins.before), margins.byte);
     let put = file.extend_from_slice(table);
-    let ended = file.resize(file.len().saturating_add(margins.behind), margins.byte);
+    let ended = file.resize(file.len().saturating_add(margins.after), margins.byte);
     begun.and(filled).and(put).and(ended)
 }

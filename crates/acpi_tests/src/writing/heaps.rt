@@ -60,7 +60,7 @@ static ROOTS: [(u64, WriteError); 2] = [
 ];
 
 #[test]
-fn memory_is_asked_for_behind_the_checks(rt: HostRuntime) {
+fn memory_is_asked_for_after_the_checks(rt: HostRuntime) {
     for (root, answer) in &ROOTS {
         let found = length_within(rt.alloc(), 0, *root, 0, &[]);
         check(&rt, "without memory", found, Some((Err(*answer), 0)));

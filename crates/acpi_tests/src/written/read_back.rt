@@ -118,7 +118,7 @@ static PLACES: [(u64, Option<u64>); 6] = [
     (0xffff_ffff_ffff_ff20, Some(0xffff_ffff_ffff_ffc0)),
 ];
 
-/// The first four, and how far behind 0xa0 bytes the FACS lies.
+/// The first four of these addresses, and the FACS's offset after the first 0xa0 bytes of the machine.
 static OFFSETS: [(u64, usize); 4] = [(0x1000, 0x20), (0x1010, 0x10), (0x1020, 0), (0x1030, 0x30)];
 
 #[test]

@@ -151,7 +151,7 @@ const NO_MATRIX: Machine<'static> = Machine {
     ..PLAN
 };
 
-/// The same machine, of a name that is no text.
+/// The same machine, with an OEMID that isn't valid UTF-8.
 const NO_NAME: Machine<'static> = Machine {
     ids: TableIds {
         oem_id: [0xff; 6],
