@@ -1,8 +1,9 @@
 //! Physical memory, as a kernel has it mapped.
-ghost use Rattle.std.specs.Prelude.{◌≡◌, length, IfOk, ◌-◌, IfSome, IfNone, drop, true, false, ◌^◌, ◌<◌, ◌≤◌, IfErr};
+ghost use Rattle.std.specs.Prelude.{◌≡◌, length, IfOk, ◌-◌, IfSome, IfNone, Some, None, drop, true, false, ◌^◌, ◌<◌, ◌≤◌, IfErr};
 ghost use Rattle.std.specs.Option.{option_map};
 ghost use Rattle.acpi_base.specs.Bytes.{IsBytes};
-ghost use Rattle.acpi_base.specs.Memory.{IsMemory, IsMemory-prop, rest_from, end_of, lies_in};
+ghost use Rattle.acpi_base.specs.Memory.{IsMemory, IsMemory-prop, at, rest_from, end_of, lies_in};
+ghost use Rattle.acpi_base.specs.declared.error.AcpiError.TheVariants.{MapFailed};
 ghost use Rattle.acpi_base.specs.Steps.{Gives};
 ghost use Rattle.acpi.specs.Regions.{IsAscending, IsAscending-prop};
 ghost use Rattle.acpi_c_lib.specs.Located.{LiesOnlyAt, located, spot_from};
@@ -162,14 +163,25 @@ impl<'k> Mapped<'k> {
     }
 }
 
-/// Lends what lies in one of the regions, from the address to the end of the region.
+/// Lends what lies in one of the regions.
 impl AcpiHandler for Mapped<'_> {
     ghost use Rattle.acpi_c_lib.specs.Held.{mapped_memory};
 
     ghost memory = { λ m. mapped_memory m };
 
+    /// Lends all bytes from a physical address to the end of the region.
+    ///
+    /// Fails with `MapFailed` if no region has `size` bytes from that address on.
     #[tactic(auto, using(crate::proofs::Ascending::at_rest, crate::proofs::Ascending::at_none))]
-    fn map_physical_region(&self, address: u64, size: usize) -> AcpiResult<&[u8]> {
+    fn map_physical_region(&self, address: u64, size: usize) -> AcpiResult<&[u8]>
+        requires { 0 < size }
+        ensures enough { IfOk result (λ s. size ≤ length s.now) }
+        ensures lent { IfOk result (λ s. at (mapped_memory self.now) address (length s.now) ≡ Some s.now) }
+        // All the rest of the region is lent, however little is asked for.
+        ensures whole { IfOk result (λ s. s.now ≡ rest_from (mapped_memory self.now) address) }
+        ensures refused { IfErr result (λ e. at (mapped_memory self.now) address size ≡ None) }
+        ensures name { IfErr result (λ e. e ≡ MapFailed) }
+    {
         let rest = rest_at(self.regions, address);
         if size <= rest.len() {
             Ok(rest)
