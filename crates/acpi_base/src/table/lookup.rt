@@ -1,7 +1,7 @@
 //! The table at an address (section 5.2.6).
 ghost use Rattle.std.specs.Prelude.{◌≡◌, true, ◌+◌, ◌^◌, ◌<◌, ◌≤◌, length, IfErr, IfOk, Ok, Err};
-ghost use Rattle.acpi_base.specs.Claim.{IsLentOf, claimed_at, claimed_from, shown_by, unchecked};
-ghost use Rattle.acpi_base.specs.Mapping.{IsOfMemory, start_of, bytes_of, handler_of};
+ghost use Rattle.acpi_base.specs.Claim.{IsLentOf, claimed_at, claimed_from, shown_by, unchecked, all_of};
+ghost use Rattle.acpi_base.specs.Mapping.{IsOfMemory, start_of, bytes_of, handler_of, lent_of};
 ghost use Rattle.acpi_base.specs.Ranges.{Allows, own_table_ranges, table_ranges, whole_ranges};
 ghost use Rattle.acpi_base.specs.Steps.{Gives, lent};
 ghost use Rattle.acpi_base.specs.Table.{Kind, own_table_at, plain_kind, table_at};
@@ -80,9 +80,6 @@ pub struct ValidTable<'h, H: Lender> {
 }
 
 impl<'h, H: Lender> ValidTable<'h, H> {
-    ghost use Rattle.acpi_base.specs.Claim.{all_of};
-    ghost use Rattle.acpi_base.specs.Mapping.{lent_of};
-
     /// The mapping of these bytes: the table's record, and its bytes.
     #[inline(always)]
     pub fn mapping<T: PhysicalRecord>(self) -> PhysicalMapping<'h, H, T>
