@@ -134,6 +134,8 @@ impl<'h, H: Lender> PhysicalMapping<'h, H, Madt> {
         ensures rest { rest_left result ≡ (cut_of (bytes_of self.now)).1 }
         ensures begun { has_ended result ≡ false }
         ensures few { 2 * length (entries_left result) + 44 ≤ length (bytes_of self.now) }
+        // So few are all entries, those of other types among them, that a walk steps over.
+        ensures all_few { 2 * length (cut_of (bytes_of self.now)).0 + 44 ≤ length (bytes_of self.now) }
     {
         MadtEntryIter::over(self.bytes())
     }
