@@ -5,6 +5,7 @@ pub mod Equalities
 pub mod Isa
 pub mod LentRanges
 pub mod Pin
+pub mod Names
 pub mod OwnTable
 pub mod Spelling
 pub mod Steps
