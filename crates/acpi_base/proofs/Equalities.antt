@@ -42,7 +42,8 @@ Exact [] each = Unit {0}
 Exact (fields ∷ parts) each =
     ((x y : Values fields) → IsEquality (each.0 x y) x y) × Exact parts each.1
 
-choices_are : (parts : List (List Field)) (each : Each Bool parts) → Exact parts each → (x y : Choice parts) → IsEquality (by false false parts each x y) x y
+choices_are : (parts : List (List Field)) (each : Each Bool parts) → Exact parts each → (x y : Choice parts)
+    → IsEquality (by false false parts each x y) x y
 choices_are [] each exact x y = absurd x
 choices_are (fields ∷ parts) each exact (inl x) (inl y) =
     (λ t. ap inl ((exact.0 x y).0 t), λ same. (exact.0 x y).1 cc)
@@ -53,16 +54,19 @@ choices_are (fields ∷ parts) each exact (inr x) (inr y) =
     (λ t. ap inr (e.0 t), λ same. e.1 cc)
 
 -- an enum whose variants are tested so
-pub enums_are : (N : Record) (each : Each Bool N.parts) → Exact N.parts each → (x y : N.D) → IsEquality (by false false N.parts each (N.as_values x) (N.as_values y)) x y
+pub enums_are : (N : Record) (each : Each Bool N.parts) → Exact N.parts each → (x y : N.D)
+    → IsEquality (by false false N.parts each (N.as_values x) (N.as_values y)) x y
 enums_are N each exact x y =
-    let e : IsEquality (by false false N.parts each (N.as_values x) (N.as_values y)) (N.as_values x) (N.as_values y) = choices_are N.parts each exact (N.as_values x) (N.as_values y) in
+    let e : IsEquality (by false false N.parts each (N.as_values x) (N.as_values y)) (N.as_values x) (N.as_values y) =
+    choices_are N.parts each exact (N.as_values x) (N.as_values y) in
     (λ t. values_one N x y (e.0 t), λ same. e.1 (ap N.as_values same))
 
 -- a variant with no field, and one with one field
 none : (x y : Unit {0}) → IsEquality true x y
 none x y = (λ t. refl, λ same. search rules)
 
-one : {A : Type 0} (test : A → A → Bool) → ((x y : A) → IsEquality (test x y) x y) → (x y : A × Unit {0}) → IsEquality (test x.0 y.0) x y
+one : {A : Type 0} (test : A → A → Bool) → ((x y : A) → IsEquality (test x y) x y) → (x y : A × Unit {0})
+    → IsEquality (test x.0 y.0) x y
 one test exact x y = (λ t. ap (λ z. (z, tt)) ((exact x.0 y.0).0 t), λ same. (exact x.0 y.0).1 (ap (λ z. z.0) same))
 
 signatures_are : (x y : Signature) → IsEquality (signatures.ghosts.eq x y) x y
@@ -76,27 +80,95 @@ madt_errors_are x y = search rules
 
 pub errors_are : (x y : AcpiError) → IsEquality (errors.ghosts.eq x y) x y
 errors_are =
-    enums_are error.enum _ (none, (none, (none, (none, (one _ signatures_are, (one _ signatures_are, (one _ signatures_are, (one _ signatures_are, (one _ signatures_are, (none, (none, (one _ madt_errors_are, (none, (none, (none, (one _ signatures_are, (none, tt)))))))))))))))))
+    enums_are error.enum _ (
+      none,
+      (
+        none,
+        (
+          none,
+          (
+            none,
+            (
+              one _ signatures_are,
+              (
+                one _ signatures_are,
+                (
+                  one _ signatures_are,
+                  (
+                    one _ signatures_are,
+                    (
+                      one _ signatures_are,
+                      (none, (none, (one _ madt_errors_are, (none, (none, (none, (one _ signatures_are, (none, tt)))))))),
+                    ),
+                  ),
+                ),
+              ),
+            ),
+          ),
+        ),
+      ),
+    )
 
 pub spaces_are : (x y : AddressSpace) → IsEquality (spaces.ghosts.eq x y) x y
 spaces_are =
-    enums_are space.enum _ (none, (none, (none, (none, (none, (none, (none, (none, (none, (none, (none, (none, (one _ numbers_are, tt)))))))))))))
+    enums_are space.enum _ (
+      none,
+      (none, (none, (none, (none, (none, (none, (none, (none, (none, (none, (none, (one _ numbers_are, tt)))))))))))),
+    )
 
 pub interfaces_are : (x y : SpcrInterfaceType) → IsEquality (interfaces.ghosts.eq x y) x y
 interfaces_are =
-    enums_are interface.enum _ (none, (none, (none, (none, (none, (none, (none, (none, (none, (none, (none, (none, (none, (none, (none, (none, (none, (none, (none, (none, (none, (one _ numbers_are, tt))))))))))))))))))))))
+    enums_are interface.enum _ (
+      none,
+      (
+        none,
+        (
+          none,
+          (
+            none,
+            (
+              none,
+              (
+                none,
+                (
+                  none,
+                  (
+                    none,
+                    (
+                      none,
+                      (
+                        none,
+                        (
+                          none,
+                          (
+                            none,
+                            (none, (none, (none, (none, (none, (none, (none, (none, (none, (one _ numbers_are, tt)))))))))),
+                          ),
+                        ),
+                      ),
+                    ),
+                  ),
+                ),
+              ),
+            ),
+          ),
+        ),
+      ),
+    )
 
 sizes_are : (x y : AccessSize) → IsEquality (sizes.ghosts.eq x y) x y
 sizes_are x y = search rules
 
 -- two tests, of the two parts of a pair
-pub pairs : {A B : Type 0} (p q : Bool) (a c : A) (b d : B) → IsEquality p a c → IsEquality q b d → IsEquality {A = A × B} (p && q) (a, b) (c, d)
+pub pairs : {A B : Type 0} (p q : Bool) (a c : A) (b d : B) → IsEquality p a c → IsEquality q b d
+    → IsEquality {A = A × B} (p && q) (a, b) (c, d)
 pairs true true a c b d e f = (λ t. ap (λ x. (x, b)) (e.0 t) ∙ ap (λ y. (c, y)) (f.0 t), λ same. refl)
 pairs true false a c b d e f = (λ t. absurd cc, λ same. f.1 (ap (λ pair. pair.1) same))
 pairs false q a c b d e f = (λ t. absurd cc, λ same. e.1 (ap (λ pair. pair.0) same))
 
 -- a value that its parts make
-pub made : {A B : Type 0} (parts : A → B) (make : B → A) (p : Bool) (x y : A) → make (parts x) ≡ x → make (parts y) ≡ y → IsEquality p (parts x) (parts y) → IsEquality p x y
+pub made : {A B : Type 0} (parts : A → B) (make : B → A) (p : Bool) (x y : A) → make (parts x) ≡ x → make (parts y) ≡ y
+    → IsEquality p (parts x) (parts y) → IsEquality p x y
 made parts make p x y ex ey e = (λ t. sym ex ∙ ap make (e.0 t) ∙ ey, λ same. e.1 (ap parts same))
 
 abbrev Parts : Type 0
@@ -116,25 +188,32 @@ address_of p = record {
 
 pub addresses_are : (x y : GenericAddress) → IsEquality (addresses.ghosts.eq x y) x y
 addresses_are x y =
-    made parts_of address_of _ x y refl refl (pairs _ _ _ _ _ _ (spaces_are x.address_space y.address_space) (pairs _ _ _ _ _ _ (numbers_are x.bit_width y.bit_width) (pairs _ _ _ _ _ _ (numbers_are x.bit_offset y.bit_offset) (pairs _ _ _ _ _ _ (sizes_are x.access_size y.access_size) (numbers_are x.address y.address)))))
+    made parts_of address_of _ x y refl refl
+    (pairs _ _ _ _ _ _ (spaces_are x.address_space y.address_space)
+    (pairs _ _ _ _ _ _ (numbers_are x.bit_width y.bit_width)
+    (pairs _ _ _ _ _ _ (numbers_are x.bit_offset y.bit_offset)
+    (pairs _ _ _ _ _ _ (sizes_are x.access_size y.access_size) (numbers_are x.address y.address)))))
 
 abbrev range_of : ℕ × ℕ → AddressRange
 range_of p = record { address = p.0; length = p.1 }
 
 pub ranges_are : (x y : AddressRange) → IsEquality (ranges.ghosts.eq x y) x y
 ranges_are x y =
-    made (λ r. (r.address, r.length)) range_of _ x y refl refl (pairs _ _ _ _ _ _ (numbers_are x.address y.address) (numbers_are x.length y.length))
+    made (λ r. (r.address, r.length)) range_of _ x y refl refl
+    (pairs _ _ _ _ _ _ (numbers_are x.address y.address) (numbers_are x.length y.length))
 
 -- ---- lists of clones
 
 -- if each clone of an item equals it, clones of the items in order are the items
-pub clones_equal : {X : Type 0} (R : X → X → Type 0) (xs ys : List X) → ((x y : X) → Contains xs x → R x y → y ≡ x) → AllZip R xs ys → ys ≡ xs
+pub clones_equal : {X : Type 0} (R : X → X → Type 0) (xs ys : List X) → ((x y : X) → Contains xs x → R x y → y ≡ x)
+    → AllZip R xs ys → ys ≡ xs
 clones_equal R [] [] same zip = refl
 clones_equal R [] (y ∷ ys) same zip = absurd zip
 clones_equal R (x ∷ xs) [] same zip = absurd zip
 clones_equal R (x ∷ xs) (y ∷ ys) same zip =
     let here : y ≡ x = same x y (0, omega arith, refl) zip.0 in
-    let rest : ys ≡ xs = clones_equal R xs ys (λ a b held. same a b (suc held.0, omega (arith, held.1), held.2)) zip.1 in
+    let rest : ys ≡ xs = clones_equal R xs ys (λ a b held. same a b (suc held.0, omega (arith, held.1), held.2))
+    zip.1 in
     cc
 
 -- ---- the order of signatures answers Equal exactly if they are one
@@ -143,6 +222,7 @@ itself : (bytes : List ℕ) → slice_cmp nat_cmp bytes bytes ≡ Equal
 itself [] = refl
 itself (b ∷ bytes) = rw (sym (nat_cmp_is b b Equal refl)) (itself bytes)
 
-pub equal_is : (a b : Signature) (r : Ordering) → r ≡ slice_cmp nat_cmp (letters_of a) (letters_of b) → (r ≡ Equal) ↔ (a ≡ b)
+pub equal_is : (a b : Signature) (r : Ordering) → r ≡ slice_cmp nat_cmp (letters_of a) (letters_of b)
+    → (r ≡ Equal) ↔ (a ≡ b)
 equal_is a b r e =
     (λ equal. ap (λ (l : List ℕ). record { 0 = l }) (exact_bytes _ _ (sym e ∙ equal)), λ same. e ∙ rw same (itself b.0))

@@ -10,7 +10,8 @@ use Rattle.acpi_base.specs.declared.memory.claim.Claim.{Claim}
 use Rattle.acpi_base.specs.declared.error.AcpiError.{AcpiError}
 use Rattle.acpi_base.proofs.table.lookup.claim_whole.Goals as goal
 
-ends : {H h : _} (r : Result (Claim H h) AcpiError) (m : Memory) (a n : ℕ) → IsMemory m → 0 < n → IfOk r (λ c. claimed_at c ≡ a)
+ends : {H h : _} (r : Result (Claim H h) AcpiError) (m : Memory) (a n : ℕ) → IsMemory m → 0 < n
+    → IfOk r (λ c. claimed_at c ≡ a)
     → Gives (λ c. shown_by c) r (lent m a n) → IfOk r (λ c. claimed_at c + length (shown_by c) < 2 ^ 64)
 ends (Ok c) m a n h some start shown = rw start (lent_ends m a n _ h some shown)
 ends (Err e) m a n h some start shown = tt
@@ -26,11 +27,13 @@ widen-requires-clause-asked g c = grind (arith, asked_length)
 pub returns-in-Ok-clause-shown : goal.returns-in-Ok-clause-shown
 unfolding table_at
 returns-in-Ok-clause-shown g c =
-    let front = lent_shown _ (claimed_at c.args.head) c.args.head.region_length 36 _ c.requires.lent (omega arith) c.requires.header in
+    let front = lent_shown _ (claimed_at c.args.head) c.args.head.region_length 36 _ c.requires.lent (omega arith)
+    c.requires.header in
     grind (arith, common_steps)
 
 pub returns-in-Err-clause-shown : goal.returns-in-Err-clause-shown
 unfolding table_at
 returns-in-Err-clause-shown g c =
-    let front = lent_shown _ (claimed_at c.args.head) c.args.head.region_length 36 _ c.requires.lent (omega arith) c.requires.header in
+    let front = lent_shown _ (claimed_at c.args.head) c.args.head.region_length 36 _ c.requires.lent (omega arith)
+    c.requires.header in
     grind (arith, common_steps)
