@@ -1,7 +1,7 @@
 pub mod AllowedRanges
+pub mod Clones
 pub mod Cuts
 pub mod EntryLists
-pub mod Equalities
 pub mod Isa
 pub mod LentRanges
 pub mod Pin
