@@ -16,7 +16,7 @@ use Rattle.acpi_base.specs.Bytes.{IsBytes, field_of, part, sum_of}
 use Rattle.acpi_base.specs.Claim.{unchecked}
 use Rattle.acpi_base.specs.Header.{check_names, check_table, header_at}
 use Rattle.acpi_base.specs.Memory.{Memory, IsMemory, at, rest_from}
-use Rattle.acpi_base.specs.Ranges.{OwnTableDependsOn, TableDependsOn}
+use Rattle.acpi_base.specs.Ranges.{DependsOn, own_table_ranges, table_ranges}
 use Rattle.acpi_base.specs.Steps.{◌>>=◌, holds, lent}
 use Rattle.acpi_base.specs.Table.{kind, own_table_at, plain_kind, table_at, Kind}
 use Rattle.acpi_base.specs.declared.error.AcpiError.{AcpiError}
@@ -323,7 +323,8 @@ after : {A B : Type 0} (r : Result A AcpiError) (f g : A → Result B AcpiError)
 after (Ok x) f g each = each x refl
 after (Err e) f g each = refl
 
-pub same_table : TableDependsOn
+-- a table depends on its ranges, whatever is asked of it
+pub same_table : (k : Kind) → DependsOn (λ m. table_ranges m k) (λ m. table_at m k)
 unfolding table_at
 same_table k m n p h =
     rw (← h.0) (after (lent m p 36) _ _ (λ head front.
@@ -332,7 +333,7 @@ same_table k m n p h =
     let whole = rw (front, names, long) at h.1 in
     rw (← whole.0) refl))))
 
-pub same_own_table : OwnTableDependsOn
+pub same_own_table : DependsOn own_table_ranges own_table_at
 unfolding own_table_at
 same_own_table m n p h =
     rw (← h.0) (after (lent m p 36) _ _ (λ head front.
