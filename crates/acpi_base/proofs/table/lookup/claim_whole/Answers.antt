@@ -24,8 +24,8 @@ pub returns-in-Ok-clause-whole : goal.returns-in-Ok-clause-whole
 returns-in-Ok-clause-whole g c =
     let some : 0 < c.in-Ok.length = omega (arith, c.requires.some, c.in-Ok.ensures.long) in
     let w = c.widen.ensures in
-    whole c.widen.result _ c.args.head _ _ (g.met.H.Lender.regions _) some c.in-Ok.ensures.long c.in-Ok.ensures.short w.start
-    w.handler w.size w.all w.shown
+    whole c.widen.result _ c.args.head _ _ (g.met.H.Lender.regions _) some c.in-Ok.ensures.long c.in-Ok.ensures.short
+    w.start w.handler w.size w.all w.shown
 
 pub widen-requires-clause-asked : goal.widen-requires-clause-asked
 widen-requires-clause-asked g c = grind (arith, asked_length)
