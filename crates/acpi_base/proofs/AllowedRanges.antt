@@ -52,19 +52,23 @@ module _ (may : ℕ → ℕ → Bool) where
   pub asked_header : (m : Memory) (k : Kind) (p : ℕ) → Allows may (table_ranges m k p) → may p 36 ≡ true
   asked_header m k p h = all_here (p, 36) _ h
 
-  pub asked_whole : (m : Memory) (k : Kind) (p : ℕ) (head : List ℕ) → Allows may (table_ranges m k p) → lent m p 36 ≡ Ok head
+  pub asked_whole : (m : Memory) (k : Kind) (p : ℕ) (head : List ℕ) → Allows may (table_ranges m k p)
+      → lent m p 36 ≡ Ok head
       → Allows may (whole_ranges k.signature k.least p head)
   asked_whole m k p head h there = rw there at (all_rest (p, 36) _ h)
 
   pub asked_own_header : (m : Memory) (p : ℕ) → Allows may (own_table_ranges m p) → may p 36 ≡ true
   asked_own_header m p h = all_here (p, 36) _ h
 
-  of_equal : (s t : Signature) (p : ℕ) (head : List ℕ) → t ≡ s → Allows may (whole_ranges t 36 p head) → Allows may (whole_ranges s 36 p head)
+  of_equal : (s t : Signature) (p : ℕ) (head : List ℕ) → t ≡ s → Allows may (whole_ranges t 36 p head)
+      → Allows may (whole_ranges s 36 p head)
   of_equal s t p head same h = rw same at h
 
-  pub asked_own : (m : Memory) (s : Signature) (p : ℕ) (head : List ℕ) → Allows may (own_table_ranges m p) → lent m p 36 ≡ Ok head
+  pub asked_own : (m : Memory) (s : Signature) (p : ℕ) (head : List ℕ) → Allows may (own_table_ranges m p)
+      → lent m p 36 ≡ Ok head
       → letters_of s ≡ part head 0 4 → Allows may (whole_ranges s 36 p head)
-  asked_own m s p head h there letters = of_equal s (header_at head).signature p head (own_signature s head letters) (rw there at (all_rest (p, 36) _ h))
+  asked_own m s p head h there letters = of_equal s (header_at head).signature p head (own_signature s head letters)
+      (rw there at (all_rest (p, 36) _ h))
 
   pub asked_length : (s : Signature) (least p n : ℕ) (head : List ℕ) → Allows may (whole_ranges s least p head)
       → check_names s (header_at head) ≡ Ok tt → least ≤ n → n ≡ (header_at head).length → may p n ≡ true

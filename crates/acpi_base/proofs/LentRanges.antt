@@ -48,7 +48,8 @@ nothing : (a : ℕ) → length (rest_from [] a) ≡ 0
 unfolding rest_from
 nothing a = refl
 
-cases_from : (r : Region) (m : Memory) (a : ℕ) (b : Bool) → lies_in r a ≡ b → (lies_in r a ≡ false → IsFrom m a) → IsFrom (r ∷ m) a
+cases_from : (r : Region) (m : Memory) (a : ℕ) (b : Bool) → lies_in r a ≡ b → (lies_in r a ≡ false → IsFrom m a)
+    → IsFrom (r ∷ m) a
 cases_from r m a true h more = from_first r m a h
 cases_from r m a false h more = from_later r m a h (more h)
 
@@ -58,7 +59,8 @@ some_region (r ∷ m) a some = cases_from r m a (lies_in r a) refl (λ h. some_r
 
 -- ---- the way back
 
-apart_at : (r : Region) (m : Memory) (k : ℕ) (d : Region) → AllByRecursion (AreApart r) m → k < length m → AreApart r (slice_index_or m k d)
+apart_at : (r : Region) (m : Memory) (k : ℕ) (d : Region) → AllByRecursion (AreApart r) m → k < length m
+    → AreApart r (slice_index_or m k d)
 apart_at r [] k d h less = absurd (omega arith)
 apart_at r (s ∷ m) zero d h less = h.0
 apart_at r (s ∷ m) (suc k) d h less = apart_at r m k d h.1 (omega arith)
@@ -67,18 +69,21 @@ rest_first : (r : Region) (m : Memory) (a : ℕ) → lies_in r a ≡ true → re
 unfolding rest_from
 rest_first r m a h = rw h refl
 
-cases_rest : (s : Region) (m : Memory) (a : ℕ) (rest : List ℕ) (b : Bool) → lies_in s a ≡ b → (lies_in s a ≡ true → ⊥) → rest_from m a ≡ rest → rest_from (s ∷ m) a ≡ rest
+cases_rest : (s : Region) (m : Memory) (a : ℕ) (rest : List ℕ) (b : Bool) → lies_in s a ≡ b → (lies_in s a ≡ true → ⊥)
+    → rest_from m a ≡ rest → rest_from (s ∷ m) a ≡ rest
 cases_rest s m a rest true h never more = absurd (never h)
 cases_rest s m a rest false h never more = rest_past s m a h ∙ more
 
-rest_at_index : (m : Memory) (a k : ℕ) (r : Region) → IsMemory m → k < length m → slice_index_or m k r ≡ r → lies_in r a ≡ true → rest_from m a ≡ drop (a - r.start) r.bytes
+rest_at_index : (m : Memory) (a k : ℕ) (r : Region) → IsMemory m → k < length m → slice_index_or m k r ≡ r
+    → lies_in r a ≡ true → rest_from m a ≡ drop (a - r.start) r.bytes
 rest_at_index [] a k r hm less same inside = absurd (omega arith)
 rest_at_index (s ∷ m) a zero r hm less same inside =
     let here : lies_in s a ≡ true = rw same inside in
     rest_first s m a here ∙ ap (λ (x : Region). drop (a - x.start) x.bytes) same
 rest_at_index (s ∷ m) a (suc k) r hm less same inside =
     let apart : AreApart s r = rw same at (apart_at s m k r hm.1.0 (omega arith)) in
-    cases_rest s m a (drop (a - r.start) r.bytes) (lies_in s a) refl (λ h. apart a h inside) (rest_at_index m a k r hm.1.1 (omega arith) same inside)
+    cases_rest s m a (drop (a - r.start) r.bytes) (lies_in s a) refl (λ h. apart a h inside)
+    (rest_at_index m a k r hm.1.1 (omega arith) same inside)
 
 -- ---- both ways
 
@@ -87,17 +92,20 @@ is_inside r a h =
     let p = and_parts _ _ h in
     (leb-true _ _ p.0, ltb-true _ _ p.1)
 
-holds_range : (m : Memory) (a n : ℕ) (bytes : List ℕ) → n ≤ length (rest_from m a) → take n (rest_from m a) ≡ bytes → (f : IsFrom m a) → HoldsRange f.region a n bytes
+holds_range : (m : Memory) (a n : ℕ) (bytes : List ℕ) → n ≤ length (rest_from m a) → take n (rest_from m a) ≡ bytes
+    → (f : IsFrom m a) → HoldsRange f.region a n bytes
 holds_range m a n bytes fits same f =
     let within = is_inside f.region a f.inside in
-    let long : length (rest_from m a) ≡ length f.region.bytes - (a - f.region.start) = ap length f.rest ∙ length-drop (a - f.region.start) f.region.bytes in
+    let long : length (rest_from m a) ≡ length f.region.bytes - (a - f.region.start) =
+    ap length f.rest ∙ length-drop (a - f.region.start) f.region.bytes in
     record {
       starts = within.0;
       ends = omega arith;
       there = sym same ∙ ap (take n) f.rest;
     }
 
-pub lent_inside : (m : Memory) (a n : ℕ) (bytes : List ℕ) → 0 < n → at m a n ≡ Some bytes → (r : Region) × Contains m r × HoldsRange r a n bytes
+pub lent_inside : (m : Memory) (a n : ℕ) (bytes : List ℕ) → 0 < n → at m a n ≡ Some bytes
+    → (r : Region) × Contains m r × HoldsRange r a n bytes
 unfolding at
 lent_inside m a n bytes some e =
     let both = cond_some _ _ _ e in
@@ -105,7 +113,8 @@ lent_inside m a n bytes some e =
     let f = some_region m a (omega arith) in
     (f.region, f.listed, holds_range m a n bytes fits both.1 f)
 
-inside_lent : (m : Memory) (a n : ℕ) (bytes : List ℕ) → IsMemory m → 0 < n → (r : Region) → Contains m r → HoldsRange r a n bytes → at m a n ≡ Some bytes
+inside_lent : (m : Memory) (a n : ℕ) (bytes : List ℕ) → IsMemory m → 0 < n → (r : Region) → Contains m r
+    → HoldsRange r a n bytes → at m a n ≡ Some bytes
 unfolding at
 inside_lent m a n bytes hm some r c h =
     let low : r.start ≤ a = h.starts in
@@ -147,7 +156,8 @@ region_at (r ∷ m) zero d h less = h.0
 region_at (r ∷ m) (suc k) d h less = region_at m k d h.1.1 (omega arith)
 
 -- a range that is lent ends below 2^64
-pub lent_ends : (m : Memory) (a n : ℕ) (bytes : List ℕ) → IsMemory m → 0 < n → lent m a n ≡ Ok bytes → a + length bytes < 2 ^ 64
+pub lent_ends : (m : Memory) (a n : ℕ) (bytes : List ℕ) → IsMemory m → 0 < n → lent m a n ≡ Ok bytes
+    → a + length bytes < 2 ^ 64
 lent_ends m a n bytes h some e =
     let f = lent_inside m a n bytes some (some_lent _ _ e) in
     let region : IsRegion f.0 = rw f.1.2 at (region_at m f.1.0 f.0 h f.1.1) in
@@ -156,24 +166,29 @@ lent_ends m a n bytes h some e =
 
 -- ---- what is lent of a longer range is lent of its fronts
 
-pub at-front : (m : Memory) (a n : ℕ) (s : List ℕ) → at m a (length s) ≡ Some s → n ≤ length s → at m a n ≡ Some (take n s)
+pub at-front : (m : Memory) (a n : ℕ) (s : List ℕ) → at m a (length s) ≡ Some s → n ≤ length s
+    → at m a n ≡ Some (take n s)
 unfolding at
 at-front m a n s e h =
     let both = cond_some _ _ _ e in
     let whole : length s ≤ length (rest_from m a) = leb-true _ _ both.0 in
     let fits : n ≤ length (rest_from m a) = omega arith in
-    let same : take n s ≡ take n (rest_from m a) = ap (take n) (sym both.1) ∙ take-take n (length s) (rest_from m a) h in
+    let same : take n s ≡ take n (rest_from m a) = ap (take n) (sym both.1)
+    ∙ take-take n (length s) (rest_from m a) h in
     rw (le-leb _ _ fits, same) refl
 
 -- the front of what is lent is lent, by the front's own length
-pub at_front_of : (m : Memory) (a n : ℕ) (s : List ℕ) → at m a (length s) ≡ Some s → n ≤ length s → at m a (length (take n s)) ≡ Some (take n s)
+pub at_front_of : (m : Memory) (a n : ℕ) (s : List ℕ) → at m a (length s) ≡ Some s → n ≤ length s
+    → at m a (length (take n s)) ≡ Some (take n s)
 at_front_of m a n s e h = rw (length-take-le n s h) (at-front m a n s e h)
 
-pub lent_front : (m : Memory) (a n : ℕ) (s : List ℕ) → at m a (length s) ≡ Some s → n ≤ length s → lent m a n ≡ Ok (take n s)
+pub lent_front : (m : Memory) (a n : ℕ) (s : List ℕ) → at m a (length s) ≡ Some s → n ≤ length s
+    → lent m a n ≡ Ok (take n s)
 lent_front m a n s e h = rw (at-front m a n s e h) refl
 
 -- of as many bytes as are shown, those that are shown
-pub lent_shown : (m : Memory) (a r n : ℕ) (s : List ℕ) → at m a (length s) ≡ Some s → r ≤ length s → length (take r s) ≡ n → lent m a n ≡ Ok (take r s)
+pub lent_shown : (m : Memory) (a r n : ℕ) (s : List ℕ) → at m a (length s) ≡ Some s → r ≤ length s
+    → length (take r s) ≡ n → lent m a n ≡ Ok (take r s)
 lent_shown m a r n s e fits long =
     let is : r ≡ n = omega (arith, length-take-le r s fits, long) in
     subst (λ k. lent m a k ≡ Ok (take r s)) is (lent_front m a r s e fits)
@@ -184,11 +199,14 @@ lent_none m a n e = rw e refl
 -- ---- what is lent of a memory of one region
 
 -- all from an address on is lent
-pub is_lent : (start a : ℕ) (b : List ℕ) → start ≤ a → a - start < length b → at (one_region start b) a (length (take (length b - (a - start)) (drop (a - start) b))) ≡ Some (take (length b - (a - start)) (drop (a - start) b))
+pub is_lent : (start a : ℕ) (b : List ℕ) → start ≤ a → a - start < length b
+    → at (one_region start b) a (length (take (length b - (a - start)) (drop (a - start) b)))
+    ≡ Some (take (length b - (a - start)) (drop (a - start) b))
 unfolding at rest_from
 is_lent start a b low high =
     let below : a < start + length b = omega arith in
-    let all : take (length b - (a - start)) (drop (a - start) b) ≡ drop (a - start) b = rw (← length-drop (a - start) b) (take-length (drop (a - start) b)) in
+    let all : take (length b - (a - start)) (drop (a - start) b) ≡ drop (a - start) b =
+    rw (← length-drop (a - start) b) (take-length (drop (a - start) b)) in
     let whole : length (drop (a - start) b) ≤ length (drop (a - start) b) = omega arith in
     rw (all, le-leb _ _ low, lt-ltb _ _ below, le-leb _ _ whole, take-length (drop (a - start) b)) refl
 
@@ -198,7 +216,8 @@ unfolding at rest_from
 starts_below start a n b some low = rw (lt-leb _ _ low, lt-leb _ _ some) refl
 
 -- nor what reaches past its end
-pub ends_above : (start a n : ℕ) (b : List ℕ) → 0 < n → start ≤ a → length b < (a - start) + n → at (one_region start b) a n ≡ None
+pub ends_above : (start a n : ℕ) (b : List ℕ) → 0 < n → start ≤ a → length b < (a - start) + n
+    → at (one_region start b) a n ≡ None
 unfolding at rest_from
 ends_above start a n b some low high =
     elim (cases_lt a (start + length b)) [

@@ -1,10 +1,11 @@
 pub mod AllowedRanges
+pub mod Clones
 pub mod Cuts
 pub mod EntryLists
-pub mod Equalities
 pub mod Isa
 pub mod LentRanges
 pub mod Pin
+pub mod Names
 pub mod OwnTable
 pub mod Spelling
 pub mod Steps

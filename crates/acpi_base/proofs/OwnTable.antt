@@ -1,5 +1,7 @@
--- What the header of a table tells. A table is valid for a signature and a least length exactly if it is valid under the
--- signature that it has, has this one, and is as long. And memories that agree on the ranges of a table have the same table.
+-- What the header of a table tells. A table is valid for a signature and a least length exactly if it is valid under
+-- the
+-- signature that it has, has this one, and is as long. And memories that agree on the ranges of a table have the same
+-- table.
 use Rattle.std.proofs.Common.{◌≡◌, ℕ, ◌≤◌, Bool, true, false, ◌&&◌, ◌+◌, List, length, take, drop, lit≤, Option, Some, None, Result, Ok, Err, refl, sym, ap, subst, ◌∙◌, arith, if◌then◌else◌, ◌==◌}
 use Rattle.std.specs.Prelude.{nat_le}
 use Rattle.std.specs.Result.{result_ok}
@@ -14,7 +16,7 @@ use Rattle.acpi_base.specs.Bytes.{IsBytes, field_of, part, sum_of}
 use Rattle.acpi_base.specs.Claim.{unchecked}
 use Rattle.acpi_base.specs.Header.{check_names, check_table, header_at}
 use Rattle.acpi_base.specs.Memory.{Memory, IsMemory, at, rest_from}
-use Rattle.acpi_base.specs.Ranges.{OwnTableDependsOn, TableDependsOn}
+use Rattle.acpi_base.specs.Ranges.{DependsOn, own_table_ranges, table_ranges}
 use Rattle.acpi_base.specs.Steps.{◌>>=◌, holds, lent}
 use Rattle.acpi_base.specs.Table.{kind, own_table_at, plain_kind, table_at, Kind}
 use Rattle.acpi_base.specs.declared.error.AcpiError.{AcpiError}
@@ -113,8 +115,10 @@ at_header m p n b head whole front enough =
 pub is_whole : (m : Memory) (k : Kind) (p : ℕ) (table : List ℕ) → 36 ≤ k.least → (h : Passed m k p table)
     → (header_at table ≡ header_at h.head) × ((header_at table).length ≡ length table)
 is_whole m k p table enough h =
-    let long : 36 ≤ (header_at h.head).length = omega (arith, enough, leb-true k.least (header_at h.head).length h.long) in
-    let both = at_header m p (header_at h.head).length table h.head (some_lent _ _ h.whole) (some_lent _ _ h.front) long in
+    let long : 36 ≤ (header_at h.head).length =
+    omega (arith, enough, leb-true k.least (header_at h.head).length h.long) in
+    let both = at_header m p (header_at h.head).length table h.head (some_lent _ _ h.whole)
+    (some_lent _ _ h.front) long in
     (both.0, ap (λ x. x.length) both.0 ∙ sym both.1)
 
 -- ---- a table under its own signature
@@ -134,19 +138,30 @@ own_is : (m : Memory) (s : Signature) (p : ℕ) (head : List ℕ) → lent m p 3
 unfolding own_table_at
 own_is m s p head front own = rw front (ap (λ x. table_at m (plain_kind x) p) own)
 
-own_of : (m : Memory) (s : Signature) (least p : ℕ) → 36 ≤ least → (table : List ℕ) → table_at m (kind s least (check_table s)) p ≡ Ok table
+own_of : (m : Memory) (s : Signature) (least p : ℕ) → 36 ≤ least → (table : List ℕ)
+    → table_at m (kind s least (check_table s)) p ≡ Ok table
     → (own_table_at m p ≡ Ok table) × (serves s least table ≡ true)
 own_of m s least p enough table e =
     let h = passed m (kind s least (check_table s)) p table e in
     let is = is_whole m (kind s least (check_table s)) p table enough h in
     let own = is_named s (header_at h.head) h.names in
-    let long = le-leb 36 (header_at h.head).length (omega (arith, enough, leb-true least (header_at h.head).length h.long)) in
-    let plain = passes m (plain_kind s) p table (record { head = h.head; front = h.front; names = h.names; long = long; whole = h.whole; checked = h.checked }) in (
+    let long = le-leb 36 (header_at h.head).length
+    (omega (arith, enough, leb-true least (header_at h.head).length h.long)) in
+    let plain = passes m (plain_kind s) p table (record {
+      head = h.head;
+      front = h.front;
+      names = h.names;
+      long =
+          long;
+      whole = h.whole;
+      checked = h.checked;
+    }) in (
       own_is m s p h.head h.front (same_signature s (header_at h.head) own) ∙ plain,
       and_from (bears s (header_at table)) (nat_le least (length table)) (rw is.0 own) (rw (← is.1, is.0) h.long),
     )
 
-of_own : (m : Memory) (s : Signature) (least p : ℕ) (table : List ℕ) → own_table_at m p ≡ Ok table → serves s least table ≡ true
+of_own : (m : Memory) (s : Signature) (least p : ℕ) (table : List ℕ) → own_table_at m p ≡ Ok table
+    → serves s least table ≡ true
     → table_at m (kind s least (check_table s)) p ≡ Ok table
 unfolding own_table_at
 of_own m s least p table e serving =
@@ -156,16 +171,26 @@ of_own m s least p table e serving =
     let h = passed m own_kind p table first.2 in
     let is = is_whole m own_kind p table (lit≤ tt) h in
     let same : h.head ≡ first.0 = same_ok h.head first.0 (sym h.front ∙ first.1) in
-    let own : (header_at first.0).signature ≡ s = ap (λ b. (header_at b).signature) (sym same) ∙ same_signature s (header_at h.head) (rw (← is.0) both.0) in
+    let own : (header_at first.0).signature ≡ s = ap (λ b. (header_at b).signature) (sym same)
+    ∙ same_signature s (header_at h.head) (rw (← is.0) both.0) in
     let g = passed m (plain_kind s) p table (subst (λ x. table_at m (plain_kind x) p ≡ Ok table) own first.2) in
     let long = is_whole m (plain_kind s) p table (lit≤ tt) g in
-    passes m (kind s least (check_table s)) p table (record { head = g.head; front = g.front; names = g.names; long = rw (← long.0, long.1) both.1; whole = g.whole; checked = g.checked })
+    passes m (kind s least (check_table s)) p table (record {
+      head = g.head;
+      front = g.front;
+      names = g.names;
+      long =
+          rw (← long.0, long.1) both.1;
+      whole = g.whole;
+      checked = g.checked;
+    })
 
 unserved : (b : Bool) (table : List ℕ) → (b ≡ true → ⊥) → None ≡ only b (Some table)
 unserved true table never = absurd (never refl)
 unserved false table never = refl
 
-by_both : (s : Signature) (least : ℕ) (r own : Result (List ℕ) AcpiError) → ((t : List ℕ) → r ≡ Ok t → (own ≡ Ok t) × (serves s least t ≡ true))
+by_both : (s : Signature) (least : ℕ) (r own : Result (List ℕ) AcpiError)
+    → ((t : List ℕ) → r ≡ Ok t → (own ≡ Ok t) × (serves s least t ≡ true))
     → ((t : List ℕ) → own ≡ Ok t → serves s least t ≡ true → r ≡ Ok t) → result_ok r ≡ served s least (result_ok own)
 by_both s least (Ok t) own there back = let both = there t refl in rw (both.0, both.1) refl
 by_both s least (Err d) (Ok t) there back = unserved (serves s least t) t (λ q. let other = back t refl q in cc)
@@ -175,7 +200,8 @@ pub own_table_is : (m : Memory) (s : Signature) (least p : ℕ) → 36 ≤ least
     → result_ok (table_at m (kind s least (check_table s)) p) ≡ served s least (result_ok (own_table_at m p))
 own_table_is m s least p enough = by_both s least _ _ (own_of m s least p enough) (of_own m s least p)
 
-pub own_table : (m : Memory) (s : Signature) (p : ℕ) (head : List ℕ) → lent m p 36 ≡ Ok head → letters_of s ≡ part head 0 4
+pub own_table : (m : Memory) (s : Signature) (p : ℕ) (head : List ℕ) → lent m p 36 ≡ Ok head
+    → letters_of s ≡ part head 0 4
     → own_table_at m p ≡ table_at m (plain_kind s) p
 unfolding header_at
 own_table m s p head front letters = own_is m s p head front (ap the_signature (sym letters))
@@ -183,18 +209,22 @@ own_table m s p head front letters = own_is m s p head front (ap the_signature (
 -- ---- before the kind's own check, and then only the sum is left
 
 -- what is known of a table that was claimed by its signature and its least length
-pub names_there : (m : Memory) (s : Signature) (least p : ℕ) (table : List ℕ) → 36 ≤ least → table_at m (unchecked s least) p ≡ Ok table
+pub names_there : (m : Memory) (s : Signature) (least p : ℕ) (table : List ℕ) → 36 ≤ least
+    → table_at m (unchecked s least) p ≡ Ok table
     → check_names s (header_at table) ≡ Ok tt
 names_there m s least p table enough e =
     let h = passed m (unchecked s least) p table e in
     rw (is_whole m (unchecked s least) p table enough h).0 h.names
 
-pub length_there : (m : Memory) (s : Signature) (least p : ℕ) (table : List ℕ) → 36 ≤ least → table_at m (unchecked s least) p ≡ Ok table
+pub length_there : (m : Memory) (s : Signature) (least p : ℕ) (table : List ℕ) → 36 ≤ least
+    → table_at m (unchecked s least) p ≡ Ok table
     → (header_at table).length ≡ length table
-length_there m s least p table enough e = (is_whole m (unchecked s least) p table enough (passed m (unchecked s least) p table e)).1
+length_there m s least p table enough e =
+    (is_whole m (unchecked s least) p table enough (passed m (unchecked s least) p table e)).1
 
 -- the kind's own check is the last
-check_last : (a b : Result (Unit {0}) AcpiError) (w : Result (List ℕ) AcpiError) (f : List ℕ → Result (List ℕ) AcpiError)
+check_last : (a b : Result (Unit {0}) AcpiError) (w : Result (List ℕ) AcpiError) (f : List ℕ
+    → Result (List ℕ) AcpiError)
     → (a >>= λ _. b >>= λ _. w >>= f) ≡ ((a >>= λ _. b >>= λ _. w >>= λ t. Ok t) >>= f)
 check_last (Ok x) (Ok y) (Ok t) f = refl
 check_last (Ok x) (Ok y) (Err d) f = refl
@@ -206,54 +236,72 @@ check_after : (m : Memory) (k : Kind) (p : ℕ) (r : Result (List ℕ) AcpiError
 unfolding table_at
 check_after m k p (Ok head) front =
     let long = holds (nat_le k.least (header_at head).length) (SdtInvalidLength k.signature) in
-    rw front (check_last (check_names k.signature (header_at head)) long (lent m p (header_at head).length) (λ t. k.check t >>= λ _. Ok t))
+    rw front (check_last (check_names k.signature (header_at head)) long (lent m p (header_at head).length)
+    (λ t. k.check t >>= λ _. Ok t))
 check_after m k p (Err d) front = rw front refl
 
-pub checked_last : (m : Memory) (k : Kind) (p : ℕ) → table_at m k p ≡ (table_at m (unchecked k.signature k.least) p >>= λ t. k.check t >>= λ _. Ok t)
+pub checked_last : (m : Memory) (k : Kind) (p : ℕ)
+    → table_at m k p ≡ (table_at m (unchecked k.signature k.least) p >>= λ t. k.check t >>= λ _. Ok t)
 checked_last m k p = check_after m k p (lent m p 36) refl
 
-sum_left : (s : Signature) (b : List ℕ) → check_names s (header_at b) ≡ Ok tt → nat_le 36 (length b) ≡ true → field_of b 4 4 ≡ length b
+sum_left : (s : Signature) (b : List ℕ) → check_names s (header_at b) ≡ Ok tt → nat_le 36 (length b) ≡ true
+    → field_of b 4 4 ≡ length b
     → check_table s b ≡ holds (sum_of b == 0) (SdtInvalidChecksum s)
 unfolding check_table
 sum_left s b names long same =
-    rw (names, same, and_from (nat_le 36 (length b)) (nat_le (length b) (length b)) long (le-leb (length b) (length b) (omega arith)), take-length b) refl
+    rw (
+      names,
+      same,
+      and_from (nat_le 36 (length b)) (nat_le (length b) (length b)) long
+          (le-leb (length b) (length b) (omega arith)),
+      take-length b,
+    ) refl
 
 header_length : (b : List ℕ) → (header_at b).length ≡ field_of b 4 4
 unfolding header_at
 header_length b = refl
 
 -- the sum is all that is left of the check
-only_sum_left : (s : Signature) (b : List ℕ) → 36 ≤ length b → check_names s (header_at b) ≡ Ok tt → (header_at b).length ≡ length b
+only_sum_left : (s : Signature) (b : List ℕ) → 36 ≤ length b → check_names s (header_at b) ≡ Ok tt
+    → (header_at b).length ≡ length b
     → check_table s b ≡ holds (sum_of b == 0) (SdtInvalidChecksum s)
 only_sum_left s b long names same = sum_left s b names (le-leb 36 (length b) long) (sym (header_length b) ∙ same)
 
-pub bad_rest : (s : Signature) (b : List ℕ) → 36 ≤ length b → check_names s (header_at b) ≡ Ok tt → (header_at b).length ≡ length b
+pub bad_rest : (s : Signature) (b : List ℕ) → 36 ≤ length b → check_names s (header_at b) ≡ Ok tt
+    → (header_at b).length ≡ length b
     → (sum_of b ≡ 0 → ⊥) → check_table s b ≡ Err (SdtInvalidChecksum s)
 bad_rest s b long names same bad = rw (only_sum_left s b long names same, ne_eqb _ _ bad) refl
 
-pub good_rest : (s : Signature) (b : List ℕ) → 36 ≤ length b → check_names s (header_at b) ≡ Ok tt → (header_at b).length ≡ length b
+pub good_rest : (s : Signature) (b : List ℕ) → 36 ≤ length b → check_names s (header_at b) ≡ Ok tt
+    → (header_at b).length ≡ length b
     → sum_of b ≡ 0 → check_table s b ≡ Ok tt
 good_rest s b long names same good = rw (only_sum_left s b long names same, good) refl
 
 -- what is claimed is left to the kind's own check
-check_refused : (m : Memory) (k : Kind) (p : ℕ) (table : List ℕ) (e : AcpiError) → table_at m (unchecked k.signature k.least) p ≡ Ok table
+check_refused : (m : Memory) (k : Kind) (p : ℕ) (table : List ℕ) (e : AcpiError)
+    → table_at m (unchecked k.signature k.least) p ≡ Ok table
     → k.check table ≡ Err e → table_at m k p ≡ Err e
 check_refused m k p table e claimed refused = rw (checked_last m k p, claimed, refused) refl
 
-check_passed : (m : Memory) (k : Kind) (p : ℕ) (table : List ℕ) → table_at m (unchecked k.signature k.least) p ≡ Ok table
+check_passed : (m : Memory) (k : Kind) (p : ℕ) (table : List ℕ)
+    → table_at m (unchecked k.signature k.least) p ≡ Ok table
     → k.check table ≡ Ok tt → table_at m k p ≡ Ok table
 check_passed m k p table claimed passes = rw (checked_last m k p, claimed, passes) refl
 
 -- of a table of which only the header and the sum matter, the sum decides
-pub sum_refused : (m : Memory) (s : Signature) (p : ℕ) (table : List ℕ) → 36 ≤ length table → table_at m (unchecked s 36) p ≡ Ok table
+pub sum_refused : (m : Memory) (s : Signature) (p : ℕ) (table : List ℕ) → 36 ≤ length table
+    → table_at m (unchecked s 36) p ≡ Ok table
     → (sum_of table ≡ 0 → ⊥) → table_at m (plain_kind s) p ≡ Err (SdtInvalidChecksum s)
 sum_refused m s p table long claimed bad = check_refused m (plain_kind s) p table _ claimed
-    (bad_rest s table long (names_there m s 36 p table (lit≤ tt) claimed) (length_there m s 36 p table (lit≤ tt) claimed) bad)
+    (bad_rest s table long (names_there m s 36 p table (lit≤ tt) claimed)
+    (length_there m s 36 p table (lit≤ tt) claimed) bad)
 
-pub sum_passed : (m : Memory) (s : Signature) (p : ℕ) (table : List ℕ) → 36 ≤ length table → table_at m (unchecked s 36) p ≡ Ok table
+pub sum_passed : (m : Memory) (s : Signature) (p : ℕ) (table : List ℕ) → 36 ≤ length table
+    → table_at m (unchecked s 36) p ≡ Ok table
     → sum_of table ≡ 0 → table_at m (plain_kind s) p ≡ Ok table
 sum_passed m s p table long claimed good = check_passed m (plain_kind s) p table claimed
-    (good_rest s table long (names_there m s 36 p table (lit≤ tt) claimed) (length_there m s 36 p table (lit≤ tt) claimed) good)
+    (good_rest s table long (names_there m s 36 p table (lit≤ tt) claimed)
+    (length_there m s 36 p table (lit≤ tt) claimed) good)
 
 -- ---- if the header isn't lent, or has another signature
 
@@ -261,7 +309,8 @@ pub no_header : (m : Memory) (k : Kind) (p : ℕ) (e : AcpiError) → lent m p 3
 unfolding table_at
 no_header m k p e refused = rw refused refl
 
-pub another_signature : (m : Memory) (k : Kind) (p : ℕ) (head : List ℕ) → lent m p 36 ≡ Ok head → bytes_eq (part head 0 4) k.signature.0 ≡ false
+pub another_signature : (m : Memory) (k : Kind) (p : ℕ) (head : List ℕ) → lent m p 36 ≡ Ok head
+    → bytes_eq (part head 0 4) k.signature.0 ≡ false
     → table_at m k p ≡ Err (SdtInvalidSignature k.signature)
 unfolding table_at check_names header_at
 another_signature m k p head front other = rw (front, other) refl
@@ -269,11 +318,13 @@ another_signature m k p head front other = rw (front, other) refl
 -- ---- in another memory
 
 -- steps that go on in the same way after what they give
-after : {A B : Type 0} (r : Result A AcpiError) (f g : A → Result B AcpiError) → ((x : A) → r ≡ Ok x → f x ≡ g x) → (r >>= f) ≡ (r >>= g)
+after : {A B : Type 0} (r : Result A AcpiError) (f g : A → Result B AcpiError) → ((x : A) → r ≡ Ok x → f x ≡ g x)
+    → (r >>= f) ≡ (r >>= g)
 after (Ok x) f g each = each x refl
 after (Err e) f g each = refl
 
-pub same_table : TableDependsOn
+-- a table depends on its ranges, whatever is asked of it
+pub same_table : (k : Kind) → DependsOn (λ m. table_ranges m k) (λ m. table_at m k)
 unfolding table_at
 same_table k m n p h =
     rw (← h.0) (after (lent m p 36) _ _ (λ head front.
@@ -282,14 +333,15 @@ same_table k m n p h =
     let whole = rw (front, names, long) at h.1 in
     rw (← whole.0) refl))))
 
-pub same_own_table : OwnTableDependsOn
+pub same_own_table : DependsOn own_table_ranges own_table_at
 unfolding own_table_at
 same_own_table m n p h =
     rw (← h.0) (after (lent m p 36) _ _ (λ head front.
     same_table (plain_kind (header_at head).signature) m n p (h.0, rw front (rw front at h.1))))
 
 -- a table's bytes are bytes
-pub table_bytes : (m : Memory) (k : Kind) (p : ℕ) (table : List ℕ) → IsMemory m → table_at m k p ≡ Ok table → IsBytes table
+pub table_bytes : (m : Memory) (k : Kind) (p : ℕ) (table : List ℕ) → IsMemory m → table_at m k p ≡ Ok table
+    → IsBytes table
 table_bytes m k p table h e =
     let passes = passed m k p table e in
     lent_bytes m p (header_at passes.head).length table h passes.whole

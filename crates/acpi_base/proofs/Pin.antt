@@ -24,7 +24,8 @@ or_nearer None later = later
 or_nearer (Some x) None = Some x
 or_nearer (Some x) (Some y) = if nat_lt (base_of x) (base_of y) then Some y else Some x
 
-pub one_nearer : (interrupt : ℕ) (best : Option IoApic) (x : IoApic) (later : Option IoApic) → or_nearer (kept interrupt best x) later ≡ or_nearer best (nearer interrupt x later)
+pub one_nearer : (interrupt : ℕ) (best : Option IoApic) (x : IoApic) (later : Option IoApic)
+    → or_nearer (kept interrupt best x) later ≡ or_nearer best (nearer interrupt x later)
 one_nearer interrupt None x None = grind (arith, nat_tests)
 one_nearer interrupt None x (Some y) = grind (arith, nat_tests)
 one_nearer interrupt (Some b) x None = grind (arith, nat_tests)
@@ -45,15 +46,22 @@ abbrev Found : List IoApic → ℕ → Option IoApic → Type 0
 Found io_apics interrupt (Some x) = IsFound io_apics interrupt x
 Found io_apics interrupt None = AllByRecursion (λ x. interrupt < base_of x) io_apics
 
-no_nearer_still : (interrupt a b : ℕ) (xs : List IoApic) → a ≤ b → AllByRecursion (IsNoNearer interrupt a) xs → AllByRecursion (IsNoNearer interrupt b) xs
+no_nearer_still : (interrupt a b : ℕ) (xs : List IoApic) → a ≤ b → AllByRecursion (IsNoNearer interrupt a) xs
+    → AllByRecursion (IsNoNearer interrupt b) xs
 no_nearer_still interrupt a b [] le all = tt
-no_nearer_still interrupt a b (x ∷ xs) le all = ((λ h. let at : base_of x ≤ a = all.0 h in omega arith), no_nearer_still interrupt a b xs le all.1)
+no_nearer_still interrupt a b (x ∷ xs) le all =
+    ((λ h. let at : base_of x ≤ a = all.0 h in omega arith), no_nearer_still interrupt a b xs le all.1)
 
-none_below : (interrupt b : ℕ) (xs : List IoApic) → AllByRecursion (λ x. interrupt < base_of x) xs → AllByRecursion (IsNoNearer interrupt b) xs
+none_below : (interrupt b : ℕ) (xs : List IoApic) → AllByRecursion (λ x. interrupt < base_of x) xs
+    → AllByRecursion (IsNoNearer interrupt b) xs
 none_below interrupt b [] all = tt
-none_below interrupt b (x ∷ xs) all = ((λ h. let above : interrupt < base_of x = all.0 in absurd (omega arith)), none_below interrupt b xs all.1)
+none_below interrupt b (x ∷ xs) all = (
+  (λ h. let above : interrupt < base_of x = all.0 in absurd (omega arith)),
+  none_below interrupt b xs all.1,
+)
 
-this_one : (interrupt : ℕ) (x : IoApic) (more : List IoApic) → base_of x ≤ interrupt → AllByRecursion (IsNoNearer interrupt (base_of x)) more → IsFound (x ∷ more) interrupt x
+this_one : (interrupt : ℕ) (x : IoApic) (more : List IoApic) → base_of x ≤ interrupt
+    → AllByRecursion (IsNoNearer interrupt (base_of x)) more → IsFound (x ∷ more) interrupt x
 this_one interrupt x more below all = record {
   before = [];
   after = more;
@@ -63,7 +71,8 @@ this_one interrupt x more below all = record {
   none_before = tt;
 }
 
-later_one : (interrupt : ℕ) (x y : IoApic) (more : List IoApic) → (base_of x ≤ interrupt → base_of x < base_of y) → IsFound more interrupt y → IsFound (x ∷ more) interrupt y
+later_one : (interrupt : ℕ) (x y : IoApic) (more : List IoApic) → (base_of x ≤ interrupt → base_of x < base_of y)
+    → IsFound more interrupt y → IsFound (x ∷ more) interrupt y
 later_one interrupt x y more less f = record {
   before = x ∷ f.before;
   after = f.after;
@@ -73,15 +82,20 @@ later_one interrupt x y more less f = record {
   none_before = (less, f.none_before);
 }
 
-one_more : (interrupt : ℕ) (x : IoApic) (more : List IoApic) (later : Option IoApic) → Found more interrupt later → Found (x ∷ more) interrupt (nearer interrupt x later)
+one_more : (interrupt : ℕ) (x : IoApic) (more : List IoApic) (later : Option IoApic) → Found more interrupt later
+    → Found (x ∷ more) interrupt (nearer interrupt x later)
 one_more interrupt x more None f =
-    (elim (nat_le (base_of x) interrupt) as (λ t. nat_le (base_of x) interrupt ≡ t → Found (x ∷ more) interrupt (if t then Some x else None)) [
+    (elim (nat_le (base_of x) interrupt) as (λ t. nat_le (base_of x) interrupt ≡ t
+    → Found (x ∷ more) interrupt (if t then Some x else None)) [
       | true ↦ λ is. this_one interrupt x more (grind (arith, nat_tests)) (none_below interrupt (base_of x) more f)
       | false ↦ λ is. (grind (arith, nat_tests), f)
     ]) refl
 one_more interrupt x more (Some y) f =
-    (elim (nat_le (base_of x) interrupt && nat_le (base_of y) (base_of x)) as (λ t. (nat_le (base_of x) interrupt && nat_le (base_of y) (base_of x)) ≡ t → Found (x ∷ more) interrupt (if t then Some x else Some y)) [
-      | true ↦ λ is. this_one interrupt x more (grind (arith, nat_tests)) (no_nearer_still interrupt (base_of y) (base_of x) more (grind (arith, nat_tests)) f.none_nearer)
+    (elim (nat_le (base_of x) interrupt && nat_le (base_of y) (base_of x)) as (λ t.
+    (nat_le (base_of x) interrupt && nat_le (base_of y) (base_of x)) ≡ t
+    → Found (x ∷ more) interrupt (if t then Some x else Some y)) [
+      | true ↦ λ is. this_one interrupt x more (grind (arith, nat_tests))
+          (no_nearer_still interrupt (base_of y) (base_of x) more (grind (arith, nat_tests)) f.none_nearer)
       | false ↦ λ is. later_one interrupt x y more (λ h. grind (arith, nat_tests)) f
     ]) refl
 
@@ -89,7 +103,8 @@ is_found : (interrupt : ℕ) (xs : List IoApic) → Found xs interrupt (nearest 
 is_found interrupt [] = tt
 is_found interrupt (x ∷ more) = one_more interrupt x more (nearest interrupt more) (is_found interrupt more)
 
-with_pin : (interrupt : ℕ) (xs : List IoApic) (o : Option IoApic) → Found xs interrupt o → IsNearest xs interrupt (option_map (λ x. (x, interrupt - base_of x)) o)
+with_pin : (interrupt : ℕ) (xs : List IoApic) (o : Option IoApic) → Found xs interrupt o
+    → IsNearest xs interrupt (option_map (λ x. (x, interrupt - base_of x)) o)
 with_pin interrupt xs None f = f
 with_pin interrupt xs (Some x) f = record {
   before = f.before;
@@ -100,5 +115,7 @@ with_pin interrupt xs (Some x) f = record {
   none_before = f.none_before;
 }
 
-pub is_nearest : (xs : List IoApic) (interrupt : ℕ) (o : Option (IoApic × ℕ)) → o ≡ io_apic_for xs interrupt → IsNearest xs interrupt o
-is_nearest xs interrupt o is = subst (IsNearest xs interrupt) (sym is) (with_pin interrupt xs (nearest interrupt xs) (is_found interrupt xs))
+pub is_nearest : (xs : List IoApic) (interrupt : ℕ) (o : Option (IoApic × ℕ)) → o ≡ io_apic_for xs interrupt
+    → IsNearest xs interrupt o
+is_nearest xs interrupt o is = subst (IsNearest xs interrupt) (sym is)
+    (with_pin interrupt xs (nearest interrupt xs) (is_found interrupt xs))

@@ -79,7 +79,12 @@ pub field_fits : (bs : List ℕ) (offset n : ℕ) → ((i : ℕ) → Fits w8 (ge
 unfolding field_of
 field_fits bs offset n h =
     let wide : 8 * length (part bs offset n) ≤ 8 * n = omega (arith, length-take n (drop offset bs)) in
-    omega (arith, number_below (part bs offset n) (IsBytes-take n (drop offset bs) (IsBytes-drop offset bs (λ i. omega (arith, h i)))), pow_mono wide)
+    omega (
+      arith,
+      number_below (part bs offset n)
+          (IsBytes-take n (drop offset bs) (IsBytes-drop offset bs (λ i. omega (arith, h i)))),
+      pow_mono wide,
+    )
 
 -- ---- zeros after the bytes change no number
 
@@ -94,7 +99,8 @@ front_past [] count (suc n) = zeros_number (suc n) count
 front_past (b ∷ bytes) count zero = refl
 front_past (b ∷ bytes) count (suc n) = omega (arith, front_past bytes count n)
 
-part_past : (bytes : List ℕ) (count offset n : ℕ) → number (take n (drop offset (bytes ++ replicate count 0))) ≡ number (take n (drop offset bytes))
+part_past : (bytes : List ℕ) (count offset n : ℕ)
+    → number (take n (drop offset (bytes ++ replicate count 0))) ≡ number (take n (drop offset bytes))
 part_past bytes count zero n = front_past bytes count n
 part_past [] count (suc offset) n =
     ap (λ s. number (take n s)) (drop-replicate (suc offset) count 0) ∙ zeros_number n _ ∙ sym (zeros_number n 0)
@@ -107,14 +113,22 @@ field_past_end bytes count offset n = part_past bytes count offset n
 -- ---- bytes one by one
 
 -- the six bytes of OEMID and the eight of OEM Table ID: one more byte before a part
-more : (b : List ℕ) (k n : ℕ) (xs : List ℕ) → k < length b → xs ≡ part b (suc k) n → get_or b k 0 ∷ xs ≡ part b k (suc n)
+more : (b : List ℕ) (k n : ℕ) (xs : List ℕ) → k < length b → xs ≡ part b (suc k) n
+    → get_or b k 0 ∷ xs ≡ part b k (suc n)
 more b k n xs h e = rw (drop-cons b k 0 h) (ap (λ l. get_or b k 0 ∷ l) e)
 
-pub oem_id_part : (b : List ℕ) → 16 ≤ length b → get_or b 10 0 ∷ get_or b 11 0 ∷ get_or b 12 0 ∷ get_or b 13 0 ∷ get_or b 14 0 ∷ get_or b 15 0 ∷ [] ≡ part b 10 6
-oem_id_part b h = more b 10 5 _ (omega arith) (more b 11 4 _ (omega arith) (more b 12 3 _ (omega arith) (more b 13 2 _ (omega arith) (more b 14 1 _ (omega arith) (more b 15 0 _ (omega arith) refl)))))
+pub oem_id_part : (b : List ℕ) → 16 ≤ length b → get_or b 10 0 ∷ get_or b 11 0 ∷ get_or b 12 0 ∷ get_or b 13 0
+    ∷ get_or b 14 0 ∷ get_or b 15 0 ∷ [] ≡ part b 10 6
+oem_id_part b h = more b 10 5 _ (omega arith)
+    (more b 11 4 _ (omega arith) (more b 12 3 _ (omega arith)
+    (more b 13 2 _ (omega arith) (more b 14 1 _ (omega arith) (more b 15 0 _ (omega arith) refl)))))
 
-pub oem_table_id_part : (b : List ℕ) → 24 ≤ length b → get_or b 16 0 ∷ get_or b 17 0 ∷ get_or b 18 0 ∷ get_or b 19 0 ∷ get_or b 20 0 ∷ get_or b 21 0 ∷ get_or b 22 0 ∷ get_or b 23 0 ∷ [] ≡ part b 16 8
-oem_table_id_part b h = more b 16 7 _ (omega arith) (more b 17 6 _ (omega arith) (more b 18 5 _ (omega arith) (more b 19 4 _ (omega arith) (more b 20 3 _ (omega arith) (more b 21 2 _ (omega arith) (more b 22 1 _ (omega arith) (more b 23 0 _ (omega arith) refl)))))))
+pub oem_table_id_part : (b : List ℕ) → 24 ≤ length b → get_or b 16 0 ∷ get_or b 17 0 ∷ get_or b 18 0 ∷ get_or b 19 0
+    ∷ get_or b 20 0 ∷ get_or b 21 0 ∷ get_or b 22 0 ∷ get_or b 23 0 ∷ [] ≡ part b 16 8
+oem_table_id_part b h = more b 16 7 _ (omega arith)
+    (more b 17 6 _ (omega arith) (more b 18 5 _ (omega arith)
+    (more b 19 4 _ (omega arith) (more b 20 3 _ (omega arith)
+    (more b 21 2 _ (omega arith) (more b 22 1 _ (omega arith) (more b 23 0 _ (omega arith) refl)))))))
 
 -- ---- texts
 

@@ -1,5 +1,5 @@
 -- What a claim shows.
-use Rattle.std.specs.Prelude.{◌≡◌, ℕ, List, length, take, Some, Ok}
+use Rattle.std.specs.Prelude.{◌≡◌, ◌+◌, ◌^◌, ◌<◌, ◌≤◌, ℕ, List, length, take, Some, Ok}
 use Rattle.acpi_base.specs.Memory.{Memory, at}
 use Rattle.acpi_base.specs.Table.{Kind, kind}
 use Rattle.acpi_base.specs.declared.memory.claim.Claim.{Claim}
@@ -28,3 +28,10 @@ IsLentOf m c = at m (claimed_at c) (length (all_of c)) ≡ Some (all_of c)
 -- a table of this signature and least length, whatever else its bytes are: what is claimed before they are checked
 abbrev pub unchecked : Signature → ℕ → Kind
 unchecked s least = kind s least (λ _. Ok tt)
+
+-- it shows at least so many bytes and fewer than 2^32, at the place and from the handler of the claim of their header,
+-- all that was lent is the memory's, and they end below 2^64
+abbrev pub IsWholeClaim : {H h : _} → Memory → Claim H h → ℕ → Claim H h → Type 0
+IsWholeClaim m head least c =
+    (claimed_at c ≡ claimed_at head) × (claimed_from c ≡ claimed_from head) × IsLentOf m c
+    × (least ≤ length (shown_by c)) × (length (shown_by c) < 2 ^ 32) × (claimed_at c + length (shown_by c) < 2 ^ 64)

@@ -28,6 +28,7 @@ pub mod NmiLines
 pub mod OneRegion
 pub mod Items
 pub mod Pin
+pub mod Range
 pub mod Ranges
 pub mod Spcr
 pub mod SpcrFlags

@@ -7,7 +7,7 @@ use Rattle.acpi_base.specs.declared.table.signature.Signature.{Signature}
 use Rattle.acpi_base.specs.Header.{check_names, header_at}
 use Rattle.acpi_base.specs.Memory.{Memory, at}
 use Rattle.acpi_base.specs.Steps.{holds, lent}
-use Rattle.acpi_base.specs.Table.{Kind, own_table_at, table_at}
+use Rattle.acpi_base.specs.Table.{Kind}
 
 -- each an address and a number of bytes
 abbrev pub Ranges : Type 0
@@ -68,10 +68,3 @@ abbrev pub own_table_ranges : Memory → ℕ → Ranges
 own_table_ranges m p = (p, 36) ∷ do
   head ← lent m p 36
   whole_ranges (header_at head).signature 36 p head
-
--- a table depends on its ranges, whatever is asked of it
-abbrev pub TableDependsOn : Type 0
-TableDependsOn = (k : Kind) → DependsOn (λ m. table_ranges m k) (λ m. table_at m k)
-
-abbrev pub OwnTableDependsOn : Type 0
-OwnTableDependsOn = DependsOn own_table_ranges own_table_at

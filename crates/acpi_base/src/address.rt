@@ -1,7 +1,8 @@
 //! The Generic Address Structure (GAS): a register, by a number in one of several address spaces (section
 //! 5.2.3.2).
 ghost use Rattle.std.specs.Prelude.{◌≡◌};
-ghost use Rattle.acpi_base.specs.Address.{generic_address_of};
+ghost use Rattle.acpi_base.specs.Address.{generic_address_of, space_of, access_size_of};
+ghost use Rattle.acpi_base.specs.Bytes.{filled_part};
 
 use crate::bytes::{field_in, filled, u8_in};
 use crate::error::{AcpiError, AcpiResult};
@@ -41,8 +42,6 @@ pub enum AddressSpace {
 
 impl TryFrom<u8> for AddressSpace {
     type Error = AcpiError;
-
-    ghost use Rattle.acpi_base.specs.Address.{space_of};
 
     ghost try_from_gives = { λ code r. r ≡ space_of code };
 
@@ -87,8 +86,6 @@ pub enum AccessSize {
 impl TryFrom<u8> for AccessSize {
     type Error = AcpiError;
 
-    ghost use Rattle.acpi_base.specs.Address.{access_size_of};
-
     ghost try_from_gives = { λ code r. r ≡ access_size_of code };
 
     /// The access size of a code of Access Size (section 5.2.3.2).
@@ -110,8 +107,6 @@ impl TryFrom<u8> for AccessSize {
 pub type RawAddress = [u8; 12];
 
 impl PhysicalRecord for RawAddress {
-    ghost use Rattle.acpi_base.specs.Bytes.{filled_part};
-
     const MIN_LENGTH: usize = 12;
 
     ghost MIN_LENGTH = { 12 };

@@ -80,21 +80,11 @@ fn rest_of(bytes: &[u8]) -> u64
 /// The little-endian number of the `n` bytes at an offset, for `n` of at most 8. A byte past the
 /// end is read as zero (numbers: section 5.2).
 #[inline(always)]
-#[tactic(auto, using(crate::proofs::Spelling::field_fits))]
+#[tactic(auto, using(crate::proofs::Spelling::field_fits), unfolding(crate::specs::Bytes::field_of))]
 pub fn field(bytes: &[u8], offset: usize, n: usize) -> u64
     requires { n ≤ 8 }
     ensures value { result ≡ field_of bytes.now offset n }
     ensures fits { result < 2 ^ (8 * n) }
-{
-    field_or_rest(bytes, offset, n)
-}
-
-/// What `field` returns.
-#[inline(always)]
-#[tactic(auto, unfolding(crate::specs::Bytes::field_of))]
-fn field_or_rest(bytes: &[u8], offset: usize, n: usize) -> u64
-    requires { n ≤ 8 }
-    ensures { result ≡ field_of bytes.now offset n }
 {
     if offset > bytes.len() {
         return 0;
@@ -110,23 +100,12 @@ fn field_or_rest(bytes: &[u8], offset: usize, n: usize) -> u64
 /// The little-endian number of the `n` bytes at an offset, for `n` of at most 8, all of which are there:
 /// nothing is tested (numbers: section 5.2).
 #[inline(always)]
-#[tactic(auto, using(crate::proofs::Spelling::field_fits))]
+#[tactic(auto, using(crate::proofs::Spelling::field_fits), unfolding(crate::specs::Bytes::field_of))]
 pub fn field_in(bytes: &[u8], offset: usize, n: usize) -> u64
     requires few { n ≤ 8 }
     requires there { offset + n ≤ length bytes.now }
     ensures value { result ≡ field_of bytes.now offset n }
     ensures fits { result < 2 ^ (8 * n) }
-{
-    field_there(bytes, offset, n)
-}
-
-/// What `field_in` returns.
-#[inline(always)]
-#[tactic(auto, unfolding(crate::specs::Bytes::field_of))]
-fn field_there(bytes: &[u8], offset: usize, n: usize) -> u64
-    requires few { n ≤ 8 }
-    requires there { offset + n ≤ length bytes.now }
-    ensures { result ≡ field_of bytes.now offset n }
 {
     let rest = &bytes[offset..];
     number_of(&rest[..n])

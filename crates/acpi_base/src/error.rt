@@ -1,4 +1,7 @@
 //! The refusals of this library.
+ghost use Rattle.std.specs.Prelude.{◌≡◌, Some};
+ghost use Rattle.acpi_base.specs.declared.error.AcpiError.TheVariants.{AllocError as NoMemory};
+ghost use Rattle.acpi_base.specs.ErrorText.{error_text, madt_error_text};
 
 use crate::table::signature::Signature;
 use std::alloc::AllocError;
@@ -50,9 +53,6 @@ pub enum AcpiError {
 }
 
 impl From<AllocError> for AcpiError {
-    ghost use Rattle.std.specs.Prelude.{◌≡◌};
-    ghost use Rattle.acpi_base.specs.declared.error.AcpiError.TheVariants.{AllocError as NoMemory};
-
     ghost from_gives = { λ _ e. e ≡ NoMemory };
 
     /// Makes `AllocError`, after an allocation failed.
@@ -63,9 +63,6 @@ impl From<AllocError> for AcpiError {
 
 /// Prints the variant's name and, after a space, the signature or the error that it carries.
 impl fmt::Display for AcpiError {
-    ghost use Rattle.std.specs.Prelude.{Some};
-    ghost use Rattle.acpi_base.specs.ErrorText.{error_text};
-
     ghost output = { λ e. Some (error_text e) };
 
     fn fmt<W: fmt::Write>(&self, f: &mut fmt::Formatter<W>) -> fmt::Result {
@@ -125,9 +122,6 @@ pub enum MadtError {
 
 /// Prints the variant's name.
 impl fmt::Display for MadtError {
-    ghost use Rattle.std.specs.Prelude.{Some};
-    ghost use Rattle.acpi_base.specs.ErrorText.{madt_error_text};
-
     ghost output = { λ e. Some (madt_error_text e) };
 
     fn fmt<W: fmt::Write>(&self, f: &mut fmt::Formatter<W>) -> fmt::Result {

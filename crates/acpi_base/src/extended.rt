@@ -1,5 +1,6 @@
 //! Fields that only tables of later revisions have.
 ghost use Rattle.std.specs.Prelude.{◌≡◌};
+ghost use Rattle.acpi_base.specs.Extended.{held_of, shown_of, extended_at};
 
 use crate::bytes::has_part;
 use crate::memory::handler::PhysicalRecord;
@@ -13,8 +14,6 @@ pub struct ExtendedField<T: Copy, const MIN_REVISION: u8> {
 }
 
 impl<T: Copy, const MIN_REVISION: u8> ExtendedField<T, MIN_REVISION> {
-    ghost use Rattle.acpi_base.specs.Extended.{held_of, shown_of};
-
     /// A field whose bytes encode this value, or `None` if they don't all lie in the table.
     #[inline(always)]
     pub fn new(value: Option<T>) -> Self
@@ -38,8 +37,6 @@ impl<T: Copy, const MIN_REVISION: u8> ExtendedField<T, MIN_REVISION> {
 }
 
 impl<T: Copy + PhysicalRecord, const MIN_REVISION: u8> ExtendedField<T, MIN_REVISION> {
-    ghost use Rattle.acpi_base.specs.Extended.{extended_at};
-
     /// The field of `T::MIN_LENGTH` bytes at an offset of a table or an entry, with a value if all of these
     /// bytes are there.
     #[inline(always)]

@@ -86,7 +86,7 @@ impl<T: Clone + Drop, A: Allocator + Clone> ManagedSlice<T, A> {
     /// Clones of the items, which have to equal them, in order, in memory of a clone of the allocator.
     ///
     /// Fails with `AllocError` if memory runs out, also for the clone of the allocator or of an item.
-    #[tactic(auto, using(crate::proofs::Equalities::clones_equal))]
+    #[tactic(auto, using(crate::proofs::Clones::clones_equal))]
     pub fn clone(&self) -> Result<ManagedSlice<T, A>, AllocError>
         requires { (x y : T) → Contains self.now x → T.is_clone x y → y ≡ x }
         ensures { IfOk result (λ s. s ≡ self.now) }

@@ -1,6 +1,7 @@
 //! A lender that may be asked for some ranges alone.
-ghost use Rattle.std.specs.Prelude.{◌&&◌};
+ghost use Rattle.std.specs.Prelude.{◌&&◌, ◌≡◌};
 ghost use Rattle.acpi_base.specs.Ranges.{is_listed};
+ghost use Rattle.acpi_base.specs.Guarded.{guarded_by, listed_by};
 
 use crate::error::AcpiResult;
 use crate::memory::handler::Lender;
@@ -17,9 +18,6 @@ pub struct Guarded<'h, H: Lender> {
 }
 
 impl<'h, H: Lender> Guarded<'h, H> {
-    ghost use Rattle.std.specs.Prelude.{◌≡◌};
-    ghost use Rattle.acpi_base.specs.Guarded.{guarded_by, listed_by};
-
     /// A lender over another one, or over a handler, that may be asked for these ranges alone: physical
     /// addresses, and how many bytes from each on.
     pub fn new(handler: &'h H, ranges: &'h [(u64, usize)]) -> Self

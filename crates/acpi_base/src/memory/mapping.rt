@@ -3,8 +3,6 @@ ghost use Rattle.std.specs.Prelude.{◌≡◌, ◌≤◌, length};
 ghost use Rattle.std.specs.Coded.{Coded-set};
 ghost use Rattle.acpi_base.specs.Claim.{shown_by};
 
-mod loan;
-
 use crate::error::AcpiResult;
 use crate::memory::claim::Claim;
 use crate::memory::handler::{Lender, PhysicalRecord};
@@ -101,6 +99,14 @@ impl<'h, H: Lender, T: PhysicalRecord> PhysicalMapping<'h, H, T> {
         ensures least { T.MIN_LENGTH ≤ length result.now }
     {
         self.claim.shown()
+    }
+
+    /// All bytes that were lent from `physical_start` on: those that are mapped as the record's, and as many
+    /// after them as the handler chose. A search that looks at more than one record there uses them.
+    pub fn lent_bytes(&self) -> &[u8]
+        ensures { result.now ≡ lent_of self.now }
+    {
+        self.claim.lent()
     }
 
     /// The handler that gets the notice when the mapping is dropped.

@@ -1,6 +1,13 @@
 //! A model that is being gathered.
-ghost use Rattle.std.specs.Prelude.{◌≡◌, [], vec_capacity, vec_len, IfOk};
+ghost use Rattle.std.specs.Prelude.{◌≡◌, [], vec_capacity, vec_len, IfOk, IfErr, List, ◌∷◌};
+ghost use Rattle.std.specs.List.{cons_option};
 ghost use Rattle.acpi_base.specs.declared.error.AcpiError.TheVariants.{AllocError as NoMemory};
+ghost use Rattle.acpi_base.specs.ModelBuilder.{HasRoom, HoldsRoom, model_behind};
+ghost use Rattle.acpi_base.specs.Model.{gathered};
+ghost use Rattle.acpi_base.specs.Items.{counts_of, item_said};
+ghost use Rattle.acpi_base.specs.declared.model.item.MadtItem.{MadtItem};
+ghost use Rattle.acpi_base.specs.Entries.{IsEntry};
+ghost use Rattle.acpi_base.specs.Madt.{madt_layout};
 
 use super::ModelAndProcessors;
 use super::counts::Counts;
@@ -27,12 +34,6 @@ pub(super) struct ModelBuilder<A: Allocator> {
 }
 
 impl<A: Allocator + Clone> ModelBuilder<A> {
-    ghost use Rattle.std.specs.Prelude.{IfOk, IfErr, List};
-    ghost use Rattle.acpi_base.specs.ModelBuilder.{HasRoom, HoldsRoom, model_behind};
-    ghost use Rattle.acpi_base.specs.Model.{gathered};
-    ghost use Rattle.acpi_base.specs.Items.{counts_of};
-    ghost use Rattle.acpi_base.specs.declared.model.item.MadtItem.{MadtItem};
-
     /// A model of no entries yet, with room for exactly as many items as are counted.
     ///
     /// Fails with `AllocError` if memory is refused, or a clone of the allocator.
@@ -62,14 +63,6 @@ impl<A: Allocator + Clone> ModelBuilder<A> {
 }
 
 impl<A: Allocator> ModelBuilder<A> {
-    ghost use Rattle.std.specs.Prelude.{◌∷◌, [], List};
-    ghost use Rattle.std.specs.List.{cons_option};
-    ghost use Rattle.acpi_base.specs.Entries.{IsEntry};
-    ghost use Rattle.acpi_base.specs.Items.{item_said};
-    ghost use Rattle.acpi_base.specs.Madt.{madt_layout};
-    ghost use Rattle.acpi_base.specs.ModelBuilder.{HasRoom, model_behind};
-    ghost use Rattle.acpi_base.specs.declared.model.item.MadtItem.{MadtItem};
-
     /// Adds the item of one more entry after the others. There is room for it.
     #[inline(always)]
     fn add(&mut self, item: MadtItem)

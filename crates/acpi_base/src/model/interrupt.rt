@@ -142,8 +142,6 @@ pub struct Apic<A: Allocator> {
 /// Clones with the fields of the original, or `AllocError` if memory is refused, or a clone of the
 /// allocator.
 impl<A: Allocator + Clone> Clone for Apic<A> {
-    ghost use Rattle.std.specs.Prelude.{◌≡◌};
-
     ghost is_clone = { λ x y. y ≡ x };
 
     fn clone(&self) -> Result<Apic<A>, AllocError> {

@@ -1,7 +1,7 @@
 //! ISA interrupts, and the one that carries the machine's events, as Interrupt Source Overrides wire them
 //! (section 5.2.12.5).
-ghost use Rattle.std.specs.Prelude.{◌≡◌};
-ghost use Rattle.acpi_base.specs.Isa.{straight, wired};
+ghost use Rattle.std.specs.Prelude.{◌≡◌, IfSome};
+ghost use Rattle.acpi_base.specs.Isa.{straight, wired, SharedByOverrides, isa_interrupt, sci_interrupt};
 ghost use Rattle.acpi_base.specs.IsaOverrides.{IsGathered};
 
 use super::interrupt::{Apic, InterruptSourceOverride, Polarity, TriggerMode};
@@ -21,9 +21,6 @@ pub struct IsaInterrupt {
 }
 
 impl<A: Allocator> Apic<A> {
-    ghost use Rattle.std.specs.Prelude.{IfSome};
-    ghost use Rattle.acpi_base.specs.Isa.{SharedByOverrides, isa_interrupt, sci_interrupt};
-
     /// Global System Interrupt of one of the 16 ISA interrupts, by the Interrupt Source Overrides (section
     /// 5.2.12.5).
     ///

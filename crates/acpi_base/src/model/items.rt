@@ -1,5 +1,9 @@
 //! What the entries of a MADT say, one after the other, with no memory for a list.
-ghost use Rattle.std.specs.Prelude.{◌≡◌};
+ghost use Rattle.std.specs.Prelude.{◌≡◌, ◌-◌, ◌*◌, ◌≤◌, length, ◌+◌};
+ghost use Rattle.std.specs.Iterator.{YieldsFirst, item_count};
+ghost use Rattle.acpi_base.specs.Items.{items_left, model_counts};
+ghost use Rattle.acpi_base.specs.Model.{items_of};
+ghost use Rattle.acpi_base.specs.Mapping.{bytes_of};
 
 use super::counts::Counts;
 use super::item::MadtItem;
@@ -18,10 +22,6 @@ pub struct MadtItems<'a> {
 }
 
 impl<'a> MadtItems<'a> {
-    ghost use Rattle.std.specs.Prelude.{◌-◌, ◌*◌, ◌≤◌, length};
-    ghost use Rattle.acpi_base.specs.Items.{items_left};
-    ghost use Rattle.acpi_base.specs.Model.{items_of};
-
     /// What the entries of a MADT's bytes say.
     #[tactic(auto, using(crate::proofs::EntryLists::said_items, crate::proofs::EntryLists::items_few))]
     fn over(table: &'a [u8]) -> Self
@@ -35,11 +35,6 @@ impl<'a> MadtItems<'a> {
 }
 
 impl<'h, H: Lender> PhysicalMapping<'h, H, Madt> {
-    ghost use Rattle.std.specs.Prelude.{◌+◌, ◌*◌, ◌≤◌, length};
-    ghost use Rattle.acpi_base.specs.Items.{items_left, model_counts};
-    ghost use Rattle.acpi_base.specs.Mapping.{bytes_of};
-    ghost use Rattle.acpi_base.specs.Model.{items_of};
-
     /// What the entries say, in order, for a caller with no heap: `parse_interrupt_model_in` sorts
     /// the same items into lists. `model_counts` fails first, if an entry is malformed.
     pub fn items(&self) -> MadtItems<'_>
@@ -60,9 +55,6 @@ impl<'h, H: Lender> PhysicalMapping<'h, H, Madt> {
 }
 
 impl Iterator for MadtItems<'_> {
-    ghost use Rattle.std.specs.Iterator.{YieldsFirst, item_count};
-    ghost use Rattle.acpi_base.specs.Items.{items_left};
-
     type Item = MadtItem;
 
     ghost next_gives = { YieldsFirst (λ s. items_left s) };

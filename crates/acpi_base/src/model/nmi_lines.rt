@@ -1,6 +1,7 @@
 //! The LINT pins of one processor's local APIC that NMIs are connected to (sections 5.2.12.7 and 5.2.12.13).
 ghost use Rattle.std.specs.Prelude.{◌≡◌};
-ghost use Rattle.acpi_base.specs.NmiLines.{is_line_of};
+ghost use Rattle.std.specs.Iterator.{YieldsFirst, item_count};
+ghost use Rattle.acpi_base.specs.NmiLines.{is_line_of, lines_for, lines_left};
 
 use super::interrupt::{Apic, NmiLine, NmiProcessor};
 use std::alloc::Allocator;
@@ -14,8 +15,6 @@ pub struct LocalNmiLines<'a> {
 }
 
 impl<A: Allocator> Apic<A> {
-    ghost use Rattle.acpi_base.specs.NmiLines.{lines_for, lines_left};
-
     /// The LINT pins that NMIs are connected to at the local APIC of the processor with this ACPI
     /// Processor UID: those of all processors and its own, in the order of their entries (ACPI 6.4,
     /// sections 5.2.12.7 and 5.2.12.13).
@@ -43,9 +42,6 @@ fn is_line_of(line: &NmiLine, processor_uid: u32) -> bool
 }
 
 impl Iterator for LocalNmiLines<'_> {
-    ghost use Rattle.std.specs.Iterator.{YieldsFirst, item_count};
-    ghost use Rattle.acpi_base.specs.NmiLines.{lines_left};
-
     type Item = NmiLine;
 
     ghost next_gives = { YieldsFirst (λ s. lines_left s) };

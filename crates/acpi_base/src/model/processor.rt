@@ -1,4 +1,5 @@
 //! The processors that a MADT lists (sections 5.2.12.2 and 5.2.12.12).
+ghost use Rattle.std.specs.Prelude.{◌≡◌};
 
 use crate::managed_slice::ManagedSlice;
 use std::alloc::{AllocError, Allocator};
@@ -41,8 +42,6 @@ pub struct ProcessorInfo<A: Allocator> {
 /// Clones with the fields of the original, or `AllocError` if memory is refused, or a clone of the
 /// allocator.
 impl<A: Allocator + Clone> Clone for ProcessorInfo<A> {
-    ghost use Rattle.std.specs.Prelude.{◌≡◌};
-
     ghost is_clone = { λ x y. y ≡ x };
 
     fn clone(&self) -> Result<ProcessorInfo<A>, AllocError> {

@@ -75,20 +75,12 @@ impl SdtHeader {
     /// UTF-8, `SdtInvalidOemId` and `SdtInvalidTableId` if that id is not valid UTF-8,
     /// `SdtInvalidLength` if the length is under 36 or above the number of bytes, and `SdtInvalidChecksum`
     /// if that many bytes don't sum to 0 modulo 256.
-    #[tactic(auto, using(crate::proofs::Sums::damage_shows))]
+    #[tactic(auto, using(crate::proofs::Sums::damage_shows), unfolding(crate::specs::Header::check_table, crate::specs::Header::header_at))]
     pub fn validate(&self, signature: Signature, bytes: &[u8]) -> AcpiResult<()>
         requires { self.now ≡ header_at bytes.now }
         ensures exact { result ≡ check_table signature bytes.now }
         // One changed byte of a valid table, outside the length field, is found.
         ensures damage { IsOk result → DamageShows signature bytes.now }
-    {
-        self.first_refusal(signature, bytes)
-    }
-
-    #[tactic(auto, unfolding(crate::specs::Header::check_table, crate::specs::Header::header_at))]
-    fn first_refusal(&self, signature: Signature, bytes: &[u8]) -> AcpiResult<()>
-        requires { self.now ≡ header_at bytes.now }
-        ensures { result ≡ check_table signature bytes.now }
     {
         self.validate_names(signature)?;
         let length = self.length as usize;

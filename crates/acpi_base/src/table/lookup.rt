@@ -1,7 +1,7 @@
 //! The table at an address (section 5.2.6).
 ghost use Rattle.std.specs.Prelude.{◌≡◌, true, ◌+◌, ◌^◌, ◌<◌, ◌≤◌, length, IfErr, IfOk, Ok, Err};
-ghost use Rattle.acpi_base.specs.Claim.{IsLentOf, claimed_at, claimed_from, shown_by, unchecked};
-ghost use Rattle.acpi_base.specs.Mapping.{IsOfMemory, start_of, bytes_of, handler_of};
+ghost use Rattle.acpi_base.specs.Claim.{IsLentOf, IsWholeClaim, claimed_at, claimed_from, shown_by, unchecked, all_of};
+ghost use Rattle.acpi_base.specs.Mapping.{IsOfMemory, start_of, bytes_of, handler_of, lent_of};
 ghost use Rattle.acpi_base.specs.Ranges.{Allows, own_table_ranges, table_ranges, whole_ranges};
 ghost use Rattle.acpi_base.specs.Steps.{Gives, lent};
 ghost use Rattle.acpi_base.specs.Table.{Kind, own_table_at, plain_kind, table_at};
@@ -55,12 +55,8 @@ fn claim_whole<'h, H: Lender>(
     requires some { 0 < least }
     requires asked { Allows (H.may (claimed_from head))
         (whole_ranges signature least (claimed_at head) (shown_by head)) }
-    ensures start { IfOk result (λ c. claimed_at c ≡ claimed_at head.entry) }
-    ensures handler { IfOk result (λ c. claimed_from c ≡ claimed_from head.entry) }
-    ensures long { IfOk result (λ c. least ≤ length (shown_by c)) }
-    ensures short { IfOk result (λ c. length (shown_by c) < 2 ^ 32) }
-    ensures ends { IfOk result (λ c. claimed_at c + length (shown_by c) < 2 ^ 64) }
-    ensures all { IfOk result (λ c. IsLentOf (H.memory (claimed_from head.entry)) c) }
+    ensures whole { let m = H.memory (claimed_from head.entry) in
+        IfOk result (λ c. IsWholeClaim m head.entry least c) }
     ensures shown { let m = H.memory (claimed_from head.entry) in Gives (λ c. shown_by c) result
         (table_at m (unchecked signature least) (claimed_at head.entry)) }
 {
@@ -80,9 +76,6 @@ pub struct ValidTable<'h, H: Lender> {
 }
 
 impl<'h, H: Lender> ValidTable<'h, H> {
-    ghost use Rattle.acpi_base.specs.Claim.{all_of};
-    ghost use Rattle.acpi_base.specs.Mapping.{lent_of};
-
     /// The mapping of these bytes: the table's record, and its bytes.
     #[inline(always)]
     pub fn mapping<T: PhysicalRecord>(self) -> PhysicalMapping<'h, H, T>
@@ -105,10 +98,8 @@ fn claim_valid<'h, H: Lender, T: AcpiTable>(head: Claim<'h, H>) -> AcpiResult<Va
     requires lent { IsLentOf (H.memory (claimed_from head)) head }
     requires asked { Allows (H.may (claimed_from head))
         (whole_ranges T.kind.signature T.kind.least (claimed_at head) (shown_by head)) }
-    ensures start { IfOk result (λ v. claimed_at v.claim ≡ claimed_at head.entry) }
-    ensures handler { IfOk result (λ v. claimed_from v.claim ≡ claimed_from head.entry) }
-    ensures least { IfOk result (λ v. T.MIN_LENGTH ≤ length (shown_by v.claim)) }
-    ensures all { IfOk result (λ v. IsLentOf (H.memory (claimed_from head.entry)) v.claim) }
+    ensures whole { let m = H.memory (claimed_from head.entry) in
+        IfOk result (λ v. IsWholeClaim m head.entry T.MIN_LENGTH v.claim) }
     ensures shown { let m = H.memory (claimed_from head.entry) in Gives (λ v. shown_by v.claim) result
         (table_at m T.kind (claimed_at head.entry)) }
 {

@@ -1,8 +1,8 @@
 //! Signatures: the four bytes that name a table (section 5.2.6).
-ghost use Rattle.std.specs.Prelude.{◌≡◌, ◌<◌, ◌≤◌, length, Some};
+ghost use Rattle.std.specs.Prelude.{◌≡◌, ◌<◌, ◌≤◌, length, Some, [], ◌∷◌};
 ghost use Rattle.std.specs.Str.{bytes_eq};
 ghost use Rattle.acpi_base.specs.Bytes.{part};
-ghost use Rattle.acpi_base.specs.Text.{IsTextOf, hex_digit, letters_of, signature_text};
+ghost use Rattle.acpi_base.specs.Text.{IsTextOf, hex_digit, letters_of, signature_text, hex_text};
 
 use crate::bytes::text_of;
 use std::fmt;
@@ -263,9 +263,6 @@ fn hex_char(digit: u8) -> char
 struct HexByte(u8);
 
 impl fmt::Display for HexByte {
-    ghost use Rattle.std.specs.Prelude.{[], ◌∷◌};
-    ghost use Rattle.acpi_base.specs.Text.{hex_text};
-
     ghost output = { λ b. Some (hex_text (b.0 ∷ [])) };
 
     fn fmt<W: fmt::Write>(&self, f: &mut fmt::Formatter<W>) -> fmt::Result {

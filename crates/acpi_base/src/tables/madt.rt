@@ -1,6 +1,14 @@
 //! The Multiple APIC Description Table (MADT): interrupt controllers and processors (section 5.2.12).
-ghost use Rattle.std.specs.Prelude.{◌≡◌};
-ghost use Rattle.acpi_base.specs.Madt.{mailbox_of};
+ghost use Rattle.std.specs.Prelude.{◌≡◌, ◌+◌, ◌*◌, ◌≤◌, length, false};
+ghost use Rattle.std.proofs.Common.{lit≤, refl};
+ghost use Rattle.acpi_base.specs.Madt.{mailbox_of, madt_at, cut_of, entries_of};
+ghost use Rattle.acpi_base.specs.Table.{sdt_kind};
+ghost use Rattle.acpi_base.specs.declared.table.signature.TheConstants.Signature.{MADT};
+ghost use Rattle.acpi_base.specs.Bits.{has_bit};
+ghost use Rattle.acpi_base.specs.MadtWalk.{entries_left, has_ended, rest_left};
+ghost use Rattle.acpi_base.specs.Mapping.{bytes_of};
+ghost use Rattle.acpi_base.specs.Model.{AsksMemory, model_of};
+ghost use Rattle.acpi_base.specs.Steps.{GivesOrFull};
 
 mod apic;
 mod entry;
@@ -49,8 +57,6 @@ pub struct Madt {
 }
 
 impl PhysicalRecord for Madt {
-    ghost use Rattle.acpi_base.specs.Madt.{madt_at};
-
     const MIN_LENGTH: usize = 44;
 
     ghost MIN_LENGTH = { 44 };
@@ -68,10 +74,6 @@ impl PhysicalRecord for Madt {
 }
 
 impl AcpiTable for Madt {
-    ghost use Rattle.std.proofs.Common.{lit≤, refl};
-    ghost use Rattle.acpi_base.specs.Table.{sdt_kind};
-    ghost use Rattle.acpi_base.specs.declared.table.signature.TheConstants.Signature.{MADT};
-
     const SIGNATURE: Signature = Signature::MADT;
 
     ghost SIGNATURE = { MADT };
@@ -97,8 +99,6 @@ impl AcpiTable for Madt {
 }
 
 impl Madt {
-    ghost use Rattle.acpi_base.specs.Bits.{has_bit};
-
     /// PCAT_COMPAT (bit 0 of the flags, section 5.2.12): whether the machine has a pair of 8259 controllers
     /// too, which are to be masked if the APICs are used.
     pub fn supports_8259(&self) -> bool
@@ -127,13 +127,6 @@ fn mailbox_address(table: &[u8]) -> AcpiResult<u64>
 }
 
 impl<'h, H: Lender> PhysicalMapping<'h, H, Madt> {
-    ghost use Rattle.std.specs.Prelude.{◌+◌, ◌*◌, ◌≤◌, length, false};
-    ghost use Rattle.acpi_base.specs.Madt.{cut_of, entries_of};
-    ghost use Rattle.acpi_base.specs.MadtWalk.{entries_left, has_ended, rest_left};
-    ghost use Rattle.acpi_base.specs.Mapping.{bytes_of};
-    ghost use Rattle.acpi_base.specs.Model.{AsksMemory, model_of};
-    ghost use Rattle.acpi_base.specs.Steps.{GivesOrFull};
-
     /// The entries of this MADT, of types 0 to 0x10, in order (section 5.2.12): at most half as many as the
     /// table has bytes after its 44 fixed ones.
     pub fn entries(&self) -> MadtEntryIter<'_>
@@ -141,6 +134,8 @@ impl<'h, H: Lender> PhysicalMapping<'h, H, Madt> {
         ensures rest { rest_left result ≡ (cut_of (bytes_of self.now)).1 }
         ensures begun { has_ended result ≡ false }
         ensures few { 2 * length (entries_left result) + 44 ≤ length (bytes_of self.now) }
+        // So few are all entries, those of other types among them, that a walk steps over.
+        ensures all_few { 2 * length (cut_of (bytes_of self.now)).0 + 44 ≤ length (bytes_of self.now) }
     {
         MadtEntryIter::over(self.bytes())
     }

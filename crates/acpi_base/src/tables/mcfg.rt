@@ -1,5 +1,12 @@
 //! The MCFG: the regions of memory that hold the configuration space of PCI functions (PCI Firmware
 //! Specification; ACPI 6.4, section 5.2.6, reserves the signature).
+ghost use Rattle.std.specs.Prelude.{◌≡◌, ◌-◌, ◌/◌, length};
+ghost use Rattle.std.proofs.Common.{lit≤, refl};
+ghost use Rattle.std.specs.Iterator.{YieldsFirst, item_count};
+ghost use Rattle.acpi_base.specs.Mcfg.{mcfg_at, mcfg_entry_at, mcfg_entries_left, mcfg_entries_of};
+ghost use Rattle.acpi_base.specs.Table.{sdt_kind};
+ghost use Rattle.acpi_base.specs.declared.table.signature.TheConstants.Signature.{MCFG};
+ghost use Rattle.acpi_base.specs.Mapping.{bytes_of};
 
 mod ecam;
 
@@ -20,8 +27,6 @@ pub struct Mcfg {
 }
 
 impl PhysicalRecord for Mcfg {
-    ghost use Rattle.acpi_base.specs.Mcfg.{mcfg_at};
-
     const MIN_LENGTH: usize = 44;
 
     ghost MIN_LENGTH = { 44 };
@@ -37,10 +42,6 @@ impl PhysicalRecord for Mcfg {
 }
 
 impl AcpiTable for Mcfg {
-    ghost use Rattle.std.proofs.Common.{lit≤, refl};
-    ghost use Rattle.acpi_base.specs.Table.{sdt_kind};
-    ghost use Rattle.acpi_base.specs.declared.table.signature.TheConstants.Signature.{MCFG};
-
     const SIGNATURE: Signature = Signature::MCFG;
 
     ghost SIGNATURE = { MCFG };
@@ -83,8 +84,6 @@ pub struct McfgEntry {
 }
 
 impl PhysicalRecord for McfgEntry {
-    ghost use Rattle.acpi_base.specs.Mcfg.{mcfg_entry_at};
-
     const MIN_LENGTH: usize = 16;
 
     ghost MIN_LENGTH = { 16 };
@@ -109,9 +108,6 @@ pub struct McfgEntryIter<'a> {
 }
 
 impl<'a> McfgEntryIter<'a> {
-    ghost use Rattle.std.specs.Prelude.{◌≡◌, ◌-◌, ◌/◌, length};
-    ghost use Rattle.acpi_base.specs.Mcfg.{mcfg_entries_left, mcfg_entries_of};
-
     /// The entries of an MCFG's bytes: as many as there are whole ones after its 44 fixed bytes. It needs no
     /// handler.
     #[tactic(auto, using(crate::proofs::EntryLists::length_entries_of))]
@@ -126,9 +122,6 @@ impl<'a> McfgEntryIter<'a> {
 }
 
 impl Iterator for McfgEntryIter<'_> {
-    ghost use Rattle.std.specs.Iterator.{YieldsFirst, item_count};
-    ghost use Rattle.acpi_base.specs.Mcfg.{mcfg_entries_left};
-
     type Item = McfgEntry;
 
     ghost next_gives = { YieldsFirst (λ s. mcfg_entries_left s) };
@@ -154,10 +147,6 @@ impl ExactSizeIterator for McfgEntryIter<'_> {
 }
 
 impl<'h, H: Lender> PhysicalMapping<'h, H, Mcfg> {
-    ghost use Rattle.std.specs.Prelude.{◌≡◌, ◌-◌, ◌/◌, length};
-    ghost use Rattle.acpi_base.specs.Mapping.{bytes_of};
-    ghost use Rattle.acpi_base.specs.Mcfg.{mcfg_entries_left, mcfg_entries_of};
-
     /// The entries of this MCFG, in order: as many as there are whole ones after its 44 fixed bytes (section
     /// 5.2.6 reserves the signature).
     pub fn entries(&self) -> McfgEntryIter<'_>

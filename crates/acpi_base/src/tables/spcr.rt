@@ -1,7 +1,13 @@
 //! The Serial Port Console Redirection Table (SPCR): the serial console that the firmware used.
 ghost use Rattle.std.specs.Prelude.{◌≡◌, Some, None, if◌then◌else◌};
-ghost use Rattle.acpi_base.specs.Spcr.{name_of, namespace_in};
+ghost use Rattle.std.proofs.Common.{lit≤, refl};
+ghost use Rattle.std.specs.Int.RustNames.{bit_and};
+ghost use Rattle.acpi_base.specs.Spcr.{name_of, namespace_in, spcr_at, base_of, baud_of, bus_of, clock_of, device_id_of, device_of, function_of, interface_in, interrupt_of, irq_of, vendor_id_of, flow_byte, interrupt_byte, terminal_byte, namespace_of};
 ghost use Rattle.acpi_base.specs.Text.{Shows};
+ghost use Rattle.acpi_base.specs.Table.{sdt_kind};
+ghost use Rattle.acpi_base.specs.declared.table.signature.TheConstants.Signature.{SPCR};
+ghost use Rattle.acpi_base.specs.SpcrFlags.{flow_bits, interrupt_bits, terminal_bits};
+ghost use Rattle.acpi_base.specs.Mapping.{bytes_of};
 
 mod flags;
 mod interface;
@@ -56,8 +62,6 @@ pub struct Spcr {
 }
 
 impl PhysicalRecord for Spcr {
-    ghost use Rattle.acpi_base.specs.Spcr.{spcr_at};
-
     const MIN_LENGTH: usize = 80;
 
     ghost MIN_LENGTH = { 80 };
@@ -95,10 +99,6 @@ impl PhysicalRecord for Spcr {
 }
 
 impl AcpiTable for Spcr {
-    ghost use Rattle.std.proofs.Common.{lit≤, refl};
-    ghost use Rattle.acpi_base.specs.Table.{sdt_kind};
-    ghost use Rattle.acpi_base.specs.declared.table.signature.TheConstants.Signature.{SPCR};
-
     const SIGNATURE: Signature = Signature::SPCR;
 
     ghost SIGNATURE = { SPCR };
@@ -124,13 +124,6 @@ impl AcpiTable for Spcr {
 }
 
 impl Spcr {
-    ghost use Rattle.std.specs.Int.RustNames.{bit_and};
-    ghost use Rattle.acpi_base.specs.Spcr.{base_of, baud_of, bus_of, clock_of, device_id_of};
-    ghost use Rattle.acpi_base.specs.Spcr.{device_of, function_of, interface_in, interrupt_of};
-    ghost use Rattle.acpi_base.specs.Spcr.{irq_of, vendor_id_of};
-    ghost use Rattle.acpi_base.specs.Spcr.{flow_byte, interrupt_byte, terminal_byte};
-    ghost use Rattle.acpi_base.specs.SpcrFlags.{flow_bits, interrupt_bits, terminal_bits};
-
     /// Interface Type: the interface of the serial port's registers.
     pub fn interface_type(&self) -> SpcrInterfaceType
         ensures { result ≡ interface_in self.now }
@@ -301,9 +294,6 @@ fn name_of(bytes: &[u8]) -> AcpiResult<&str>
 }
 
 impl<'h, H: Lender> PhysicalMapping<'h, H, Spcr> {
-    ghost use Rattle.acpi_base.specs.Mapping.{bytes_of};
-    ghost use Rattle.acpi_base.specs.Spcr.{namespace_of};
-
     /// NamespaceString: the name of the port's object in the ACPI namespace, or `.` if it has none. It has
     /// NamespaceStringLength bytes, from NamespaceStringOffset on, counted from the table's first byte.
     ///

@@ -7,7 +7,8 @@ split_at-requires g c = (next_is c.args.grammar.now c.args.bytes.now c.args.size
 
 pub returns-clause-found : goal.returns-clause-found
 returns-clause-found g c =
-    rw (c.split_at.ensures.front, c.split_at.ensures.back) (cut_front c.args.grammar.now c.args.bytes.now c.args.size c.requires)
+    rw (c.split_at.ensures.front, c.split_at.ensures.back)
+    (cut_front c.args.grammar.now c.args.bytes.now c.args.size c.requires)
 
 pub returns-clause-entry : goal.returns-clause-entry
 returns-clause-entry g c =

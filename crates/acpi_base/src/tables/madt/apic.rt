@@ -1,4 +1,5 @@
 //! Entries of the APIC model (ACPI 6.4, sections 5.2.12.2 to 5.2.12.8, 5.2.12.12 and 5.2.12.13).
+ghost use Rattle.acpi_base.specs.MadtEntries.{local_apic_at, io_apic_at, interrupt_source_override_at, nmi_source_at, local_apic_nmi_at, local_apic_address_override_at, local_x2apic_at, x2apic_nmi_at};
 
 use super::entry::EntryHeader;
 use crate::bytes::{field_in, u8_in, u16_in, u32_in};
@@ -18,8 +19,6 @@ pub struct LocalApicEntry {
 }
 
 impl PhysicalRecord for LocalApicEntry {
-    ghost use Rattle.acpi_base.specs.MadtEntries.{local_apic_at};
-
     const MIN_LENGTH: usize = 8;
 
     ghost MIN_LENGTH = { 8 };
@@ -50,8 +49,6 @@ pub struct IoApicEntry {
 }
 
 impl PhysicalRecord for IoApicEntry {
-    ghost use Rattle.acpi_base.specs.MadtEntries.{io_apic_at};
-
     const MIN_LENGTH: usize = 12;
 
     ghost MIN_LENGTH = { 12 };
@@ -85,8 +82,6 @@ pub struct InterruptSourceOverrideEntry {
 }
 
 impl PhysicalRecord for InterruptSourceOverrideEntry {
-    ghost use Rattle.acpi_base.specs.MadtEntries.{interrupt_source_override_at};
-
     const MIN_LENGTH: usize = 10;
 
     ghost MIN_LENGTH = { 10 };
@@ -116,8 +111,6 @@ pub struct NmiSourceEntry {
 }
 
 impl PhysicalRecord for NmiSourceEntry {
-    ghost use Rattle.acpi_base.specs.MadtEntries.{nmi_source_at};
-
     const MIN_LENGTH: usize = 8;
 
     ghost MIN_LENGTH = { 8 };
@@ -148,8 +141,6 @@ pub struct LocalApicNmiEntry {
 }
 
 impl PhysicalRecord for LocalApicNmiEntry {
-    ghost use Rattle.acpi_base.specs.MadtEntries.{local_apic_nmi_at};
-
     const MIN_LENGTH: usize = 6;
 
     ghost MIN_LENGTH = { 6 };
@@ -177,8 +168,6 @@ pub struct LocalApicAddressOverrideEntry {
 }
 
 impl PhysicalRecord for LocalApicAddressOverrideEntry {
-    ghost use Rattle.acpi_base.specs.MadtEntries.{local_apic_address_override_at};
-
     const MIN_LENGTH: usize = 12;
 
     ghost MIN_LENGTH = { 12 };
@@ -207,8 +196,6 @@ pub struct LocalX2ApicEntry {
 }
 
 impl PhysicalRecord for LocalX2ApicEntry {
-    ghost use Rattle.acpi_base.specs.MadtEntries.{local_x2apic_at};
-
     const MIN_LENGTH: usize = 16;
 
     ghost MIN_LENGTH = { 16 };
@@ -240,8 +227,6 @@ pub struct X2ApicNmiEntry {
 }
 
 impl PhysicalRecord for X2ApicNmiEntry {
-    ghost use Rattle.acpi_base.specs.MadtEntries.{x2apic_nmi_at};
-
     const MIN_LENGTH: usize = 12;
 
     ghost MIN_LENGTH = { 12 };

@@ -1,4 +1,8 @@
 //! One entry of a MADT (section 5.2.12).
+ghost use Rattle.std.specs.Prelude.{◌≡◌, ◌≤◌, Some, slice_index};
+ghost use Rattle.acpi_base.specs.MadtEntries.{entry_header_at};
+ghost use Rattle.acpi_base.specs.Entries.{IsEntry};
+ghost use Rattle.acpi_base.specs.Madt.{entry_of, madt_layout};
 
 use super::apic::{
     InterruptSourceOverrideEntry, IoApicEntry, LocalApicAddressOverrideEntry, LocalApicEntry,
@@ -24,8 +28,6 @@ pub struct EntryHeader {
 }
 
 impl PhysicalRecord for EntryHeader {
-    ghost use Rattle.acpi_base.specs.MadtEntries.{entry_header_at};
-
     const MIN_LENGTH: usize = 2;
 
     ghost MIN_LENGTH = { 2 };
@@ -119,10 +121,6 @@ pub(crate) const MADT_GRAMMAR: Grammar<17> = Grammar {
 };
 
 impl MadtEntry {
-    ghost use Rattle.std.specs.Prelude.{◌≡◌, ◌≤◌, Some, slice_index};
-    ghost use Rattle.acpi_base.specs.Entries.{IsEntry};
-    ghost use Rattle.acpi_base.specs.Madt.{entry_of, madt_layout};
-
     /// The last type that is defined.
     pub(crate) const LAST_TYPE: usize = 0x10;
 

@@ -1,4 +1,5 @@
 //! Entries of the GIC model (ACPI 6.4, sections 5.2.12.14 to 5.2.12.18).
+ghost use Rattle.acpi_base.specs.MadtEntries.{gicc_at, gicd_at, gic_msi_frame_at, gic_redistributor_at, gic_translation_service_at};
 
 use super::entry::EntryHeader;
 use crate::bytes::{field, field_in, u8_in, u16_in, u32_in};
@@ -48,8 +49,6 @@ pub struct GiccEntry {
 }
 
 impl PhysicalRecord for GiccEntry {
-    ghost use Rattle.acpi_base.specs.MadtEntries.{gicc_at};
-
     const MIN_LENGTH: usize = 76;
 
     ghost MIN_LENGTH = { 76 };
@@ -94,8 +93,6 @@ pub struct GicdEntry {
 }
 
 impl PhysicalRecord for GicdEntry {
-    ghost use Rattle.acpi_base.specs.MadtEntries.{gicd_at};
-
     const MIN_LENGTH: usize = 24;
 
     ghost MIN_LENGTH = { 24 };
@@ -131,8 +128,6 @@ pub struct GicMsiFrameEntry {
 }
 
 impl PhysicalRecord for GicMsiFrameEntry {
-    ghost use Rattle.acpi_base.specs.MadtEntries.{gic_msi_frame_at};
-
     const MIN_LENGTH: usize = 24;
 
     ghost MIN_LENGTH = { 24 };
@@ -163,8 +158,6 @@ pub struct GicRedistributorEntry {
 }
 
 impl PhysicalRecord for GicRedistributorEntry {
-    ghost use Rattle.acpi_base.specs.MadtEntries.{gic_redistributor_at};
-
     const MIN_LENGTH: usize = 16;
 
     ghost MIN_LENGTH = { 16 };
@@ -193,8 +186,6 @@ pub struct GicInterruptTranslationServiceEntry {
 }
 
 impl PhysicalRecord for GicInterruptTranslationServiceEntry {
-    ghost use Rattle.acpi_base.specs.MadtEntries.{gic_translation_service_at};
-
     const MIN_LENGTH: usize = 20;
 
     ghost MIN_LENGTH = { 20 };

@@ -1,4 +1,5 @@
 //! Entries of the SAPIC model (ACPI 6.4, sections 5.2.12.9 to 5.2.12.11).
+ghost use Rattle.acpi_base.specs.MadtEntries.{io_sapic_at, local_sapic_at, platform_interrupt_source_at};
 
 use super::entry::EntryHeader;
 use crate::bytes::{field_in, u8_in, u16_in, u32_in};
@@ -18,8 +19,6 @@ pub struct IoSapicEntry {
 }
 
 impl PhysicalRecord for IoSapicEntry {
-    ghost use Rattle.acpi_base.specs.MadtEntries.{io_sapic_at};
-
     const MIN_LENGTH: usize = 16;
 
     ghost MIN_LENGTH = { 16 };
@@ -55,8 +54,6 @@ pub struct LocalSapicEntry {
 }
 
 impl PhysicalRecord for LocalSapicEntry {
-    ghost use Rattle.acpi_base.specs.MadtEntries.{local_sapic_at};
-
     const MIN_LENGTH: usize = 16;
 
     ghost MIN_LENGTH = { 16 };
@@ -97,8 +94,6 @@ pub struct PlatformInterruptSourceEntry {
 }
 
 impl PhysicalRecord for PlatformInterruptSourceEntry {
-    ghost use Rattle.acpi_base.specs.MadtEntries.{platform_interrupt_source_at};
-
     const MIN_LENGTH: usize = 16;
 
     ghost MIN_LENGTH = { 16 };

@@ -1,4 +1,7 @@
 //! The Multiprocessor Wakeup entry and its mailbox, by which processors are woken (section 5.2.12.19).
+ghost use Rattle.std.specs.Prelude.{◌≡◌};
+ghost use Rattle.acpi_base.specs.MadtEntries.{multiprocessor_wakeup_at};
+ghost use Rattle.acpi_base.specs.Wakeup.{command_of};
 
 use super::entry::EntryHeader;
 use crate::bytes::{field_in, u16_in};
@@ -17,8 +20,6 @@ pub struct MultiprocessorWakeupEntry {
 }
 
 impl PhysicalRecord for MultiprocessorWakeupEntry {
-    ghost use Rattle.acpi_base.specs.MadtEntries.{multiprocessor_wakeup_at};
-
     const MIN_LENGTH: usize = 16;
 
     ghost MIN_LENGTH = { 16 };
@@ -49,9 +50,6 @@ pub enum MpProtectedModeWakeupCommand {
 
 impl TryFrom<u16> for MpProtectedModeWakeupCommand {
     type Error = u16;
-
-    ghost use Rattle.std.specs.Prelude.{◌≡◌};
-    ghost use Rattle.acpi_base.specs.Wakeup.{command_of};
 
     ghost try_from_gives = { λ number r. r ≡ command_of number };
 

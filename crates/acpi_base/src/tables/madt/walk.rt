@@ -1,8 +1,9 @@
 //! The entries of a MADT, one at a time (section 5.2.12).
-ghost use Rattle.std.specs.Prelude.{◌≡◌, ◌≤◌, ◌↔◌, length, slice_index, true};
-ghost use Rattle.acpi_base.specs.Entries.{cut};
-ghost use Rattle.acpi_base.specs.Madt.{madt_grammar};
-ghost use Rattle.acpi_base.specs.MadtWalk.{BeginsDefined, entries_in};
+ghost use Rattle.std.specs.Prelude.{◌≡◌, ◌≤◌, ◌↔◌, length, slice_index, true, ◌*◌, ◌-◌, false, [], IfSome, IfNone};
+ghost use Rattle.std.specs.Iterator.{YieldsFirst, item_count};
+ghost use Rattle.acpi_base.specs.Entries.{cut, IsEntry, after_one, with_entry};
+ghost use Rattle.acpi_base.specs.Madt.{madt_grammar, cut_of, entries_of, madt_layout};
+ghost use Rattle.acpi_base.specs.MadtWalk.{BeginsDefined, entries_in, entries_left, has_ended, is_malformed, rest_left, EndsAtRest};
 
 use super::Madt;
 use super::entry::{MADT_GRAMMAR, MadtEntry};
@@ -20,11 +21,6 @@ pub struct MadtEntryIter<'a> {
 }
 
 impl<'a> MadtEntryIter<'a> {
-    ghost use Rattle.std.specs.Prelude.{◌≡◌, ◌*◌, ◌-◌, ◌≤◌, length, false, [], IfSome, IfNone};
-    ghost use Rattle.acpi_base.specs.Entries.{IsEntry, after_one, with_entry};
-    ghost use Rattle.acpi_base.specs.Madt.{cut_of, entries_of, madt_layout};
-    ghost use Rattle.acpi_base.specs.MadtWalk.{entries_left, has_ended, is_malformed, rest_left};
-
     /// The entries of a MADT's bytes (section 5.2.12): those after its 44 fixed bytes. It needs no handler.
     #[tactic(auto, using(crate::proofs::EntryLists::entries_few, crate::proofs::EntryLists::cut_of_few))]
     pub fn over(table: &'a [u8]) -> Self
@@ -75,9 +71,6 @@ impl<'a> MadtEntryIter<'a> {
 }
 
 impl Iterator for MadtEntryIter<'_> {
-    ghost use Rattle.std.specs.Iterator.{YieldsFirst, item_count};
-    ghost use Rattle.acpi_base.specs.MadtWalk.{EndsAtRest, entries_left};
-
     type Item = MadtEntry;
 
     ghost next_gives = { λ s r t. YieldsFirst (λ x. entries_left x) s r t × EndsAtRest s r t };

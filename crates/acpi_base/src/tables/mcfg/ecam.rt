@@ -1,12 +1,11 @@
 //! The addresses of the configuration space of a region's functions, by the base of bus 0.
 ghost use Rattle.std.specs.Prelude.{◌≡◌};
+ghost use Rattle.acpi_base.specs.Ecam.{ecam_in, ecam_range};
 
 use super::McfgEntry;
 use crate::range::AddressRange;
 
 impl McfgEntry {
-    ghost use Rattle.acpi_base.specs.Ecam.{ecam_in, ecam_range};
-
     /// The physical address of the configuration space of a PCI function of this region, with its base
     /// taken as that of bus 0 (PCI Firmware Specification, section 4.1.2): the base, plus 2^20 bytes for each
     /// bus, 2^15 for each device and 2^12 for each function.

@@ -1,4 +1,6 @@
 //! Interface Type of the SPCR: the interfaces of a serial port's registers.
+ghost use Rattle.std.specs.Prelude.{◌≡◌};
+ghost use Rattle.acpi_base.specs.Spcr.{interface_of};
 
 /// Interface Type: the interface of a serial port's registers, by its code in the SPCR.
 #[derive(Clone, Copy, Debug, PartialEq, Eq)]
@@ -50,9 +52,6 @@ pub enum SpcrInterfaceType {
 }
 
 impl From<u8> for SpcrInterfaceType {
-    ghost use Rattle.std.specs.Prelude.{◌≡◌};
-    ghost use Rattle.acpi_base.specs.Spcr.{interface_of};
-
     ghost from_gives = { λ code r. r ≡ interface_of code };
 
     /// The interface of a code of Interface Type.

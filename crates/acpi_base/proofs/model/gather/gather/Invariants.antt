@@ -12,7 +12,8 @@ use Rattle.acpi_base.proofs.model.gather.gather.Given as goal
 abbrev pub invariant-loop-entry : goal.invariant-loop-entry
 invariant-loop-entry g l =
     let left = filter_map result_ok (said_in l.rest) in
-    (model_behind l.builder left ≡ gathered l.madt (items_of l.table)) × HasRoom l.builder left × ((cut madt_grammar l.rest).1 ≡ [])
+    (model_behind l.builder left ≡ gathered l.madt (items_of l.table)) × HasRoom l.builder left
+    × ((cut madt_grammar l.rest).1 ≡ [])
 
 abbrev pub decreases-loop-entry : goal.decreases-loop-entry
 decreases-loop-entry g l = length l.rest

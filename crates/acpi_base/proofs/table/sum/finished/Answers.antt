@@ -11,5 +11,7 @@ returns c =
     let bytes = c.args.bytes.now in
     let there : length bytes - (length bytes - at) ≡ at = omega (arith, c.one_more-at-3.ensures.within) in
     let rest = adds_up_last bytes (length bytes - at) c.requires.long (omega arith) in
-    let last : AddsUp (zip2 bit_and (chunk (length bytes - 16) 16 bytes) (chunk (length bytes - at) 16 masks)) (drop at bytes) = rw there at rest in
-    rw (c.vector_at.ensures, c.vector_at-2.ensures) (adds_up_whole c.one_more-at-3.result.0 _ bytes at c.one_more-at-3.ensures.sums last)
+    let last : AddsUp (zip2 bit_and (chunk (length bytes - 16) 16 bytes) (chunk (length bytes - at) 16 masks))
+    (drop at bytes) = rw there at rest in
+    rw (c.vector_at.ensures, c.vector_at-2.ensures)
+    (adds_up_whole c.one_more-at-3.result.0 _ bytes at c.one_more-at-3.ensures.sums last)

@@ -3,4 +3,5 @@ use Rattle.acpi_base.proofs.table.sum.with_vector.Goals as goal
 
 pub returns : goal.returns
 returns c = λ end is.
-    rw c.vector_at.ensures (adds_up_next c.args.lanes c.args.bytes.now c.args.at end is c.requires.there c.requires.sums)
+    rw c.vector_at.ensures (adds_up_next c.args.lanes c.args.bytes.now c.args.at end is c.requires.there
+    c.requires.sums)

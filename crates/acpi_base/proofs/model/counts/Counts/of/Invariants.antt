@@ -11,7 +11,8 @@ use Rattle.acpi_base.proofs.model.counts.Counts.of.Given as goal
 -- each count has room for all that is left
 abbrev has_room : Counts → ℕ → ℕ → Type 0
 has_room c left most =
-    (c.processors + left ≤ most) × (c.io_apics + left ≤ most) × (c.overrides + left ≤ most) × (c.nmi_sources + left ≤ most) × (c.nmi_lines + left ≤ most)
+    (c.processors + left ≤ most) × (c.io_apics + left ≤ most) × (c.overrides + left ≤ most)
+    × (c.nmi_sources + left ≤ most) × (c.nmi_lines + left ≤ most)
 
 -- no entry so far is refused, what is counted and what is left are the whole, and the rest is the same
 abbrev pub invariant-loop-entry : goal.invariant-loop-entry

@@ -1,0 +1,18 @@
+use Rattle.std.proofs.Common.{arith}
+use Rattle.std.proofs.lemmas.Grind.{common_steps}
+use Rattle.std.proofs.Common.{take-take, take_all}
+use Rattle.acpi_base.proofs.Spelling.{field_fits}
+use Rattle.acpi_base.specs.Bytes.{field_of}
+use Rattle.acpi_base.proofs.bytes.field.Goals as goal
+
+pub returns-then-n-rest-clause-fits : goal.returns-then-n-rest-clause-fits
+unfolding field_of
+returns-then-n-rest-clause-fits c =
+    let fits = field_fits c.args.bytes.now c.args.offset c.args.n c.type_inv.bytes in
+    grind (arith, common_steps, take-take)
+
+pub returns-else-n-rest-clause-fits : goal.returns-else-n-rest-clause-fits
+unfolding field_of
+returns-else-n-rest-clause-fits c =
+    let fits = field_fits c.args.bytes.now c.args.offset c.args.n c.type_inv.bytes in
+    grind (arith, common_steps, take_all)
