@@ -7,8 +7,8 @@ pub mod Later
 pub mod Laws
 pub mod Lists
 pub mod Lookup
-pub mod Members
 pub mod Mapped
+pub mod Members
 pub mod Opened
 pub mod OpenedRanges
 pub mod Pci

@@ -7,8 +7,7 @@ use Rattle.acpi.specs.Footprint.{root_ranges}
 use Rattle.acpi.specs.Opened.{opened_from}
 use Rattle.acpi.specs.Root.{pointers, width_of}
 use Rattle.acpi.specs.Rsdp.{checked_length, root_of_rsdp, rsdp_at}
-use Rattle.acpi.specs.Search.{count_of, first_area, found_in, found_rsdp, room_of, second_area}
-use Rattle.acpi.specs.Search.{word_in}
+use Rattle.acpi.specs.Search.{count_of, first_area, found_in, found_rsdp, room_of, second_area, word_in}
 use Rattle.acpi.specs.declared.root.RootPointer.{RootPointer}
 use Rattle.acpi.specs.declared.rsdp.area.Area.{Area}
 

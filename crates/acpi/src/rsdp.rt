@@ -1,10 +1,12 @@
 //! The Root System Description Pointer (RSDP), which leads to the root table (section 5.2.5).
-ghost use Rattle.std.specs.Prelude.{◌≡◌, IfOk, Ok};
+ghost use Rattle.std.specs.Prelude.{◌≡◌, IfOk, Ok, ◌≤◌, ℕ, length, IfSome, IsOk, Some};
 ghost use Rattle.acpi_base.specs.Mapping.{IsOfMemory, start_of, bytes_of, handler_of};
 ghost use Rattle.acpi_base.specs.Ranges.{Allows};
 ghost use Rattle.acpi_base.specs.Steps.{Gives, lent};
+ghost use Rattle.acpi_base.specs.Memory.{Memory, at};
+ghost use Rattle.acpi_base.specs.Text.{IsTextOf};
 ghost use Rattle.acpi.specs.OpenedRanges.{rsdp_ranges};
-ghost use Rattle.acpi.specs.Rsdp.{check_sum, rsdp_at};
+ghost use Rattle.acpi.specs.Rsdp.{check_sum, rsdp_at, rsdp_of, check_rsdp, checked_length, extended_length_of, root_of, unless_first};
 
 mod area;
 mod given;
@@ -30,8 +32,6 @@ pub struct Rsdp {
 }
 
 impl PhysicalRecord for Rsdp {
-    ghost use Rattle.acpi.specs.Rsdp.{rsdp_of};
-
     const MIN_LENGTH: usize = 36;
 
     ghost MIN_LENGTH = { 36 };
@@ -60,12 +60,6 @@ impl PhysicalRecord for Rsdp {
 }
 
 impl Rsdp {
-    ghost use Rattle.std.specs.Prelude.{◌≤◌, ℕ, length, IfSome, IsOk, Some};
-    ghost use Rattle.acpi_base.specs.Memory.{Memory, at};
-    ghost use Rattle.acpi_base.specs.Text.{IsTextOf};
-    ghost use Rattle.acpi.specs.Rsdp.{check_rsdp, checked_length, extended_length_of};
-    ghost use Rattle.acpi.specs.Rsdp.{root_of, rsdp_of, unless_first};
-
     /// Signature: `RSD PTR ` if the RSDP is valid (section 5.2.5.3).
     pub fn signature(&self) -> [u8; 8]
         ensures { result ≡ self.now.signature }

@@ -1,6 +1,8 @@
 //! A handler over one region of physical memory that the caller has mapped.
+ghost use Rattle.std.specs.Prelude.{Some};
 ghost use Rattle.acpi_base.specs.Memory.{IsMemory, IsMemory-prop};
 ghost use Rattle.acpi_base.specs.OneRegion.{one_region};
+ghost use Rattle.acpi_base.specs.Steps.{Gives};
 
 use acpi_base::{AcpiError, AcpiHandler, AcpiResult};
 use std::fmt;
@@ -18,7 +20,6 @@ pub enum RegionError {
 
 /// Prints the variant's name.
 impl fmt::Display for RegionError {
-    ghost use Rattle.std.specs.Prelude.{Some};
     ghost use Rattle.acpi.specs.Regions.{region_error_text};
 
     ghost output = { λ e. Some (region_error_text e) };
@@ -46,7 +47,6 @@ pub struct MappedRegion<'k> {
 }
 
 impl<'k> MappedRegion<'k> {
-    ghost use Rattle.acpi_base.specs.Steps.{Gives};
     ghost use Rattle.acpi.specs.Regions.{one_memory, region_memory};
 
     /// A handler that lends these bytes, which lie from the physical address `start` on.

@@ -1,6 +1,7 @@
 //! A handler over several regions of physical memory that the caller has mapped.
 ghost use Rattle.std.specs.Prelude.{◌≡◌, [], IfOk, IfNone, IfSome};
 ghost use Rattle.acpi_base.specs.Memory.{IsMemory, IsMemory-prop, rest_from};
+ghost use Rattle.acpi_base.specs.Steps.{Gives};
 ghost use Rattle.acpi.specs.Regions.{IsAscending, IsAscending-prop, check_regions, region_memory, regions_of};
 
 use super::region::{MappedRegion, RegionError};
@@ -18,7 +19,6 @@ pub struct MappedRegions<'k> {
 }
 
 impl<'k> MappedRegions<'k> {
-    ghost use Rattle.acpi_base.specs.Steps.{Gives};
     ghost use Rattle.acpi.specs.Mapped.{regions_memory};
     ghost use Rattle.acpi.specs.Regions.{several_memory};
 

@@ -6,8 +6,7 @@ ghost use Rattle.acpi_base.specs.declared.error.MadtError.TheVariants.{WakeupAps
 ghost use Rattle.acpi.specs.Footprint.{AllowsBelow, FootprintBelow, lookup_ranges};
 ghost use Rattle.acpi.specs.Platform.{madt_kind};
 ghost use Rattle.acpi.specs.Tables.{of_tables};
-ghost use Rattle.acpi.specs.Wake.{IsUntouched, Makes, MakesUntilWoken, Waits, Wakes};
-ghost use Rattle.acpi.specs.Wake.{mailbox_found, opening, reads, wakes_by};
+ghost use Rattle.acpi.specs.Wake.{IsUntouched, Makes, MakesUntilWoken, Waits, Wakes, mailbox_found, opening, reads, wakes_by};
 ghost use Rattle.acpi.specs.declared.platform.mailbox.MailboxWrite.{MailboxWrite};
 
 use super::mailbox::Mailbox;

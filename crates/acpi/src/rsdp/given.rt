@@ -1,14 +1,13 @@
 //! The search for the RSDP in areas that a caller gives, if firmware lends less than whole areas.
-ghost use Rattle.std.specs.Prelude.{◌≡◌, ◌<◌, ◌≤◌, ◌^◌, ◌+◌, ◌*◌, ℕ, Ok, true, IfErr, IfOk, IfSome};
-ghost use Rattle.std.specs.Option.{option_map};
+ghost use Rattle.std.specs.Prelude.{◌≡◌, ◌<◌, ◌≤◌, ◌^◌, ◌+◌, ◌*◌, ℕ, Ok, true, IfErr, IfOk, IfSome, option_map, IsOk};
 ghost use Rattle.acpi_base.specs.Mapping.{IsOfMemory, bytes_of, handler_of, start_of};
-ghost use Rattle.acpi_base.specs.Ranges.{Allows};
+ghost use Rattle.acpi_base.specs.Ranges.{Allows, Footprint};
 ghost use Rattle.acpi_base.specs.Steps.{Gives, lent};
-ghost use Rattle.acpi.specs.Areas as areas;
-ghost use Rattle.acpi.specs.Areas.{areas_ranges, count_in, first_in, found_among, is_refused_in, walk_in};
+ghost use Rattle.acpi.specs.Areas.{areas_ranges, count_in, first_in, found_among, is_refused_in, walk_in, IsSearchedIn, found_in_areas};
 ghost use Rattle.acpi.specs.OpenedRanges.{rsdp_ranges, walk_ranges};
 ghost use Rattle.acpi.specs.Rsdp.{rsdp_at};
 ghost use Rattle.acpi.specs.Search.{IsRefused, placed, walk};
+ghost use Rattle.acpi.specs.Areas as areas;
 
 use super::{Rsdp, check_mapped};
 use acpi_base::bytes::skip;
@@ -171,10 +170,6 @@ fn first_of_areas<'h, H: Lender>(
 }
 
 impl Rsdp {
-    ghost use Rattle.std.specs.Prelude.{IsOk};
-    ghost use Rattle.acpi_base.specs.Ranges.{Footprint};
-    ghost use Rattle.acpi.specs.Areas.{IsSearchedIn, found_in_areas};
-
     /// The RSDP in areas that the caller gives (section 5.2.5.1), such as `bios_areas` or those that a
     /// firmware's memory map names: a mapping of the 36 bytes of the first valid candidate.
     ///

@@ -1,14 +1,12 @@
 //! The search for the RSDP in the firmware's areas, on systems that boot by a BIOS (section 5.2.5.1).
-ghost use Rattle.std.specs.Prelude.{◌≡◌, true, ◌<◌, ◌≤◌, ◌^◌, ◌+◌, length, Ok, IfOk, IfSome};
-ghost use Rattle.std.specs.Option.{option_map};
-ghost use Rattle.std.specs.Str.{bytes_eq};
+ghost use Rattle.std.specs.Prelude.{◌≡◌, true, ◌<◌, ◌≤◌, ◌^◌, ◌+◌, length, Ok, IfOk, IfSome, option_map, bytes_eq, IsOk};
 ghost use Rattle.acpi_base.specs.Bytes.{part};
-ghost use Rattle.acpi_base.specs.Mapping.{IsOfMemory, handler_of};
+ghost use Rattle.acpi_base.specs.Mapping.{IsOfMemory, handler_of, start_of};
 ghost use Rattle.acpi_base.specs.Steps.{Gives, lent};
-ghost use Rattle.acpi_base.specs.Ranges.{Allows};
+ghost use Rattle.acpi_base.specs.Ranges.{Allows, Footprint};
 ghost use Rattle.acpi.specs.OpenedRanges.{area_ranges, search_ranges};
-ghost use Rattle.acpi.specs.Rsdp.{rsd_ptr};
-ghost use Rattle.acpi.specs.Search.{count_of, found_in, found_rsdp, last_in, placed, room_of, walk, word_in};
+ghost use Rattle.acpi.specs.Rsdp.{rsd_ptr, rsdp_at};
+ghost use Rattle.acpi.specs.Search.{count_of, found_in, found_rsdp, last_in, placed, room_of, walk, word_in, IsSearched};
 
 use super::area::{Area, FIRST_AREA, second_area};
 use super::{RawBytes, Rsdp, map_rsdp};
@@ -111,12 +109,6 @@ fn search_last<'h, H: Lender>(
 }
 
 impl Rsdp {
-    ghost use Rattle.std.specs.Prelude.{IsOk};
-    ghost use Rattle.acpi_base.specs.Mapping.{start_of};
-    ghost use Rattle.acpi_base.specs.Ranges.{Footprint};
-    ghost use Rattle.acpi.specs.Rsdp.{rsdp_at};
-    ghost use Rattle.acpi.specs.Search.{IsSearched};
-
     /// The RSDP of a system that boots by a BIOS (section 5.2.5.1): a mapping of the 36 bytes of
     /// the least valid candidate of the first area, or of the second if the first has none.
     ///

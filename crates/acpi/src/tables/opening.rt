@@ -1,5 +1,13 @@
 //! Opening the root table: by its address, by an RSDP, by the search for one.
-ghost use Rattle.acpi_base.specs.Ranges.{Allows};
+ghost use Rattle.std.specs.Prelude.{◌≡◌, IfOk, IsOk};
+ghost use Rattle.acpi_base.specs.Ranges.{Allows, Footprint};
+ghost use Rattle.acpi_base.specs.Mapping.{start_of, bytes_of};
+ghost use Rattle.acpi_base.specs.Steps.{Gives};
+ghost use Rattle.acpi.specs.Opened.{opened_at, opened_from, opened_of, opened_by_rsdp, opened_by_search};
+ghost use Rattle.acpi.specs.OpenedRanges.{opened_by_rsdp_ranges, opened_by_search_ranges, opened_ranges};
+ghost use Rattle.acpi.specs.Root.{root_of_revision};
+ghost use Rattle.acpi.specs.Rsdp.{root_of_rsdp, rsdp_at};
+ghost use Rattle.acpi.specs.Tables.{SpellsPointers, lender_of};
 
 mod given;
 
@@ -10,18 +18,6 @@ use acpi_base::sdt::map_sdt;
 use acpi_base::{AcpiResult, Lender, PhysicalMapping, PhysicalRecord};
 
 impl<'h, H: Lender> AcpiTables<'h, H> {
-    ghost use Rattle.std.specs.Prelude.{◌≡◌, IfOk, IsOk};
-    ghost use Rattle.acpi_base.specs.Mapping.{start_of, bytes_of};
-    ghost use Rattle.acpi_base.specs.Ranges.{Footprint};
-    ghost use Rattle.acpi_base.specs.Steps.{Gives};
-    ghost use Rattle.acpi.specs.Opened.{opened_at, opened_from, opened_of};
-    ghost use Rattle.acpi.specs.Opened.{opened_by_rsdp, opened_by_search};
-    ghost use Rattle.acpi.specs.OpenedRanges.{opened_by_rsdp_ranges, opened_by_search_ranges};
-    ghost use Rattle.acpi.specs.OpenedRanges.{opened_ranges};
-    ghost use Rattle.acpi.specs.Root.{root_of_revision};
-    ghost use Rattle.acpi.specs.Rsdp.{root_of_rsdp, rsdp_at};
-    ghost use Rattle.acpi.specs.Tables.{SpellsPointers, lender_of};
-
     /// The tables below the root table that the RSDP at a physical address leads to: the RSDT if the
     /// RSDP's revision or XSDT address is 0, else the XSDT (sections 5.2.5.3, 5.2.7 and 5.2.8).
     ///

@@ -1,4 +1,19 @@
 //! The places of the tables, all tables of a type, and a lookup by a signature.
+ghost use Rattle.std.specs.Prelude.{◌≡◌, ◌^◌, ◌<◌, ◌≤◌, ◌+◌, List, Ok, IfOk, length, map};
+ghost use Rattle.std.specs.Result.{result_ok};
+ghost use Rattle.acpi_base.specs.Mapping.{IsOfMemory, bytes_of, handler_of, start_of};
+ghost use Rattle.acpi_base.specs.Ranges.{Allows};
+ghost use Rattle.acpi_base.specs.Steps.{Gives};
+ghost use Rattle.acpi_base.specs.Table.{plain_kind};
+ghost use Rattle.acpi_fixed.specs.View.{viewed};
+ghost use Rattle.acpi.specs.Footprint.{AllowsBelow, FootprintBelow, header_ranges, lookup_ranges};
+ghost use Rattle.acpi.specs.Lookup.{lookup};
+ghost use Rattle.acpi.specs.Members.{kind_ranges, members_of, tables_found};
+ghost use Rattle.acpi.specs.Placed.{found_left, members_left, places_left, root_place};
+ghost use Rattle.acpi.specs.Pointers.{pointers_left};
+ghost use Rattle.acpi.specs.Places.{dsdt_place, dsdt_place_ranges, facs_place, facs_place_ranges, led_by, led_by_ranges, led_ranges, place_ranges, places_of};
+ghost use Rattle.acpi.specs.Root.{signature_of};
+ghost use Rattle.acpi.specs.Tables.{kind_of, lender_of, may_of, memory_of, of_tables, pointers_of, root_address_of, root_of};
 
 use super::AcpiTables;
 use crate::found::FoundTables;
@@ -13,24 +28,6 @@ use acpi_base::{
 use acpi_fixed::fadt::FadtView;
 
 impl<'h, H: Lender> AcpiTables<'h, H> {
-    ghost use Rattle.std.specs.Prelude.{◌≡◌, ◌^◌, ◌<◌, ◌≤◌, ◌+◌, List, Ok, IfOk, length, map};
-    ghost use Rattle.std.specs.Result.{result_ok};
-    ghost use Rattle.acpi_base.specs.Mapping.{IsOfMemory, bytes_of, handler_of, start_of};
-    ghost use Rattle.acpi_base.specs.Ranges.{Allows};
-    ghost use Rattle.acpi_base.specs.Steps.{Gives};
-    ghost use Rattle.acpi_base.specs.Table.{plain_kind};
-    ghost use Rattle.acpi_fixed.specs.View.{viewed};
-    ghost use Rattle.acpi.specs.Footprint.{AllowsBelow, FootprintBelow, header_ranges, lookup_ranges};
-    ghost use Rattle.acpi.specs.Lookup.{lookup};
-    ghost use Rattle.acpi.specs.Members.{kind_ranges, members_of, tables_found};
-    ghost use Rattle.acpi.specs.Placed.{found_left, members_left, places_left};
-    ghost use Rattle.acpi.specs.Pointers.{pointers_left};
-    ghost use Rattle.acpi.specs.Places.{dsdt_place, dsdt_place_ranges, facs_place, facs_place_ranges};
-    ghost use Rattle.acpi.specs.Places.{led_by, led_by_ranges, led_ranges, place_ranges, places_of};
-    ghost use Rattle.acpi.specs.Placed.{root_place};
-    ghost use Rattle.acpi.specs.Root.{signature_of};
-    ghost use Rattle.acpi.specs.Tables.{kind_of, lender_of, may_of, memory_of, of_tables, pointers_of, root_address_of, root_of};
-
     /// The physical address of the root table (sections 5.2.7 and 5.2.8).
     pub fn root_address(&self) -> u64
         ensures { result ≡ root_address_of self.now }

@@ -1,19 +1,16 @@
 //! Opening the root table by a search for the RSDP in areas that a caller gives.
-ghost use Rattle.std.specs.Prelude.{IfOk};
+ghost use Rattle.std.specs.Prelude.{IfOk, ◌≡◌};
 ghost use Rattle.acpi_base.specs.Steps.{Gives};
-ghost use Rattle.acpi_base.specs.Ranges.{Allows};
+ghost use Rattle.acpi_base.specs.Ranges.{Allows, Footprint};
+ghost use Rattle.acpi.specs.Areas.{opened_in_areas, opened_in_areas_ranges};
+ghost use Rattle.acpi.specs.Opened.{opened_of};
+ghost use Rattle.acpi.specs.Tables.{SpellsPointers, lender_of};
 
 use crate::rsdp::Rsdp;
 use crate::tables::AcpiTables;
 use acpi_base::{AcpiResult, AddressRange, Lender};
 
 impl<'h, H: Lender> AcpiTables<'h, H> {
-    ghost use Rattle.std.specs.Prelude.{◌≡◌};
-    ghost use Rattle.acpi_base.specs.Ranges.{Footprint};
-    ghost use Rattle.acpi.specs.Areas.{opened_in_areas, opened_in_areas_ranges};
-    ghost use Rattle.acpi.specs.Opened.{opened_of};
-    ghost use Rattle.acpi.specs.Tables.{SpellsPointers, lender_of};
-
     /// The tables below the root table of the RSDP that `Rsdp::search_in` finds in these areas (section
     /// 5.2.5.1): the RSDT if the RSDP's revision or XSDT address is 0, else the XSDT. No later candidate
     /// is tried if the root table is bad.
