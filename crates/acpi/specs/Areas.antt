@@ -4,7 +4,7 @@ use Rattle.std.specs.List.{AllByRecursion}
 use Rattle.std.specs.Option.{option_or}
 use Rattle.acpi_base.specs.Bytes.{part}
 use Rattle.acpi_base.specs.Memory.{Memory}
-use Rattle.acpi_base.specs.Ranges.{DependsOn, Ranges}
+use Rattle.acpi_base.specs.Ranges.{Ranges}
 use Rattle.acpi_base.specs.Steps.{◌>>=◌}
 use Rattle.acpi_base.specs.declared.error.AcpiError.{AcpiError}
 use Rattle.acpi_base.specs.declared.error.AcpiError.TheVariants.{NoValidRsdp}
@@ -98,12 +98,6 @@ areas_ranges m (s ∷ areas) =
 abbrev pub opened_in_areas_ranges : Memory → List AddressRange → Ranges
 opened_in_areas_ranges m areas = areas_ranges m areas
     ++ ranges.◌>>=◌ (found_in_areas m areas) (λ found. opened_ranges m (root_of_rsdp found.1))
-
-abbrev pub AreasDependOn : Type 0
-AreasDependOn = DependsOn areas_ranges found_in_areas
-
-abbrev pub OpenedInAreasDependsOn : Type 0
-OpenedInAreasDependsOn = DependsOn opened_in_areas_ranges opened_in_areas
 
 -- ---- the areas of a BIOS
 

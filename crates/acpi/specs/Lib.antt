@@ -1,7 +1,6 @@
 pub mod Areas
 pub mod Ecam
 pub mod Footprint
-pub mod FootprintLaws
 pub mod Hpet
 pub mod Later
 pub mod Laws

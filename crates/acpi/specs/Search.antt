@@ -7,7 +7,7 @@ use Rattle.acpi_base.specs.Bytes.{field_of}
 use Rattle.acpi_base.specs.Mapping.{start_of, bytes_of}
 use Rattle.acpi_base.specs.Memory.{Memory, at}
 use Rattle.acpi_base.specs.Steps.{◌>>=◌, lent}
-use Rattle.acpi.specs.declared.rsdp.area.Area.{Area}
+use Rattle.acpi.specs.declared.rsdp.bios.Area.{Area}
 use Rattle.acpi.specs.Later.{or_later}
 use Rattle.acpi.specs.Rsdp.{rsdp_at}
 

@@ -121,10 +121,7 @@ impl HpetInfo {
         // It is the same wherever the valid tables lie.
         ensures relocation { Relocation tables.now hpet_of (λ said. result ≡ said) }
     {
-        match tables.find_table::<HpetTable>() {
-            Ok(table) => HpetInfo::of(&table),
-            Err(error) => Err(error),
-        }
+        HpetInfo::of(tables.find_table::<HpetTable>()?.get())
     }
 
     /// The event timer block that a table describes, or its refusal.

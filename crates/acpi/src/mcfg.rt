@@ -73,14 +73,12 @@ impl<A: Allocator> PciConfigRegions<A> {
         ensures relocation { Relocation tables.now found_regions
             (GivesOrFull (of_tables tables.now RegionsAsk) result) }
     {
-        match tables.find_table::<Mcfg>() {
-            Ok(mcfg) => match collected(mcfg.entries(), allocator) {
-                Ok(regions) => Ok(PciConfigRegions {
-                    regions: ManagedSlice::from_vec(regions),
-                }),
-                Err(_) => Err(AcpiError::AllocError),
-            },
-            Err(error) => Err(error),
+        let mcfg = tables.find_table::<Mcfg>()?;
+        match collected(mcfg.entries(), allocator) {
+            Ok(regions) => Ok(PciConfigRegions {
+                regions: ManagedSlice::from_vec(regions),
+            }),
+            Err(_) => Err(AcpiError::AllocError),
         }
     }
 

@@ -72,8 +72,5 @@ pub(crate) fn own_header<H: Lender>(handler: &H, address: u64) -> AcpiResult<Sdt
     requires { Allows (H.may handler.now) (own_table_ranges (H.memory handler.now) address) }
     ensures { result ≡ own_header_at (H.memory handler.now) address }
 {
-    match map_own_sdt(handler, address) {
-        Ok(table) => Ok(*table.get()),
-        Err(error) => Err(error),
-    }
+    Ok(*map_own_sdt(handler, address)?.get())
 }

@@ -47,18 +47,12 @@ impl<A: Allocator + Clone> Clone for PlatformInfo<A> {
         × ⟦<Option<ProcessorInfo<A>> as Clone>⟧.is_infallible x.processor_info };
 
     fn clone(&self) -> Result<PlatformInfo<A>, AllocError> {
-        match self.interrupt_model.clone() {
-            Ok(interrupt_model) => match self.processor_info.clone() {
-                Ok(processor_info) => Ok(PlatformInfo {
-                    power_profile: self.power_profile,
-                    interrupt_model,
-                    processor_info,
-                    pm_timer: self.pm_timer,
-                }),
-                Err(refused) => Err(refused),
-            },
-            Err(refused) => Err(refused),
-        }
+        Ok(PlatformInfo {
+            power_profile: self.power_profile,
+            interrupt_model: self.interrupt_model.clone()?,
+            processor_info: self.processor_info.clone()?,
+            pm_timer: self.pm_timer,
+        })
     }
 }
 

@@ -129,11 +129,9 @@ pub(crate) fn facs_at<H: Lender>(handler: &H, address: u64) -> AcpiResult<Addres
     let head = PhysicalMapping::<H, SdtHeader>::map(handler, address, SdtHeader::MIN_LENGTH)?;
     let length = facs_length(head.signature, head.length)?;
     drop(head);
-    match PhysicalMapping::<H, SdtHeader>::map(handler, address, length as usize) {
-        Ok(whole) => Ok(AddressRange {
-            address,
-            length: whole.region_length() as u64,
-        }),
-        Err(error) => Err(error),
-    }
+    let whole = PhysicalMapping::<H, SdtHeader>::map(handler, address, length as usize)?;
+    Ok(AddressRange {
+        address,
+        length: whole.region_length() as u64,
+    })
 }

@@ -134,10 +134,7 @@ impl<'h, H: Lender> AcpiTables<'h, H> {
             (λ n. lookup n fadt_kind)
             (Gives (λ v. (start_of v.mapping, bytes_of v.mapping)) result) }
     {
-        match self.first_valid::<Fadt>() {
-            Ok(found) => Ok(FadtView::new(found)),
-            Err(error) => Err(error),
-        }
+        Ok(FadtView::new(self.first_valid::<Fadt>()?))
     }
 
     /// The headers (section 5.2.6) of all members that are valid under the signatures that they have, in
@@ -186,13 +183,8 @@ impl<'h, H: Lender> AcpiTables<'h, H> {
         ensures footprint { FootprintBelow self.now dsdt_ranges dsdt_stream
             (λ said. result ≡ said) }
     {
-        match self.find_fadt() {
-            Ok(fadt) => match fadt.dsdt_address() {
-                Ok(address) => stream_at(self.root.handler(), Signature::DSDT, address),
-                Err(error) => Err(error),
-            },
-            Err(error) => Err(error),
-        }
+        let fadt = self.find_fadt()?;
+        stream_at(self.root.handler(), Signature::DSDT, fadt.dsdt_address()?)
     }
 
     /// Why members were passed over in a lookup of `T`: the address and the error of each member

@@ -136,10 +136,7 @@ impl<'h, H: Lender> AcpiTables<'h, H> {
         ensures footprint { FootprintBelow self.now (led_by_ranges facs_place_ranges) (led_by facs_place)
             (λ said. result ≡ said) }
     {
-        match self.find_fadt() {
-            Ok(fadt) => self.facs_place(&fadt),
-            Err(error) => Err(error),
-        }
+        self.facs_place(&self.find_fadt()?)
     }
 
     /// The ranges of physical memory in which the tables lie (sections 5.2.6, 5.2.9 and 5.2.10): the root
@@ -193,13 +190,11 @@ impl<'h, H: Lender> AcpiTables<'h, H> {
         ensures { result ≡ dsdt_place (memory_of self.now) (viewed fadt.now) }
     {
         let address = fadt.dsdt_address()?;
-        match map_sdt(self.root.handler(), address, Signature::DSDT) {
-            Ok(dsdt) => Ok(AddressRange {
-                address,
-                length: dsdt.region_length() as u64,
-            }),
-            Err(error) => Err(error),
-        }
+        let dsdt = map_sdt(self.root.handler(), address, Signature::DSDT)?;
+        Ok(AddressRange {
+            address,
+            length: dsdt.region_length() as u64,
+        })
     }
 
     /// Where the FACS lies that a FADT leads to.
@@ -207,9 +202,6 @@ impl<'h, H: Lender> AcpiTables<'h, H> {
         requires { Allows (may_of self.now) (facs_place_ranges (memory_of self.now) (viewed fadt.now)) }
         ensures { result ≡ facs_place (memory_of self.now) (viewed fadt.now) }
     {
-        match fadt.facs_address() {
-            Ok(address) => facs_at(self.root.handler(), address),
-            Err(error) => Err(error),
-        }
+        facs_at(self.root.handler(), fadt.facs_address()?)
     }
 }
