@@ -8,6 +8,7 @@ use Rattle.std.specs.Result.{result_ok}
 use Rattle.std.proofs.lemmas.Bool.Decides.{nat_tests}
 use Rattle.acpi_base.specs.Memory.{Memory, Region, AreApart, IsMemory, at, end_of, lies_in, rest_from}
 use Rattle.acpi_base.specs.declared.range.AddressRange.{AddressRange}
+use Rattle.acpi_base.specs.OneRegion.{one_region}
 use Rattle.acpi_base.specs.declared.tables.mcfg.McfgEntry.{McfgEntry}
 use Rattle.acpi.proofs.First.{filter_map_few, one_more, pointers_few}
 use Rattle.acpi.specs.Members.{members_of}
@@ -19,8 +20,8 @@ use Rattle.acpi.specs.Ecam.{IsBeside, ecam_address}
 use denote.Ref.{Bor}
 use Rattle.std.specs.List.Sorted.{IsPartitionPoint}
 use Rattle.std.proofs.lemmas.List.{map-append, drop_more}
-use Rattle.std.proofs.lemmas.Bool.{le-leb, lt-leb, le-ltb, and_parts, and_left, and_right, leb-true, ltb-true}
-use Rattle.std.proofs.Math.Seq.{take-suc}
+use Rattle.std.proofs.lemmas.Bool.{le-leb, lt-leb, lt-ltb, le-ltb, and_parts, and_left, and_right, leb-true, ltb-true}
+use Rattle.std.proofs.Math.Seq.{take-length, take-suc}
 use Rattle.acpi.specs.Regions.{IsAscending, check_after, check_regions, region_memory, region_of, regions_of}
 use Rattle.acpi.specs.declared.handler.region.MappedRegion.{MappedRegion}
 
@@ -322,3 +323,13 @@ at_same m n a size same = rw same refl
 pub at_none : (m : Memory) (a size : ℕ) → m ≡ [] → 0 < size → at m a size ≡ None
 unfolding at rest_from
 at_none m a size none some = rw (none, lt-leb _ _ some) refl
+
+-- what is lent from an address on is all the rest of the region
+pub rest_of_region : (start a : ℕ) (b : List ℕ) → start ≤ a → a - start < length b
+    → take (length b - (a - start)) (drop (a - start) b) ≡ rest_from (one_region start b) a
+unfolding rest_from
+rest_of_region start a b low high =
+    let below : a < start + length b = omega arith in
+    let all : take (length b - (a - start)) (drop (a - start) b) ≡ drop (a - start) b =
+    rw (← length-drop (a - start) b) (take-length (drop (a - start) b)) in
+    rw (all, le-leb _ _ low, lt-ltb _ _ below) refl

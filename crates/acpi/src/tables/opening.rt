@@ -37,10 +37,7 @@ impl<'h, H: Lender> AcpiTables<'h, H> {
             Footprint m (opened_by_rsdp_ranges m address) (λ n. opened_by_rsdp n address)
             (Gives (λ t. opened_of t) result) }
     {
-        match map_rsdp(handler, address) {
-            Ok(rsdp) => AcpiTables::from_root(handler, rsdp),
-            Err(error) => Err(error),
-        }
+        AcpiTables::from_root(handler, map_rsdp(handler, address)?)
     }
 
     /// The tables below the root table of the RSDP that `Rsdp::search_for_on_bios` finds (section
@@ -59,10 +56,7 @@ impl<'h, H: Lender> AcpiTables<'h, H> {
             Footprint m (opened_by_search_ranges m) opened_by_search
             (Gives (λ t. opened_of t) result) }
     {
-        match Rsdp::search_for_on_bios(handler) {
-            Ok(rsdp) => AcpiTables::from_root(handler, rsdp),
-            Err(error) => Err(error),
-        }
+        AcpiTables::from_root(handler, Rsdp::search_for_on_bios(handler)?)
     }
 
     /// The tables below the root table of the RSDP that `Rsdp::search_in` finds in these areas (section
@@ -83,10 +77,7 @@ impl<'h, H: Lender> AcpiTables<'h, H> {
             Footprint m (opened_in_areas_ranges m areas.now) (λ n. opened_in_areas n areas.now)
             (Gives (λ t. opened_of t) result) }
     {
-        match Rsdp::search_in(handler, areas) {
-            Ok(rsdp) => AcpiTables::from_root(handler, rsdp),
-            Err(error) => Err(error),
-        }
+        AcpiTables::from_root(handler, Rsdp::search_in(handler, areas)?)
     }
 
     /// The tables below the root table that a valid RSDP leads to (sections 5.2.5.3, 5.2.7 and 5.2.8). Of

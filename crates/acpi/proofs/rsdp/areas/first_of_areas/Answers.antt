@@ -20,7 +20,8 @@ pub returns-in-Some-clause-exact : goal.returns-in-Some-clause-exact
 unfolding found_in_areas
 returns-in-Some-clause-exact g c =
     let less : c.loop-area.area-index < length c.args.areas.now = omega arith in
-    let first = found_in_turn (g.H.Lender.memory c.args.handler.now) _ _ _ _ _ less c.loop-area.invariant.0 c.in-Some.ensures.found in
+    let first = found_in_turn (g.H.Lender.memory c.args.handler.now) _ _ _ _ _ less c.loop-area.invariant.0
+    c.in-Some.ensures.found in
     rw (← first) refl
 
 pub returns-clause-exact : goal.returns-clause-exact
