@@ -16,29 +16,28 @@ use Rattle.acpi_base.specs.Table.{Kind, plain_kind, table_at}
 use Rattle.acpi_fixed.specs.Fadt.{dsdt_address_of, facs_address_of, fadt_at}
 use Rattle.acpi_fixed.specs.declared.fadt.Fadt.{Fadt}
 use Rattle.acpi.proofs.First.{here}
-use Rattle.acpi.specs.Footprint.{FootprintBelow, below, header_ranges, lookup_ranges, root_ranges}
-use Rattle.acpi.specs.FootprintLaws.{DsdtDependsOn, FaultsDependOn, HeadersDependOn, HpetDependsOn, LookupDependsOn, MailboxDependsOn, PlatformDependsOn, RegionsDependOn, SsdtsDependOn, OpenedByRsdpDependsOn, OpenedBySearchDependsOn, OpenedDependsOn, RsdpDependsOn, SearchDependsOn}
-use Rattle.acpi.specs.Hpet.{hpet_at, hpet_kind, info_of}
+use Rattle.acpi.specs.Footprint.{FootprintBelow, below, header_ranges, lookup_ranges, root_ranges, dsdt_ranges, platform_ranges, ssdt_ranges}
+use Rattle.acpi.specs.Hpet.{hpet_at, hpet_kind, info_of, hpet_of}
 use Rattle.acpi.specs.Later.{or_later}
-use Rattle.acpi.specs.Lists.{fadt_kind, faults_of, own_header_at, stream_at, unless_valid}
+use Rattle.acpi.specs.Lists.{fadt_kind, faults_of, own_header_at, stream_at, unless_valid, dsdt_stream, ssdt_streams, valid_headers}
 use Rattle.acpi.specs.Lookup.{lookup}
 use Rattle.acpi.specs.Members.{found_at, kind_ranges, members_of, tables_found}
-use Rattle.acpi.specs.Pci.{mcfg_kind}
+use Rattle.acpi.specs.Pci.{mcfg_kind, found_regions}
 use Rattle.acpi.specs.Places.{both_place_ranges, dsdt_place, dsdt_place_ranges, facs_at, facs_length_in, facs_place, facs_place_ranges, facs_ranges, led_by, led_by_ranges, led_ranges, place_at, place_ranges, places_of, range}
-use Rattle.acpi.specs.Platform.{madt_kind, model_in}
+use Rattle.acpi.specs.Platform.{madt_kind, model_in, platform_of}
 use Rattle.acpi.specs.Root.{root_at, root_kind, root_of_revision}
 use Rattle.acpi.specs.Wake.{mailbox_found}
 use Rattle.acpi.specs.Tables.{kind_of, memory_of, pointers_of, root_address_of, root_of}
 use Rattle.acpi.specs.declared.tables.AcpiTables.{AcpiTables}
 use Rattle.acpi_base.specs.declared.error.AcpiError.TheVariants.{NoValidRsdp}
-use Rattle.acpi.specs.Opened.{opened_at, opened_from}
-use Rattle.acpi.specs.OpenedRanges.{area_ranges, length_ranges, opened_ranges, or_else_ranges, rsdp_ranges, search_ranges, walk_ranges}
+use Rattle.acpi.specs.Opened.{opened_at, opened_from, opened_by_rsdp, opened_by_search}
+use Rattle.acpi.specs.OpenedRanges.{area_ranges, length_ranges, opened_ranges, or_else_ranges, rsdp_ranges, search_ranges, walk_ranges, opened_by_rsdp_ranges, opened_by_search_ranges}
 use Rattle.acpi.specs.Rsdp.{check_whole, checked_length, root_of_rsdp, rsdp_at}
 use Rattle.acpi.specs.Search.{count_of, first_area, found_in, found_rsdp, or_else, room_of, second_area, walk, word_in}
-use Rattle.acpi.specs.declared.rsdp.area.Area.{Area}
+use Rattle.acpi.specs.declared.rsdp.bios.Area.{Area}
 use Rattle.std.specs.Option.{option_or}
 use Rattle.acpi_base.specs.declared.range.AddressRange.{AddressRange}
-use Rattle.acpi.specs.Areas.{AreasDependOn, OpenedInAreasDependsOn, areas_ranges, count_in, first_in, found_among, found_in_areas, walk_in}
+use Rattle.acpi.specs.Areas.{areas_ranges, count_in, first_in, found_among, found_in_areas, walk_in, opened_in_areas_ranges, opened_in_areas}
 use Rattle.acpi_base.specs.Ranges as ranges
 
 -- ---- lookups
@@ -50,7 +49,7 @@ same_later : (m n : Memory) (k : Kind) (p : ℕ) (ps : List ℕ) (r : Result (Li
 same_later m n k p ps (Ok table) later h = refl
 same_later m n k p ps (Err e) later h = later h
 
-pub same_lookup : LookupDependsOn
+pub same_lookup : (k : Kind) → DependsOn (λ m. lookup_ranges m k) (λ m. lookup m k)
 same_lookup k m n [] h = refl
 same_lookup k m n (p ∷ ps) h =
     let front = same_table k m n p (each_front _ (table_ranges m k p) _ h) in
@@ -64,7 +63,7 @@ same_faults_later : (m n : Memory) (k : Kind) (p : ℕ) (ps : List ℕ) (r : Res
 same_faults_later m n k p ps (Ok table) later h = refl
 same_faults_later m n k p ps (Err e) later h = rw (later h) refl
 
-pub same_faults : FaultsDependOn
+pub same_faults : (k : Kind) → DependsOn (λ m. lookup_ranges m k) (λ m. faults_of m k)
 same_faults k m n [] h = refl
 same_faults k m n (p ∷ ps) h =
     let front = same_table k m n p (each_front _ (table_ranges m k p) _ h) in
@@ -83,18 +82,20 @@ same_each m n ranges_of f g each (p ∷ ps) h =
     let after = same_each m n ranges_of f g each ps (each_back _ (ranges_of p) _ h) in
     rw (front, after) refl
 
-same_header : (m n : Memory) (p : ℕ) → AgreesOn m n (own_table_ranges m p) → result_ok (own_header_at n p) ≡ result_ok (own_header_at m p)
+same_header : (m n : Memory) (p : ℕ) → AgreesOn m n (own_table_ranges m p)
+    → result_ok (own_header_at n p) ≡ result_ok (own_header_at m p)
 unfolding own_header_at
 same_header m n p h = rw (same_own_table m n p h) refl
 
-pub same_headers : HeadersDependOn
+pub same_headers : DependsOn header_ranges valid_headers
 same_headers m n ps h = same_each m n (own_table_ranges m) _ _ (same_header m n) ps h
 
-same_stream : (m n : Memory) (p : ℕ) → AgreesOn m n (table_ranges m (plain_kind SSDT) p) → result_ok (stream_at n SSDT p) ≡ result_ok (stream_at m SSDT p)
+same_stream : (m n : Memory) (p : ℕ) → AgreesOn m n (table_ranges m (plain_kind SSDT) p)
+    → result_ok (stream_at n SSDT p) ≡ result_ok (stream_at m SSDT p)
 unfolding stream_at
 same_stream m n p h = rw (same_table (plain_kind SSDT) m n p h) refl
 
-pub same_ssdts : SsdtsDependOn
+pub same_ssdts : DependsOn ssdt_ranges ssdt_streams
 same_ssdts m n ps h = same_each m n (table_ranges m (plain_kind SSDT)) _ _ (same_stream m n) ps h
 
 pub same_members : DependsOn header_ranges members_of
@@ -105,7 +106,8 @@ same_members m n (p ∷ ps) h =
     let after = same_members m n ps (each_back _ (own_table_ranges m p) _ h) in
     rw (front, after) refl
 
-same_found_at : (k : Kind) (m n : Memory) (p : ℕ) → AgreesOn m n (table_ranges m k p) → result_ok (found_at n k p) ≡ result_ok (found_at m k p)
+same_found_at : (k : Kind) (m n : Memory) (p : ℕ) → AgreesOn m n (table_ranges m k p)
+    → result_ok (found_at n k p) ≡ result_ok (found_at m k p)
 unfolding found_at
 same_found_at k m n p h = rw (same_table k m n p h) refl
 
@@ -122,31 +124,36 @@ same_dsdt_at m n (Ok a) h = rw (same_table (plain_kind DSDT) m n a h) refl
 same_dsdt_at m n (Err e) h = refl
 
 -- what the first valid FADT leads to
-led_from : {A : Type 0} (place : Memory → Fadt → Result A AcpiError) (of : Memory → Fadt → Ranges) (m n : Memory) → ((f : Fadt) → AgreesOn m n (of m f) → place n f ≡ place m f)
+led_from : {A : Type 0} (place : Memory → Fadt → Result A AcpiError) (of : Memory → Fadt → Ranges) (m n : Memory)
+    → ((f : Fadt) → AgreesOn m n (of m f) → place n f ≡ place m f)
     → (r : Result (ℕ × List ℕ) AcpiError) → AgreesOn m n (ranges.◌>>=◌ r (λ found. of m (fadt_at found.1)))
     → (r >>= λ found. place n (fadt_at found.1)) ≡ (r >>= λ found. place m (fadt_at found.1))
 led_from place of m n same (Ok found) h = same (fadt_at found.1) h
 led_from place of m n same (Err e) h = refl
 
-same_led : {A : Type 0} (place : Memory → Fadt → Result A AcpiError) (of : Memory → Fadt → Ranges) (m n : Memory) → ((f : Fadt) → AgreesOn m n (of m f) → place n f ≡ place m f)
+same_led : {A : Type 0} (place : Memory → Fadt → Result A AcpiError) (of : Memory → Fadt → Ranges) (m n : Memory)
+    → ((f : Fadt) → AgreesOn m n (of m f) → place n f ≡ place m f)
     → (ps : List ℕ) → AgreesOn m n (led_by_ranges of m ps) → led_by place n ps ≡ led_by place m ps
 same_led place of m n same ps h =
     let front = same_lookup fadt_kind m n ps (each_front _ (lookup_ranges m fadt_kind ps) _ h) in
     rw front (led_from place of m n same (lookup m fadt_kind ps) (each_back _ (lookup_ranges m fadt_kind ps) _ h))
 
-pub same_dsdt : DsdtDependsOn
+pub same_dsdt : DependsOn dsdt_ranges dsdt_stream
 same_dsdt m n ps h =
-    same_led (λ o f. dsdt_address_of f >>= λ a. stream_at o DSDT a) dsdt_place_ranges m n (λ f. same_dsdt_at m n (dsdt_address_of f)) ps h
+    same_led (λ o f. dsdt_address_of f >>= λ a. stream_at o DSDT a) dsdt_place_ranges m n
+    (λ f. same_dsdt_at m n (dsdt_address_of f)) ps h
 
 -- ---- places
 
-same_place_at : (m n : Memory) (p : ℕ) → AgreesOn m n (own_table_ranges m p) → result_ok (place_at n p) ≡ result_ok (place_at m p)
+same_place_at : (m n : Memory) (p : ℕ) → AgreesOn m n (own_table_ranges m p)
+    → result_ok (place_at n p) ≡ result_ok (place_at m p)
 unfolding place_at
 same_place_at m n p h = rw (same_own_table m n p h) refl
 
 module _ (m n : Memory) where
   dsdt_from : (r : Result ℕ AcpiError) → AgreesOn m n (ranges.◌>>=◌ r (λ a. table_ranges m (plain_kind DSDT) a))
-      → (r >>= λ a. table_at n (plain_kind DSDT) a >>= λ t. Ok (range a (length t))) ≡ (r >>= λ a. table_at m (plain_kind DSDT) a >>= λ t. Ok (range a (length t)))
+      → (r >>= λ a. table_at n (plain_kind DSDT) a >>= λ t. Ok (range a (length t)))
+      ≡ (r >>= λ a. table_at m (plain_kind DSDT) a >>= λ t. Ok (range a (length t)))
   dsdt_from (Ok a) h = rw (same_table (plain_kind DSDT) m n a h) refl
   dsdt_from (Err e) h = refl
 
@@ -159,8 +166,10 @@ module _ (m n : Memory) where
   long_from a (Ok l) h = rw h.0 refl
   long_from a (Err e) h = refl
 
-  head_from : (a : ℕ) (r : Result (List ℕ) AcpiError) → AgreesOn m n (ranges.◌>>=◌ r (λ b. ranges.◌>>=◌ (facs_length_in b) (λ l. (a, l) ∷ [])))
-      → (r >>= λ b. facs_length_in b >>= λ l. lent n a l >>= λ _. Ok (range a l)) ≡ (r >>= λ b. facs_length_in b >>= λ l. lent m a l >>= λ _. Ok (range a l))
+  head_from : (a : ℕ) (r : Result (List ℕ) AcpiError)
+      → AgreesOn m n (ranges.◌>>=◌ r (λ b. ranges.◌>>=◌ (facs_length_in b) (λ l. (a, l) ∷ [])))
+      → (r >>= λ b. facs_length_in b >>= λ l. lent n a l >>= λ _. Ok (range a l))
+      ≡ (r >>= λ b. facs_length_in b >>= λ l. lent m a l >>= λ _. Ok (range a l))
   head_from a (Ok b) h = long_from a (facs_length_in b) h
   head_from a (Err e) h = refl
 
@@ -168,7 +177,8 @@ module _ (m n : Memory) where
   unfolding facs_at
   same_facs_at a h = rw (← h.0) (head_from a (lent m a 36) h.1)
 
-  facs_from : (r : Result ℕ AcpiError) → AgreesOn m n (ranges.◌>>=◌ r (λ a. facs_ranges m a)) → (r >>= λ a. facs_at n a) ≡ (r >>= λ a. facs_at m a)
+  facs_from : (r : Result ℕ AcpiError) → AgreesOn m n (ranges.◌>>=◌ r (λ a. facs_ranges m a))
+      → (r >>= λ a. facs_at n a) ≡ (r >>= λ a. facs_at m a)
   facs_from (Ok a) h = same_facs_at a h
   facs_from (Err e) h = refl
 
@@ -176,15 +186,18 @@ pub same_facs : DependsOn (led_by_ranges facs_place_ranges) (led_by facs_place)
 same_facs m n ps h = same_led facs_place facs_place_ranges m n (λ f. facs_from m n (facs_address_of f)) ps h
 
 same_led_dsdt : DependsOn led_ranges (led_by dsdt_place)
-same_led_dsdt m n ps h = same_led dsdt_place both_place_ranges m n (λ f both. same_dsdt_place m n f (each_front _ (dsdt_place_ranges m f) _ both)) ps h
+same_led_dsdt m n ps h = same_led dsdt_place both_place_ranges m n
+    (λ f both. same_dsdt_place m n f (each_front _ (dsdt_place_ranges m f) _ both)) ps h
 
 same_led_facs : DependsOn led_ranges (led_by facs_place)
-same_led_facs m n ps h = same_led facs_place both_place_ranges m n (λ f both. facs_from m n (facs_address_of f) (each_back _ (dsdt_place_ranges m f) _ both)) ps h
+same_led_facs m n ps h = same_led facs_place both_place_ranges m n
+    (λ f both. facs_from m n (facs_address_of f) (each_back _ (dsdt_place_ranges m f) _ both)) ps h
 
 pub same_places : (root : AddressRange) → DependsOn place_ranges (places_of root)
 same_places root m n ps h =
     let after = each_back _ (header_ranges m ps) _ h in
-    let members = same_each m n (own_table_ranges m) _ _ (same_place_at m n) ps (each_front _ (header_ranges m ps) _ h) in
+    let members = same_each m n (own_table_ranges m) _ _ (same_place_at m n) ps
+    (each_front _ (header_ranges m ps) _ h) in
     rw (members, same_led_dsdt m n ps after, same_led_facs m n ps after) refl
 
 -- ---- summaries
@@ -194,22 +207,23 @@ pub same_said : {A : Type 0} (k : Kind) (m n : Memory) (ps : List ℕ) (said : R
     → AgreesOn m n (lookup_ranges m k ps) → said (lookup n k ps) ≡ said (lookup m k ps)
 same_said k m n ps said h = ap said (same_lookup k m n ps h)
 
-pub same_hpet : HpetDependsOn
+pub same_hpet : DependsOn (λ m. lookup_ranges m hpet_kind) hpet_of
 same_hpet m n ps h = same_said hpet_kind m n ps (λ r. r >>= λ f. info_of (hpet_at f.1)) h
 
-pub same_regions : RegionsDependOn
+pub same_regions : DependsOn (λ m. lookup_ranges m mcfg_kind) found_regions
 same_regions m n ps h = same_said mcfg_kind m n ps (λ r. r >>= λ f. Ok (mcfg_entries_of f.1)) h
 
-pub same_mailbox : MailboxDependsOn
+pub same_mailbox : DependsOn (λ m. lookup_ranges m madt_kind) mailbox_found
 same_mailbox m n ps h = same_said madt_kind m n ps (λ r. r >>= λ f. mailbox_of f.1) h
 
-same_model : {A B : Type 0} (m n : Memory) (ps : List ℕ) (r : Result (ℕ × List ℕ) AcpiError) (rest : ℕ × List ℕ → _ → Result B AcpiError)
+same_model : {A B : Type 0} (m n : Memory) (ps : List ℕ) (r : Result (ℕ × List ℕ) AcpiError) (rest : ℕ × List ℕ → _
+    → Result B AcpiError)
     → AgreesOn m n (ranges.◌>>=◌ r (λ _. lookup_ranges m madt_kind ps))
     → (r >>= λ f. model_in {A = A} n ps >>= rest f) ≡ (r >>= λ f. model_in {A = A} m ps >>= rest f)
 same_model m n ps (Ok f) rest h = rw (same_lookup madt_kind m n ps h) refl
 same_model m n ps (Err e) rest h = refl
 
-pub same_platform : {A : Type 0} → PlatformDependsOn A
+pub same_platform : {A : Type 0} → DependsOn platform_ranges (λ m ps. platform_of {A = A} m ps)
 same_platform m n ps h =
     let front = same_lookup fadt_kind m n ps (each_front _ (lookup_ranges m fadt_kind ps) _ h) in
     rw front (same_model m n ps (lookup m fadt_kind ps) _ (each_back _ (lookup_ranges m fadt_kind ps) _ h))
@@ -221,45 +235,58 @@ is_ok_of (Ok y) x e = cc
 is_ok_of (Err d) x e = cc
 
 -- a definition over the pointers of tables, over a memory that agrees with theirs
-pub from_tables : {H A : Type 0} {h : _} (t : AcpiTables H h) (ranges_of : Memory → List ℕ → Ranges) (defined : Memory → List ℕ → Result A AcpiError)
+pub from_tables : {H A : Type 0} {h : _} (t : AcpiTables H h) (ranges_of : Memory → List ℕ → Ranges) (defined : Memory
+    → List ℕ → Result A AcpiError)
     → DependsOn ranges_of defined → result_ok (root_at (memory_of t) (kind_of t) (root_address_of t)) ≡ Some (root_of t)
-    → (n : Memory) → AgreesOn (memory_of t) n (root_ranges (memory_of t) (kind_of t) (root_address_of t) ++ ranges_of (memory_of t) (pointers_of t))
+    → (n : Memory) → AgreesOn (memory_of t) n (root_ranges (memory_of t) (kind_of t) (root_address_of t)
+    ++ ranges_of (memory_of t) (pointers_of t))
     → below n (kind_of t) (root_address_of t) (defined n) ≡ defined (memory_of t) (pointers_of t)
 from_tables t ranges_of defined same valid n h =
     let m = memory_of t in
     let front : root_at n (kind_of t) (root_address_of t) ≡ Ok (root_of t) =
-    same_table (root_kind (kind_of t)) m n (root_address_of t) (each_front _ (root_ranges m (kind_of t) (root_address_of t)) _ h) ∙ is_ok_of _ _ valid in
+    same_table (root_kind (kind_of t)) m n (root_address_of t)
+    (each_front _ (root_ranges m (kind_of t) (root_address_of t)) _ h) ∙ is_ok_of _ _ valid in
     rw front (same m n (pointers_of t) (each_back _ (root_ranges m (kind_of t) (root_address_of t)) _ h))
 
 abbrev pub done : {A : Type 0} → A → Result A AcpiError
 done x = Ok x
 
 -- a list of answers, which refuses nothing
-pub in_ok : {X A : Type 0} (ranges_of : Memory → X → Ranges) (defined : Memory → X → A) → DependsOn ranges_of defined → DependsOn ranges_of (λ m x. done (defined m x))
+pub in_ok : {X A : Type 0} (ranges_of : Memory → X → Ranges) (defined : Memory → X → A) → DependsOn ranges_of defined
+    → DependsOn ranges_of (λ m x. done (defined m x))
 in_ok ranges_of defined same m n x h = ap done (same m n x h)
 
-pub fadt_from_tables : {H : Type 0} {h : _} (t : AcpiTables H h) → result_ok (root_at (memory_of t) (kind_of t) (root_address_of t)) ≡ Some (root_of t)
-    → FootprintBelow t (λ m. lookup_ranges m fadt_kind) (λ m. lookup m fadt_kind) (λ said. lookup (memory_of t) fadt_kind (pointers_of t) ≡ said)
-fadt_from_tables t valid n h = rw (from_tables t (λ m. lookup_ranges m fadt_kind) (λ m. lookup m fadt_kind) (same_lookup fadt_kind) valid n h) refl
+pub fadt_from_tables : {H : Type 0} {h : _} (t : AcpiTables H h)
+    → result_ok (root_at (memory_of t) (kind_of t) (root_address_of t)) ≡ Some (root_of t)
+    → FootprintBelow t (λ m. lookup_ranges m fadt_kind) (λ m. lookup m fadt_kind)
+    (λ said. lookup (memory_of t) fadt_kind (pointers_of t) ≡ said)
+fadt_from_tables t valid n h = rw (from_tables t (λ m. lookup_ranges m fadt_kind) (λ m. lookup m fadt_kind)
+    (same_lookup fadt_kind) valid n h) refl
 
-pub mailbox_from_tables : {H : Type 0} {h : _} (t : AcpiTables H h) → result_ok (root_at (memory_of t) (kind_of t) (root_address_of t)) ≡ Some (root_of t)
-    → FootprintBelow t (λ m. lookup_ranges m madt_kind) mailbox_found (λ said. mailbox_found (memory_of t) (pointers_of t) ≡ said)
-mailbox_from_tables t valid n h = rw (from_tables t (λ m. lookup_ranges m madt_kind) mailbox_found same_mailbox valid n h) refl
+pub mailbox_from_tables : {H : Type 0} {h : _} (t : AcpiTables H h)
+    → result_ok (root_at (memory_of t) (kind_of t) (root_address_of t)) ≡ Some (root_of t)
+    → FootprintBelow t (λ m. lookup_ranges m madt_kind) mailbox_found
+    (λ said. mailbox_found (memory_of t) (pointers_of t) ≡ said)
+mailbox_from_tables t valid n h = rw (from_tables t (λ m. lookup_ranges m madt_kind) mailbox_found same_mailbox
+    valid n h) refl
 
 -- ---- one RSDP
 
-same_sum : (m n : Memory) (a : ℕ) (b : List ℕ) (q : Result (Option ℕ) AcpiError) → AgreesOn m n (ranges.◌>>=◌ q (length_ranges a))
+same_sum : (m n : Memory) (a : ℕ) (b : List ℕ) (q : Result (Option ℕ) AcpiError)
+    → AgreesOn m n (ranges.◌>>=◌ q (length_ranges a))
     → (q >>= λ k. check_whole (lent n a) k >>= λ _. Ok b) ≡ (q >>= λ k. check_whole (lent m a) k >>= λ _. Ok b)
 same_sum m n a b (Ok None) h = refl
 same_sum m n a b (Ok (Some k)) h = rw h.0 refl
 same_sum m n a b (Err e) h = refl
 
-same_checks : (m n : Memory) (a : ℕ) (r : Result (List ℕ) AcpiError) → AgreesOn m n (ranges.◌>>=◌ r (λ b. ranges.◌>>=◌ (checked_length b) (length_ranges a)))
-    → (r >>= λ b. checked_length b >>= λ k. check_whole (lent n a) k >>= λ _. Ok b) ≡ (r >>= λ b. checked_length b >>= λ k. check_whole (lent m a) k >>= λ _. Ok b)
+same_checks : (m n : Memory) (a : ℕ) (r : Result (List ℕ) AcpiError)
+    → AgreesOn m n (ranges.◌>>=◌ r (λ b. ranges.◌>>=◌ (checked_length b) (length_ranges a)))
+    → (r >>= λ b. checked_length b >>= λ k. check_whole (lent n a) k >>= λ _. Ok b)
+    ≡ (r >>= λ b. checked_length b >>= λ k. check_whole (lent m a) k >>= λ _. Ok b)
 same_checks m n a (Ok b) h = same_sum m n a b (checked_length b) h
 same_checks m n a (Err e) h = refl
 
-pub same_rsdp : RsdpDependsOn
+pub same_rsdp : DependsOn rsdp_ranges rsdp_at
 unfolding rsdp_at
 same_rsdp m n a h = rw (← h.0) (same_checks m n a (lent m a 36) h.1)
 
@@ -282,7 +309,8 @@ same_walk m n (suc c) a h =
     let after = each_back _ (rsdp_ranges m a) _ h in
     rw front (same_next m n c a (rsdp_at m a) (same_walk m n c (a + 16)) after)
 
-same_there : (m n : Memory) (s : Area) (r : Result (List ℕ) AcpiError) → AgreesOn m n (ranges.◌>>=◌ r (λ _. walk_ranges m (count_of s) s.start))
+same_there : (m n : Memory) (s : Area) (r : Result (List ℕ) AcpiError)
+    → AgreesOn m n (ranges.◌>>=◌ r (λ _. walk_ranges m (count_of s) s.start))
     → (r >>= λ _. Ok (walk n (count_of s) s.start)) ≡ (r >>= λ _. Ok (walk m (count_of s) s.start))
 same_there m n s (Ok b) h = rw (same_walk m n (count_of s) s.start h) refl
 same_there m n s (Err e) h = refl
@@ -291,7 +319,8 @@ same_area : (m n : Memory) (s : Area) → AgreesOn m n (area_ranges m s) → fou
 unfolding found_in
 same_area m n s h = rw (← h.0) (same_there m n s (lent m s.start (room_of s)) h.1)
 
-same_second : (m n : Memory) (s : Area) (r : Result (Option (ℕ × List ℕ)) AcpiError) → AgreesOn m n (ranges.◌>>=◌ r (λ first. or_else_ranges first (area_ranges m s)))
+same_second : (m n : Memory) (s : Area) (r : Result (Option (ℕ × List ℕ)) AcpiError)
+    → AgreesOn m n (ranges.◌>>=◌ r (λ first. or_else_ranges first (area_ranges m s)))
     → (r >>= λ first. or_else first (found_in n s >>= λ second. or_else second (Err NoValidRsdp)))
     ≡ (r >>= λ first. or_else first (found_in m s >>= λ second. or_else second (Err NoValidRsdp)))
 same_second m n s (Ok None) h = rw (same_area m n s h) refl
@@ -299,9 +328,12 @@ same_second m n s (Ok (Some found)) h = refl
 same_second m n s (Err e) h = refl
 
 same_areas : (m n : Memory) (r : Result ℕ AcpiError)
-    → AgreesOn m n (ranges.◌>>=◌ r (λ word. area_ranges m first_area ++ ranges.◌>>=◌ (found_in m first_area) (λ first. or_else_ranges first (area_ranges m (second_area word)))))
-    → (r >>= λ word. found_in n first_area >>= λ first. or_else first (found_in n (second_area word) >>= λ second. or_else second (Err NoValidRsdp)))
-    ≡ (r >>= λ word. found_in m first_area >>= λ first. or_else first (found_in m (second_area word) >>= λ second. or_else second (Err NoValidRsdp)))
+    → AgreesOn m n (ranges.◌>>=◌ r (λ word. area_ranges m first_area
+    ++ ranges.◌>>=◌ (found_in m first_area) (λ first. or_else_ranges first (area_ranges m (second_area word)))))
+    → (r >>= λ word. found_in n first_area >>= λ first. or_else first
+    (found_in n (second_area word) >>= λ second. or_else second (Err NoValidRsdp)))
+    ≡ (r >>= λ word. found_in m first_area >>= λ first. or_else first
+    (found_in m (second_area word) >>= λ second. or_else second (Err NoValidRsdp)))
 same_areas m n (Ok word) h =
     let front = same_area m n first_area (each_front _ (area_ranges m first_area) _ h) in
     rw front (same_second m n (second_area word) (found_in m first_area) (each_back _ (area_ranges m first_area) _ h))
@@ -311,57 +343,65 @@ same_word : (m n : Memory) → at m 0x40e 2 ≡ at n 0x40e 2 → word_in n ≡ w
 unfolding word_in
 same_word m n h = rw (← h) refl
 
-pub same_search : SearchDependsOn
+pub same_search : (m n : Memory) → AgreesOn m n (search_ranges m) → found_rsdp n ≡ found_rsdp m
 unfolding found_rsdp
 same_search m n h = rw (same_word m n h.0) (same_areas m n (word_in m) h.1)
 
 -- ---- what is opened
 
-pub same_opened : OpenedDependsOn
+pub same_opened : DependsOn opened_ranges opened_from
 same_opened m n place h = rw (same_table (root_kind place.kind) m n place.address h) refl
 
-pub same_opened_at : (m n : Memory) (revision address : ℕ) → AgreesOn m n (opened_ranges m (root_of_revision revision address)) → opened_at n (revision, address) ≡ opened_at m (revision, address)
+pub same_opened_at : (m n : Memory) (revision address : ℕ)
+    → AgreesOn m n (opened_ranges m (root_of_revision revision address))
+    → opened_at n (revision, address) ≡ opened_at m (revision, address)
 same_opened_at m n revision address h = same_opened m n (root_of_revision revision address) h
 
-same_by_rsdp : (m n : Memory) (r : Result (List ℕ) AcpiError) → AgreesOn m n (ranges.◌>>=◌ r (λ b. opened_ranges m (root_of_rsdp b)))
+same_by_rsdp : (m n : Memory) (r : Result (List ℕ) AcpiError)
+    → AgreesOn m n (ranges.◌>>=◌ r (λ b. opened_ranges m (root_of_rsdp b)))
     → (r >>= λ b. opened_from n (root_of_rsdp b)) ≡ (r >>= λ b. opened_from m (root_of_rsdp b))
 same_by_rsdp m n (Ok b) h = same_opened m n (root_of_rsdp b) h
 same_by_rsdp m n (Err e) h = refl
 
-pub same_opened_by_rsdp : OpenedByRsdpDependsOn
+pub same_opened_by_rsdp : DependsOn opened_by_rsdp_ranges opened_by_rsdp
 same_opened_by_rsdp m n a h =
     let front = same_rsdp m n a (each_front _ (rsdp_ranges m a) _ h) in
     rw front (same_by_rsdp m n (rsdp_at m a) (each_back _ (rsdp_ranges m a) _ h))
 
-pub same_by_search : (m n : Memory) (r : Result (ℕ × List ℕ) AcpiError) → AgreesOn m n (ranges.◌>>=◌ r (λ f. opened_ranges m (root_of_rsdp f.1)))
+pub same_by_search : (m n : Memory) (r : Result (ℕ × List ℕ) AcpiError)
+    → AgreesOn m n (ranges.◌>>=◌ r (λ f. opened_ranges m (root_of_rsdp f.1)))
     → (r >>= λ f. opened_from n (root_of_rsdp f.1)) ≡ (r >>= λ f. opened_from m (root_of_rsdp f.1))
 same_by_search m n (Ok f) h = same_opened m n (root_of_rsdp f.1) h
 same_by_search m n (Err e) h = refl
 
-pub same_opened_by_search : OpenedBySearchDependsOn
+pub same_opened_by_search : (m n : Memory) → AgreesOn m n (opened_by_search_ranges m)
+    → opened_by_search n ≡ opened_by_search m
 same_opened_by_search m n h =
     let front = same_search m n (each_front _ (search_ranges m) _ h) in
     rw front (same_by_search m n (found_rsdp m) (each_back _ (search_ranges m) _ h))
 
 -- ---- memories that agree on the ranges of a search in areas find the same RSDP there
 
-same_later_areas : (m n : Memory) (areas : List AddressRange) (o : Option (ℕ × List ℕ)) → (AgreesOn m n (areas_ranges m areas) → found_among n areas ≡ found_among m areas)
-    → AgreesOn m n (or_else_ranges o (areas_ranges m areas)) → option_or o (found_among n areas) ≡ option_or o (found_among m areas)
+same_later_areas : (m n : Memory) (areas : List AddressRange) (o : Option (ℕ × List ℕ))
+    → (AgreesOn m n (areas_ranges m areas) → found_among n areas ≡ found_among m areas)
+    → AgreesOn m n (or_else_ranges o (areas_ranges m areas))
+    → option_or o (found_among n areas) ≡ option_or o (found_among m areas)
 same_later_areas m n areas (Some found) later h = refl
 same_later_areas m n areas None later h = later h
 
-same_among : (m n : Memory) (areas : List AddressRange) → AgreesOn m n (areas_ranges m areas) → found_among n areas ≡ found_among m areas
+same_among : (m n : Memory) (areas : List AddressRange) → AgreesOn m n (areas_ranges m areas)
+    → found_among n areas ≡ found_among m areas
 same_among m n [] h = refl
 same_among m n (s ∷ areas) h =
     let front = same_walk m n (count_in s) (first_in s) (each_front _ (walk_ranges m (count_in s) (first_in s)) _ h) in
     let after = each_back _ (walk_ranges m (count_in s) (first_in s)) _ h in
     rw front (same_later_areas m n areas (walk_in m s) (same_among m n areas) after)
 
-pub same_in_areas : AreasDependOn
+pub same_in_areas : DependsOn areas_ranges found_in_areas
 unfolding found_in_areas
 same_in_areas m n areas h = rw (same_among m n areas h) refl
 
-pub same_opened_in_areas : OpenedInAreasDependsOn
+pub same_opened_in_areas : DependsOn opened_in_areas_ranges opened_in_areas
 same_opened_in_areas m n areas h =
     let front = same_in_areas m n areas (each_front _ (areas_ranges m areas) _ h) in
     rw front (same_by_search m n (found_in_areas m areas) (each_back _ (areas_ranges m areas) _ h))

@@ -34,15 +34,18 @@ both_true true b h = (refl, h)
 both_true false b h = absurd cc
 
 -- the first checks refuse what is lent there
-first_refused : (m : Memory) (a : ℕ) (b : List ℕ) (e : AcpiError) → lent m a 36 ≡ Ok b → checked_length b ≡ Err e → IsRefused m a
+first_refused : (m : Memory) (a : ℕ) (b : List ℕ) (e : AcpiError) → lent m a 36 ≡ Ok b → checked_length b ≡ Err e
+    → IsRefused m a
 unfolding rsdp_at
 first_refused m a b e there refused = (e, rw (there, refused) refl)
 
 -- a candidate whose bytes are in a loan
-pub shown_refused : (m : Memory) (a off : ℕ) (b : List ℕ) → IsMemory m → lent m a (length b) ≡ Ok b → is_refused_in b off ≡ true → IsRefused m (a + off)
+pub shown_refused : (m : Memory) (a off : ℕ) (b : List ℕ) → IsMemory m → lent m a (length b) ≡ Ok b
+    → is_refused_in b off ≡ true → IsRefused m (a + off)
 shown_refused m a off b hm e h =
     let two = both_true _ _ h in
-    let long : 36 ≤ length (drop off b) = (let test : nat_le 36 (length (drop off b)) ≡ true = two.0 in grind (arith, nat_tests)) in
+    let long : 36 ≤ length (drop off b) = (let test : nat_le 36 (length (drop off b)) ≡ true = two.0 in
+    grind (arith, nat_tests)) in
     let room : off + 36 ≤ length b = omega (arith, long, length-drop off b) in
     let why = err_is _ two.1 in
     first_refused m (a + off) (part b off 36) why.0 (lent_part m a off 36 (length b) b hm e (omega arith) room) why.1
@@ -64,7 +67,8 @@ only_this m a h i less = moved m a (a + 16 * i) (omega (arith, less)) h
 pub front_refused : (m : Memory) (a n : ℕ) (b : List ℕ) → IsMemory m → at m a (length b) ≡ Some b → IsRefused m a
     → ((i : ℕ) → 0 < i → i < n → is_refused_in b (16 * i) ≡ true) → (i : ℕ) → i < n → IsRefused m (a + 16 * i)
 front_refused m a n b hm e first rest zero less = moved m a (a + 16 * zero) (omega arith) first
-front_refused m a n b hm e first rest (suc i) less = shown_refused m a (16 * suc i) b hm (rw e refl) (rest (suc i) (omega arith) less)
+front_refused m a n b hm e first rest (suc i) less =
+    shown_refused m a (16 * suc i) b hm (rw e refl) (rest (suc i) (omega arith) less)
 
 -- a number from 1 on, before the first that is other, or before the end if none is
 pub before_other : (Yes No : ℕ → Type 0) (n : ℕ) (r : Option ℕ)
@@ -74,10 +78,13 @@ before_other Yes No n None none i some less = none i (omega arith) less
 before_other Yes No n (Some x) found i some less = found.3 i (omega arith) less
 
 module _ (m : Memory) (n start : ℕ) where
-  next_refused : (k r : ℕ) → ((i : ℕ) → i < suc r → IsRefused m (start + 16 * k + 16 * i)) → (i : ℕ) → i < r → IsRefused m (start + 16 * (k + 1) + 16 * i)
-  next_refused k r refused i less = moved m (start + 16 * k + 16 * suc i) (start + 16 * (k + 1) + 16 * i) (omega arith) (refused (suc i) (omega (arith, less)))
+  next_refused : (k r : ℕ) → ((i : ℕ) → i < suc r → IsRefused m (start + 16 * k + 16 * i)) → (i : ℕ) → i < r
+      → IsRefused m (start + 16 * (k + 1) + 16 * i)
+  next_refused k r refused i less = moved m (start + 16 * k + 16 * suc i) (start + 16 * (k + 1) + 16 * i) (omega arith)
+      (refused (suc i) (omega (arith, less)))
 
-  this_refused : (k r : ℕ) → ((i : ℕ) → i < suc r → IsRefused m (start + 16 * k + 16 * i)) → IsRefused m (start + 16 * k)
+  this_refused : (k r : ℕ) → ((i : ℕ) → i < suc r → IsRefused m (start + 16 * k + 16 * i))
+      → IsRefused m (start + 16 * k)
   this_refused k r refused = moved m (start + 16 * k + 16 * 0) (start + 16 * k) (omega arith) (refused 0 (omega arith))
 
   pub walk_past_all : (all : Option (ℕ × List ℕ)) (k r : ℕ) → walk m (n - k) (start + 16 * k) ≡ all → k + r ≤ n
@@ -90,10 +97,12 @@ module _ (m : Memory) (n start : ℕ) where
       let here = this_refused k r refused in
       let next = walk_later m n k start all so_far turn here.0 here.1 in
       let same : k + 1 + r ≡ k + suc r = omega arith in
-      subst (λ (x : ℕ). walk m (n - x) (start + 16 * x) ≡ all) same (walk_past_all all (k + 1) r next (omega (arith, most)) (next_refused k r refused))
+      subst (λ (x : ℕ). walk m (n - x) (start + 16 * x) ≡ all) same
+      (walk_past_all all (k + 1) r next (omega (arith, most)) (next_refused k r refused))
 
   pub asked_past_all : (may : ℕ → ℕ → Bool) (k r : ℕ) → Allows may (walk_ranges m (n - k) (start + 16 * k)) → k + r ≤ n
-      → ((i : ℕ) → i < r → IsRefused m (start + 16 * k + 16 * i)) → Allows may (walk_ranges m (n - (k + r)) (start + 16 * (k + r)))
+      → ((i : ℕ) → i < r → IsRefused m (start + 16 * k + 16 * i))
+      → Allows may (walk_ranges m (n - (k + r)) (start + 16 * (k + r)))
   asked_past_all may k zero asked most refused =
       let same : k ≡ k + zero = omega arith in
       subst (λ (x : ℕ). Allows may (walk_ranges m (n - x) (start + 16 * x))) same asked
@@ -102,46 +111,58 @@ module _ (m : Memory) (n start : ℕ) where
       let here = this_refused k r refused in
       let next = asked_next may m n k start here.0 turn asked here.1 in
       let same : k + 1 + r ≡ k + suc r = omega arith in
-      subst (λ (x : ℕ). Allows may (walk_ranges m (n - x) (start + 16 * x))) same (asked_past_all may (k + 1) r next (omega (arith, most)) (next_refused k r refused))
+      subst (λ (x : ℕ). Allows may (walk_ranges m (n - x) (start + 16 * x))) same
+      (asked_past_all may (k + 1) r next (omega (arith, most)) (next_refused k r refused))
 
 -- ---- the areas, one at a time
 
-in_turn : (areas : List AddressRange) (i : ℕ) (d : AddressRange) → i < length areas → drop i areas ≡ get_or areas i d ∷ drop (i + 1) areas
+in_turn : (areas : List AddressRange) (i : ℕ) (d : AddressRange) → i < length areas
+    → drop i areas ≡ get_or areas i d ∷ drop (i + 1) areas
 in_turn areas i d less = drop_more areas i d less
 
-pub area_in_turn : (may : ℕ → ℕ → Bool) (m : Memory) (areas : List AddressRange) (i : ℕ) (d : AddressRange) → i < length areas
-    → Allows may (areas_ranges m (drop i areas)) → Allows may (walk_ranges m (count_in (get_or areas i d)) (first_in (get_or areas i d)))
+pub area_in_turn : (may : ℕ → ℕ → Bool) (m : Memory) (areas : List AddressRange) (i : ℕ) (d : AddressRange)
+    → i < length areas
+    → Allows may (areas_ranges m (drop i areas))
+    → Allows may (walk_ranges m (count_in (get_or areas i d)) (first_in (get_or areas i d)))
 area_in_turn may m areas i d less asked =
     let s = get_or areas i d in
     all_front may (walk_ranges m (count_in s) (first_in s)) _ (rw (in_turn areas i d less) at asked)
 
-pub found_in_turn : (m : Memory) (areas : List AddressRange) (i : ℕ) (d : AddressRange) (top : Option (ℕ × List ℕ)) (found : ℕ × List ℕ) → i < length areas
+pub found_in_turn : (m : Memory) (areas : List AddressRange) (i : ℕ) (d : AddressRange) (top : Option (ℕ × List ℕ))
+    (found : ℕ × List ℕ) → i < length areas
     → found_among m (drop i areas) ≡ top → Some found ≡ walk_in m (get_or areas i d) → Some found ≡ top
 found_in_turn m areas i d top found less so_far here =
-    let first : option_or (walk_in m (get_or areas i d)) (found_among m (drop (i + 1) areas)) ≡ top = rw (in_turn areas i d less) at so_far in
+    let first : option_or (walk_in m (get_or areas i d)) (found_among m (drop (i + 1) areas)) ≡ top =
+    rw (in_turn areas i d less) at so_far in
     rw (← here) at first
 
 -- areas after one that has no valid candidate
-pub later_areas : (may : ℕ → ℕ → Bool) (m : Memory) (areas : List AddressRange) (i : ℕ) (d : AddressRange) (top : Option (ℕ × List ℕ)) → i < length areas
-    → found_among m (drop i areas) ≡ top → Allows may (areas_ranges m (drop i areas)) → None ≡ walk_in m (get_or areas i d)
+pub later_areas : (may : ℕ → ℕ → Bool) (m : Memory) (areas : List AddressRange) (i : ℕ) (d : AddressRange)
+    (top : Option (ℕ × List ℕ)) → i < length areas
+    → found_among m (drop i areas) ≡ top → Allows may (areas_ranges m (drop i areas))
+    → None ≡ walk_in m (get_or areas i d)
     → (found_among m (drop (i + 1) areas) ≡ top) × Allows may (areas_ranges m (drop (i + 1) areas))
 later_areas may m areas i d top less so_far asked none =
     let s = get_or areas i d in
     let later = drop (i + 1) areas in
-    let these : Allows may (walk_ranges m (count_in s) (first_in s) ++ or_else_ranges (walk_in m s) (areas_ranges m later)) = rw (in_turn areas i d less) at asked in
+    let these : Allows may (walk_ranges m (count_in s) (first_in s)
+    ++ or_else_ranges (walk_in m s) (areas_ranges m later)) = rw (in_turn areas i d less) at asked in
     let rest = all_back may (walk_ranges m (count_in s) (first_in s)) _ these in
     let found : option_or (walk_in m s) (found_among m later) ≡ top = rw (in_turn areas i d less) at so_far in
     (rw (← none) at found, rw (← none) at rest)
 
-pub no_area_left : (m : Memory) (areas : List AddressRange) (i : ℕ) (top : Option (ℕ × List ℕ)) → length areas ≤ i → found_among m (drop i areas) ≡ top → None ≡ top
+pub no_area_left : (m : Memory) (areas : List AddressRange) (i : ℕ) (top : Option (ℕ × List ℕ)) → length areas ≤ i
+    → found_among m (drop i areas) ≡ top → None ≡ top
 no_area_left m areas i top over so_far = rw (drop_all i areas over) at so_far
 
 -- ---- the root table that is opened
 
-pub asked_search_in : (may : ℕ → ℕ → Bool) (m : Memory) (areas : List AddressRange) → Allows may (opened_in_areas_ranges m areas) → Allows may (areas_ranges m areas)
+pub asked_search_in : (may : ℕ → ℕ → Bool) (m : Memory) (areas : List AddressRange)
+    → Allows may (opened_in_areas_ranges m areas) → Allows may (areas_ranges m areas)
 asked_search_in may m areas h = all_front may (areas_ranges m areas) _ h
 
-pub asked_found_in : (may : ℕ → ℕ → Bool) (m : Memory) (areas : List AddressRange) (found : ℕ × List ℕ) → Allows may (opened_in_areas_ranges m areas)
+pub asked_found_in : (may : ℕ → ℕ → Bool) (m : Memory) (areas : List AddressRange) (found : ℕ × List ℕ)
+    → Allows may (opened_in_areas_ranges m areas)
     → found_in_areas m areas ≡ Ok found → Allows may (opened_ranges m (root_of_rsdp found.1))
 asked_found_in may m areas found h there = rw there at (all_back may (areas_ranges m areas) _ h)
 
@@ -150,22 +171,30 @@ asked_found_in may m areas found h there = rw there at (all_back may (areas_rang
 -- what the candidates of one area come to
 abbrev InOne : Memory → AddressRange → Option (ℕ × List ℕ) → Type 0
 InOne m s (Some found) =
-    IsCandidateIn s found.0 × (rsdp_at m found.0 ≡ Ok found.1) × ((a : ℕ) → a < found.0 → IsCandidateIn s a → IsRefused m a)
+    IsCandidateIn s found.0 × (rsdp_at m found.0 ≡ Ok found.1) × ((a : ℕ) → a < found.0 → IsCandidateIn s a
+    → IsRefused m a)
 InOne m s None = NoneIn m s
 
-in_order : (address end i : ℕ) → i < (end - (address + 15) / 16 * 16 - 4) / 16 → address ≤ 16 * ((address + 15) / 16 + i)
+in_order : (address end i : ℕ) → i < (end - (address + 15) / 16 * 16 - 4) / 16
+    → address ≤ 16 * ((address + 15) / 16 + i)
 in_order address end i less = omega arith
 
-in_time : (address end i : ℕ) → i < (end - (address + 15) / 16 * 16 - 4) / 16 → 16 * ((address + 15) / 16 + i) + 20 ≤ end
+in_time : (address end i : ℕ) → i < (end - (address + 15) / 16 * 16 - 4) / 16
+    → 16 * ((address + 15) / 16 + i) + 20 ≤ end
 in_time address end i less = omega arith
 
 of_index : (s : AddressRange) (i a : ℕ) → i < count_in s → a ≡ first_in s + 16 * i → IsCandidateIn s a
 of_index s i a less is =
     let k = (s.address + 15) / 16 + i in
-    let same : a ≡ 16 * k = is ∙ omega arith in
-    (k, same, subst (λ (x : ℕ). s.address ≤ x) (sym same) (in_order s.address (end_of s) i less), subst (λ (x : ℕ). x + 20 ≤ end_of s) (sym same) (in_time s.address (end_of s) i less))
+    let same : a ≡ 16 * k = is ∙ omega arith in (
+      k,
+      same,
+      subst (λ (x : ℕ). s.address ≤ x) (sym same) (in_order s.address (end_of s) i less),
+      subst (λ (x : ℕ). x + 20 ≤ end_of s) (sym same) (in_time s.address (end_of s) i less),
+    )
 
-index_below : (address end k : ℕ) → address ≤ 16 * k → 16 * k + 20 ≤ end → k - (address + 15) / 16 < (end - (address + 15) / 16 * 16 - 4) / 16
+index_below : (address end k : ℕ) → address ≤ 16 * k → 16 * k + 20 ≤ end
+    → k - (address + 15) / 16 < (end - (address + 15) / 16 * 16 - 4) / 16
 index_below address end k low high = omega arith
 
 index_at : (address k : ℕ) → address ≤ 16 * k → 16 * k ≡ (address + 15) / 16 * 16 + 16 * (k - (address + 15) / 16)
@@ -181,7 +210,8 @@ walked : (m : Memory) (s : AddressRange) (o : Option (ℕ × List ℕ)) → Says
 walked m s (Some found) h = (
   of_index s h.0 found.0 h.1 h.2,
   h.3,
-  λ a less c. let at = index_of s a c in moved m (first_in s + 16 * at.0) a (sym at.2) (h.4 at.0 (omega (arith, less, h.2, at.2))),
+  λ a less c. let at = index_of s a c in moved m (first_in s + 16 * at.0) a (sym at.2)
+      (h.4 at.0 (omega (arith, less, h.2, at.2))),
 )
 walked m s None h = λ a c. let at = index_of s a c in moved m (first_in s + 16 * at.0) a (sym at.2) (h at.0 at.1)
 
@@ -192,7 +222,8 @@ abbrev IsAmong : Memory → List AddressRange → Option (ℕ × List ℕ) → T
 IsAmong m areas (Some found) = IsFirstIn m areas found
 IsAmong m areas None = AllByRecursion (NoneIn m) areas
 
-one_more : (m : Memory) (s : AddressRange) (areas : List AddressRange) (o later : Option (ℕ × List ℕ)) → InOne m s o → IsAmong m areas later → IsAmong m (s ∷ areas) (option_or o later)
+one_more : (m : Memory) (s : AddressRange) (areas : List AddressRange) (o later : Option (ℕ × List ℕ)) → InOne m s o
+    → IsAmong m areas later → IsAmong m (s ∷ areas) (option_or o later)
 one_more m s areas (Some found) later here more = record {
   before = [];
   area = s;
@@ -222,7 +253,8 @@ among m (s ∷ areas) = one_more m s areas (walk_in m s) (found_among m areas) (
 abbrev Searched : Memory → List AddressRange → Result (ℕ × List ℕ) AcpiError → Type 0
 Searched m areas r = IsSearchedIn m areas (λ found. found) r
 
-or_refused : (m : Memory) (areas : List AddressRange) (o : Option (ℕ × List ℕ)) → IsAmong m areas o → Searched m areas (ok_or o NoValidRsdp)
+or_refused : (m : Memory) (areas : List AddressRange) (o : Option (ℕ × List ℕ)) → IsAmong m areas o
+    → Searched m areas (ok_or o NoValidRsdp)
 or_refused m areas (Some found) h = h
 or_refused m areas None h = (refl, h)
 
@@ -231,13 +263,17 @@ unfolding found_in_areas
 found_is_first m areas = or_refused m areas (found_among m areas) (among m areas)
 
 -- what answers as `found_in_areas` has found the first valid candidate, or there is none
-pub searched_in : {X : Type 0} (m : Memory) (areas : List AddressRange) (view : X → ℕ × List ℕ) (r : Result X AcpiError) → Gives view r (found_in_areas m areas) → IsSearchedIn m areas view r
+pub searched_in : {X : Type 0} (m : Memory) (areas : List AddressRange) (view : X → ℕ × List ℕ) (r : Result X AcpiError)
+    → Gives view r (found_in_areas m areas) → IsSearchedIn m areas view r
 searched_in m areas view (Ok x) same = rw same at (found_is_first m areas)
 searched_in m areas view (Err e) same = rw same at (found_is_first m areas)
 
-valid_in : {X : Type 0} (m : Memory) (areas : List AddressRange) (view : X → ℕ × List ℕ) (r : Result X AcpiError) → IsSearchedIn m areas view r → IfOk r (λ x. IsOk (rsdp_at m (view x).0))
+valid_in : {X : Type 0} (m : Memory) (areas : List AddressRange) (view : X → ℕ × List ℕ) (r : Result X AcpiError)
+    → IsSearchedIn m areas view r → IfOk r (λ x. IsOk (rsdp_at m (view x).0))
 valid_in m areas view (Ok x) f = rw f.valid refl
 valid_in m areas view (Err e) h = tt
 
-pub found_valid_in : {H T : Type 0} {h t : _} (m : Memory) (areas : List AddressRange) (r : Result (PhysicalMapping H T h t) AcpiError) → Gives placed r (found_in_areas m areas) → IfOk r (λ x. IsOk (rsdp_at m (start_of x)))
+pub found_valid_in : {H T : Type 0} {h t : _} (m : Memory) (areas : List AddressRange)
+    (r : Result (PhysicalMapping H T h t) AcpiError) → Gives placed r (found_in_areas m areas)
+    → IfOk r (λ x. IsOk (rsdp_at m (start_of x)))
 found_valid_in m areas r said = valid_in m areas placed r (searched_in m areas placed r said)

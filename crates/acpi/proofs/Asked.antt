@@ -23,7 +23,7 @@ use Rattle.acpi.specs.OpenedRanges.{root_and_ranges, area_ranges, opened_by_rsdp
 use Rattle.acpi.specs.Places.{both_place_ranges, dsdt_place_ranges, facs_place_ranges, led_by_ranges, led_ranges, place_ranges}
 use Rattle.acpi.specs.Rsdp.{root_of_rsdp, rsdp_at}
 use Rattle.acpi.specs.Search.{count_of, first_area, found_in, found_rsdp, room_of, second_area, word_in}
-use Rattle.acpi.specs.declared.rsdp.area.Area.{Area}
+use Rattle.acpi.specs.declared.rsdp.bios.Area.{Area}
 
 -- the pointer that is seen first, and those after it
 pub peeked : (all : List ℕ) (p : ℕ) → Some p ≡ slice_get all 0 → all ≡ p ∷ drop 1 all
@@ -36,7 +36,8 @@ pub faults_peeked : (m : Memory) (k : Kind) (p : ℕ) (all left : List ℕ) → 
 faults_peeked m k p all left is moved = rw moved (ap (faults_of m k) (peeked all p is))
 
 -- none comes from a valid table on
-pub valid_last : (p : ℕ) (r : Result (List ℕ) AcpiError) (faults : List TableFault) → IsOk r → unless_valid p r faults ≡ []
+pub valid_last : (p : ℕ) (r : Result (List ℕ) AcpiError) (faults : List TableFault) → IsOk r
+    → unless_valid p r faults ≡ []
 valid_last p (Ok table) faults ok = refl
 valid_last p (Err e) faults ok = absurd cc
 
@@ -51,62 +52,76 @@ found_member m k p all ps table top valid is so_far = sym (rw (is, valid) at so_
 
 module _ (may : ℕ → ℕ → Bool) where
   -- what lies after a step that passes
-  pub behind : {A E : Type 0} (r : Result A E) (of : A → Ranges) (x : A) → r ≡ Ok x → Allows may (ranges.◌>>=◌ r of) → Allows may (of x)
+  pub behind : {A E : Type 0} (r : Result A E) (of : A → Ranges) (x : A) → r ≡ Ok x → Allows may (ranges.◌>>=◌ r of)
+      → Allows may (of x)
   behind r of x is h = rw is at h
 
   -- ---- lookups
 
-  pub asked_member : (m : Memory) (k : Kind) (p : ℕ) (all ps : List ℕ) → all ≡ p ∷ ps → Allows may (lookup_ranges m k all) → Allows may (table_ranges m k p)
+  pub asked_member : (m : Memory) (k : Kind) (p : ℕ) (all ps : List ℕ) → all ≡ p ∷ ps
+      → Allows may (lookup_ranges m k all) → Allows may (table_ranges m k p)
   asked_member m k p all ps is h = all_front may (table_ranges m k p) _ (rw is at h)
 
-  pub asked_later : (m : Memory) (k : Kind) (p : ℕ) (all ps : List ℕ) (e : AcpiError) → all ≡ p ∷ ps → Allows may (lookup_ranges m k all)
+  pub asked_later : (m : Memory) (k : Kind) (p : ℕ) (all ps : List ℕ) (e : AcpiError) → all ≡ p ∷ ps
+      → Allows may (lookup_ranges m k all)
       → table_at m k p ≡ Err e → Allows may (lookup_ranges m k ps)
   asked_later m k p all ps e is h refused = rw refused at (all_back may (table_ranges m k p) _ (rw is at h))
 
   -- a member that isn't valid is passed over
-  pub later_kept : (m : Memory) (k : Kind) (p : ℕ) (all ps : List ℕ) (top : Result (ℕ × List ℕ) AcpiError) (e : AcpiError)
+  pub later_kept : (m : Memory) (k : Kind) (p : ℕ) (all ps : List ℕ) (top : Result (ℕ × List ℕ) AcpiError)
+      (e : AcpiError)
       → table_at m k p ≡ Err e → all ≡ p ∷ ps → (lookup m k all ≡ top) × Allows may (lookup_ranges m k all)
       → (lookup m k ps ≡ top) × Allows may (lookup_ranges m k ps)
   later_kept m k p all ps top e refused is h = (rw (is, refused) at h.0, asked_later m k p all ps e is h.1 refused)
 
   -- ---- faults
 
-  pub asked_peeked : (m : Memory) (k : Kind) (p : ℕ) (all : List ℕ) → Some p ≡ slice_get all 0 → Allows may (lookup_ranges m k all)
+  pub asked_peeked : (m : Memory) (k : Kind) (p : ℕ) (all : List ℕ) → Some p ≡ slice_get all 0
+      → Allows may (lookup_ranges m k all)
       → Allows may (table_ranges m k p)
   asked_peeked m k p all is h = asked_member m k p all (drop 1 all) (peeked all p is) h
 
-  pub asked_passed : (m : Memory) (k : Kind) (p : ℕ) (all left : List ℕ) (e : AcpiError) → Some p ≡ slice_get all 0 → left ≡ drop 1 all
+  pub asked_passed : (m : Memory) (k : Kind) (p : ℕ) (all left : List ℕ) (e : AcpiError) → Some p ≡ slice_get all 0
+      → left ≡ drop 1 all
       → table_at m k p ≡ Err e → Allows may (lookup_ranges m k all) → Allows may (lookup_ranges m k left)
-  asked_passed m k p all left e is moved refused h = rw moved (asked_later m k p all (drop 1 all) e (peeked all p is) h refused)
+  asked_passed m k p all left e is moved refused h =
+      rw moved (asked_later m k p all (drop 1 all) e (peeked all p is) h refused)
 
   -- ---- lists
 
-  pub asked_each : (of : ℕ → Ranges) (p : ℕ) (all ps : List ℕ) → all ≡ p ∷ ps → Allows may (flat_map of all) → Allows may (of p)
+  pub asked_each : (of : ℕ → Ranges) (p : ℕ) (all ps : List ℕ) → all ≡ p ∷ ps → Allows may (flat_map of all)
+      → Allows may (of p)
   asked_each of p all ps is h = all_front may (of p) _ (rw is at h)
 
-  pub asked_others : (of : ℕ → Ranges) (p : ℕ) (all ps : List ℕ) → all ≡ p ∷ ps → Allows may (flat_map of all) → Allows may (flat_map of ps)
+  pub asked_others : (of : ℕ → Ranges) (p : ℕ) (all ps : List ℕ) → all ≡ p ∷ ps → Allows may (flat_map of all)
+      → Allows may (flat_map of ps)
   asked_others of p all ps is h = all_back may (of p) _ (rw is at h)
 
-  pub asked_now : (of : ℕ → Ranges) (all ps : List ℕ) (r : Option ℕ) → MatchOption r ((all ≡ []) × (ps ≡ [])) (λ p. all ≡ p ∷ ps)
+  pub asked_now : (of : ℕ → Ranges) (all ps : List ℕ) (r : Option ℕ)
+      → MatchOption r ((all ≡ []) × (ps ≡ [])) (λ p. all ≡ p ∷ ps)
       → Allows may (flat_map of all) → IfSome r (λ p. Allows may (of p))
   asked_now of all ps None is h = tt
   asked_now of all ps (Some p) is h = asked_each of p all ps is h
 
-  pub asked_kept : (of : ℕ → Ranges) (all ps : List ℕ) (r : Option ℕ) → MatchOption r ((all ≡ []) × (ps ≡ [])) (λ p. all ≡ p ∷ ps)
+  pub asked_kept : (of : ℕ → Ranges) (all ps : List ℕ) (r : Option ℕ)
+      → MatchOption r ((all ≡ []) × (ps ≡ [])) (λ p. all ≡ p ∷ ps)
       → Allows may (flat_map of all) → Allows may (flat_map of ps)
   asked_kept of all ps None is h = rw is.1 (rw is.0 at h)
   asked_kept of all ps (Some p) is h = asked_others of p all ps is h
 
   -- ---- the FADT, and what it leads to
 
-  pub asked_fadt : (place : Memory → Fadt → Ranges) (m : Memory) (ps : List ℕ) → Allows may (led_by_ranges place m ps) → Allows may (lookup_ranges m fadt_kind ps)
+  pub asked_fadt : (place : Memory → Fadt → Ranges) (m : Memory) (ps : List ℕ) → Allows may (led_by_ranges place m ps)
+      → Allows may (lookup_ranges m fadt_kind ps)
   asked_fadt place m ps h = all_front may (lookup_ranges m fadt_kind ps) _ h
 
-  pub asked_place : (place : Memory → Fadt → Ranges) (m : Memory) (ps : List ℕ) (found : ℕ × List ℕ) → Allows may (led_by_ranges place m ps) → lookup m fadt_kind ps ≡ Ok found
+  pub asked_place : (place : Memory → Fadt → Ranges) (m : Memory) (ps : List ℕ) (found : ℕ × List ℕ)
+      → Allows may (led_by_ranges place m ps) → lookup m fadt_kind ps ≡ Ok found
       → Allows may (place m (fadt_at found.1))
   asked_place place m ps found h there = rw there at (all_back may (lookup_ranges m fadt_kind ps) _ h)
 
-  pub asked_dsdt : (m : Memory) (ps : List ℕ) (found : ℕ × List ℕ) (a : ℕ) → Allows may (dsdt_ranges m ps) → lookup m fadt_kind ps ≡ Ok found
+  pub asked_dsdt : (m : Memory) (ps : List ℕ) (found : ℕ × List ℕ) (a : ℕ) → Allows may (dsdt_ranges m ps)
+      → lookup m fadt_kind ps ≡ Ok found
       → dsdt_address_of (fadt_at found.1) ≡ Ok a → Allows may (table_ranges m (plain_kind DSDT) a)
   asked_dsdt m ps found a h there address = rw address at (asked_place dsdt_place_ranges m ps found h there)
 
@@ -116,13 +131,17 @@ module _ (may : ℕ → ℕ → Bool) where
   pub asked_led : (m : Memory) (ps : List ℕ) → Allows may (place_ranges m ps) → Allows may (led_ranges m ps)
   asked_led m ps h = all_back may (header_ranges m ps) _ h
 
-  pub asked_dsdt_place : (m : Memory) (ps : List ℕ) (found : ℕ × List ℕ) → Allows may (led_ranges m ps) → lookup m fadt_kind ps ≡ Ok found
+  pub asked_dsdt_place : (m : Memory) (ps : List ℕ) (found : ℕ × List ℕ) → Allows may (led_ranges m ps)
+      → lookup m fadt_kind ps ≡ Ok found
       → Allows may (dsdt_place_ranges m (fadt_at found.1))
-  asked_dsdt_place m ps found h there = all_front may (dsdt_place_ranges m (fadt_at found.1)) _ (asked_place both_place_ranges m ps found h there)
+  asked_dsdt_place m ps found h there = all_front may (dsdt_place_ranges m (fadt_at found.1)) _
+      (asked_place both_place_ranges m ps found h there)
 
-  pub asked_facs_place : (m : Memory) (ps : List ℕ) (found : ℕ × List ℕ) → Allows may (led_ranges m ps) → lookup m fadt_kind ps ≡ Ok found
+  pub asked_facs_place : (m : Memory) (ps : List ℕ) (found : ℕ × List ℕ) → Allows may (led_ranges m ps)
+      → lookup m fadt_kind ps ≡ Ok found
       → Allows may (facs_place_ranges m (fadt_at found.1))
-  asked_facs_place m ps found h there = all_back may (dsdt_place_ranges m (fadt_at found.1)) _ (asked_place both_place_ranges m ps found h there)
+  asked_facs_place m ps found h there = all_back may (dsdt_place_ranges m (fadt_at found.1)) _
+      (asked_place both_place_ranges m ps found h there)
 
   -- ---- the RSDP
 
@@ -142,47 +161,62 @@ module _ (may : ℕ → ℕ → Bool) where
 
   -- ---- the search
 
-  pub asked_walk : (m : Memory) (s : Area) (b : List ℕ) → Allows may (area_ranges m s) → lent m s.start (room_of s) ≡ Ok b
+  pub asked_walk : (m : Memory) (s : Area) (b : List ℕ) → Allows may (area_ranges m s)
+      → lent m s.start (room_of s) ≡ Ok b
       → Allows may (walk_ranges m (count_of s) s.start)
   asked_walk m s b h there = rw there at (all_rest may (s.start, room_of s) _ h)
 
-  pub asked_first_area : (m : Memory) (w : ℕ) → Allows may (search_ranges m) → word_in m ≡ Ok w → Allows may (area_ranges m first_area)
+  pub asked_first_area : (m : Memory) (w : ℕ) → Allows may (search_ranges m) → word_in m ≡ Ok w
+      → Allows may (area_ranges m first_area)
   asked_first_area m w h word =
       all_front may (area_ranges m first_area) _ (behind (word_in m) _ w word (all_rest may (0x40e, 2) _ h))
 
-  pub asked_second_area : (m : Memory) (w : ℕ) → Allows may (search_ranges m) → word_in m ≡ Ok w → found_in m first_area ≡ Ok None
+  pub asked_second_area : (m : Memory) (w : ℕ) → Allows may (search_ranges m) → word_in m ≡ Ok w
+      → found_in m first_area ≡ Ok None
       → Allows may (area_ranges m (second_area w))
   asked_second_area m w h word none =
-      behind (found_in m first_area) _ None none (all_back may (area_ranges m first_area) _ (behind (word_in m) _ w word (all_rest may (0x40e, 2) _ h)))
+      behind (found_in m first_area) _ None none
+      (all_back may (area_ranges m first_area) _ (behind (word_in m) _ w word (all_rest may (0x40e, 2) _ h)))
 
-  of_pred : (n n' : ℕ) (m : Memory) (a : ℕ) → n ≡ n' → Allows may (rsdp_ranges m a ++ unless_found (rsdp_at m a) (walk_ranges m n (a + 16)))
+  of_pred : (n n' : ℕ) (m : Memory) (a : ℕ) → n ≡ n'
+      → Allows may (rsdp_ranges m a ++ unless_found (rsdp_at m a) (walk_ranges m n (a + 16)))
       → Allows may (rsdp_ranges m a ++ unless_found (rsdp_at m a) (walk_ranges m n' (a + 16)))
-  of_pred n n' m a same h = subst (λ x. Allows may (rsdp_ranges m a ++ unless_found (rsdp_at m a) (walk_ranges m x (a + 16)))) same h
+  of_pred n n' m a same h = subst (λ x. Allows may (rsdp_ranges m a
+      ++ unless_found (rsdp_at m a) (walk_ranges m x (a + 16)))) same h
 
   asked_step : (m : Memory) (n a : ℕ) → 0 < n → Allows may (walk_ranges m n a)
       → Allows may (rsdp_ranges m a ++ unless_found (rsdp_at m a) (walk_ranges m (n - 1) (a + 16)))
   asked_step m zero a some h = absurd (omega arith)
   asked_step m (suc n) a some h = of_pred n (suc n - 1) m a (omega arith) h
 
-  pub asked_candidate : (m : Memory) (n k start : ℕ) → k < n → Allows may (walk_ranges m (n - k) (start + 16 * k)) → Allows may (rsdp_ranges m (start + 16 * k))
-  asked_candidate m n k start turn h = all_front may (rsdp_ranges m (start + 16 * k)) _ (asked_step m (n - k) (start + 16 * k) (omega arith) h)
+  pub asked_candidate : (m : Memory) (n k start : ℕ) → k < n → Allows may (walk_ranges m (n - k) (start + 16 * k))
+      → Allows may (rsdp_ranges m (start + 16 * k))
+  asked_candidate m n k start turn h = all_front may (rsdp_ranges m (start + 16 * k)) _
+      (asked_step m (n - k) (start + 16 * k) (omega arith) h)
 
   -- after a candidate that is refused
-  after_refused : (m : Memory) (r : Result (List ℕ) AcpiError) (e : AcpiError) (xs : Ranges) → r ≡ Err e → Allows may (unless_found r xs) → Allows may xs
+  after_refused : (m : Memory) (r : Result (List ℕ) AcpiError) (e : AcpiError) (xs : Ranges) → r ≡ Err e
+      → Allows may (unless_found r xs) → Allows may xs
   after_refused m r e xs is h = rw is at h
 
-  moved_walk : (m : Memory) (n n' a a' : ℕ) → n ≡ n' → a ≡ a' → Allows may (walk_ranges m n a) → Allows may (walk_ranges m n' a')
+  moved_walk : (m : Memory) (n n' a a' : ℕ) → n ≡ n' → a ≡ a' → Allows may (walk_ranges m n a)
+      → Allows may (walk_ranges m n' a')
   moved_walk m n n' a a' same_n same_a h = rw (same_n, same_a) at h
 
-  pub asked_next : (m : Memory) (n k start : ℕ) (e : AcpiError) → k < n → Allows may (walk_ranges m (n - k) (start + 16 * k)) → rsdp_at m (start + 16 * k) ≡ Err e
+  pub asked_next : (m : Memory) (n k start : ℕ) (e : AcpiError) → k < n
+      → Allows may (walk_ranges m (n - k) (start + 16 * k)) → rsdp_at m (start + 16 * k) ≡ Err e
       → Allows may (walk_ranges m (n - (k + 1)) (start + 16 * (k + 1)))
   asked_next m n k start e turn h refused =
-      let rest = all_back may (rsdp_ranges m (start + 16 * k)) _ (asked_step m (n - k) (start + 16 * k) (omega arith) h) in
-      moved_walk m (n - k - 1) (n - (k + 1)) (start + 16 * k + 16) (start + 16 * (k + 1)) (omega arith) (omega arith) (after_refused m _ e _ refused rest)
+      let rest = all_back may (rsdp_ranges m (start + 16 * k)) _
+      (asked_step m (n - k) (start + 16 * k) (omega arith) h) in
+      moved_walk m (n - k - 1) (n - (k + 1)) (start + 16 * k + 16) (start + 16 * (k + 1)) (omega arith) (omega arith)
+      (after_refused m _ e _ refused rest)
 
 -- a call below a root table that was opened
-pub asked_below : {L : Type 0} (memory : L → Memory) (may : L → ℕ → ℕ → Bool) (ranges : Memory → List ℕ → Ranges) (handler lender : L) (place : RootPointer) (o : Opened)
-    → lender ≡ handler → opened_from (memory handler) place ≡ Ok o → Allows (may handler) (root_and_ranges (memory handler) place ranges)
+pub asked_below : {L : Type 0} (memory : L → Memory) (may : L → ℕ → ℕ → Bool) (ranges : Memory → List ℕ
+    → Ranges) (handler lender : L) (place : RootPointer) (o : Opened)
+    → lender ≡ handler → opened_from (memory handler) place ≡ Ok o
+    → Allows (may handler) (root_and_ranges (memory handler) place ranges)
     → Allows (may lender) (ranges (memory lender) (pointers (width_of o.kind) (drop 36 o.root)))
 asked_below memory may ranges handler lender place o same opened h =
     rw same (rw opened at (all_back (may handler) (opened_ranges (memory handler) place) _ h))

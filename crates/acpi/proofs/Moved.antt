@@ -8,7 +8,7 @@ use Rattle.acpi_base.specs.Mcfg.{mcfg_entries_of}
 use Rattle.acpi_base.specs.Memory.{Memory}
 use Rattle.acpi_base.specs.Model as model
 use Rattle.acpi_base.specs.Steps.{◌>>=◌}
-use Rattle.acpi_base.specs.Table.{kind, own_table_at, table_at}
+use Rattle.acpi_base.specs.Table.{kind, own_table_at, table_at, sdt_kind}
 use Rattle.acpi_base.specs.declared.error.AcpiError.{AcpiError}
 use Rattle.acpi_base.specs.declared.error.AcpiError.TheVariants.{TableMissing}
 use Rattle.acpi_base.specs.declared.model.interrupt.InterruptModel.TheVariants.{Unknown}
@@ -17,16 +17,17 @@ use Rattle.acpi_base.specs.declared.table.signature.Signature.{Signature}
 use Rattle.acpi_base.specs.declared.table.signature.TheConstants.Signature.{FADT, HPET, MADT, MCFG}
 use Rattle.acpi.proofs.First.{here}
 use Rattle.acpi.specs.Footprint.{below}
-use Rattle.acpi.specs.Hpet.{hpet_at, info_of}
+use Rattle.acpi.specs.Hpet.{hpet_at, info_of, hpet_of}
 use Rattle.acpi.specs.Later.{or_later}
 use Rattle.acpi.specs.Lists.{fadt_kind, own_header_at, valid_headers, valid_tables}
 use Rattle.acpi.specs.Lookup.{lookup}
-use Rattle.acpi.specs.Platform.{madt_kind, model_in}
-use Rattle.acpi.specs.Relocation.{FollowsTables, HeadersFollow, HpetFollows, LookupFollows, PlatformFollows, RegionsFollow, bytes_found}
+use Rattle.acpi.specs.Platform.{madt_kind, model_in, platform_of}
+use Rattle.acpi.specs.Relocation.{FollowsTables, bytes_found}
 use Rattle.acpi.specs.Root.{pointers, root_at, width_of}
 use Rattle.acpi.specs.Tables.{memory_of, pointers_of}
 use Rattle.acpi.specs.declared.root.RootKind.{RootKind}
 use Rattle.acpi.specs.declared.tables.AcpiTables.{AcpiTables}
+use Rattle.acpi.specs.Pci.{found_regions}
 
 abbrev done : {A : Type 0} → A → Result A AcpiError
 done x = Ok x
@@ -46,7 +47,7 @@ unfolding own_header_at
 headers_are m [] = refl
 headers_are m (p ∷ ps) = one_header (own_table_at m p) _ _ (headers_are m ps)
 
-pub headers_follow : HeadersFollow
+pub headers_follow : FollowsTables valid_headers
 headers_follow m n ps qs same = headers_are n qs ∙ ap (map header_at) same ∙ sym (headers_are m ps)
 
 -- ---- lookups
@@ -55,7 +56,8 @@ unfoldable pub first_of : Signature → ℕ → List (List ℕ) → Result (List
 first_of s least [] = Err (TableMissing s)
 first_of s least (t ∷ ts) = if serves s least t then Ok t else first_of s least ts
 
-found_by : (b : Bool) (p : ℕ) (t : List ℕ) (r : Result (List ℕ) AcpiError) (later : Result (ℕ × List ℕ) AcpiError) (others : Result (List ℕ) AcpiError)
+found_by : (b : Bool) (p : ℕ) (t : List ℕ) (r : Result (List ℕ) AcpiError) (later : Result (ℕ × List ℕ) AcpiError)
+    (others : Result (List ℕ) AcpiError)
     → result_ok r ≡ (if b then Some t else None) → bytes_found later ≡ others
     → bytes_found (or_later (here p) r later) ≡ (if b then Ok t else others)
 found_by true p t (Ok found) later others e f = cc
@@ -63,7 +65,8 @@ found_by true p t (Err d) later others e f = absurd cc
 found_by false p t (Ok found) later others e f = absurd cc
 found_by false p t (Err d) later others e f = f
 
-found_step : (s : Signature) (least p : ℕ) (o : Option (List ℕ)) (r : Result (List ℕ) AcpiError) (later : Result (ℕ × List ℕ) AcpiError) (ts : List (List ℕ))
+found_step : (s : Signature) (least p : ℕ) (o : Option (List ℕ)) (r : Result (List ℕ) AcpiError)
+    (later : Result (ℕ × List ℕ) AcpiError) (ts : List (List ℕ))
     → result_ok r ≡ served s least o → bytes_found later ≡ first_of s least ts
     → bytes_found (or_later (here p) r later) ≡ first_of s least (cons_option o ts)
 unfolding first_of
@@ -76,16 +79,19 @@ pub lookup_is : (m : Memory) (s : Signature) (least : ℕ) (ps : List ℕ) → 3
 unfolding first_of
 lookup_is m s least [] enough = refl
 lookup_is m s least (p ∷ ps) enough =
-    found_step s least p (result_ok (own_table_at m p)) (table_at m (kind s least (check_table s)) p) (lookup m (kind s least (check_table s)) ps) (valid_tables m ps)
+    found_step s least p (result_ok (own_table_at m p)) (table_at m (kind s least (check_table s)) p)
+    (lookup m (kind s least (check_table s)) ps) (valid_tables m ps)
     (own_table_is m s least p enough) (lookup_is m s least ps enough)
 
-pub lookup_follows : LookupFollows
+pub lookup_follows : (s : Signature) (least : ℕ) → 36 ≤ least
+    → FollowsTables (λ m ps. bytes_found (lookup m (sdt_kind s least) ps))
 lookup_follows s least enough m n ps qs same =
     lookup_is n s least qs enough ∙ ap (first_of s least) same ∙ sym (lookup_is m s least ps enough)
 
 -- ---- summaries
 
-by_bytes : {A : Type 0} (r : Result (ℕ × List ℕ) AcpiError) (said : List ℕ → Result A AcpiError) → (r >>= λ f. said f.1) ≡ (bytes_found r >>= said)
+by_bytes : {A : Type 0} (r : Result (ℕ × List ℕ) AcpiError) (said : List ℕ → Result A AcpiError)
+    → (r >>= λ f. said f.1) ≡ (bytes_found r >>= said)
 by_bytes (Ok found) said = refl
 by_bytes (Err e) said = refl
 
@@ -94,30 +100,35 @@ pub said_follows : {A : Type 0} (s : Signature) (least : ℕ) (said : List ℕ �
 said_follows s least said enough m n ps qs same =
     by_bytes _ said ∙ ap (λ r. r >>= said) (lookup_follows s least enough m n ps qs same) ∙ sym (by_bytes _ said)
 
-pub hpet_follows : HpetFollows
+pub hpet_follows : FollowsTables hpet_of
 hpet_follows = said_follows HPET 56 (λ b. info_of (hpet_at b)) (lit≤ tt)
 
-pub regions_follow : RegionsFollow
+pub regions_follow : FollowsTables found_regions
 regions_follow = said_follows MCFG 44 (λ b. Ok (mcfg_entries_of b)) (lit≤ tt)
 
-later_by_bytes : {B : Type 0} (r : Result (ℕ × List ℕ) AcpiError) (said : List ℕ → B) (later : B) → or_later (λ f. said f.1) r later ≡ or_later said (bytes_found r) later
+later_by_bytes : {B : Type 0} (r : Result (ℕ × List ℕ) AcpiError) (said : List ℕ → B) (later : B)
+    → or_later (λ f. said f.1) r later ≡ or_later said (bytes_found r) later
 later_by_bytes (Ok found) said later = refl
 later_by_bytes (Err e) said later = refl
 
-pub platform_follows : {A : Type 0} → PlatformFollows A
+pub platform_follows : {A : Type 0} → FollowsTables (λ m ps. platform_of {A = A} m ps)
 platform_follows {A = A} m n ps qs same =
     let fadts = lookup_follows FADT 116 (lit≤ tt) m n ps qs same in
     let madts = lookup_follows MADT 44 (lit≤ tt) m n ps qs same in
     let unknown : Result (model.Model A) AcpiError = Ok (Unknown, None) in
     let models : model_in {A = A} n qs ≡ model_in {A = A} m ps =
-    later_by_bytes (lookup n madt_kind qs) model.model_of unknown ∙ ap (λ r. or_later model.model_of r unknown) madts ∙ sym (later_by_bytes (lookup m madt_kind ps) model.model_of unknown) in
+    later_by_bytes (lookup n madt_kind qs) model.model_of unknown ∙ ap (λ r. or_later model.model_of r unknown) madts
+    ∙ sym (later_by_bytes (lookup m madt_kind ps) model.model_of unknown) in
     by_bytes (lookup n fadt_kind qs) _ ∙ rw (fadts, models) refl ∙ sym (by_bytes (lookup m fadt_kind ps) _)
 
 -- ---- from a root table
 
-moved_by : {A : Type 0} (n : Memory) (r : Result (List ℕ) AcpiError) (pointers_in : List ℕ → List ℕ) (ts : List (List ℕ))
-    (defined : Memory → List ℕ → Result A AcpiError) (said : Result A AcpiError) → ((qs : List ℕ) → valid_tables n qs ≡ ts → defined n qs ≡ said)
-    → (r >>= λ root. done (valid_tables n (pointers_in root))) ≡ Ok ts → (r >>= λ root. defined n (pointers_in root)) ≡ said
+moved_by : {A : Type 0} (n : Memory) (r : Result (List ℕ) AcpiError) (pointers_in : List ℕ
+    → List ℕ) (ts : List (List ℕ))
+    (defined : Memory → List ℕ → Result A AcpiError) (said : Result A AcpiError)
+    → ((qs : List ℕ) → valid_tables n qs ≡ ts → defined n qs ≡ said)
+    → (r >>= λ root. done (valid_tables n (pointers_in root))) ≡ Ok ts
+    → (r >>= λ root. defined n (pointers_in root)) ≡ said
 moved_by n (Ok root) pointers_in ts defined said each e = each (pointers_in root) (same_ok _ _ e)
 moved_by n (Err d) pointers_in ts defined said each e = absurd cc
 
@@ -127,8 +138,10 @@ pub moved_tables : {H A : Type 0} {h : _} (t : AcpiTables H h) (defined : Memory
     → below n kind address (λ ps. done (valid_tables n ps)) ≡ Ok (valid_tables (memory_of t) (pointers_of t))
     → below n kind address (defined n) ≡ defined (memory_of t) (pointers_of t)
 moved_tables t defined follows n kind address same =
-    moved_by n (root_at n kind address) (λ root. pointers (width_of kind) (drop 36 root)) (valid_tables (memory_of t) (pointers_of t)) defined _
+    moved_by n (root_at n kind address) (λ root. pointers (width_of kind) (drop 36 root))
+    (valid_tables (memory_of t) (pointers_of t)) defined _
     (λ qs e. follows (memory_of t) n (pointers_of t) qs e) same
 
-pub in_ok_follows : {A : Type 0} (defined : Memory → List ℕ → A) → FollowsTables defined → FollowsTables (λ m ps. done (defined m ps))
+pub in_ok_follows : {A : Type 0} (defined : Memory → List ℕ → A) → FollowsTables defined
+    → FollowsTables (λ m ps. done (defined m ps))
 in_ok_follows defined follows m n ps qs e = ap done (follows m n ps qs e)

@@ -8,6 +8,7 @@ use Rattle.std.specs.Result.{result_ok}
 use Rattle.std.proofs.lemmas.Bool.Decides.{nat_tests}
 use Rattle.acpi_base.specs.Memory.{Memory, Region, AreApart, IsMemory, at, end_of, lies_in, rest_from}
 use Rattle.acpi_base.specs.declared.range.AddressRange.{AddressRange}
+use Rattle.acpi_base.specs.OneRegion.{one_region}
 use Rattle.acpi_base.specs.declared.tables.mcfg.McfgEntry.{McfgEntry}
 use Rattle.acpi.proofs.First.{filter_map_few, one_more, pointers_few}
 use Rattle.acpi.specs.Members.{members_of}
@@ -19,8 +20,8 @@ use Rattle.acpi.specs.Ecam.{IsBeside, ecam_address}
 use denote.Ref.{Bor}
 use Rattle.std.specs.List.Sorted.{IsPartitionPoint}
 use Rattle.std.proofs.lemmas.List.{map-append, drop_more}
-use Rattle.std.proofs.lemmas.Bool.{le-leb, lt-leb, le-ltb, and_parts, and_left, and_right, leb-true, ltb-true}
-use Rattle.std.proofs.Math.Seq.{take-suc}
+use Rattle.std.proofs.lemmas.Bool.{le-leb, lt-leb, lt-ltb, le-ltb, and_parts, and_left, and_right, leb-true, ltb-true}
+use Rattle.std.proofs.Math.Seq.{take-length, take-suc}
 use Rattle.acpi.specs.Regions.{IsAscending, check_after, check_regions, region_memory, region_of, regions_of}
 use Rattle.acpi.specs.declared.handler.region.MappedRegion.{MappedRegion}
 
@@ -40,9 +41,16 @@ places_few root m ps =
     let members = filter_map (λ p. result_ok (place_at m p)) ps in
     let facs = result_ok (led_by facs_place m ps) in
     let dsdt = result_ok (led_by dsdt_place m ps) in
-    omega (arith, length-append members (cons_option dsdt (cons_option facs [])), filter_map_few (λ p. result_ok (place_at m p)) ps, one_more facs [] 0 (omega arith), one_more dsdt (cons_option facs []) 1 (one_more facs [] 0 (omega arith)))
+    omega (
+      arith,
+      length-append members (cons_option dsdt (cons_option facs [])),
+      filter_map_few (λ p. result_ok (place_at m p)) ps,
+      one_more facs [] 0 (omega arith),
+      one_more dsdt (cons_option facs []) 1 (one_more facs [] 0 (omega arith)),
+    )
 
-pub fits_places : (n w : ℕ) (root : List ℕ) → length root < 2 ^ 32 → n ≤ length (pointers w (drop 36 root)) + 3 → n < 2 ^ 32
+pub fits_places : (n w : ℕ) (root : List ℕ) → length root < 2 ^ 32 → n ≤ length (pointers w (drop 36 root)) + 3
+    → n < 2 ^ 32
 fits_places n w root short few = omega (arith, pointers_few w (drop 36 root), length-drop 36 root, short, few)
 
 -- ---- functions of PCI
@@ -51,34 +59,45 @@ fits_places n w root short few = omega (arith, pointers_few w (drop 36 root), le
 found : {X : Type 0} (p : X → Bool) (xs : List X) (e : X) → find p xs ≡ Some e → p e ≡ true
 found p [] e here = cc
 found p (x ∷ xs) e here =
-    (elim (p x) as (λ b. b ≡ p x → (if b then Some x else find p xs) ≡ Some e → p e ≡ true) [ true ↦ λ is same. let it : x ≡ e = cc in cc | false ↦ λ is later. found p xs e later ]) refl here
+    (elim (p x) as (λ b. b ≡ p x → (if b then Some x else find p xs) ≡ Some e
+    → p e ≡ true) [ true ↦ λ is same. let it : x ≡ e = cc in cc | false ↦ λ is later. found p xs e later ])
+    refl here
 
 -- two near places in a region
-one_place : (base s b d f bus dev fn : ℕ) → s ≤ b → s ≤ bus → d < 32 → f < 8 → dev < 32 → fn < 8 → base + (bus - s) * 1048576 + dev * 32768 + fn * 4096 < base + (b - s) * 1048576 + d * 32768 + f * 4096 + 4096 → base + (b - s) * 1048576 + d * 32768 + f * 4096 < base + (bus - s) * 1048576 + dev * 32768 + fn * 4096 + 4096 → (b ≡ bus) × (d ≡ dev) × (f ≡ fn)
+one_place : (base s b d f bus dev fn : ℕ) → s ≤ b → s ≤ bus → d < 32 → f < 8 → dev < 32 → fn < 8
+    → base + (bus - s) * 1048576 + dev * 32768 + fn * 4096 < base + (b - s) * 1048576 + d * 32768 + f * 4096 + 4096
+    → base + (b - s) * 1048576 + d * 32768 + f * 4096 < base + (bus - s) * 1048576 + dev * 32768 + fn * 4096 + 4096
+    → (b ≡ bus) × (d ≡ dev) × (f ≡ fn)
 one_place base s b d f bus dev fn h1 h2 h3 h4 h5 h6 h7 h8 = (omega arith, omega arith, omega arith)
 
 -- what an address tells of its function, in a region
-device_told : (p d f a : ℕ) → (if nat_lt d 32 && nat_lt f 8 then (if nat_lt p (2 ^ 64) then Some p else None) else None) ≡ Some a → d < 32
+device_told : (p d f a : ℕ) → (if nat_lt d 32 && nat_lt f 8 then (if nat_lt p (2 ^ 64) then Some p else None) else None)
+    ≡ Some a → d < 32
 device_told p d f a h = grind (arith, nat_tests)
 
-function_told : (p d f a : ℕ) → (if nat_lt d 32 && nat_lt f 8 then (if nat_lt p (2 ^ 64) then Some p else None) else None) ≡ Some a → f < 8
+function_told : (p d f a : ℕ) → (if nat_lt d 32 && nat_lt f 8 then (if nat_lt p (2 ^ 64) then Some p else None)
+    else None) ≡ Some a → f < 8
 function_told p d f a h = grind (arith, nat_tests)
 
-place_told : (p d f a : ℕ) → (if nat_lt d 32 && nat_lt f 8 then (if nat_lt p (2 ^ 64) then Some p else None) else None) ≡ Some a → p ≡ a
+place_told : (p d f a : ℕ) → (if nat_lt d 32 && nat_lt f 8 then (if nat_lt p (2 ^ 64) then Some p else None) else None)
+    ≡ Some a → p ≡ a
 place_told p d f a h = grind (arith, nat_tests)
 
-none_told : (b : Bool) (o : Option McfgEntry) (bus d f a : ℕ) → o ≡ None → (if b then option_and_then (function_address bus d f) o else None) ≡ Some a → Unit {0} → ⊥
+none_told : (b : Bool) (o : Option McfgEntry) (bus d f a : ℕ) → o ≡ None
+    → (if b then option_and_then (function_address bus d f) o else None) ≡ Some a → Unit {0} → ⊥
 none_told true o bus d f a e h u = let gone : option_and_then (function_address bus d f) None ≡ Some a = rw e at h in cc
 none_told false o bus d f a e h u = cc
 
 low : (e : McfgEntry) (segment bus : ℕ) → is_of segment bus e ≡ true → e.bus_number_start ≤ bus
 low e segment bus h = grind (arith, nat_tests)
 
-near : (o : Option McfgEntry) (regions : List McfgEntry) (segment bus d f a b d' f' a' : ℕ) → find (is_of segment bus) regions ≡ o → find (is_of segment b) regions ≡ o
+near : (o : Option McfgEntry) (regions : List McfgEntry) (segment bus d f a b d' f' a' : ℕ)
+    → find (is_of segment bus) regions ≡ o → find (is_of segment b) regions ≡ o
     → (if nat_lt d 32 && nat_lt f 8 then option_and_then (function_address bus d f) o else None) ≡ Some a
     → (if nat_lt d' 32 && nat_lt f' 8 then option_and_then (function_address b d' f') o else None) ≡ Some a'
     → a < a' + 4096 → a' < a + 4096 → (b ≡ bus) × (d' ≡ d) × (f' ≡ f)
-near None regions segment bus d f a b d' f' a' here there one two above below = absurd (none_told (nat_lt d 32 && nat_lt f 8) None bus d f a refl one tt)
+near None regions segment bus d f a b d' f' a' here there one two above below =
+    absurd (none_told (nat_lt d 32 && nat_lt f 8) None bus d f a refl one tt)
 near (Some e) regions segment bus d f a b d' f' a' here there one two above below =
     let s = e.bus_number_start in
     let p = place_in e bus d f in
@@ -86,14 +105,20 @@ near (Some e) regions segment bus d f a b d' f' a' here there one two above belo
     let pa : p ≡ a = place_told p d f a one in
     let qa : q ≡ a' = place_told q d' f' a' two in
     one_place e.base_address s b d' f' bus d f
-    (low e segment b (found (is_of segment b) regions e there)) (low e segment bus (found (is_of segment bus) regions e here))
-    (device_told q d' f' a' two) (function_told q d' f' a' two) (device_told p d f a one) (function_told p d f a one) (omega arith) (omega arith)
+    (low e segment b (found (is_of segment b) regions e there))
+    (low e segment bus (found (is_of segment bus) regions e here))
+    (device_told q d' f' a' two) (function_told q d' f' a' two) (device_told p d f a one) (function_told p d f a one)
+    (omega arith) (omega arith)
 
-pub apart : (regions : List McfgEntry) (segment bus d f a : ℕ) → pci_address regions segment bus d f ≡ Some a → IsApart regions segment bus d f a
+pub apart : (regions : List McfgEntry) (segment bus d f a : ℕ) → pci_address regions segment bus d f ≡ Some a
+    → IsApart regions segment bus d f a
 unfolding pci_address pci_region_of
-apart regions segment bus d f a one = λ b d' f' a' same two above below. near (find (is_of segment bus) regions) regions segment bus d f a b d' f' a' refl same one (rw same at two) above below
+apart regions segment bus d f a one = λ b d' f' a' same two above below.
+    near (find (is_of segment bus) regions) regions segment bus d f a b d' f' a' refl same one
+    (rw same at two) above below
 
-pub if_apart : (o : Option ℕ) (regions : List McfgEntry) (segment bus d f : ℕ) → o ≡ pci_address regions segment bus d f → IfSome o (IsApart regions segment bus d f)
+pub if_apart : (o : Option ℕ) (regions : List McfgEntry) (segment bus d f : ℕ) → o ≡ pci_address regions segment bus d f
+    → IfSome o (IsApart regions segment bus d f)
 if_apart None regions segment bus d f is = tt
 if_apart (Some a) regions segment bus d f is = apart regions segment bus d f a (sym is)
 
@@ -113,7 +138,8 @@ ecam_small : (e : McfgEntry) (bus d f a : ℕ) → ecam_in bus d f e ≡ Some a 
 ecam_small e bus d f a h = grind (arith, nat_tests)
 
 -- the place by the first bus is below it, by the buses before that
-below : (base s bus d f : ℕ) → s ≤ bus → base + bus * 1048576 + d * 32768 + f * 4096 ≡ base + (bus - s) * 1048576 + d * 32768 + f * 4096 + s * 1048576
+below : (base s bus d f : ℕ) → s ≤ bus → base + bus * 1048576 + d * 32768 + f * 4096
+    ≡ base + (bus - s) * 1048576 + d * 32768 + f * 4096 + s * 1048576
 below base s bus d f h = omega arith
 
 in_region : (e : McfgEntry) (bus d f a : ℕ) → ecam_in bus d f e ≡ Some a
@@ -122,10 +148,12 @@ in_region e bus d f a h =
     let both = ecam_device e bus d f a h in
     let less = below e.base_address e.bus_number_start bus d f (ecam_first e bus d f a h) in
     let small : place_in e bus d f < 2 ^ 64 = omega (arith, ecam_small e bus d f a h, less) in
-    let first : (if nat_lt d 32 && nat_lt f 8 then function_address bus d f e else None) ≡ function_address bus d f e = rw both refl in
+    let first : (if nat_lt d 32 && nat_lt f 8 then function_address bus d f e else None) ≡ function_address bus d f e =
+    rw both refl in
     grind (arith, nat_tests)
 
-beside_in : (regions : List McfgEntry) (segment bus d f a : ℕ) (o : Option McfgEntry) → pci_region_of regions segment bus ≡ o
+beside_in : (regions : List McfgEntry) (segment bus d f a : ℕ) (o : Option McfgEntry)
+    → pci_region_of regions segment bus ≡ o
     → option_and_then (ecam_in bus d f) o ≡ Some a → IsBeside regions segment bus d f a
 unfolding pci_address
 beside_in regions segment bus d f a None e h = absurd cc
@@ -137,7 +165,8 @@ beside_in regions segment bus d f a (Some r) e h = (
   sym (ecam_at r bus d f a h) ∙ below r.base_address r.bus_number_start bus d f (ecam_first r bus d f a h),
 )
 
-pub if_beside : (o : Option ℕ) (regions : List McfgEntry) (segment bus d f : ℕ) → o ≡ ecam_address regions segment bus d f → IfSome o (IsBeside regions segment bus d f)
+pub if_beside : (o : Option ℕ) (regions : List McfgEntry) (segment bus d f : ℕ)
+    → o ≡ ecam_address regions segment bus d f → IfSome o (IsBeside regions segment bus d f)
 if_beside None regions segment bus d f is = tt
 if_beside (Some a) regions segment bus d f is = beside_in regions segment bus d f a _ refl (sym is)
 
@@ -169,11 +198,13 @@ pub record IsChecked (all : List MappedRegion) (i start end : ℕ) : Type 0 wher
   pub ascending : IsAscending (regions_of (take i all))
   pub below : AllBelow end (regions_of (take i all))
 
-all_with : {X : Type 0} (P : X → Type 0) (xs : List X) (y : X) → AllByRecursion P xs → P y → AllByRecursion P (xs ++ (y ∷ []))
+all_with : {X : Type 0} (P : X → Type 0) (xs : List X) (y : X) → AllByRecursion P xs → P y
+    → AllByRecursion P (xs ++ (y ∷ []))
 all_with P [] y h hy = (hy, tt)
 all_with P (x ∷ xs) y h hy = (h.0, all_with P xs y h.1 hy)
 
-ascending_with : (m : Memory) (r : Region) (end : ℕ) → IsAscending m → AllBelow end m → end ≤ r.start → IsAscending (m ++ (r ∷ []))
+ascending_with : (m : Memory) (r : Region) (end : ℕ) → IsAscending m → AllBelow end m → end ≤ r.start
+    → IsAscending (m ++ (r ∷ []))
 ascending_with [] r end h below le = (tt, tt)
 ascending_with (s ∷ m) r end h below le =
     (all_with (λ x. end_of s ≤ x.start) m r h.0 (omega (arith, below.0)), ascending_with m r end h.1 below.1 le)
@@ -182,18 +213,22 @@ below_with : (m : Memory) (r : Region) (end : ℕ) → AllBelow end m → end �
 below_with [] r end h le = (omega arith, tt)
 below_with (s ∷ m) r end h le = (omega (arith, h.0), below_with m r end h.1 le)
 
-checked_at : (all : List MappedRegion) (i start end : ℕ) (r : MappedRegion) (rest : List MappedRegion) → IsChecked all i start end → drop i all ≡ r ∷ rest
-    → start ≤ r.start → end ≤ r.start → check_after r.start (end_of (region_of r)) (regions_of rest) ≡ check_regions (regions_of all)
+checked_at : (all : List MappedRegion) (i start end : ℕ) (r : MappedRegion) (rest : List MappedRegion)
+    → IsChecked all i start end → drop i all ≡ r ∷ rest
+    → start ≤ r.start → end ≤ r.start → check_after r.start (end_of (region_of r)) (regions_of rest)
+    ≡ check_regions (regions_of all)
 checked_at all i start end r rest h e up apart =
     let was = h.same in
     rw (e, le-leb _ _ up, le-leb _ _ apart) at was
 
 -- one more region
-pub checked_more : (all : List MappedRegion) (i start end : ℕ) (d r : MappedRegion) → r ≡ get_or all i d → IsChecked all i start end → i < length all
+pub checked_more : (all : List MappedRegion) (i start end : ℕ) (d r : MappedRegion) → r ≡ get_or all i d
+    → IsChecked all i start end → i < length all
     → start ≤ r.start → end ≤ r.start → IsChecked all (i + 1) r.start (end_of (region_of r))
 checked_more all i start end d r is h less up apart =
     let front : take (i + 1) all ≡ take i all ++ (r ∷ []) = rw (add-one, is) (take-suc all i d less) in
-    let parts : regions_of (take (i + 1) all) ≡ regions_of (take i all) ++ (region_of r ∷ []) = rw front (map-append region_of (take i all) (r ∷ [])) in
+    let parts : regions_of (take (i + 1) all) ≡ regions_of (take i all) ++ (region_of r ∷ []) =
+    rw front (map-append region_of (take i all) (r ∷ [])) in
     let later : drop i all ≡ r ∷ drop (i + 1) all = rw is (drop_more all i d less) in
     record {
       same = checked_at all i start end r (drop (i + 1) all) h later up apart;
@@ -204,7 +239,9 @@ checked_more all i start end d r is h less up apart =
 -- ---- where an address lies
 
 -- no region starts at the address or below it
-nothing_at : (rs : List MappedRegion) (a : ℕ) → ((j : ℕ) (d : MappedRegion) → j < length rs → leb (get_or rs j d).start a ≡ false) → rest_from (regions_of rs) a ≡ []
+nothing_at : (rs : List MappedRegion) (a : ℕ)
+    → ((j : ℕ) (d : MappedRegion) → j < length rs → leb (get_or rs j d).start a ≡ false)
+    → rest_from (regions_of rs) a ≡ []
 unfolding rest_from
 nothing_at [] a h = refl
 nothing_at (r ∷ rs) a h =
@@ -212,14 +249,16 @@ nothing_at (r ∷ rs) a h =
     rw out (nothing_at rs a (λ j d inside. h (suc j) d (omega arith)))
 
 -- a region ends where a later one starts, or below
-first_ends : (r : MappedRegion) (rs : List MappedRegion) (j : ℕ) (d : MappedRegion) → AllByRecursion (λ s. end_of (region_of r) ≤ s.start) (regions_of rs) → j < length rs
+first_ends : (r : MappedRegion) (rs : List MappedRegion) (j : ℕ) (d : MappedRegion)
+    → AllByRecursion (λ s. end_of (region_of r) ≤ s.start) (regions_of rs) → j < length rs
     → end_of (region_of r) ≤ (get_or rs j d).start
 first_ends r [] j d h less = absurd (omega arith)
 first_ends r (s ∷ rs) zero d h less = h.0
 first_ends r (s ∷ rs) (suc j) d h less = first_ends r rs j d h.1 (omega arith)
 
 -- the test by which the regions are halved: if a region passes, so do those before it
-pub passes_before : (rs : List MappedRegion) (a i j : ℕ) (d : MappedRegion) → IsAscending (regions_of rs) → i ≤ j → j < length rs → leb (get_or rs j d).start a ≡ true → leb (get_or rs i d).start a ≡ true
+pub passes_before : (rs : List MappedRegion) (a i j : ℕ) (d : MappedRegion) → IsAscending (regions_of rs) → i ≤ j
+    → j < length rs → leb (get_or rs j d).start a ≡ true → leb (get_or rs i d).start a ≡ true
 passes_before [] a i j d h le inside up = absurd (omega arith)
 passes_before (r ∷ rs) a zero zero d h le inside up = up
 passes_before (r ∷ rs) a zero (suc j) d h le inside up =
@@ -231,8 +270,10 @@ abbrev Starts : ℕ → Bool → MappedRegion → Type 0
 Starts a b r = leb r.start a ≡ b
 
 -- the last region that passes decides, or else the first
-pub one_decides : (rs : List MappedRegion) (a after : ℕ) (d : MappedRegion) → IsAscending (regions_of rs) → 0 < length rs → after ≤ length rs
-    → IsPartitionPoint (Starts a true) (Starts a false) rs after → rest_from (regions_of rs) a ≡ rest_from (region_of (get_or rs (after - 1) d) ∷ []) a
+pub one_decides : (rs : List MappedRegion) (a after : ℕ) (d : MappedRegion) → IsAscending (regions_of rs)
+    → 0 < length rs → after ≤ length rs
+    → IsPartitionPoint (Starts a true) (Starts a false) rs after
+    → rest_from (regions_of rs) a ≡ rest_from (region_of (get_or rs (after - 1) d) ∷ []) a
 unfolding rest_from
 one_decides [] a after d h some bound point = absurd (omega arith)
 one_decides (r ∷ rs) a zero d h some bound point =
@@ -258,13 +299,16 @@ one_decides (r ∷ rs) a (suc (suc k)) d h some bound point =
 abbrev There : List MappedRegion → ℕ → Option (Bor MappedRegion) → Type 0
 There rs i o = MatchOption o (length rs ≤ i) (λ x. (i < length rs) × ((d : MappedRegion) → x.now ≡ get_or rs i d))
 
-pub decides : (rs : List MappedRegion) (a after : ℕ) (o : Option (Bor MappedRegion)) → IsAscending (regions_of rs) → after ≤ length rs
-    → IsPartitionPoint (Starts a true) (Starts a false) rs after → There rs (after - 1) o → IfSome o (λ r. rest_from (regions_of rs) a ≡ rest_from (region_memory r.now) a)
+pub decides : (rs : List MappedRegion) (a after : ℕ) (o : Option (Bor MappedRegion)) → IsAscending (regions_of rs)
+    → after ≤ length rs
+    → IsPartitionPoint (Starts a true) (Starts a false) rs after → There rs (after - 1) o
+    → IfSome o (λ r. rest_from (regions_of rs) a ≡ rest_from (region_memory r.now) a)
 decides rs a after None h bound point there = tt
 decides rs a after (Some x) h bound point there =
     rw (← (there.1 x.now)) at (one_decides rs a after x.now h (omega (arith, there.0)) bound point)
 
-pub no_regions : (rs : List MappedRegion) (after : ℕ) (o : Option (Bor MappedRegion)) → after ≤ length rs → There rs (after - 1) o → IfNone o (regions_of rs ≡ [])
+pub no_regions : (rs : List MappedRegion) (after : ℕ) (o : Option (Bor MappedRegion)) → after ≤ length rs
+    → There rs (after - 1) o → IfNone o (regions_of rs ≡ [])
 no_regions [] after None bound there = refl
 no_regions [] after (Some x) bound there = tt
 no_regions (r ∷ rs) after None bound there = absurd (omega (arith, there))
@@ -279,3 +323,13 @@ at_same m n a size same = rw same refl
 pub at_none : (m : Memory) (a size : ℕ) → m ≡ [] → 0 < size → at m a size ≡ None
 unfolding at rest_from
 at_none m a size none some = rw (none, lt-leb _ _ some) refl
+
+-- what is lent from an address on is all the rest of the region
+pub rest_of_region : (start a : ℕ) (b : List ℕ) → start ≤ a → a - start < length b
+    → take (length b - (a - start)) (drop (a - start) b) ≡ rest_from (one_region start b) a
+unfolding rest_from
+rest_of_region start a b low high =
+    let below : a < start + length b = omega arith in
+    let all : take (length b - (a - start)) (drop (a - start) b) ≡ drop (a - start) b =
+    rw (← length-drop (a - start) b) (take-length (drop (a - start) b)) in
+    rw (all, le-leb _ _ low, lt-ltb _ _ below) refl

@@ -16,7 +16,7 @@ use Rattle.acpi_base.specs.declared.memory.mapping.PhysicalMapping.{PhysicalMapp
 use Rattle.acpi_base.specs.Mapping.{start_of}
 use Rattle.acpi.specs.Later.{or_later}
 use Rattle.acpi.specs.Search.{walk, first_area, second_area, room_of, count_of, found_in, found_rsdp, or_else, word_in, IsRefused, IsLeast, HasNone, IsLent, IsSecond, IsSearched, IsFound, placed}
-use Rattle.acpi.specs.declared.rsdp.area.Area.{Area}
+use Rattle.acpi.specs.declared.rsdp.bios.Area.{Area}
 use Rattle.std.specs.Prelude.{IsOk, IfOk, nat_le}
 use Rattle.acpi_base.proofs.Steps.{bind_ok, holds_ok}
 use Rattle.acpi_base.proofs.OwnTable.{part_within}
@@ -46,11 +46,13 @@ part_of_front b size off n room =
     let cut : drop off (take size b) ≡ take (size - off) (drop off b) = rw split at (drop-take off (size - off) b) in
     ap (take n) cut ∙ take-take n (size - off) (drop off b) (omega arith)
 
-holds_part : (r : Region) (a off n size : ℕ) (b : List ℕ) → HoldsRange r a size b → off + n ≤ size → HoldsRange r (a + off) n (part b off n)
+holds_part : (r : Region) (a off n size : ℕ) (b : List ℕ) → HoldsRange r a size b → off + n ≤ size
+    → HoldsRange r (a + off) n (part b off n)
 holds_part r a off n size b h room =
     let low : r.start ≤ a = h.starts in
     let moved : a - r.start + off ≡ a + off - r.start = omega arith in
-    let same : drop off (drop (a - r.start) r.bytes) ≡ drop (a + off - r.start) r.bytes = rw moved at (drop-drop off (a - r.start) r.bytes) in
+    let same : drop off (drop (a - r.start) r.bytes) ≡ drop (a + off - r.start) r.bytes =
+    rw moved at (drop-drop off (a - r.start) r.bytes) in
     record {
       starts = omega arith;
       ends = omega (arith, h.ends);
@@ -58,14 +60,16 @@ holds_part r a off n size b h room =
     }
 
 -- what is lent of a range is lent of each range inside it
-pub lent_part : (m : Memory) (a off n size : ℕ) (b : List ℕ) → IsMemory m → lent m a size ≡ Ok b → 0 < n → off + n ≤ size → lent m (a + off) n ≡ Ok (part b off n)
+pub lent_part : (m : Memory) (a off n size : ℕ) (b : List ℕ) → IsMemory m → lent m a size ≡ Ok b → 0 < n
+    → off + n ≤ size → lent m (a + off) n ≡ Ok (part b off n)
 lent_part m a off n size b hm e some room =
     let region = (lent_is_inside m a size b hm (omega arith)).0 (at_lent m a size b e) in
     let range = holds_part region.0 a off n size b region.2 room in
     rw ((lent_is_inside m (a + off) n (part b off n) hm some).1 (region.0, region.1, range)) refl
 
 -- without the signature no RSDP is there
-pub unsigned_refused : (m : Memory) (a off size : ℕ) (b : List ℕ) → IsMemory m → lent m a size ≡ Ok b → off + 36 ≤ size → bytes_eq (part b off 8) rsd_ptr ≡ false → rsdp_at m (a + off) ≡ Err RsdpIncorrectSignature
+pub unsigned_refused : (m : Memory) (a off size : ℕ) (b : List ℕ) → IsMemory m → lent m a size ≡ Ok b → off + 36 ≤ size
+    → bytes_eq (part b off 8) rsd_ptr ≡ false → rsdp_at m (a + off) ≡ Err RsdpIncorrectSignature
 unfolding rsdp_at checked_length check_first rsdp_of
 unsigned_refused m a off size b hm e room other =
     let there = lent_part m a off 36 size b hm e (omega arith) room in
@@ -90,8 +94,10 @@ walk_step m (suc n) a some =
     let less : suc n - 1 ≡ n = omega arith in
     rw less refl
 
-module _ (m : Memory) (n k start : ℕ) (all : Option (ℕ × List ℕ)) (so_far : walk m (n - k) (start + 16 * k) ≡ all) (turn : k < n) where
-  turned : or_later (there (start + 16 * k)) (rsdp_at m (start + 16 * k)) (walk m (n - (k + 1)) (start + 16 * (k + 1))) ≡ all
+module _ (m : Memory) (n k start : ℕ) (all : Option (ℕ × List ℕ)) (so_far : walk m (n - k) (start + 16 * k) ≡ all)
+    (turn : k < n) where
+  turned : or_later (there (start + 16 * k)) (rsdp_at m (start + 16 * k))
+      (walk m (n - (k + 1)) (start + 16 * (k + 1))) ≡ all
   turned =
       let less : n - k - 1 ≡ n - (k + 1) = omega arith in
       let next : start + 16 * k + 16 ≡ start + 16 * (k + 1) = omega arith in
@@ -103,11 +109,13 @@ module _ (m : Memory) (n k start : ℕ) (all : Option (ℕ × List ℕ)) (so_far
   walk_here b valid = rw valid at turned
 
   -- the candidate in turn is refused
-  pub walk_later : (e : AcpiError) → rsdp_at m (start + 16 * k) ≡ Err e → walk m (n - (k + 1)) (start + 16 * (k + 1)) ≡ all
+  pub walk_later : (e : AcpiError) → rsdp_at m (start + 16 * k) ≡ Err e
+      → walk m (n - (k + 1)) (start + 16 * (k + 1)) ≡ all
   walk_later e refused = rw refused at turned
 
   -- the candidate in turn lacks the signature
-  pub walk_past : (size : ℕ) (b : List ℕ) → IsMemory m → lent m start size ≡ Ok b → 16 * k + 36 ≤ size → bytes_eq (part b (16 * k) 8) rsd_ptr ≡ false → walk m (n - (k + 1)) (start + 16 * (k + 1)) ≡ all
+  pub walk_past : (size : ℕ) (b : List ℕ) → IsMemory m → lent m start size ≡ Ok b → 16 * k + 36 ≤ size
+      → bytes_eq (part b (16 * k) 8) rsd_ptr ≡ false → walk m (n - (k + 1)) (start + 16 * (k + 1)) ≡ all
   walk_past size b h e room other = walk_later _ (unsigned_refused m start (16 * k) size b h e room other)
 
 -- ---- the search gives the least valid candidate
@@ -115,13 +123,15 @@ module _ (m : Memory) (n k start : ℕ) (all : Option (ℕ × List ℕ)) (so_far
 -- what n candidates from an address on have
 abbrev pub Says : Memory → ℕ → ℕ → Option (ℕ × List ℕ) → Type 0
 Says m n a (Some found) =
-    (k : ℕ) × (k < n) × (found.0 ≡ a + 16 * k) × (rsdp_at m found.0 ≡ Ok found.1) × ((i : ℕ) → i < k → IsRefused m (a + 16 * i))
+    (k : ℕ) × (k < n) × (found.0 ≡ a + 16 * k) × (rsdp_at m found.0 ≡ Ok found.1)
+    × ((i : ℕ) → i < k → IsRefused m (a + 16 * i))
 Says m n a None = (i : ℕ) → i < n → IsRefused m (a + 16 * i)
 
 moved : (m : Memory) (a b : ℕ) → a ≡ b → IsRefused m a → IsRefused m b
 moved m a b e h = subst (λ (x : ℕ). IsRefused m x) e h
 
-refused_more : (m : Memory) (a k : ℕ) → IsRefused m a → ((i : ℕ) → i < k → IsRefused m (a + 16 + 16 * i)) → (i : ℕ) → i < suc k → IsRefused m (a + 16 * i)
+refused_more : (m : Memory) (a k : ℕ) → IsRefused m a → ((i : ℕ) → i < k → IsRefused m (a + 16 + 16 * i)) → (i : ℕ)
+    → i < suc k → IsRefused m (a + 16 * i)
 refused_more m a k first rest zero less = moved m a _ (omega arith) first
 refused_more m a k first rest (suc i) less = moved m (a + 16 + 16 * i) _ (omega arith) (rest i (omega arith))
 
@@ -130,7 +140,8 @@ one_more m n a (Some found) first h =
     (suc h.0, omega (arith, h.1), h.2 ∙ omega arith, h.3, refused_more m a h.0 first h.4)
 one_more m n a None first h = refused_more m a n first h
 
-walk_one : (m : Memory) (n a : ℕ) (r : Result (List ℕ) AcpiError) (later : Option (ℕ × List ℕ)) → rsdp_at m a ≡ r → Says m n (a + 16) later → Says m (suc n) a (or_later (there a) r later)
+walk_one : (m : Memory) (n a : ℕ) (r : Result (List ℕ) AcpiError) (later : Option (ℕ × List ℕ)) → rsdp_at m a ≡ r
+    → Says m n (a + 16) later → Says m (suc n) a (or_later (there a) r later)
 walk_one m n a (Ok b) later e h =
     (0, omega arith, omega arith, e, λ i less. absurd (omega (arith, less)))
 walk_one m n a (Err x) later e h = one_more m n a later (x, e) h
@@ -151,7 +162,8 @@ InArea m s (Ok (Some found)) = IsLeast m s found
 InArea m s (Ok None) = HasNone m s
 InArea m s (Err e) = (e ≡ MapFailed) × (at m s.start (room_of s) ≡ None)
 
-walked : (m : Memory) (s : Area) (o : Option (ℕ × List ℕ)) → IsLent m s → Says m (count_of s) s.start o → InArea m s (Ok o)
+walked : (m : Memory) (s : Area) (o : Option (ℕ × List ℕ)) → IsLent m s → Says m (count_of s) s.start o
+    → InArea m s (Ok o)
 walked m s (Some found) there h =
     let fits = count_fits s h.0 h.1 in
     record {
@@ -165,7 +177,8 @@ walked m s None there h = record {
   refused = λ a c. moved m (s.start + 16 * c.0) a (sym c.1) (h c.0 (fits_count s c.0 (omega (arith, c.1, c.2))));
 }
 
-area_lent : (m : Memory) (s : Area) (o : Option (List ℕ)) → at m s.start (room_of s) ≡ o → InArea m s (ok_or o MapFailed >>= λ b. Ok (walk m (count_of s) s.start))
+area_lent : (m : Memory) (s : Area) (o : Option (List ℕ)) → at m s.start (room_of s) ≡ o
+    → InArea m s (ok_or o MapFailed >>= λ b. Ok (walk m (count_of s) s.start))
 area_lent m s (Some b) e = walked m s _ (b, e) (walk_says m (count_of s) s.start)
 area_lent m s None e = (refl, e)
 
@@ -178,7 +191,8 @@ abbrev IsWord : Memory → Result ℕ AcpiError → Type 0
 IsWord m (Ok word) = (b : List ℕ) × (at m 0x40e 2 ≡ Some b) × (word ≡ field_of b 0 2)
 IsWord m (Err e) = (e ≡ MapFailed) × (at m 0x40e 2 ≡ None)
 
-word_lent : (m : Memory) (o : Option (List ℕ)) → at m 0x40e 2 ≡ o → IsWord m (ok_or o MapFailed >>= λ b. Ok (field_of b 0 2))
+word_lent : (m : Memory) (o : Option (List ℕ)) → at m 0x40e 2 ≡ o
+    → IsWord m (ok_or o MapFailed >>= λ b. Ok (field_of b 0 2))
 word_lent m (Some b) e = (b, e, refl)
 word_lent m None e = (refl, e)
 
@@ -196,17 +210,22 @@ module _ (m : Memory) (word : ℕ) (is : IsWord m (Ok word)) where
   is_second : IsSecond m (second_area word)
   is_second = (is.0, is.1, ap second_area is.2)
 
-  in_second : HasNone m first_area → (r : Result (Option (ℕ × List ℕ)) AcpiError) → InArea m (second_area word) r → Searched m (r >>= λ found. or_else found (Err NoValidRsdp))
+  in_second : HasNone m first_area → (r : Result (Option (ℕ × List ℕ)) AcpiError) → InArea m (second_area word) r
+      → Searched m (r >>= λ found. or_else found (Err NoValidRsdp))
   in_second none (Ok (Some found)) least = (second_area word, is_second, inr (none, least))
   in_second none (Ok None) missing = inr (refl, (second_area word, is_second, none, missing))
   in_second none (Err e) unlent = inl (unlent.0, inr (inr (second_area word, is_second, none, unlent.1)))
 
-  in_first : (r : Result (Option (ℕ × List ℕ)) AcpiError) → InArea m first_area r → Searched m (r >>= λ first. or_else first (found_in m (second_area word) >>= λ found. or_else found (Err NoValidRsdp)))
+  in_first : (r : Result (Option (ℕ × List ℕ)) AcpiError) → InArea m first_area r
+      → Searched m (r >>= λ first. or_else first (found_in m (second_area word) >>= λ found.
+      or_else found (Err NoValidRsdp)))
   in_first (Ok (Some found)) least = (second_area word, is_second, inl least)
   in_first (Ok None) none = in_second none _ (in_area m (second_area word))
   in_first (Err e) unlent = inl (unlent.0, inr (inl unlent.1))
 
-from_word : (m : Memory) (r : Result ℕ AcpiError) → IsWord m r → Searched m (r >>= λ word. found_in m first_area >>= λ first. or_else first (found_in m (second_area word) >>= λ found. or_else found (Err NoValidRsdp)))
+from_word : (m : Memory) (r : Result ℕ AcpiError) → IsWord m r
+    → Searched m (r >>= λ word. found_in m first_area >>= λ first.
+    or_else first (found_in m (second_area word) >>= λ found. or_else found (Err NoValidRsdp)))
 from_word m (Ok word) is = in_first m word is _ (in_area m first_area)
 from_word m (Err e) unlent = inl (unlent.0, inl unlent.1)
 
@@ -215,7 +234,8 @@ unfolding found_rsdp
 found_is_searched m = from_word m _ (is_word m)
 
 -- what answers as `found_rsdp` has found the least valid candidate, or there is none
-pub searched : {X : Type 0} (m : Memory) (view : X → ℕ × List ℕ) (r : Result X AcpiError) → Gives view r (found_rsdp m) → IsSearched m view r
+pub searched : {X : Type 0} (m : Memory) (view : X → ℕ × List ℕ) (r : Result X AcpiError) → Gives view r (found_rsdp m)
+    → IsSearched m view r
 searched m view (Ok x) same = rw same at (found_is_searched m)
 searched m view (Err e) same = rw same at (found_is_searched m)
 
@@ -246,11 +266,13 @@ valid_lent m a ok =
 is_valid : (m : Memory) (found : ℕ × List ℕ) → IsFound m found → IsOk (rsdp_at m found.0)
 is_valid m found f = elim f.2 [ inl first ↦ rw first.valid refl | inr second ↦ rw second.1.valid refl ]
 
-of_searched : {X : Type 0} (m : Memory) (view : X → ℕ × List ℕ) (r : Result X AcpiError) → IsSearched m view r → IfOk r (λ x. IsOk (rsdp_at m (view x).0))
+of_searched : {X : Type 0} (m : Memory) (view : X → ℕ × List ℕ) (r : Result X AcpiError) → IsSearched m view r
+    → IfOk r (λ x. IsOk (rsdp_at m (view x).0))
 of_searched m view (Ok x) h = is_valid m (view x) h
 of_searched m view (Err e) h = tt
 
-pub found_valid : {H T : Type 0} {h t : _} (m : Memory) (r : Result (PhysicalMapping H T h t) AcpiError) → Gives placed r (found_rsdp m) → IfOk r (λ x. IsOk (rsdp_at m (start_of x)))
+pub found_valid : {H T : Type 0} {h t : _} (m : Memory) (r : Result (PhysicalMapping H T h t) AcpiError)
+    → Gives placed r (found_rsdp m) → IfOk r (λ x. IsOk (rsdp_at m (start_of x)))
 found_valid m r said = of_searched m placed r (searched m placed r said)
 
 -- ---- bytes that hold all checks of an RSDP are a valid RSDP if a memory has them
@@ -272,7 +294,8 @@ length_front : (b : List ℕ) → checked_length (take 36 b) ≡ checked_length 
 unfolding checked_length check_first
 length_front b = rw (rsdp_front b, take-take 20 36 b (lit≤ tt)) refl
 
-pub whole_there : (m : Memory) (a : ℕ) (b : List ℕ) (n : Option ℕ) → at m a (length b) ≡ Some b → check_whole (at_hand b) n ≡ Ok tt → check_whole (lent m a) n ≡ Ok tt
+pub whole_there : (m : Memory) (a : ℕ) (b : List ℕ) (n : Option ℕ) → at m a (length b) ≡ Some b
+    → check_whole (at_hand b) n ≡ Ok tt → check_whole (lent m a) n ≡ Ok tt
 whole_there m a b None here whole = refl
 whole_there m a b (Some n) here whole =
     let had = bind_ok (at_hand b n) _ tt whole in
@@ -280,16 +303,20 @@ whole_there m a b (Some n) here whole =
     let lent_here : lent m a n ≡ Ok had.0 = lent_front m a n b here (leb-true n (length b) fits.0) ∙ fits.1 in
     rw lent_here had.2
 
-is_there : (m : Memory) (a : ℕ) (b head : List ℕ) (n : Option ℕ) → lent m a 36 ≡ Ok head → checked_length head ≡ Ok n → check_whole (lent m a) n ≡ Ok tt → rsdp_at m a ≡ Ok head
+is_there : (m : Memory) (a : ℕ) (b head : List ℕ) (n : Option ℕ) → lent m a 36 ≡ Ok head → checked_length head ≡ Ok n
+    → check_whole (lent m a) n ≡ Ok tt → rsdp_at m a ≡ Ok head
 unfolding rsdp_at
 is_there m a b head n first long whole = rw (first, long, whole) refl
 
-pub valid_there : (m : Memory) (a : ℕ) (b : List ℕ) → 36 ≤ length b → at m a (length b) ≡ Some b → check_rsdp b ≡ Ok tt → IsOk (rsdp_at m a)
+pub valid_there : (m : Memory) (a : ℕ) (b : List ℕ) → 36 ≤ length b → at m a (length b) ≡ Some b → check_rsdp b ≡ Ok tt
+    → IsOk (rsdp_at m a)
 unfolding check_rsdp
 valid_there m a b enough here said =
     let n = bind_ok (checked_length b) _ tt said in
-    rw (is_there m a b (take 36 b) n.0 (lent_front m a 36 b here enough) (length_front b ∙ n.1) (whole_there m a b n.0 here n.2)) refl
+    rw (is_there m a b (take 36 b) n.0 (lent_front m a 36 b here enough) (length_front b ∙ n.1)
+    (whole_there m a b n.0 here n.2)) refl
 
-pub validated : (m : Memory) (a : ℕ) (b : List ℕ) (r : Result (Unit {0}) AcpiError) → 36 ≤ length b → at m a (length b) ≡ Some b → r ≡ check_rsdp b → IfOk r (λ _. IsOk (rsdp_at m a))
+pub validated : (m : Memory) (a : ℕ) (b : List ℕ) (r : Result (Unit {0}) AcpiError) → 36 ≤ length b
+    → at m a (length b) ≡ Some b → r ≡ check_rsdp b → IfOk r (λ _. IsOk (rsdp_at m a))
 validated m a b (Ok x) enough here said = valid_there m a b enough here (sym said)
 validated m a b (Err e) enough here said = tt

@@ -1,13 +1,10 @@
 -- The search for the RSDP in areas that a caller gives (ACPI 6.4, section 5.2.5.1).
-use Rattle.std.specs.Prelude.{◌≡◌, ℕ, ◌+◌, ◌-◌, ◌*◌, ◌/◌, ◌^◌, ◌<◌, ◌≤◌, ◌&&◌, nat_le, nat_lt, Bool, if◌then◌else◌}
-use Rattle.std.specs.Prelude.{List, [], ◌∷◌, ◌++◌, length, drop, Option, Some, None, Result, Ok, Err}
+use Rattle.std.specs.Prelude.{◌≡◌, ℕ, ◌+◌, ◌-◌, ◌*◌, ◌/◌, ◌^◌, ◌<◌, ◌≤◌, ◌&&◌, nat_le, nat_lt, Bool, if◌then◌else◌, List, [], ◌∷◌, ◌++◌, length, drop, Option, Some, None, Result, Ok, Err, ok_or, is_err}
 use Rattle.std.specs.List.{AllByRecursion}
-use Rattle.std.specs.Option.{ok_or, option_or}
-use Rattle.std.specs.Result.{is_err}
+use Rattle.std.specs.Option.{option_or}
 use Rattle.acpi_base.specs.Bytes.{part}
 use Rattle.acpi_base.specs.Memory.{Memory}
-use Rattle.acpi_base.specs.Ranges as ranges
-use Rattle.acpi_base.specs.Ranges.{DependsOn, Ranges}
+use Rattle.acpi_base.specs.Ranges.{Ranges}
 use Rattle.acpi_base.specs.Steps.{◌>>=◌}
 use Rattle.acpi_base.specs.declared.error.AcpiError.{AcpiError}
 use Rattle.acpi_base.specs.declared.error.AcpiError.TheVariants.{NoValidRsdp}
@@ -16,6 +13,7 @@ use Rattle.acpi.specs.Opened.{Opened, opened_from}
 use Rattle.acpi.specs.OpenedRanges.{opened_ranges, or_else_ranges, walk_ranges}
 use Rattle.acpi.specs.Rsdp.{checked_length, root_of_rsdp, rsdp_at}
 use Rattle.acpi.specs.Search.{IsRefused, walk}
+use Rattle.acpi_base.specs.Ranges as ranges
 
 -- that many bytes from an address on
 abbrev pub range : ℕ → ℕ → AddressRange
@@ -100,12 +98,6 @@ areas_ranges m (s ∷ areas) =
 abbrev pub opened_in_areas_ranges : Memory → List AddressRange → Ranges
 opened_in_areas_ranges m areas = areas_ranges m areas
     ++ ranges.◌>>=◌ (found_in_areas m areas) (λ found. opened_ranges m (root_of_rsdp found.1))
-
-abbrev pub AreasDependOn : Type 0
-AreasDependOn = DependsOn areas_ranges found_in_areas
-
-abbrev pub OpenedInAreasDependsOn : Type 0
-OpenedInAreasDependsOn = DependsOn opened_in_areas_ranges opened_in_areas
 
 -- ---- the areas of a BIOS
 

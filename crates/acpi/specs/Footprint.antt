@@ -4,9 +4,7 @@ use Rattle.std.specs.Prelude.{ℕ, List, [], ◌∷◌, ◌++◌, drop, flat_map
 use Rattle.acpi_base.specs.declared.error.AcpiError.{AcpiError}
 use Rattle.acpi_base.specs.declared.table.signature.TheConstants.Signature.{DSDT, SSDT}
 use Rattle.acpi_base.specs.Memory.{Memory}
-use Rattle.acpi_base.specs.Ranges.{◌>>=◌, Allows, Footprint, Ranges}
-use Rattle.acpi_base.specs.Ranges.{own_table_ranges, table_ranges, unless_found}
-use Rattle.acpi_base.specs.Steps as steps
+use Rattle.acpi_base.specs.Ranges.{◌>>=◌, Allows, Footprint, Ranges, own_table_ranges, table_ranges, unless_found}
 use Rattle.acpi_base.specs.Table.{Kind, plain_kind, table_at}
 use Rattle.acpi_fixed.specs.Fadt.{dsdt_address_of, fadt_at}
 use Rattle.acpi.specs.Lists.{fadt_kind}
@@ -16,6 +14,7 @@ use Rattle.acpi.specs.Root.{pointers, root_at, root_kind, width_of}
 use Rattle.acpi.specs.Tables.{kind_of, may_of, memory_of, pointers_of, root_address_of}
 use Rattle.acpi.specs.declared.root.RootKind.{RootKind}
 use Rattle.acpi.specs.declared.tables.AcpiTables.{AcpiTables}
+use Rattle.acpi_base.specs.Steps as steps
 
 -- those of `root_at`
 abbrev pub root_ranges : Memory → RootKind → ℕ → Ranges

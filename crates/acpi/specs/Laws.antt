@@ -1,8 +1,9 @@
 -- What holds of the definitions.
-use Rattle.std.specs.Prelude.{◌≡◌, ℕ, ◌<◌, List, ◌∷◌, ◌++◌, Ok, IsErr, ◌↔◌}
+use Rattle.std.specs.Prelude.{◌≡◌, ℕ, ◌<◌, List, ◌∷◌, ◌++◌, Ok, IsErr, IsOk, ◌↔◌}
 use Rattle.acpi_base.specs.Bytes.{IsBytes}
 use Rattle.acpi_base.specs.Memory.{Memory}
 use Rattle.acpi_base.specs.Table.{Kind, table_at}
+use Rattle.acpi.specs.Lists.{faults_of}
 use Rattle.acpi.specs.Lookup.{IsFirstValid, lookup}
 use Rattle.acpi.specs.Search.{area, second_area}
 use Rattle.acpi.specs.Root.{IsPointers, pointers}
@@ -21,6 +22,11 @@ LookupIsFirst = (m : Memory) (k : Kind) (ps : List ℕ) (p : ℕ) (table : List 
 abbrev pub SkipsInvalid : Type 0
 SkipsInvalid = (m : Memory) (k : Kind) (p : ℕ) (before after : List ℕ) → IsErr (table_at m k p)
     → lookup m k (before ++ p ∷ after) ≡ lookup m k (before ++ after)
+
+-- a valid member ends the faults: neither it nor a member after it is one
+abbrev pub ValidEndsFaults : Type 0
+ValidEndsFaults = (m : Memory) (k : Kind) (p : ℕ) (before after : List ℕ) → IsOk (table_at m k p)
+    → faults_of m k (before ++ p ∷ after) ≡ faults_of m k before
 
 -- where the second area of the search lies, by the word that names it
 abbrev pub SecondAreas : Type 0

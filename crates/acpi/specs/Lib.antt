@@ -1,14 +1,13 @@
 pub mod Areas
 pub mod Ecam
 pub mod Footprint
-pub mod FootprintLaws
 pub mod Hpet
 pub mod Later
 pub mod Laws
 pub mod Lists
 pub mod Lookup
-pub mod Members
 pub mod Mapped
+pub mod Members
 pub mod Opened
 pub mod OpenedRanges
 pub mod Pci

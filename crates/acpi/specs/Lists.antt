@@ -2,7 +2,6 @@
 use Rattle.std.specs.Prelude.{ℕ, ◌+◌, ◌-◌, List, [], ◌∷◌, length, filter_map, Result, Ok, Err}
 use Rattle.std.specs.Result.{result_ok}
 use Rattle.acpi_base.specs.declared.error.AcpiError.{AcpiError}
-use Rattle.acpi_base.specs.declared.error.AcpiError.TheVariants as refusal
 use Rattle.acpi_base.specs.declared.table.header.SdtHeader.{SdtHeader}
 use Rattle.acpi_base.specs.declared.table.signature.Signature.{Signature}
 use Rattle.acpi_base.specs.declared.table.signature.TheConstants.Signature.{DSDT, FADT, SSDT}
@@ -14,6 +13,7 @@ use Rattle.acpi_fixed.specs.Fadt.{dsdt_address_of, fadt_at}
 use Rattle.acpi.specs.Lookup.{lookup}
 use Rattle.acpi.specs.declared.records.AmlTable.{AmlTable}
 use Rattle.acpi.specs.declared.records.TableFault.{TableFault}
+use Rattle.acpi_base.specs.declared.error.AcpiError.TheVariants as refusal
 
 -- the header of the table at an address, if the table is valid under the signature that it has
 unfoldable pub own_header_at : Memory → ℕ → Result SdtHeader AcpiError

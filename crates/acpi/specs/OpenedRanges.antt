@@ -7,10 +7,9 @@ use Rattle.acpi.specs.Footprint.{root_ranges}
 use Rattle.acpi.specs.Opened.{opened_from}
 use Rattle.acpi.specs.Root.{pointers, width_of}
 use Rattle.acpi.specs.Rsdp.{checked_length, root_of_rsdp, rsdp_at}
-use Rattle.acpi.specs.Search.{count_of, first_area, found_in, found_rsdp, room_of, second_area}
-use Rattle.acpi.specs.Search.{word_in}
+use Rattle.acpi.specs.Search.{count_of, first_area, found_in, found_rsdp, room_of, second_area, word_in}
 use Rattle.acpi.specs.declared.root.RootPointer.{RootPointer}
-use Rattle.acpi.specs.declared.rsdp.area.Area.{Area}
+use Rattle.acpi.specs.declared.rsdp.bios.Area.{Area}
 
 -- the ranges of the whole of an RSDP, if it has a length
 abbrev pub length_ranges : ℕ → Option ℕ → Ranges

@@ -4,6 +4,7 @@ use Rattle.std.specs.List.{cons_option}
 use Rattle.std.specs.Result.{result_ok}
 use Rattle.acpi_base.specs.Memory.{Memory}
 use Rattle.acpi_base.specs.Table.{Kind}
+use Rattle.acpi_base.specs.declared.range.AddressRange.{AddressRange}
 use Rattle.acpi.specs.Members.{members_of, tables_found}
 use Rattle.acpi.specs.Places.{place_at, range}
 use Rattle.acpi.specs.Pointers.{pointers_left}
@@ -11,7 +12,6 @@ use Rattle.acpi.specs.Tables.{root_address_of, root_of}
 use Rattle.acpi.specs.declared.members.TableMember.{TableMember}
 use Rattle.acpi.specs.declared.members.TableMembers.{TableMembers}
 use Rattle.acpi.specs.declared.found.FoundTables.{FoundTables}
-use Rattle.acpi_base.specs.declared.range.AddressRange.{AddressRange}
 use Rattle.acpi.specs.declared.ranges.TableRanges.{TableRanges}
 use Rattle.acpi.specs.declared.tables.AcpiTables.{AcpiTables}
 

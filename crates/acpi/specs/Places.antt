@@ -1,24 +1,23 @@
 -- Where the tables lie.
-use Rattle.std.specs.Prelude.{ℕ, List, [], ◌∷◌, ◌++◌, length, filter_map, nat_le, Result, Ok}
+use Rattle.std.specs.Prelude.{ℕ, List, [], ◌∷◌, ◌++◌, length, filter_map, nat_le, Result, Ok, bytes_eq}
 use Rattle.std.specs.List.{cons_option}
 use Rattle.std.specs.Result.{result_ok}
-use Rattle.std.specs.Str.{bytes_eq}
 use Rattle.acpi_base.specs.declared.error.AcpiError.{AcpiError}
 use Rattle.acpi_base.specs.declared.error.AcpiError.TheVariants.{SdtInvalidLength, SdtInvalidSignature}
 use Rattle.acpi_base.specs.declared.table.signature.Signature.{Signature}
 use Rattle.acpi_base.specs.declared.table.signature.TheConstants.Signature.{DSDT, FACS}
 use Rattle.acpi_base.specs.Header.{header_at}
 use Rattle.acpi_base.specs.Memory.{Memory}
-use Rattle.acpi_base.specs.Ranges as ranges
 use Rattle.acpi_base.specs.Ranges.{Ranges, table_ranges}
 use Rattle.acpi_base.specs.Steps.{◌>>=◌, holds, lent}
 use Rattle.acpi_base.specs.Table.{own_table_at, plain_kind, table_at}
 use Rattle.acpi_fixed.specs.Fadt.{dsdt_address_of, facs_address_of, fadt_at}
 use Rattle.acpi_fixed.specs.declared.fadt.Fadt.{Fadt}
+use Rattle.acpi_base.specs.declared.range.AddressRange.{AddressRange}
 use Rattle.acpi.specs.Footprint.{header_ranges, lookup_ranges}
 use Rattle.acpi.specs.Lists.{fadt_kind}
 use Rattle.acpi.specs.Lookup.{lookup}
-use Rattle.acpi_base.specs.declared.range.AddressRange.{AddressRange}
+use Rattle.acpi_base.specs.Ranges as ranges
 
 -- that many bytes from an address
 abbrev pub range : ℕ → ℕ → AddressRange

@@ -1,7 +1,6 @@
 -- What the FADT and the MADT say together.
 use Rattle.std.specs.Prelude.{ℕ, List, None, Result, Ok, Err, IsOk}
 use Rattle.acpi_base.specs.Memory.{Memory}
-use Rattle.acpi_base.specs.Model as model
 use Rattle.acpi_base.specs.Steps.{◌>>=◌}
 use Rattle.acpi_base.specs.Table.{Kind, sdt_kind}
 use Rattle.acpi_base.specs.declared.error.AcpiError.{AcpiError}
@@ -13,6 +12,7 @@ use Rattle.acpi.specs.Lists.{fadt_kind}
 use Rattle.acpi.specs.Lookup.{lookup}
 use Rattle.acpi.specs.Timer.{timer_of}
 use Rattle.acpi.specs.declared.platform.PlatformInfo.{PlatformInfo}
+use Rattle.acpi_base.specs.Model as model
 
 abbrev pub madt_kind : Kind
 madt_kind = sdt_kind MADT 44

@@ -1,7 +1,6 @@
 -- The root table and its pointers (ACPI 6.4, sections 5.2.7 and 5.2.8). What it lists depends on its kind, whatever the
 -- revision of the RSDP is.
-use Rattle.std.specs.Prelude.{◌≡◌, ℕ, ◌<◌, ◌^◌, ◌==◌, zero, suc, if◌then◌else◌, Result}
-use Rattle.std.specs.Prelude.{List, [], ◌∷◌, ◌++◌, take, drop, length, flat_map, replicate}
+use Rattle.std.specs.Prelude.{◌≡◌, ℕ, ◌<◌, ◌^◌, ◌==◌, zero, suc, if◌then◌else◌, Result, List, [], ◌∷◌, ◌++◌, take, drop, length, flat_map, replicate}
 use Rattle.std.specs.List.{AllByRecursion}
 use Rattle.acpi_base.specs.declared.error.AcpiError.{AcpiError}
 use Rattle.acpi_base.specs.declared.table.signature.Signature.{Signature}

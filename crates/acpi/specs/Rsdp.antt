@@ -1,11 +1,8 @@
 -- The RSDP: its fields, its checks, and the RSDP at an address (ACPI 6.4, section 5.2.5.3).
-use Rattle.std.specs.Prelude.{ℕ, ◌==◌, ◌||◌, List, [], ◌∷◌, take, length, nat_le, if◌then◌else◌}
-use Rattle.std.specs.Prelude.{Option, Some, None, Result, Ok}
-use Rattle.std.specs.Str.{bytes_eq, is_utf8}
+use Rattle.std.specs.Prelude.{ℕ, ◌==◌, ◌||◌, List, [], ◌∷◌, take, length, nat_le, if◌then◌else◌, Option, Some, None, Result, Ok, bytes_eq}
+use Rattle.std.specs.Str.{is_utf8}
 use Rattle.acpi_base.specs.declared.error.AcpiError.{AcpiError}
-use Rattle.acpi_base.specs.declared.error.AcpiError.TheVariants.{RsdpIncorrectSignature}
-use Rattle.acpi_base.specs.declared.error.AcpiError.TheVariants.{RsdpInvalidChecksum}
-use Rattle.acpi_base.specs.declared.error.AcpiError.TheVariants.{RsdpInvalidOemId}
+use Rattle.acpi_base.specs.declared.error.AcpiError.TheVariants.{RsdpIncorrectSignature, RsdpInvalidChecksum, RsdpInvalidOemId}
 use Rattle.acpi_base.specs.Bytes.{field_of, part, sum_of}
 use Rattle.acpi_base.specs.Memory.{Memory}
 use Rattle.acpi_base.specs.Steps.{◌>>=◌, holds, lent}

@@ -1,10 +1,10 @@
 -- What a value of `AcpiTables` shows.
 use Rattle.std.specs.Prelude.{◌≡◌, ◌↔◌, ℕ, Bool, List, drop}
-use Rattle.acpi_base.specs.Mapping as mapping
 use Rattle.acpi_base.specs.Memory.{Memory}
 use Rattle.acpi.specs.Root.{IsPointers, pointers, width_of}
 use Rattle.acpi.specs.declared.root.RootKind.{RootKind}
 use Rattle.acpi.specs.declared.tables.AcpiTables.{AcpiTables}
+use Rattle.acpi_base.specs.Mapping as mapping
 
 -- the handler that lends the tables
 abbrev pub lender_of : {H h : _} → AcpiTables H h → H

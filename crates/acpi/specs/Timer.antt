@@ -1,6 +1,5 @@
 -- The power management timer (ACPI 6.4, section 4.8.3.3).
-use Rattle.std.specs.Prelude.{Option, Result, Ok}
-use Rattle.std.specs.Option.{option_map}
+use Rattle.std.specs.Prelude.{Option, Result, Ok, option_map}
 use Rattle.acpi_base.specs.declared.address.GenericAddress.{GenericAddress}
 use Rattle.acpi_base.specs.declared.error.AcpiError.{AcpiError}
 use Rattle.acpi_base.specs.Bits.{has_bit}

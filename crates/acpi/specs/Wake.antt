@@ -1,9 +1,11 @@
 -- Waking a processor by the mailbox (ACPI 6.4, section 5.2.12.19).
-use Rattle.std.specs.Prelude.{◌≡◌, ◌≢◌, ◌<◌, ◌+◌, ◌++◌, ℕ, List, [], ◌∷◌, Option, Result, replicate}
+use Rattle.std.specs.Prelude.{◌≡◌, ◌≢◌, ◌<◌, ◌+◌, ◌++◌, ℕ, List, [], ◌∷◌, Result, MatchResult, replicate}
 use Rattle.acpi_base.specs.Madt.{mailbox_of}
 use Rattle.acpi_base.specs.Memory.{Memory}
 use Rattle.acpi_base.specs.Steps.{◌>>=◌}
 use Rattle.acpi_base.specs.declared.error.AcpiError.{AcpiError}
+use Rattle.acpi_base.specs.declared.error.AcpiError.TheVariants.{InvalidMadt}
+use Rattle.acpi_base.specs.declared.error.MadtError.TheVariants.{WakeupApsTimeout}
 use Rattle.acpi.specs.Lookup.{lookup}
 use Rattle.acpi.specs.Platform.{madt_kind}
 use Rattle.acpi.specs.declared.platform.mailbox.MailboxCall.{MailboxCall}
@@ -21,12 +23,6 @@ mailbox_found m ps = do
 abbrev pub opening : (ℕ → Result (Unit {0}) AcpiError) → Result ℕ AcpiError
     → Result (Unit {0}) AcpiError
 opening answers found = found >>= answers
-
--- what was opened, what was written and each read to come are after as they were before
-abbrev pub IsUntouched : {Mailbox : Type 0} → (Mailbox → Option ℕ) → (Mailbox → List MailboxWrite)
-    → (Mailbox → ℕ → ℕ) → Mailbox → Mailbox → Type 0
-IsUntouched opened writes answer before after = (opened after ≡ opened before)
-    × (writes after ≡ writes before) × ((i : ℕ) → answer after i ≡ answer before i)
 
 -- ---- reading the command
 
@@ -47,6 +43,11 @@ Wakes before n after =
 abbrev pub Waits : (ℕ → ℕ) → ℕ → (ℕ → ℕ) → Type 0
 Waits before n after = NoneBelow before n × AfterReads before n after
 
+-- a call that answers with `result` reads up to the first answer 0, or else n answers, and refuses then
+abbrev pub WakesOrWaits : (ℕ → ℕ) → ℕ → Result (Unit {0}) AcpiError → (ℕ → ℕ) → Type 0
+WakesOrWaits before n result after = MatchResult result (λ _. Wakes before n after)
+    (λ e. (e ≡ InvalidMadt WakeupApsTimeout) × Waits before n after)
+
 -- ---- the calls that are made
 
 -- these calls and no others lead from one state of a mailbox to another, one after the other
@@ -60,8 +61,11 @@ Makes {Mailbox = Mailbox} called before (call ∷ calls) after =
 abbrev pub reads : ℕ → List MailboxCall
 reads n = replicate n Read
 
--- what is done before Command is read: the mailbox is opened, and gets Command 0 (Noop), ApicId, WakeupVector and
--- Command 1 (Wakeup)
+-- what the mailbox gets before Command is read: Command 0 (Noop), ApicId, WakeupVector and Command 1 (Wakeup)
+abbrev pub commands : ℕ → ℕ → List MailboxWrite
+commands id vector = Command 0 ∷ ApicId id ∷ WakeupVector vector ∷ Command 1 ∷ []
+
+-- it is opened, and gets these
 abbrev pub wakes_by : ℕ → ℕ → ℕ → List MailboxCall
 wakes_by address id vector =
     Opened address ∷ Wrote (Command 0) ∷ Wrote (ApicId id) ∷ Wrote (WakeupVector vector)
@@ -72,3 +76,10 @@ abbrev pub MakesUntilWoken : {Mailbox : Type 0} → (Mailbox → MailboxCall →
     → (ℕ → ℕ) → Mailbox → List MailboxCall → Mailbox → Type 0
 MakesUntilWoken called answer before calls after =
     (i : ℕ) × (answer i ≡ 0) × NoneBelow answer i × Makes called before (calls ++ reads (i + 1)) after
+
+-- after these calls a call that answers with `result` reads the command so, or else n times
+abbrev pub MakesAndReads : {Mailbox : Type 0} → (Mailbox → MailboxCall → Mailbox → Type 0) → (ℕ → ℕ)
+    → Mailbox → List MailboxCall → ℕ → Result (Unit {0}) AcpiError → Mailbox → Type 0
+MakesAndReads called answer before calls n result after =
+    MatchResult result (λ _. MakesUntilWoken called answer before calls after)
+    (λ _. Makes called before (calls ++ reads n) after)

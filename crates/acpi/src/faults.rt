@@ -1,6 +1,9 @@
 //! Why members were passed over in a lookup.
 ghost use Rattle.std.proofs.Props.{props};
-ghost use Rattle.acpi_base.specs.Ranges.{Allows};
+ghost use Rattle.std.specs.Iterator.{YieldsFirst, item_count};
+ghost use Rattle.std.specs.Prelude.{◌≡◌, Err, IsOk, MatchOption};
+ghost use Rattle.acpi_base.specs.Ranges.{Allows, table_ranges};
+ghost use Rattle.acpi_base.specs.Table.{table_at};
 ghost use Rattle.acpi.specs.Footprint.{lookup_ranges};
 ghost use Rattle.acpi.specs.Pointers.{pointers_left};
 
@@ -23,7 +26,6 @@ pub struct TableFaults<'t, 'h, H: Lender, T: AcpiTable> {
 }
 
 impl<'t, 'h, H: Lender, T: AcpiTable> TableFaults<'t, 'h, H, T> {
-    ghost use Rattle.std.specs.Prelude.{◌≡◌};
     ghost use Rattle.acpi.specs.Lists.{faults_of};
     ghost use Rattle.acpi.specs.Walks.{faults_left};
 
@@ -42,7 +44,6 @@ impl<'t, 'h, H: Lender, T: AcpiTable> TableFaults<'t, 'h, H, T> {
 }
 
 impl<H: Lender, T: AcpiTable> Iterator for TableFaults<'_, '_, H, T> {
-    ghost use Rattle.std.specs.Iterator.{YieldsFirst, item_count};
     ghost use Rattle.acpi.specs.Walks.{faults_left};
 
     type Item = TableFault;
@@ -70,10 +71,6 @@ impl<H: Lender, T: AcpiTable> Iterator for TableFaults<'_, '_, H, T> {
         None
     }
 }
-
-ghost use Rattle.std.specs.Prelude.{◌≡◌, Err, IsOk, MatchOption};
-ghost use Rattle.acpi_base.specs.Ranges.{table_ranges};
-ghost use Rattle.acpi_base.specs.Table.{table_at};
 
 /// Why the table at an address is refused, or `None` if it is valid for `T`.
 #[inline(always)]

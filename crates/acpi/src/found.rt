@@ -1,6 +1,9 @@
 //! All valid tables of a type.
 ghost use Rattle.std.proofs.Props.{props};
-ghost use Rattle.acpi_base.specs.Ranges.{Allows};
+ghost use Rattle.std.specs.Prelude.{◌≡◌};
+ghost use Rattle.std.specs.Iterator.{YieldsFirstBy, item_count};
+ghost use Rattle.acpi_base.specs.Ranges.{Allows, table_ranges};
+ghost use Rattle.acpi_base.specs.Mapping.{bytes_of, start_of};
 ghost use Rattle.acpi.specs.Members.{kind_ranges};
 ghost use Rattle.acpi.specs.Pointers.{pointers_left};
 
@@ -22,7 +25,6 @@ pub struct FoundTables<'t, 'h, H: Lender, T: AcpiTable> {
 }
 
 impl<'t, 'h, H: Lender, T: AcpiTable> FoundTables<'t, 'h, H, T> {
-    ghost use Rattle.std.specs.Prelude.{◌≡◌};
     ghost use Rattle.acpi.specs.Members.{tables_found};
     ghost use Rattle.acpi.specs.Placed.{found_left};
 
@@ -41,8 +43,6 @@ impl<'t, 'h, H: Lender, T: AcpiTable> FoundTables<'t, 'h, H, T> {
 }
 
 impl<'h, H: Lender, T: AcpiTable> Iterator for FoundTables<'_, 'h, H, T> {
-    ghost use Rattle.std.specs.Iterator.{YieldsFirstBy, item_count};
-    ghost use Rattle.acpi_base.specs.Mapping.{bytes_of, start_of};
     ghost use Rattle.acpi.specs.Placed.{found_left};
 
     type Item = PhysicalMapping<'h, H, T>;
@@ -68,7 +68,5 @@ impl<'h, H: Lender, T: AcpiTable> Iterator for FoundTables<'_, 'h, H, T> {
 
 /// A table that is valid for `T`.
 impl<H: Lender, T: AcpiTable> Asked for PhysicalMapping<'_, H, T> {
-    ghost use Rattle.acpi_base.specs.Ranges.{table_ranges};
-
     ghost ranges = { λ m. table_ranges m T.kind };
 }

@@ -1,6 +1,9 @@
 //! The headers of all valid tables.
 ghost use Rattle.std.proofs.Props.{props};
-ghost use Rattle.acpi_base.specs.Ranges.{Allows};
+ghost use Rattle.std.specs.Prelude.{◌≡◌};
+ghost use Rattle.std.specs.Iterator.{YieldsFirst, item_count};
+ghost use Rattle.std.specs.Result.{result_ok};
+ghost use Rattle.acpi_base.specs.Ranges.{Allows, own_table_ranges};
 ghost use Rattle.acpi.specs.Footprint.{header_ranges};
 ghost use Rattle.acpi.specs.Pointers.{pointers_left};
 
@@ -21,7 +24,6 @@ pub struct SdtHeaderIterator<'t, 'h, H: Lender> {
 }
 
 impl<'t, 'h, H: Lender> SdtHeaderIterator<'t, 'h, H> {
-    ghost use Rattle.std.specs.Prelude.{◌≡◌};
     ghost use Rattle.acpi.specs.Lists.{valid_headers};
     ghost use Rattle.acpi.specs.Walks.{headers_left};
 
@@ -36,7 +38,6 @@ impl<'t, 'h, H: Lender> SdtHeaderIterator<'t, 'h, H> {
 }
 
 impl<H: Lender> Iterator for SdtHeaderIterator<'_, '_, H> {
-    ghost use Rattle.std.specs.Iterator.{YieldsFirst, item_count};
     ghost use Rattle.acpi.specs.Walks.{headers_left};
 
     type Item = SdtHeader;
@@ -51,13 +52,10 @@ impl<H: Lender> Iterator for SdtHeaderIterator<'_, '_, H> {
 }
 
 impl Asked for SdtHeader {
-    ghost use Rattle.acpi_base.specs.Ranges.{own_table_ranges};
-
     ghost ranges = { own_table_ranges };
 }
 
 impl Found for SdtHeader {
-    ghost use Rattle.std.specs.Result.{result_ok};
     ghost use Rattle.acpi.specs.Lists.{own_header_at};
 
     ghost found = { λ m p. result_ok (own_header_at m p) };

@@ -1,7 +1,11 @@
 //! The IA-PC High Precision Event Timer Table (HPET).
-ghost use Rattle.std.specs.Prelude.{◌≡◌};
-ghost use Rattle.acpi_base.specs.Bits.{bits_of};
-ghost use Rattle.acpi.specs.Hpet.{protection_of};
+ghost use Rattle.std.specs.Prelude.{◌≡◌, refl, ◌+◌};
+ghost use Rattle.std.proofs.Common.{lit≤};
+ghost use Rattle.acpi_base.specs.Bits.{bits_of, has_bit};
+ghost use Rattle.acpi.specs.Hpet.{protection_of, hpet_at, hpet_kind, hpet_of, info_of};
+ghost use Rattle.acpi.specs.Footprint.{AllowsBelow, FootprintBelow, lookup_ranges};
+ghost use Rattle.acpi.specs.Relocation.{Relocation};
+ghost use Rattle.acpi.specs.Tables.{of_tables};
 
 use crate::tables::AcpiTables;
 use acpi_base::bytes::{bits, field_in, has_bit, u8_in, u16_in, u32_in};
@@ -23,8 +27,6 @@ pub struct HpetTable {
 }
 
 impl PhysicalRecord for HpetTable {
-    ghost use Rattle.acpi.specs.Hpet.{hpet_at};
-
     const MIN_LENGTH: usize = 56;
 
     ghost MIN_LENGTH = { 56 };
@@ -46,8 +48,6 @@ impl PhysicalRecord for HpetTable {
 }
 
 impl AcpiTable for HpetTable {
-    ghost use Rattle.std.proofs.Common.{lit≤, refl};
-    ghost use Rattle.acpi.specs.Hpet.{hpet_kind};
     ghost use Rattle.acpi_base.specs.declared.table.signature.TheConstants.Signature.{HPET};
 
     const SIGNATURE: Signature = Signature::HPET;
@@ -107,13 +107,6 @@ pub struct HpetInfo {
 }
 
 impl HpetInfo {
-    ghost use Rattle.std.specs.Prelude.{◌+◌};
-    ghost use Rattle.acpi_base.specs.Bits.{has_bit};
-    ghost use Rattle.acpi.specs.Footprint.{AllowsBelow, FootprintBelow, lookup_ranges};
-    ghost use Rattle.acpi.specs.Hpet.{hpet_kind, hpet_of, info_of};
-    ghost use Rattle.acpi.specs.Relocation.{Relocation};
-    ghost use Rattle.acpi.specs.Tables.{of_tables};
-
     /// The event timer block of the first valid HPET (section 5.2.6 reserves the signature). Of the
     /// generic address in the table only the address space and the address count.
     ///
@@ -128,10 +121,7 @@ impl HpetInfo {
         // It is the same wherever the valid tables lie.
         ensures relocation { Relocation tables.now hpet_of (λ said. result ≡ said) }
     {
-        match tables.find_table::<HpetTable>() {
-            Ok(table) => HpetInfo::of(&table),
-            Err(error) => Err(error),
-        }
+        HpetInfo::of(tables.find_table::<HpetTable>()?.get())
     }
 
     /// The event timer block that a table describes, or its refusal.

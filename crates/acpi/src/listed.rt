@@ -1,7 +1,8 @@
 //! What the pointers of a root table lead to, without what isn't valid.
-ghost use Rattle.std.specs.Prelude.{◌≡◌, ◌∷◌, [], IfSome, MatchOption, filter_map, flat_map};
+ghost use Rattle.std.specs.Prelude.{◌≡◌, ◌∷◌, [], IfSome, MatchOption, filter_map, flat_map, ℕ, Option};
 ghost use Rattle.std.specs.Iterator.{YieldsFirst};
-ghost use Rattle.acpi_base.specs.Ranges.{Allows};
+ghost use Rattle.acpi_base.specs.Ranges.{Allows, Ranges};
+ghost use Rattle.acpi_base.specs.Memory.{Memory};
 ghost use Rattle.acpi.specs.Pointers.{pointers_left};
 
 use crate::pointers::Pointers;
@@ -9,10 +10,6 @@ use acpi_base::Lender;
 
 /// What a walk along pointers looks for where each leads, as the header of a table.
 pub(crate) trait Asked {
-    ghost use Rattle.std.specs.Prelude.{ℕ};
-    ghost use Rattle.acpi_base.specs.Memory.{Memory};
-    ghost use Rattle.acpi_base.specs.Ranges.{Ranges};
-
     // The ranges of a memory that are asked for to look for it at an address.
     ghost ranges: { Memory → ℕ → Ranges };
 }
@@ -35,9 +32,6 @@ pub(crate) fn next_asked<H: Lender, M: Asked>(
 
 /// What a walk finds wherever a pointer leads to something valid.
 pub(crate) trait Found: Asked + Sized {
-    ghost use Rattle.std.specs.Prelude.{ℕ, Option};
-    ghost use Rattle.acpi_base.specs.Memory.{Memory};
-
     // What is there, if it is valid.
     ghost found: { Memory → ℕ → Option Self };
 

@@ -1,9 +1,13 @@
 //! The addresses of the configuration space of PCI functions, by the MCFG.
-ghost use Rattle.std.specs.Prelude.{◌≡◌, ◌<◌, ◌≤◌, List, [], vec_capacity, vec_len, IfOk, IfSome, IsOk};
-ghost use Rattle.std.specs.Option.{option_copied};
+ghost use Rattle.std.specs.Prelude.{◌≡◌, ◌<◌, ◌≤◌, List, [], vec_capacity, vec_len, IfOk, IfSome, IsOk, option_copied};
+ghost use Rattle.std.specs.Iterator.{YieldsFirstBy, item_count};
 ghost use Rattle.acpi_base.specs.Mcfg.{mcfg_entries_left};
-ghost use Rattle.acpi.specs.Pci.{function_address, is_of, region_of};
 ghost use Rattle.acpi_base.specs.declared.tables.mcfg.McfgEntry.{McfgEntry};
+ghost use Rattle.acpi_base.specs.Steps.{GivesOrFull};
+ghost use Rattle.acpi.specs.Pci.{function_address, is_of, region_of, RegionsAsk, found_regions, mcfg_kind, IsApart, entries_left, pci_address, shown_in, shown_left};
+ghost use Rattle.acpi.specs.Footprint.{AllowsBelow, FootprintBelow, lookup_ranges};
+ghost use Rattle.acpi.specs.Relocation.{Relocation};
+ghost use Rattle.acpi.specs.Tables.{of_tables};
 
 mod ecam;
 
@@ -32,12 +36,6 @@ impl<A: Allocator> Model for PciConfigRegions<A> {
 }
 
 impl PciConfigRegions<Global> {
-    ghost use Rattle.acpi_base.specs.Steps.{GivesOrFull};
-    ghost use Rattle.acpi.specs.Footprint.{AllowsBelow, FootprintBelow, lookup_ranges};
-    ghost use Rattle.acpi.specs.Pci.{RegionsAsk, found_regions, mcfg_kind};
-    ghost use Rattle.acpi.specs.Relocation.{Relocation};
-    ghost use Rattle.acpi.specs.Tables.{of_tables};
-
     /// The regions of the first valid MCFG, in the order of the table, in memory of the global allocator
     /// (section 5.2.6 reserves the signature).
     ///
@@ -59,13 +57,6 @@ impl PciConfigRegions<Global> {
 }
 
 impl<A: Allocator> PciConfigRegions<A> {
-    ghost use Rattle.acpi_base.specs.Steps.{GivesOrFull};
-    ghost use Rattle.acpi.specs.Footprint.{AllowsBelow, FootprintBelow, lookup_ranges};
-    ghost use Rattle.acpi.specs.Pci.{RegionsAsk, IsApart, entries_left, found_regions, mcfg_kind};
-    ghost use Rattle.acpi.specs.Pci.{pci_address};
-    ghost use Rattle.acpi.specs.Relocation.{Relocation};
-    ghost use Rattle.acpi.specs.Tables.{of_tables};
-
     /// The regions of the first valid MCFG, in the order of the table, in memory of an allocator (section
     /// 5.2.6 reserves the signature).
     ///
@@ -82,14 +73,12 @@ impl<A: Allocator> PciConfigRegions<A> {
         ensures relocation { Relocation tables.now found_regions
             (GivesOrFull (of_tables tables.now RegionsAsk) result) }
     {
-        match tables.find_table::<Mcfg>() {
-            Ok(mcfg) => match collected(mcfg.entries(), allocator) {
-                Ok(regions) => Ok(PciConfigRegions {
-                    regions: ManagedSlice::from_vec(regions),
-                }),
-                Err(_) => Err(AcpiError::AllocError),
-            },
-            Err(error) => Err(error),
+        let mcfg = tables.find_table::<Mcfg>()?;
+        match collected(mcfg.entries(), allocator) {
+            Ok(regions) => Ok(PciConfigRegions {
+                regions: ManagedSlice::from_vec(regions),
+            }),
+            Err(_) => Err(AcpiError::AllocError),
         }
     }
 
@@ -207,9 +196,6 @@ pub struct PciConfigEntryIterator<'a> {
 }
 
 impl Iterator for PciConfigEntryIterator<'_> {
-    ghost use Rattle.std.specs.Iterator.{YieldsFirstBy, item_count};
-    ghost use Rattle.acpi.specs.Pci.{shown_in, shown_left};
-
     type Item = PciConfigEntry;
 
     ghost next_gives = { YieldsFirstBy shown_in (λ s. shown_left s) };

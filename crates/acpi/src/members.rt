@@ -1,8 +1,11 @@
 //! The members of the root table, valid or not.
 ghost use Rattle.std.proofs.Props.{props};
-ghost use Rattle.acpi_base.specs.Ranges.{Allows};
+ghost use Rattle.std.specs.Iterator.{YieldsFirst, item_count};
+ghost use Rattle.std.specs.Prelude.{◌≡◌};
+ghost use Rattle.acpi_base.specs.Ranges.{Allows, own_table_ranges};
 ghost use Rattle.acpi.specs.Footprint.{header_ranges};
 ghost use Rattle.acpi.specs.Pointers.{pointers_left};
+ghost use Rattle.acpi.specs.Lists.{own_header_at};
 
 use crate::listed::{Asked, next_asked};
 use crate::pointers::Pointers;
@@ -20,8 +23,6 @@ pub struct TableMember {
 }
 
 impl Asked for TableMember {
-    ghost use Rattle.acpi_base.specs.Ranges.{own_table_ranges};
-
     ghost ranges = { own_table_ranges };
 }
 
@@ -36,7 +37,6 @@ pub struct TableMembers<'t, 'h, H: Lender> {
 }
 
 impl<'t, 'h, H: Lender> TableMembers<'t, 'h, H> {
-    ghost use Rattle.std.specs.Prelude.{◌≡◌};
     ghost use Rattle.acpi.specs.Members.{members_of};
     ghost use Rattle.acpi.specs.Placed.{members_left};
 
@@ -51,7 +51,6 @@ impl<'t, 'h, H: Lender> TableMembers<'t, 'h, H> {
 }
 
 impl<H: Lender> Iterator for TableMembers<'_, '_, H> {
-    ghost use Rattle.std.specs.Iterator.{YieldsFirst, item_count};
     ghost use Rattle.acpi.specs.Placed.{members_left};
 
     type Item = TableMember;
@@ -67,18 +66,11 @@ impl<H: Lender> Iterator for TableMembers<'_, '_, H> {
     }
 }
 
-ghost use Rattle.std.specs.Prelude.{◌≡◌};
-ghost use Rattle.acpi_base.specs.Ranges.{own_table_ranges};
-ghost use Rattle.acpi.specs.Lists.{own_header_at};
-
 /// The header of the table at an address, if that is valid under the signature that it has.
 #[tactic(auto, unfolding(crate::specs::Lists::own_header_at))]
 pub(crate) fn own_header<H: Lender>(handler: &H, address: u64) -> AcpiResult<SdtHeader>
     requires { Allows (H.may handler.now) (own_table_ranges (H.memory handler.now) address) }
     ensures { result ≡ own_header_at (H.memory handler.now) address }
 {
-    match map_own_sdt(handler, address) {
-        Ok(table) => Ok(*table.get()),
-        Err(error) => Err(error),
-    }
+    Ok(*map_own_sdt(handler, address)?.get())
 }

@@ -1,4 +1,5 @@
 //! A machine's purpose, interrupt controllers, processors and timer, by the FADT and the MADT.
+ghost use Rattle.std.specs.Prelude.{◌≡◌};
 ghost use Rattle.acpi_base.specs.Steps.{GivesOrFull};
 ghost use Rattle.acpi.specs.Footprint.{AllowsBelow, lookup_ranges, platform_ranges};
 ghost use Rattle.acpi.specs.Platform.{ModelAsks, madt_kind, model_in};
@@ -40,26 +41,18 @@ pub struct PlatformInfo<A: Allocator> {
 /// Clones with the fields of the original, or `AllocError` if memory runs out, also for a clone of the
 /// allocator. If there is no interrupt model and no processor, nothing is asked for.
 impl<A: Allocator + Clone> Clone for PlatformInfo<A> {
-    ghost use Rattle.std.specs.Prelude.{◌≡◌};
-
     ghost is_clone = { λ x y. y ≡ x };
 
     ghost is_infallible = { λ x. ⟦<InterruptModel<A> as Clone>⟧.is_infallible x.interrupt_model
         × ⟦<Option<ProcessorInfo<A>> as Clone>⟧.is_infallible x.processor_info };
 
     fn clone(&self) -> Result<PlatformInfo<A>, AllocError> {
-        match self.interrupt_model.clone() {
-            Ok(interrupt_model) => match self.processor_info.clone() {
-                Ok(processor_info) => Ok(PlatformInfo {
-                    power_profile: self.power_profile,
-                    interrupt_model,
-                    processor_info,
-                    pm_timer: self.pm_timer,
-                }),
-                Err(refused) => Err(refused),
-            },
-            Err(refused) => Err(refused),
-        }
+        Ok(PlatformInfo {
+            power_profile: self.power_profile,
+            interrupt_model: self.interrupt_model.clone()?,
+            processor_info: self.processor_info.clone()?,
+            pm_timer: self.pm_timer,
+        })
     }
 }
 

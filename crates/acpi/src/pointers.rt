@@ -1,5 +1,7 @@
 //! The pointers that a root table lists.
-ghost use Rattle.std.specs.Prelude.{◌≤◌};
+ghost use Rattle.std.specs.Prelude.{◌≤◌, ◌≡◌, [], drop, slice_get};
+ghost use Rattle.std.specs.Iterator.{YieldsFirst, item_count};
+ghost use Rattle.acpi_base.specs.Bytes.{field_of};
 
 use acpi_base::bytes::{field, skip};
 
@@ -13,8 +15,6 @@ pub struct Pointers<'t> {
 }
 
 impl<'t> Pointers<'t> {
-    ghost use Rattle.std.specs.Prelude.{◌≡◌, [], drop, slice_get};
-    ghost use Rattle.acpi_base.specs.Bytes.{field_of};
     ghost use Rattle.acpi.specs.Pointers.{pointers_left};
     ghost use Rattle.acpi.specs.Root.{pointers};
 
@@ -68,7 +68,6 @@ impl<'t> Pointers<'t> {
 }
 
 impl Iterator for Pointers<'_> {
-    ghost use Rattle.std.specs.Iterator.{YieldsFirst, item_count};
     ghost use Rattle.acpi.specs.Pointers.{pointers_left};
 
     type Item = u64;

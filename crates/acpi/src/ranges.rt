@@ -1,7 +1,9 @@
 //! The ranges of physical memory in which the tables lie.
-ghost use Rattle.std.specs.Prelude.{◌≡◌, ◌≤◌, IfOk};
+ghost use Rattle.std.specs.Prelude.{◌≡◌, ◌≤◌, IfOk, ◌∷◌, ◌++◌, [], filter_map};
 ghost use Rattle.std.specs.Result.{result_ok};
 ghost use Rattle.std.proofs.Props.{props};
+ghost use Rattle.std.specs.List.{cons_option};
+ghost use Rattle.std.specs.Iterator.{YieldsFirst, item_count};
 ghost use Rattle.acpi_base.specs.Ranges.{Allows, own_table_ranges};
 ghost use Rattle.acpi_base.specs.Steps.{Gives};
 ghost use Rattle.acpi.specs.Footprint.{header_ranges};
@@ -30,8 +32,6 @@ pub struct TableRanges<'t, 'h, H: Lender> {
 }
 
 impl<'t, 'h, H: Lender> TableRanges<'t, 'h, H> {
-    ghost use Rattle.std.specs.Prelude.{◌∷◌, ◌++◌, [], filter_map};
-    ghost use Rattle.std.specs.List.{cons_option};
     ghost use Rattle.acpi.specs.Placed.{places_left};
 
     pub(crate) fn new(
@@ -58,7 +58,6 @@ impl<'t, 'h, H: Lender> TableRanges<'t, 'h, H> {
 }
 
 impl<H: Lender> Iterator for TableRanges<'_, '_, H> {
-    ghost use Rattle.std.specs.Iterator.{YieldsFirst, item_count};
     ghost use Rattle.acpi.specs.Placed.{places_left};
 
     type Item = AddressRange;
@@ -130,11 +129,9 @@ pub(crate) fn facs_at<H: Lender>(handler: &H, address: u64) -> AcpiResult<Addres
     let head = PhysicalMapping::<H, SdtHeader>::map(handler, address, SdtHeader::MIN_LENGTH)?;
     let length = facs_length(head.signature, head.length)?;
     drop(head);
-    match PhysicalMapping::<H, SdtHeader>::map(handler, address, length as usize) {
-        Ok(whole) => Ok(AddressRange {
-            address,
-            length: whole.region_length() as u64,
-        }),
-        Err(error) => Err(error),
-    }
+    let whole = PhysicalMapping::<H, SdtHeader>::map(handler, address, length as usize)?;
+    Ok(AddressRange {
+        address,
+        length: whole.region_length() as u64,
+    })
 }

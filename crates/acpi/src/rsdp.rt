@@ -1,19 +1,20 @@
 //! The Root System Description Pointer (RSDP), which leads to the root table (section 5.2.5).
-ghost use Rattle.std.specs.Prelude.{◌≡◌, IfOk, Ok};
+ghost use Rattle.std.specs.Prelude.{◌≡◌, IfOk, Ok, ◌≤◌, ℕ, length, IfSome, IsOk, Some};
 ghost use Rattle.acpi_base.specs.Mapping.{IsOfMemory, start_of, bytes_of, handler_of};
 ghost use Rattle.acpi_base.specs.Ranges.{Allows};
 ghost use Rattle.acpi_base.specs.Steps.{Gives, lent};
+ghost use Rattle.acpi_base.specs.Memory.{Memory, at};
+ghost use Rattle.acpi_base.specs.Text.{IsTextOf};
 ghost use Rattle.acpi.specs.OpenedRanges.{rsdp_ranges};
-ghost use Rattle.acpi.specs.Rsdp.{check_sum, rsdp_at};
+ghost use Rattle.acpi.specs.Rsdp.{check_sum, rsdp_at, rsdp_of, check_rsdp, checked_length, extended_length_of, root_of, unless_first};
 
-mod area;
-mod given;
-mod search;
+mod areas;
+mod bios;
 
 use crate::root::{RootKind, RootPointer};
 use acpi_base::bytes::{byte_sum, field_in, is_text, text_of, u8_in, u32_in};
 use acpi_base::{AcpiError, AcpiResult, Lender, PhysicalMapping, PhysicalRecord};
-pub use given::bios_areas;
+pub use areas::bios_areas;
 
 /// The Root System Description Pointer (RSDP), by its 36 bytes (section 5.2.5.3). Revision 0 has only the
 /// first 20 of them: the fields after these mean nothing there.
@@ -30,8 +31,6 @@ pub struct Rsdp {
 }
 
 impl PhysicalRecord for Rsdp {
-    ghost use Rattle.acpi.specs.Rsdp.{rsdp_of};
-
     const MIN_LENGTH: usize = 36;
 
     ghost MIN_LENGTH = { 36 };
@@ -60,12 +59,6 @@ impl PhysicalRecord for Rsdp {
 }
 
 impl Rsdp {
-    ghost use Rattle.std.specs.Prelude.{◌≤◌, ℕ, length, IfSome, IsOk, Some};
-    ghost use Rattle.acpi_base.specs.Memory.{Memory, at};
-    ghost use Rattle.acpi_base.specs.Text.{IsTextOf};
-    ghost use Rattle.acpi.specs.Rsdp.{check_rsdp, checked_length, extended_length_of};
-    ghost use Rattle.acpi.specs.Rsdp.{root_of, rsdp_of, unless_first};
-
     /// Signature: `RSD PTR ` if the RSDP is valid (section 5.2.5.3).
     pub fn signature(&self) -> [u8; 8]
         ensures { result ≡ self.now.signature }
@@ -158,11 +151,10 @@ impl Rsdp {
         ensures valid { (m : Memory) (a : ℕ) → at m a (length bytes.now) ≡ Some bytes.now
             → IfOk result (λ _. IsOk (rsdp_at m a)) }
     {
-        match self.summed_length(bytes) {
-            Ok(None) => Ok(()),
-            Ok(Some(length)) if length > bytes.len() => Err(AcpiError::RsdpInvalidChecksum),
-            Ok(Some(length)) => check_sum(&bytes[..length]),
-            Err(error) => Err(error),
+        match self.summed_length(bytes)? {
+            None => Ok(()),
+            Some(length) if length > bytes.len() => Err(AcpiError::RsdpInvalidChecksum),
+            Some(length) => check_sum(&bytes[..length]),
         }
     }
 
@@ -227,16 +219,11 @@ fn check_mapped<H: Lender>(handler: &H, rsdp: &PhysicalMapping<'_, H, Rsdp>) -> 
     ensures { Gives (λ _. bytes_of rsdp.now) result
         (rsdp_at (H.memory handler.now) (start_of rsdp.now)) }
 {
-    match rsdp.get().summed_length(rsdp.bytes()) {
-        Ok(None) => Ok(()),
-        Ok(Some(length)) => {
-            match PhysicalMapping::<'_, H, RawBytes>::map(handler, rsdp.physical_start(), length) {
-                Ok(whole) => check_sum(whole.bytes()),
-                Err(error) => Err(error),
-            }
-        }
-        Err(error) => Err(error),
-    }
+    let Some(length) = rsdp.get().summed_length(rsdp.bytes())? else {
+        return Ok(());
+    };
+    let whole = PhysicalMapping::<'_, H, RawBytes>::map(handler, rsdp.physical_start(), length)?;
+    check_sum(whole.bytes())
 }
 
 /// The valid RSDP at an address: a mapping of its 36 bytes.
@@ -257,11 +244,7 @@ pub fn map_rsdp<'h, H: Lender>(
     ensures lent { IfOk result (λ m. IsOfMemory (H.memory handler.now) m) }
     ensures rsdp { Gives (λ m. bytes_of m) result (rsdp_at (H.memory handler.now) address) }
 {
-    match PhysicalMapping::<'h, H, Rsdp>::map(handler, address, 36) {
-        Ok(rsdp) => match check_mapped(handler, &rsdp) {
-            Ok(()) => Ok(rsdp),
-            Err(error) => Err(error),
-        },
-        Err(error) => Err(error),
-    }
+    let rsdp = PhysicalMapping::<'h, H, Rsdp>::map(handler, address, 36)?;
+    check_mapped(handler, &rsdp)?;
+    Ok(rsdp)
 }

@@ -1,6 +1,10 @@
 //! The AML of all valid SSDTs.
 ghost use Rattle.std.proofs.Props.{props};
-ghost use Rattle.acpi_base.specs.Ranges.{Allows};
+ghost use Rattle.std.specs.Prelude.{◌≡◌};
+ghost use Rattle.std.specs.Iterator.{YieldsFirst, item_count};
+ghost use Rattle.std.specs.Result.{result_ok};
+ghost use Rattle.acpi_base.specs.Ranges.{Allows, table_ranges};
+ghost use Rattle.acpi_base.specs.Table.{plain_kind};
 ghost use Rattle.acpi.specs.Footprint.{ssdt_ranges};
 ghost use Rattle.acpi.specs.Pointers.{pointers_left};
 
@@ -21,7 +25,6 @@ pub struct SsdtIterator<'t, 'h, H: Lender> {
 }
 
 impl<'t, 'h, H: Lender> SsdtIterator<'t, 'h, H> {
-    ghost use Rattle.std.specs.Prelude.{◌≡◌};
     ghost use Rattle.acpi.specs.Lists.{ssdt_streams};
     ghost use Rattle.acpi.specs.Walks.{ssdts_left};
 
@@ -36,7 +39,6 @@ impl<'t, 'h, H: Lender> SsdtIterator<'t, 'h, H> {
 }
 
 impl<H: Lender> Iterator for SsdtIterator<'_, '_, H> {
-    ghost use Rattle.std.specs.Iterator.{YieldsFirst, item_count};
     ghost use Rattle.acpi.specs.Walks.{ssdts_left};
 
     type Item = AmlTable;
@@ -51,8 +53,6 @@ impl<H: Lender> Iterator for SsdtIterator<'_, '_, H> {
 }
 
 impl Asked for AmlTable {
-    ghost use Rattle.acpi_base.specs.Ranges.{table_ranges};
-    ghost use Rattle.acpi_base.specs.Table.{plain_kind};
     ghost use Rattle.acpi_base.specs.declared.table.signature.TheConstants.Signature.{SSDT};
 
     ghost ranges = { λ m. table_ranges m (plain_kind SSDT) };
@@ -60,7 +60,6 @@ impl Asked for AmlTable {
 
 /// That of an SSDT.
 impl Found for AmlTable {
-    ghost use Rattle.std.specs.Result.{result_ok};
     ghost use Rattle.acpi_base.specs.declared.table.signature.TheConstants.Signature.{SSDT};
     ghost use Rattle.acpi.specs.Lists as lists;
 

@@ -1,9 +1,12 @@
 //! The root table (sections 5.2.7 and 5.2.8), and the tables that it leads to.
-ghost use Rattle.std.specs.Prelude.{◌≡◌, ◌^◌, ◌<◌, length, Some};
+ghost use Rattle.std.specs.Prelude.{◌≡◌, ◌^◌, ◌<◌, length, Some, ◌≤◌, ◌∷◌, ◌++◌, ℕ, List, IfErr, IsErr, IfOk, Ok, Err};
 ghost use Rattle.std.specs.Result.{result_ok};
 ghost use Rattle.std.proofs.Props.{props};
 ghost use Rattle.acpi_base.specs.Claim.{IsLentOf, claimed_at, claimed_from, shown_by};
 ghost use Rattle.acpi_base.specs.Mapping.{IsOfMemory, start_of, bytes_of, handler_of};
+ghost use Rattle.acpi_base.specs.Steps.{Gives};
+ghost use Rattle.acpi_base.specs.Table.{table_at};
+ghost use Rattle.acpi_base.specs.declared.error.AcpiError.TheVariants.{TableMissing};
 ghost use Rattle.acpi.specs.Root.{root_at};
 
 mod opening;
@@ -37,18 +40,10 @@ pub struct AcpiTables<'h, H: Lender> {
 }
 
 impl<'h, H: Lender> AcpiTables<'h, H> {
-    ghost use Rattle.std.specs.Prelude.{◌≤◌, ◌∷◌, ◌++◌, ℕ, List};
-    ghost use Rattle.std.specs.Prelude.{IfErr, IsErr, IfOk, Ok, Err};
-    ghost use Rattle.acpi_base.specs.Steps.{Gives};
-    ghost use Rattle.acpi_base.specs.Table.{table_at};
-    ghost use Rattle.acpi_base.specs.declared.error.AcpiError.TheVariants.{TableMissing};
-    ghost use Rattle.acpi.specs.Footprint.{AllowsBelow, FootprintBelow, dsdt_ranges, header_ranges};
-    ghost use Rattle.acpi.specs.Footprint.{lookup_ranges, platform_ranges, ssdt_ranges};
-    ghost use Rattle.acpi.specs.Lists.{dsdt_stream, fadt_kind};
-    ghost use Rattle.acpi.specs.Lists.{faults_of, ssdt_streams, valid_headers};
+    ghost use Rattle.acpi.specs.Footprint.{AllowsBelow, FootprintBelow, dsdt_ranges, header_ranges, lookup_ranges, platform_ranges, ssdt_ranges};
+    ghost use Rattle.acpi.specs.Lists.{dsdt_stream, fadt_kind, faults_of, ssdt_streams, valid_headers};
     ghost use Rattle.acpi.specs.Lookup.{IsFirstValid, NoneValid, lookup};
-    ghost use Rattle.acpi.specs.PlatformAnswer.{GivesPlatform, PlatformFootprint};
-    ghost use Rattle.acpi.specs.PlatformAnswer.{PlatformRelocation};
+    ghost use Rattle.acpi.specs.PlatformAnswer.{GivesPlatform, PlatformFootprint, PlatformRelocation};
     ghost use Rattle.acpi.specs.Pointers.{pointers_left};
     ghost use Rattle.acpi.specs.Relocation.{Relocation};
     ghost use Rattle.acpi.specs.Tables.{lender_of, memory_of, of_tables, pointers_of, revision_of};
@@ -139,10 +134,7 @@ impl<'h, H: Lender> AcpiTables<'h, H> {
             (λ n. lookup n fadt_kind)
             (Gives (λ v. (start_of v.mapping, bytes_of v.mapping)) result) }
     {
-        match self.first_valid::<Fadt>() {
-            Ok(found) => Ok(FadtView::new(found)),
-            Err(error) => Err(error),
-        }
+        Ok(FadtView::new(self.first_valid::<Fadt>()?))
     }
 
     /// The headers (section 5.2.6) of all members that are valid under the signatures that they have, in
@@ -191,13 +183,8 @@ impl<'h, H: Lender> AcpiTables<'h, H> {
         ensures footprint { FootprintBelow self.now dsdt_ranges dsdt_stream
             (λ said. result ≡ said) }
     {
-        match self.find_fadt() {
-            Ok(fadt) => match fadt.dsdt_address() {
-                Ok(address) => stream_at(self.root.handler(), Signature::DSDT, address),
-                Err(error) => Err(error),
-            },
-            Err(error) => Err(error),
-        }
+        let fadt = self.find_fadt()?;
+        stream_at(self.root.handler(), Signature::DSDT, fadt.dsdt_address()?)
     }
 
     /// Why members were passed over in a lookup of `T`: the address and the error of each member

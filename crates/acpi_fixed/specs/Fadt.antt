@@ -2,14 +2,14 @@
 use Rattle.std.specs.Prelude.{ℕ, ◌==◌, List, Option, Result, if◌then◌else◌}
 use Rattle.acpi_base.specs.declared.address.GenericAddress.{GenericAddress}
 use Rattle.acpi_base.specs.declared.error.AcpiError.{AcpiError}
-use Rattle.acpi_base.specs.declared.error.AcpiError.TheVariants as refusal
 use Rattle.acpi_base.specs.Bytes.{field_of}
 use Rattle.acpi_base.specs.Header.{header_at}
 use Rattle.acpi_fixed.specs.declared.fadt.Fadt.{Fadt}
 use Rattle.acpi_fixed.specs.declared.fadt.PowerProfile.{PowerProfile}
-use Rattle.acpi_fixed.specs.declared.fadt.PowerProfile.TheVariants as profiles
 use Rattle.acpi_fixed.specs.declared.fadt.registers.Registers.{Registers}
 use Rattle.acpi_fixed.specs.Registers.{address_or, extended_number, registers_at, timer_block_of}
+use Rattle.acpi_base.specs.declared.error.AcpiError.TheVariants as refusal
+use Rattle.acpi_fixed.specs.declared.fadt.PowerProfile.TheVariants as profiles
 
 -- what a table's bytes mean, in the order in which they lie. A plain field that reaches past the end is read as if
 -- zeros followed; an extended one is there only if the table has it whole (`Registers`)

@@ -1,6 +1,10 @@
 //! The Boot Graphics Resource Table (BGRT): the image that the firmware showed while it started the machine
 //! (section 5.2.22).
-ghost use Rattle.std.specs.Prelude.{◌≡◌, ◌*◌};
+ghost use Rattle.std.specs.Prelude.{◌≡◌, ◌*◌, refl};
+ghost use Rattle.std.proofs.Common.{lit≤};
+ghost use Rattle.acpi_base.specs.Table.{sdt_kind};
+ghost use Rattle.acpi_base.specs.Bits.{bits_of, has_bit};
+ghost use Rattle.acpi_fixed.specs.Bgrt.{bgrt_at, image_type_of, offset_of, status_of};
 
 use acpi_base::bytes::{bits, field_in, has_bit, u8_in, u16_in, u32_in};
 use acpi_base::sdt::SdtHeader;
@@ -24,8 +28,6 @@ pub struct Bgrt {
 }
 
 impl PhysicalRecord for Bgrt {
-    ghost use Rattle.acpi_fixed.specs.Bgrt.{bgrt_at};
-
     const MIN_LENGTH: usize = 56;
 
     ghost MIN_LENGTH = { 56 };
@@ -47,8 +49,6 @@ impl PhysicalRecord for Bgrt {
 }
 
 impl AcpiTable for Bgrt {
-    ghost use Rattle.std.proofs.Common.{lit≤, refl};
-    ghost use Rattle.acpi_base.specs.Table.{sdt_kind};
     ghost use Rattle.acpi_base.specs.declared.table.signature.TheConstants.Signature.{BGRT};
 
     const SIGNATURE: Signature = Signature::BGRT;
@@ -76,9 +76,6 @@ impl AcpiTable for Bgrt {
 }
 
 impl Bgrt {
-    ghost use Rattle.acpi_base.specs.Bits.{bits_of, has_bit};
-    ghost use Rattle.acpi_fixed.specs.Bgrt.{image_type_of, offset_of, status_of};
-
     /// Displayed (bit 0 of Status, section 5.2.22): whether the image is still on the screen, as far as the
     /// firmware knows.
     pub fn was_displayed(&self) -> bool

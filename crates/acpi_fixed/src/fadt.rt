@@ -1,8 +1,11 @@
 //! The Fixed ACPI Description Table (FADT): the registers of the fixed hardware, and its features (section
 //! 5.2.9).
-ghost use Rattle.std.specs.Prelude.{◌≡◌, ◌≤◌, length, true};
-ghost use Rattle.acpi_fixed.specs.Fadt.{fadt_at, profile_for};
-ghost use Rattle.acpi_fixed.specs.Registers.{HasBlocks};
+ghost use Rattle.std.specs.Prelude.{◌≡◌, ◌≤◌, length, true, refl};
+ghost use Rattle.std.proofs.Common.{lit≤};
+ghost use Rattle.acpi_base.specs.Table.{sdt_kind};
+ghost use Rattle.acpi_base.specs.Address.{generic_address_of};
+ghost use Rattle.acpi_fixed.specs.Fadt.{fadt_at, profile_for, dsdt_address_of, facs_address_of, profile_of, pm_timer_of, registers_of};
+ghost use Rattle.acpi_fixed.specs.Registers.{HasBlocks, block_of, optional_block_of, register_of};
 
 mod flags;
 mod places;
@@ -191,8 +194,6 @@ impl Fadt {
 }
 
 impl AcpiTable for Fadt {
-    ghost use Rattle.std.proofs.Common.{lit≤, refl};
-    ghost use Rattle.acpi_base.specs.Table.{sdt_kind};
     ghost use Rattle.acpi_base.specs.declared.table.signature.TheConstants.Signature.{FADT};
 
     const SIGNATURE: Signature = Signature::FADT;
@@ -220,11 +221,6 @@ impl AcpiTable for Fadt {
 }
 
 impl Fadt {
-    ghost use Rattle.acpi_base.specs.Address.{generic_address_of};
-    ghost use Rattle.acpi_fixed.specs.Fadt.{dsdt_address_of, facs_address_of, profile_of};
-    ghost use Rattle.acpi_fixed.specs.Fadt.{pm_timer_of, registers_of};
-    ghost use Rattle.acpi_fixed.specs.Registers.{block_of, optional_block_of, register_of};
-
     /// Preferred_PM_Profile: the machine's purpose (section 5.2.9).
     pub fn power_profile(&self) -> PowerProfile
         ensures { result ≡ profile_of self.now }

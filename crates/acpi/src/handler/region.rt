@@ -1,6 +1,9 @@
 //! A handler over one region of physical memory that the caller has mapped.
-ghost use Rattle.acpi_base.specs.Memory.{IsMemory, IsMemory-prop};
+ghost use Rattle.std.specs.Prelude.{◌≡◌, ◌<◌, ◌≤◌, length, Some, None, IfOk, IfErr};
+ghost use Rattle.acpi_base.specs.Memory.{IsMemory, IsMemory-prop, at, rest_from};
 ghost use Rattle.acpi_base.specs.OneRegion.{one_region};
+ghost use Rattle.acpi_base.specs.Steps.{Gives};
+ghost use Rattle.acpi_base.specs.declared.error.AcpiError.TheVariants.{MapFailed};
 
 use acpi_base::{AcpiError, AcpiHandler, AcpiResult};
 use std::fmt;
@@ -18,7 +21,6 @@ pub enum RegionError {
 
 /// Prints the variant's name.
 impl fmt::Display for RegionError {
-    ghost use Rattle.std.specs.Prelude.{Some};
     ghost use Rattle.acpi.specs.Regions.{region_error_text};
 
     ghost output = { λ e. Some (region_error_text e) };
@@ -46,7 +48,6 @@ pub struct MappedRegion<'k> {
 }
 
 impl<'k> MappedRegion<'k> {
-    ghost use Rattle.acpi_base.specs.Steps.{Gives};
     ghost use Rattle.acpi.specs.Regions.{one_memory, region_memory};
 
     /// A handler that lends these bytes, which lie from the physical address `start` on.
@@ -71,8 +72,16 @@ impl AcpiHandler for MappedRegion<'_> {
     /// Lends all bytes from a physical address to the end of the region.
     ///
     /// Fails with `MapFailed` if the region doesn't have `size` bytes from that address on.
-    #[tactic(auto, using(acpi_base::proofs::LentRanges::one_region_lends))]
-    fn map_physical_region(&self, address: u64, size: usize) -> AcpiResult<&[u8]> {
+    #[tactic(auto, using(acpi_base::proofs::LentRanges::one_region_lends, crate::proofs::Placing::rest_of_region))]
+    fn map_physical_region(&self, address: u64, size: usize) -> AcpiResult<&[u8]>
+        requires { 0 < size }
+        ensures enough { IfOk result (λ s. size ≤ length s.now) }
+        ensures lent { IfOk result (λ s. at (region_memory self.now) address (length s.now) ≡ Some s.now) }
+        // All the rest of the region is lent, however little is asked for.
+        ensures whole { IfOk result (λ s. s.now ≡ rest_from (region_memory self.now) address) }
+        ensures refused { IfErr result (λ e. at (region_memory self.now) address size ≡ None) }
+        ensures name { IfErr result (λ e. e ≡ MapFailed) }
+    {
         if address < self.start {
             return Err(AcpiError::MapFailed);
         }

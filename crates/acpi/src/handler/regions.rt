@@ -1,6 +1,8 @@
 //! A handler over several regions of physical memory that the caller has mapped.
-ghost use Rattle.std.specs.Prelude.{◌≡◌, [], IfOk, IfNone, IfSome};
-ghost use Rattle.acpi_base.specs.Memory.{IsMemory, IsMemory-prop, rest_from};
+ghost use Rattle.std.specs.Prelude.{◌≡◌, ◌<◌, ◌≤◌, [], length, Some, None, IfOk, IfErr, IfNone, IfSome};
+ghost use Rattle.acpi_base.specs.Memory.{IsMemory, IsMemory-prop, at, rest_from};
+ghost use Rattle.acpi_base.specs.Steps.{Gives};
+ghost use Rattle.acpi_base.specs.declared.error.AcpiError.TheVariants.{MapFailed};
 ghost use Rattle.acpi.specs.Regions.{IsAscending, IsAscending-prop, check_regions, region_memory, regions_of};
 
 use super::region::{MappedRegion, RegionError};
@@ -18,7 +20,6 @@ pub struct MappedRegions<'k> {
 }
 
 impl<'k> MappedRegions<'k> {
-    ghost use Rattle.acpi_base.specs.Steps.{Gives};
     ghost use Rattle.acpi.specs.Mapped.{regions_memory};
     ghost use Rattle.acpi.specs.Regions.{several_memory};
 
@@ -80,7 +81,15 @@ impl AcpiHandler for MappedRegions<'_> {
     ///
     /// Fails with `MapFailed` if no region has `size` bytes from that address on.
     #[tactic(auto, using(crate::proofs::Placing::at_same, crate::proofs::Placing::at_none))]
-    fn map_physical_region(&self, address: u64, size: usize) -> AcpiResult<&[u8]> {
+    fn map_physical_region(&self, address: u64, size: usize) -> AcpiResult<&[u8]>
+        requires { 0 < size }
+        ensures enough { IfOk result (λ s. size ≤ length s.now) }
+        ensures lent { IfOk result (λ s. at (regions_memory self.now) address (length s.now) ≡ Some s.now) }
+        // All the rest of the region is lent, however little is asked for.
+        ensures whole { IfOk result (λ s. s.now ≡ rest_from (regions_memory self.now) address) }
+        ensures refused { IfErr result (λ e. at (regions_memory self.now) address size ≡ None) }
+        ensures name { IfErr result (λ e. e ≡ MapFailed) }
+    {
         match region_for(self.regions, address) {
             Some(region) => region.map_physical_region(address, size),
             None => Err(AcpiError::MapFailed),

@@ -1,14 +1,13 @@
 //! The addresses of the configuration space of PCI functions, by the base of bus 0.
-ghost use Rattle.std.specs.Prelude.{◌≡◌};
+ghost use Rattle.std.specs.Prelude.{◌≡◌, IfSome};
+ghost use Rattle.std.specs.Iterator.{YieldsFirst, item_count};
+ghost use Rattle.acpi.specs.Ecam.{IsBeside, ecam_address, spans_left, spans_of};
 
 use super::{McfgEntry, PciConfigRegions, region_for};
 use acpi_base::AddressRange;
 use std::alloc::Allocator;
 
 impl<A: Allocator> PciConfigRegions<A> {
-    ghost use Rattle.std.specs.Prelude.{IfSome};
-    ghost use Rattle.acpi.specs.Ecam.{IsBeside, ecam_address, spans_left, spans_of};
-
     /// The physical address of a PCI function's configuration space, as a kernel wants it: a region's
     /// base is that of bus 0 of its segment group (PCI Firmware Specification, section 4.1.2), and
     /// Linux reads it so. It is the base of the first region of the segment group that holds the bus,
@@ -61,9 +60,6 @@ pub struct EcamRanges<'a> {
 }
 
 impl Iterator for EcamRanges<'_> {
-    ghost use Rattle.std.specs.Iterator.{YieldsFirst, item_count};
-    ghost use Rattle.acpi.specs.Ecam.{spans_left};
-
     type Item = (u16, Option<AddressRange>);
 
     ghost next_gives = { YieldsFirst (λ s. spans_left s) };

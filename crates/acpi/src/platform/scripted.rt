@@ -1,5 +1,5 @@
 //! A Multiprocessor Wakeup Mailbox that answers from a script, for tests and dry runs.
-ghost use Rattle.std.specs.Prelude.{◌≤◌};
+ghost use Rattle.std.specs.Prelude.{◌≤◌, ◌≡◌, ◌<◌, ◌++◌, ◌∷◌, ℕ, [], None, slice_index_or, take, ◌+◌, ◌-◌, ◌^◌, Ok, Some, length, min};
 
 use super::mailbox::{Mailbox, MailboxCall, MailboxWrite};
 use acpi_base::AcpiResult;
@@ -21,7 +21,6 @@ pub struct ScriptedMailbox<'a> {
 }
 
 impl<'a> ScriptedMailbox<'a> {
-    ghost use Rattle.std.specs.Prelude.{◌≡◌, ◌<◌, ◌++◌, ◌∷◌, ℕ, [], None, slice_index_or, take};
     ghost use Rattle.acpi.specs.Scripted.{Lists, calls_of, reads_of};
     ghost use Rattle.acpi.specs.declared.platform.mailbox.MailboxCall.{MailboxCall};
 
@@ -106,7 +105,6 @@ impl<'a> ScriptedMailbox<'a> {
 }
 
 impl<'a> Mailbox for ScriptedMailbox<'a> {
-    ghost use Rattle.std.specs.Prelude.{◌≡◌, ◌+◌, ◌-◌, ◌^◌, ◌<◌, ℕ, [], Ok, Some, length, min};
     ghost use Rattle.acpi.specs.Scripted.{Lists, Puts, answer_of, opened_of, reads_of, writes_of};
     ghost use Rattle.acpi.specs.declared.platform.mailbox.MailboxCall.{MailboxCall};
     ghost use Rattle.acpi.specs.declared.platform.mailbox.MailboxWrite.{MailboxWrite};

@@ -1,5 +1,7 @@
 //! The Power Management Timer (section 4.8.3.3).
 ghost use Rattle.std.specs.Prelude.{◌≡◌};
+ghost use Rattle.acpi_fixed.specs.View.{viewed};
+ghost use Rattle.acpi.specs.Timer.{timer_from, timer_of};
 
 use acpi_base::address::GenericAddress;
 use acpi_base::{AcpiResult, Lender};
@@ -15,9 +17,6 @@ pub struct PmTimer {
 }
 
 impl PmTimer {
-    ghost use Rattle.acpi_fixed.specs.View.{viewed};
-    ghost use Rattle.acpi.specs.Timer.{timer_from, timer_of};
-
     /// The Power Management Timer that a FADT describes (sections 4.8.3.3 and 5.2.9), or `None` if it has
     /// none: the block of `Fadt::pm_timer_block`, and TMR_VAL_EXT, bit 8 of the flags.
     ///

@@ -1,14 +1,10 @@
 //! Waking a processor by the Multiprocessor Wakeup Mailbox (section 5.2.12.19).
-ghost use Rattle.std.specs.Prelude.{◌≡◌, ℕ, ◌++◌, [], ◌∷◌, OnOk, MatchResult, Some, Ok, Err};
+ghost use Rattle.std.specs.Prelude.{◌≡◌, ℕ, [], OnOk, MatchResult, Some, Ok, Err};
 ghost use Rattle.acpi_base.specs.declared.error.AcpiError.{AcpiError};
-ghost use Rattle.acpi_base.specs.declared.error.AcpiError.TheVariants.{InvalidMadt};
-ghost use Rattle.acpi_base.specs.declared.error.MadtError.TheVariants.{WakeupApsTimeout};
 ghost use Rattle.acpi.specs.Footprint.{AllowsBelow, FootprintBelow, lookup_ranges};
 ghost use Rattle.acpi.specs.Platform.{madt_kind};
 ghost use Rattle.acpi.specs.Tables.{of_tables};
-ghost use Rattle.acpi.specs.Wake.{IsUntouched, Makes, MakesUntilWoken, Waits, Wakes};
-ghost use Rattle.acpi.specs.Wake.{mailbox_found, opening, reads, wakes_by};
-ghost use Rattle.acpi.specs.declared.platform.mailbox.MailboxWrite.{MailboxWrite};
+ghost use Rattle.acpi.specs.Wake.{Makes, MakesAndReads, MakesUntilWoken, WakesOrWaits, commands, mailbox_found, opening, reads, wakes_by};
 
 use super::mailbox::Mailbox;
 use crate::tables::AcpiTables;
@@ -31,31 +27,19 @@ pub fn wakeup_aps<H: Lender, M: Mailbox>(
     timeout_loops: u64,
 ) -> AcpiResult<()>
     requires { AllowsBelow tables.now (λ m. lookup_ranges m madt_kind) }
-    ensures refused { (e : AcpiError)
-        → opening (M.open_answer mailbox.old) (of_tables tables.now mailbox_found) ≡ Err e
-        → (result ≡ Err e) × IsUntouched M.opened M.writes M.answer mailbox.old mailbox.new }
-    ensures unchanged { (e : AcpiError)
-        → opening (M.open_answer mailbox.old) (of_tables tables.now mailbox_found) ≡ Err e → mailbox.new ≡ mailbox.old }
+    ensures refused { (e : AcpiError) → opening (M.open_answer mailbox.old) (of_tables tables.now mailbox_found) ≡ Err e
+        → (result ≡ Err e) × (mailbox.new ≡ mailbox.old) }
     // These calls are made of the mailbox, in this order, and no others.
-    ensures made { (a : ℕ) → of_tables tables.now mailbox_found ≡ Ok a
-        → OnOk (M.open_answer mailbox.old a) (MatchResult result
-        (λ _. MakesUntilWoken M.called (M.answer mailbox.old) mailbox.old
-        (wakes_by a apic_id wakeup_vector) mailbox.new)
-        (λ _. Makes M.called mailbox.old
-        (wakes_by a apic_id wakeup_vector ++ reads timeout_loops) mailbox.new)) }
+    ensures made { (a : ℕ) → of_tables tables.now mailbox_found ≡ Ok a → OnOk (M.open_answer mailbox.old a)
+        (MakesAndReads M.called (M.answer mailbox.old) mailbox.old (wakes_by a apic_id wakeup_vector) timeout_loops
+        result mailbox.new) }
     ensures answers_kept { (a : ℕ) → M.open_answer mailbox.new a ≡ M.open_answer mailbox.old a }
     ensures opened { (a : ℕ) → of_tables tables.now mailbox_found ≡ Ok a
         → OnOk (M.open_answer mailbox.old a) (M.opened mailbox.new ≡ Some a) }
-    ensures written { OnOk (opening (M.open_answer mailbox.old)
-        (of_tables tables.now mailbox_found))
-        (M.writes mailbox.new ≡ MailboxWrite.Command 0 ∷ MailboxWrite.ApicId apic_id
-        ∷ MailboxWrite.WakeupVector wakeup_vector ∷ MailboxWrite.Command 1 ∷ []) }
-    ensures answered { OnOk (opening (M.open_answer mailbox.old)
-        (of_tables tables.now mailbox_found))
-        (MatchResult result
-        (λ _. Wakes (M.answer mailbox.old) timeout_loops (M.answer mailbox.new))
-        (λ e. (e ≡ InvalidMadt WakeupApsTimeout)
-        × Waits (M.answer mailbox.old) timeout_loops (M.answer mailbox.new))) }
+    ensures written { OnOk (opening (M.open_answer mailbox.old) (of_tables tables.now mailbox_found))
+        (M.writes mailbox.new ≡ commands apic_id wakeup_vector) }
+    ensures answered { OnOk (opening (M.open_answer mailbox.old) (of_tables tables.now mailbox_found))
+        (WakesOrWaits (M.answer mailbox.old) timeout_loops result (M.answer mailbox.new)) }
     // Where the mailbox lies, or why none is found, depends on what the lookup of the MADT depends on.
     ensures footprint { FootprintBelow tables.now (λ m. lookup_ranges m madt_kind) mailbox_found
         (λ said. of_tables tables.now mailbox_found ≡ said) }
@@ -85,24 +69,14 @@ fn wake<M: Mailbox>(
     timeout_loops: u64,
 ) -> AcpiResult<()>
     ensures refused { (e : AcpiError) → M.open_answer mailbox.old address ≡ Err e
-        → (result ≡ Err e) × IsUntouched M.opened M.writes M.answer mailbox.old mailbox.new }
-    ensures unchanged { (e : AcpiError) → M.open_answer mailbox.old address ≡ Err e
-        → mailbox.new ≡ mailbox.old }
-    ensures made { OnOk (M.open_answer mailbox.old address) (MatchResult result
-        (λ _. MakesUntilWoken M.called (M.answer mailbox.old) mailbox.old
-        (wakes_by address apic_id wakeup_vector) mailbox.new)
-        (λ _. Makes M.called mailbox.old
-        (wakes_by address apic_id wakeup_vector ++ reads timeout_loops) mailbox.new)) }
+        → (result ≡ Err e) × (mailbox.new ≡ mailbox.old) }
+    ensures made { OnOk (M.open_answer mailbox.old address) (MakesAndReads M.called (M.answer mailbox.old) mailbox.old
+        (wakes_by address apic_id wakeup_vector) timeout_loops result mailbox.new) }
     ensures answers_kept { (a : ℕ) → M.open_answer mailbox.new a ≡ M.open_answer mailbox.old a }
-    ensures opened { OnOk (M.open_answer mailbox.old address)
-        (M.opened mailbox.new ≡ Some address) }
-    ensures written { OnOk (M.open_answer mailbox.old address) (M.writes mailbox.new
-        ≡ MailboxWrite.Command 0 ∷ MailboxWrite.ApicId apic_id
-        ∷ MailboxWrite.WakeupVector wakeup_vector ∷ MailboxWrite.Command 1 ∷ []) }
-    ensures answered { OnOk (M.open_answer mailbox.old address) (MatchResult result
-        (λ _. Wakes (M.answer mailbox.old) timeout_loops (M.answer mailbox.new))
-        (λ e. (e ≡ InvalidMadt WakeupApsTimeout)
-        × Waits (M.answer mailbox.old) timeout_loops (M.answer mailbox.new))) }
+    ensures opened { OnOk (M.open_answer mailbox.old address) (M.opened mailbox.new ≡ Some address) }
+    ensures written { OnOk (M.open_answer mailbox.old address) (M.writes mailbox.new ≡ commands apic_id wakeup_vector) }
+    ensures answered { OnOk (M.open_answer mailbox.old address)
+        (WakesOrWaits (M.answer mailbox.old) timeout_loops result (M.answer mailbox.new)) }
 {
     mailbox.open(address)?;
     mailbox.write_command(MpProtectedModeWakeupCommand::Noop as u16);
@@ -115,10 +89,7 @@ fn wake<M: Mailbox>(
 /// Reads the command until it is 0, at most `timeout_loops` times. Fails with
 /// `InvalidMadt(WakeupApsTimeout)` if no read is 0.
 fn wait<M: Mailbox>(mailbox: &mut M, timeout_loops: u64) -> AcpiResult<()>
-    ensures answered { MatchResult result
-        (λ _. Wakes (M.answer mailbox.old) timeout_loops (M.answer mailbox.new))
-        (λ e. (e ≡ InvalidMadt WakeupApsTimeout)
-        × Waits (M.answer mailbox.old) timeout_loops (M.answer mailbox.new)) }
+    ensures answered { WakesOrWaits (M.answer mailbox.old) timeout_loops result (M.answer mailbox.new) }
     ensures made { MatchResult result
         (λ _. MakesUntilWoken M.called (M.answer mailbox.old) mailbox.old [] mailbox.new)
         (λ _. Makes M.called mailbox.old (reads timeout_loops) mailbox.new) }

@@ -1,27 +1,22 @@
 //! Opening the root table: by its address, by an RSDP, by the search for one.
-ghost use Rattle.acpi_base.specs.Ranges.{Allows};
-
-mod given;
+ghost use Rattle.std.specs.Prelude.{◌≡◌, IfOk, IsOk};
+ghost use Rattle.acpi_base.specs.Ranges.{Allows, Footprint};
+ghost use Rattle.acpi_base.specs.Mapping.{start_of, bytes_of};
+ghost use Rattle.acpi_base.specs.Steps.{Gives};
+ghost use Rattle.acpi.specs.Areas.{opened_in_areas, opened_in_areas_ranges};
+ghost use Rattle.acpi.specs.Opened.{opened_at, opened_from, opened_of, opened_by_rsdp, opened_by_search};
+ghost use Rattle.acpi.specs.OpenedRanges.{opened_by_rsdp_ranges, opened_by_search_ranges, opened_ranges};
+ghost use Rattle.acpi.specs.Root.{root_of_revision};
+ghost use Rattle.acpi.specs.Rsdp.{root_of_rsdp, rsdp_at};
+ghost use Rattle.acpi.specs.Tables.{SpellsPointers, lender_of};
 
 use super::AcpiTables;
 use crate::root::{RootKind, RootPointer};
 use crate::rsdp::{Rsdp, map_rsdp};
 use acpi_base::sdt::map_sdt;
-use acpi_base::{AcpiResult, Lender, PhysicalMapping, PhysicalRecord};
+use acpi_base::{AcpiResult, AddressRange, Lender, PhysicalMapping, PhysicalRecord};
 
 impl<'h, H: Lender> AcpiTables<'h, H> {
-    ghost use Rattle.std.specs.Prelude.{◌≡◌, IfOk, IsOk};
-    ghost use Rattle.acpi_base.specs.Mapping.{start_of, bytes_of};
-    ghost use Rattle.acpi_base.specs.Ranges.{Footprint};
-    ghost use Rattle.acpi_base.specs.Steps.{Gives};
-    ghost use Rattle.acpi.specs.Opened.{opened_at, opened_from, opened_of};
-    ghost use Rattle.acpi.specs.Opened.{opened_by_rsdp, opened_by_search};
-    ghost use Rattle.acpi.specs.OpenedRanges.{opened_by_rsdp_ranges, opened_by_search_ranges};
-    ghost use Rattle.acpi.specs.OpenedRanges.{opened_ranges};
-    ghost use Rattle.acpi.specs.Root.{root_of_revision};
-    ghost use Rattle.acpi.specs.Rsdp.{root_of_rsdp, rsdp_at};
-    ghost use Rattle.acpi.specs.Tables.{SpellsPointers, lender_of};
-
     /// The tables below the root table that the RSDP at a physical address leads to: the RSDT if the
     /// RSDP's revision or XSDT address is 0, else the XSDT (sections 5.2.5.3, 5.2.7 and 5.2.8).
     ///
@@ -42,10 +37,7 @@ impl<'h, H: Lender> AcpiTables<'h, H> {
             Footprint m (opened_by_rsdp_ranges m address) (λ n. opened_by_rsdp n address)
             (Gives (λ t. opened_of t) result) }
     {
-        match map_rsdp(handler, address) {
-            Ok(rsdp) => AcpiTables::from_root(handler, rsdp),
-            Err(error) => Err(error),
-        }
+        AcpiTables::from_root(handler, map_rsdp(handler, address)?)
     }
 
     /// The tables below the root table of the RSDP that `Rsdp::search_for_on_bios` finds (section
@@ -64,10 +56,28 @@ impl<'h, H: Lender> AcpiTables<'h, H> {
             Footprint m (opened_by_search_ranges m) opened_by_search
             (Gives (λ t. opened_of t) result) }
     {
-        match Rsdp::search_for_on_bios(handler) {
-            Ok(rsdp) => AcpiTables::from_root(handler, rsdp),
-            Err(error) => Err(error),
-        }
+        AcpiTables::from_root(handler, Rsdp::search_for_on_bios(handler)?)
+    }
+
+    /// The tables below the root table of the RSDP that `Rsdp::search_in` finds in these areas (section
+    /// 5.2.5.1): the RSDT if the RSDP's revision or XSDT address is 0, else the XSDT. No later candidate
+    /// is tried if the root table is bad.
+    ///
+    /// Fails first as that search does, with `NoValidRsdp`, and then as `from_rsdt` does.
+    pub fn search_in(handler: &'h H, areas: &[AddressRange]) -> AcpiResult<Self>
+        requires { Allows (H.may handler.now)
+            (opened_in_areas_ranges (H.memory handler.now) areas.now) }
+        ensures handler { IfOk result (λ t. lender_of t ≡ handler.now) }
+        ensures exact { Gives (λ t. opened_of t) result
+            (opened_in_areas (H.memory handler.now) areas.now) }
+        // In the reader's words: the root table's bytes encode these pointers and no others.
+        ensures pointers { IfOk result (λ t. SpellsPointers t) }
+        // It depends on the candidates up to the one found and the root table that this leads to.
+        ensures footprint { let m = H.memory handler.now in
+            Footprint m (opened_in_areas_ranges m areas.now) (λ n. opened_in_areas n areas.now)
+            (Gives (λ t. opened_of t) result) }
+    {
+        AcpiTables::from_root(handler, Rsdp::search_in(handler, areas)?)
     }
 
     /// The tables below the root table that a valid RSDP leads to (sections 5.2.5.3, 5.2.7 and 5.2.8). Of

@@ -1,4 +1,19 @@
 //! The places of the tables, all tables of a type, and a lookup by a signature.
+ghost use Rattle.std.specs.Prelude.{◌≡◌, ◌^◌, ◌<◌, ◌≤◌, ◌+◌, List, Ok, IfOk, length, map};
+ghost use Rattle.std.specs.Result.{result_ok};
+ghost use Rattle.acpi_base.specs.Mapping.{IsOfMemory, bytes_of, handler_of, start_of};
+ghost use Rattle.acpi_base.specs.Ranges.{Allows};
+ghost use Rattle.acpi_base.specs.Steps.{Gives};
+ghost use Rattle.acpi_base.specs.Table.{plain_kind};
+ghost use Rattle.acpi_fixed.specs.View.{viewed};
+ghost use Rattle.acpi.specs.Footprint.{AllowsBelow, FootprintBelow, header_ranges, lookup_ranges};
+ghost use Rattle.acpi.specs.Lookup.{lookup};
+ghost use Rattle.acpi.specs.Members.{kind_ranges, members_of, tables_found};
+ghost use Rattle.acpi.specs.Placed.{found_left, members_left, places_left, root_place};
+ghost use Rattle.acpi.specs.Pointers.{pointers_left};
+ghost use Rattle.acpi.specs.Places.{dsdt_place, dsdt_place_ranges, facs_place, facs_place_ranges, led_by, led_by_ranges, led_ranges, place_ranges, places_of};
+ghost use Rattle.acpi.specs.Root.{signature_of};
+ghost use Rattle.acpi.specs.Tables.{kind_of, lender_of, may_of, memory_of, of_tables, pointers_of, root_address_of, root_of};
 
 use super::AcpiTables;
 use crate::found::FoundTables;
@@ -13,24 +28,6 @@ use acpi_base::{
 use acpi_fixed::fadt::FadtView;
 
 impl<'h, H: Lender> AcpiTables<'h, H> {
-    ghost use Rattle.std.specs.Prelude.{◌≡◌, ◌^◌, ◌<◌, ◌≤◌, ◌+◌, List, Ok, IfOk, length, map};
-    ghost use Rattle.std.specs.Result.{result_ok};
-    ghost use Rattle.acpi_base.specs.Mapping.{IsOfMemory, bytes_of, handler_of, start_of};
-    ghost use Rattle.acpi_base.specs.Ranges.{Allows};
-    ghost use Rattle.acpi_base.specs.Steps.{Gives};
-    ghost use Rattle.acpi_base.specs.Table.{plain_kind};
-    ghost use Rattle.acpi_fixed.specs.View.{viewed};
-    ghost use Rattle.acpi.specs.Footprint.{AllowsBelow, FootprintBelow, header_ranges, lookup_ranges};
-    ghost use Rattle.acpi.specs.Lookup.{lookup};
-    ghost use Rattle.acpi.specs.Members.{kind_ranges, members_of, tables_found};
-    ghost use Rattle.acpi.specs.Placed.{found_left, members_left, places_left};
-    ghost use Rattle.acpi.specs.Pointers.{pointers_left};
-    ghost use Rattle.acpi.specs.Places.{dsdt_place, dsdt_place_ranges, facs_place, facs_place_ranges};
-    ghost use Rattle.acpi.specs.Places.{led_by, led_by_ranges, led_ranges, place_ranges, places_of};
-    ghost use Rattle.acpi.specs.Placed.{root_place};
-    ghost use Rattle.acpi.specs.Root.{signature_of};
-    ghost use Rattle.acpi.specs.Tables.{kind_of, lender_of, may_of, memory_of, of_tables, pointers_of, root_address_of, root_of};
-
     /// The physical address of the root table (sections 5.2.7 and 5.2.8).
     pub fn root_address(&self) -> u64
         ensures { result ≡ root_address_of self.now }
@@ -139,10 +136,7 @@ impl<'h, H: Lender> AcpiTables<'h, H> {
         ensures footprint { FootprintBelow self.now (led_by_ranges facs_place_ranges) (led_by facs_place)
             (λ said. result ≡ said) }
     {
-        match self.find_fadt() {
-            Ok(fadt) => self.facs_place(&fadt),
-            Err(error) => Err(error),
-        }
+        self.facs_place(&self.find_fadt()?)
     }
 
     /// The ranges of physical memory in which the tables lie (sections 5.2.6, 5.2.9 and 5.2.10): the root
@@ -196,13 +190,11 @@ impl<'h, H: Lender> AcpiTables<'h, H> {
         ensures { result ≡ dsdt_place (memory_of self.now) (viewed fadt.now) }
     {
         let address = fadt.dsdt_address()?;
-        match map_sdt(self.root.handler(), address, Signature::DSDT) {
-            Ok(dsdt) => Ok(AddressRange {
-                address,
-                length: dsdt.region_length() as u64,
-            }),
-            Err(error) => Err(error),
-        }
+        let dsdt = map_sdt(self.root.handler(), address, Signature::DSDT)?;
+        Ok(AddressRange {
+            address,
+            length: dsdt.region_length() as u64,
+        })
     }
 
     /// Where the FACS lies that a FADT leads to.
@@ -210,9 +202,6 @@ impl<'h, H: Lender> AcpiTables<'h, H> {
         requires { Allows (may_of self.now) (facs_place_ranges (memory_of self.now) (viewed fadt.now)) }
         ensures { result ≡ facs_place (memory_of self.now) (viewed fadt.now) }
     {
-        match fadt.facs_address() {
-            Ok(address) => facs_at(self.root.handler(), address),
-            Err(error) => Err(error),
-        }
+        facs_at(self.root.handler(), fadt.facs_address()?)
     }
 }

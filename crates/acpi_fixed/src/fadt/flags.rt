@@ -1,6 +1,7 @@
 //! The flags of the FADT (sections 5.2.9, 5.2.9.3 and 5.2.9.4).
 ghost use Rattle.std.specs.Prelude.{◌≡◌};
 ghost use Rattle.acpi_base.specs.Bits.{has_bit};
+ghost use Rattle.acpi_fixed.specs.Flags.{feature_bits, pc_bits, arm_bits};
 
 use acpi_base::bytes::has_bit;
 
@@ -9,8 +10,6 @@ use acpi_base::bytes::has_bit;
 pub struct FixedFeatureFlags(u32);
 
 impl FixedFeatureFlags {
-    ghost use Rattle.acpi_fixed.specs.Flags.{feature_bits};
-
     /// The flags of these bits.
     pub(crate) fn new(bits: u32) -> FixedFeatureFlags
         ensures { feature_bits result ≡ bits }
@@ -195,8 +194,6 @@ impl FixedFeatureFlags {
 pub struct IaPcBootArchFlags(u16);
 
 impl IaPcBootArchFlags {
-    ghost use Rattle.acpi_fixed.specs.Flags.{pc_bits};
-
     /// The flags of these bits.
     pub(crate) fn new(bits: u16) -> IaPcBootArchFlags
         ensures { pc_bits result ≡ bits }
@@ -257,8 +254,6 @@ impl IaPcBootArchFlags {
 pub struct ArmBootArchFlags(u16);
 
 impl ArmBootArchFlags {
-    ghost use Rattle.acpi_fixed.specs.Flags.{arm_bits};
-
     /// The flags of these bits.
     pub(crate) fn new(bits: u16) -> ArmBootArchFlags
         ensures { arm_bits result ≡ bits }

@@ -5,8 +5,7 @@
 //! (`whole`), and then nothing is tested.
 ghost use Rattle.std.specs.Prelude.{◌≡◌, ◌+◌, ◌≤◌, length, true};
 ghost use Rattle.acpi_base.specs.Bytes.{filled_part};
-ghost use Rattle.acpi_fixed.specs.Registers.{HasBlocks, address_or, extended_address, extended_bytes, extended_number};
-ghost use Rattle.acpi_fixed.specs.Registers.{has_extended, register_of};
+ghost use Rattle.acpi_fixed.specs.Registers.{HasBlocks, address_or, extended_address, extended_bytes, extended_number, has_extended, register_of, block_at, block_of, port_of, usable_extended, optional_block_of, ports_at, timer_block_of, registers_at};
 
 mod gpe;
 
@@ -134,9 +133,6 @@ pub(crate) struct RegisterBlock {
 }
 
 impl RegisterBlock {
-    ghost use Rattle.acpi_fixed.specs.Registers.{block_at, block_of, port_of, usable_extended};
-    ghost use Rattle.acpi_fixed.specs.Registers.{optional_block_of, ports_at, timer_block_of};
-
     /// The block that a table has at a place. The extended field isn't tested for if the table is known to
     /// have all of them.
     #[inline(always)]
@@ -250,8 +246,6 @@ pub(crate) struct Registers {
 }
 
 impl Registers {
-    ghost use Rattle.acpi_fixed.specs.Registers.{registers_at};
-
     /// The registers that a table gives. The blocks aren't tested for if the table is known to have all of
     /// them.
     #[inline(always)]

@@ -44,8 +44,7 @@ impl<'h, H: Lender> FadtView<'h, H> {
     ghost use Rattle.acpi_base.specs.Address.{generic_address_of};
     ghost use Rattle.acpi_base.specs.Claim.{all_of, claimed_at, claimed_from, shown_by};
     ghost use Rattle.acpi_base.specs.Mapping.{bytes_of, handler_of, lent_of, start_of};
-    ghost use Rattle.acpi_fixed.specs.Fadt.{dsdt_address_of, facs_address_of, profile_of};
-    ghost use Rattle.acpi_fixed.specs.Fadt.{pm_timer_of, registers_of};
+    ghost use Rattle.acpi_fixed.specs.Fadt.{dsdt_address_of, facs_address_of, pm_timer_of, profile_of, registers_of};
     ghost use Rattle.acpi_fixed.specs.Gpe.{gpe1_base_of, gpe_of};
     ghost use Rattle.acpi_fixed.specs.Registers.{block_at, block_of, optional_block_of, register_of};
     ghost use Rattle.acpi_fixed.specs.View.{viewed};

@@ -10,4 +10,5 @@ returns-clause-here g c =
 pub returns-clause-left : goal.returns-clause-left
 returns-clause-left g c =
     let h = c.args.handler.now in
-    asked_kept (g.H.Lender.may h) (g.M.Asked.ranges (g.H.Lender.memory h)) (pointers_left c.args.pointers.now) (pointers_left c.next.new.self) c.next.result c.next.ensures.steps c.requires
+    asked_kept (g.H.Lender.may h) (g.M.Asked.ranges (g.H.Lender.memory h)) (pointers_left c.args.pointers.now)
+    (pointers_left c.next.new.self) c.next.result c.next.ensures.steps c.requires

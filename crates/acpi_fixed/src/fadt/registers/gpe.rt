@@ -1,6 +1,7 @@
 //! The blocks of registers of general purpose events, by their length in bytes (section 4.8.4.1).
 ghost use Rattle.std.specs.Prelude.{◌≡◌};
-ghost use Rattle.acpi_fixed.specs.Gpe.{base_beside, block_from, gpe_of};
+ghost use Rattle.acpi_fixed.specs.Gpe.{base_beside, block_from, gpe_of, gpe1_base_of};
+ghost use Rattle.acpi_fixed.specs.Fadt.{registers_of};
 
 use super::RegisterBlock;
 use crate::fadt::Fadt;
@@ -67,9 +68,6 @@ impl RegisterBlock {
 }
 
 impl Fadt {
-    ghost use Rattle.acpi_fixed.specs.Gpe.{gpe1_base_of};
-    ghost use Rattle.acpi_fixed.specs.Fadt.{registers_of};
-
     /// X_GPE0_BLK or GPE0_BLK with GPE0_BLK_LEN: the registers of the first general purpose events
     /// (sections 4.8.4.1 and 5.2.9), of any length up to 255 bytes: the extended address if the table has
     /// it and it isn't 0, else the 32-bit one, which is a port.

@@ -16,7 +16,8 @@ invariant_of-self-in-Some-SdtInvalidSignature g c =
     let s = c.loop-address.self in
     record {
       asked = asked_passed (g.H.Lender.may s.handler.now) (g.H.Lender.memory s.handler.now) g.T.AcpiTable.kind
-          c.in-Some.address (pointers_left s.pointers) _ _ c.in-Some.ensures c.pass.ensures c.in-Some-SdtInvalidSignature.ensures s.asked;
+          c.in-Some.address (pointers_left s.pointers) _ _ c.in-Some.ensures c.pass.ensures
+          c.in-Some-SdtInvalidSignature.ensures s.asked;
     }
 
 pub invariant_of-self-in-Some-refusal_at : goal.invariant_of-self-in-Some-refusal_at
@@ -24,15 +25,19 @@ invariant_of-self-in-Some-refusal_at g c =
     let s = c.loop-address.self in
     record {
       asked = asked_passed (g.H.Lender.may s.handler.now) (g.H.Lender.memory s.handler.now) g.T.AcpiTable.kind
-          c.in-Some.address (pointers_left s.pointers) _ _ c.in-Some.ensures c.pass-in-Some-refusal_at.ensures c.in-Some-refusal_at.ensures s.asked;
+          c.in-Some.address (pointers_left s.pointers) _ _ c.in-Some.ensures c.pass-in-Some-refusal_at.ensures
+          c.in-Some-refusal_at.ensures s.asked;
     }
 
 pub returns-in-None-clause-steps : goal.returns-in-None-clause-steps
 returns-in-None-clause-steps g c =
     let s = c.loop-address.self in
     let here = faults_peeked (g.H.Lender.memory s.handler.now) g.T.AcpiTable.kind
-    c.in-Some.address (pointers_left s.pointers) _ c.in-Some.ensures refl in
-    (sym c.loop-address.invariant ∙ here ∙ valid_last c.in-Some.address (table_at (g.H.Lender.memory s.handler.now) g.T.AcpiTable.kind c.in-Some.address) _ c.in-None.ensures, rw c.end.ensures refl)
+    c.in-Some.address (pointers_left s.pointers) _ c.in-Some.ensures refl in (
+      sym c.loop-address.invariant ∙ here ∙ valid_last c.in-Some.address
+          (table_at (g.H.Lender.memory s.handler.now) g.T.AcpiTable.kind c.in-Some.address) _ c.in-None.ensures,
+      rw c.end.ensures refl,
+    )
 
 pub returns-clause-steps : goal.returns-clause-steps
 returns-clause-steps g c =

@@ -6,9 +6,6 @@ use Rattle.acpi.proofs.platform.wakeup.wakeup_aps.Goals as goal
 pub returns-clause-refused : goal.returns-clause-refused
 returns-clause-refused g c = rw (sym c.in_ok-address.ensures) c.wake.ensures.refused
 
-pub returns-clause-unchanged : goal.returns-clause-unchanged
-returns-clause-unchanged g c = rw (sym c.in_ok-address.ensures) c.wake.ensures.unchanged
-
 pub returns-clause-made : goal.returns-clause-made
 returns-clause-made g c = grind (arith, common_steps)
 
@@ -23,9 +20,6 @@ returns-clause-answered g c = rw (sym c.in_ok-address.ensures) c.wake.ensures.an
 
 pub returns-in_err-address-clause-refused : goal.returns-in_err-address-clause-refused
 returns-in_err-address-clause-refused g c = grind (arith, common_steps)
-
-pub returns-in_err-address-clause-unchanged : goal.returns-in_err-address-clause-unchanged
-returns-in_err-address-clause-unchanged g c = grind (arith, common_steps)
 
 pub returns-in_err-address-clause-made : goal.returns-in_err-address-clause-made
 returns-in_err-address-clause-made g c = grind (arith, common_steps)

@@ -15,7 +15,9 @@ search_area-requires-clause-asked g c =
 pub search_last-requires-clause-asked : goal.search_last-requires-clause-asked
 search_last-requires-clause-asked g c =
     let h = c.args.handler.now in
-    subst (λ s. Allows (g.H.Lender.may h) (area_ranges (g.H.Lender.memory h) s)) (sym c.second_area.ensures.value) (asked_second_area (g.H.Lender.may h) (g.H.Lender.memory h) c.in-Ok.word c.requires c.in-Ok.ensures (rw c.in-Ok-None.field-0-is at c.in-Ok-None.ensures.found))
+    subst (λ s. Allows (g.H.Lender.may h) (area_ranges (g.H.Lender.memory h) s)) (sym c.second_area.ensures.value)
+    (asked_second_area (g.H.Lender.may h) (g.H.Lender.memory h) c.in-Ok.word c.requires c.in-Ok.ensures
+    (rw c.in-Ok-None.field-0-is at c.in-Ok-None.ensures.found))
 
 pub returns-in-Ok-Some-clause-exact : goal.returns-in-Ok-Some-clause-exact
 unfolding found_rsdp
@@ -25,7 +27,8 @@ pub returns-in-Ok-Some-clause-valid : goal.returns-in-Ok-Some-clause-valid
 returns-in-Ok-Some-clause-valid g c = found_valid _ (Ok c.in-Ok-Some.found) (returns-in-Ok-Some-clause-exact g c)
 
 pub returns-in-Ok-Some-clause-least : goal.returns-in-Ok-Some-clause-least
-returns-in-Ok-Some-clause-least g c = searched (g.H.Lender.memory c.args.handler.now) placed (Ok c.in-Ok-Some.found) (returns-in-Ok-Some-clause-exact g c)
+returns-in-Ok-Some-clause-least g c = searched (g.H.Lender.memory c.args.handler.now) placed (Ok c.in-Ok-Some.found)
+    (returns-in-Ok-Some-clause-exact g c)
 
 pub returns-in-Ok-Some-clause-footprint : goal.returns-in-Ok-Some-clause-footprint
 returns-in-Ok-Some-clause-footprint g c = λ n h. rw (same_search _ n h) (returns-in-Ok-Some-clause-exact g c)
@@ -38,7 +41,8 @@ pub returns-in-Ok-None-clause-valid : goal.returns-in-Ok-None-clause-valid
 returns-in-Ok-None-clause-valid g c = found_valid _ c.search_last.result (returns-in-Ok-None-clause-exact g c)
 
 pub returns-in-Ok-None-clause-least : goal.returns-in-Ok-None-clause-least
-returns-in-Ok-None-clause-least g c = searched (g.H.Lender.memory c.args.handler.now) placed c.search_last.result (returns-in-Ok-None-clause-exact g c)
+returns-in-Ok-None-clause-least g c = searched (g.H.Lender.memory c.args.handler.now) placed c.search_last.result
+    (returns-in-Ok-None-clause-exact g c)
 
 pub returns-in-Ok-None-clause-footprint : goal.returns-in-Ok-None-clause-footprint
 returns-in-Ok-None-clause-footprint g c = λ n h. rw (same_search _ n h) (returns-in-Ok-None-clause-exact g c)
@@ -48,17 +52,21 @@ unfolding found_rsdp
 returns-in-Err-search_area-clause-exact g c = search rules
 
 pub returns-in-Err-search_area-clause-least : goal.returns-in-Err-search_area-clause-least
-returns-in-Err-search_area-clause-least g c = searched (g.H.Lender.memory c.args.handler.now) (λ (found : ℕ × List ℕ). found) (Err c.in-Err-search_area.error) (returns-in-Err-search_area-clause-exact g c)
+returns-in-Err-search_area-clause-least g c =
+    searched (g.H.Lender.memory c.args.handler.now) (λ (found : ℕ × List ℕ). found) (Err c.in-Err-search_area.error)
+    (returns-in-Err-search_area-clause-exact g c)
 
 pub returns-in-Err-search_area-clause-footprint : goal.returns-in-Err-search_area-clause-footprint
-returns-in-Err-search_area-clause-footprint g c = λ n h. rw (same_search _ n h) (returns-in-Err-search_area-clause-exact g c)
+returns-in-Err-search_area-clause-footprint g c =
+    λ n h. rw (same_search _ n h) (returns-in-Err-search_area-clause-exact g c)
 
 pub returns-in-Err-clause-exact : goal.returns-in-Err-clause-exact
 unfolding found_rsdp
 returns-in-Err-clause-exact g c = search rules
 
 pub returns-in-Err-clause-least : goal.returns-in-Err-clause-least
-returns-in-Err-clause-least g c = searched (g.H.Lender.memory c.args.handler.now) (λ (found : ℕ × List ℕ). found) (Err c.in-Err.error) (returns-in-Err-clause-exact g c)
+returns-in-Err-clause-least g c = searched (g.H.Lender.memory c.args.handler.now) (λ (found : ℕ × List ℕ). found)
+    (Err c.in-Err.error) (returns-in-Err-clause-exact g c)
 
 pub returns-in-Err-clause-footprint : goal.returns-in-Err-clause-footprint
 returns-in-Err-clause-footprint g c = λ n h. rw (same_search _ n h) (returns-in-Err-clause-exact g c)

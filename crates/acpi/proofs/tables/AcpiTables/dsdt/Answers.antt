@@ -16,23 +16,30 @@ find_fadt-requires g c =
 pub stream_at-requires : goal.stream_at-requires
 stream_at-requires g c =
     let t = c.args.self.now in
-    subst (λ h. Allows (g.H.Lender.may h) (table_ranges (g.H.Lender.memory h) (plain_kind DSDT) c.in-Ok-dsdt_address.address)) (sym c.handler.ensures)
-    (asked_dsdt (may_of t) (memory_of t) (pointers_of t) _ _ c.requires c.in-Ok.ensures.exact (sym c.in-Ok-dsdt_address.ensures))
+    subst (λ h. Allows (g.H.Lender.may h)
+    (table_ranges (g.H.Lender.memory h) (plain_kind DSDT) c.in_ok-dsdt_address.field-0)) (sym c.handler.ensures)
+    (asked_dsdt (may_of t) (memory_of t) (pointers_of t) _ _ c.requires c.in_ok-fadt.ensures.exact
+    (sym c.in_ok-dsdt_address.ensures))
 
-pub returns-in-Ok-dsdt_address-clause-exact : goal.returns-in-Ok-dsdt_address-clause-exact
-returns-in-Ok-dsdt_address-clause-exact g c = search rules
+pub returns-in_err-dsdt_address-clause-exact : goal.returns-in_err-dsdt_address-clause-exact
+returns-in_err-dsdt_address-clause-exact g c = search rules
 
-pub returns-in-Ok-dsdt_address-clause-footprint : goal.returns-in-Ok-dsdt_address-clause-footprint
-returns-in-Ok-dsdt_address-clause-footprint g c = λ n h. rw (from_tables c.args.self.now _ _ same_dsdt c.args.self.now.valid n h) (returns-in-Ok-dsdt_address-clause-exact g c)
-
-pub returns-in-Ok-clause-exact : goal.returns-in-Ok-clause-exact
-returns-in-Ok-clause-exact g c = search rules
-
-pub returns-in-Ok-clause-footprint : goal.returns-in-Ok-clause-footprint
-returns-in-Ok-clause-footprint g c = λ n h. rw (from_tables c.args.self.now _ _ same_dsdt c.args.self.now.valid n h) (returns-in-Ok-clause-exact g c)
+pub returns-in_err-dsdt_address-clause-footprint : goal.returns-in_err-dsdt_address-clause-footprint
+returns-in_err-dsdt_address-clause-footprint g c =
+    λ n h. rw (from_tables c.args.self.now _ _ same_dsdt c.args.self.now.valid n h)
+    (returns-in_err-dsdt_address-clause-exact g c)
 
 pub returns-clause-exact : goal.returns-clause-exact
 returns-clause-exact g c = search rules
 
 pub returns-clause-footprint : goal.returns-clause-footprint
-returns-clause-footprint g c = λ n h. rw (from_tables c.args.self.now _ _ same_dsdt c.args.self.now.valid n h) (returns-clause-exact g c)
+returns-clause-footprint g c = λ n h. rw (from_tables c.args.self.now _ _ same_dsdt c.args.self.now.valid n h)
+    (returns-clause-exact g c)
+
+pub returns-in_err-fadt-clause-exact : goal.returns-in_err-fadt-clause-exact
+returns-in_err-fadt-clause-exact g c = search rules
+
+pub returns-in_err-fadt-clause-footprint : goal.returns-in_err-fadt-clause-footprint
+returns-in_err-fadt-clause-footprint g c =
+    λ n h. rw (from_tables c.args.self.now _ _ same_dsdt c.args.self.now.valid n h)
+    (returns-in_err-fadt-clause-exact g c)

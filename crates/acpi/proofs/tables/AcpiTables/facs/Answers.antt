@@ -13,16 +13,19 @@ find_fadt-requires g c =
 pub facs_place-requires : goal.facs_place-requires
 facs_place-requires g c =
     let t = c.args.self.now in
-    asked_place (may_of t) facs_place_ranges (memory_of t) (pointers_of t) _ c.requires c.in-Ok.ensures.exact
+    asked_place (may_of t) facs_place_ranges (memory_of t) (pointers_of t) _ c.requires c.in_ok-find_fadt.ensures.exact
 
-pub returns-in-Ok-clause-exact : goal.returns-in-Ok-clause-exact
-returns-in-Ok-clause-exact g c = search rules
+pub returns-clause-exact : goal.returns-clause-exact
+returns-clause-exact g c = search rules
 
-pub returns-in-Ok-clause-footprint : goal.returns-in-Ok-clause-footprint
-returns-in-Ok-clause-footprint g c = λ n h. rw (from_tables c.args.self.now _ _ same_facs c.args.self.now.valid n h) (returns-in-Ok-clause-exact g c)
+pub returns-clause-footprint : goal.returns-clause-footprint
+returns-clause-footprint g c = λ n h. rw (from_tables c.args.self.now _ _ same_facs c.args.self.now.valid n h)
+    (returns-clause-exact g c)
 
-pub returns-in-Err-clause-exact : goal.returns-in-Err-clause-exact
-returns-in-Err-clause-exact g c = search rules
+pub returns-in_err-find_fadt-clause-exact : goal.returns-in_err-find_fadt-clause-exact
+returns-in_err-find_fadt-clause-exact g c = search rules
 
-pub returns-in-Err-clause-footprint : goal.returns-in-Err-clause-footprint
-returns-in-Err-clause-footprint g c = λ n h. rw (from_tables c.args.self.now _ _ same_facs c.args.self.now.valid n h) (returns-in-Err-clause-exact g c)
+pub returns-in_err-find_fadt-clause-footprint : goal.returns-in_err-find_fadt-clause-footprint
+returns-in_err-find_fadt-clause-footprint g c =
+    λ n h. rw (from_tables c.args.self.now _ _ same_facs c.args.self.now.valid n h)
+    (returns-in_err-find_fadt-clause-exact g c)

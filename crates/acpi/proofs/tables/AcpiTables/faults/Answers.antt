@@ -16,7 +16,10 @@ returns-clause-few g c = rw (c.new.ensures, c.pointers.ensures) (faults_few _ _ 
 
 pub returns-clause-fits : goal.returns-clause-fits
 returns-clause-fits g c =
-    rw (c.new.ensures, c.pointers.ensures) (fits_root _ (width_of (kind_of c.args.self.now)) (root_of c.args.self.now) c.args.self.now.short (faults_few _ _ _))
+    rw (c.new.ensures, c.pointers.ensures)
+    (fits_root _ (width_of (kind_of c.args.self.now)) (root_of c.args.self.now) c.args.self.now.short
+    (faults_few _ _ _))
 
 pub returns-clause-footprint : goal.returns-clause-footprint
-returns-clause-footprint g c = λ n h. rw (from_tables c.args.self.now _ _ (in_ok _ _ (same_faults g.T.AcpiTable.kind)) c.args.self.now.valid n h) (rw (c.new.ensures, c.handler.ensures, c.pointers.ensures) refl)
+returns-clause-footprint g c = λ n h. rw (from_tables c.args.self.now _ _ (in_ok _ _ (same_faults g.T.AcpiTable.kind))
+    c.args.self.now.valid n h) (rw (c.new.ensures, c.handler.ensures, c.pointers.ensures) refl)

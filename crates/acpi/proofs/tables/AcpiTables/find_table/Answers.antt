@@ -18,13 +18,17 @@ returns-in-Ok-clause-skips g c =
 
 pub returns-in-Ok-clause-absent : goal.returns-in-Ok-clause-absent
 returns-in-Ok-clause-absent g c =
-    gives_absent _ _ _ (λ m. (start_of m, bytes_of m)) (Ok c.mapping.result) _ (g.met.T.AcpiTable.agrees).0 (returns-in-Ok-clause-exact g c)
+    gives_absent _ _ _ (λ m. (start_of m, bytes_of m)) (Ok c.mapping.result) _ (g.met.T.AcpiTable.agrees).0
+    (returns-in-Ok-clause-exact g c)
 
 pub returns-in-Ok-clause-footprint : goal.returns-in-Ok-clause-footprint
-returns-in-Ok-clause-footprint g c = λ n h. rw (from_tables c.args.self.now _ _ (same_lookup g.T.AcpiTable.kind) c.args.self.now.valid n h) (returns-in-Ok-clause-exact g c)
+returns-in-Ok-clause-footprint g c = λ n h.
+    rw (from_tables c.args.self.now _ _ (same_lookup g.T.AcpiTable.kind) c.args.self.now.valid n h)
+    (returns-in-Ok-clause-exact g c)
 
 pub returns-in-Err-clause-skips : goal.returns-in-Err-clause-skips
-returns-in-Err-clause-skips g c = λ before after p listed h. rw (skips_invalid _ _ p before after h, ← listed) c.in-Err.ensures.found
+returns-in-Err-clause-skips g c = λ before after p listed h. rw (skips_invalid _ _ p before after h, ← listed)
+    c.in-Err.ensures.found
 
 pub returns-in-Err-clause-missing : goal.returns-in-Err-clause-missing
 returns-in-Err-clause-missing g c =
@@ -35,4 +39,6 @@ pub returns-in-Err-clause-absent : goal.returns-in-Err-clause-absent
 returns-in-Err-clause-absent g c = λ _. rw (returns-in-Err-clause-missing g c).0
 
 pub returns-in-Err-clause-footprint : goal.returns-in-Err-clause-footprint
-returns-in-Err-clause-footprint g c = λ n h. rw (from_tables c.args.self.now _ _ (same_lookup g.T.AcpiTable.kind) c.args.self.now.valid n h) c.in-Err.ensures.found
+returns-in-Err-clause-footprint g c = λ n h.
+    rw (from_tables c.args.self.now _ _ (same_lookup g.T.AcpiTable.kind) c.args.self.now.valid n h)
+    c.in-Err.ensures.found

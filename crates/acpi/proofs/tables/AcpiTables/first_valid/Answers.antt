@@ -7,17 +7,21 @@ use Rattle.acpi.proofs.tables.AcpiTables.first_valid.Goals as goal
 pub valid_at-requires : goal.valid_at-requires
 valid_at-requires g c =
     let k = g.T.AcpiTable.kind in
-    subst (λ h. Allows (g.H.Lender.may h) (table_ranges (g.H.Lender.memory h) k c.in-Some.address)) (sym c.handler.ensures)
-    (asked_member (may_of c.args.self.now) (memory_of c.args.self.now) k c.in-Some.address _ _ c.in-Some.ensures.steps c.loop-address.invariant.1)
+    subst (λ h. Allows (g.H.Lender.may h) (table_ranges (g.H.Lender.memory h) k c.in-Some.address))
+    (sym c.handler.ensures)
+    (asked_member (may_of c.args.self.now) (memory_of c.args.self.now) k c.in-Some.address _ _ c.in-Some.ensures.steps
+    c.loop-address.invariant.1)
 
 pub loop-address-preserved : goal.loop-address-preserved
 loop-address-preserved g c =
     later_kept (may_of c.args.self.now) (memory_of c.args.self.now) g.T.AcpiTable.kind
-    c.in-Some.address _ _ _ c.in_default.field-0 (rw c.handler.ensures at c.in_default.ensures.table) c.in-Some.ensures.steps c.loop-address.invariant
+    c.in-Some.address _ _ _ c.in_default.field-0 (rw c.handler.ensures at c.in_default.ensures.table)
+    c.in-Some.ensures.steps c.loop-address.invariant
 
 pub returns-in-Ok-clause-found : goal.returns-in-Ok-clause-found
 returns-in-Ok-clause-found g c =
-    rw c.in-Ok.ensures.place (found_member (memory_of c.args.self.now) g.T.AcpiTable.kind c.in-Some.address _ _ _ _ (rw c.handler.ensures at c.in-Ok.ensures.table) c.in-Some.ensures.steps c.loop-address.invariant.0)
+    rw c.in-Ok.ensures.place (found_member (memory_of c.args.self.now) g.T.AcpiTable.kind c.in-Some.address _ _ _ _
+    (rw c.handler.ensures at c.in-Ok.ensures.table) c.in-Some.ensures.steps c.loop-address.invariant.0)
 
 pub returns-in-Ok-clause-handler : goal.returns-in-Ok-clause-handler
 returns-in-Ok-clause-handler g c = c.in-Ok.ensures.handler ∙ c.handler.ensures

@@ -9,11 +9,13 @@ pub from_root-requires : goal.from_root-requires
 from_root-requires g c =
     let h = c.args.handler.now in
     let there = rw c.physical_start-address.ensures at c.in-Ok.ensures.bytes in
-    asked_root (g.H.Lender.may h) (g.H.Lender.memory h) (start_of c.args.mapping) _ c.requires.asked (valid_lent _ _ c.requires.valid ∙ there)
+    asked_root (g.H.Lender.may h) (g.H.Lender.memory h) (start_of c.args.mapping) _ c.requires.asked
+    (valid_lent _ _ c.requires.valid ∙ there)
 
 pub returns-in-Ok-clause-exact : goal.returns-in-Ok-clause-exact
 returns-in-Ok-clause-exact g c =
-    rw (valid_lent _ _ c.requires.valid, rw c.physical_start-address.ensures at c.in-Ok.ensures.bytes) c.from_root.ensures.exact
+    rw (valid_lent _ _ c.requires.valid, rw c.physical_start-address.ensures at c.in-Ok.ensures.bytes)
+    c.from_root.ensures.exact
 
 pub returns-in-Ok-clause-footprint : goal.returns-in-Ok-clause-footprint
 returns-in-Ok-clause-footprint g c = λ n h. rw (same_opened_by_rsdp _ n _ h) (returns-in-Ok-clause-exact g c)

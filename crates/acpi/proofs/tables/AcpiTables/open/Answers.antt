@@ -3,4 +3,5 @@ use Rattle.acpi.proofs.tables.AcpiTables.open.Goals as goal
 
 pub returns-in-Ok-clause-pointers : goal.returns-in-Ok-clause-pointers
 returns-in-Ok-clause-pointers g c =
-    root_pointers _ c.args.root_pointer.kind c.args.root_pointer.address _ (g.met.H.Lender.regions c.args.handler.now) (rw c.signature.ensures at c.in-Ok.ensures.table)
+    root_pointers _ c.args.root_pointer.kind c.args.root_pointer.address _ (g.met.H.Lender.regions c.args.handler.now)
+    (rw c.signature.ensures at c.in-Ok.ensures.table)

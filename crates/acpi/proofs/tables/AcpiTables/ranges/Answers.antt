@@ -8,11 +8,13 @@ use Rattle.acpi.specs.Tables.{kind_of, may_of, memory_of, pointers_of, root_of}
 use Rattle.acpi.proofs.tables.AcpiTables.ranges.Goals as goal
 
 pub led-dsdt-requires : goal.led-dsdt-requires
-led-dsdt-requires g c = asked_led (may_of c.args.self.now) (memory_of c.args.self.now) (pointers_of c.args.self.now) c.requires
+led-dsdt-requires g c = asked_led (may_of c.args.self.now) (memory_of c.args.self.now)
+    (pointers_of c.args.self.now) c.requires
 
 pub new-requires : goal.new-requires
 new-requires g c =
-    rw (c.handler.ensures, c.pointers.ensures) (asked_members (may_of c.args.self.now) (memory_of c.args.self.now) (pointers_of c.args.self.now) c.requires)
+    rw (c.handler.ensures, c.pointers.ensures)
+    (asked_members (may_of c.args.self.now) (memory_of c.args.self.now) (pointers_of c.args.self.now) c.requires)
 
 pub returns-clause-items : goal.returns-clause-items
 returns-clause-items g c = search rules
@@ -25,9 +27,11 @@ returns-clause-few g c =
 pub returns-clause-fits : goal.returns-clause-fits
 returns-clause-fits g c =
     let t = c.args.self.now in
-    rw (returns-clause-items g c) (fits_places _ (width_of (kind_of t)) (root_of t) t.short (places_few (root_place t) (memory_of t) (pointers_of t)))
+    rw (returns-clause-items g c) (fits_places _ (width_of (kind_of t)) (root_of t) t.short
+    (places_few (root_place t) (memory_of t) (pointers_of t)))
 
 pub returns-clause-footprint : goal.returns-clause-footprint
 returns-clause-footprint g c =
     let t = c.args.self.now in
-    λ n h. rw (from_tables t _ _ (in_ok _ _ (same_places (root_place t))) t.valid n h) (rw (returns-clause-items g c) refl)
+    λ n h. rw (from_tables t _ _ (in_ok _ _ (same_places (root_place t))) t.valid n h)
+    (rw (returns-clause-items g c) refl)

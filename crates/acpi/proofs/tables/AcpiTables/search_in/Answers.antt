@@ -1,4 +1,4 @@
-use Rattle.std.proofs.Common.{refl}
+use Rattle.std.proofs.Common.{rules}
 use Rattle.acpi.proofs.Agreed.{same_opened_in_areas}
 use Rattle.acpi.proofs.Among.{asked_found_in, asked_search_in}
 use Rattle.acpi.proofs.tables.AcpiTables.search_in.Goals as goal
@@ -11,16 +11,18 @@ search_in-requires g c =
 pub from_root-requires : goal.from_root-requires
 from_root-requires g c =
     let h = c.args.handler.now in
-    asked_found_in (g.H.Lender.may h) (g.H.Lender.memory h) c.args.areas.now _ c.requires c.in-Ok.ensures.exact
+    asked_found_in (g.H.Lender.may h) (g.H.Lender.memory h) c.args.areas.now _ c.requires
+    c.in_ok-search_in.ensures.exact
 
-pub returns-in-Ok-clause-exact : goal.returns-in-Ok-clause-exact
-returns-in-Ok-clause-exact g c = rw c.in-Ok.ensures.exact c.from_root.ensures.exact
+pub returns-clause-exact : goal.returns-clause-exact
+returns-clause-exact g c = rw c.in_ok-search_in.ensures.exact c.from_root.ensures.exact
 
-pub returns-in-Ok-clause-footprint : goal.returns-in-Ok-clause-footprint
-returns-in-Ok-clause-footprint g c = λ n h. rw (same_opened_in_areas _ n _ h) (returns-in-Ok-clause-exact g c)
+pub returns-clause-footprint : goal.returns-clause-footprint
+returns-clause-footprint g c = λ n h. rw (same_opened_in_areas _ n _ h) (returns-clause-exact g c)
 
-pub returns-in-Err-clause-exact : goal.returns-in-Err-clause-exact
-returns-in-Err-clause-exact g c = rw c.in-Err.ensures.exact refl
+pub returns-in_err-search_in-clause-exact : goal.returns-in_err-search_in-clause-exact
+returns-in_err-search_in-clause-exact g c = search rules
 
-pub returns-in-Err-clause-footprint : goal.returns-in-Err-clause-footprint
-returns-in-Err-clause-footprint g c = λ n h. rw (same_opened_in_areas _ n _ h) (returns-in-Err-clause-exact g c)
+pub returns-in_err-search_in-clause-footprint : goal.returns-in_err-search_in-clause-footprint
+returns-in_err-search_in-clause-footprint g c =
+    λ n h. rw (same_opened_in_areas _ n _ h) (returns-in_err-search_in-clause-exact g c)

@@ -1,19 +1,50 @@
 //! The search for the RSDP in the firmware's areas, on systems that boot by a BIOS (section 5.2.5.1).
-ghost use Rattle.std.specs.Prelude.{◌≡◌, true, ◌<◌, ◌≤◌, ◌^◌, ◌+◌, length, Ok, IfOk, IfSome};
-ghost use Rattle.std.specs.Option.{option_map};
-ghost use Rattle.std.specs.Str.{bytes_eq};
+ghost use Rattle.std.specs.Prelude.{◌≡◌, true, ◌<◌, ◌≤◌, ◌^◌, ◌+◌, length, Ok, IfOk, IfSome, option_map, bytes_eq, IsOk};
 ghost use Rattle.acpi_base.specs.Bytes.{part};
-ghost use Rattle.acpi_base.specs.Mapping.{IsOfMemory, handler_of};
+ghost use Rattle.acpi_base.specs.Mapping.{IsOfMemory, handler_of, start_of};
 ghost use Rattle.acpi_base.specs.Steps.{Gives, lent};
-ghost use Rattle.acpi_base.specs.Ranges.{Allows};
+ghost use Rattle.acpi_base.specs.Ranges.{Allows, Footprint};
 ghost use Rattle.acpi.specs.OpenedRanges.{area_ranges, search_ranges};
-ghost use Rattle.acpi.specs.Rsdp.{rsd_ptr};
-ghost use Rattle.acpi.specs.Search.{count_of, found_in, found_rsdp, last_in, placed, room_of, walk, word_in};
+ghost use Rattle.acpi.specs.Rsdp.{rsd_ptr, rsdp_at};
+ghost use Rattle.acpi.specs.Search.{second_area, count_of, found_in, found_rsdp, last_in, placed, room_of, walk, word_in, IsSearched};
 
-use super::area::{Area, FIRST_AREA, second_area};
 use super::{RawBytes, Rsdp, map_rsdp};
 use acpi_base::bytes::u16_in;
 use acpi_base::{AcpiError, AcpiResult, Lender, PhysicalMapping};
+
+/// A range of physical addresses; `end` is the first after it.
+#[derive(Clone, Copy)]
+pub(crate) struct Area {
+    pub(crate) start: u64,
+    pub(crate) end: u64,
+}
+
+/// The read-only memory of the BIOS, which is searched first.
+const FIRST_AREA: Area = Area {
+    start: 0xe0000,
+    end: 0x100000,
+};
+
+/// The area that is searched second: the first KiB of the extended BIOS data area (EBDA), whose address is
+/// 16 times the word; if that area can't be there, all of the memory that it may lie in.
+fn second_area(word: u16) -> Area
+    ensures value { result ≡ second_area word }
+    ensures some { result.start + 20 ≤ result.end }
+    ensures low { result.end < 2 ^ 32 }
+{
+    let start = 16 * word as u64;
+    if start >= 0x80000 && start < 0x9ffff {
+        Area {
+            start,
+            end: start + 1024,
+        }
+    } else {
+        Area {
+            start: 0x80000,
+            end: 0xa0000,
+        }
+    }
+}
 
 /// Whether the signature of an RSDP stands at an offset.
 fn has_signature(bytes: &[u8], offset: usize) -> bool
@@ -70,10 +101,8 @@ fn search_area<'h, H: Lender>(
     ensures found { Gives (option_map placed) result (found_in (H.memory handler.now) area) }
 {
     let length = (area.end - area.start + 16) as usize;
-    match PhysicalMapping::<'h, H, RawBytes>::map(handler, area.start, length) {
-        Ok(mapping) => Ok(first_candidate(handler, area, mapping.bytes())),
-        Err(error) => Err(error),
-    }
+    let mapping = PhysicalMapping::<'h, H, RawBytes>::map(handler, area.start, length)?;
+    Ok(first_candidate(handler, area, mapping.bytes()))
 }
 
 /// The word at 40:0Eh of the BIOS data area, the segment of the EBDA: it names the second area.
@@ -82,10 +111,8 @@ fn area_word<H: Lender>(handler: &H) -> AcpiResult<u16>
     requires { H.may handler.now 0x40e 2 ≡ true }
     ensures { Gives (λ w. w) result (word_in (H.memory handler.now)) }
 {
-    match PhysicalMapping::<'_, H, RawBytes>::map(handler, 0x40e, 2) {
-        Ok(word) => Ok(u16_in(word.bytes(), 0)),
-        Err(error) => Err(error),
-    }
+    let word = PhysicalMapping::<'_, H, RawBytes>::map(handler, 0x40e, 2)?;
+    Ok(u16_in(word.bytes(), 0))
 }
 
 /// The least valid candidate of the area that is searched last.
@@ -103,20 +130,10 @@ fn search_last<'h, H: Lender>(
     ensures lent { IfOk result (λ m. IsOfMemory (H.memory handler.now) m) }
     ensures found { Gives placed result (last_in (H.memory handler.now) area) }
 {
-    match search_area(handler, area) {
-        Ok(Some(found)) => Ok(found),
-        Ok(None) => Err(AcpiError::NoValidRsdp),
-        Err(error) => Err(error),
-    }
+    search_area(handler, area)?.ok_or(AcpiError::NoValidRsdp)
 }
 
 impl Rsdp {
-    ghost use Rattle.std.specs.Prelude.{IsOk};
-    ghost use Rattle.acpi_base.specs.Mapping.{start_of};
-    ghost use Rattle.acpi_base.specs.Ranges.{Footprint};
-    ghost use Rattle.acpi.specs.Rsdp.{rsdp_at};
-    ghost use Rattle.acpi.specs.Search.{IsSearched};
-
     /// The RSDP of a system that boots by a BIOS (section 5.2.5.1): a mapping of the 36 bytes of
     /// the least valid candidate of the first area, or of the second if the first has none.
     ///

@@ -1,10 +1,10 @@
 use Rattle.std.proofs.Common.{◌+◌, ◌<◌, ◌≤◌, arith}
 use Rattle.acpi.proofs.Among.{asked_past_all, walk_past_all}
 use Rattle.acpi.proofs.Asked.{asked_candidate}
-use Rattle.acpi.proofs.rsdp.given.first_valid.Goals as goal
+use Rattle.acpi.proofs.rsdp.areas.first_valid.Goals as goal
 
-pub tried-requires-clause-asked : goal.tried-requires-clause-asked
-tried-requires-clause-asked g c =
+pub candidate_at-requires-clause-asked : goal.candidate_at-requires-clause-asked
+candidate_at-requires-clause-asked g c =
     let h = c.args.handler.now in
     let turn : c.loop-passed.passed < c.args.count = omega arith in
     asked_candidate (g.H.Lender.may h) (g.H.Lender.memory h) _ _ _ turn c.loop-passed.invariant.2

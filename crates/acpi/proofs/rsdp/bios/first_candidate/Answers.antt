@@ -4,7 +4,7 @@ use Rattle.acpi.specs.OpenedRanges.{walk_ranges}
 use Rattle.acpi.specs.Search.{count_of, room_of, walk}
 use Rattle.acpi.proofs.Asked.{asked_candidate, asked_next, asked_walk}
 use Rattle.acpi.proofs.Search.{not_begun, length_lent, unsigned_refused, walk_here, walk_later, walk_past}
-use Rattle.acpi.proofs.rsdp.search.first_candidate.Goals as goal
+use Rattle.acpi.proofs.rsdp.bios.first_candidate.Goals as goal
 
 pub loop-k-preserved-then-not-has_signature : goal.loop-k-preserved-then-not-has_signature
 loop-k-preserved-then-not-has_signature g c =
@@ -14,7 +14,8 @@ loop-k-preserved-then-not-has_signature g c =
     let room : 16 * c.loop-k.k + 36 ≤ room_of c.args.area = omega arith in
     let other = sym c.has_signature.ensures ∙ c.if-not-has_signature.true in (
       walk_past _ _ _ _ _ c.loop-k.invariant.0 turn _ _ memory c.requires.lent room other,
-      asked_next (g.H.Lender.may c.args.handler.now) m _ _ _ _ turn c.loop-k.invariant.1 (unsigned_refused m _ _ _ _ memory c.requires.lent room other),
+      asked_next (g.H.Lender.may c.args.handler.now) m _ _ _ _ turn c.loop-k.invariant.1
+          (unsigned_refused m _ _ _ _ memory c.requires.lent room other),
     )
 
 pub returns-in-Ok-clause-found : goal.returns-in-Ok-clause-found
@@ -26,13 +27,15 @@ pub loop-k-preserved : goal.loop-k-preserved
 loop-k-preserved g c =
     let turn : c.loop-k.k < count_of c.args.area = omega arith in (
       walk_later _ _ _ _ _ c.loop-k.invariant.0 turn _ c.in_default.ensures.rsdp,
-      asked_next (g.H.Lender.may c.args.handler.now) (g.H.Lender.memory c.args.handler.now) _ _ _ _ turn c.loop-k.invariant.1 c.in_default.ensures.rsdp,
+      asked_next (g.H.Lender.may c.args.handler.now) (g.H.Lender.memory c.args.handler.now) _ _ _ _ turn
+          c.loop-k.invariant.1 c.in_default.ensures.rsdp,
     )
 
 pub map_rsdp-requires : goal.map_rsdp-requires
 map_rsdp-requires g c =
     let turn : c.loop-k.k < count_of c.args.area = omega arith in
-    asked_candidate (g.H.Lender.may c.args.handler.now) (g.H.Lender.memory c.args.handler.now) _ _ _ turn c.loop-k.invariant.1
+    asked_candidate (g.H.Lender.may c.args.handler.now) (g.H.Lender.memory c.args.handler.now) _ _ _ turn
+    c.loop-k.invariant.1
 
 pub has_signature-requires : goal.has_signature-requires
 has_signature-requires g c =

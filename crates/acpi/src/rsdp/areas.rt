@@ -1,14 +1,13 @@
 //! The search for the RSDP in areas that a caller gives, if firmware lends less than whole areas.
-ghost use Rattle.std.specs.Prelude.{◌≡◌, ◌<◌, ◌≤◌, ◌^◌, ◌+◌, ◌*◌, ℕ, Ok, true, IfErr, IfOk, IfSome};
-ghost use Rattle.std.specs.Option.{option_map};
+ghost use Rattle.std.specs.Prelude.{◌≡◌, ◌<◌, ◌≤◌, ◌^◌, ◌+◌, ◌*◌, ℕ, Ok, true, IfErr, IfOk, IfSome, option_map, IsOk};
 ghost use Rattle.acpi_base.specs.Mapping.{IsOfMemory, bytes_of, handler_of, start_of};
-ghost use Rattle.acpi_base.specs.Ranges.{Allows};
+ghost use Rattle.acpi_base.specs.Ranges.{Allows, Footprint};
 ghost use Rattle.acpi_base.specs.Steps.{Gives, lent};
-ghost use Rattle.acpi.specs.Areas as areas;
-ghost use Rattle.acpi.specs.Areas.{areas_ranges, count_in, first_in, found_among, is_refused_in, walk_in};
+ghost use Rattle.acpi.specs.Areas.{areas_ranges, count_in, first_in, is_refused_in, walk_in, IsSearchedIn, found_in_areas};
 ghost use Rattle.acpi.specs.OpenedRanges.{rsdp_ranges, walk_ranges};
 ghost use Rattle.acpi.specs.Rsdp.{rsdp_at};
 ghost use Rattle.acpi.specs.Search.{IsRefused, placed, walk};
+ghost use Rattle.acpi.specs.Areas as areas;
 
 use super::{Rsdp, check_mapped};
 use acpi_base::bytes::skip;
@@ -81,7 +80,7 @@ fn is_refused_in(bytes: &[u8], offset: usize) -> bool
 
 /// The RSDP at an address, if it is valid, or else how many candidates from there on are refused,
 /// as far as is known from what was lent there: each 16 bytes after the one before.
-fn tried<'h, H: Lender>(
+fn candidate_at<'h, H: Lender>(
     handler: &'h H,
     address: u64,
     left: u64,
@@ -126,7 +125,7 @@ fn first_valid<'h, H: Lender>(
 {
     let mut passed = 0;
     while passed < count {
-        match tried(handler, first + 16 * passed, count - passed) {
+        match candidate_at(handler, first + 16 * passed, count - passed) {
             Ok(found) => return Some(found),
             Err(refused) => passed += refused,
         }
@@ -152,29 +151,25 @@ fn first_of_area<'h, H: Lender>(
     first_valid(handler, first, count)
 }
 
-/// The first valid candidate of the areas, in their order.
+/// The first valid candidate of the areas, in their order. Fails with `NoValidRsdp` if there is none.
 fn first_of_areas<'h, H: Lender>(
     handler: &'h H,
     areas: &[AddressRange],
-) -> Option<PhysicalMapping<'h, H, Rsdp>>
+) -> AcpiResult<PhysicalMapping<'h, H, Rsdp>>
     requires { Allows (H.may handler.now) (areas_ranges (H.memory handler.now) areas.now) }
-    ensures handler { IfSome result (λ m. handler_of m ≡ handler.now) }
-    ensures lent { IfSome result (λ m. IsOfMemory (H.memory handler.now) m) }
-    ensures found { option_map placed result ≡ found_among (H.memory handler.now) areas.now }
+    ensures handler { IfOk result (λ m. handler_of m ≡ handler.now) }
+    ensures lent { IfOk result (λ m. IsOfMemory (H.memory handler.now) m) }
+    ensures exact { Gives placed result (found_in_areas (H.memory handler.now) areas.now) }
 {
     for area in areas {
         if let Some(found) = first_of_area(handler, area) {
-            return Some(found);
+            return Ok(found);
         }
     }
-    None
+    Err(AcpiError::NoValidRsdp)
 }
 
 impl Rsdp {
-    ghost use Rattle.std.specs.Prelude.{IsOk};
-    ghost use Rattle.acpi_base.specs.Ranges.{Footprint};
-    ghost use Rattle.acpi.specs.Areas.{IsSearchedIn, found_in_areas};
-
     /// The RSDP in areas that the caller gives (section 5.2.5.1), such as `bios_areas` or those that a
     /// firmware's memory map names: a mapping of the 36 bytes of the first valid candidate.
     ///
@@ -184,8 +179,8 @@ impl Rsdp {
     /// aren't lent. A candidate's 36 bytes, and as many as its length says, may reach past the area's end;
     /// no other byte there is asked for.
     ///
-    /// No area is asked for as a whole. A candidate takes at most two requests, and none if the bytes
-    /// that were lent for one before it hold its 36 bytes, and these show that it isn't valid.
+    /// No area is asked for as a whole. No clause counts the requests: tests see at most two for a
+    /// candidate, and none if the bytes that were lent for one before it show that it isn't valid.
     ///
     /// Fails with `NoValidRsdp` if no candidate is left, also if there are no areas.
     #[tactic(auto, using(crate::proofs::Agreed::same_in_areas, crate::proofs::Among::found_valid_in, crate::proofs::Among::searched_in))]
@@ -206,20 +201,6 @@ impl Rsdp {
             Footprint m (areas_ranges m areas.now) (λ n. found_in_areas n areas.now)
             (Gives placed result) }
     {
-        Rsdp::search_in_exact(handler, areas)
-    }
-
-    /// What `search_in` answers: the areas are walked to the first valid candidate.
-    #[tactic(auto, unfolding(crate::specs::Areas::found_in_areas))]
-    fn search_in_exact<'h, H: Lender>(
-        handler: &'h H,
-        areas: &[AddressRange],
-    ) -> AcpiResult<PhysicalMapping<'h, H, Rsdp>>
-        requires { Allows (H.may handler.now) (areas_ranges (H.memory handler.now) areas.now) }
-        ensures handler { IfOk result (λ m. handler_of m ≡ handler.now) }
-        ensures lent { IfOk result (λ m. IsOfMemory (H.memory handler.now) m) }
-        ensures exact { Gives placed result (found_in_areas (H.memory handler.now) areas.now) }
-    {
-        first_of_areas(handler, areas).ok_or(AcpiError::NoValidRsdp)
+        first_of_areas(handler, areas)
     }
 }

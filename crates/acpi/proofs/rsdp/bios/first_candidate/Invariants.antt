@@ -2,7 +2,7 @@ use Rattle.std.proofs.Common.{◌≡◌, ◌+◌, ◌-◌, ◌*◌}
 use Rattle.acpi_base.specs.Ranges.{Allows}
 use Rattle.acpi.specs.OpenedRanges.{walk_ranges}
 use Rattle.acpi.specs.Search.{count_of, walk}
-use Rattle.acpi.proofs.rsdp.search.first_candidate.Given as goal
+use Rattle.acpi.proofs.rsdp.bios.first_candidate.Given as goal
 
 abbrev pub invariant-loop-k : goal.invariant-loop-k
 invariant-loop-k g l =

@@ -1,0 +1,23 @@
+use Rattle.std.proofs.Common.{◌≡◌, ◌*◌, false, length, rules, Some, subst, sym, true}
+use Rattle.std.proofs.lemmas.Iterator.{first_from_Range}
+use Rattle.acpi_base.specs.Memory.{at}
+use Rattle.acpi.proofs.Among.{before_other, front_refused, only_this, unlent_refused}
+use Rattle.acpi.specs.Areas.{is_refused_in}
+use Rattle.acpi.proofs.rsdp.areas.candidate_at.Goals as goal
+
+pub returns-in-Ok-clause-refused : goal.returns-in-Ok-clause-refused
+returns-in-Ok-clause-refused g c =
+    let m = g.H.Lender.memory c.args.handler.now in
+    let b = c.lent_bytes-bytes.result.now in
+    let there = subst (λ b. at m c.args.address (length b) ≡ Some b) (sym c.lent_bytes-bytes.ensures)
+    c.in-Ok.ensures.lent in
+    let others = first_from_Range _ _ _ c.find-other.result (λ k. is_refused_in b (16 * k) ≡ false)
+    (λ k. is_refused_in b (16 * k) ≡ true) c.find-other.ensures.ran (λ x q k. search rules)
+    (λ x q k. search rules) in
+    front_refused m c.args.address _ b (g.met.H.Lender.regions c.args.handler.now) there
+    (c.in-Err-check_mapped.field-0, rw c.in-Ok.ensures.start at c.in-Err-check_mapped.ensures)
+    (λ i some less. before_other (λ k. is_refused_in b (16 * k) ≡ false) (λ k. is_refused_in b (16 * k) ≡ true)
+    c.args.left c.find-other.result others i some (rw c.unwrap_or.ensures at less))
+
+pub returns-clause-refused : goal.returns-clause-refused
+returns-clause-refused g c = only_this _ _ (unlent_refused _ _ _ c.in-Err.ensures.bytes)
