@@ -134,8 +134,10 @@ meant id b e =
 
 each_by : (id : ℕ) (b : List ℕ) (bs : List (List ℕ)) (t : Bool) → is_memory_for id b ≡ t
     → (list_all ends_below (map ivmd_at (filter (is_memory_for id) bs)) ≡ true
-    → AllByRecursion (λ m. IsMeantFor id m × (m.start + m.length < 2 ^ 64)) (map ivmd_at (filter (is_memory_for id) bs)))
-    → list_all ends_below (map ivmd_at (cond t (b ∷ filter (is_memory_for id) bs) (filter (is_memory_for id) bs))) ≡ true
+    → AllByRecursion (λ m. IsMeantFor id m × (m.start + m.length < 2 ^ 64))
+    (map ivmd_at (filter (is_memory_for id) bs)))
+    → list_all ends_below (map ivmd_at (cond t (b ∷ filter (is_memory_for id) bs) (filter (is_memory_for id) bs)))
+    ≡ true
     → AllByRecursion (λ m. IsMeantFor id m × (m.start + m.length < 2 ^ 64))
     (map ivmd_at (cond t (b ∷ filter (is_memory_for id) bs) (filter (is_memory_for id) bs)))
 each_by id b bs true is others e =
