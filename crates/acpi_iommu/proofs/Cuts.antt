@@ -44,7 +44,7 @@ front_from : (size : List ℕ → Option ℕ) (bytes : List ℕ) (n : ℕ) → s
 unfolding checked
 front_from size bytes n e one within =
     ap (checked (length bytes)) e ∙ ap (λ b. cond b (Some n) None)
-        (and_from (leb 1 n) (leb n (length bytes)) (le-leb 1 n one) (le-leb n (length bytes) within))
+    (and_from (leb 1 n) (leb n (length bytes)) (le-leb 1 n one) (le-leb n (length bytes) within))
 
 -- ---- one piece after the other
 
@@ -79,15 +79,15 @@ same_within size zero (suc b) bytes l m = sym (none_in_none size b bytes (front 
 same_within size (suc a) zero bytes l m = none_in_none size a bytes (front size bytes) refl m
 same_within size (suc a) (suc b) bytes l m =
     same_at size a b bytes (front size bytes) refl (λ n one within.
-        same_within size a b (drop n bytes) (omega (arith, length-drop n bytes, l, one))
-        (omega (arith, length-drop n bytes, m, one)))
+    same_within size a b (drop n bytes) (omega (arith, length-drop n bytes, l, one))
+    (omega (arith, length-drop n bytes, m, one)))
 
 one_more : (size : List ℕ → Option ℕ) (bytes : List ℕ) (o : Option ℕ) → front size bytes ≡ o
     → pieces size bytes ≡ cut_at size (length bytes) bytes o
 unfolding pieces
 one_more size bytes o e =
     same_within size (length bytes) (suc (length bytes)) bytes (omega arith) (omega arith)
-        ∙ ap (cut_at size (length bytes) bytes) e
+    ∙ ap (cut_at size (length bytes) bytes) e
 
 -- the pieces of bytes that begin with one
 pub pieces_front : (size : List ℕ → Option ℕ) (bytes : List ℕ) (n : ℕ) → front size bytes ≡ Some n
@@ -96,8 +96,8 @@ unfolding pieces
 pieces_front size bytes n e =
     let is = front_within size bytes n e in
     one_more size bytes (Some n) e ∙ ap (with_entry (take n bytes))
-        (same_within size (length bytes) (length (drop n bytes)) (drop n bytes) (omega (arith, length-drop n bytes))
-        (omega arith))
+    (same_within size (length bytes) (length (drop n bytes)) (drop n bytes) (omega (arith, length-drop n bytes))
+    (omega arith))
 
 -- those of bytes that begin with none
 pub pieces_stuck : (size : List ℕ → Option ℕ) (bytes : List ℕ) → front size bytes ≡ None
@@ -115,7 +115,7 @@ begins : (size : List ℕ → Option ℕ) → SaysItself size → (p more : List
 begins size says p more e =
     let is = front_within size p (length p) e in
     let again : size (p ++ more) ≡ Some (length p) =
-        sym (ap (λ b. size (b ++ more)) (take_all (length p) p (omega arith))) ∙ says p more (length p) is.0 is.2 in
+    sym (ap (λ b. size (b ++ more)) (take_all (length p) p (omega arith))) ∙ says p more (length p) is.0 is.2 in
     front_from size (p ++ more) (length p) again is.1 (omega (arith, length-append p more))
 
 -- the one with which bytes begin
@@ -145,8 +145,8 @@ is_cut size says (suc most) bytes few (Some n) e =
     let is = front_within size bytes n e in
     let others = pieces size (drop n bytes) in
     let c : IsCut size (drop n bytes) others.0 others.1 =
-        is_cut size says most (drop n bytes) (omega (arith, length-drop n bytes, few, is.1))
-        (front size (drop n bytes)) refl in
+    is_cut size says most (drop n bytes) (omega (arith, length-drop n bytes, few, is.1))
+    (front size (drop n bytes)) refl in
     subst (λ x. IsCut size bytes x.0 x.1) (sym (pieces_front size bytes n e)) (record {
       whole = sym (take-append-drop n bytes) ∙ ap (λ s. take n bytes ++ s) c.whole
           ∙ sym (append_assoc (take n bytes) (concat others.0) others.1);
@@ -168,7 +168,7 @@ only size says [] rest are ends = rest_stuck size says rest (front size rest) re
 only size says (p ∷ ps) rest are ends =
     let others : pieces size (concat ps ++ rest) ≡ (ps, rest) = only size says ps rest are.1 ends in
     let first : pieces size (p ++ (concat ps ++ rest)) ≡ with_entry (take (length p) (p ++ (concat ps ++ rest)))
-        (pieces size (drop (length p) (p ++ (concat ps ++ rest)))) =
+    (pieces size (drop (length p) (p ++ (concat ps ++ rest)))) =
     pieces_front size (p ++ (concat ps ++ rest)) (length p) (begins size says p (concat ps ++ rest) are.0) in
     ap (pieces size) (append_assoc p (concat ps) rest) ∙ first
     ∙ ap (λ q. with_entry q (pieces size (drop (length p) (p ++ (concat ps ++ rest)))))
@@ -197,9 +197,9 @@ unfolding field_of
 kept bytes more n at width within inside =
     let long : length (take n bytes) ≡ n = length-take-le n bytes within in
     let after : part (take n bytes ++ more) at width ≡ part (take n bytes) at width =
-        part_append (take n bytes) more at width (omega (arith, inside, long)) in
+    part_append (take n bytes) more at width (omega (arith, inside, long)) in
     let before : part (take n bytes ++ drop n bytes) at width ≡ part (take n bytes) at width =
-        part_append (take n bytes) (drop n bytes) at width (omega (arith, inside, long)) in
+    part_append (take n bytes) (drop n bytes) at width (omega (arith, inside, long)) in
     ap number (after ∙ sym before ∙ ap (λ b. part b at width) (take-append-drop n bytes))
 
 -- ---- a length that a piece says
@@ -224,9 +224,10 @@ four_structure false false false false = omega arith
 pub structure_is : SaysItself structure_size
 structure_is =
     said_size (λ b. dmar.least_of (kind_of b)) (λ b. field_of b 2 2) 4 (λ b. four_structure _ _ _ _)
-        (λ bytes more n within four.
-    (ap dmar.least_of (kept bytes more n 0 2 within (omega (arith, four))),
-        kept bytes more n 2 2 within (omega (arith, four))))
+    (λ bytes more n within four. (
+      ap dmar.least_of (kept bytes more n 0 2 within (omega (arith, four))),
+      kept bytes more n 2 2 within (omega (arith, four)),
+    ))
 
 pub scope_is : SaysItself scope_size
 scope_is =
@@ -242,9 +243,10 @@ four_block false false false = omega arith
 pub block_is : SaysItself block_size
 block_is =
     said_size (λ b. ivrs.least_of (block_kind b)) (λ b. field_of b 2 2) 4 (λ b. four_block _ _ _)
-        (λ bytes more n within four.
-    (ap ivrs.least_of (kept bytes more n 0 1 within (omega (arith, four))),
-        kept bytes more n 2 2 within (omega (arith, four))))
+    (λ bytes more n within four. (
+      ap ivrs.least_of (kept bytes more n 0 1 within (omega (arith, four))),
+      kept bytes more n 2 2 within (omega (arith, four)),
+    ))
 
 -- ---- device entries
 
@@ -309,15 +311,15 @@ entry_is bytes more n e within =
     let all = take n bytes ++ more in
     let least : own ≤ n = own_least (starts kind) (field_of bytes own 1 == 4) (kind == 4) own n e in
     let some : 4 ≤ own = own_some (kind == 0xf0) (nat_lt kind 0x40) (nat_lt kind 0x80) (nat_lt kind 0xc0)
-        (field_of bytes 21 1) in
+    (field_of bytes 21 1) in
     let kind_same : entry_kind all ≡ kind = kept bytes more n 0 1 within (omega (arith, some, least)) in
     let id_same : own_of kind (field_of all 21 1) ≡ own =
     own_same (kind == 0xf0) (nat_lt kind 0x40) (nat_lt kind 0x80) (nat_lt kind 0xc0) (field_of bytes 21 1)
-        (field_of all 21 1) n least (λ far. kept bytes more n 21 1 within (omega (arith, far))) in
+    (field_of all 21 1) n least (λ far. kept bytes more n 21 1 within (omega (arith, far))) in
     let own_is : own_size all ≡ own = ap (λ k. own_of k (field_of all 21 1)) kind_same ∙ id_same in
     let as_was : entry_size all ≡ size_of kind own (field_of all own 1) =
     ap (λ k. size_of k (own_size all) (field_of all (own_size all) 1)) kind_same
-        ∙ ap (λ o. size_of kind o (field_of all o 1)) own_is in
+    ∙ ap (λ o. size_of kind o (field_of all o 1)) own_is in
     as_was ∙ size_again (starts kind) (field_of bytes own 1 == 4) (kind == 4) (field_of all own 1 == 4) own n e
     (λ far. ap (λ x. x == 4) (kept bytes more n own 1 within (omega (arith, far))))
 

@@ -1,6 +1,6 @@
 -- Which unit remaps a device, and which memory has its own rules for it, in a reader's words.
-use Rattle.std.proofs.Common.{◌≡◌, ◌⊎◌, inl, inr, ℕ, ◌+◌, ◌<◌, ◌≤◌, Bool, true, false, cond, List, [], ◌∷◌, ◌++◌, Option, Some, None, Result, Ok, refl, sym, ap, ◌∙◌, subst, arith}
-use Rattle.std.specs.Prelude.{◌==◌, ◌&&◌, ◌||◌, ◌^◌, nat_le, nat_lt, find, filter, map, slice_get}
+use Rattle.std.proofs.Common.{◌≡◌, ◌⊎◌, inl, inr, ℕ, ◌+◌, ◌<◌, ◌≤◌, Bool, true, false, cond, List, [], ◌∷◌, Option, Some, None, Result, Ok, refl, ap, subst}
+use Rattle.std.specs.Prelude.{◌==◌, ◌&&◌, ◌||◌, ◌^◌, nat_le, find, filter, map, slice_get}
 use Rattle.std.specs.List.{AllByRecursion, cons_option, filter_map, list_all}
 use Rattle.std.specs.Option.{option_map, option_or}
 use Rattle.std.proofs.lemmas.Bool.{and_parts, eqb-true, leb-true, ltb-true}
@@ -17,7 +17,6 @@ use Rattle.acpi_iommu.specs.declared.error.IommuError.TheVariants.{InvalidMemory
 use Rattle.acpi_iommu.specs.Ivrs.{blocks_of, ivmd_at}
 use Rattle.acpi_iommu.specs.IvrsUnits.{best_kind, ends_below, is_memory_for, is_of_kind, memory_in, unit_in}
 use Rattle.acpi_iommu.specs.UnitLaws.{BlockIsFirst, FirstSays, IsMeantFor, MemoryIsMeant, SourceIsFirst, UnitIsFirst, of_others}
-use Rattle.acpi_iommu.specs.declared.ivrs.block.Ivmd.{Ivmd}
 
 -- ---- the first that says something
 
