@@ -14,7 +14,7 @@ mod part;
 use acpi::AcpiTables;
 use acpi_base::madt::Madt;
 use acpi_base::managed_slice::ManagedSlice;
-use acpi_base::{AcpiResult, Lender, PhysicalMapping};
+use acpi_base::{AcpiResult, Lender};
 use collect::collected;
 pub use collect::distributor_of;
 pub use part::{
@@ -113,41 +113,7 @@ impl<A: Allocator + Copy> GicModel<A> {
         ensures relocation { Relocation tables.now found_gic
             (GivesOrFull (of_tables tables.now GicAsks) result) }
     {
-        GicModel::new_in_exact(tables, allocator)
-    }
-
-    /// What `new_in` answers: it looks the first valid MADT up, and collects its entries.
-    fn new_in_exact<H: Lender>(tables: &AcpiTables<'_, H>, allocator: A) -> AcpiResult<Option<Self>>
-        requires { AllowsBelow tables.now (λ m. lookup_ranges m madt_kind) }
-        ensures { GivesOrFull (of_tables tables.now GicAsks) result
-            (of_tables tables.now found_gic) }
-    {
         let madt = tables.find_table::<Madt>()?;
-        madt.gic_model_in(allocator)
-    }
-}
-
-/// The function `GicModel::of`, as a method of a mapping of a MADT (section 5.2.12).
-pub trait GicCalls {
-    ghost use Rattle.std.specs.Prelude.{ℕ, List};
-
-    // The table's bytes.
-    ghost table: { Self → List ℕ };
-
-    /// The GIC that this MADT describes (sections 5.2.12.14 to 5.2.12.18), in memory of an allocator, or
-    /// `None` if it describes no distributor.
-    ///
-    /// Fails as `GicModel::of` does.
-    fn gic_model_in<A: Allocator + Copy>(&self, allocator: A) -> AcpiResult<Option<GicModel<A>>>
-        ensures { GivesOrFull (AsksMemory (table self.now)) result (gic_of (table self.now)) };
-}
-
-impl<'h, H: Lender> GicCalls for PhysicalMapping<'h, H, Madt> {
-    ghost use Rattle.acpi_base.specs.Mapping.{bytes_of};
-
-    ghost table = { λ m. bytes_of m };
-
-    fn gic_model_in<A: Allocator + Copy>(&self, allocator: A) -> AcpiResult<Option<GicModel<A>>> {
-        GicModel::of(self.bytes(), allocator)
+        GicModel::of(madt.bytes(), allocator)
     }
 }

@@ -11,7 +11,7 @@ use acpi_base::extended::ExtendedField;
 use acpi_base::model::{Polarity, TriggerMode};
 use acpi_base::sdt::SdtHeader;
 use acpi_base::table::sum_refusal;
-use acpi_base::{AcpiResult, AcpiTable, Lender, PhysicalMapping, PhysicalRecord, Signature};
+use acpi_base::{AcpiResult, AcpiTable, PhysicalRecord, Signature};
 
 /// A timer that every processor has, by its GSIV and its flags in a GTDT (section 5.2.24).
 #[derive(Clone, Copy, Debug, PartialEq, Eq)]
@@ -55,7 +55,7 @@ fn timer_in(bytes: &[u8], offset: usize) -> ArmTimer
 }
 
 /// The Generic Timer Description Table (GTDT, section 5.2.24). `PlatformTimerIter` gives the timers of the
-/// platform out of its bytes, and `GtdtCalls` out of a mapping of it.
+/// platform out of its bytes.
 #[derive(Clone, Copy, Debug)]
 pub struct Gtdt {
     /// The header that every table begins with.
@@ -167,32 +167,5 @@ impl Gtdt {
         } else {
             None
         }
-    }
-}
-
-/// The function `PlatformTimerIter::over`, as a method of a mapping of a GTDT (section 5.2.24).
-pub trait GtdtCalls {
-    ghost use Rattle.std.specs.Prelude.{ℕ, List, false};
-    ghost use Rattle.acpi_arm.specs.Timers.{has_ended, missing_left, missing_of};
-    ghost use Rattle.acpi_arm.specs.Timers.{timers_left, timers_of};
-
-    // The table's bytes.
-    ghost table: { Self → List ℕ };
-
-    /// The Platform Timer Structures of this GTDT (section 5.2.24.1), in order, as
-    /// `PlatformTimerIter::over` gives them.
-    fn platform_timers(&self) -> PlatformTimerIter<'_>
-        ensures items { timers_left result ≡ timers_of (table self.now) }
-        ensures missing { missing_left result ≡ missing_of (table self.now) }
-        ensures begun { has_ended result ≡ false };
-}
-
-impl<'h, H: Lender> GtdtCalls for PhysicalMapping<'h, H, Gtdt> {
-    ghost use Rattle.acpi_base.specs.Mapping.{bytes_of};
-
-    ghost table = { λ m. bytes_of m };
-
-    fn platform_timers(&self) -> PlatformTimerIter<'_> {
-        PlatformTimerIter::over(self.bytes())
     }
 }

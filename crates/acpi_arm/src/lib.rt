@@ -8,5 +8,4 @@ mod frames;
 pub mod gic;
 pub mod gtdt;
 mod interrupt;
-pub mod laws;
 mod timers;

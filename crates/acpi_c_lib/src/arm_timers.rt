@@ -12,9 +12,7 @@ use crate::opening::first;
 use crate::records::Source;
 use crate::refusal::Refusal;
 use crate::regions::Mapped;
-use acpi_arm::gtdt::{
-    ArmTimer, GtFrame, GtFrameIter, Gtdt, GtdtCalls, PlatformTimer, PlatformTimerIter,
-};
+use acpi_arm::gtdt::{ArmTimer, GtFrame, GtFrameIter, Gtdt, PlatformTimer, PlatformTimerIter};
 
 /// The timers of every processor, as the first valid GTDT has them.
 pub fn arm_timers(source: &Source<'_>) -> Result<ArmTimers, Refusal>
@@ -22,7 +20,7 @@ pub fn arm_timers(source: &Source<'_>) -> Result<ArmTimers, Refusal>
 {
     let memory = Mapped::new(source.regions);
     let gtdt = first::<Gtdt>(&memory, source)?;
-    let is_malformed = end_malformed(gtdt.platform_timers());
+    let is_malformed = end_malformed(PlatformTimerIter::over(gtdt.bytes()));
     Ok(timers_record(&gtdt, is_malformed))
 }
 

@@ -16,8 +16,8 @@ use crate::records::Source;
 use crate::refusal::Refusal;
 use crate::regions::Mapped;
 use acpi_iommu::{
-    Dmar, DmarCalls, DmarUnits, Drhd, IommuError, Ivhd, Ivmd, Ivrs, IvrsBlocks, IvrsCalls,
-    MemoryIter, ReservedIter, Rmrr, UnitSource,
+    Dmar, DmarUnits, Drhd, IommuError, Ivhd, Ivmd, Ivrs, IvrsBlocks, MemoryIter, ReservedIter,
+    Rmrr, UnitSource,
 };
 
 impl From<IommuError> for Refusal {
@@ -45,7 +45,8 @@ pub fn dmar_unit(
 {
     let memory = Mapped::new(source.regions);
     let dmar = first::<Dmar>(&memory, source)?;
-    let unit = dmar.unit_for(segment, bus, hops)?.ok_or(Refusal::NoIommu)?;
+    let units = DmarUnits::over(dmar.bytes());
+    let unit = units.unit_for(segment, bus, hops)?.ok_or(Refusal::NoIommu)?;
     Ok(unit_record(&unit))
 }
 
@@ -55,7 +56,8 @@ pub fn dmar_io_apic(source: &Source<'_>, id: u8) -> Result<DmarSource, Refusal>
 {
     let memory = Mapped::new(source.regions);
     let dmar = first::<Dmar>(&memory, source)?;
-    let found = dmar.unit_of_io_apic(id)?.ok_or(Refusal::NoIommu)?;
+    let units = DmarUnits::over(dmar.bytes());
+    let found = units.unit_of_io_apic(id)?.ok_or(Refusal::NoIommu)?;
     Ok(source_record(&found))
 }
 
@@ -65,7 +67,8 @@ pub fn dmar_hpet(source: &Source<'_>, number: u8) -> Result<DmarSource, Refusal>
 {
     let memory = Mapped::new(source.regions);
     let dmar = first::<Dmar>(&memory, source)?;
-    let found = dmar.unit_of_hpet(number)?.ok_or(Refusal::NoIommu)?;
+    let units = DmarUnits::over(dmar.bytes());
+    let found = units.unit_of_hpet(number)?.ok_or(Refusal::NoIommu)?;
     Ok(source_record(&found))
 }
 
@@ -137,7 +140,10 @@ pub fn ivrs_unit(source: &Source<'_>, segment: u16, device_id: u16) -> Result<Iv
 {
     let memory = Mapped::new(source.regions);
     let ivrs = first::<Ivrs>(&memory, source)?;
-    let found = ivrs.block_for(segment, device_id)?.ok_or(Refusal::NoIommu)?;
+    let blocks = IvrsBlocks::over(ivrs.bytes());
+    let found = blocks
+        .block_for(segment, device_id)?
+        .ok_or(Refusal::NoIommu)?;
     Ok(IvrsDevice {
         unit: block_record(&found.unit),
         source_id: found.source,

@@ -15,7 +15,7 @@ use crate::records::Source;
 use crate::refusal::Refusal;
 use crate::regions::Mapped;
 use acpi_numa::srat::{SratEntry, SratEntryIter, affinities_count};
-use acpi_numa::{Domains, NumaError, Slit, SlitCalls, Srat, SratCalls};
+use acpi_numa::{Distances, Domains, NumaError, Slit, Srat};
 
 impl From<NumaError> for Refusal {
     ghost from_gives = { λ error e. e ≡ numa_refusal error };
@@ -93,7 +93,10 @@ pub fn domain_of_apic(source: &Source<'_>, local_apic_id: u32) -> Result<u32, Re
 {
     let memory = Mapped::new(source.regions);
     let srat = first::<Srat>(&memory, source)?;
-    srat.domain_of_apic(local_apic_id).ok_or(Refusal::NoDomain)
+    let domains = Domains::over(srat.bytes());
+    domains
+        .domain_of_apic(local_apic_id)
+        .ok_or(Refusal::NoDomain)
 }
 
 /// The domain of the processor of a uid, which has an interface to the GIC, by the first valid SRAT.
@@ -102,7 +105,8 @@ pub fn domain_of_processor(source: &Source<'_>, uid: u32) -> Result<u32, Refusal
 {
     let memory = Mapped::new(source.regions);
     let srat = first::<Srat>(&memory, source)?;
-    srat.domain_of_processor(uid).ok_or(Refusal::NoDomain)
+    let domains = Domains::over(srat.bytes());
+    domains.domain_of_processor(uid).ok_or(Refusal::NoDomain)
 }
 
 /// How far one locality is from another, by the first valid SLIT.
@@ -111,7 +115,8 @@ pub fn distance(source: &Source<'_>, from: u64, to: u64) -> Result<u8, Refusal>
 {
     let memory = Mapped::new(source.regions);
     let slit = first::<Slit>(&memory, source)?;
-    slit.distance(from, to).ok_or(Refusal::NoDistance)
+    let distances = Distances::over(slit.bytes());
+    distances.distance(from, to).ok_or(Refusal::NoDistance)
 }
 
 /// How many localities the first valid SLIT has distances of, and whether it can be believed.
@@ -120,7 +125,7 @@ pub fn localities(source: &Source<'_>) -> Result<Localities, Refusal>
 {
     let memory = Mapped::new(source.regions);
     let slit = first::<Slit>(&memory, source)?;
-    let distances = slit.distances();
+    let distances = Distances::over(slit.bytes());
     Ok(Localities {
         localities: distances.localities(),
         is_sane: distances.is_sane() as u8,

@@ -34,14 +34,17 @@ checked_is len n (Some m) e =
     let p = and_parts (leb 1 m) (leb m len) t.0 in
     (ap Some t.1, omega (arith, leb-true 1 m p.0, t.1), omega (arith, leb-true m len p.1, t.1))
 
-pub front_within : (size : List ℕ → Option ℕ) (bytes : List ℕ) (n : ℕ) → front size bytes ≡ Some n → (size bytes ≡ Some n) × (1 ≤ n) × (n ≤ length bytes)
+pub front_within : (size : List ℕ → Option ℕ) (bytes : List ℕ) (n : ℕ) → front size bytes ≡ Some n
+    → (size bytes ≡ Some n) × (1 ≤ n) × (n ≤ length bytes)
 unfolding checked
 front_within size bytes n e = checked_is (length bytes) n (size bytes) e
 
-front_from : (size : List ℕ → Option ℕ) (bytes : List ℕ) (n : ℕ) → size bytes ≡ Some n → 1 ≤ n → n ≤ length bytes → front size bytes ≡ Some n
+front_from : (size : List ℕ → Option ℕ) (bytes : List ℕ) (n : ℕ) → size bytes ≡ Some n → 1 ≤ n → n ≤ length bytes
+    → front size bytes ≡ Some n
 unfolding checked
 front_from size bytes n e one within =
-    ap (checked (length bytes)) e ∙ ap (λ b. cond b (Some n) None) (and_from (leb 1 n) (leb n (length bytes)) (le-leb 1 n one) (le-leb n (length bytes) within))
+    ap (checked (length bytes)) e ∙ ap (λ b. cond b (Some n) None)
+    (and_from (leb 1 n) (leb n (length bytes)) (le-leb 1 n one) (le-leb n (length bytes) within))
 
 -- ---- one piece after the other
 
@@ -53,7 +56,8 @@ cut_at size most bytes o = elim o [
 ]
 
 -- no piece begins in no bytes
-none_in_none : (size : List ℕ → Option ℕ) (most : ℕ) (bytes : List ℕ) (o : Option ℕ) → front size bytes ≡ o → length bytes ≤ 0 → cut_at size most bytes o ≡ ([], bytes)
+none_in_none : (size : List ℕ → Option ℕ) (most : ℕ) (bytes : List ℕ) (o : Option ℕ) → front size bytes ≡ o
+    → length bytes ≤ 0 → cut_at size most bytes o ≡ ([], bytes)
 none_in_none size most bytes None e none = refl
 none_in_none size most bytes (Some n) e none =
     let is = front_within size bytes n e in
@@ -68,27 +72,36 @@ same_at size a b bytes (Some n) e same =
     ap (with_entry (take n bytes)) (same n is.1 is.2)
 
 -- as many as there are bytes are enough
-same_within : (size : List ℕ → Option ℕ) (a b : ℕ) (bytes : List ℕ) → length bytes ≤ a → length bytes ≤ b → pieces_within size a bytes ≡ pieces_within size b bytes
+same_within : (size : List ℕ → Option ℕ) (a b : ℕ) (bytes : List ℕ) → length bytes ≤ a → length bytes ≤ b
+    → pieces_within size a bytes ≡ pieces_within size b bytes
 same_within size zero zero bytes l m = refl
 same_within size zero (suc b) bytes l m = sym (none_in_none size b bytes (front size bytes) refl l)
 same_within size (suc a) zero bytes l m = none_in_none size a bytes (front size bytes) refl m
 same_within size (suc a) (suc b) bytes l m =
-    same_at size a b bytes (front size bytes) refl (λ n one within. same_within size a b (drop n bytes) (omega (arith, length-drop n bytes, l, one)) (omega (arith, length-drop n bytes, m, one)))
+    same_at size a b bytes (front size bytes) refl (λ n one within.
+    same_within size a b (drop n bytes) (omega (arith, length-drop n bytes, l, one))
+    (omega (arith, length-drop n bytes, m, one)))
 
-one_more : (size : List ℕ → Option ℕ) (bytes : List ℕ) (o : Option ℕ) → front size bytes ≡ o → pieces size bytes ≡ cut_at size (length bytes) bytes o
+one_more : (size : List ℕ → Option ℕ) (bytes : List ℕ) (o : Option ℕ) → front size bytes ≡ o
+    → pieces size bytes ≡ cut_at size (length bytes) bytes o
 unfolding pieces
 one_more size bytes o e =
-    same_within size (length bytes) (suc (length bytes)) bytes (omega arith) (omega arith) ∙ ap (cut_at size (length bytes) bytes) e
+    same_within size (length bytes) (suc (length bytes)) bytes (omega arith) (omega arith)
+    ∙ ap (cut_at size (length bytes) bytes) e
 
 -- the pieces of bytes that begin with one
-pub pieces_front : (size : List ℕ → Option ℕ) (bytes : List ℕ) (n : ℕ) → front size bytes ≡ Some n → pieces size bytes ≡ with_entry (take n bytes) (pieces size (drop n bytes))
+pub pieces_front : (size : List ℕ → Option ℕ) (bytes : List ℕ) (n : ℕ) → front size bytes ≡ Some n
+    → pieces size bytes ≡ with_entry (take n bytes) (pieces size (drop n bytes))
 unfolding pieces
 pieces_front size bytes n e =
     let is = front_within size bytes n e in
-    one_more size bytes (Some n) e ∙ ap (with_entry (take n bytes)) (same_within size (length bytes) (length (drop n bytes)) (drop n bytes) (omega (arith, length-drop n bytes)) (omega arith))
+    one_more size bytes (Some n) e ∙ ap (with_entry (take n bytes))
+    (same_within size (length bytes) (length (drop n bytes)) (drop n bytes) (omega (arith, length-drop n bytes))
+    (omega arith))
 
 -- those of bytes that begin with none
-pub pieces_stuck : (size : List ℕ → Option ℕ) (bytes : List ℕ) → front size bytes ≡ None → pieces size bytes ≡ ([], bytes)
+pub pieces_stuck : (size : List ℕ → Option ℕ) (bytes : List ℕ) → front size bytes ≡ None
+    → pieces size bytes ≡ ([], bytes)
 pieces_stuck size bytes e = one_more size bytes None e
 
 -- ---- a piece by itself
@@ -97,14 +110,17 @@ not_none : (n : ℕ) (o : Option ℕ) → o ≡ None → o ≡ Some n → ⊥
 not_none n o none some = cc
 
 -- it begins its bytes whatever comes after them
-begins : (size : List ℕ → Option ℕ) → SaysItself size → (p more : List ℕ) → IsPiece size p → front size (p ++ more) ≡ Some (length p)
+begins : (size : List ℕ → Option ℕ) → SaysItself size → (p more : List ℕ) → IsPiece size p
+    → front size (p ++ more) ≡ Some (length p)
 begins size says p more e =
     let is = front_within size p (length p) e in
-    let again : size (p ++ more) ≡ Some (length p) = sym (ap (λ b. size (b ++ more)) (take_all (length p) p (omega arith))) ∙ says p more (length p) is.0 is.2 in
+    let again : size (p ++ more) ≡ Some (length p) =
+    sym (ap (λ b. size (b ++ more)) (take_all (length p) p (omega arith))) ∙ says p more (length p) is.0 is.2 in
     front_from size (p ++ more) (length p) again is.1 (omega (arith, length-append p more))
 
 -- the one with which bytes begin
-front_is : (size : List ℕ → Option ℕ) → SaysItself size → (bytes : List ℕ) (n : ℕ) → front size bytes ≡ Some n → IsPiece size (take n bytes)
+front_is : (size : List ℕ → Option ℕ) → SaysItself size → (bytes : List ℕ) (n : ℕ) → front size bytes ≡ Some n
+    → IsPiece size (take n bytes)
 front_is size says bytes n e =
     let is = front_within size bytes n e in
     let long : length (take n bytes) ≡ n = length-take-le n bytes is.2 in
@@ -114,7 +130,8 @@ front_is size says bytes n e =
 -- ---- the only cut
 
 -- what is computed is one
-is_cut : (size : List ℕ → Option ℕ) → SaysItself size → (most : ℕ) (bytes : List ℕ) → length bytes ≤ most → (o : Option ℕ) → front size bytes ≡ o → IsCut size bytes (pieces size bytes).0 (pieces size bytes).1
+is_cut : (size : List ℕ → Option ℕ) → SaysItself size → (most : ℕ) (bytes : List ℕ) → length bytes ≤ most
+    → (o : Option ℕ) → front size bytes ≡ o → IsCut size bytes (pieces size bytes).0 (pieces size bytes).1
 is_cut size says most bytes few None e =
     subst (λ x. IsCut size bytes x.0 x.1) (sym (pieces_stuck size bytes e)) (record {
       whole = refl;
@@ -127,34 +144,43 @@ is_cut size says zero bytes few (Some n) e =
 is_cut size says (suc most) bytes few (Some n) e =
     let is = front_within size bytes n e in
     let others = pieces size (drop n bytes) in
-    let c : IsCut size (drop n bytes) others.0 others.1 = is_cut size says most (drop n bytes) (omega (arith, length-drop n bytes, few, is.1)) (front size (drop n bytes)) refl in
+    let c : IsCut size (drop n bytes) others.0 others.1 =
+    is_cut size says most (drop n bytes) (omega (arith, length-drop n bytes, few, is.1))
+    (front size (drop n bytes)) refl in
     subst (λ x. IsCut size bytes x.0 x.1) (sym (pieces_front size bytes n e)) (record {
-      whole = sym (take-append-drop n bytes) ∙ ap (λ s. take n bytes ++ s) c.whole ∙ sym (append_assoc (take n bytes) (concat others.0) others.1);
+      whole = sym (take-append-drop n bytes) ∙ ap (λ s. take n bytes ++ s) c.whole
+          ∙ sym (append_assoc (take n bytes) (concat others.0) others.1);
       are = (front_is size says bytes n e, c.are);
       ends = c.ends;
     })
 
 -- and there is no other
-rest_stuck : (size : List ℕ → Option ℕ) → SaysItself size → (rest : List ℕ) (o : Option ℕ) → front size rest ≡ o → ((p more : List ℕ) → rest ≡ p ++ more → IsPiece size p → ⊥) → pieces size rest ≡ ([], rest)
+rest_stuck : (size : List ℕ → Option ℕ) → SaysItself size → (rest : List ℕ) (o : Option ℕ) → front size rest ≡ o
+    → ((p more : List ℕ) → rest ≡ p ++ more → IsPiece size p → ⊥) → pieces size rest ≡ ([], rest)
 rest_stuck size says rest None e ends = pieces_stuck size rest e
 rest_stuck size says rest (Some n) e ends =
     absurd (ends (take n rest) (drop n rest) (sym (take-append-drop n rest)) (front_is size says rest n e))
 
-only : (size : List ℕ → Option ℕ) → SaysItself size → (ps : List (List ℕ)) (rest : List ℕ) → AllByRecursion (IsPiece size) ps → ((p more : List ℕ) → rest ≡ p ++ more → IsPiece size p → ⊥) → pieces size (concat ps ++ rest) ≡ (ps, rest)
+only : (size : List ℕ → Option ℕ) → SaysItself size → (ps : List (List ℕ)) (rest : List ℕ)
+    → AllByRecursion (IsPiece size) ps → ((p more : List ℕ) → rest ≡ p ++ more → IsPiece size p → ⊥)
+    → pieces size (concat ps ++ rest) ≡ (ps, rest)
 only size says [] rest are ends = rest_stuck size says rest (front size rest) refl ends
 only size says (p ∷ ps) rest are ends =
     let others : pieces size (concat ps ++ rest) ≡ (ps, rest) = only size says ps rest are.1 ends in
-    let first : pieces size (p ++ (concat ps ++ rest)) ≡ with_entry (take (length p) (p ++ (concat ps ++ rest))) (pieces size (drop (length p) (p ++ (concat ps ++ rest)))) =
+    let first : pieces size (p ++ (concat ps ++ rest)) ≡ with_entry (take (length p) (p ++ (concat ps ++ rest)))
+    (pieces size (drop (length p) (p ++ (concat ps ++ rest)))) =
     pieces_front size (p ++ (concat ps ++ rest)) (length p) (begins size says p (concat ps ++ rest) are.0) in
     ap (pieces size) (append_assoc p (concat ps) rest) ∙ first
-    ∙ ap (λ q. with_entry q (pieces size (drop (length p) (p ++ (concat ps ++ rest))))) (take_at p (concat ps ++ rest) (length p) refl)
+    ∙ ap (λ q. with_entry q (pieces size (drop (length p) (p ++ (concat ps ++ rest)))))
+    (take_at p (concat ps ++ rest) (length p) refl)
     ∙ ap (λ b. with_entry p (pieces size b)) (drop_at p (concat ps ++ rest) (length p) refl)
     ∙ ap (with_entry p) others
 
 pub one_cut : (size : List ℕ → Option ℕ) → SaysItself size → OneCut size
 one_cut size says bytes ps rest = (
   λ c. ap (pieces size) c.whole ∙ only size says ps rest c.are c.ends,
-  λ e. subst (λ x. IsCut size bytes x.0 x.1) e (is_cut size says (length bytes) bytes (omega arith) (front size bytes) refl),
+  λ e. subst (λ x. IsCut size bytes x.0 x.1) e
+      (is_cut size says (length bytes) bytes (omega arith) (front size bytes) refl),
 )
 
 -- ---- fields in the front of bytes
@@ -165,19 +191,23 @@ part_append p more at width inside =
     ∙ take-append-le width (drop at p) more (omega (arith, inside, length-drop at p))
 
 -- a field among the first n bytes is the same whatever comes after them
-kept : (bytes more : List ℕ) (n at width : ℕ) → n ≤ length bytes → at + width ≤ n → field_of (take n bytes ++ more) at width ≡ field_of bytes at width
+kept : (bytes more : List ℕ) (n at width : ℕ) → n ≤ length bytes → at + width ≤ n
+    → field_of (take n bytes ++ more) at width ≡ field_of bytes at width
 unfolding field_of
 kept bytes more n at width within inside =
     let long : length (take n bytes) ≡ n = length-take-le n bytes within in
-    let after : part (take n bytes ++ more) at width ≡ part (take n bytes) at width = part_append (take n bytes) more at width (omega (arith, inside, long)) in
-    let before : part (take n bytes ++ drop n bytes) at width ≡ part (take n bytes) at width = part_append (take n bytes) (drop n bytes) at width (omega (arith, inside, long)) in
+    let after : part (take n bytes ++ more) at width ≡ part (take n bytes) at width =
+    part_append (take n bytes) more at width (omega (arith, inside, long)) in
+    let before : part (take n bytes ++ drop n bytes) at width ≡ part (take n bytes) at width =
+    part_append (take n bytes) (drop n bytes) at width (omega (arith, inside, long)) in
     ap number (after ∙ sym before ∙ ap (λ b. part b at width) (take-append-drop n bytes))
 
 -- ---- a length that a piece says
 
 -- if the least length and the length stand among as many bytes as each piece has
 said_size : (least size : List ℕ → ℕ) (header : ℕ) → ((bytes : List ℕ) → header ≤ least bytes)
-    → ((bytes more : List ℕ) (n : ℕ) → n ≤ length bytes → header ≤ n → (least (take n bytes ++ more) ≡ least bytes) × (size (take n bytes ++ more) ≡ size bytes))
+    → ((bytes more : List ℕ) (n : ℕ) → n ≤ length bytes → header ≤ n
+    → (least (take n bytes ++ more) ≡ least bytes) × (size (take n bytes ++ more) ≡ size bytes))
     → SaysItself (λ b. said (least b) (size b))
 said_size least size header has same bytes more n e within =
     let is = tested (leb (least bytes) (size bytes)) (size bytes) n e in
@@ -193,8 +223,11 @@ four_structure false false false false = omega arith
 
 pub structure_is : SaysItself structure_size
 structure_is =
-    said_size (λ b. dmar.least_of (kind_of b)) (λ b. field_of b 2 2) 4 (λ b. four_structure _ _ _ _) (λ bytes more n within four.
-    (ap dmar.least_of (kept bytes more n 0 2 within (omega (arith, four))), kept bytes more n 2 2 within (omega (arith, four))))
+    said_size (λ b. dmar.least_of (kind_of b)) (λ b. field_of b 2 2) 4 (λ b. four_structure _ _ _ _)
+    (λ bytes more n within four. (
+      ap dmar.least_of (kept bytes more n 0 2 within (omega (arith, four))),
+      kept bytes more n 2 2 within (omega (arith, four)),
+    ))
 
 pub scope_is : SaysItself scope_size
 scope_is =
@@ -209,8 +242,11 @@ four_block false false false = omega arith
 
 pub block_is : SaysItself block_size
 block_is =
-    said_size (λ b. ivrs.least_of (block_kind b)) (λ b. field_of b 2 2) 4 (λ b. four_block _ _ _) (λ bytes more n within four.
-    (ap ivrs.least_of (kept bytes more n 0 1 within (omega (arith, four))), kept bytes more n 2 2 within (omega (arith, four))))
+    said_size (λ b. ivrs.least_of (block_kind b)) (λ b. field_of b 2 2) 4 (λ b. four_block _ _ _)
+    (λ bytes more n within four. (
+      ap ivrs.least_of (kept bytes more n 0 1 within (omega (arith, four))),
+      kept bytes more n 2 2 within (omega (arith, four)),
+    ))
 
 -- ---- device entries
 
@@ -247,7 +283,8 @@ own_least false marked false own n e =
     omega (arith, is)
 
 -- what follows counts only for a start, and is among its bytes
-size_again : (start marked end_ marks : Bool) (own n : ℕ) → size_by start marked end_ own ≡ Some n → (own + 4 ≤ n → marks ≡ marked) → size_by start marks end_ own ≡ Some n
+size_again : (start marked end_ marks : Bool) (own n : ℕ) → size_by start marked end_ own ≡ Some n
+    → (own + 4 ≤ n → marks ≡ marked) → size_by start marks end_ own ≡ Some n
 unfolding size_by
 size_again true true end_ marks own n e same =
     let is : own + 4 ≡ n = cc in
@@ -273,13 +310,16 @@ entry_is bytes more n e within =
     let own = own_size bytes in
     let all = take n bytes ++ more in
     let least : own ≤ n = own_least (starts kind) (field_of bytes own 1 == 4) (kind == 4) own n e in
-    let some : 4 ≤ own = own_some (kind == 0xf0) (nat_lt kind 0x40) (nat_lt kind 0x80) (nat_lt kind 0xc0) (field_of bytes 21 1) in
+    let some : 4 ≤ own = own_some (kind == 0xf0) (nat_lt kind 0x40) (nat_lt kind 0x80) (nat_lt kind 0xc0)
+    (field_of bytes 21 1) in
     let kind_same : entry_kind all ≡ kind = kept bytes more n 0 1 within (omega (arith, some, least)) in
     let id_same : own_of kind (field_of all 21 1) ≡ own =
-    own_same (kind == 0xf0) (nat_lt kind 0x40) (nat_lt kind 0x80) (nat_lt kind 0xc0) (field_of bytes 21 1) (field_of all 21 1) n least (λ far. kept bytes more n 21 1 within (omega (arith, far))) in
+    own_same (kind == 0xf0) (nat_lt kind 0x40) (nat_lt kind 0x80) (nat_lt kind 0xc0) (field_of bytes 21 1)
+    (field_of all 21 1) n least (λ far. kept bytes more n 21 1 within (omega (arith, far))) in
     let own_is : own_size all ≡ own = ap (λ k. own_of k (field_of all 21 1)) kind_same ∙ id_same in
     let as_was : entry_size all ≡ size_of kind own (field_of all own 1) =
-    ap (λ k. size_of k (own_size all) (field_of all (own_size all) 1)) kind_same ∙ ap (λ o. size_of kind o (field_of all o 1)) own_is in
+    ap (λ k. size_of k (own_size all) (field_of all (own_size all) 1)) kind_same
+    ∙ ap (λ o. size_of kind o (field_of all o 1)) own_is in
     as_was ∙ size_again (starts kind) (field_of bytes own 1 == 4) (kind == 4) (field_of all own 1 == 4) own n e
     (λ far. ap (λ x. x == 4) (kept bytes more n own 1 within (omega (arith, far))))
 
@@ -290,12 +330,14 @@ pub all_pass : {X : Type 0} (xs : List X) → list_all (λ x. true) xs ≡ true
 all_pass [] = refl
 all_pass (x ∷ xs) = all_pass xs
 
-some_by : {X : Type 0} (b : Bool) (x : X) (xs : List X) (a : Bool) → a ≡ is_some (slice_get xs 0) → (b || a) ≡ is_some (slice_get (cond b (x ∷ xs) xs) 0)
+some_by : {X : Type 0} (b : Bool) (x : X) (xs : List X) (a : Bool) → a ≡ is_some (slice_get xs 0)
+    → (b || a) ≡ is_some (slice_get (cond b (x ∷ xs) xs) 0)
 some_by true x xs a e = refl
 some_by false x xs a e = e
 
 -- some piece passes if one is left of those that do
-pub some_passes : {X : Type 0} (test : X → Bool) (xs : List X) → list_any test xs ≡ is_some (slice_get (filter test xs) 0)
+pub some_passes : {X : Type 0} (test : X → Bool) (xs : List X)
+    → list_any test xs ≡ is_some (slice_get (filter test xs) 0)
 some_passes test [] = refl
 some_passes test (x ∷ xs) = some_by (test x) x (filter test xs) (list_any test xs) (some_passes test xs)
 
@@ -337,7 +379,8 @@ others (p ∷ path) (h ∷ hops) e =
 
 is_front_of : (path rest : List Hop) → is_front path (path ++ rest) ≡ true
 is_front_of [] rest = refl
-is_front_of (p ∷ path) rest = and_from (is_same_hop p p) (is_front path (path ++ rest)) (same_self p) (is_front_of path rest)
+is_front_of (p ∷ path) rest = and_from (is_same_hop p p) (is_front path (path ++ rest)) (same_self p)
+    (is_front_of path rest)
 
 pub front_is_front : FrontIsFront
 front_is_front path hops = (others path hops, λ r. rw r.1 (is_front_of path r.0))

@@ -7,3 +7,4 @@ pub mod IvrsEntries
 pub mod IvrsUnits
 pub mod Pieces
 pub mod Texts
+pub mod UnitLaws

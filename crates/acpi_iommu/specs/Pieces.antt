@@ -1,4 +1,5 @@
--- How bytes are cut into pieces, each of which says by its first bytes how long it is, and what a walk along them shows.
+-- How bytes are cut into pieces, each of which says by its first bytes how long it is, and what a walk along them
+-- shows.
 use Rattle.std.specs.Prelude.{◌≡◌, ◌↔◌, ℕ, zero, suc, ◌≤◌, ◌&&◌, ◌++◌, Bool, nat_le, List, [], length, take, drop, Option, Some, None, if◌then◌else◌}
 use Rattle.std.specs.List.{concat, AllByRecursion}
 use Rattle.acpi_base.specs.Entries.{with_entry}
@@ -25,7 +26,8 @@ IsPiece size p = front size p ≡ Some (length p)
 
 -- how long it is, a piece says in its own bytes, whatever comes after them
 abbrev pub SaysItself : (List ℕ → Option ℕ) → Type 0
-SaysItself size = (bytes more : List ℕ) (n : ℕ) → size bytes ≡ Some n → n ≤ length bytes → size (take n bytes ++ more) ≡ Some n
+SaysItself size = (bytes more : List ℕ) (n : ℕ) → size bytes ≡ Some n → n ≤ length bytes
+    → size (take n bytes ++ more) ≡ Some n
 
 -- ---- all pieces
 

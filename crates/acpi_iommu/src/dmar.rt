@@ -15,10 +15,10 @@ pub use fields::{Andd, Atsr, DmarFields, Drhd, Rhsa, Rmrr, Satc, Sidp};
 pub use reserved::ReservedIter;
 pub use scope::{DeviceScope, DeviceScopeIter, Hop, HopIter};
 pub use structure::{DmarStructure, DmarStructureIter};
-pub use units::{DmarCalls, DmarUnits, UnitSource};
+pub use units::{DmarUnits, UnitSource};
 
 /// The DMA Remapping Reporting Structure (DMAR, section 8.1). Its structures stand after 48 fixed bytes; `DmarUnits`
-/// reads them, and `DmarCalls` gives a mapping of it the same calls.
+/// reads them.
 #[derive(Debug, Drop)]
 pub struct Dmar {
     /// The header that every table begins with.

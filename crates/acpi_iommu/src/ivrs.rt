@@ -10,11 +10,11 @@ use acpi_base::sdt::SdtHeader;
 use acpi_base::table::sum_refusal;
 use acpi_base::{AcpiResult, AcpiTable, PhysicalRecord, Signature};
 pub use block::{Ivhd, Ivmd, IvrsBlock, IvrsBlockIter, IvrsFields};
-pub use blocks::{BestBlockIter, DeviceUnit, IvrsBlocks, IvrsCalls, MemoryIter};
+pub use blocks::{BestBlockIter, DeviceUnit, IvrsBlocks, MemoryIter};
 pub use entry::{DeviceEntry, DeviceEntryIter, SpecialDevice};
 
 /// The I/O Virtualization Reporting Structure (IVRS, section 5.2). Its blocks stand after 48 fixed bytes; `IvrsBlocks`
-/// reads them, and `IvrsCalls` gives a mapping of it the same calls.
+/// reads them.
 #[derive(Debug, Drop)]
 pub struct Ivrs {
     /// The header that every table begins with.

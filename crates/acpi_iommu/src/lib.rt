@@ -6,17 +6,15 @@
 pub mod dmar;
 pub mod error;
 pub mod ivrs;
-pub mod laws;
 mod pieces;
 mod texts;
 
 pub use dmar::{
-    Andd, Atsr, DeviceScope, DeviceScopeIter, Dmar, DmarCalls, DmarFields, DmarStructure,
-    DmarStructureIter, DmarUnits, Drhd, Hop, HopIter, ReservedIter, Rhsa, Rmrr, Satc, Sidp,
-    UnitSource,
+    Andd, Atsr, DeviceScope, DeviceScopeIter, Dmar, DmarFields, DmarStructure, DmarStructureIter,
+    DmarUnits, Drhd, Hop, HopIter, ReservedIter, Rhsa, Rmrr, Satc, Sidp, UnitSource,
 };
 pub use error::{IommuError, IommuResult};
 pub use ivrs::{
     BestBlockIter, DeviceEntry, DeviceEntryIter, DeviceUnit, Ivhd, Ivmd, Ivrs, IvrsBlock,
-    IvrsBlockIter, IvrsBlocks, IvrsCalls, IvrsFields, MemoryIter, SpecialDevice,
+    IvrsBlockIter, IvrsBlocks, IvrsFields, MemoryIter, SpecialDevice,
 };

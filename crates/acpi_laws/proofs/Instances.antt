@@ -7,20 +7,18 @@ use Rattle.acpi_base.specs.Bytes.{IsBytes, field_of, sum_of}
 use Rattle.acpi_base.specs.Memory.{AreApart, IsMemory, Memory, Region, end_of, at, rest_from}
 use Rattle.std.specs.Str.{chars, is_utf8}
 use Rattle.acpi_base.specs.Entries.{cut, front}
-use Rattle.acpi_laws.specs.TableExamples.{hpet, unnamed}
 use Rattle.acpi_base.specs.Header.{check_names, check_table, header_at}
 use Rattle.acpi_base.specs.Interrupts.{item_of}
 use Rattle.acpi_base.specs.Madt.{madt_at}
 use Rattle.acpi_base.specs.Table.{own_table_at, table_at}
 use Rattle.acpi_fixed.specs.Fadt.{fadt_at}
 use Rattle.acpi_fixed.specs.Registers.{block_at}
-use Rattle.acpi_laws.specs.Examples.{AreMemories, TheyDiffer, TheyList, bios, bios_here, bios_there, damaged, dsdt, fadt, here, madt, mcfg, memory, moved, rsdp, rsdt, ssdt, there, xsdt}
-use Rattle.acpi_laws.specs.ExampleLaws.{AskedInstance, DsdtInstance, FaultsInstance, HeadersInstance, HeadersMoved, HpetInstance, HpetMoved, LookupInstance, LookupMoved, MailboxInstance, OpenedByRsdpInstance, OpenedInstance, PlatformInstance, PlatformMoved, RegionsInstance, RegionsMoved, RsdpInstance, SsdtsInstance, OpenedBySearchInstance, SearchInstance, opened}
+use Rattle.acpi_laws.specs.Examples.{AreMemories, TheyDiffer, TheyList, bios, bios_here, bios_there, damaged, dsdt, fadt, here, hpet, madt, mcfg, memory, moved, rsdp, rsdt, ssdt, there, unnamed, xsdt}
+use Rattle.acpi_laws.specs.ExampleLaws.{Instances, MovedInstances, OpenedBySearchInstance, SearchInstance, opened}
 use Rattle.acpi.specs.Hpet.{hpet_at}
 use Rattle.acpi.specs.Lists.{own_header_at, stream_at}
 use Rattle.acpi.specs.Root.{pointers}
 use Rattle.acpi.specs.Rsdp.{check_first, check_sum, checked_length, rsdp_at, rsdp_of, root_of_rsdp}
-use Rattle.acpi_laws.specs.TableExamples as table
 use Rattle.acpi_base.specs.Ranges as ranges
 use Rattle.acpi_base.specs.Ranges.{AgreesOn, Ranges}
 use Rattle.acpi_base.specs.Steps.{◌>>=◌, lent}
@@ -69,156 +67,107 @@ memory_is (r ∷ m) e =
 
 pub are_memories : AreMemories
 unfolding memory bios moved rsdp rsdt xsdt fadt hpet madt mcfg ssdt dsdt unnamed damaged
-are_memories = (memory_is here refl, memory_is there refl, memory_is moved refl, memory_is bios_here refl, memory_is bios_there refl)
+are_memories = (
+  memory_is here refl,
+  memory_is there refl,
+  memory_is moved refl,
+  memory_is bios_here refl,
+  memory_is bios_there refl,
+)
 
 pub they_differ : TheyDiffer
 unfolding at rest_from bios memory rsdp rsdt fadt hpet madt mcfg ssdt dsdt unnamed damaged
-they_differ = (((refl, refl), ((refl, refl), ((refl, refl), ((refl, refl), ((refl, refl), ((refl, refl), ((refl, refl), ((refl, refl), ((refl, refl), ((refl, refl), tt)))))))))), ((refl, refl), ((refl, refl), ((refl, refl), ((refl, refl), ((refl, refl), ((refl, refl), ((refl, refl), ((refl, refl), ((refl, refl), ((refl, refl), ((refl, refl), ((refl, refl), tt)))))))))))))
+they_differ = ((refl, refl), (refl, refl))
 
 pub they_list : TheyList
-unfolding at rest_from table_at header_at check_names check_table field_of sum_of is_utf8 chars lib.Utf8.encode pointers memory rsdp rsdt fadt hpet madt mcfg ssdt dsdt unnamed damaged moved xsdt
+unfolding at rest_from table_at header_at check_names check_table field_of sum_of is_utf8 chars lib.Utf8.encode pointers
+    memory rsdp rsdt fadt hpet madt mcfg ssdt dsdt unnamed damaged moved xsdt
 they_list = (refl, refl)
 
--- ---- below a root table
+-- ---- over both memories
 
-pub lookup_instance : LookupInstance
-unfolding at rest_from table_at header_at check_names check_table field_of sum_of is_utf8 chars lib.Utf8.encode memory rsdp rsdt fadt hpet madt mcfg ssdt dsdt unnamed damaged
-lookup_instance = ((refl, (refl, (refl, (refl, tt)))), refl)
+pub instances : {A : Type 0} → Instances A
+unfolding at rest_from table_at own_table_at header_at check_names check_table field_of sum_of is_utf8 chars
+    lib.Utf8.encode own_header_at stream_at fadt_at block_at madt_at front cut item_of hpet_at rsdp_at rsdp_of
+    checked_length check_first check_sum pointers memory rsdp rsdt fadt hpet madt mcfg ssdt dsdt unnamed damaged
+instances = record {
+  table = ((refl, (refl, tt)), refl);
+  own_table = ((refl, (refl, tt)), refl);
+  other_table = ((refl, tt), refl);
+  unnamed_table = ((refl, tt), refl);
+  lookup = ((refl, (refl, (refl, (refl, tt)))), refl);
+  faults = ((refl, (refl, (refl, (refl, tt)))), refl);
+  headers = ((refl, (refl, (refl, (refl, (refl, (refl, (refl, (refl, (refl, (refl, (refl, tt))))))))))), refl);
+  ssdts = ((refl, (refl, (refl, (refl, (refl, (refl, (refl, (refl, tt)))))))), refl);
+  dsdt = ((refl, (refl, (refl, (refl, (refl, tt))))), refl);
+  platform = ((refl, (refl, (refl, (refl, (refl, (refl, (refl, (refl, tt)))))))), refl);
+  event_timers = ((refl, (refl, (refl, (refl, tt)))), refl);
+  regions = ((refl, (refl, (refl, (refl, (refl, (refl, tt)))))), refl);
+  mailbox = ((refl, (refl, (refl, (refl, (refl, tt))))), refl);
+  rsdp_there = ((refl, tt), refl);
+  root = ((refl, (refl, tt)), refl);
+  by_rsdp = ((refl, (refl, (refl, tt))), refl);
+  asked = refl;
+}
 
-pub faults_instance : FaultsInstance
-unfolding at rest_from table_at header_at check_names check_table field_of sum_of is_utf8 chars lib.Utf8.encode memory rsdp rsdt fadt hpet madt mcfg ssdt dsdt unnamed damaged
-faults_instance = ((refl, (refl, (refl, (refl, tt)))), refl)
-
-pub headers_instance : HeadersInstance
-unfolding at rest_from table_at header_at check_names check_table field_of sum_of is_utf8 chars lib.Utf8.encode own_table_at own_header_at memory rsdp rsdt fadt hpet madt mcfg ssdt dsdt unnamed damaged
-headers_instance = ((refl, (refl, (refl, (refl, (refl, (refl, (refl, (refl, (refl, (refl, (refl, tt))))))))))), refl)
-
-pub ssdts_instance : SsdtsInstance
-unfolding at rest_from table_at header_at check_names check_table field_of sum_of is_utf8 chars lib.Utf8.encode stream_at memory rsdp rsdt fadt hpet madt mcfg ssdt dsdt unnamed damaged
-ssdts_instance = ((refl, (refl, (refl, (refl, (refl, (refl, (refl, (refl, tt)))))))), refl)
-
-pub dsdt_instance : DsdtInstance
-unfolding at rest_from table_at header_at check_names check_table field_of sum_of is_utf8 chars lib.Utf8.encode stream_at fadt_at memory rsdp rsdt fadt hpet madt mcfg ssdt dsdt unnamed damaged
-dsdt_instance = ((refl, (refl, (refl, (refl, (refl, tt))))), refl)
-
-pub platform_instance : {A : Type 0} → PlatformInstance A
-unfolding at rest_from table_at header_at check_names check_table field_of sum_of is_utf8 chars lib.Utf8.encode fadt_at block_at madt_at front cut item_of memory rsdp rsdt fadt hpet madt mcfg ssdt dsdt unnamed damaged
-platform_instance = ((refl, (refl, (refl, (refl, (refl, (refl, (refl, (refl, tt)))))))), refl)
-
-pub hpet_instance : HpetInstance
-unfolding at rest_from table_at header_at check_names check_table field_of sum_of is_utf8 chars lib.Utf8.encode hpet_at memory rsdp rsdt fadt hpet madt mcfg ssdt dsdt unnamed damaged
-hpet_instance = ((refl, (refl, (refl, (refl, tt)))), refl)
-
-pub regions_instance : RegionsInstance
-unfolding at rest_from table_at header_at check_names check_table field_of sum_of is_utf8 chars lib.Utf8.encode memory rsdp rsdt fadt hpet madt mcfg ssdt dsdt unnamed damaged
-regions_instance = ((refl, (refl, (refl, (refl, (refl, (refl, tt)))))), refl)
-
-pub mailbox_instance : MailboxInstance
-unfolding at rest_from table_at header_at check_names check_table field_of sum_of is_utf8 chars lib.Utf8.encode front cut memory rsdp rsdt fadt hpet madt mcfg ssdt dsdt unnamed damaged
-mailbox_instance = ((refl, (refl, (refl, (refl, (refl, tt))))), refl)
-
--- ---- what leads to a root table
-
-pub rsdp_instance : RsdpInstance
-unfolding at rest_from table_at header_at check_names check_table field_of sum_of is_utf8 chars lib.Utf8.encode rsdp_at rsdp_of checked_length check_first check_sum memory rsdp rsdt fadt hpet madt mcfg ssdt dsdt unnamed damaged
-rsdp_instance = ((refl, tt), refl)
-
-pub opened_instance : OpenedInstance
-unfolding at rest_from table_at header_at check_names check_table field_of sum_of is_utf8 chars lib.Utf8.encode memory rsdp rsdt fadt hpet madt mcfg ssdt dsdt unnamed damaged
-opened_instance = ((refl, (refl, tt)), refl)
-
-pub asked_instance : AskedInstance
-unfolding at rest_from table_at header_at check_names check_table field_of sum_of is_utf8 chars lib.Utf8.encode pointers memory rsdp rsdt fadt hpet madt mcfg ssdt dsdt unnamed damaged
-asked_instance = refl
-
-pub opened_by_rsdp_instance : OpenedByRsdpInstance
-unfolding at rest_from table_at header_at check_names check_table field_of sum_of is_utf8 chars lib.Utf8.encode rsdp_at rsdp_of checked_length check_first check_sum memory rsdp rsdt fadt hpet madt mcfg ssdt dsdt unnamed damaged
-opened_by_rsdp_instance = ((refl, (refl, (refl, tt))), refl)
-
--- ---- the same tables elsewhere
-
-pub lookup_moved : LookupMoved
-unfolding at rest_from table_at header_at check_names check_table field_of sum_of is_utf8 chars lib.Utf8.encode own_table_at memory rsdp rsdt fadt hpet madt mcfg ssdt dsdt unnamed damaged moved xsdt
-lookup_moved = (refl, refl, refl)
-
-pub headers_moved : HeadersMoved
-unfolding at rest_from table_at header_at check_names check_table field_of sum_of is_utf8 chars lib.Utf8.encode own_table_at own_header_at memory rsdp rsdt fadt hpet madt mcfg ssdt dsdt unnamed damaged moved xsdt
-headers_moved = (refl, refl, refl)
-
-pub platform_moved : {A : Type 0} → PlatformMoved A
-unfolding at rest_from table_at header_at check_names check_table field_of sum_of is_utf8 chars lib.Utf8.encode own_table_at fadt_at block_at madt_at front cut item_of memory rsdp rsdt fadt hpet madt mcfg ssdt dsdt unnamed damaged moved xsdt
-platform_moved = (refl, refl, refl)
-
-pub hpet_moved : HpetMoved
-unfolding at rest_from table_at header_at check_names check_table field_of sum_of is_utf8 chars lib.Utf8.encode own_table_at hpet_at memory rsdp rsdt fadt hpet madt mcfg ssdt dsdt unnamed damaged moved xsdt
-hpet_moved = (refl, refl, refl)
-
-pub regions_moved : RegionsMoved
-unfolding at rest_from table_at header_at check_names check_table field_of sum_of is_utf8 chars lib.Utf8.encode own_table_at memory rsdp rsdt fadt hpet madt mcfg ssdt dsdt unnamed damaged moved xsdt
-regions_moved = (refl, refl, refl)
-
--- ---- a table at an address
-
-pub tables_are_memories : table.AreMemories
-unfolding table.memory hpet unnamed
-tables_are_memories = (memory_is table.here refl, memory_is table.there refl)
-
-pub tables_differ : table.TheyDiffer
-unfolding at rest_from table.memory hpet unnamed
-tables_differ = ((refl, refl), ((refl, refl), ((refl, refl), ((refl, refl), tt))))
-
-pub table_instance : table.TableInstance
-unfolding at rest_from table_at header_at check_names check_table field_of sum_of is_utf8 chars lib.Utf8.encode table.memory hpet unnamed
-table_instance = ((refl, (refl, tt)), refl)
-
-pub own_table_instance : table.OwnTableInstance
-unfolding at rest_from table_at own_table_at header_at check_names check_table field_of sum_of is_utf8 chars lib.Utf8.encode table.memory hpet unnamed
-own_table_instance = ((refl, (refl, tt)), refl)
-
-pub other_table_instance : table.OtherTableInstance
-unfolding at rest_from table_at header_at check_names field_of is_utf8 chars lib.Utf8.encode table.memory hpet unnamed
-other_table_instance = ((refl, tt), refl)
-
-pub unnamed_table_instance : table.UnnamedTableInstance
-unfolding at rest_from table_at own_table_at header_at check_names field_of is_utf8 chars lib.Utf8.encode table.memory hpet unnamed
-unnamed_table_instance = ((refl, tt), refl)
+pub moved_instances : {A : Type 0} → MovedInstances A
+unfolding at rest_from table_at own_table_at header_at check_names check_table field_of sum_of is_utf8 chars
+    lib.Utf8.encode own_header_at fadt_at block_at madt_at front cut item_of hpet_at memory rsdp rsdt fadt hpet madt
+    mcfg ssdt dsdt unnamed damaged moved xsdt
+moved_instances = record {
+  lookup = (refl, refl, refl);
+  headers = (refl, refl, refl);
+  platform = (refl, refl, refl);
+  event_timers = (refl, refl, refl);
+  regions = (refl, refl, refl);
+}
 
 -- ---- the search of the BIOS areas that are written out: the first candidate is valid. How many there are after it is
 -- left open, since antt would compute all of them
 
-found_there : (m : Memory) (s : _) (n : ℕ) (area b : List ℕ) → count_of s ≡ suc n → lent m s.start (room_of s) ≡ Ok area → rsdp_at m s.start ≡ Ok b
+found_there : (m : Memory) (s : _) (n : ℕ) (area b : List ℕ) → count_of s ≡ suc n → lent m s.start (room_of s) ≡ Ok area
+    → rsdp_at m s.start ≡ Ok b
     → found_in m s ≡ Ok (Some (s.start, b))
 unfolding found_in
 found_there m s n area b count there valid = rw (there, count, valid) refl
 
-ranges_there : (m : Memory) (s : _) (n : ℕ) (area b : List ℕ) → count_of s ≡ suc n → lent m s.start (room_of s) ≡ Ok area → rsdp_at m s.start ≡ Ok b
+ranges_there : (m : Memory) (s : _) (n : ℕ) (area b : List ℕ) → count_of s ≡ suc n
+    → lent m s.start (room_of s) ≡ Ok area → rsdp_at m s.start ≡ Ok b
     → area_ranges m s ≡ (s.start, room_of s) ∷ (rsdp_ranges m s.start ++ [])
 ranges_there m s n area b count there valid = rw (there, count, valid) refl
 
 -- the ranges after the word's
-behind_word : (second : ℕ → Ranges) (w : Result ℕ AcpiError) (f : Result (Option (ℕ × List ℕ)) AcpiError) (a b : Ranges) (word : ℕ) (found : ℕ × List ℕ)
-    → w ≡ Ok word → f ≡ Ok (Some found) → a ≡ b → ranges.◌>>=◌ w (λ word. a ++ ranges.◌>>=◌ f (λ first. or_else_ranges first (second word))) ≡ b ++ []
+behind_word : (second : ℕ → Ranges) (w : Result ℕ AcpiError) (f : Result (Option (ℕ × List ℕ)) AcpiError) (a b : Ranges)
+    (word : ℕ) (found : ℕ × List ℕ)
+    → w ≡ Ok word → f ≡ Ok (Some found) → a ≡ b
+    → ranges.◌>>=◌ w (λ word. a ++ ranges.◌>>=◌ f (λ first. or_else_ranges first (second word))) ≡ b ++ []
 behind_word second w f a b word found named there same = rw (named, there, same) refl
 
-ranges_are : (m : Memory) (s : _) (n word : ℕ) (area b : List ℕ) → count_of s ≡ suc n → word_in m ≡ Ok word → lent m s.start (room_of s) ≡ Ok area → rsdp_at m s.start ≡ Ok b
-    → ranges.◌>>=◌ (word_in m) (λ word. area_ranges m s ++ ranges.◌>>=◌ (found_in m s) (λ first. or_else_ranges first (area_ranges m (second_area word))))
+ranges_are : (m : Memory) (s : _) (n word : ℕ) (area b : List ℕ) → count_of s ≡ suc n → word_in m ≡ Ok word
+    → lent m s.start (room_of s) ≡ Ok area → rsdp_at m s.start ≡ Ok b
+    → ranges.◌>>=◌ (word_in m) (λ word. area_ranges m s ++ ranges.◌>>=◌ (found_in m s)
+    (λ first. or_else_ranges first (area_ranges m (second_area word))))
     ≡ (s.start, room_of s) ∷ ((rsdp_ranges m s.start ++ []) ++ [])
 ranges_are m s n word area b count named there valid =
-    behind_word (λ word. area_ranges m (second_area word)) (word_in m) (found_in m s) (area_ranges m s) _ word (s.start, b) named
+    behind_word (λ word. area_ranges m (second_area word)) (word_in m) (found_in m s) (area_ranges m s) _ word
+        (s.start, b) named
     (found_there m s n area b count there valid) (ranges_there m s n area b count there valid)
 
 agrees_by : (m k : Memory) (r s : Ranges) → r ≡ s → AgreesOn m k s → AgreesOn m k r
 agrees_by m k r s same h = rw same h
 
 -- what a search finds opens
-behind_search : (m k : Memory) (r s : Ranges) (q : Result (ℕ × List ℕ) AcpiError) (found : ℕ × List ℕ) → r ≡ s → q ≡ Ok found → AgreesOn m k (s ++ opened_ranges m (root_of_rsdp found.1))
+behind_search : (m k : Memory) (r s : Ranges) (q : Result (ℕ × List ℕ) AcpiError) (found : ℕ × List ℕ) → r ≡ s
+    → q ≡ Ok found → AgreesOn m k (s ++ opened_ranges m (root_of_rsdp found.1))
     → AgreesOn m k (r ++ ranges.◌>>=◌ q (λ f. opened_ranges m (root_of_rsdp f.1)))
 behind_search m k r s q found same there h = rw (same, there) h
 
-opened_is : (m : Memory) (q : Result (ℕ × List ℕ) AcpiError) (found : ℕ × List ℕ) → q ≡ Ok found → (q >>= λ f. opened_from m (root_of_rsdp f.1)) ≡ opened_from m (root_of_rsdp found.1)
+opened_is : (m : Memory) (q : Result (ℕ × List ℕ) AcpiError) (found : ℕ × List ℕ) → q ≡ Ok found
+    → (q >>= λ f. opened_from m (root_of_rsdp f.1)) ≡ opened_from m (root_of_rsdp found.1)
 opened_is m q found there = rw there refl
 
-found_is : (m : Memory) (n word : ℕ) (area b : List ℕ) → count_of first_area ≡ suc n → word_in m ≡ Ok word → lent m first_area.start (room_of first_area) ≡ Ok area
+found_is : (m : Memory) (n word : ℕ) (area b : List ℕ) → count_of first_area ≡ suc n → word_in m ≡ Ok word
+    → lent m first_area.start (room_of first_area) ≡ Ok area
     → rsdp_at m first_area.start ≡ Ok b → found_rsdp m ≡ Ok (first_area.start, b)
 unfolding found_rsdp
 found_is m n word area b count named there valid = rw (named, found_there m first_area n area b count there valid) refl
@@ -234,7 +183,8 @@ unfolding at rest_from bios memory rsdp rsdt fadt hpet madt mcfg ssdt dsdt unnam
 area_is = refl
 
 rsdp_is : rsdp_at bios_here 0xe0000 ≡ Ok rsdp
-unfolding at rest_from rsdp_at rsdp_of checked_length check_first check_sum field_of sum_of is_utf8 chars lib.Utf8.encode bios memory rsdp rsdt fadt hpet madt mcfg ssdt dsdt unnamed damaged
+unfolding at rest_from rsdp_at rsdp_of checked_length check_first check_sum field_of sum_of is_utf8 chars
+    lib.Utf8.encode bios memory rsdp rsdt fadt hpet madt mcfg ssdt dsdt unnamed damaged
 rsdp_is = refl
 
 searched : Ranges
@@ -244,12 +194,14 @@ found_here : found_rsdp bios_here ≡ Ok (0xe0000, rsdp)
 found_here = found_is bios_here 8190 0 _ rsdp refl word_is area_is rsdp_is
 
 rest_is : (0xe0000, 131088) ∷ ((rsdp_ranges bios_here 0xe0000 ++ []) ++ []) ≡ drop 1 searched
-unfolding searched at rest_from rsdp_of checked_length check_first check_sum field_of sum_of is_utf8 chars lib.Utf8.encode bios memory rsdp rsdt fadt hpet madt mcfg ssdt dsdt unnamed damaged
+unfolding searched at rest_from rsdp_of checked_length check_first check_sum field_of sum_of is_utf8 chars
+    lib.Utf8.encode bios memory rsdp rsdt fadt hpet madt mcfg ssdt dsdt unnamed damaged
 rest_is = refl
 
 searched_is : search_ranges bios_here ≡ searched
 unfolding searched
-searched_is = ap (λ r. (0x40e, 2) ∷ r) (ranges_are bios_here first_area 8190 0 _ rsdp refl word_is area_is rsdp_is ∙ rest_is)
+searched_is = ap (λ r. (0x40e, 2) ∷ r) (ranges_are bios_here first_area 8190 0 _ rsdp refl word_is area_is
+    rsdp_is ∙ rest_is)
 
 they_agree : AgreesOn bios_here bios_there searched
 unfolding searched at rest_from bios memory rsdp rsdt fadt hpet madt mcfg ssdt dsdt unnamed damaged
@@ -261,15 +213,18 @@ search_instance = (agrees_by bios_here bios_there (search_ranges bios_here) sear
 -- what it opens
 
 root_is : opened_from bios_here (root_of_rsdp rsdp) ≡ Ok opened
-unfolding at rest_from table_at header_at check_names check_table field_of sum_of is_utf8 chars lib.Utf8.encode rsdp_of bios memory rsdp rsdt fadt hpet madt mcfg ssdt dsdt unnamed damaged
+unfolding at rest_from table_at header_at check_names check_table field_of sum_of is_utf8 chars lib.Utf8.encode rsdp_of
+    bios memory rsdp rsdt fadt hpet madt mcfg ssdt dsdt unnamed damaged
 root_is = refl
 
 they_agree_below : AgreesOn bios_here bios_there (searched ++ opened_ranges bios_here (root_of_rsdp rsdp))
-unfolding searched at rest_from header_at check_names field_of is_utf8 chars lib.Utf8.encode rsdp_of bios memory rsdp rsdt fadt hpet madt mcfg ssdt dsdt unnamed damaged
+unfolding searched at rest_from header_at check_names field_of is_utf8 chars lib.Utf8.encode rsdp_of bios memory rsdp
+    rsdt fadt hpet madt mcfg ssdt dsdt unnamed damaged
 they_agree_below = (refl, (refl, (refl, (refl, (refl, tt)))))
 
 pub opened_by_search_instance : OpenedBySearchInstance
 opened_by_search_instance = (
-  behind_search bios_here bios_there (search_ranges bios_here) searched (found_rsdp bios_here) (0xe0000, rsdp) searched_is found_here they_agree_below,
+  behind_search bios_here bios_there (search_ranges bios_here) searched (found_rsdp bios_here) (0xe0000, rsdp)
+      searched_is found_here they_agree_below,
   opened_is bios_here (found_rsdp bios_here) (0xe0000, rsdp) found_here ∙ root_is,
 )

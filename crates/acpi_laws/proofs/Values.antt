@@ -1,4 +1,4 @@
--- Decoding a code gives the one value whose code it is, and values compare as equal exactly if they are one.
+-- Decoding a code gives the one value whose code it is, and the registers of a FADT are those of its bytes.
 use Rattle.std.proofs.Common.{◌≡◌, ℕ, Bool, true, false, List, [], ◌∷◌, Option, Some, None, Result, Ok, Err, refl, rules}
 use Rattle.std.specs.Prelude.{cond, find, nat_le, ◌==◌}
 use Rattle.std.specs.List.{AllByRecursion}
@@ -10,34 +10,31 @@ use Rattle.acpi_base.specs.declared.address.AddressSpace.TheVariants.{SystemMemo
 use Rattle.acpi_base.specs.declared.address.AccessSize.{AccessSize}
 use Rattle.acpi_base.specs.declared.address.AccessSize.TheVariants.{Undefined, ByteAccess, WordAccess, DWordAccess, QWordAccess}
 use Rattle.acpi_base.specs.Address.{access_size_of, access_sizes, named_spaces, size_code, space_code, space_of}
-use Rattle.acpi_laws.specs.CodeLaws.{HasSpaceCode, SizesDecode, SpacesDecode}
+use Rattle.acpi_fixed.specs.Fadt.{fadt_at}
+use Rattle.acpi_laws.specs.CodeLaws.{HasSpaceCode, RegistersAreTheTables, SizesDecode, SpacesDecode}
 use Rattle.std.specs.Option.{ok_or}
-use mathlib.Core.Bool.{beq}
-use Rattle.acpi_base.proofs.Equalities.{addresses_are, errors_are, made, numbers_are, pairs}
-use Rattle.acpi_base.specs.declared.address.GenericAddress.{GenericAddress}
-use Rattle.acpi_base.specs.Equality.{IsEquality}
-use Rattle.acpi.specs.declared.platform.timer.PmTimer.{PmTimer}
-use Rattle.acpi.specs.declared.records.TableFault.{TableFault}
-use Rattle.acpi.specs.contracts.platform.timer.PmTimerPartialEq.TheImpl as timers
-use Rattle.acpi.specs.contracts.records.TableFaultPartialEq.TheImpl as faults
 
 -- the value of this code in a list, or the refusal
 abbrev searched : {A : Type 0} → (A → ℕ) → List A → ℕ → Result A AcpiError
 searched code_of xs code = ok_or (find (λ x. code_of x == code) xs) InvalidGenericAddress
 
-found_first : {A : Type 0} (P : A → Type 0) (code_of : A → ℕ) (code : ℕ) (y : A) (ys : List A) (x : A) (b : Bool) → (code_of y == code) ≡ b → P y
-    → (searched code_of ys code ≡ Ok x → P x × (code_of x ≡ code)) → ok_or (cond b (Some y) (find (λ z. code_of z == code) ys)) InvalidGenericAddress ≡ Ok x → P x × (code_of x ≡ code)
+found_first : {A : Type 0} (P : A → Type 0) (code_of : A → ℕ) (code : ℕ) (y : A) (ys : List A) (x : A) (b : Bool)
+    → (code_of y == code) ≡ b → P y
+    → (searched code_of ys code ≡ Ok x → P x × (code_of x ≡ code))
+    → ok_or (cond b (Some y) (find (λ z. code_of z == code) ys)) InvalidGenericAddress ≡ Ok x → P x × (code_of x ≡ code)
 found_first P code_of code y ys x true same here later e =
     let first : y ≡ x = cc in
     rw (← first) (here, eqb-true _ _ same)
 found_first P code_of code y ys x false same here later e = later e
 
-found_is : {A : Type 0} (P : A → Type 0) (code_of : A → ℕ) (code : ℕ) (xs : List A) (x : A) → AllByRecursion P xs → searched code_of xs code ≡ Ok x → P x × (code_of x ≡ code)
+found_is : {A : Type 0} (P : A → Type 0) (code_of : A → ℕ) (code : ℕ) (xs : List A) (x : A) → AllByRecursion P xs
+    → searched code_of xs code ≡ Ok x → P x × (code_of x ≡ code)
 found_is P code_of code [] x all e = absurd cc
 found_is P code_of code (y ∷ ys) x all e =
     found_first P code_of code y ys x (code_of y == code) refl all.0 (found_is P code_of code ys x all.1) e
 
-refused_first : {A : Type 0} (o : Option A) (e : AcpiError) → ok_or o InvalidGenericAddress ≡ Err e → e ≡ InvalidGenericAddress
+refused_first : {A : Type 0} (o : Option A) (e : AcpiError) → ok_or o InvalidGenericAddress ≡ Err e
+    → e ≡ InvalidGenericAddress
 refused_first None e h = cc
 refused_first (Some x) e h = absurd cc
 
@@ -58,14 +55,18 @@ each_space PlatformCommunicationsChannel h = refl
 each_space FunctionalFixedHardware h = refl
 each_space (OemDefined code) h = rw (le-leb _ _ h) refl
 
-only_space : (code : ℕ) (s : AddressSpace) (b : Bool) → nat_le 0xc0 code ≡ b → cond b (Ok (OemDefined code)) (searched space_code named_spaces code) ≡ Ok s → HasSpaceCode s × (space_code s ≡ code)
+only_space : (code : ℕ) (s : AddressSpace) (b : Bool) → nat_le 0xc0 code ≡ b
+    → cond b (Ok (OemDefined code)) (searched space_code named_spaces code) ≡ Ok s
+    → HasSpaceCode s × (space_code s ≡ code)
 only_space code s true own e =
     let same : OemDefined code ≡ s = cc in
     rw (← same) (leb-true _ _ own, refl)
 only_space code s false named e =
-    found_is HasSpaceCode space_code code named_spaces s (tt, (tt, (tt, (tt, (tt, (tt, (tt, (tt, (tt, (tt, (tt, (tt, tt)))))))))))) e
+    found_is HasSpaceCode space_code code named_spaces s
+        (tt, (tt, (tt, (tt, (tt, (tt, (tt, (tt, (tt, (tt, (tt, (tt, tt)))))))))))) e
 
-space_refusal : (code : ℕ) (e : AcpiError) (b : Bool) → cond b (Ok (OemDefined code)) (searched space_code named_spaces code) ≡ Err e → e ≡ InvalidGenericAddress
+space_refusal : (code : ℕ) (e : AcpiError) (b : Bool)
+    → cond b (Ok (OemDefined code)) (searched space_code named_spaces code) ≡ Err e → e ≡ InvalidGenericAddress
 space_refusal code e true h = absurd cc
 space_refusal code e false h = refused_first _ e h
 
@@ -88,34 +89,13 @@ each_size QWordAccess = refl
 pub sizes_decode : SizesDecode
 sizes_decode = record {
   each = λ s h. each_size s;
-  only = λ code s e. found_is (λ (x : AccessSize). Unit {0}) size_code code access_sizes s (tt, (tt, (tt, (tt, (tt, tt))))) e;
+  only = λ code s e. found_is (λ (x : AccessSize). Unit {0}) size_code code access_sizes s
+      (tt, (tt, (tt, (tt, (tt, tt))))) e;
   refusal = λ code e h. refused_first _ e h;
 }
 
--- ---- timers and faults compare as equal exactly if they are one
+-- ---- registers
 
-bools_are : (x y : Bool) → IsEquality (beq x y) x y
-bools_are true true = search rules
-bools_are true false = search rules
-bools_are false true = search rules
-bools_are false false = search rules
-
-abbrev timer_parts : PmTimer → GenericAddress × Bool
-timer_parts t = (t.base, t.supports_32bit)
-
-abbrev timer_of : GenericAddress × Bool → PmTimer
-timer_of p = record { base = p.0; supports_32bit = p.1 }
-
-pub timers_are : (x y : PmTimer) → IsEquality (timers.ghosts.eq x y) x y
-timers_are x y =
-    made timer_parts timer_of _ x y refl refl (pairs _ _ _ _ _ _ (addresses_are x.base y.base) (bools_are x.supports_32bit y.supports_32bit))
-
-abbrev fault_parts : TableFault → ℕ × AcpiError
-fault_parts t = (t.address, t.error)
-
-abbrev fault_of : ℕ × AcpiError → TableFault
-fault_of p = record { address = p.0; error = p.1 }
-
-pub faults_are : (x y : TableFault) → IsEquality (faults.ghosts.eq x y) x y
-faults_are x y =
-    made fault_parts fault_of _ x y refl refl (pairs _ _ _ _ _ _ (numbers_are x.address y.address) (errors_are x.error y.error))
+pub registers_are : RegistersAreTheTables
+unfolding fadt_at
+registers_are table = refl

@@ -1,11 +1,13 @@
--- What holds of the codes in generic addresses.
-use Rattle.std.specs.Prelude.{◌≡◌, ℕ, ◌≤◌, Result, Ok, Err}
+-- What holds of the codes in generic addresses, and of the registers of a FADT.
+use Rattle.std.specs.Prelude.{◌≡◌, ℕ, ◌≤◌, List, Result, Ok, Err}
 use Rattle.acpi_base.specs.Address.{access_size_of, size_code, space_code, space_of}
 use Rattle.acpi_base.specs.declared.address.AccessSize.{AccessSize}
 use Rattle.acpi_base.specs.declared.address.AddressSpace.{AddressSpace}
 use Rattle.acpi_base.specs.declared.address.AddressSpace.TheVariants.{OemDefined}
 use Rattle.acpi_base.specs.declared.error.AcpiError.{AcpiError}
 use Rattle.acpi_base.specs.declared.error.AcpiError.TheVariants.{InvalidGenericAddress}
+use Rattle.acpi_fixed.specs.Fadt.{fadt_at, registers_of}
+use Rattle.acpi_fixed.specs.Registers.{registers_at}
 
 -- decoding gives the one value whose code that is, and refuses a code that none has
 pub record IsInverse {A : Type 0} (HasCode : A → Type 0) (code_of : A → ℕ)
@@ -24,3 +26,7 @@ SpacesDecode = IsInverse HasSpaceCode space_code space_of
 
 abbrev pub SizesDecode : Type 0
 SizesDecode = IsInverse (λ (s : AccessSize). Unit {0}) size_code access_size_of
+
+-- the registers in the record of a FADT are those that its bytes give
+abbrev pub RegistersAreTheTables : Type 0
+RegistersAreTheTables = (table : List ℕ) → registers_of (fadt_at table) ≡ registers_at table

@@ -1,19 +1,19 @@
--- The laws of ranges and of relocation, each at the memories that are written out.
-use Rattle.std.specs.Prelude.{◌≡◌, ℕ, true, false, List, [], ◌∷◌, map, Some, Ok}
+-- The laws of ranges and of relocation, each at the memories that are written out: an example shows that a law isn't
+-- empty. The lemmas `instances` and `moved_instances` show them.
+use Rattle.std.specs.Prelude.{◌≡◌, ℕ, true, false, List, [], ◌∷◌, map, Some, Ok, Err}
 use Rattle.acpi_base.specs.declared.address.AccessSize.TheVariants.{Undefined}
 use Rattle.acpi_base.specs.declared.address.AddressSpace.TheVariants.{SystemIo}
-use Rattle.acpi_base.specs.declared.error.AcpiError.TheVariants.{SdtInvalidOemId}
+use Rattle.acpi_base.specs.declared.error.AcpiError.TheVariants.{SdtInvalidOemId, SdtInvalidSignature}
 use Rattle.acpi_base.specs.declared.tables.mcfg.McfgEntry.{McfgEntry}
 use Rattle.acpi_base.specs.declared.model.interrupt.InterruptModel.TheVariants.{Apic}
 use Rattle.acpi_base.specs.declared.model.processor.ProcessorState.TheVariants.{Running}
-use Rattle.acpi_base.specs.declared.table.signature.TheConstants.Signature.{HPET}
-use Rattle.acpi_laws.specs.TableExamples.{Instance, hpet}
+use Rattle.acpi_base.specs.declared.table.signature.TheConstants.Signature.{FADT, HPET}
 use Rattle.acpi_base.specs.Header.{header_at}
 use Rattle.acpi_base.specs.Memory.{Memory}
-use Rattle.acpi_base.specs.Ranges.{AgreesOn, Ranges}
+use Rattle.acpi_base.specs.Ranges.{AgreesOn, Ranges, own_table_ranges, table_ranges}
+use Rattle.acpi_base.specs.Table.{own_table_at, plain_kind, table_at}
 use Rattle.acpi_fixed.specs.declared.fadt.PowerProfile.TheVariants.{Desktop}
-use Rattle.acpi_laws.specs.Examples.{bios_here, bios_there, here, listed, more, moved}
-use Rattle.acpi_laws.specs.Examples.{moved_pointers, rsdp, rsdt, tables, there}
+use Rattle.acpi_laws.specs.Examples.{bios_here, bios_there, here, hpet, listed, more, moved, moved_pointers, rsdp, rsdt, tables, there}
 use Rattle.acpi.specs.Footprint.{dsdt_ranges, header_ranges, lookup_ranges, platform_ranges}
 use Rattle.acpi.specs.Footprint.{ssdt_ranges}
 use Rattle.acpi.specs.Hpet.{hpet_kind, hpet_of}
@@ -90,69 +90,52 @@ said_of_platform = record {
 abbrev pub opened : Opened
 opened = record { revision = 0; kind = Rsdt; address = 0x1000; root = rsdt }
 
--- ---- below a root table
+-- ---- what is the same over both memories that differ
 
--- a definition over pointers, at the two memories that differ
-abbrev pub At : {A : Type 0} → (Memory → List ℕ → Ranges) → (Memory → List ℕ → A)
-    → List ℕ → A → Type 0
-At ranges defined ps answer = Instance here there ranges defined ps answer
+-- two memories agree on a definition's ranges, and this is what it says there
+abbrev pub Instance : {X A : Type 0} → Memory → Memory → (Memory → X → Ranges) → (Memory → X → A) → X → A → Type 0
+Instance m n ranges defined x answer = AgreesOn m n (ranges m x) × (defined m x ≡ answer)
 
-abbrev pub LookupInstance : Type 0
-LookupInstance =
-    At (λ m. lookup_ranges m hpet_kind) (λ m. lookup m hpet_kind) more (Ok (0x4000, hpet))
+abbrev pub At : {X A : Type 0} → (Memory → X → Ranges) → (Memory → X → A) → X → A → Type 0
+At ranges defined x answer = Instance here there ranges defined x answer
 
-abbrev pub FaultsInstance : Type 0
-FaultsInstance = At (λ m. lookup_ranges m hpet_kind) (λ m. faults_of m hpet_kind) more
-    (record { address = 0x2000; error = SdtInvalidOemId HPET } ∷ [])
+pub record Instances (A : Type 0) : Type 0 where
+  -- a table under a signature, and under the one that it has; one of another signature, and one whose id is not text
+  pub table : At (λ m. table_ranges m (plain_kind HPET)) (λ m. table_at m (plain_kind HPET)) 0x4000 (Ok hpet)
+  pub own_table : At own_table_ranges own_table_at 0x4000 (Ok hpet)
+  pub other_table :
+      At (λ m. table_ranges m (plain_kind FADT)) (λ m. table_at m (plain_kind FADT)) 0x2000
+          (Err (SdtInvalidSignature FADT))
+  pub unnamed_table : At own_table_ranges own_table_at 0x2000 (Err (SdtInvalidOemId HPET))
+  -- below a root table
+  pub lookup : At (λ m. lookup_ranges m hpet_kind) (λ m. lookup m hpet_kind) more (Ok (0x4000, hpet))
+  pub faults :
+      At (λ m. lookup_ranges m hpet_kind) (λ m. faults_of m hpet_kind) more
+      (record { address = 0x2000; error = SdtInvalidOemId HPET } ∷ [])
+  pub headers : At header_ranges valid_headers listed (map header_at tables)
+  pub ssdts : At ssdt_ranges ssdt_streams more (record { address = 0x7024; length = 2 } ∷ [])
+  pub dsdt : At dsdt_ranges dsdt_stream more (Ok (record { address = 0x8024; length = 4 }))
+  pub platform : At platform_ranges (λ m ps. platform_of {A = A} m ps) more (Ok said_of_platform)
+  pub event_timers : At (λ m. lookup_ranges m hpet_kind) hpet_of more (Ok said_of_timers)
+  pub regions : At (λ m. lookup_ranges m mcfg_kind) found_regions more (Ok said_of_regions)
+  pub mailbox : At (λ m. lookup_ranges m madt_kind) mailbox_found more (Ok 0xa000)
+  -- what leads to a root table
+  pub rsdp_there : At rsdp_ranges rsdp_at 0x500 (Ok rsdp)
+  pub root : At opened_ranges opened_from (root_pointer 0 Rsdt 0x1000) (Ok opened)
+  pub by_rsdp : At opened_by_rsdp_ranges opened_by_rsdp 0x500 (Ok opened)
+  -- what may be asked for to open the RSDT and to look the HPET up: of the table whose id is refused and of the FADT
+  -- the header, and nothing after the HPET
+  pub asked :
+      root_and_ranges here (root_pointer 0 Rsdt 0x1000) (λ m. lookup_ranges m hpet_kind)
+      ≡ (0x1000, 36) ∷ (0x1000, 60) ∷ (0x2000, 36) ∷ (0x3000, 36) ∷ (0x4000, 36) ∷ (0x4000, 56) ∷ []
 
-abbrev pub HeadersInstance : Type 0
-HeadersInstance = At header_ranges valid_headers listed (map header_at tables)
-
-abbrev pub SsdtsInstance : Type 0
-SsdtsInstance = At ssdt_ranges ssdt_streams more (record { address = 0x7024; length = 2 } ∷ [])
-
-abbrev pub DsdtInstance : Type 0
-DsdtInstance = At dsdt_ranges dsdt_stream more (Ok (record { address = 0x8024; length = 4 }))
-
-abbrev pub PlatformInstance : Type 0 → Type 0
-PlatformInstance A =
-    At platform_ranges (λ m ps. platform_of {A = A} m ps) more (Ok said_of_platform)
-
-abbrev pub HpetInstance : Type 0
-HpetInstance = At (λ m. lookup_ranges m hpet_kind) hpet_of more (Ok said_of_timers)
-
-abbrev pub RegionsInstance : Type 0
-RegionsInstance = At (λ m. lookup_ranges m mcfg_kind) found_regions more (Ok said_of_regions)
-
-abbrev pub MailboxInstance : Type 0
-MailboxInstance = At (λ m. lookup_ranges m madt_kind) mailbox_found more (Ok 0xa000)
-
--- ---- what leads to a root table
-
-abbrev pub RsdpInstance : Type 0
-RsdpInstance = Instance here there rsdp_ranges rsdp_at 0x500 (Ok rsdp)
-
-abbrev pub OpenedInstance : Type 0
-OpenedInstance =
-    Instance here there opened_ranges opened_from (root_pointer 0 Rsdt 0x1000) (Ok opened)
-
--- what may be asked for to open the RSDT and to look the HPET up: of the table whose id is refused
--- and of the FADT the header, and nothing after the HPET
-abbrev pub AskedInstance : Type 0
-AskedInstance =
-    root_and_ranges here (root_pointer 0 Rsdt 0x1000) (λ m. lookup_ranges m hpet_kind)
-    ≡ (0x1000, 36) ∷ (0x1000, 60) ∷ (0x2000, 36) ∷ (0x3000, 36) ∷ (0x4000, 36) ∷ (0x4000, 56) ∷ []
-
-abbrev pub OpenedByRsdpInstance : Type 0
-OpenedByRsdpInstance = Instance here there opened_by_rsdp_ranges opened_by_rsdp 0x500 (Ok opened)
-
+-- in the areas of the BIOS
 abbrev pub SearchInstance : Type 0
-SearchInstance = AgreesOn bios_here bios_there (search_ranges bios_here)
-    × (found_rsdp bios_here ≡ Ok (0xe0000, rsdp))
+SearchInstance = AgreesOn bios_here bios_there (search_ranges bios_here) × (found_rsdp bios_here ≡ Ok (0xe0000, rsdp))
 
 abbrev pub OpenedBySearchInstance : Type 0
-OpenedBySearchInstance = AgreesOn bios_here bios_there (opened_by_search_ranges bios_here)
-    × (opened_by_search bios_here ≡ Ok opened)
+OpenedBySearchInstance =
+    AgreesOn bios_here bios_there (opened_by_search_ranges bios_here) × (opened_by_search bios_here ≡ Ok opened)
 
 -- ---- the same tables elsewhere
 
@@ -163,17 +146,9 @@ AtMoved defined answer =
     × (defined here listed ≡ answer)
     × (defined moved moved_pointers ≡ answer)
 
-abbrev pub LookupMoved : Type 0
-LookupMoved = AtMoved (λ m ps. bytes_found (lookup m hpet_kind ps)) (Ok hpet)
-
-abbrev pub HeadersMoved : Type 0
-HeadersMoved = AtMoved valid_headers (map header_at tables)
-
-abbrev pub PlatformMoved : Type 0 → Type 0
-PlatformMoved A = AtMoved (λ m ps. platform_of {A = A} m ps) (Ok said_of_platform)
-
-abbrev pub HpetMoved : Type 0
-HpetMoved = AtMoved hpet_of (Ok said_of_timers)
-
-abbrev pub RegionsMoved : Type 0
-RegionsMoved = AtMoved found_regions (Ok said_of_regions)
+pub record MovedInstances (A : Type 0) : Type 0 where
+  pub lookup : AtMoved (λ m ps. bytes_found (lookup m hpet_kind ps)) (Ok hpet)
+  pub headers : AtMoved valid_headers (map header_at tables)
+  pub platform : AtMoved (λ m ps. platform_of {A = A} m ps) (Ok said_of_platform)
+  pub event_timers : AtMoved hpet_of (Ok said_of_timers)
+  pub regions : AtMoved found_regions (Ok said_of_regions)

@@ -1,12 +1,21 @@
 -- Memories written out: two that differ, two with the areas of the BIOS too, and one with the same
 -- tables elsewhere.
-use Rattle.std.specs.Prelude.{◌≡◌, ℕ, List, [], ◌∷◌, ◌++◌, codes, replicate, Ok}
-use Rattle.acpi_laws.specs.TableExamples.{DifferAt, hpet, region, table, unnamed}
-use Rattle.acpi_base.specs.Memory.{IsMemory, Memory}
+use Rattle.std.specs.Prelude.{◌≡◌, ℕ, List, [], ◌∷◌, ◌++◌, codes, map, replicate, Some, Ok}
+use Rattle.acpi_base.specs.Memory.{IsMemory, Memory, Region, at}
 use Rattle.acpi.specs.Footprint.{below}
 use Rattle.acpi.specs.declared.root.RootKind.TheVariants.{Rsdt, Xsdt}
 
 -- ---- tables
+
+-- a table: its name, one byte each for its length and its checksum, and what stands after the
+-- header; the revision is 1, and all else in the header is 0
+abbrev pub table : List ℕ → ℕ → ℕ → List ℕ → List ℕ
+table name length checksum body =
+    name ++ length ∷ 0 ∷ 0 ∷ 0 ∷ 1 ∷ checksum ∷ replicate 26 0 ++ body
+
+-- these bytes, and one more after them
+abbrev pub region : ℕ → List ℕ → ℕ → Region
+region start bytes behind = record { start = start; bytes = bytes ++ behind ∷ [] }
 
 -- the DSDT at 0x8000, a desktop, a timer of 32 bits at port 0x608
 unfoldable pub fadt : List ℕ
@@ -32,6 +41,17 @@ ssdt = table (codes "SSDT") 38 85 (replicate 2 0xa3)
 
 unfoldable pub dsdt : List ℕ
 dsdt = table (codes "DSDT") 40 28 (replicate 4 0xa3)
+
+-- event timers at 0xfed00000, of the block 0x8086a201, with ticks of at least 128
+unfoldable pub hpet : List ℕ
+hpet = table (codes "HPET") 56 95
+    (1 ∷ 0xa2 ∷ 0x86 ∷ 0x80 ∷ 0 ∷ 64 ∷ 0 ∷ 0
+    ∷ 0 ∷ 0 ∷ 0xd0 ∷ 0xfe ∷ 0 ∷ 0 ∷ 0 ∷ 0 ∷ 0 ∷ 128 ∷ 0 ∷ 0 ∷ [])
+
+-- the name HPET with an OEM id that is not text, and 24 times this byte after the header
+unfoldable pub unnamed : ℕ → List ℕ
+unnamed body =
+    codes "HPET" ++ 60 ∷ 0 ∷ 0 ∷ 0 ∷ 1 ∷ 0 ∷ 255 ∷ replicate 25 0 ++ replicate 24 body
 
 -- a table whose bytes don't sum to 0, with 20 times this byte after the header
 unfoldable pub damaged : ℕ → List ℕ
@@ -129,11 +149,17 @@ AreMemories =
 
 -- ---- how they differ
 
--- after each table, after the header of the one whose id is refused, and after that of the
--- damaged one
+-- at each of these addresses one has the byte 0 and the other 255
+abbrev pub DifferAt : Memory → Memory → List ℕ → Type 0
+DifferAt m n addresses =
+    (map (λ a. at m a 1) addresses ≡ map (λ a. Some (0 ∷ [])) addresses)
+    × (map (λ a. at n a 1) addresses ≡ map (λ a. Some (255 ∷ [])) addresses)
+
+-- after each table, after the header of the one whose id is refused and at its end, and after the header of the damaged
+-- one
 abbrev pub differing : List ℕ
 differing =
-    0x524 ∷ 0x103c ∷ 0x2024 ∷ 0x3074 ∷ 0x4038 ∷ 0x5044 ∷ 0x603c ∷ 0x7026 ∷ 0x8028 ∷ 0x9024 ∷ []
+    0x524 ∷ 0x103c ∷ 0x2024 ∷ 0x203b ∷ 0x203c ∷ 0x3074 ∷ 0x4038 ∷ 0x5044 ∷ 0x603c ∷ 0x7026 ∷ 0x8028 ∷ 0x9024 ∷ []
 
 -- those of a BIOS also after the word, and after the first area and the 16 bytes that follow it
 abbrev pub TheyDiffer : Type 0

@@ -2,4 +2,3 @@ pub mod CodeLaws
 pub mod ExampleLaws
 pub mod Examples
 pub mod PlaceLaws
-pub mod TableExamples

@@ -1,11 +1,15 @@
-//! Laws of the definitions of memory, numbers, codes, entries, pointers, lookups and the search.
+//! Laws of the definitions of memory, numbers, codes, entries, pointers, lookups, the search, members and places.
 ghost use Rattle.acpi_base.specs.EntryLaws.{CutIsCut, OneCut};
 ghost use Rattle.acpi_base.specs.Laws.{FieldPastEnd, LentIsInside};
+ghost use Rattle.acpi_base.specs.Names.{NamesAreSpelled};
 ghost use Rattle.acpi.specs.Laws.{LookupIsFirst, OnePointers, SecondAreas, SkipsInvalid};
-ghost use Rattle.acpi_laws.specs.CodeLaws.{SizesDecode, SpacesDecode};
+ghost use Rattle.acpi_laws.specs.CodeLaws.{RegistersAreTheTables, SizesDecode, SpacesDecode};
+ghost use Rattle.acpi_laws.specs.PlaceLaws.{FirstIsFound, FoundBySignature, HeadersOfMembers, OneForEach, RootLiesInRange, TablesLieInRanges};
 
 /// Proves that each of these laws holds.
 pub fn definitions_hold()
+    // Each constant of `Signature` has the four letters of its table (section 5.2.6).
+    ensures names { NamesAreSpelled }
     // In a memory of disjoint regions, what is lent is exactly a range that lies whole inside one region, with the
     // bytes that the region has there.
     ensures lent { LentIsInside }
@@ -15,6 +19,8 @@ pub fn definitions_hold()
     // there is none (section 5.2.3.2).
     ensures spaces { SpacesDecode }
     ensures sizes { SizesDecode }
+    // The registers in the record of a FADT are those that the table's bytes give (section 5.2.9).
+    ensures registers { RegistersAreTheTables }
     // By a grammar, bytes are cut into entries and a remainder in one way at most.
     ensures one_cut { OneCut }
     // The cut into entries and a remainder that is computed is a cut of the bytes.
@@ -28,4 +34,19 @@ pub fn definitions_hold()
     // The area that is searched second for the RSDP, for four words at 0x40e (section 5.2.5.1): the first KiB of an EBDA
     // in its place, 0x80000..0xa0000 for none and for one out of range, and the highest EBDA that is taken.
     ensures second_areas { SecondAreas }
+    // `members` gives exactly one item for each pointer of the root table, in order.
+    ensures one_for_each { OneForEach }
+    // The headers that `members` gives as `Ok` are those that `headers` gives.
+    ensures headers { HeadersOfMembers }
+    // The first that `find_tables` gives is what `find_table` finds, and it gives one exactly if that succeeds.
+    ensures first { FirstIsFound }
+    // `find_sdt` answers what `find_table` does for a type that asks for 36 bytes and the checks of a header.
+    ensures by_signature { FoundBySignature }
+    // Each range that a lookup, `faults`, `find_tables`, `headers`, `members`, `ssdts`, `dsdt` or a summary depends on
+    // or asks for lies in one of those that `ranges` gives. Excepted are those that begin at a member that `members`
+    // refuses, or at the address of the DSDT in the first valid FADT, if no valid DSDT is there.
+    ensures tables { TablesLieInRanges }
+    // Each range that opening a root table depends on or asks for at the table's address lies in the first that
+    // `ranges` gives.
+    ensures root { RootLiesInRange }
 {}

@@ -37,7 +37,8 @@ lies_not : (r : MemoryRange) (a : ℕ) → lies_in a r ≡ false → LiesIn r a 
 lies_not r a h within = grind (arith, nat_tests)
 
 -- a range in which the address doesn't lie changes nothing
-before_others : (r : MemoryRange) (ranges : List MemoryRange) (a : ℕ) (o : Option ℕ) → (LiesIn r a → ⊥) → IsDomainOf ranges a o → IsDomainOf (r ∷ ranges) a o
+before_others : (r : MemoryRange) (ranges : List MemoryRange) (a : ℕ) (o : Option ℕ) → (LiesIn r a → ⊥)
+    → IsDomainOf ranges a o → IsDomainOf (r ∷ ranges) a o
 before_others r ranges a None out none = (out, none)
 before_others r ranges a (Some d) out first = record {
   before = r ∷ first.before;
@@ -49,7 +50,8 @@ before_others r ranges a (Some d) out first = record {
   domain_is = first.domain_is;
 }
 
-by_test : (b : Bool) (r : MemoryRange) (ranges : List MemoryRange) (a : ℕ) → lies_in a r ≡ b → IsDomainOf ranges a (domain_at ranges a)
+by_test : (b : Bool) (r : MemoryRange) (ranges : List MemoryRange) (a : ℕ) → lies_in a r ≡ b
+    → IsDomainOf ranges a (domain_at ranges a)
     → IsDomainOf (r ∷ ranges) a (option_map (λ r. r.domain) (if b then Some r else find (lies_in a) ranges))
 by_test true r ranges a is others = record {
   before = [];
@@ -87,12 +89,15 @@ length-filter_map f (x ∷ xs) = omega (arith, length-filter_map f xs, length-co
 cut_few : (bytes : List ℕ) → length (cut srat_grammar bytes).0 ≤ length bytes
 cut_few bytes =
     let c = cut_is_cut 7 srat_grammar bytes in
-    let long : length bytes ≡ length (concat (cut srat_grammar bytes).0 ++ (cut srat_grammar bytes).1) = ap length c.whole in
-    omega (arith, one_each (cut srat_grammar bytes).0 c.entries, long, length-append (concat (cut srat_grammar bytes).0) (cut srat_grammar bytes).1)
+    let long : length bytes ≡ length (concat (cut srat_grammar bytes).0 ++ (cut srat_grammar bytes).1) =
+        ap length c.whole in
+    omega (arith, one_each (cut srat_grammar bytes).0 c.entries, long,
+        length-append (concat (cut srat_grammar bytes).0) (cut srat_grammar bytes).1)
 
 pub entries_few : (table : List ℕ) → length (entries_of table) ≤ length table - 48
 entries_few table =
-    omega (arith, length-filter_map (entry_of (revision_of table)) (cut srat_grammar (drop 48 table)).0, cut_few (drop 48 table), length-drop 48 table)
+    omega (arith, length-filter_map (entry_of (revision_of table)) (cut srat_grammar (drop 48 table)).0,
+        cut_few (drop 48 table), length-drop 48 table)
 
 pub ranges_few : (table : List ℕ) → length (ranges_of table) ≤ length table - 48
 ranges_few table = omega (arith, length-filter_map range_in (entries_of table), entries_few table)

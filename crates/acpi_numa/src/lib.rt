@@ -5,10 +5,9 @@
 #![tactic(auto)]
 
 pub mod error;
-pub mod laws;
 pub mod slit;
 pub mod srat;
 
 pub use error::{NumaError, NumaResult};
-pub use slit::{Distances, Slit, SlitCalls};
-pub use srat::{Domains, MemoryAffinities, MemoryRange, Srat, SratCalls, SratEntry, SratEntryIter};
+pub use slit::{Distances, Slit};
+pub use srat::{Domains, MemoryAffinities, MemoryRange, Srat, SratEntry, SratEntryIter};

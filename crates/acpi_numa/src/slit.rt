@@ -5,10 +5,10 @@ ghost use Rattle.acpi_numa.specs.Slit.{fits};
 use acpi_base::bytes::{field, field_in};
 use acpi_base::sdt::SdtHeader;
 use acpi_base::table::sum_refusal;
-use acpi_base::{AcpiResult, AcpiTable, Lender, PhysicalMapping, PhysicalRecord, Signature};
+use acpi_base::{AcpiResult, AcpiTable, PhysicalRecord, Signature};
 
 /// The System Locality Information Table (SLIT, section 5.2.17). After these fields it has a byte for each
-/// pair of localities; `Distances` reads them, and `SlitCalls` gives a mapping of it the same calls.
+/// pair of localities, which `Distances` reads.
 #[derive(Debug, Drop)]
 pub struct Slit {
     /// The header that every table begins with.
@@ -166,47 +166,5 @@ fn fits(from: u64, to: u64, distance: Option<u8>) -> bool
         Some(distance) if from == to => distance == 10,
         Some(distance) => distance > 10,
         None => false,
-    }
-}
-
-/// The functions of `Distances`, as methods of a mapping of a SLIT (section 5.2.17).
-pub trait SlitCalls {
-    ghost use Rattle.std.specs.Prelude.{◌↔◌, ℕ, List, IsTrue};
-    ghost use Rattle.acpi_numa.specs.Slit.{IsSane, distance_of, slit_bytes};
-
-    // The table's bytes.
-    ghost table: { Self → List ℕ };
-
-    /// The distances in this SLIT's bytes (section 5.2.17).
-    fn distances(&self) -> Distances<'_>
-        ensures { slit_bytes result ≡ table self.now };
-
-    /// The entry of a pair: how far it is from one locality to another (section 5.2.17), of which 10 is the
-    /// distance of a locality from itself, and 255 stands for 'unreachable'. It is `None` if one of the two
-    /// is no locality, or if the table ends before the byte of the pair, as `Distances::distance` says.
-    fn distance(&self, from: u64, to: u64) -> Option<u8>
-        ensures { result ≡ distance_of (table self.now) from to };
-
-    /// Whether the table is sane (section 5.2.17), as `Distances::is_sane` says: there is a locality, the
-    /// table has all distances, each locality is at 10 from itself, and at more than 10 from every other.
-    fn is_sane(&self) -> bool
-        ensures { IsTrue result ↔ IsSane (table self.now) };
-}
-
-impl<'h, H: Lender> SlitCalls for PhysicalMapping<'h, H, Slit> {
-    ghost use Rattle.acpi_base.specs.Mapping.{bytes_of};
-
-    ghost table = { λ m. bytes_of m };
-
-    fn distances(&self) -> Distances<'_> {
-        Distances::over(self.bytes())
-    }
-
-    fn distance(&self, from: u64, to: u64) -> Option<u8> {
-        self.distances().distance(from, to)
-    }
-
-    fn is_sane(&self) -> bool {
-        self.distances().is_sane()
     }
 }

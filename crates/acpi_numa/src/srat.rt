@@ -11,7 +11,7 @@ use acpi_base::sdt::SdtHeader;
 use acpi_base::table::sum_refusal;
 use acpi_base::{AcpiResult, AcpiTable, PhysicalRecord, Signature};
 pub use affinities::{MemoryAffinities, MemoryRange, counted as affinities_count};
-pub use domains::{Domains, SratCalls};
+pub use domains::Domains;
 pub use entry::SratEntry;
 pub use kinds::{
     GenericAffinity, GicItsAffinity, GiccAffinity, LocalApicAffinity, LocalX2ApicAffinity,
@@ -20,7 +20,7 @@ pub use kinds::{
 pub use walk::SratEntryIter;
 
 /// The System Resource Affinity Table (SRAT, section 5.2.16). Its entries stand after 48 fixed bytes;
-/// `Domains` reads them, and `SratCalls` gives a mapping of it the same calls.
+/// `Domains` reads them.
 #[derive(Debug, Drop)]
 pub struct Srat {
     /// The header that every table begins with.

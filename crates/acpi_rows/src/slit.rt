@@ -2,7 +2,7 @@
 
 use crate::named::one_of;
 use crate::texts::first_word;
-use acpi_numa::{Distances, SlitCalls};
+use acpi_numa::Distances;
 use std::alloc::{AllocError, Global};
 
 /// What a SLIT's bytes answer.
@@ -13,21 +13,6 @@ pub(crate) fn answer(alloc: Global, table: &[u8], question: &str) -> Result<Stri
         ("localities", distances.localities()),
         ("sane", distances.is_sane()),
         ("distance", distances.distance(from, to)),
-    );
-    one_of(alloc, &values, word)
-}
-
-/// What a mapping of a SLIT answers.
-pub(crate) fn of_mapping<T: SlitCalls>(
-    alloc: Global,
-    slit: &T,
-    question: &str,
-) -> Result<String, AllocError> {
-    let (word, from, to) = parts_of(question);
-    let values = (
-        ("localities", slit.distances().localities()),
-        ("sane", slit.is_sane()),
-        ("distance", slit.distance(from, to)),
     );
     one_of(alloc, &values, word)
 }

@@ -10,7 +10,7 @@
 use crate::named::one_of;
 use crate::ranges;
 use crate::texts::first_word;
-use acpi_numa::{Domains, MemoryAffinities, SratCalls, SratEntry, SratEntryIter};
+use acpi_numa::{Domains, MemoryAffinities, SratEntry, SratEntryIter};
 use acpi_testkit::rows::shown;
 use std::alloc::{AllocError, Global};
 
@@ -28,24 +28,6 @@ pub(crate) fn answer(alloc: Global, table: &[u8], question: &str) -> Result<Stri
         ("entries", walked(domains.entries())),
         ("apic", domains.domain_of_apic(number)),
         ("processor", domains.domain_of_processor(number)),
-    );
-    one_of(alloc, &values, word)
-}
-
-/// What a mapping of a SRAT answers.
-pub(crate) fn of_mapping<T: SratCalls>(
-    alloc: Global,
-    srat: &T,
-    question: &str,
-) -> Result<String, AllocError> {
-    let (word, number) = asked(question);
-    if is_of_entry(word) {
-        return one_entry(alloc, srat.domains().entries(), word, number);
-    }
-    let values = (
-        ("entries", walked(srat.entries())),
-        ("apic", srat.domain_of_apic(number)),
-        ("processor", srat.domain_of_processor(number)),
     );
     one_of(alloc, &values, word)
 }

@@ -6,13 +6,11 @@ ghost use Rattle.acpi_iommu.specs.DmarUnits.{dmar_bytes, is_whole, reserved_for,
 ghost use Rattle.acpi_iommu.specs.DmarUnits.{unit_for, unit_of_hpet, unit_of_io_apic};
 ghost use Rattle.acpi_iommu.specs.Pieces.{has_ended};
 
-use super::Dmar;
 use super::fields::Drhd;
 use super::reserved::ReservedIter;
 use super::scope::Hop;
 use super::structure::DmarStructureIter;
 use crate::error::{IommuError, IommuResult};
-use acpi_base::{Lender, PhysicalMapping};
 
 /// A unit, and how it knows a device that sends it interrupts (section 8.3.1).
 #[derive(Clone, Copy, Debug, PartialEq, Eq)]
@@ -143,85 +141,5 @@ impl<'a> DmarUnits<'a> {
             }
         }
         Ok(ranges)
-    }
-}
-
-/// The functions of `DmarUnits`, as methods of a mapping of a DMAR (chapter 8).
-pub trait DmarCalls {
-    ghost use Rattle.std.specs.Prelude.{◌≡◌, ℕ, List, false};
-    ghost use Rattle.acpi_base.specs.Steps.{Gives};
-    ghost use Rattle.acpi_iommu.specs.Dmar.{cut_of, rest_left, structures_left, structures_of};
-    ghost use Rattle.acpi_iommu.specs.DmarUnits.{dmar_bytes, reserved_for, reserved_left};
-    ghost use Rattle.acpi_iommu.specs.DmarUnits.{unit_for, unit_of_hpet, unit_of_io_apic};
-    ghost use Rattle.acpi_iommu.specs.Pieces.{has_ended};
-
-    // The table's bytes.
-    ghost table: { Self → List ℕ };
-
-    /// The units in this DMAR's bytes (chapter 8).
-    fn dmar_units(&self) -> DmarUnits<'_>
-        ensures { dmar_bytes result ≡ table self.now };
-
-    /// The structures of this DMAR, in order (section 8.2).
-    fn structures(&self) -> DmarStructureIter<'_>
-        ensures items { structures_left result ≡ structures_of (table self.now) }
-        ensures rest { rest_left result ≡ (cut_of (table self.now)).1 }
-        ensures begun { has_ended result ≡ false };
-
-    /// The unit that remaps a device (section 8.3), or the refusal, as `DmarUnits::unit_for` says.
-    fn unit_for(&self, segment: u16, bus: u8, hops: &[Hop]) -> IommuResult<Option<Drhd>>
-        ensures { result ≡ unit_for (table self.now) segment bus hops.now };
-
-    /// The unit of the I/O APIC with this id (section 8.3.1), or the refusal, as `DmarUnits::unit_of_io_apic` says.
-    fn unit_of_io_apic(&self, id: u8) -> IommuResult<Option<UnitSource>>
-        ensures { result ≡ unit_of_io_apic (table self.now) id };
-
-    /// The unit of the HPET with this number (section 8.3.1), or the refusal, as `DmarUnits::unit_of_hpet` says.
-    fn unit_of_hpet(&self, number: u8) -> IommuResult<Option<UnitSource>>
-        ensures { result ≡ unit_of_hpet (table self.now) number };
-
-    /// The ranges of memory that are reserved for a device (section 8.4), or the refusal, as `DmarUnits::reserved_for`
-    /// says.
-    fn reserved_for<'b>(
-        &self,
-        segment: u16,
-        bus: u8,
-        hops: &'b [Hop],
-    ) -> IommuResult<ReservedIter<'_, 'b>>
-        ensures { Gives (λ r. reserved_left r) result (reserved_for (table self.now) segment bus hops.now) };
-}
-
-impl<'h, H: Lender> DmarCalls for PhysicalMapping<'h, H, Dmar> {
-    ghost use Rattle.acpi_base.specs.Mapping.{bytes_of};
-
-    ghost table = { λ m. bytes_of m };
-
-    fn dmar_units(&self) -> DmarUnits<'_> {
-        DmarUnits::over(self.bytes())
-    }
-
-    fn structures(&self) -> DmarStructureIter<'_> {
-        self.dmar_units().structures()
-    }
-
-    fn unit_for(&self, segment: u16, bus: u8, hops: &[Hop]) -> IommuResult<Option<Drhd>> {
-        self.dmar_units().unit_for(segment, bus, hops)
-    }
-
-    fn unit_of_io_apic(&self, id: u8) -> IommuResult<Option<UnitSource>> {
-        self.dmar_units().unit_of_io_apic(id)
-    }
-
-    fn unit_of_hpet(&self, number: u8) -> IommuResult<Option<UnitSource>> {
-        self.dmar_units().unit_of_hpet(number)
-    }
-
-    fn reserved_for<'b>(
-        &self,
-        segment: u16,
-        bus: u8,
-        hops: &'b [Hop],
-    ) -> IommuResult<ReservedIter<'_, 'b>> {
-        self.dmar_units().reserved_for(segment, bus, hops)
     }
 }

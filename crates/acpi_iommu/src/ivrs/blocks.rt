@@ -7,10 +7,8 @@ ghost use Rattle.acpi_iommu.specs.IvrsUnits.{best_kind, best_left, block_for, bl
 ghost use Rattle.acpi_iommu.specs.IvrsUnits.{is_whole, ivrs_bytes, memory_for, memory_left};
 ghost use Rattle.acpi_iommu.specs.Pieces.{has_ended};
 
-use super::Ivrs;
 use super::block::{Ivhd, Ivmd, IvrsBlock, IvrsBlockIter};
 use crate::error::{IommuError, IommuResult};
-use acpi_base::{Lender, PhysicalMapping};
 
 /// A unit, and how it treats a device.
 #[derive(Clone, Copy, Debug, PartialEq, Eq)]
@@ -190,66 +188,5 @@ impl<'a> IvrsBlocks<'a> {
             }
         }
         Ok(memory)
-    }
-}
-
-/// The functions of `IvrsBlocks`, as methods of a mapping of an IVRS (section 5.2).
-pub trait IvrsCalls {
-    ghost use Rattle.std.specs.Prelude.{◌≡◌, ℕ, List, false};
-    ghost use Rattle.acpi_base.specs.Steps.{Gives};
-    ghost use Rattle.acpi_iommu.specs.Ivrs.{blocks_cut, blocks_left, blocks_of, rest_left};
-    ghost use Rattle.acpi_iommu.specs.IvrsUnits.{best_left, block_for, blocks_of_best_type};
-    ghost use Rattle.acpi_iommu.specs.IvrsUnits.{ivrs_bytes, memory_for, memory_left};
-    ghost use Rattle.acpi_iommu.specs.Pieces.{has_ended};
-
-    // The table's bytes.
-    ghost table: { Self → List ℕ };
-
-    /// All blocks of this IVRS, to be asked (section 5.2).
-    fn ivrs_blocks(&self) -> IvrsBlocks<'_>
-        ensures { ivrs_bytes result ≡ table self.now };
-
-    /// The blocks of this IVRS, in order (section 5.2).
-    fn blocks(&self) -> IvrsBlockIter<'_>
-        ensures items { blocks_left result ≡ blocks_of (table self.now) }
-        ensures rest { rest_left result ≡ (blocks_cut (table self.now)).1 }
-        ensures begun { has_ended result ≡ false };
-
-    /// The units to believe (section 5.2), or the refusal, as `IvrsBlocks::blocks_of_best_type` says.
-    fn blocks_of_best_type(&self) -> IommuResult<BestBlockIter<'_>>
-        ensures { Gives (λ b. best_left b) result (blocks_of_best_type (table self.now)) };
-
-    /// The unit that remaps a device (section 5.2), or the refusal, as `IvrsBlocks::block_for` says.
-    fn block_for(&self, segment: u16, device_id: u16) -> IommuResult<Option<DeviceUnit>>
-        ensures { result ≡ block_for (table self.now) segment device_id };
-
-    /// The memory that has its own rules for a device (section 5.2), or the refusal, as `IvrsBlocks::memory_for` says.
-    fn memory_for(&self, device_id: u16) -> IommuResult<MemoryIter<'_>>
-        ensures { Gives (λ m. memory_left m) result (memory_for (table self.now) device_id) };
-}
-
-impl<'h, H: Lender> IvrsCalls for PhysicalMapping<'h, H, Ivrs> {
-    ghost use Rattle.acpi_base.specs.Mapping.{bytes_of};
-
-    ghost table = { λ m. bytes_of m };
-
-    fn ivrs_blocks(&self) -> IvrsBlocks<'_> {
-        IvrsBlocks::over(self.bytes())
-    }
-
-    fn blocks(&self) -> IvrsBlockIter<'_> {
-        self.ivrs_blocks().blocks()
-    }
-
-    fn blocks_of_best_type(&self) -> IommuResult<BestBlockIter<'_>> {
-        self.ivrs_blocks().blocks_of_best_type()
-    }
-
-    fn block_for(&self, segment: u16, device_id: u16) -> IommuResult<Option<DeviceUnit>> {
-        self.ivrs_blocks().block_for(segment, device_id)
-    }
-
-    fn memory_for(&self, device_id: u16) -> IommuResult<MemoryIter<'_>> {
-        self.ivrs_blocks().memory_for(device_id)
     }
 }

@@ -113,15 +113,6 @@ impl<A: Allocator> MemoryAffinities<A> {
         ensures relocation { Relocation tables.now found_affinities
             (λ said. AnswersOrFull (of_tables tables.now AffinitiesAsk) result (joined said)) }
     {
-        MemoryAffinities::new_in_exact(tables, allocator)
-    }
-
-    /// What `new_in` answers: it looks the first valid SRAT up, and reads it.
-    fn new_in_exact<H: Lender>(tables: &AcpiTables<'_, H>, allocator: A) -> NumaResult<Self>
-        requires { AllowsBelow tables.now (λ m. lookup_ranges m srat_kind) }
-        ensures { AnswersOrFull (of_tables tables.now AffinitiesAsk)
-            result (joined (of_tables tables.now found_affinities)) }
-    {
         let srat = tables.find_table::<Srat>()?;
         MemoryAffinities::over(srat.bytes(), allocator)
     }
@@ -158,19 +149,12 @@ impl<A: Allocator> MemoryAffinities<A> {
         // It is that of the first range in which the address lies.
         ensures first { IsDomainOf self.now address result }
     {
-        self.domain_of_exact(address)
-    }
-
-    /// What `domain_of` answers: it searches the ranges in order.
-    fn domain_of_exact(&self, address: u64) -> Option<u32>
-        ensures { result ≡ domain_at self.now address }
-    {
-        domain_at(self.ranges.as_slice(), address)
+        first_domain(self.ranges(), address)
     }
 }
 
-/// The domain of the first range that holds an address.
-fn domain_at(ranges: &[MemoryRange], address: u64) -> Option<u32>
+/// The domain of the first range in which an address lies.
+fn first_domain(ranges: &[MemoryRange], address: u64) -> Option<u32>
     ensures { result ≡ domain_at ranges.now address }
 {
     ranges

@@ -1,9 +1,7 @@
 //! The proximity domains of processors (sections 5.2.16.1, 5.2.16.3 and 5.2.16.4).
 
-use super::Srat;
 use super::entry::ProcessorId;
 use super::walk::SratEntryIter;
-use acpi_base::{Lender, PhysicalMapping};
 
 /// The proximity domains in a SRAT's bytes (section 5.2.16). It needs no handler.
 #[derive(Clone, Copy, Debug)]
@@ -66,59 +64,5 @@ impl<'a> Domains<'a> {
             }
         }
         found
-    }
-}
-
-/// The functions of `Domains`, as methods of a mapping of a SRAT (section 5.2.16).
-pub trait SratCalls {
-    ghost use Rattle.std.specs.Prelude.{◌≡◌, ◌-◌, ◌≤◌, ℕ, List, length, false};
-    ghost use Rattle.acpi_numa.specs.Srat.{cut_of, domain_of_apic, domain_of_processor, entries_of};
-    ghost use Rattle.acpi_numa.specs.Srat.{srat_bytes};
-    ghost use Rattle.acpi_numa.specs.SratWalk.{entries_left, has_ended, rest_left};
-
-    // The table's bytes.
-    ghost table: { Self → List ℕ };
-
-    /// The proximity domains in this SRAT's bytes (section 5.2.16).
-    fn domains(&self) -> Domains<'_>
-        ensures { srat_bytes result ≡ table self.now };
-
-    /// The entries of this SRAT, of types 0 to 6, in order (section 5.2.16).
-    fn entries(&self) -> SratEntryIter<'_>
-        ensures items { entries_left result ≡ entries_of (table self.now) }
-        ensures rest { rest_left result ≡ (cut_of (table self.now)).1 }
-        ensures begun { has_ended result ≡ false }
-        ensures few { length (entries_left result) ≤ length (table self.now) - 48 };
-
-    /// Proximity Domain of the processor whose local APIC or x2APIC has this id, or `None` if the table
-    /// doesn't give it, as `Domains::domain_of_apic` says (sections 5.2.16.1 and 5.2.16.3).
-    fn domain_of_apic(&self, apic_id: u32) -> Option<u32>
-        ensures { result ≡ domain_of_apic (table self.now) apic_id };
-
-    /// Proximity Domain of the processor with this ACPI Processor UID, or `None` if the table doesn't give
-    /// it, as `Domains::domain_of_processor` says (section 5.2.16.4).
-    fn domain_of_processor(&self, uid: u32) -> Option<u32>
-        ensures { result ≡ domain_of_processor (table self.now) uid };
-}
-
-impl<'h, H: Lender> SratCalls for PhysicalMapping<'h, H, Srat> {
-    ghost use Rattle.acpi_base.specs.Mapping.{bytes_of};
-
-    ghost table = { λ m. bytes_of m };
-
-    fn domains(&self) -> Domains<'_> {
-        Domains::over(self.bytes())
-    }
-
-    fn entries(&self) -> SratEntryIter<'_> {
-        self.domains().entries()
-    }
-
-    fn domain_of_apic(&self, apic_id: u32) -> Option<u32> {
-        self.domains().domain_of_apic(apic_id)
-    }
-
-    fn domain_of_processor(&self, uid: u32) -> Option<u32> {
-        self.domains().domain_of_processor(uid)
     }
 }

@@ -13,8 +13,8 @@ use crate::named::one_of;
 use crate::texts::first_word;
 use acpi_base::PhysicalRecord;
 use acpi_iommu::{
-    Dmar, DmarCalls, DmarFields, DmarStructure, DmarStructureIter, DmarUnits, Drhd, IommuResult,
-    ReservedIter, UnitSource,
+    Dmar, DmarFields, DmarStructure, DmarStructureIter, DmarUnits, Drhd, IommuResult, ReservedIter,
+    UnitSource,
 };
 use acpi_testkit::rows::{printed, shown};
 use std::alloc::{AllocError, Global};
@@ -46,35 +46,6 @@ pub(crate) fn answer(alloc: Global, table: &[u8], question: &str) -> Result<Stri
             )
         }
         _ => of_structure(alloc, units.structures(), word, rest),
-    }
-}
-
-/// What a mapping of a DMAR answers to some of these questions.
-pub(crate) fn of_mapping<T: DmarCalls>(
-    alloc: Global,
-    dmar: &T,
-    question: &str,
-) -> Result<String, AllocError> {
-    let (word, rest) = first_word(question);
-    let number = rest.parse::<u8>().unwrap_or(0);
-    match word {
-        "structures" => shown(alloc, &walked(dmar.structures())),
-        "io_apic" => of_source(alloc, dmar.unit_of_io_apic(number)),
-        "hpet" => of_source(alloc, dmar.unit_of_hpet(number)),
-        "unit" => {
-            let device = Device::of(rest);
-            of_unit(
-                alloc,
-                dmar.unit_for(device.segment, device.bus, device.hops()),
-            )
-        }
-        _ => {
-            let device = Device::of(rest);
-            of_reserved(
-                alloc,
-                dmar.reserved_for(device.segment, device.bus, device.hops()),
-            )
-        }
     }
 }
 

@@ -13,7 +13,7 @@ use crate::texts::first_word;
 use acpi_base::PhysicalRecord;
 use acpi_iommu::{
     BestBlockIter, DeviceEntry, DeviceUnit, IommuResult, Ivrs, IvrsBlock, IvrsBlockIter,
-    IvrsBlocks, IvrsCalls, IvrsFields, MemoryIter,
+    IvrsBlocks, IvrsFields, MemoryIter,
 };
 use acpi_testkit::rows::{printed, shown};
 use std::alloc::{AllocError, Global};
@@ -43,11 +43,12 @@ pub(crate) fn answer(alloc: Global, table: &[u8], question: &str) -> Result<Stri
 }
 
 /// What a mapping of an IVRS answers to some of these questions.
-pub(crate) fn of_mapping<T: IvrsCalls>(
+pub(crate) fn of_mapping(
     alloc: Global,
-    ivrs: &T,
+    table: &[u8],
     question: &str,
 ) -> Result<String, AllocError> {
+    let ivrs = IvrsBlocks::over(table);
     let (word, rest) = first_word(question);
     match word {
         "blocks" => shown(alloc, &walked(ivrs.blocks())),

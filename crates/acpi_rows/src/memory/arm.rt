@@ -3,8 +3,8 @@
 use crate::{gic, gtdt};
 use acpi::madt::Madt;
 use acpi::{AcpiHandler, AcpiTables};
-use acpi_arm::gic::GicCalls;
-use acpi_arm::gtdt::{Gtdt, GtdtCalls};
+use acpi_arm::gic::GicModel;
+use acpi_arm::gtdt::{Gtdt, PlatformTimerIter};
 use acpi_testkit::rows::shown;
 use std::alloc::{AllocError, Global};
 
@@ -18,7 +18,7 @@ pub(super) fn mapped<H: AcpiHandler>(
         return platform(alloc, tables);
     }
     match tables.find_table::<Madt>() {
-        Ok(found) => gic::said(alloc, found.gic_model_in(alloc), question),
+        Ok(found) => gic::said(alloc, GicModel::of(found.bytes(), alloc), question),
         Err(refusal) => shown(alloc, &refusal),
     }
 }
@@ -29,7 +29,7 @@ fn platform<H: AcpiHandler>(
     tables: &AcpiTables<'_, H>,
 ) -> Result<String, AllocError> {
     match tables.find_table::<Gtdt>() {
-        Ok(found) => gtdt::platform(alloc, found.platform_timers()),
+        Ok(found) => gtdt::platform(alloc, PlatformTimerIter::over(found.bytes())),
         Err(refusal) => shown(alloc, &refusal),
     }
 }

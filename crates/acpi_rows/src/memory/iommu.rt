@@ -17,12 +17,12 @@ pub(super) fn answer<H: AcpiHandler>(
     match (word, asked) {
         ("dmar", "faults") => shown(alloc, &tables.faults::<Dmar>().next()),
         ("dmar", _) => match tables.find_table::<Dmar>() {
-            Ok(table) => dmar::of_mapping(alloc, &table, asked),
+            Ok(table) => dmar::answer(alloc, table.bytes(), asked),
             Err(refusal) => shown(alloc, &refusal),
         },
         (_, "faults") => shown(alloc, &tables.faults::<Ivrs>().next()),
         _ => match tables.find_table::<Ivrs>() {
-            Ok(table) => ivrs::of_mapping(alloc, &table, asked),
+            Ok(table) => ivrs::of_mapping(alloc, table.bytes(), asked),
             Err(refusal) => shown(alloc, &refusal),
         },
     }

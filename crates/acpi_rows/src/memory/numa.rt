@@ -4,7 +4,7 @@
 use crate::{slit, srat};
 use acpi::{AcpiHandler, AcpiResult, AcpiTables};
 use acpi_cli::parse_address;
-use acpi_numa::{MemoryAffinities, NumaError, NumaResult, Slit, SlitCalls, Srat, SratCalls};
+use acpi_numa::{Distances, Domains, MemoryAffinities, NumaError, NumaResult, Slit, Srat};
 use acpi_testkit::rows::shown;
 use std::alloc::{AllocError, Global};
 
@@ -18,11 +18,11 @@ pub(super) fn answer<H: AcpiHandler>(
     match word {
         "from" => distance(alloc, tables, asked),
         "srat" => match tables.find_table::<Srat>() {
-            Ok(table) => srat::of_mapping(alloc, &table, asked),
+            Ok(table) => srat::answer(alloc, table.bytes(), asked),
             Err(refusal) => shown(alloc, &refusal),
         },
         _ => match tables.find_table::<Slit>() {
-            Ok(table) => slit::of_mapping(alloc, &table, asked),
+            Ok(table) => slit::answer(alloc, table.bytes(), asked),
             Err(refusal) => shown(alloc, &refusal),
         },
     }
@@ -53,7 +53,9 @@ fn distance_to<H: AcpiHandler>(
     let from = domain_of(tables, apic_id)?;
     match tables.find_table::<Slit>() {
         Ok(slit) => match (from, to) {
-            (Some(from), Some(to)) => Ok(slit.distance(u64::from(from), u64::from(to))),
+            (Some(from), Some(to)) => {
+                Ok(Distances::over(slit.bytes()).distance(u64::from(from), u64::from(to)))
+            },
             _ => Ok(None),
         },
         Err(refusal) => Err(NumaError::Acpi(refusal)),
@@ -75,7 +77,7 @@ fn domain_at<H: AcpiHandler>(
 /// The domain of the processor of a local APIC.
 fn domain_of<H: AcpiHandler>(tables: &AcpiTables<'_, H>, apic_id: u32) -> AcpiResult<Option<u32>> {
     match tables.find_table::<Srat>() {
-        Ok(srat) => Ok(srat.domain_of_apic(apic_id)),
+        Ok(srat) => Ok(Domains::over(srat.bytes()).domain_of_apic(apic_id)),
         Err(refusal) => Err(refusal),
     }
 }

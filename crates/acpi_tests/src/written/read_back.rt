@@ -9,7 +9,7 @@ use crate::checks::{check, check_same};
 use acpi::handler::MappedRegion;
 use acpi::{AcpiResult, AcpiTables};
 use acpi_base::AddressRange;
-use acpi_numa::{Slit, SlitCalls, Srat, SratCalls};
+use acpi_numa::{Distances, Domains, Slit, Srat};
 use acpi_testkit::samples::put;
 use acpi_writer::{
     AmlContents, FadtContents, Machine, SlitContents, TableContents, dsdt_address, facs_address,
@@ -62,7 +62,7 @@ fn aml_address(tables: &Opened<'_, '_>) -> AcpiResult<u64> {
 /// The domain of the processor whose APIC has an id.
 fn domain_of(tables: &Opened<'_, '_>, apic: u32) -> AcpiResult<Option<u32>> {
     match tables.find_table::<Srat>() {
-        Ok(srat) => Ok(srat.domain_of_apic(apic)),
+        Ok(srat) => Ok(Domains::over(srat.bytes()).domain_of_apic(apic)),
         Err(error) => Err(error),
     }
 }
@@ -70,7 +70,7 @@ fn domain_of(tables: &Opened<'_, '_>, apic: u32) -> AcpiResult<Option<u32>> {
 /// The distance from the first locality to the second.
 fn distance_in(tables: &Opened<'_, '_>) -> AcpiResult<Option<u8>> {
     match tables.find_table::<Slit>() {
-        Ok(slit) => Ok(slit.distance(0, 1)),
+        Ok(slit) => Ok(Distances::over(slit.bytes()).distance(0, 1)),
         Err(error) => Err(error),
     }
 }

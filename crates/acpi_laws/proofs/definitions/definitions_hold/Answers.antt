@@ -1,34 +1,32 @@
+use Rattle.std.proofs.Common.{rules}
 use Rattle.acpi.proofs.First.{lookup_is_first, skips_invalid}
+use Rattle.acpi.proofs.Placing.{addresses_are}
 use Rattle.acpi.proofs.Spelled.{one_pointers}
 use Rattle.acpi_base.proofs.Cuts.{cut_is_cut, one_cut}
 use Rattle.acpi_base.proofs.LentRanges.{lent_is_inside}
 use Rattle.acpi_base.proofs.Spelling.{field_past_end}
-use Rattle.acpi_laws.proofs.Values.{sizes_decode, spaces_decode}
+use Rattle.acpi_laws.proofs.Placed.{first_is_found, found_by_signature, headers_of_members, root_lies_in_range, tables_lie_in_ranges}
+use Rattle.acpi_laws.proofs.Values.{registers_are, sizes_decode, spaces_decode}
 use Rattle.acpi_laws.proofs.definitions.definitions_hold.Goals as goal
 
-pub returns-clause-lent : goal.returns-clause-lent
-returns-clause-lent c = lent_is_inside
-
-pub returns-clause-past_end : goal.returns-clause-past_end
-returns-clause-past_end c = field_past_end
-
-pub returns-clause-spaces : goal.returns-clause-spaces
-returns-clause-spaces c = spaces_decode
-
-pub returns-clause-sizes : goal.returns-clause-sizes
-returns-clause-sizes c = sizes_decode
-
-pub returns-clause-one_cut : goal.returns-clause-one_cut
-returns-clause-one_cut c = one_cut
-
-pub returns-clause-cut : goal.returns-clause-cut
-returns-clause-cut c = cut_is_cut
-
-pub returns-clause-pointers : goal.returns-clause-pointers
-returns-clause-pointers c = one_pointers
-
-pub returns-clause-lookup : goal.returns-clause-lookup
-returns-clause-lookup c = lookup_is_first
-
-pub returns-clause-skips : goal.returns-clause-skips
-returns-clause-skips c = skips_invalid
+pub returns : goal.returns
+returns c = record {
+  names = search rules;
+  lent = lent_is_inside;
+  past_end = field_past_end;
+  spaces = spaces_decode;
+  sizes = sizes_decode;
+  registers = registers_are;
+  one_cut = one_cut;
+  cut = cut_is_cut;
+  pointers = one_pointers;
+  lookup = lookup_is_first;
+  skips = skips_invalid;
+  second_areas = search rules;
+  one_for_each = addresses_are;
+  headers = headers_of_members;
+  first = first_is_found;
+  by_signature = found_by_signature;
+  tables = tables_lie_in_ranges;
+  root = root_lies_in_range;
+}

@@ -9,7 +9,8 @@ use Rattle.acpi_arm.proofs.gic.collect.collected.Given as goal
 abbrev pub invariant-loop-entry : goal.invariant-loop-entry
 invariant-loop-entry g l =
     let left = filter_map (g.T.GicPart.said_in l.revision) (entries_left l.entries) in
-    (l.items.items ++ left ≡ items_of g.T.GicPart.said_in l.table) × (vec_len l.items + length left ≤ vec_capacity l.items)
+    (l.items.items ++ left ≡ items_of g.T.GicPart.said_in l.table)
+        × (vec_len l.items + length left ≤ vec_capacity l.items)
 
 abbrev pub decreases-loop-entry : goal.decreases-loop-entry
 decreases-loop-entry g l = length (entries_left l.entries)

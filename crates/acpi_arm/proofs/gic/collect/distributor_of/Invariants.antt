@@ -15,7 +15,8 @@ first_of None more = slice_get more 0
 -- the first one of all is the first one of those found and left, and the rest is the same
 abbrev pub invariant-loop-entry : goal.invariant-loop-entry
 invariant-loop-entry l =
-    (first_of l.distributor (filter_map distributor_in (entries_left l.entries)) ≡ slice_get (filter_map distributor_in (entries_of l.table)) 0) × (rest_left l.entries ≡ (cut_of l.table).1)
+    (first_of l.distributor (filter_map distributor_in (entries_left l.entries))
+        ≡ slice_get (filter_map distributor_in (entries_of l.table)) 0) × (rest_left l.entries ≡ (cut_of l.table).1)
 
 abbrev pub decreases-loop-entry : goal.decreases-loop-entry
 decreases-loop-entry l = length (entries_left l.entries)

@@ -11,8 +11,11 @@ abbrev pub invariant-loop-structure : goal.invariant-loop-structure
 invariant-loop-structure l =
     let left = structures_left l.structures in
     record {
-      named : find (λ e. is_unit_of l.segment e && names_device l.bus l.hops e) left ≡ unit_that_names (dmar_bytes l.self) l.segment l.bus l.hops;
-      others : option_or l.of_others (option_map drhd_at (find (λ e. is_unit_of l.segment e && includes_pci_all (drhd_at e)) left)) ≡ option_map drhd_at (unit_of_others (dmar_bytes l.self) l.segment);
+      named : find (λ e. is_unit_of l.segment e && names_device l.bus l.hops e) left
+          ≡ unit_that_names (dmar_bytes l.self) l.segment l.bus l.hops;
+      others : option_or l.of_others (option_map drhd_at
+          (find (λ e. is_unit_of l.segment e && includes_pci_all (drhd_at e)) left))
+          ≡ option_map drhd_at (unit_of_others (dmar_bytes l.self) l.segment);
     }
 
 abbrev pub decreases-loop-structure : goal.decreases-loop-structure

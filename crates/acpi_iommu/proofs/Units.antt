@@ -1,0 +1,159 @@
+-- Which unit remaps a device, and which memory has its own rules for it, in a reader's words.
+use Rattle.std.proofs.Common.{◌≡◌, ◌⊎◌, inl, inr, ℕ, ◌+◌, ◌<◌, ◌≤◌, Bool, true, false, cond, List, [], ◌∷◌, Option, Some, None, Result, Ok, refl, ap, subst}
+use Rattle.std.specs.Prelude.{◌==◌, ◌&&◌, ◌||◌, ◌^◌, nat_le, find, filter, map, slice_get}
+use Rattle.std.specs.List.{AllByRecursion, cons_option, filter_map, list_all}
+use Rattle.std.specs.Option.{option_map, option_or}
+use Rattle.std.proofs.lemmas.Bool.{and_parts, eqb-true, leb-true, ltb-true}
+use Rattle.acpi_base.proofs.Steps.{holds_ok, same_ok}
+use Rattle.acpi_iommu.specs.Dmar.{drhd_at, includes_pci_all, structures_of}
+use Rattle.acpi_iommu.specs.DmarScopes.{names_device}
+use Rattle.acpi_iommu.specs.DmarUnits.{is_unit_of, source_in}
+use Rattle.acpi_iommu.specs.DmarUnits as dmar
+use Rattle.acpi_iommu.specs.IvrsUnits as ivrs
+use Rattle.acpi_base.specs.Steps.{◌>>=◌, holds}
+use Rattle.acpi_iommu.specs.declared.dmar.fields.Drhd.{Drhd}
+use Rattle.acpi_iommu.specs.declared.error.IommuError.{IommuError}
+use Rattle.acpi_iommu.specs.declared.error.IommuError.TheVariants.{InvalidMemoryRange, InvalidStructureLength}
+use Rattle.acpi_iommu.specs.Ivrs.{blocks_of, ivmd_at}
+use Rattle.acpi_iommu.specs.IvrsUnits.{best_kind, ends_below, is_memory_for, is_of_kind, memory_in, unit_in}
+use Rattle.acpi_iommu.specs.UnitLaws.{BlockIsFirst, FirstSays, IsMeantFor, MemoryIsMeant, SourceIsFirst, UnitIsFirst, of_others}
+
+-- ---- the first that says something
+
+later : {X Y : Type 0} (said : X → Option Y) (x : X) (xs : List X) (o : Option Y) → said x ≡ None
+    → FirstSays said xs o → FirstSays said (x ∷ xs) o
+later said x xs None none first = (none, first)
+later said x xs (Some y) none first = record {
+  before = x ∷ first.before;
+  x = first.x;
+  after = first.after;
+  listed = ap (λ others. x ∷ others) first.listed;
+  none_before = (none, first.none_before);
+  says = first.says;
+}
+
+first_by : {X Y : Type 0} (said : X → Option Y) (x : X) (xs : List X) (o : Option Y) (others : List Y) → said x ≡ o
+    → FirstSays said xs (slice_get others 0) → FirstSays said (x ∷ xs) (slice_get (cons_option o others) 0)
+first_by said x xs None others e first = later said x xs _ e first
+first_by said x xs (Some y) others e first = record {
+  before = [];
+  x = x;
+  after = xs;
+  listed = refl;
+  none_before = tt;
+  says = e;
+}
+
+first_says : {X Y : Type 0} (said : X → Option Y) (xs : List X) → FirstSays said xs (slice_get (filter_map said xs) 0)
+first_says said [] = tt
+first_says said (x ∷ xs) = first_by said x xs (said x) (filter_map said xs) refl (first_says said xs)
+
+found_by : {X Y : Type 0} (test : X → Bool) (show : X → Y) (x : X) (xs : List X) (b : Bool) → test x ≡ b
+    → FirstSays (λ z. cond (test z) (Some (show z)) None) xs (option_map show (find test xs))
+    → FirstSays (λ z. cond (test z) (Some (show z)) None) (x ∷ xs) (option_map show (cond b (Some x) (find test xs)))
+found_by test show x xs true e first = record {
+  before = [];
+  x = x;
+  after = xs;
+  listed = refl;
+  none_before = tt;
+  says = ap (λ b. cond b (Some (show x)) None) e;
+}
+found_by test show x xs false e first = later _ x xs _ (ap (λ b. cond b (Some (show x)) None) e) first
+
+first_found : {X Y : Type 0} (test : X → Bool) (show : X → Y) (xs : List X)
+    → FirstSays (λ z. cond (test z) (Some (show z)) None) xs (option_map show (find test xs))
+first_found test show [] = tt
+first_found test show (x ∷ xs) = found_by test show x xs (test x) refl (first_found test show xs)
+
+-- ---- units
+
+either : {X Y : Type 0} (show : X → Y) (p q : Option X) (o : Option Y) (Others : Option Y → Type 0)
+    → Others (option_map show q) → option_map show (option_or p q) ≡ o
+    → (option_map show p ≡ o) ⊎ ((option_map show p ≡ None) × Others o)
+either show (Some x) q o Others others e = inl e
+either show None q o Others others e = inr (refl, subst Others e others)
+
+abbrev done : {A : Type 0} → A → Result A IommuError
+done x = Ok x
+
+-- what is answered of a table that is whole
+answer_is : {A : Type 0} (b : Bool) (x y : A) → (holds b InvalidStructureLength >>= λ u. done x) ≡ Ok y → x ≡ y
+answer_is b x y e = same_ok x y (holds_ok b InvalidStructureLength (λ u. done x) y e).1
+
+pub unit_is_first : UnitIsFirst
+unit_is_first table segment bus hops answer e =
+    let es = structures_of table in
+    let named = λ (x : List ℕ). is_unit_of segment x && names_device bus hops x in
+    let rest = λ (x : List ℕ). is_unit_of segment x && includes_pci_all (drhd_at x) in
+    let is = answer_is (dmar.is_whole table) (option_map drhd_at (option_or (find named es) (find rest es))) answer e in
+    let Others : Option Drhd → Type 0 = λ o. FirstSays (of_others segment) es o in (
+      option_map drhd_at (find named es),
+      first_found named drhd_at es,
+      either drhd_at (find named es) (find rest es) answer Others (first_found rest drhd_at es) is,
+    )
+
+first_answer : {X Y : Type 0} (said : X → Option Y) (xs : List X) (b : Bool) (y : Option Y)
+    → (holds b InvalidStructureLength >>= λ u. done (slice_get (filter_map said xs) 0)) ≡ Ok y → FirstSays said xs y
+first_answer said xs b y e = subst (λ o. FirstSays said xs o) (answer_is b _ y e) (first_says said xs)
+
+pub source_is_first : SourceIsFirst
+source_is_first kind table id answer e =
+    first_answer (source_in kind id) (structures_of table) (dmar.is_whole table) answer e
+
+pub block_is_first : BlockIsFirst
+block_is_first table segment id answer e =
+    first_answer (unit_in (best_kind table) segment id) (blocks_of table) (ivrs.is_whole table) answer e
+
+-- ---- memory
+
+meant_by : (a b c d : Bool) {A B C D : Type 0} → (a ≡ true → A) → (b ≡ true → B) → (c ≡ true → C) → (d ≡ true → D)
+    → (a || (b && c) || d) ≡ true → A ⊎ ((B × C) ⊎ D)
+meant_by true b c d p q r s e = inl (p refl)
+meant_by false true true d p q r s e = inr (inl (q refl, r refl))
+meant_by false true false true p q r s e = inr (inr (s refl))
+meant_by false true false false p q r s e = absurd cc
+meant_by false false c true p q r s e = inr (inr (s refl))
+meant_by false false c false p q r s e = absurd cc
+
+in_range : (id kind first last : ℕ) → ((kind == 0x22) && nat_le first id && nat_le id last) ≡ true
+    → (kind ≡ 0x22) × (first ≤ id) × (id ≤ last)
+in_range id kind first last e =
+    let p = and_parts ((kind == 0x22) && nat_le first id) (nat_le id last) e in
+    let q = and_parts (kind == 0x22) (nat_le first id) p.0 in
+    (eqb-true kind 0x22 q.0, leb-true first id q.1, leb-true id last p.1)
+
+meant : (id : ℕ) (b : List ℕ) → is_memory_for id b ≡ true → IsMeantFor id (ivmd_at b)
+meant id b e =
+    let m = ivmd_at b in
+    meant_by (m.kind == 0x20) (m.kind == 0x21) (m.device_id == id)
+    ((m.kind == 0x22) && nat_le m.device_id id && nat_le id m.auxiliary)
+    (eqb-true m.kind 0x20) (eqb-true m.kind 0x21) (eqb-true m.device_id id)
+    (in_range id m.kind m.device_id m.auxiliary) e
+
+each_by : (id : ℕ) (b : List ℕ) (bs : List (List ℕ)) (t : Bool) → is_memory_for id b ≡ t
+    → (list_all ends_below (map ivmd_at (filter (is_memory_for id) bs)) ≡ true
+    → AllByRecursion (λ m. IsMeantFor id m × (m.start + m.length < 2 ^ 64))
+    (map ivmd_at (filter (is_memory_for id) bs)))
+    → list_all ends_below (map ivmd_at (cond t (b ∷ filter (is_memory_for id) bs) (filter (is_memory_for id) bs)))
+    ≡ true
+    → AllByRecursion (λ m. IsMeantFor id m × (m.start + m.length < 2 ^ 64))
+    (map ivmd_at (cond t (b ∷ filter (is_memory_for id) bs) (filter (is_memory_for id) bs)))
+each_by id b bs true is others e =
+    let p = and_parts _ _ e in
+    ((meant id b is, ltb-true _ _ p.0), others p.1)
+each_by id b bs false is others e = others e
+
+each_meant : (id : ℕ) (bs : List (List ℕ)) → list_all ends_below (map ivmd_at (filter (is_memory_for id) bs)) ≡ true
+    → AllByRecursion (λ m. IsMeantFor id m × (m.start + m.length < 2 ^ 64)) (map ivmd_at (filter (is_memory_for id) bs))
+each_meant id [] e = tt
+each_meant id (b ∷ bs) e = each_by id b bs (is_memory_for id b) refl (each_meant id bs) e
+
+pub memory_is_meant : MemoryIsMeant
+memory_is_meant table id answer e =
+    let ms = memory_in id (blocks_of table) in
+    let inner = λ (u : Unit {0}). holds (list_all ends_below ms) InvalidMemoryRange >>= λ v. done ms in
+    let below = holds_ok (list_all ends_below ms) InvalidMemoryRange (λ v. done ms) answer
+    (holds_ok (ivrs.is_whole table) InvalidStructureLength inner answer e).1 in
+    subst (λ xs. AllByRecursion (λ m. IsMeantFor id m × (m.start + m.length < 2 ^ 64)) xs) (same_ok ms answer below.1)
+    (each_meant id (blocks_of table) below.0)
