@@ -1,6 +1,6 @@
 -- Bytes and flags: single bytes, trigger modes and polarities as they are read, the bytes of numbers, flags in a number,
 -- and checks that were passed.
-use Rattle.std.proofs.Common.{◌≡◌, ℕ, Bool, true, false, List, [], ◌∷◌, Result, Ok, Err, refl, sym, ap, ◌∙◌, arith, ◌^◌, ◌<◌, w16, w32, w64, zero, suc, ◌+◌, ◌*◌, ◌%◌, ◌/◌, ◌≤◌, length, drop, add-one, drop-cons}
+use Rattle.std.proofs.Common.{subst, ◌≡◌, ℕ, Bool, true, false, List, [], ◌∷◌, Result, Ok, Err, refl, sym, ap, ◌∙◌, arith, ◌^◌, ◌<◌, w16, w32, w64, zero, suc, ◌+◌, ◌*◌, ◌%◌, ◌/◌, ◌≤◌, length, drop, add-one, drop-cons}
 use Rattle.std.specs.Prelude.{not, if◌then◌else◌, ◌==◌}
 use Rattle.std.specs.List.{AllByRecursion}
 use Rattle.std.specs.Result.{IsErrAnd}
@@ -58,6 +58,12 @@ flags_are false false true true = (refl, refl, refl, refl)
 flags_are false false true false = (refl, refl, refl, refl)
 flags_are false false false true = (refl, refl, refl, refl)
 flags_are false false false false = (refl, refl, refl, refl)
+
+pub flag_bits : (a b c d : Bool) → (has_bit (flags_of a b c d) 0 ≡ a) × (has_bit (flags_of a b c d) 1 ≡ b) × (has_bit (flags_of a b c d) 2 ≡ c) × (has_bit (flags_of a b c d) 3 ≡ d)
+flag_bits a b c d =
+    let same : flags_number a b c d ≡ flags_of a b c d = omega arith in
+    let P : ℕ → Type 0 = λ n. (has_bit n 0 ≡ a) × (has_bit n 1 ≡ b) × (has_bit n 2 ≡ c) × (has_bit n 3 ≡ d) in
+    subst P same (flags_are a b c d)
 
 abbrev pub mode : Bool → TriggerMode
 mode edge = if edge then Edge else Level

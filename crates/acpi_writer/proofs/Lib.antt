@@ -1,4 +1,5 @@
 pub mod Bits
+pub mod FieldsRead
 pub mod Sized
 pub mod Tables
 pub mod Rows

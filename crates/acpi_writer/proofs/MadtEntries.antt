@@ -21,7 +21,7 @@ use Rattle.acpi_writer.proofs.Rows.{AreRows, both_rows, no_rows, one_row, rows_a
 use Rattle.std.proofs.lemmas.Bool.{ltb-true, ne_eqb}
 use Rattle.acpi_base.proofs.Spelling.{number-spelling}
 use Rattle.acpi_base.specs.Bytes.{field_of, number, spelling}
-use Rattle.acpi_base.specs.Interrupts.{item_of, line_code}
+use Rattle.acpi_base.specs.Interrupts.{item_of, line_code, polarity_of, trigger_mode_of}
 use Rattle.acpi_base.specs.declared.model.interrupt.InterruptSourceOverride.{InterruptSourceOverride}
 use Rattle.acpi_base.specs.declared.model.interrupt.IoApic.{IoApic}
 use Rattle.acpi_base.specs.declared.model.interrupt.LocalInterruptLine.{LocalInterruptLine}
@@ -32,8 +32,14 @@ use Rattle.acpi_base.specs.declared.model.interrupt.NmiSource.{NmiSource}
 use Rattle.acpi_base.specs.declared.model.interrupt.Polarity.{Polarity}
 use Rattle.acpi_base.specs.declared.model.interrupt.TriggerMode.{TriggerMode}
 use Rattle.acpi_writer.specs.declared.madt.MadtProcessor.{MadtProcessor}
-use Rattle.acpi_writer.specs.MadtBytes.{address_entries, address_entry, apic_nmi_entry, io_apic_entry, local_apic_entry, local_x2apic_entry, long_uid, names_one, nmi_entry, nmi_line_entry, nmi_source_entry, override_entry, processor_entry, short_uid, wakeup_entries, wakeup_entry, x2apic_nmi_entry}
+use Rattle.acpi_writer.specs.MadtBytes.{inti_flags, io_apic_fields, nmi_source_fields, override_fields, address_entries, address_entry, apic_nmi_entry, io_apic_entry, is_small, local_apic_fields, local_x2apic_fields, long_uid, names_one, nmi_entry, nmi_line_entry, nmi_source_entry, override_entry, processor_entry, short_uid, wakeup_entries, wakeup_entry, x2apic_nmi_entry}
 use Rattle.acpi_writer.specs.MadtLaws.{FitsIoApic, FitsMailbox, FitsNmiSource, FitsOverride, FitsProcessor}
+use Rattle.acpi_base.specs.Bits.{has_bit}
+use Rattle.std.specs.List.{All}
+use Rattle.std.proofs.Common.{◌+◌, ◌*◌, lit<}
+use Rattle.acpi_writer.specs.Table.{bit_of}
+use Rattle.acpi_writer.specs.Fields.{FitsField, fields_bytes}
+use Rattle.acpi_writer.proofs.FieldsRead.{read_at}
 use Rattle.acpi_writer.proofs.Bits.{one}
 use Rattle.acpi_base.specs.declared.model.item.MadtItem.TheVariants as item
 use Rattle.acpi_base.specs.declared.model.interrupt.NmiProcessor.TheVariants as nmi
@@ -143,12 +149,6 @@ module _ (table : List ℕ) (items : List MadtItem) (boxes : List ℕ) (s : Spea
 abbrev tell : MadtItem → Option (Result MadtItem MadtError)
 tell x = Some (fine x)
 
-same2 : {A B C : Type 0} (f : A → B → C) (a b : A) (x y : B) → a ≡ b → x ≡ y → f a x ≡ f b y
-same2 f a b x y e h = ap (λ z. f z x) e ∙ ap (f b) h
-
-same3 : {A B C D : Type 0} (f : A → B → C → D) (a b : A) (x y : B) (u v : C) → a ≡ b → x ≡ y → u ≡ v → f a x u ≡ f b y v
-same3 f a b x y u v e h i = same2 (f a) x y u v h i ∙ ap (λ z. f z y v) e
-
 abbrev some_box : ℕ → Option ℕ
 some_box a = Some a
 
@@ -171,43 +171,38 @@ boxes_read None = []
 
 -- ---- processors
 
-local_apic_by : (uid id : ℕ) (enabled capable : Bool) → said_of (local_apic_entry (record { processor_uid = uid; local_apic_id = id; is_enabled = enabled; is_online_capable = capable })) ≡ tell (item.Processor uid id enabled)
-unfolding local_apic_entry said_of item_of field_of spelling
-local_apic_by uid id true true = same2 (λ u i. tell (item.Processor u i true)) _ _ _ _ (one uid) (one id)
-local_apic_by uid id true false = same2 (λ u i. tell (item.Processor u i true)) _ _ _ _ (one uid) (one id)
-local_apic_by uid id false true = same2 (λ u i. tell (item.Processor u i false)) _ _ _ _ (one uid) (one id)
-local_apic_by uid id false false = same2 (λ u i. tell (item.Processor u i false)) _ _ _ _ (one uid) (one id)
+enabled_bit : (enabled capable : Bool) → has_bit (bit_of enabled + 2 * bit_of capable) 0 ≡ enabled
+enabled_bit true true = refl
+enabled_bit true false = refl
+enabled_bit false true = refl
+enabled_bit false false = refl
 
-local_apic_is : (p : MadtProcessor) → IsEntry madt_layout (local_apic_entry p)
-unfolding local_apic_entry
-local_apic_is p = record { entry_type = lit≤ tt; header = lit≤ tt; size = refl; least = lit≤ tt }
+local_apic_says : (p : MadtProcessor) → All FitsField (local_apic_fields p) → said_of (fields_bytes (local_apic_fields p)) ≡ tell (processor_item p)
+unfolding local_apic_fields said_of item_of
+local_apic_says p f =
+    let r = λ (i : ℕ) (h : i < 6). read_at (local_apic_fields p) f i h in
+    rw (r 2 (lit< tt), r 3 (lit< tt), r 4 (lit< tt), enabled_bit p.is_enabled p.is_online_capable) refl
 
-local_apic_box : (p : MadtProcessor) → box_of (local_apic_entry p) ≡ None
-unfolding local_apic_entry
-local_apic_box p = refl
+x2apic_says : (p : MadtProcessor) → All FitsField (local_x2apic_fields p) → said_of (fields_bytes (local_x2apic_fields p)) ≡ tell (processor_item p)
+unfolding local_x2apic_fields said_of item_of
+x2apic_says p f =
+    let r = λ (i : ℕ) (h : i < 6). read_at (local_x2apic_fields p) f i h in
+    rw (r 3 (lit< tt), r 4 (lit< tt), r 5 (lit< tt), enabled_bit p.is_enabled p.is_online_capable) refl
 
-x2apic_by : (uid id : ℕ) (enabled capable : Bool) → uid < 2 ^ 32 → id < 2 ^ 32 → said_of (local_x2apic_entry (record { processor_uid = uid; local_apic_id = id; is_enabled = enabled; is_online_capable = capable })) ≡ tell (item.Processor uid id enabled)
-unfolding local_x2apic_entry said_of item_of field_of spelling
-x2apic_by uid id true true u i = same2 (λ u i. tell (item.Processor u i true)) _ _ _ _ (number-spelling 4 uid (omega (arith, u))) (number-spelling 4 id (omega (arith, i)))
-x2apic_by uid id true false u i = same2 (λ u i. tell (item.Processor u i true)) _ _ _ _ (number-spelling 4 uid (omega (arith, u))) (number-spelling 4 id (omega (arith, i)))
-x2apic_by uid id false true u i = same2 (λ u i. tell (item.Processor u i false)) _ _ _ _ (number-spelling 4 uid (omega (arith, u))) (number-spelling 4 id (omega (arith, i)))
-x2apic_by uid id false false u i = same2 (λ u i. tell (item.Processor u i false)) _ _ _ _ (number-spelling 4 uid (omega (arith, u))) (number-spelling 4 id (omega (arith, i)))
+processor_is : (p : MadtProcessor) → IsEntry madt_layout (fields_bytes (local_apic_fields p)) × IsEntry madt_layout (fields_bytes (local_x2apic_fields p))
+unfolding local_apic_fields local_x2apic_fields spelling
+processor_is p = (record { entry_type = lit≤ tt; header = lit≤ tt; size = refl; least = lit≤ tt }, record { entry_type = lit≤ tt; header = lit≤ tt; size = refl; least = lit≤ tt })
 
-x2apic_is : (p : MadtProcessor) → IsEntry madt_layout (local_x2apic_entry p)
-unfolding local_x2apic_entry spelling
-x2apic_is p = record { entry_type = lit≤ tt; header = lit≤ tt; size = refl; least = lit≤ tt }
+processor_box : (p : MadtProcessor) → (box_of (fields_bytes (local_apic_fields p)) ≡ None) × (box_of (fields_bytes (local_x2apic_fields p)) ≡ None)
+unfolding local_apic_fields local_x2apic_fields
+processor_box p = (refl, refl)
 
-x2apic_box : (p : MadtProcessor) → box_of (local_x2apic_entry p) ≡ None
-unfolding local_x2apic_entry
-x2apic_box p = refl
-
-processor_says_by : (small : Bool) (p : MadtProcessor) → FitsProcessor p → Speaks (if small then local_apic_entry p else local_x2apic_entry p) (processor_item p ∷ []) []
-processor_says_by true p f = speaks_one (local_apic_entry p) (processor_item p) (local_apic_is p) (local_apic_by p.processor_uid p.local_apic_id p.is_enabled p.is_online_capable) (local_apic_box p)
-processor_says_by false p f = speaks_one (local_x2apic_entry p) (processor_item p) (x2apic_is p) (x2apic_by p.processor_uid p.local_apic_id p.is_enabled p.is_online_capable f.uid f.id) (x2apic_box p)
+processor_says_by : (small : Bool) (p : MadtProcessor) → let fs = if small then local_apic_fields p else local_x2apic_fields p in All FitsField fs → Speaks (fields_bytes fs) (processor_item p ∷ []) []
+processor_says_by true p f = speaks_one (fields_bytes (local_apic_fields p)) (processor_item p) (processor_is p).0 (local_apic_says p f) (processor_box p).0
+processor_says_by false p f = speaks_one (fields_bytes (local_x2apic_fields p)) (processor_item p) (processor_is p).1 (x2apic_says p f) (processor_box p).1
 
 pub processor_says : (p : MadtProcessor) → FitsProcessor p → Speaks (processor_entry p) (processor_item p ∷ []) []
-unfolding processor_entry
-processor_says p f = processor_says_by _ p f
+processor_says p f = processor_says_by (is_small p) p f
 
 -- ---- the address
 
@@ -234,17 +229,17 @@ address_says a h = address_says_by (nat_lt a (2 ^ 32)) a h
 -- ---- I/O APICs
 
 io_apic_by : (x : IoApic) → FitsIoApic x → said_of (io_apic_entry x) ≡ tell (item.IoApic x)
-unfolding io_apic_entry said_of item_of field_of spelling
+unfolding io_apic_fields said_of item_of
 io_apic_by x f =
-    same3 (λ i a g. tell (item.IoApic (record { id = i; address = a; global_system_interrupt_base = g }))) _ _ _ _ _ _
-    (one x.id) (number-spelling 4 x.address (omega (arith, f.address))) (number-spelling 4 x.global_system_interrupt_base (omega (arith, f.base)))
+    let r = λ (i : ℕ) (h : i < 6). read_at (io_apic_fields x) f i h in
+    rw (r 2 (lit< tt), r 4 (lit< tt), r 5 (lit< tt)) refl
 
 io_apic_is : (x : IoApic) → IsEntry madt_layout (io_apic_entry x)
-unfolding io_apic_entry spelling
+unfolding io_apic_fields spelling
 io_apic_is x = record { entry_type = lit≤ tt; header = lit≤ tt; size = refl; least = lit≤ tt }
 
 io_apic_box : (x : IoApic) → box_of (io_apic_entry x) ≡ None
-unfolding io_apic_entry
+unfolding io_apic_fields
 io_apic_box x = refl
 
 pub io_apic_says : (x : IoApic) → FitsIoApic x → Speaks (io_apic_entry x) (item.IoApic x ∷ []) []
@@ -252,59 +247,54 @@ io_apic_says x f = speaks_one (io_apic_entry x) (item.IoApic x) (io_apic_is x) (
 
 -- ---- overrides
 
-abbrev override : ℕ → ℕ → Polarity → TriggerMode → InterruptSourceOverride
-override s g p t = record { isa_source = s; global_system_interrupt = g; polarity = p; trigger_mode = t }
+inti_read : (p : Polarity) (t : TriggerMode) → (polarity_of (inti_flags p t) ≡ Ok p) × (trigger_mode_of (inti_flags p t) ≡ Ok t)
+inti_read polarity.SameAsBus trigger.SameAsBus = (refl, refl)
+inti_read polarity.SameAsBus trigger.Edge = (refl, refl)
+inti_read polarity.SameAsBus trigger.Level = (refl, refl)
+inti_read polarity.ActiveHigh trigger.SameAsBus = (refl, refl)
+inti_read polarity.ActiveHigh trigger.Edge = (refl, refl)
+inti_read polarity.ActiveHigh trigger.Level = (refl, refl)
+inti_read polarity.ActiveLow trigger.SameAsBus = (refl, refl)
+inti_read polarity.ActiveLow trigger.Edge = (refl, refl)
+inti_read polarity.ActiveLow trigger.Level = (refl, refl)
 
-override_by : (s g : ℕ) (p : Polarity) (t : TriggerMode) → g < 2 ^ 32 → said_of (override_entry (override s g p t)) ≡ tell (item.Override (override s g p t))
-unfolding override_entry said_of item_of field_of spelling
-override_by s g polarity.SameAsBus trigger.SameAsBus h = same2 (λ a b. tell (item.Override (override a b polarity.SameAsBus trigger.SameAsBus))) _ _ _ _ (one s) (number-spelling 4 g (omega (arith, h)))
-override_by s g polarity.SameAsBus trigger.Edge h = same2 (λ a b. tell (item.Override (override a b polarity.SameAsBus trigger.Edge))) _ _ _ _ (one s) (number-spelling 4 g (omega (arith, h)))
-override_by s g polarity.SameAsBus trigger.Level h = same2 (λ a b. tell (item.Override (override a b polarity.SameAsBus trigger.Level))) _ _ _ _ (one s) (number-spelling 4 g (omega (arith, h)))
-override_by s g polarity.ActiveHigh trigger.SameAsBus h = same2 (λ a b. tell (item.Override (override a b polarity.ActiveHigh trigger.SameAsBus))) _ _ _ _ (one s) (number-spelling 4 g (omega (arith, h)))
-override_by s g polarity.ActiveHigh trigger.Edge h = same2 (λ a b. tell (item.Override (override a b polarity.ActiveHigh trigger.Edge))) _ _ _ _ (one s) (number-spelling 4 g (omega (arith, h)))
-override_by s g polarity.ActiveHigh trigger.Level h = same2 (λ a b. tell (item.Override (override a b polarity.ActiveHigh trigger.Level))) _ _ _ _ (one s) (number-spelling 4 g (omega (arith, h)))
-override_by s g polarity.ActiveLow trigger.SameAsBus h = same2 (λ a b. tell (item.Override (override a b polarity.ActiveLow trigger.SameAsBus))) _ _ _ _ (one s) (number-spelling 4 g (omega (arith, h)))
-override_by s g polarity.ActiveLow trigger.Edge h = same2 (λ a b. tell (item.Override (override a b polarity.ActiveLow trigger.Edge))) _ _ _ _ (one s) (number-spelling 4 g (omega (arith, h)))
-override_by s g polarity.ActiveLow trigger.Level h = same2 (λ a b. tell (item.Override (override a b polarity.ActiveLow trigger.Level))) _ _ _ _ (one s) (number-spelling 4 g (omega (arith, h)))
+override_by : (x : InterruptSourceOverride) → FitsOverride x → said_of (override_entry x) ≡ tell (item.Override x)
+unfolding override_fields said_of item_of
+override_by x f =
+    let r = λ (i : ℕ) (h : i < 6). read_at (override_fields x) f i h in
+    let flags = inti_read x.polarity x.trigger_mode in
+    rw (r 2 (lit< tt), r 3 (lit< tt), r 4 (lit< tt), r 5 (lit< tt), flags.0, flags.1) refl
 
 override_is : (x : InterruptSourceOverride) → IsEntry madt_layout (override_entry x)
-unfolding override_entry spelling
+unfolding override_fields spelling
 override_is x = record { entry_type = lit≤ tt; header = lit≤ tt; size = refl; least = lit≤ tt }
 
 override_box : (x : InterruptSourceOverride) → box_of (override_entry x) ≡ None
-unfolding override_entry
+unfolding override_fields
 override_box x = refl
 
 pub override_says : (x : InterruptSourceOverride) → FitsOverride x → Speaks (override_entry x) (item.Override x ∷ []) []
-override_says x f = speaks_one (override_entry x) (item.Override x) (override_is x) (override_by x.isa_source x.global_system_interrupt x.polarity x.trigger_mode f) (override_box x)
+override_says x f = speaks_one (override_entry x) (item.Override x) (override_is x) (override_by x f) (override_box x)
 
 -- ---- NMI sources
 
-abbrev source : ℕ → Polarity → TriggerMode → NmiSource
-source g p t = record { global_system_interrupt = g; polarity = p; trigger_mode = t }
-
-source_by : (g : ℕ) (p : Polarity) (t : TriggerMode) → g < 2 ^ 32 → said_of (nmi_source_entry (source g p t)) ≡ tell (item.NmiSource (source g p t))
-unfolding nmi_source_entry said_of item_of field_of spelling
-source_by g polarity.SameAsBus trigger.SameAsBus h = ap (λ b. tell (item.NmiSource (source b polarity.SameAsBus trigger.SameAsBus))) (number-spelling 4 g (omega (arith, h)))
-source_by g polarity.SameAsBus trigger.Edge h = ap (λ b. tell (item.NmiSource (source b polarity.SameAsBus trigger.Edge))) (number-spelling 4 g (omega (arith, h)))
-source_by g polarity.SameAsBus trigger.Level h = ap (λ b. tell (item.NmiSource (source b polarity.SameAsBus trigger.Level))) (number-spelling 4 g (omega (arith, h)))
-source_by g polarity.ActiveHigh trigger.SameAsBus h = ap (λ b. tell (item.NmiSource (source b polarity.ActiveHigh trigger.SameAsBus))) (number-spelling 4 g (omega (arith, h)))
-source_by g polarity.ActiveHigh trigger.Edge h = ap (λ b. tell (item.NmiSource (source b polarity.ActiveHigh trigger.Edge))) (number-spelling 4 g (omega (arith, h)))
-source_by g polarity.ActiveHigh trigger.Level h = ap (λ b. tell (item.NmiSource (source b polarity.ActiveHigh trigger.Level))) (number-spelling 4 g (omega (arith, h)))
-source_by g polarity.ActiveLow trigger.SameAsBus h = ap (λ b. tell (item.NmiSource (source b polarity.ActiveLow trigger.SameAsBus))) (number-spelling 4 g (omega (arith, h)))
-source_by g polarity.ActiveLow trigger.Edge h = ap (λ b. tell (item.NmiSource (source b polarity.ActiveLow trigger.Edge))) (number-spelling 4 g (omega (arith, h)))
-source_by g polarity.ActiveLow trigger.Level h = ap (λ b. tell (item.NmiSource (source b polarity.ActiveLow trigger.Level))) (number-spelling 4 g (omega (arith, h)))
+source_by : (x : NmiSource) → FitsNmiSource x → said_of (nmi_source_entry x) ≡ tell (item.NmiSource x)
+unfolding nmi_source_fields said_of item_of
+source_by x f =
+    let r = λ (i : ℕ) (h : i < 4). read_at (nmi_source_fields x) f i h in
+    let flags = inti_read x.polarity x.trigger_mode in
+    rw (r 2 (lit< tt), r 3 (lit< tt), flags.0, flags.1) refl
 
 source_is : (x : NmiSource) → IsEntry madt_layout (nmi_source_entry x)
-unfolding nmi_source_entry spelling
+unfolding nmi_source_fields spelling
 source_is x = record { entry_type = lit≤ tt; header = lit≤ tt; size = refl; least = lit≤ tt }
 
 nmi_source_box : (x : NmiSource) → box_of (nmi_source_entry x) ≡ None
-unfolding nmi_source_entry
+unfolding nmi_source_fields
 nmi_source_box x = refl
 
 pub nmi_source_says : (x : NmiSource) → FitsNmiSource x → Speaks (nmi_source_entry x) (item.NmiSource x ∷ []) []
-nmi_source_says x f = speaks_one (nmi_source_entry x) (item.NmiSource x) (source_is x) (source_by x.global_system_interrupt x.polarity x.trigger_mode f) (nmi_source_box x)
+nmi_source_says x f = speaks_one (nmi_source_entry x) (item.NmiSource x) (source_is x) (source_by x f) (nmi_source_box x)
 
 -- ---- NMI lines
 

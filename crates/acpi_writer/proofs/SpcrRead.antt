@@ -7,19 +7,17 @@ use Rattle.std.proofs.lemmas.Bool.{and_parts, eqb-true, le-leb, ltb-true}
 use Rattle.std.proofs.lemmas.List.{drop-drop, get_or_past, take_all}
 use Rattle.std.proofs.lemmas.Slice.Eq.{bytes_eq-Decides}
 use Rattle.std.proofs.lemmas.Str.{IsUtf8-append, IsUtf8-from_is_utf8, is_utf8-from_IsUtf8}
-use Rattle.acpi_base.proofs.Spelling.{number-spelling}
 use Rattle.acpi_base.specs.Address.{generic_address_of}
 use Rattle.acpi_base.specs.Bytes.{field_of, filled_part, part, spelling}
 use Rattle.acpi_base.specs.Header.{header_at}
 use Rattle.acpi_base.specs.Spcr.{configured_baud, interface_of, interfaces, namespace_of, spcr_at, unless}
-use Rattle.acpi_base.specs.SpcrFlags.{flow_bits, interrupt_bits, terminal_bits}
 use Rattle.acpi_base.specs.declared.address.GenericAddress.{GenericAddress}
 use Rattle.acpi_base.specs.declared.error.AcpiError.{AcpiError}
 use Rattle.acpi_base.specs.declared.table.signature.TheConstants.Signature.{SPCR}
 use Rattle.acpi_base.specs.declared.tables.spcr.interface.SpcrInterfaceType.{SpcrInterfaceType}
 use Rattle.acpi_base.specs.declared.tables.spcr.interface.SpcrInterfaceType.TheVariants as interface
 use Rattle.acpi_writer.specs.Generic.{address_bytes, is_named_space}
-use Rattle.acpi_writer.specs.Spcr.{base_written, baud_code, console_fields, device_written, interface_code, is_base, is_interface, is_somewhere, port_fields, spcr_body, spcr_checked}
+use Rattle.acpi_writer.specs.Spcr.{base_written, baud_code, device_written, fixed_list, interface_code, is_base, is_interface, is_somewhere, spcr_body, spcr_checked, spcr_fields}
 use Rattle.acpi_writer.specs.SpcrLaws.{FitsSpcr, IsSpcr, SaysConsole, SaysDevice, SaysPort, SpcrIsRead, SpcrIsValid, readable}
 use Rattle.acpi_writer.specs.Table.{IsTableOf}
 use Rattle.acpi_writer.specs.declared.error.WriterError.{WriterError}
@@ -28,7 +26,11 @@ use Rattle.acpi_writer.specs.declared.ids.TableIds.{TableIds}
 use Rattle.acpi_writer.specs.declared.spcr.SpcrContents.{SpcrContents}
 use Rattle.acpi_writer.proofs.Tables.{ids_are_read}
 use Rattle.acpi_base.proofs.Steps.{holds_ok}
-use Rattle.acpi_writer.proofs.Bits.{is_off, one, was_true}
+use Rattle.acpi_writer.proofs.Bits.{is_off, was_true}
+use Rattle.acpi_writer.proofs.FieldsRead.{read_front}
+use Rattle.acpi_writer.specs.Fields.{field_at, field_size, field_value, offset_of}
+use Rattle.acpi_writer.specs.declared.fields.Field.TheVariants.{Zeros}
+use Rattle.std.proofs.Common.{lit<}
 use Rattle.acpi_writer.proofs.RegisterRead.{address_field, generic_read}
 use Rattle.acpi_writer.proofs.Tables as table
 
@@ -110,74 +112,17 @@ pub spcr_name : table.IsName SPCR
 unfolding is_utf8 chars lib.Utf8.encode
 spcr_name = record { a = _; b = _; c = _; d = _; letters = refl; text = refl; same = refl }
 
--- one byte in the fixed fields, and a number there
 module _ (c : SpcrContents) where
-  bytes_of_port :
-      (field_of (spcr_body c) 0 1 ≡ interface_code c.interface_type) × (field_of (spcr_body c) 16 1 ≡ interrupt_bits c.interrupt_type) × (field_of (spcr_body c) 17 1 ≡ c.irq)
-      × (field_of (spcr_body c) 22 1 ≡ baud_code c.baud_rate) × (field_of (spcr_body c) 23 1 ≡ c.parity) × (field_of (spcr_body c) 24 1 ≡ c.stop_bits)
-      × (field_of (spcr_body c) 25 1 ≡ flow_bits c.flow_control) × (field_of (spcr_body c) 26 1 ≡ terminal_bits c.terminal_type) × (field_of (spcr_body c) 27 1 ≡ c.language)
-  unfolding port_fields address_bytes spelling field_of
-  bytes_of_port = (
-    one (interface_code c.interface_type),
-    one (interrupt_bits c.interrupt_type),
-    one c.irq,
-    one (baud_code c.baud_rate),
-    one c.parity,
-    one c.stop_bits,
-    one (flow_bits c.flow_control),
-    one (terminal_bits c.terminal_type),
-    one c.language,
-  )
-
   base_in : part (spcr_body c) 4 12 ≡ address_bytes (base_written c.base_address)
-  unfolding port_fields address_bytes spelling
+  unfolding fixed_list address_bytes spelling
   base_in = refl
 
   after_fields : drop 52 (spcr_body c) ≡ c.namespace_string.now ++ (0 ∷ [])
-  unfolding port_fields console_fields address_bytes spelling
+  unfolding fixed_list spelling
   after_fields = refl
 
-  bytes_of_device : let d = device_written c.pci_device in (field_of (spcr_body c) 32 1 ≡ d.bus) × (field_of (spcr_body c) 33 1 ≡ d.device) × (field_of (spcr_body c) 34 1 ≡ d.function) × (field_of (spcr_body c) 39 1 ≡ d.segment)
-  unfolding port_fields console_fields address_bytes spelling field_of
-  bytes_of_device =
-      let d = device_written c.pci_device in
-      (one d.bus, one d.device, one d.function, one d.segment)
-
-  module _ (f : FitsSpcr c) where
-    interrupt_in : field_of (spcr_body c) 18 4 ≡ c.global_system_interrupt
-    unfolding port_fields address_bytes spelling field_of
-    interrupt_in = number-spelling 4 c.global_system_interrupt (omega (arith, f.port.interrupt))
-
-    device_id_in : field_of (spcr_body c) 28 2 ≡ (device_written c.pci_device).device_id
-    unfolding port_fields console_fields address_bytes spelling field_of
-    device_id_in = number-spelling 2 (device_written c.pci_device).device_id (omega (arith, f.console.device_id))
-
-    vendor_id_in : field_of (spcr_body c) 30 2 ≡ (device_written c.pci_device).vendor_id
-    unfolding port_fields console_fields address_bytes spelling field_of
-    vendor_id_in = number-spelling 2 (device_written c.pci_device).vendor_id (omega (arith, f.console.vendor_id))
-
-    flags_in : field_of (spcr_body c) 35 4 ≡ (device_written c.pci_device).flags
-    unfolding port_fields console_fields address_bytes spelling field_of
-    flags_in = number-spelling 4 (device_written c.pci_device).flags (omega (arith, f.console.flags))
-
-    clock_in : field_of (spcr_body c) 40 4 ≡ c.uart_clock_frequency
-    unfolding port_fields console_fields address_bytes spelling field_of
-    clock_in = number-spelling 4 c.uart_clock_frequency (omega (arith, f.console.clock))
-
-    rate_in : field_of (spcr_body c) 44 4 ≡ c.baud_rate
-    unfolding port_fields console_fields address_bytes spelling field_of
-    rate_in = number-spelling 4 c.baud_rate (omega (arith, f.console.rate))
-
-    count_in : length c.namespace_string.now < 0xffff → field_of (spcr_body c) 48 2 ≡ length c.namespace_string.now + 1
-    unfolding port_fields console_fields address_bytes spelling field_of
-    count_in short = number-spelling 2 (length c.namespace_string.now + 1) (omega (arith, short))
-
-    offset_in : field_of (spcr_body c) 50 2 ≡ 88
-    unfolding port_fields console_fields address_bytes spelling field_of
-    offset_in = refl
-
   pub body_long : length (spcr_body c) ≡ 53 + length c.namespace_string.now
-  unfolding port_fields console_fields address_bytes spelling
+  unfolding fixed_list spelling
   body_long = omega (arith, length-append c.namespace_string.now (0 ∷ []))
 
 zero_ends : is_utf8 (0 ∷ []) ≡ true
@@ -199,39 +144,44 @@ module _ (ids : TableIds) (c : SpcrContents) (t : List ℕ) (is : IsSpcr ids c t
       let found : part t 40 12 ≡ address_bytes (base_written c.base_address) = ap (take 12) (sym (drop-drop 4 36 t) ∙ ap (drop 4) rest) ∙ base_in c in
       ap (λ p. p ++ replicate (12 - length p) 0) found ∙ filled (base_written c.base_address)
 
+  -- a field, by its place among them
+  at_place : (i : ℕ) → i < length (spcr_fields c) → field_of t (36 + offset_of (spcr_fields c) i) (field_size (field_at (spcr_fields c) i)) ≡ field_value (field_at (spcr_fields c) i)
+  at_place i less = field (offset_of (spcr_fields c) i) (field_size (field_at (spcr_fields c) i)) ∙ read_front (spcr_fields c) (c.namespace_string.now ++ (0 ∷ [])) is.fit i less
+
+  address_fits : (base_written c.base_address).address < 2 ^ 64
+  unfolding fixed_list
+  address_fits = is.fit 6 (Zeros 0) (lit< tt)
+
   port : SaysPort c (spcr_at t)
-  unfolding spcr_at
+  unfolding spcr_at fixed_list
   port =
-      let b = bytes_of_port c in
-      let kind = field 16 1 ∙ b.1 in
+      let kind = at_place 7 (lit< tt) in
       record {
-        interface_type = ap interface_of (field 0 1 ∙ b.0) ∙ each_interface c.interface_type is.interface;
-        base_address = ap base_found raw ∙ base_by c.base_address is.fit.port.address is.base is.somewhere;
+        interface_type = ap interface_of (at_place 0 (lit< tt)) ∙ each_interface c.interface_type is.interface;
+        base_address = ap base_found raw ∙ base_by c.base_address address_fits is.base is.somewhere;
         interrupt_type = kind;
-        irq = rw (kind, field 17 1 ∙ b.2) refl;
-        global_system_interrupt = rw (kind, field 18 4 ∙ interrupt_in c is.fit) refl;
-        baud_rate = rw (field 44 4 ∙ rate_in c is.fit, field 22 1 ∙ b.3) (baud_by c.baud_rate (c.baud_rate == 0) refl);
-        parity = field 23 1 ∙ b.4;
-        stop_bits = field 24 1 ∙ b.5;
-        flow_control = field 25 1 ∙ b.6;
-        terminal_type = field 26 1 ∙ b.7;
-        language = field 27 1 ∙ b.8;
-        uart_clock_frequency = rw (revision, field 40 4 ∙ clock_in c is.fit) refl;
+        irq = rw (kind, at_place 8 (lit< tt)) refl;
+        global_system_interrupt = rw (kind, at_place 9 (lit< tt)) refl;
+        baud_rate = rw (at_place 24 (lit< tt), at_place 10 (lit< tt)) (baud_by c.baud_rate (c.baud_rate == 0) refl);
+        parity = at_place 11 (lit< tt);
+        stop_bits = at_place 12 (lit< tt);
+        flow_control = at_place 13 (lit< tt);
+        terminal_type = at_place 14 (lit< tt);
+        language = at_place 15 (lit< tt);
+        uart_clock_frequency = rw (revision, at_place 23 (lit< tt)) refl;
       }
 
   device : SaysDevice (device_written c.pci_device) (spcr_at t)
-  unfolding spcr_at
-  device =
-      let b = bytes_of_device c in
-      record {
-        device_id = ap (unless 0xffff) (field 28 2 ∙ device_id_in c is.fit);
-        vendor_id = ap (unless 0xffff) (field 30 2 ∙ vendor_id_in c is.fit);
-        bus = ap (unless 0) (field 32 1 ∙ b.0);
-        device = ap (unless 0) (field 33 1 ∙ b.1);
-        function = ap (unless 0) (field 34 1 ∙ b.2);
-        flags = field 35 4 ∙ flags_in c is.fit;
-        segment = field 39 1 ∙ b.3;
-      }
+  unfolding spcr_at fixed_list
+  device = record {
+    device_id = ap (unless 0xffff) (at_place 16 (lit< tt));
+    vendor_id = ap (unless 0xffff) (at_place 17 (lit< tt));
+    bus = ap (unless 0) (at_place 18 (lit< tt));
+    device = ap (unless 0) (at_place 19 (lit< tt));
+    function = ap (unless 0) (at_place 20 (lit< tt));
+    flags = at_place 21 (lit< tt);
+    segment = at_place 22 (lit< tt);
+  }
 
   abbrev name : List ℕ
   name = c.namespace_string.now ++ (0 ∷ [])
@@ -248,8 +198,8 @@ module _ (ids : TableIds) (c : SpcrContents) (t : List ℕ) (is : IsSpcr ids c t
   within = le-leb _ _ (omega (arith, table.long SPCR spcr_name 4 ids (spcr_body c) t is.written, body_long c))
 
   named : namespace_of t ≡ Ok name
-  unfolding spcr_at
-  named = rw (field 50 2 ∙ offset_in c is.fit, field 48 2 ∙ count_in c is.fit is.short, within, name_in, name_text) refl
+  unfolding spcr_at fixed_list
+  named = rw (at_place 26 (lit< tt), at_place 25 (lit< tt), within, name_in, name_text) refl
 
   says : SaysConsole c t
   says = record { port = port; device = device; name = named }

@@ -14,9 +14,12 @@ use Rattle.acpi_base.specs.declared.model.interrupt.NmiProcessor.TheVariants as 
 use Rattle.acpi_base.specs.declared.model.interrupt.NmiSource.{NmiSource}
 use Rattle.acpi_base.specs.declared.model.interrupt.Polarity.{Polarity}
 use Rattle.acpi_base.specs.declared.model.interrupt.TriggerMode.{TriggerMode}
+use Rattle.acpi_writer.specs.Fields.{fields_bytes}
 use Rattle.acpi_writer.specs.Table.{bit_of, table_written}
 use Rattle.acpi_writer.specs.declared.error.WriterError.{WriterError}
 use Rattle.acpi_writer.specs.declared.error.WriterError.TheVariants.{IdOfAll, NoProcessor, UidOfAll}
+use Rattle.acpi_writer.specs.declared.fields.Field.{Field}
+use Rattle.acpi_writer.specs.declared.fields.Field.TheVariants.{U8, U16, U32, Zeros}
 use Rattle.acpi_writer.specs.declared.ids.TableIds.{TableIds}
 use Rattle.acpi_writer.specs.declared.madt.MadtContents.{MadtContents}
 use Rattle.acpi_writer.specs.declared.madt.MadtProcessor.{MadtProcessor}
@@ -27,23 +30,37 @@ use Rattle.acpi_writer.specs.declared.madt.MadtProcessor.{MadtProcessor}
 abbrev pub processor_flags : MadtProcessor → ℕ
 processor_flags p = bit_of p.is_enabled + 2 * bit_of p.is_online_capable
 
--- Processor Local APIC (section 5.2.12.2): at 0 Type, 1 Length, 2 ACPI Processor UID, 3 APIC ID, 4 Flags
-unfoldable pub local_apic_entry : MadtProcessor → List ℕ
-local_apic_entry p = 0 ∷ 8 ∷ p.processor_uid ∷ p.local_apic_id ∷ processor_flags p ∷ 0 ∷ 0 ∷ 0 ∷ []
+-- Processor Local APIC (section 5.2.12.2)
+unfoldable pub local_apic_fields : MadtProcessor → List Field
+local_apic_fields p =
+    U8 0  -- 0: Type
+    ∷ U8 8  -- 1: Length
+    ∷ U8 p.processor_uid  -- 2: ACPI Processor UID
+    ∷ U8 p.local_apic_id  -- 3: APIC ID
+    ∷ U32 (processor_flags p)  -- 4: Flags
+    ∷ Zeros 0
+    ∷ []
 
--- Processor Local x2APIC (section 5.2.12.12): at 0 Type, 1 Length, 2 Reserved, 4 X2APIC ID, 8 Flags, 12 ACPI Processor
--- UID
-unfoldable pub local_x2apic_entry : MadtProcessor → List ℕ
-local_x2apic_entry p =
-    9 ∷ 16 ∷ 0 ∷ 0 ∷ (spelling 4 p.local_apic_id
-    ++ (processor_flags p ∷ 0 ∷ 0 ∷ 0 ∷ spelling 4 p.processor_uid))
+-- Processor Local x2APIC (section 5.2.12.12)
+unfoldable pub local_x2apic_fields : MadtProcessor → List Field
+local_x2apic_fields p =
+    U8 9  -- 0: Type
+    ∷ U8 16  -- 1: Length
+    ∷ Zeros 2  -- 2: Reserved
+    ∷ U32 p.local_apic_id  -- 4: X2APIC ID
+    ∷ U32 (processor_flags p)  -- 8: Flags
+    ∷ U32 p.processor_uid  -- 12: ACPI Processor UID
+    ∷ []
 
 -- the ids have a place in the first, in which 255 stands for all
 abbrev pub is_small : MadtProcessor → Bool
 is_small p = nat_lt p.processor_uid 255 && nat_lt p.local_apic_id 255
 
-unfoldable pub processor_entry : MadtProcessor → List ℕ
-processor_entry p = if is_small p then local_apic_entry p else local_x2apic_entry p
+abbrev pub processor_fields : MadtProcessor → List Field
+processor_fields p = if is_small p then local_apic_fields p else local_x2apic_fields p
+
+abbrev pub processor_entry : MadtProcessor → List ℕ
+processor_entry p = fields_bytes (processor_fields p)
 
 -- Local APIC Address Override (section 5.2.12.8): at 0 Type, 1 Length, 2 Reserved, 4 Local APIC Address
 unfoldable pub address_entry : ℕ → List ℕ
@@ -53,25 +70,49 @@ address_entry a = 5 ∷ 12 ∷ 0 ∷ 0 ∷ spelling 8 a
 unfoldable pub address_entries : ℕ → List ℕ
 address_entries a = if nat_lt a (2 ^ 32) then [] else address_entry a
 
--- I/O APIC (section 5.2.12.3): at 0 Type, 1 Length, 2 I/O APIC ID, 3 Reserved, 4 I/O APIC Address, 8 Global System
--- Interrupt Base
-unfoldable pub io_apic_entry : IoApic → List ℕ
-io_apic_entry x = 1 ∷ 12 ∷ x.id ∷ 0 ∷ (spelling 4 x.address ++ spelling 4 x.global_system_interrupt_base)
+-- I/O APIC (section 5.2.12.3)
+unfoldable pub io_apic_fields : IoApic → List Field
+io_apic_fields x =
+    U8 1  -- 0: Type
+    ∷ U8 12  -- 1: Length
+    ∷ U8 x.id  -- 2: I/O APIC ID
+    ∷ Zeros 1  -- 3: Reserved
+    ∷ U32 x.address  -- 4: I/O APIC Address
+    ∷ U32 x.global_system_interrupt_base  -- 8: Global System Interrupt Base
+    ∷ []
+
+abbrev pub io_apic_entry : IoApic → List ℕ
+io_apic_entry x = fields_bytes (io_apic_fields x)
 
 -- MPS INTI Flags: the lower byte; the higher one is 0
 abbrev pub inti_flags : Polarity → TriggerMode → ℕ
 inti_flags p t = polarity_code p + 4 * trigger_code t
 
--- Interrupt Source Override (section 5.2.12.5): at 0 Type, 1 Length, 2 Bus, 3 Source, 4 Global System Interrupt, 8
--- Flags
-unfoldable pub override_entry : InterruptSourceOverride → List ℕ
-override_entry x =
-    2 ∷ 10 ∷ 0 ∷ x.isa_source ∷ (spelling 4 x.global_system_interrupt
-    ++ (inti_flags x.polarity x.trigger_mode ∷ 0 ∷ []))
+-- Interrupt Source Override (section 5.2.12.5)
+unfoldable pub override_fields : InterruptSourceOverride → List Field
+override_fields x =
+    U8 2  -- 0: Type
+    ∷ U8 10  -- 1: Length
+    ∷ U8 0  -- 2: Bus
+    ∷ U8 x.isa_source  -- 3: Source
+    ∷ U32 x.global_system_interrupt  -- 4: Global System Interrupt
+    ∷ U16 (inti_flags x.polarity x.trigger_mode)  -- 8: Flags
+    ∷ []
 
--- NMI Source (section 5.2.12.6): at 0 Type, 1 Length, 2 Flags, 4 Global System Interrupt
-unfoldable pub nmi_source_entry : NmiSource → List ℕ
-nmi_source_entry x = 3 ∷ 8 ∷ inti_flags x.polarity x.trigger_mode ∷ 0 ∷ spelling 4 x.global_system_interrupt
+abbrev pub override_entry : InterruptSourceOverride → List ℕ
+override_entry x = fields_bytes (override_fields x)
+
+-- NMI Source (section 5.2.12.6)
+unfoldable pub nmi_source_fields : NmiSource → List Field
+nmi_source_fields x =
+    U8 3  -- 0: Type
+    ∷ U8 8  -- 1: Length
+    ∷ U16 (inti_flags x.polarity x.trigger_mode)  -- 2: Flags
+    ∷ U32 x.global_system_interrupt  -- 4: Global System Interrupt
+    ∷ []
+
+abbrev pub nmi_source_entry : NmiSource → List ℕ
+nmi_source_entry x = fields_bytes (nmi_source_fields x)
 
 -- Local APIC NMI (section 5.2.12.7): at 0 Type, 1 Length, 2 ACPI Processor UID, 3 Flags, 5 Local APIC LINT#
 unfoldable pub apic_nmi_entry : ℕ → ℕ → List ℕ

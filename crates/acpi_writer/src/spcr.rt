@@ -19,7 +19,7 @@ use crate::table::{table_size, write_table};
 use acpi_base::Signature;
 use acpi_base::address::GenericAddress;
 use acpi_base::spcr::{SpcrFlowControl, SpcrInterfaceType, SpcrInterruptType, SpcrTerminalType};
-use fields::{Console, Port, device_of};
+use fields::Fixed;
 
 /// The PCI device that a serial port is, as an SPCR has it.
 #[derive(Clone, Copy, Debug)]
@@ -135,15 +135,13 @@ fn name_length(contents: &SpcrContents<'_>) -> u16
 /// All after the header of an SPCR.
 macro_rules! body_of {
     ($contents:expr) => {{
-        let console = Console {
-            device: device_of($contents.pci_device),
-            uart_clock_frequency: $contents.uart_clock_frequency,
-            baud_rate: $contents.baud_rate,
+        let fixed = Fixed {
+            contents: *$contents,
             name_length: name_length($contents),
         };
         // A zero ends the name.
         let text = Then(Bytes($contents.namespace_string.as_bytes()), Bytes(&[0]));
-        Then(Port(*$contents), Then(console, text))
+        Then(fixed, text)
     }};
 }
 

@@ -5,6 +5,7 @@ ghost use Rattle.acpi_writer.specs.MadtBytes as bytes;
 ghost use Rattle.acpi_writer.specs.MadtLaws as laws;
 
 use super::MadtProcessor;
+use crate::fields::{Field, Record};
 use crate::numbers::{bit_of, dword, qword};
 use crate::spelled::Spelled;
 use acpi_base::model::{
@@ -58,30 +59,35 @@ fn is_small(p: &MadtProcessor) -> bool
     p.processor_uid < 255 && p.local_apic_id < 255
 }
 
-impl Spelled for MadtProcessor {
-    ghost spelled = { bytes.processor_entry };
+impl Record for MadtProcessor {
+    type Fields = [Field; 6];
 
-    ghost fits = { laws.FitsProcessor };
+    ghost fields_of = { bytes.processor_fields };
 
-    #[tactic(auto, unfolding(crate::specs::MadtBytes::processor_entry, crate::specs::MadtBytes::local_apic_entry, crate::specs::MadtBytes::local_x2apic_entry, acpi_base::specs::Bytes::spelling))]
-    fn measure(&self, room: usize) -> Option<usize> {
-        let size = if is_small(self) { 8 } else { 16 };
-        let _uid = self.processor_uid;
-        let _id = self.local_apic_id;
-        if room < size { None } else { Some(size) }
-    }
-
-    #[tactic(auto, unfolding(crate::specs::MadtBytes::processor_entry, crate::specs::MadtBytes::local_apic_entry, crate::specs::MadtBytes::local_x2apic_entry, acpi_base::specs::Bytes::spelling))]
-    fn put(&self, out: &mut [u8]) {
-        let flags = processor_flags(self);
+    #[tactic(auto, unfolding(crate::specs::MadtBytes::local_apic_fields, crate::specs::MadtBytes::local_x2apic_fields))]
+    fn fields(&self) -> [Field; 6] {
+        let (uid, id) = (self.processor_uid, self.local_apic_id);
+        let flags = Field::U32(processor_flags(self) as u32);
         if is_small(self) {
-            let uid = self.processor_uid as u8;
-            let id = self.local_apic_id as u8;
-            out.copy_from_slice(&[0, 8, uid, id, flags, 0, 0, 0]);
+            let ids = (Field::U8(uid as u8), Field::U8(id as u8));
+            [
+                Field::U8(0),
+                Field::U8(8),
+                ids.0,
+                ids.1,
+                flags,
+                Field::Zeros(0),
+            ]
         } else {
-            let [i, j, k, l] = dword(self.local_apic_id);
-            let [u, v, w, x] = dword(self.processor_uid);
-            out.copy_from_slice(&[9, 16, 0, 0, i, j, k, l, flags, 0, 0, 0, u, v, w, x]);
+            let ids = (Field::U32(id), Field::U32(uid));
+            [
+                Field::U8(9),
+                Field::U8(16),
+                Field::Zeros(2),
+                ids.0,
+                flags,
+                ids.1,
+            ]
         }
     }
 }
@@ -110,23 +116,21 @@ impl Spelled for AddressOverride {
     }
 }
 
-impl Spelled for IoApic {
-    ghost spelled = { bytes.io_apic_entry };
+impl Record for IoApic {
+    type Fields = [Field; 6];
 
-    ghost fits = { laws.FitsIoApic };
+    ghost fields_of = { bytes.io_apic_fields };
 
-    #[tactic(auto, unfolding(crate::specs::MadtBytes::io_apic_entry, acpi_base::specs::Bytes::spelling))]
-    fn measure(&self, room: usize) -> Option<usize> {
-        let _address = self.address;
-        let _base = self.global_system_interrupt_base;
-        if room < 12 { None } else { Some(12) }
-    }
-
-    #[tactic(auto, unfolding(crate::specs::MadtBytes::io_apic_entry, acpi_base::specs::Bytes::spelling))]
-    fn put(&self, out: &mut [u8]) {
-        let [i, j, k, l] = dword(self.address);
-        let [u, v, w, x] = dword(self.global_system_interrupt_base);
-        out.copy_from_slice(&[1, 12, self.id, 0, i, j, k, l, u, v, w, x]);
+    #[tactic(auto, unfolding(crate::specs::MadtBytes::io_apic_fields))]
+    fn fields(&self) -> [Field; 6] {
+        [
+            Field::U8(1),
+            Field::U8(12),
+            Field::U8(self.id),
+            Field::Zeros(1),
+            Field::U32(self.address),
+            Field::U32(self.global_system_interrupt_base),
+        ]
     }
 }
 
@@ -137,41 +141,37 @@ fn inti_flags(polarity: Polarity, trigger_mode: TriggerMode) -> u8
     polarity.code() + 4 * trigger_mode.code()
 }
 
-impl Spelled for InterruptSourceOverride {
-    ghost spelled = { bytes.override_entry };
+impl Record for InterruptSourceOverride {
+    type Fields = [Field; 6];
 
-    ghost fits = { laws.FitsOverride };
+    ghost fields_of = { bytes.override_fields };
 
-    #[tactic(auto, unfolding(crate::specs::MadtBytes::override_entry, acpi_base::specs::Bytes::spelling))]
-    fn measure(&self, room: usize) -> Option<usize> {
-        let _gsi = self.global_system_interrupt;
-        if room < 10 { None } else { Some(10) }
-    }
-
-    #[tactic(auto, unfolding(crate::specs::MadtBytes::override_entry, acpi_base::specs::Bytes::spelling))]
-    fn put(&self, out: &mut [u8]) {
-        let [i, j, k, l] = dword(self.global_system_interrupt);
-        let flags = inti_flags(self.polarity, self.trigger_mode);
-        out.copy_from_slice(&[2, 10, 0, self.isa_source, i, j, k, l, flags, 0]);
+    #[tactic(auto, unfolding(crate::specs::MadtBytes::override_fields))]
+    fn fields(&self) -> [Field; 6] {
+        [
+            Field::U8(2),
+            Field::U8(10),
+            Field::U8(0),
+            Field::U8(self.isa_source),
+            Field::U32(self.global_system_interrupt),
+            Field::U16(inti_flags(self.polarity, self.trigger_mode) as u16),
+        ]
     }
 }
 
-impl Spelled for NmiSource {
-    ghost spelled = { bytes.nmi_source_entry };
+impl Record for NmiSource {
+    type Fields = [Field; 4];
 
-    ghost fits = { laws.FitsNmiSource };
+    ghost fields_of = { bytes.nmi_source_fields };
 
-    #[tactic(auto, unfolding(crate::specs::MadtBytes::nmi_source_entry, acpi_base::specs::Bytes::spelling))]
-    fn measure(&self, room: usize) -> Option<usize> {
-        let _gsi = self.global_system_interrupt;
-        if room < 8 { None } else { Some(8) }
-    }
-
-    #[tactic(auto, unfolding(crate::specs::MadtBytes::nmi_source_entry, acpi_base::specs::Bytes::spelling))]
-    fn put(&self, out: &mut [u8]) {
-        let [i, j, k, l] = dword(self.global_system_interrupt);
-        let flags = inti_flags(self.polarity, self.trigger_mode);
-        out.copy_from_slice(&[3, 8, flags, 0, i, j, k, l]);
+    #[tactic(auto, unfolding(crate::specs::MadtBytes::nmi_source_fields))]
+    fn fields(&self) -> [Field; 4] {
+        [
+            Field::U8(3),
+            Field::U8(8),
+            Field::U16(inti_flags(self.polarity, self.trigger_mode) as u16),
+            Field::U32(self.global_system_interrupt),
+        ]
     }
 }
 
