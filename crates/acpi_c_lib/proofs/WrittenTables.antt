@@ -20,7 +20,7 @@ use Rattle.acpi_writer.specs.Contents.{Moves}
 use Rattle.acpi_writer.specs.Gtdt.{gtdt_written}
 use Rattle.acpi_writer.specs.HpetBytes.{hpet_body}
 use Rattle.acpi_writer.specs.McfgBytes.{mcfg_entry, mcfg_reserved}
-use Rattle.acpi_writer.specs.Spcr.{port_fields, spcr_written}
+use Rattle.acpi_writer.specs.Spcr.{fixed_list, spcr_written}
 use Rattle.acpi_writer.specs.Table.{AreIds}
 use Rattle.acpi_writer.specs.declared.contents.TableContents.TheVariants as contents
 use Rattle.acpi_writer.specs.declared.gtdt.GtdtContents.{GtdtContents}
@@ -47,7 +47,7 @@ moved_listed ids Nothing are = λ room other t e fits. never _ t _ e
 -- ---- where the name of a console lies doesn't matter to its SPCR
 
 by_name : (room : ℕ) (ids : TableIds) (name : Bor (List ℕ)) (c : spcr_record.SpcrContents) → name.now ≡ codes "." → spcr_written room ids (spcr.contents name c) ≡ spcr.spcr_laid room ids c
-unfolding spcr_written port_fields
+unfolding spcr_written fixed_list
 by_name room ids name c e = rw e refl
 
 pub named : (room : ℕ) (ids : TableIds) (given : spcr_record.SpcrContents) (c : SpcrContents) → c ≡ spcr.contents c.namespace_string given → c.namespace_string.now ≡ codes "." → spcr_written room ids c ≡ spcr.spcr_laid room ids given
