@@ -1,12 +1,11 @@
 -- What is written field by field is read field by field.
-use Rattle.std.proofs.Common.{subst, add-zero, zero-add, add_assoc, ◌≡◌, ℕ, zero, suc, ◌+◌, ◌<◌, List, [], ◌∷◌, ◌++◌, length, take, refl, sym, ap, ◌∙◌, arith, append_assoc, length-append}
+use Rattle.std.proofs.Common.{◌≡◌, ℕ, zero, suc, ◌+◌, ◌<◌, List, [], ◌∷◌, ◌++◌, length, take, drop, refl, sym, ap, ◌∙◌, arith, append_assoc}
 use Rattle.std.specs.Prelude.{replicate}
-use Rattle.std.specs.List.{All, AllByRecursion}
-use Rattle.std.proofs.lemmas.List.{append-nil, take_at, drop_at, length-replicate}
-use Rattle.std.proofs.lemmas.List.Elements.{recursion_from_All}
+use Rattle.std.specs.List.{All}
+use Rattle.std.proofs.lemmas.List.{append-nil, take_at, drop_at, drop-drop, length-replicate}
 use Rattle.acpi_base.proofs.Spelling.{length-spelling, number-spelling}
-use Rattle.acpi_base.specs.Bytes.{field_of, number}
-use Rattle.acpi_writer.specs.Fields.{AreRead, field_at, offset_of, FitsField, field_bytes, field_size, field_value, fields_bytes}
+use Rattle.acpi_base.specs.Bytes.{field_of, number, part}
+use Rattle.acpi_writer.specs.Fields.{field_at, offset_of, FitsField, field_bytes, field_size, field_value, fields_bytes}
 use Rattle.acpi_writer.specs.declared.fields.Field.{Field}
 use Rattle.acpi_writer.specs.declared.fields.Field.TheVariants.{U8, U16, U32, U64, Zeros}
 
@@ -28,31 +27,50 @@ field_is (U32 n) fits = number-spelling 4 n (omega (arith, fits))
 field_is (U64 n) fits = number-spelling 8 n (omega (arith, fits))
 field_is (Zeros n) fits = zeros_are n
 
--- a field after some bytes, and before others
-one_read : (before after : List ℕ) (f : Field) → FitsField f → field_of (before ++ (field_bytes f ++ after)) (length before) (field_size f) ≡ field_value f
+-- what stands at an offset of what is left
+pub part_in : (t rest : List ℕ) (o : ℕ) → drop o t ≡ rest → (k n : ℕ) → part t (o + k) n ≡ part rest k n
+part_in t rest o e k n = ap (take n) (sym (drop-drop k o t) ∙ ap (drop k) e)
+
+-- the bytes of the field at a place, whatever stands after the fields
+part_front : (fs : List Field) (rest : List ℕ) (i : ℕ) → i < length fs
+    → part (fields_bytes fs ++ rest) (offset_of fs i) (field_size (field_at fs i)) ≡ field_bytes (field_at fs i)
+part_front [] rest i less = absurd (omega arith)
+part_front (f ∷ fs) rest zero less =
+    ap (take (field_size f)) (append_assoc (field_bytes f) (fields_bytes fs) rest)
+    ∙ take_at (field_bytes f) (fields_bytes fs ++ rest) (field_size f) (field_long f)
+part_front (f ∷ fs) rest (suc i) less =
+    let more = fields_bytes fs ++ rest in
+    let past : drop (field_size f) (fields_bytes (f ∷ fs) ++ rest) ≡ more =
+        ap (drop (field_size f)) (append_assoc (field_bytes f) (fields_bytes fs) rest)
+        ∙ drop_at (field_bytes f) more (field_size f) (field_long f) in
+    part_in (fields_bytes (f ∷ fs) ++ rest) more (field_size f) past (offset_of fs i) _
+        ∙ part_front fs rest i (omega arith)
+
+-- and in bytes that have the fields from an offset on
+pub part_of : (t rest : List ℕ) (o : ℕ) (fs : List Field) → drop o t ≡ fields_bytes fs ++ rest → (i : ℕ) → i < length fs
+    → part t (o + offset_of fs i) (field_size (field_at fs i)) ≡ field_bytes (field_at fs i)
+part_of t rest o fs e i less = part_in t (fields_bytes fs ++ rest) o e (offset_of fs i) _ ∙ part_front fs rest i less
+
+-- of fields that fit, each is read where it lies
+pub read_in : (t rest : List ℕ) (o : ℕ) (fs : List Field) → drop o t ≡ fields_bytes fs ++ rest → All FitsField fs
+    → (i : ℕ) → i < length fs
+    → field_of t (o + offset_of fs i) (field_size (field_at fs i)) ≡ field_value (field_at fs i)
 unfolding field_of
-one_read before after f fits =
-    ap (λ b. number (take (field_size f) b)) (drop_at before (field_bytes f ++ after) (length before) refl)
-    ∙ ap number (take_at (field_bytes f) after (field_size f) (field_long f)) ∙ field_is f fits
+read_in t rest o fs e fits i less =
+    ap number (part_of t rest o fs e i less) ∙ field_is (field_at fs i) (fits i (Zeros 0) less)
 
-read_after : (before rest : List ℕ) (at : ℕ) (fs : List Field) → length before ≡ at → AllByRecursion FitsField fs → AreRead (before ++ (fields_bytes fs ++ rest)) at fs
-read_after before rest at [] e fits = tt
-read_after before rest at (f ∷ fs) e fits =
-    let long : length (before ++ field_bytes f) ≡ at + field_size f = omega (arith, e, length-append before (field_bytes f), field_long f) in
-    let here : field_of (before ++ (field_bytes f ++ (fields_bytes fs ++ rest))) at (field_size f) ≡ field_value f = rw (← e) (one_read before (fields_bytes fs ++ rest) f fits.0) in
-    let others = read_after (before ++ field_bytes f) rest (at + field_size f) fs long fits.1 in
-    let grouped = ap (λ z. before ++ z) (append_assoc (field_bytes f) (fields_bytes fs) rest) in
-    subst (λ (b : List ℕ). AreRead b at (f ∷ fs)) (sym grouped) (here, rw append_assoc at others)
+-- the same, where nothing stands after them
+pub read_end : (t : List ℕ) (o : ℕ) (fs : List Field) → drop o t ≡ fields_bytes fs → All FitsField fs
+    → (i : ℕ) → i < length fs
+    → field_of t (o + offset_of fs i) (field_size (field_at fs i)) ≡ field_value (field_at fs i)
+read_end t o fs e fits i less = read_in t [] o fs (e ∙ sym (append-nil (fields_bytes fs))) fits i less
 
--- the field at a place
-read_here : (bytes : List ℕ) (at : ℕ) (fs : List Field) (i : ℕ) → i < length fs → AreRead bytes at fs → field_of bytes (at + offset_of fs i) (field_size (field_at fs i)) ≡ field_value (field_at fs i)
-read_here bytes at [] i less are = absurd (omega arith)
-read_here bytes at (f ∷ fs) zero less are = rw (add-zero at) are.0
-read_here bytes at (f ∷ fs) (suc i) less are = rw (sym (add_assoc at (field_size f) (offset_of fs i))) (read_here bytes (at + field_size f) fs i (omega arith) are.1)
+pub read_front : (fs : List Field) (rest : List ℕ) → All FitsField fs → (i : ℕ) → i < length fs
+    → field_of (fields_bytes fs ++ rest) (offset_of fs i) (field_size (field_at fs i)) ≡ field_value (field_at fs i)
+unfolding field_of
+read_front fs rest fits i less =
+    ap number (part_front fs rest i less) ∙ field_is (field_at fs i) (fits i (Zeros 0) less)
 
--- of fields that fit, each is read where it lies, whatever stands after them
-pub read_front : (fs : List Field) (rest : List ℕ) → All FitsField fs → (i : ℕ) → i < length fs → field_of (fields_bytes fs ++ rest) (offset_of fs i) (field_size (field_at fs i)) ≡ field_value (field_at fs i)
-read_front fs rest fits i less = rw zero-add at (read_here (fields_bytes fs ++ rest) 0 fs i less (read_after [] rest 0 fs refl (recursion_from_All FitsField fs fits)))
-
-pub read_at : (fs : List Field) → All FitsField fs → (i : ℕ) → i < length fs → field_of (fields_bytes fs) (offset_of fs i) (field_size (field_at fs i)) ≡ field_value (field_at fs i)
+pub read_at : (fs : List Field) → All FitsField fs → (i : ℕ) → i < length fs
+    → field_of (fields_bytes fs) (offset_of fs i) (field_size (field_at fs i)) ≡ field_value (field_at fs i)
 read_at fs fits i less = rw append-nil at (read_front fs [] fits i less)

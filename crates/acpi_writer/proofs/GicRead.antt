@@ -32,12 +32,14 @@ use Rattle.acpi_arm.specs.declared.gic.part.GicTranslationService.{GicTranslatio
 use Rattle.acpi_arm.specs.declared.gic.part.SpiRange.{SpiRange}
 use Rattle.acpi_writer.specs.Arm.{is_edge}
 use Rattle.acpi_writer.specs.Checked.{all_checked}
-use Rattle.acpi_writer.specs.Table.{bit_of}
+use Rattle.acpi_base.proofs.Steps.{holds_ok}
+use Rattle.acpi_writer.specs.Table.{IsTableOf, bit_of}
+use Rattle.acpi_writer.specs.declared.error.WriterError.TheVariants.{NoProcessor}
 use Rattle.acpi_writer.specs.declared.ids.TableIds.{TableIds}
 use Rattle.acpi_writer.specs.declared.madt.gic.GicContents.{GicContents}
-use Rattle.acpi_writer.specs.GicMadt.{AreGicFit, FitsInterface, GicMadtIsRead, GicMadtIsValid, IsGicMadt, gic_body, gic_read, gicc_entry, gicc_fields, gicc_list, trace_field, gicd_entry, gicd_fields, gicr_entry, gicr_fields, has_spis, interface_checked, its_entry, its_fields, msi_entry, msi_fields, spis_of}
-use Rattle.acpi_writer.specs.MadtBytes.{madt_fixed}
-use Rattle.acpi_writer.proofs.Bits.{app, each_good, flag_bits, itself, mode_is, was_true}
+use Rattle.acpi_writer.specs.GicMadt.{AreGicFit, FitsInterface, GicMadtIsRead, GicMadtIsValid, IsGicMadt, gic_body, gic_checked, gic_read, gicc_entry, gicc_fields, gicc_list, trace_field, gicd_entry, gicd_fields, gicr_entry, gicr_fields, has_spis, interface_checked, its_entry, its_fields, msi_entry, msi_fields, spis_of}
+use Rattle.acpi_writer.specs.MadtBytes.{is_empty, madt_fixed}
+use Rattle.acpi_writer.proofs.Bits.{each_good, flag_bits, mode_is, was_true}
 use Rattle.acpi_writer.proofs.FieldsRead.{read_at}
 use Rattle.acpi_writer.specs.Fields.{FitsField, fields_bytes}
 use Rattle.acpi_writer.specs.declared.fields.Field.TheVariants.{Zeros}
@@ -67,7 +69,8 @@ gicd_is : (x : GicDistributor) → IsEntry madt_layout (gicd_entry x) × (entry_
 unfolding gicd_fields spelling
 gicd_is x = (record { entry_type = lit≤ tt; header = lit≤ tt; size = refl; least = lit≤ tt }, refl)
 
-gicc_is : (x : GicCpuInterface) (o : Option ℕ) → let e = fields_bytes (gicc_list x o) in IsEntry madt_layout e × (entry_of e ≡ Some (kinds.Gicc (entry.gicc_at e)))
+gicc_is : (x : GicCpuInterface) (o : Option ℕ) → let e = fields_bytes (gicc_list x o) in
+    IsEntry madt_layout e × (entry_of e ≡ Some (kinds.Gicc (entry.gicc_at e)))
 unfolding gicc_list spelling
 gicc_is x (Some n) = (record { entry_type = lit≤ tt; header = lit≤ tt; size = refl; least = lit≤ tt }, refl)
 gicc_is x None = (record { entry_type = lit≤ tt; header = lit≤ tt; size = refl; least = lit≤ tt }, refl)
@@ -101,7 +104,8 @@ gicr_says x f =
     let r = λ (i : ℕ) (h : i < 5). read_at (gicr_fields x) f i h in
     rw (r 3 (lit< tt), r 4 (lit< tt)) refl
 
-its_says : (x : GicTranslationService) → All FitsField (its_fields x) → read.translation_service_in 6 (its_kind x) ≡ Some x
+its_says : (x : GicTranslationService) → All FitsField (its_fields x)
+    → read.translation_service_in 6 (its_kind x) ≡ Some x
 unfolding its_fields
 its_says x f =
     let r = λ (i : ℕ) (h : i < 6). read_at (its_fields x) f i h in
@@ -110,7 +114,8 @@ its_says x f =
 abbrev range : ℕ → ℕ → SpiRange
 range b n = record { base = b; count = n }
 
-spis_are : (o : Option SpiRange) → (if has_bit (bit_of (has_spis o)) 0 then Some (range (spis_of o).base (spis_of o).count) else None) ≡ o
+spis_are : (o : Option SpiRange) → (if has_bit (bit_of (has_spis o)) 0
+    then Some (range (spis_of o).base (spis_of o).count) else None) ≡ o
 spis_are (Some r) = refl
 spis_are None = refl
 
@@ -122,20 +127,26 @@ msi_says x f =
 
 -- ---- a processor
 
-trace_is : (x : GicCpuInterface) (o : Option ℕ) → FitsField (trace_field o) → shown_of (entry.gicc_at (fields_bytes (gicc_list x o))).trbe_interrupt 6 ≡ o
+trace_is : (x : GicCpuInterface) (o : Option ℕ) → FitsField (trace_field o)
+    → shown_of (entry.gicc_at (fields_bytes (gicc_list x o))).trbe_interrupt 6 ≡ o
 unfolding gicc_list spelling field_of
 trace_is x (Some n) h = ap some (number-spelling 2 n (omega (arith, h)))
 trace_is x None h = refl
 
-gicc_says : (x : GicCpuInterface) → FitsInterface x → interface_checked x ≡ Ok tt → read.cpu_interface_in 6 (gicc_kind x) ≡ Some x
+gicc_says : (x : GicCpuInterface) → FitsInterface x → interface_checked x ≡ Ok tt
+    → read.cpu_interface_in 6 (gicc_kind x) ≡ Some x
 unfolding gicc_list
 gicc_says x f has =
     let r = λ (i : ℕ) (h : i < 19). read_at (gicc_fields x) f i h in
-    let bits = flag_bits x.is_enabled (is_edge x.performance_trigger) (is_edge x.maintenance_trigger) x.is_online_capable in
+    let bits = flag_bits x.is_enabled (is_edge x.performance_trigger) (is_edge x.maintenance_trigger)
+        x.is_online_capable in
     let each = and_parts _ _ (was_true _ _ has) in
     let trace = trace_is x x.trace_buffer_interrupt (f 18 (Zeros 0) (lit< tt)) in
-    rw (r 3 (lit< tt), r 4 (lit< tt), r 5 (lit< tt), r 6 (lit< tt), r 7 (lit< tt), r 8 (lit< tt), r 9 (lit< tt), r 10 (lit< tt), r 11 (lit< tt), r 12 (lit< tt), r 13 (lit< tt), r 14 (lit< tt), r 15 (lit< tt), r 17 (lit< tt), trace)
-    (rw (bits.0, bits.1, bits.2, bits.3, mode_is x.performance_trigger each.0, mode_is x.maintenance_trigger each.1) refl)
+    rw (r 3 (lit< tt), r 4 (lit< tt), r 5 (lit< tt), r 6 (lit< tt), r 7 (lit< tt), r 8 (lit< tt), r 9 (lit< tt),
+        r 10 (lit< tt), r 11 (lit< tt), r 12 (lit< tt), r 13 (lit< tt), r 14 (lit< tt), r 15 (lit< tt),
+        r 17 (lit< tt), trace)
+    (rw (bits.0, bits.1, bits.2, bits.3, mode_is x.performance_trigger each.0,
+        mode_is x.maintenance_trigger each.1) refl)
 
 -- ---- the table
 
@@ -167,8 +178,9 @@ entry_bytes c =
 module _ (c : GicContents) where
   rows_read : filter_map entry_of (rows c) ≡ entries_read c
   rows_read =
-      five entry_of (gicd_entry c.distributor ∷ []) (map gicc_entry c.cpu_interfaces.now) (map gicr_entry c.redistributors.now) (map its_entry c.translation_services.now) (map msi_entry c.msi_frames.now)
-      (gicd_kind c.distributor ∷ []) (map gicc_kind c.cpu_interfaces.now) (map gicr_kind c.redistributors.now) (map its_kind c.translation_services.now) (map msi_kind c.msi_frames.now)
+      five entry_of (gicd_entry c.distributor ∷ []) (map gicc_entry c.cpu_interfaces.now)
+      (map gicr_entry c.redistributors.now) (map its_entry c.translation_services.now)
+      (map msi_entry c.msi_frames.now) (gicd_kind c.distributor ∷ []) _ _ _ _
       (ap (λ o. cons_option o []) (gicd_is c.distributor).1)
       (each_of entry_of gicc_entry gicc_kind (λ x. (gicc_is x x.trace_buffer_interrupt).1) c.cpu_interfaces.now)
       (each_of entry_of gicr_entry gicr_kind (λ x. (gicr_is x).1) c.redistributors.now)
@@ -178,59 +190,79 @@ module _ (c : GicContents) where
   are_rows : AreRows madt_layout (entry_bytes c) (rows c)
   are_rows =
       both_rows madt_layout _ _ _ _ (one_row madt_layout (gicd_entry c.distributor) (gicd_is c.distributor).0)
-      (both_rows madt_layout _ _ _ _ (each_row madt_layout gicc_entry (λ x. (gicc_is x x.trace_buffer_interrupt).0) c.cpu_interfaces.now)
+      (both_rows madt_layout _ _ _ _ (each_row madt_layout gicc_entry (λ x. (gicc_is x x.trace_buffer_interrupt).0)
+          c.cpu_interfaces.now)
       (both_rows madt_layout _ _ _ _ (each_row madt_layout gicr_entry (λ x. (gicr_is x).0) c.redistributors.now)
       (both_rows madt_layout _ _ _ _ (each_row madt_layout its_entry (λ x. (its_is x).0) c.translation_services.now)
       (each_row madt_layout msi_entry (λ x. (msi_is x).0) c.msi_frames.now))))
 
   sorts : {X : Type 0} (h : MadtEntry → Option X) (v w x y z : List X)
-      → filter_map h (gicd_kind c.distributor ∷ []) ≡ v → filter_map h (map gicc_kind c.cpu_interfaces.now) ≡ w → filter_map h (map gicr_kind c.redistributors.now) ≡ x
-      → filter_map h (map its_kind c.translation_services.now) ≡ y → filter_map h (map msi_kind c.msi_frames.now) ≡ z
-      → filter_map h (entries_read c) ≡ v ++ (w ++ (x ++ (y ++ z)))
-  sorts h = five h (gicd_kind c.distributor ∷ []) (map gicc_kind c.cpu_interfaces.now) (map gicr_kind c.redistributors.now) (map its_kind c.translation_services.now) (map msi_kind c.msi_frames.now)
+      → filter_map h (gicd_kind c.distributor ∷ []) ≡ v → filter_map h (map gicc_kind c.cpu_interfaces.now) ≡ w
+      → filter_map h (map gicr_kind c.redistributors.now) ≡ x
+      → filter_map h (map its_kind c.translation_services.now) ≡ y
+      → filter_map h (map msi_kind c.msi_frames.now) ≡ z → filter_map h (entries_read c) ≡ v ++ (w ++ (x ++ (y ++ z)))
+  sorts h = five h (gicd_kind c.distributor ∷ []) _ _ _ _
 
   module _ (f : AreGicFit c) where
     distributors_are : filter_map read.distributor_in (entries_read c) ≡ c.distributor ∷ []
     distributors_are =
-        sorts read.distributor_in (c.distributor ∷ []) [] [] [] [] (ap (λ o. cons_option o []) (gicd_says c.distributor f.distributor)) (none_of read.distributor_in gicc_kind (λ x. refl) c.cpu_interfaces.now)
-        (none_of read.distributor_in gicr_kind (λ x. refl) c.redistributors.now) (none_of read.distributor_in its_kind (λ x. refl) c.translation_services.now) (none_of read.distributor_in msi_kind (λ x. refl) c.msi_frames.now)
+        let h = read.distributor_in in
+        sorts h (c.distributor ∷ []) [] [] [] [] (ap (λ o. cons_option o []) (gicd_says c.distributor f.distributor))
+        (none_of h gicc_kind (λ x. refl) c.cpu_interfaces.now) (none_of h gicr_kind (λ x. refl) c.redistributors.now)
+        (none_of h its_kind (λ x. refl) c.translation_services.now) (none_of h msi_kind (λ x. refl) c.msi_frames.now)
 
-    interfaces_are : all_checked interface_checked c.cpu_interfaces.now ≡ Ok tt → filter_map (read.cpu_interface_in 6) (entries_read c) ≡ c.cpu_interfaces.now
+    interfaces_are : all_checked interface_checked c.cpu_interfaces.now ≡ Ok tt
+        → filter_map (read.cpu_interface_in 6) (entries_read c) ≡ c.cpu_interfaces.now
     interfaces_are good =
-        let each = both_known FitsInterface (λ x. interface_checked x ≡ Ok tt) c.cpu_interfaces.now (recursion_from_All FitsInterface c.cpu_interfaces.now f.cpu_interfaces) (each_good interface_checked c.cpu_interfaces.now good) in
-        sorts (read.cpu_interface_in 6) [] c.cpu_interfaces.now [] [] [] refl
-        (all_known (λ x. FitsInterface x × (interface_checked x ≡ Ok tt)) (read.cpu_interface_in 6) gicc_kind (λ x h. gicc_says x h.0 h.1) c.cpu_interfaces.now each)
-        (none_of (read.cpu_interface_in 6) gicr_kind (λ x. refl) c.redistributors.now) (none_of (read.cpu_interface_in 6) its_kind (λ x. refl) c.translation_services.now)
-        (none_of (read.cpu_interface_in 6) msi_kind (λ x. refl) c.msi_frames.now) ∙ append-nil c.cpu_interfaces.now
+        let h = read.cpu_interface_in 6 in
+        let is = c.cpu_interfaces.now in
+        let P = λ (x : GicCpuInterface). interface_checked x ≡ Ok tt in
+        let each = both_known FitsInterface P is (recursion_from_All FitsInterface is f.cpu_interfaces)
+            (each_good interface_checked is good) in
+        sorts h [] is [] [] [] refl (all_known (λ x. FitsInterface x
+            × P x) h gicc_kind (λ x g. gicc_says x g.0 g.1) is each)
+        (none_of h gicr_kind (λ x. refl) c.redistributors.now)
+            (none_of h its_kind (λ x. refl) c.translation_services.now)
+        (none_of h msi_kind (λ x. refl) c.msi_frames.now) ∙ append-nil is
 
     redistributors_are : filter_map (read.redistributors_in 6) (entries_read c) ≡ c.redistributors.now
     redistributors_are =
-        sorts (read.redistributors_in 6) [] [] c.redistributors.now [] [] refl (none_of (read.redistributors_in 6) gicc_kind (λ x. refl) c.cpu_interfaces.now)
-        (all_known (λ x. All FitsField (gicr_fields x)) (read.redistributors_in 6) gicr_kind gicr_says c.redistributors.now (recursion_from_All (λ x. All FitsField (gicr_fields x)) c.redistributors.now f.redistributors))
-        (none_of (read.redistributors_in 6) its_kind (λ x. refl) c.translation_services.now) (none_of (read.redistributors_in 6) msi_kind (λ x. refl) c.msi_frames.now) ∙ append-nil c.redistributors.now
+        let h = read.redistributors_in 6 in
+        let rs = c.redistributors.now in
+        let P = λ (x : GicRedistributors). All FitsField (gicr_fields x) in
+        sorts h [] [] rs [] [] refl (none_of h gicc_kind (λ x. refl) c.cpu_interfaces.now)
+        (all_known P h gicr_kind gicr_says rs (recursion_from_All P rs f.redistributors))
+        (none_of h its_kind (λ x. refl) c.translation_services.now) (none_of h msi_kind (λ x. refl) c.msi_frames.now)
+            ∙ append-nil rs
 
     services_are : filter_map (read.translation_service_in 6) (entries_read c) ≡ c.translation_services.now
     services_are =
-        sorts (read.translation_service_in 6) [] [] [] c.translation_services.now [] refl (none_of (read.translation_service_in 6) gicc_kind (λ x. refl) c.cpu_interfaces.now)
-        (none_of (read.translation_service_in 6) gicr_kind (λ x. refl) c.redistributors.now)
-        (all_known (λ x. All FitsField (its_fields x)) (read.translation_service_in 6) its_kind its_says c.translation_services.now (recursion_from_All (λ x. All FitsField (its_fields x)) c.translation_services.now f.translation_services))
-        (none_of (read.translation_service_in 6) msi_kind (λ x. refl) c.msi_frames.now) ∙ append-nil c.translation_services.now
+        let h = read.translation_service_in 6 in
+        let ss = c.translation_services.now in
+        let P = λ (x : GicTranslationService). All FitsField (its_fields x) in
+        sorts h [] [] [] ss [] refl (none_of h gicc_kind (λ x. refl) c.cpu_interfaces.now)
+            (none_of h gicr_kind (λ x. refl) c.redistributors.now)
+        (all_known P h its_kind its_says ss (recursion_from_All P ss f.translation_services))
+        (none_of h msi_kind (λ x. refl) c.msi_frames.now) ∙ append-nil ss
 
     frames_are : filter_map (read.msi_frame_in 6) (entries_read c) ≡ c.msi_frames.now
     frames_are =
-        sorts (read.msi_frame_in 6) [] [] [] [] c.msi_frames.now refl (none_of (read.msi_frame_in 6) gicc_kind (λ x. refl) c.cpu_interfaces.now) (none_of (read.msi_frame_in 6) gicr_kind (λ x. refl) c.redistributors.now)
-        (none_of (read.msi_frame_in 6) its_kind (λ x. refl) c.translation_services.now)
-        (all_known (λ x. All FitsField (msi_fields x)) (read.msi_frame_in 6) msi_kind msi_says c.msi_frames.now (recursion_from_All (λ x. All FitsField (msi_fields x)) c.msi_frames.now f.msi_frames))
-
-abbrev model : {A : Type 0} → GicDistributor → List GicCpuInterface → List GicRedistributors → List GicTranslationService → List GicMsiFrame → GicModel A
-model d i r s m = record { distributor = d; cpu_interfaces = i; redistributors = r; translation_services = s; msi_frames = m }
+        let h = read.msi_frame_in 6 in
+        let ms = c.msi_frames.now in
+        let P = λ (x : GicMsiFrame). All FitsField (msi_fields x) in
+        sorts h [] [] [] [] ms refl (none_of h gicc_kind (λ x. refl) c.cpu_interfaces.now)
+            (none_of h gicr_kind (λ x. refl) c.redistributors.now)
+        (none_of h its_kind (λ x. refl) c.translation_services.now)
+        (all_known P h msi_kind msi_says ms (recursion_from_All P ms f.msi_frames))
 
 abbrev pass : {A : Type 0} → A → Result A AcpiError
 pass x = Ok x
 
 -- a distributor, and no byte after the entries
-read_by : {A : Type 0} (t rest : List ℕ) (ds : List GicDistributor) (d : GicDistributor) (m : GicModel A) → rest ≡ [] → slice_get ds 0 ≡ Some d → read.model_beside t d ≡ m
-    → ((holds (not (is_left rest)) (InvalidMadt InvalidEntryLength) >>= λ _. pass (slice_get ds 0)) >>= λ o. pass (option_map (read.model_beside {A = A} t) o)) ≡ pass (Some m)
+read_by : {A : Type 0} (t rest : List ℕ) (ds : List GicDistributor) (d : GicDistributor) (m : GicModel A) → rest ≡ []
+    → slice_get ds 0 ≡ Some d → read.model_beside t d ≡ m
+    → ((holds (not (is_left rest)) (InvalidMadt InvalidEntryLength) >>= λ _. pass (slice_get ds 0)) >>= λ o.
+    pass (option_map (read.model_beside {A = A} t) o)) ≡ pass (Some m)
 read_by t rest ds d m none found same = rw (none, found, same) refl
 
 module _ (ids : TableIds) (c : GicContents) (t : List ℕ) (is : IsGicMadt ids c t) where
@@ -249,19 +281,32 @@ module _ (ids : TableIds) (c : GicContents) (t : List ℕ) (is : IsGicMadt ids c
   unfolding header_at
   revision_is = (ids_are_read MADT _ _ _ _ 6 ids (gic_body c) t madt_name.letters is.written).revision_is
 
-  items_are : {T : Type 0} (said : ℕ → MadtEntry → Option T) → read.items_of said t ≡ filter_map (said 6) (entries_read c)
+  items_are : {T : Type 0} (said : ℕ → MadtEntry → Option T)
+      → read.items_of said t ≡ filter_map (said 6) (entries_read c)
   items_are said = ap (λ r. filter_map (said r) (entries_of t)) revision_is ∙ ap (filter_map (said 6)) entries_are
 
   first_is : slice_get (filter_map read.distributor_in (entries_of t)) 0 ≡ Some c.distributor
-  first_is = ap (λ es. slice_get (filter_map read.distributor_in es) 0) entries_are ∙ ap (λ ds. slice_get ds 0) (distributors_are c is.fit)
+  first_is = ap (λ es. slice_get (filter_map read.distributor_in es) 0) entries_are
+      ∙ ap (λ ds. slice_get ds 0) (distributors_are c is.fit)
 
   model_is : {A : Type 0} → read.model_beside {A = A} t c.distributor ≡ gic_read c
-  model_is {A = A} =
-      app (app (app (app (itself (model {A = A} c.distributor)) (items_are read.cpu_interface_in ∙ interfaces_are c is.fit is.checked)) (items_are read.redistributors_in ∙ redistributors_are c is.fit))
-      (items_are read.translation_service_in ∙ services_are c is.fit)) (items_are read.msi_frame_in ∙ frames_are c is.fit)
+  model_is =
+      rw (
+        items_are read.cpu_interface_in ∙ interfaces_are c is.fit is.checked,
+        items_are read.redistributors_in ∙ redistributors_are c is.fit,
+        items_are read.translation_service_in ∙ services_are c is.fit,
+        items_are read.msi_frame_in ∙ frames_are c is.fit,
+      ) refl
 
 pub gic_madt_read : {A : Type 0} → GicMadtIsRead A
-gic_madt_read {A = A} ids c t is = read_by {A = A} t (cut_of t).1 (filter_map read.distributor_in (entries_of t)) c.distributor (gic_read c) (cut_is ids c t is).1 (first_is ids c t is) (model_is ids c t is {A = A})
+gic_madt_read {A = A} ids c t is = read_by {A = A} t (cut_of t).1 (filter_map read.distributor_in (entries_of t))
+    c.distributor (gic_read c) (cut_is ids c t is).1 (first_is ids c t is) (model_is ids c t is {A = A})
 
 pub gic_madt_valid : GicMadtIsValid
 gic_madt_valid ids c t is = table.valid MADT madt_name 6 ids (gic_body c) t is.written
+
+pub gic_madt_is : (ids : TableIds) (c : GicContents) (t : List ℕ) → IsTableOf MADT 6 ids (gic_body c) t → AreGicFit c
+    → gic_checked c ≡ Ok tt → IsGicMadt ids c t
+gic_madt_is ids c t written fit good =
+    let some = holds_ok (not (is_empty c.cpu_interfaces.now)) NoProcessor _ tt good in
+    record { written = written; fit = fit; checked = some.1 }

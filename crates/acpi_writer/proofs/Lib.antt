@@ -13,7 +13,6 @@ pub mod Headless
 pub mod SratRead
 pub mod SpcrRead
 pub mod RegisterRead
-pub mod FadtParts
 pub mod FadtRead
 pub mod GicRead
 pub mod GtdtStructures

@@ -1,6 +1,6 @@
 -- The bytes of fields, one after the other.
-use Rattle.std.specs.Prelude.{◌≡◌, ℕ, zero, suc, get_or, ◌+◌, ◌^◌, ◌<◌, List, [], ◌∷◌, flat_map, replicate}
-use Rattle.acpi_base.specs.Bytes.{field_of, spelling}
+use Rattle.std.specs.Prelude.{ℕ, zero, suc, get_or, ◌+◌, ◌^◌, ◌<◌, List, [], ◌∷◌, flat_map, replicate, Option, Some, None}
+use Rattle.acpi_base.specs.Bytes.{spelling}
 use Rattle.acpi_writer.specs.declared.fields.Field.{Field}
 use Rattle.acpi_writer.specs.declared.fields.Field.TheVariants.{U8, U16, U32, U64, Zeros}
 
@@ -22,6 +22,11 @@ FitsField (Zeros n) = Unit {0}
 abbrev pub fields_bytes : List Field → List ℕ
 fields_bytes fields = flat_map field_bytes fields
 
+-- of what may be missing
+abbrev pub fields_or_none : {A : Type 0} → (A → List Field) → Option A → List Field
+fields_or_none fields (Some x) = fields x
+fields_or_none fields None = []
+
 -- ---- fields that are read
 
 abbrev pub field_size : Field → ℕ
@@ -37,12 +42,6 @@ field_value (U16 n) = n
 field_value (U32 n) = n
 field_value (U64 n) = n
 field_value (Zeros n) = 0
-
--- each number is read where it lies, from an offset on
-abbrev pub AreRead : List ℕ → ℕ → List Field → Type 0
-AreRead bytes offset [] = Unit {0}
-AreRead bytes offset (f ∷ fs) =
-    (field_of bytes offset (field_size f) ≡ field_value f) × AreRead bytes (offset + field_size f) fs
 
 -- the field at a place, and the offset at which it lies
 abbrev pub field_at : List Field → ℕ → Field

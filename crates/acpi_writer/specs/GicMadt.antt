@@ -29,14 +29,9 @@ use Rattle.acpi_writer.specs.declared.madt.gic.GicContents.{GicContents}
 -- GICD (section 5.2.12.15)
 unfoldable pub gicd_fields : GicDistributor → List Field
 gicd_fields x =
-    U8 12  -- 0: Type
-    ∷ U8 24  -- 1: Length
-    ∷ Zeros 2  -- 2: Reserved
-    ∷ U32 x.id  -- 4: GIC ID
-    ∷ U64 x.address  -- 8: Physical Base Address
-    ∷ U32 x.system_vector_base  -- 16: System Vector Base
-    ∷ U8 x.version  -- 20: GIC version
-    ∷ Zeros 3  -- 21: Reserved
+    U8 12 ∷ U8 24 ∷ Zeros 2 ∷ U32 x.id  -- 0: Type, 1: Length, 2: Reserved, 4: GIC ID
+    ∷ U64 x.address ∷ U32 x.system_vector_base  -- 8: Physical Base Address, 16: System Vector Base
+    ∷ U8 x.version ∷ Zeros 3  -- 20: GIC version, 21: Reserved
     ∷ []
 
 abbrev pub gicd_entry : GicDistributor → List ℕ
@@ -59,25 +54,15 @@ trace_field None = Zeros 0
 -- GICC (section 5.2.12.14)
 unfoldable pub gicc_list : GicCpuInterface → Option ℕ → List Field
 gicc_list x trace =
-    U8 11  -- 0: Type
-    ∷ U8 (gicc_length trace)  -- 1: Length
-    ∷ Zeros 2  -- 2: Reserved
-    ∷ U32 x.number  -- 4: CPU Interface Number
-    ∷ U32 x.processor_uid  -- 8: ACPI Processor UID
-    ∷ U32 (gicc_flags x)  -- 12: Flags
-    ∷ U32 x.parking_protocol_version  -- 16: Parking Protocol Version
-    ∷ U32 x.performance_interrupt  -- 20: Performance Interrupt GSIV
-    ∷ U64 x.parked_address  -- 24: Parked Address
-    ∷ U64 x.address  -- 32: Physical Base Address
-    ∷ U64 x.virtual_address  -- 40: GICV
-    ∷ U64 x.hypervisor_address  -- 48: GICH
-    ∷ U32 x.maintenance_interrupt  -- 56: VGIC Maintenance interrupt
-    ∷ U64 x.redistributor_address  -- 60: GICR Base Address
-    ∷ U64 x.mpidr  -- 68: MPIDR
-    ∷ U8 x.efficiency_class  -- 76: Processor Power Efficiency Class
-    ∷ Zeros 1  -- 77: Reserved
-    ∷ U16 x.spe_overflow_interrupt  -- 78: SPE overflow Interrupt
-    ∷ trace_field trace  -- 80: TRBE Interrupt
+    U8 11 ∷ U8 (gicc_length trace) ∷ Zeros 2  -- 0: Type, 1: Length, 2: Reserved
+    ∷ U32 x.number ∷ U32 x.processor_uid  -- 4: CPU Interface Number, 8: ACPI Processor UID
+    ∷ U32 (gicc_flags x) ∷ U32 x.parking_protocol_version  -- 12: Flags, 16: Parking Protocol Version
+    ∷ U32 x.performance_interrupt ∷ U64 x.parked_address  -- 20: Performance Interrupt GSIV, 24: Parked Address
+    ∷ U64 x.address ∷ U64 x.virtual_address  -- 32: Physical Base Address, 40: GICV
+    ∷ U64 x.hypervisor_address ∷ U32 x.maintenance_interrupt  -- 48: GICH, 56: VGIC Maintenance interrupt
+    ∷ U64 x.redistributor_address ∷ U64 x.mpidr  -- 60: GICR Base Address, 68: MPIDR
+    ∷ U8 x.efficiency_class ∷ Zeros 1  -- 76: Processor Power Efficiency Class, 77: Reserved
+    ∷ U16 x.spe_overflow_interrupt ∷ trace_field trace  -- 78: SPE overflow Interrupt, 80: TRBE Interrupt
     ∷ []
 
 abbrev pub gicc_fields : GicCpuInterface → List Field
@@ -89,10 +74,7 @@ gicc_entry x = fields_bytes (gicc_fields x)
 -- GICR (section 5.2.12.17)
 unfoldable pub gicr_fields : GicRedistributors → List Field
 gicr_fields x =
-    U8 14  -- 0: Type
-    ∷ U8 16  -- 1: Length
-    ∷ Zeros 2  -- 2: Reserved
-    ∷ U64 x.address  -- 4: Discovery Range Base Address
+    U8 14 ∷ U8 16 ∷ Zeros 2 ∷ U64 x.address  -- 0: Type, 1: Length, 2: Reserved, 4: Discovery Range Base Address
     ∷ U32 x.length  -- 12: Discovery Range Length
     ∷ []
 
@@ -102,12 +84,8 @@ gicr_entry x = fields_bytes (gicr_fields x)
 -- ITS (section 5.2.12.18)
 unfoldable pub its_fields : GicTranslationService → List Field
 its_fields x =
-    U8 15  -- 0: Type
-    ∷ U8 20  -- 1: Length
-    ∷ Zeros 2  -- 2: Reserved
-    ∷ U32 x.id  -- 4: GIC ITS ID
-    ∷ U64 x.address  -- 8: Physical Base Address
-    ∷ Zeros 4  -- 16: Reserved
+    U8 15 ∷ U8 20 ∷ Zeros 2 ∷ U32 x.id  -- 0: Type, 1: Length, 2: Reserved, 4: GIC ITS ID
+    ∷ U64 x.address ∷ Zeros 4  -- 8: Physical Base Address, 16: Reserved
     ∷ []
 
 abbrev pub its_entry : GicTranslationService → List ℕ
@@ -126,14 +104,9 @@ spis_of None = record { base = 0; count = 0 }
 -- GIC MSI Frame (section 5.2.12.16)
 unfoldable pub msi_fields : GicMsiFrame → List Field
 msi_fields x =
-    U8 13  -- 0: Type
-    ∷ U8 24  -- 1: Length
-    ∷ Zeros 2  -- 2: Reserved
-    ∷ U32 x.id  -- 4: GIC MSI Frame ID
-    ∷ U64 x.address  -- 8: Physical Base Address
-    ∷ U32 (bit_of (has_spis x.spis))  -- 16: Flags
-    ∷ U16 (spis_of x.spis).count  -- 20: SPI Count
-    ∷ U16 (spis_of x.spis).base  -- 22: SPI Base
+    U8 13 ∷ U8 24 ∷ Zeros 2 ∷ U32 x.id  -- 0: Type, 1: Length, 2: Reserved, 4: GIC MSI Frame ID
+    ∷ U64 x.address ∷ U32 (bit_of (has_spis x.spis))  -- 8: Physical Base Address, 16: Flags
+    ∷ U16 (spis_of x.spis).count ∷ U16 (spis_of x.spis).base  -- 20: SPI Count, 22: SPI Base
     ∷ []
 
 abbrev pub msi_entry : GicMsiFrame → List ℕ
@@ -155,11 +128,16 @@ gic_body c =
 abbrev pub interface_checked : GicCpuInterface → Result (Unit {0}) WriterError
 interface_checked x = holds (has_trigger x.performance_trigger && has_trigger x.maintenance_trigger) SameAsBus
 
+-- the first error of the contents
+abbrev pub gic_checked : GicContents → Result (Unit {0}) WriterError
+gic_checked c = do
+  _ ← holds (not (is_empty c.cpu_interfaces.now)) NoProcessor
+  all_checked interface_checked c.cpu_interfaces.now
+
 -- the table, of revision 6, in so much room, or the first error
 unfoldable pub gic_written : ℕ → TableIds → GicContents → Result (List ℕ) WriterError
 gic_written room ids c = do
-  _ ← holds (not (is_empty c.cpu_interfaces.now)) NoProcessor
-  _ ← all_checked interface_checked c.cpu_interfaces.now
+  _ ← gic_checked c
   table_written room MADT 6 ids (gic_body c)
 
 -- ---- which numbers have a place in an entry

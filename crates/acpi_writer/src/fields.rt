@@ -1,7 +1,7 @@
 //! Records that are fields in a row: one list of them is what is measured, written and read.
 ghost use Rattle.std.specs.Prelude.{◌≡◌, List, flat_map, length};
 ghost use Rattle.std.specs.List.{All};
-ghost use Rattle.acpi_writer.specs.Fields.{FitsField, field_bytes};
+ghost use Rattle.acpi_writer.specs.Fields.{FitsField, field_bytes, fields_or_none};
 ghost use Rattle.acpi_writer.specs.declared.fields.Field.{Field};
 
 use crate::numbers::{dword, qword, word};
@@ -76,6 +76,17 @@ impl<const N: usize> FieldList for [Field; N] {
 
     fn as_fields(&self) -> &[Field] {
         self
+    }
+}
+
+impl<F: FieldList> FieldList for Option<F> {
+    ghost list = { λ o. fields_or_none F.list o };
+
+    fn as_fields(&self) -> &[Field] {
+        match self {
+            Some(fields) => fields.as_fields(),
+            None => &[],
+        }
     }
 }
 

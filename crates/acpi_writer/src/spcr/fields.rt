@@ -5,8 +5,7 @@ ghost use Rattle.acpi_writer.specs.Spcr as spcr;
 
 use super::{SpcrContents, SpcrPciDevice};
 use crate::fields::{Field, Record};
-use crate::generic::{size_code, space_code};
-use acpi_base::address::{AccessSize, AddressSpace, GenericAddress};
+use crate::generic::{register_or_zeros, size_code, space_code};
 use acpi_base::spcr::{SpcrFlowControl, SpcrInterfaceType, SpcrInterruptType, SpcrTerminalType};
 use bitflags::Flags;
 
@@ -37,22 +36,6 @@ fn interface_code(interface: SpcrInterfaceType) -> u8
         SpcrInterfaceType::IntelLPSS => 0x14,
         SpcrInterfaceType::RiscVSbi => 0x15,
         SpcrInterfaceType::Unknown(code) => code,
-    }
-}
-
-/// The base address, or the twelve zeros that say that there is none.
-fn base_of(address: Option<GenericAddress>) -> GenericAddress
-    ensures { result ≡ spcr.base_written address }
-{
-    match address {
-        Some(base) => base,
-        None => GenericAddress {
-            address_space: AddressSpace::SystemMemory,
-            bit_width: 0,
-            bit_offset: 0,
-            access_size: AccessSize::Undefined,
-            address: 0,
-        },
     }
 }
 
@@ -113,39 +96,34 @@ fn terminal_byte(terminal_type: SpcrTerminalType) -> u8
 }
 
 /// The fixed fields.
-#[derive(Clone, Copy)]
-pub(super) struct Fixed<'a> {
-    pub(super) contents: SpcrContents<'a>,
-    pub(super) name_length: u16,
-}
-
-impl<'a> Record for Fixed<'a> {
+impl Record for SpcrContents<'_> {
     type Fields = [Field; 27];
 
-    ghost fields_of = { λ x. spcr.fixed_fields x.contents x.name_length };
+    ghost fields_of = { spcr.spcr_fields };
 
     #[tactic(auto, unfolding(crate::specs::Spcr::fixed_list))]
     fn fields(&self) -> [Field; 27] {
-        let c = self.contents;
-        let base = base_of(c.base_address);
-        let device = device_of(c.pci_device);
+        let base = register_or_zeros(self.base_address);
+        let device = device_of(self.pci_device);
+        // With the zero that ends it.
+        let name_length = self.namespace_string.len() as u64 + 1;
         [
-            Field::U8(interface_code(c.interface_type)),
+            Field::U8(interface_code(self.interface_type)),
             Field::Zeros(3),
             Field::U8(space_code(base.address_space)),
             Field::U8(base.bit_width),
             Field::U8(base.bit_offset),
             Field::U8(size_code(base.access_size)),
             Field::U64(base.address),
-            Field::U8(interrupt_byte(c.interrupt_type)),
-            Field::U8(c.irq),
-            Field::U32(c.global_system_interrupt),
-            Field::U8(baud_code(c.baud_rate)),
-            Field::U8(c.parity),
-            Field::U8(c.stop_bits),
-            Field::U8(flow_byte(c.flow_control)),
-            Field::U8(terminal_byte(c.terminal_type)),
-            Field::U8(c.language),
+            Field::U8(interrupt_byte(self.interrupt_type)),
+            Field::U8(self.irq),
+            Field::U32(self.global_system_interrupt),
+            Field::U8(baud_code(self.baud_rate)),
+            Field::U8(self.parity),
+            Field::U8(self.stop_bits),
+            Field::U8(flow_byte(self.flow_control)),
+            Field::U8(terminal_byte(self.terminal_type)),
+            Field::U8(self.language),
             Field::U16(device.device_id),
             Field::U16(device.vendor_id),
             Field::U8(device.bus),
@@ -153,9 +131,9 @@ impl<'a> Record for Fixed<'a> {
             Field::U8(device.function),
             Field::U32(device.flags),
             Field::U8(device.segment),
-            Field::U32(c.uart_clock_frequency),
-            Field::U32(c.baud_rate),
-            Field::U16(self.name_length),
+            Field::U32(self.uart_clock_frequency),
+            Field::U32(self.baud_rate),
+            Field::U16((name_length % 0x10000) as u16),
             Field::U16(88),
         ]
     }
