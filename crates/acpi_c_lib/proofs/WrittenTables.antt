@@ -17,7 +17,7 @@ use Rattle.acpi_c_lib.specs.declared.written_records.SpcrContents as spcr_record
 use Rattle.acpi_writer.proofs.Sized.{moved_checked, moved_contents, moved_fadt, moved_slit, moved_spcr, moved_srat, moved_table}
 use Rattle.acpi_writer.specs.Bgrt.{bgrt_body}
 use Rattle.acpi_writer.specs.Contents.{Moves}
-use Rattle.acpi_writer.specs.Gtdt.{gtdt_written}
+use Rattle.acpi_writer.specs.Gtdt.{gtdt_fields, gtdt_written}
 use Rattle.acpi_writer.specs.HpetBytes.{hpet_body}
 use Rattle.acpi_writer.specs.McfgBytes.{mcfg_entry, mcfg_reserved}
 use Rattle.acpi_writer.specs.Spcr.{fixed_list, spcr_written}
@@ -56,7 +56,7 @@ named room ids given c said name = ap (spcr_written room ids) said ∙ by_name r
 -- ---- nor where no timers lie to a GTDT
 
 by_timers : (room : ℕ) (ids : TableIds) (platform : Bor (List PlatformTimerContents)) (t : ArmTimers) → platform.now ≡ [] → gtdt_written room ids (gtdt.contents platform t) ≡ gtdt.gtdt_laid room ids t
-unfolding gtdt_written
+unfolding gtdt_written gtdt_fields
 by_timers room ids platform t e = rw e refl
 
 pub untimed : (room : ℕ) (ids : TableIds) (given : ArmTimers) (c : GtdtContents) → c ≡ gtdt.contents c.platform_timers given → c.platform_timers.now ≡ [] → gtdt_written room ids c ≡ gtdt.gtdt_laid room ids given
