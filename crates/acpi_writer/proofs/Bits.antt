@@ -131,7 +131,7 @@ half b m = omega (arith, bit_small b)
 bit_next : (b : Bool) (m k : ℕ) → has_bit (bit_of b + 2 * m) (suc k) ≡ has_bit m k
 bit_next b m k =
     let shift : (bit_of b + 2 * m) / 2 ^ suc k ≡ m / 2 ^ k = ap (λ n. (bit_of b + 2 * m) / n) (pow-succ' 2 k)
-        ∙ sym (div-div-eq-div-mul (bit_of b + 2 * m) 2 (2 ^ k)) ∙ ap (λ n. n / 2 ^ k) (half b m) in
+    ∙ sym (div-div-eq-div-mul (bit_of b + 2 * m) 2 (2 ^ k)) ∙ ap (λ n. n / 2 ^ k) (half b m) in
     ap (λ n. n % 2 == 1) shift
 
 no_bit : (k : ℕ) → has_bit 0 k ≡ false

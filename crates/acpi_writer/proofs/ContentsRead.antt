@@ -166,9 +166,10 @@ pub all_contents : (ids : TableIds) (cs : List TableContents) → AreIds ids →
 all_contents ids [] are fit e = tt
 all_contents ids (c ∷ cs) are fit e =
     let first = bind_ok (contents_written most ids c) (λ _. check_tables ids cs) tt e in
-    let same : bytes_of ids c ≡ first.0 = ap or_none first.1 in
-    (subst (IsContents ids c) (sym same) (contents_of ids c first.0 are fit.0 first.1),
-        all_contents ids cs are fit.1 first.2)
+    let same : bytes_of ids c ≡ first.0 = ap or_none first.1 in (
+      subst (IsContents ids c) (sym same) (contents_of ids c first.0 are fit.0 first.1),
+      all_contents ids cs are fit.1 first.2,
+    )
 
 pub all_valid : (ids : TableIds) (cs : List TableContents) → AllByRecursion (λ c. IsContents ids c (bytes_of ids c)) cs
     → AreValid (map (bytes_of ids) cs)
@@ -205,9 +206,9 @@ first_found ids s a least c [] all is long = absurd (no_contents c is)
 first_found ids s a least c (d ∷ cs) all is long =
     let named : is_named s (bytes_of ids d) ≡ bytes_eq (letters_of (signature_of d)) (letters_of s) =
     ap (λ l. bytes_eq l (letters_of s)) (letters_are (signature_of d) (bytes_of ids d)
-        (valid_of ids d (bytes_of ids d) all.0)) in
+    (valid_of ids d (bytes_of ids d) all.0)) in
     pick (bytes_eq (letters_of (signature_of d)) (letters_of s)) ids s a least d c cs named is long
-        (λ later. first_found ids s (a + length (placed ids d)) least c cs all.1 later long)
+    (λ later. first_found ids s (a + length (placed ids d)) least c cs all.1 later long)
 
 first_by : (b : Bool) (ids : TableIds) (s : Signature) (c d : TableContents) (cs : List TableContents)
     → IsContents ids d (bytes_of ids d) → (if b then Some d else first_of s cs) ≡ Some c
@@ -232,7 +233,7 @@ module _
     (ids : TableIds) (m : Memory) (ps : List ℕ) (place : Signature → ℕ) (cs : List TableContents)
     (all : AllByRecursion (λ c. IsContents ids c (bytes_of ids c)) cs)
     (found : (s : Signature) (c : TableContents) (least : ℕ) → first_of s cs ≡ Some c → 36 ≤ least
-        → least ≤ length (bytes_of ids c) → lookup m (sdt_kind s least) ps ≡ Ok (place s, bytes_of ids c)) where
+    → least ≤ length (bytes_of ids c) → lookup m (sdt_kind s least) ps ≡ Ok (place s, bytes_of ids c)) where
   abbrev written : (s : Signature) (c : TableContents) → first_of s cs ≡ Some c → IsContents ids c (bytes_of ids c)
   written s c is_first = first_is ids s c cs all is_first
 
@@ -240,9 +241,12 @@ module _
   fadt_found c is_first =
       let t = bytes_of ids (Fadt c) in
       let this : IsFadt ids c t = written FADT (Fadt c) is_first in
-      let long = table.long FADT fadt_name 6 ids (fadt_body c) t this.written in
-      ((place FADT, t), found FADT (Fadt c) 116 is_first (lit≤ tt)
-          (omega (arith, long, body_long c (fixed_of c.hardware))), fadt_read ids c t this)
+      let long = table.long FADT fadt_name 6 ids (fadt_body c) t this.written in (
+        (place FADT, t),
+        found FADT (Fadt c) 116 is_first (lit≤ tt)
+            (omega (arith, long, body_long c (fixed_of c.hardware))),
+        fadt_read ids c t this,
+      )
 
   model : {A : Type 0} (c : MadtContents) → first_of MADT cs ≡ Some (Madt c) → model_in {A = A} m ps ≡ Ok (model_read c)
   model {A = A} c is_first =
@@ -250,7 +254,7 @@ module _
       let size = length-append (madt_fixed c.local_apic_address c.also_has_legacy_pics) (madt_entries c) in
       let long = table.long MADT madt_name 5 ids (madt_body c) (bytes_of ids (Madt c)) this.written in
       let there = found MADT (Madt c) 44 is_first (lit≤ tt)
-          (omega (arith, long, size, fixed_long c.local_apic_address c.also_has_legacy_pics)) in
+      (omega (arith, long, size, fixed_long c.local_apic_address c.also_has_legacy_pics)) in
       rw there (madt_read {A = A} ids c (bytes_of ids (Madt c)) this)
 
   regions : (es : _) → first_of MCFG cs ≡ Some (Mcfg es) → found_regions m ps ≡ Ok es.now
@@ -274,10 +278,10 @@ module _
   distances c from to is_first less below =
       let this : IsSlit ids c.localities c.distances.now (bytes_of ids (Slit c)) = written SLIT (Slit c) is_first in
       let long = table.long SLIT slit_name 1 ids (slit_body c.localities c.distances.now) (bytes_of ids (Slit c))
-          this.written in
+      this.written in
       let size = length-append (spelling 8 c.localities) c.distances.now in
       let there = found SLIT (Slit c) 44 is_first (lit≤ tt)
-          (omega (arith, long, size, length-spelling 8 c.localities)) in
+      (omega (arith, long, size, length-spelling 8 c.localities)) in
       rw (there, slit_read ids c.localities c.distances.now (bytes_of ids (Slit c)) this from to less below) refl
 
   platform_found : {A : Type 0} (c : FadtContents) (d : MadtContents) → first_of FADT cs ≡ Some (Fadt c)
@@ -291,34 +295,43 @@ module _
   domains c is_first =
       let t = bytes_of ids (Srat c) in
       let this : IsSrat ids c t = written SRAT (Srat c) is_first in
-      let long = table.long SRAT srat_name 3 ids (srat_body c) t this.written in
-      ((place SRAT, t), found SRAT (Srat c) 48 is_first (lit≤ tt)
-          (omega (arith, long, length-append srat_reserved (srat_entries c))), srat_read ids c t this)
+      let long = table.long SRAT srat_name 3 ids (srat_body c) t this.written in (
+        (place SRAT, t),
+        found SRAT (Srat c) 48 is_first (lit≤ tt)
+            (omega (arith, long, length-append srat_reserved (srat_entries c))),
+        srat_read ids c t this,
+      )
 
   console : (c : SpcrContents) → first_of SPCR cs ≡ Some (Spcr c) → HasTable m ps (sdt_kind SPCR 80) (SaysConsole c)
   console c is_first =
       let t = bytes_of ids (Spcr c) in
       let this : IsSpcr ids c t = written SPCR (Spcr c) is_first in
-      let long = table.long SPCR spcr.spcr_name 4 ids (spcr_body c) t this.written in
-      ((place SPCR, t), found SPCR (Spcr c) 80 is_first (lit≤ tt) (omega (arith, long, spcr.body_long c)),
-          spcr.spcr_read ids c t this)
+      let long = table.long SPCR spcr.spcr_name 4 ids (spcr_body c) t this.written in (
+        (place SPCR, t),
+        found SPCR (Spcr c) 80 is_first (lit≤ tt) (omega (arith, long, spcr.body_long c)),
+        spcr.spcr_read ids c t this,
+      )
 
   image : (c : BgrtContents) → first_of BGRT cs ≡ Some (Bgrt c)
       → HasTable m ps (sdt_kind BGRT 56) (λ t. SaysImage c (bgrt_at t))
   image c is_first =
       let t = bytes_of ids (Bgrt c) in
       let this : IsBgrt ids c t = written BGRT (Bgrt c) is_first in
-      let long = table.long BGRT bgrt_name 1 ids (bgrt_body c) t this.written in
-      ((place BGRT, t), found BGRT (Bgrt c) 56 is_first (lit≤ tt) (omega (arith, long, bgrt_long c)),
-          bgrt_read ids c t this)
+      let long = table.long BGRT bgrt_name 1 ids (bgrt_body c) t this.written in (
+        (place BGRT, t),
+        found BGRT (Bgrt c) 56 is_first (lit≤ tt) (omega (arith, long, bgrt_long c)),
+        bgrt_read ids c t this,
+      )
 
   timers : (c : GtdtContents) → first_of GTDT cs ≡ Some (Gtdt c) → HasTable m ps gtdt_kind (SaysTimers c)
   timers c is_first =
       let t = bytes_of ids (Gtdt c) in
       let this : IsGtdt ids c t = written GTDT (Gtdt c) is_first in
-      let long = table.long GTDT gtdt.gtdt_name 3 ids (gtdt_body c) t this.written in
-      ((place GTDT, t), found GTDT (Gtdt c) 96 is_first (lit≤ tt) (omega (arith, long, gtdt.body_long c)),
-          gtdt.gtdt_read ids c t this)
+      let long = table.long GTDT gtdt.gtdt_name 3 ids (gtdt_body c) t this.written in (
+        (place GTDT, t),
+        found GTDT (Gtdt c) 96 is_first (lit≤ tt) (omega (arith, long, gtdt.body_long c)),
+        gtdt.gtdt_read ids c t this,
+      )
 
   gic : {A : Type 0} (c : GicContents) → first_of MADT cs ≡ Some (GicMadt c)
       → found_gic {A = A} m ps ≡ Ok (Some (gic_read c))

@@ -53,17 +53,9 @@ fadt_valid ids c t is = table.valid FADT fadt_name 6 ids (fadt_body c) t is.writ
 profile_read : (p : PowerProfile) → is_profile p ≡ true → profile_for (profile_code p) ≡ p
 profile_read (profiles.Reserved code) h =
     let large : 8 < code = ltb-true _ _ h in
-    rw (
-      ne_eqb code 0 (omega arith),
-      ne_eqb code 1 (omega arith),
-      ne_eqb code 2 (omega arith),
-      ne_eqb code 3 (omega arith),
-      ne_eqb code 4 (omega arith),
-      ne_eqb code 5 (omega arith),
-      ne_eqb code 6 (omega arith),
-      ne_eqb code 7 (omega arith),
-      ne_eqb code 8 (omega arith),
-    ) refl
+    rw (ne_eqb code 0 (omega arith), ne_eqb code 1 (omega arith), ne_eqb code 2 (omega arith))
+    (rw (ne_eqb code 3 (omega arith), ne_eqb code 4 (omega arith), ne_eqb code 5 (omega arith))
+    (rw (ne_eqb code 6 (omega arith), ne_eqb code 7 (omega arith), ne_eqb code 8 (omega arith)) refl))
 profile_read _ h = refl
 
 address_read : (e : AcpiError) (wide less : ℕ) → (wide == 0) ≡ false → address_or e wide less ≡ Ok wide
@@ -86,8 +78,17 @@ record AreBlocks (h : FixedHardware) : Type 0 where
   gpe1_long : has_length h.gpe1 ≡ true
 
 blocks_of : (hardware : FadtHardware) → are_blocks hardware ≡ true → AreBlocks (fixed_of hardware)
-blocks_of Reduced is = record { pm1b_event = refl; pm1b_control = refl; pm2_control = refl; pm_timer = refl; gpe0 =
-    refl; gpe0_long = refl; gpe1 = refl; gpe1_long = refl }
+blocks_of Reduced is = record {
+  pm1b_event = refl;
+  pm1b_control = refl;
+  pm2_control = refl;
+  pm_timer = refl;
+  gpe0 =
+      refl;
+  gpe0_long = refl;
+  gpe1 = refl;
+  gpe1_long = refl;
+}
 blocks_of (Fixed h) is =
     let p = and_parts _ _ is in
     let q = and_parts _ _ p.1 in
@@ -98,8 +99,17 @@ blocks_of (Fixed h) is =
     let w = and_parts _ _ v.1 in
     let x = and_parts _ _ w.1 in
     let y = and_parts _ _ x.1 in
-    record { pm1b_event = q.0; pm1b_control = s.0; pm2_control = u.0; pm_timer = v.0; gpe0 = w.0; gpe0_long =
-        x.0; gpe1 = y.0; gpe1_long = y.1 }
+    record {
+      pm1b_event = q.0;
+      pm1b_control = s.0;
+      pm2_control = u.0;
+      pm_timer = v.0;
+      gpe0 = w.0;
+      gpe0_long =
+          x.0;
+      gpe1 = y.0;
+      gpe1_long = y.1;
+    }
 
 -- the blocks that fixed hardware has
 needed_of : (hardware : FadtHardware) (f : Fadt) → are_blocks hardware ≡ true
@@ -129,8 +139,12 @@ timer_by f c (Some b) e flag = rw (e, flag) refl
 
 registers_long : (os : List (Option GenericAddress)) → length (flat_map register_bytes os) ≡ 12 * length os
 registers_long [] = refl
-registers_long (o ∷ os) = omega (arith, length-append (register_bytes o) (flat_map register_bytes os), register_long o,
-    registers_long os)
+registers_long (o ∷ os) = omega (
+  arith,
+  length-append (register_bytes o) (flat_map register_bytes os),
+  register_long o,
+  registers_long os,
+)
 
 register_in : (os : List (Option GenericAddress)) (rest : List ℕ) (i : ℕ) → i < length os
     → part (flat_map register_bytes os ++ rest) (12 * i) 12 ≡ register_bytes (get_or os i None)
@@ -141,11 +155,11 @@ register_in (o ∷ os) rest zero less =
 register_in (o ∷ os) rest (suc i) less =
     let more = flat_map register_bytes os ++ rest in
     let past : drop 12 (flat_map register_bytes (o ∷ os) ++ rest) ≡ more =
-        ap (drop 12) (append_assoc (register_bytes o) (flat_map register_bytes os) rest)
-        ∙ drop_at (register_bytes o) more 12 (register_long o) in
+    ap (drop 12) (append_assoc (register_bytes o) (flat_map register_bytes os) rest)
+    ∙ drop_at (register_bytes o) more 12 (register_long o) in
     let place : 12 * suc i ≡ 12 + 12 * i = omega arith in
     rw place (part_in (flat_map register_bytes (o ∷ os) ++ rest) more 12 past (12 * i) 12
-        ∙ register_in os rest i (omega arith))
+    ∙ register_in os rest i (omega arith))
 
 module _ (c : FadtContents) (h : FixedHardware) where
   abbrev last : List ℕ
@@ -267,7 +281,7 @@ module _ (c : FadtContents) (h : FixedHardware) (t : List ℕ) (from36 : drop 36
   reset_is =
       filled_12 t (register_bytes c.reset_register) 116
       (ap (take 12) from116 ∙ take_at (register_bytes c.reset_register) (after_reset c h) 12
-          (register_long c.reset_register))
+      (register_long c.reset_register))
       (register_long c.reset_register)
 
   -- the registers for sleep, which have no other fields
@@ -359,8 +373,8 @@ module _ (ids : TableIds) (c : FadtContents) (t : List ℕ) (is : IsFadt ids c t
       let h = fixed_of c.hardware in
       let p = and_parts _ _ is.registers in
       needed_of c.hardware (fadt_at t) p.0 (is.fit.registers 0 None (lit< tt)) (is.fit.registers 2 None (lit< tt))
-          (pm1a_event_is c h t from36 long_is revision_is is.fit)
-          (pm1a_control_is c h t from36 long_is revision_is is.fit)
+      (pm1a_event_is c h t from36 long_is revision_is is.fit)
+      (pm1a_control_is c h t from36 long_is revision_is is.fit)
 
   read_is : IsReadAs c (fadt_at t)
   read_is =
@@ -405,8 +419,13 @@ pub fits_for : (r : Result ℕ WriterError) (c : FadtContents) (h : FixedHardwar
     × (All FitsRegister rs × Unit {0}))))
     → IfOk r (λ n. AreFitFor c h)
 fits_for (Ok n) c h rs same fits =
-    record { front = fits.0; reset = fits.1.0; wide = fits.1.1.0; registers =
-        subst (All FitsRegister) same fits.1.1.1.0 }
+    record {
+      front = fits.0;
+      reset = fits.1.0;
+      wide = fits.1.1.0;
+      registers =
+          subst (All FitsRegister) same fits.1.1.1.0;
+    }
 fits_for (Err e) c h rs same fits = tt
 
 pub answer_is : (r : Result ℕ WriterError) (ids : TableIds) (c : FadtContents) (h : FixedHardware) (new : List ℕ)

@@ -41,10 +41,10 @@ part_front (f ∷ fs) rest zero less =
 part_front (f ∷ fs) rest (suc i) less =
     let more = fields_bytes fs ++ rest in
     let past : drop (field_size f) (fields_bytes (f ∷ fs) ++ rest) ≡ more =
-        ap (drop (field_size f)) (append_assoc (field_bytes f) (fields_bytes fs) rest)
-        ∙ drop_at (field_bytes f) more (field_size f) (field_long f) in
+    ap (drop (field_size f)) (append_assoc (field_bytes f) (fields_bytes fs) rest)
+    ∙ drop_at (field_bytes f) more (field_size f) (field_long f) in
     part_in (fields_bytes (f ∷ fs) ++ rest) more (field_size f) past (offset_of fs i) _
-        ∙ part_front fs rest i (omega arith)
+    ∙ part_front fs rest i (omega arith)
 
 -- and in bytes that have the fields from an offset on
 pub part_of : (t rest : List ℕ) (o : ℕ) (fs : List Field) → drop o t ≡ fields_bytes fs ++ rest → (i : ℕ) → i < length fs

@@ -139,14 +139,14 @@ unfolding gicc_list
 gicc_says x f has =
     let r = λ (i : ℕ) (h : i < 19). read_at (gicc_fields x) f i h in
     let bits = flag_bits x.is_enabled (is_edge x.performance_trigger) (is_edge x.maintenance_trigger)
-        x.is_online_capable in
+    x.is_online_capable in
     let each = and_parts _ _ (was_true _ _ has) in
     let trace = trace_is x x.trace_buffer_interrupt (f 18 (Zeros 0) (lit< tt)) in
-    rw (r 3 (lit< tt), r 4 (lit< tt), r 5 (lit< tt), r 6 (lit< tt), r 7 (lit< tt), r 8 (lit< tt), r 9 (lit< tt),
-        r 10 (lit< tt), r 11 (lit< tt), r 12 (lit< tt), r 13 (lit< tt), r 14 (lit< tt), r 15 (lit< tt),
-        r 17 (lit< tt), trace)
-    (rw (bits.0, bits.1, bits.2, bits.3, mode_is x.performance_trigger each.0,
-        mode_is x.maintenance_trigger each.1) refl)
+    rw (r 3 (lit< tt), r 4 (lit< tt), r 5 (lit< tt), r 6 (lit< tt), r 7 (lit< tt), r 8 (lit< tt), r 9 (lit< tt))
+    (rw (r 10 (lit< tt), r 11 (lit< tt), r 12 (lit< tt), r 13 (lit< tt), r 14 (lit< tt), r 15 (lit< tt))
+    (rw (r 17 (lit< tt), trace)
+    (rw (bits.0, bits.1, bits.2, bits.3, mode_is x.performance_trigger each.0)
+    (rw (mode_is x.maintenance_trigger each.1) refl))))
 
 -- ---- the table
 
@@ -191,7 +191,7 @@ module _ (c : GicContents) where
   are_rows =
       both_rows madt_layout _ _ _ _ (one_row madt_layout (gicd_entry c.distributor) (gicd_is c.distributor).0)
       (both_rows madt_layout _ _ _ _ (each_row madt_layout gicc_entry (λ x. (gicc_is x x.trace_buffer_interrupt).0)
-          c.cpu_interfaces.now)
+      c.cpu_interfaces.now)
       (both_rows madt_layout _ _ _ _ (each_row madt_layout gicr_entry (λ x. (gicr_is x).0) c.redistributors.now)
       (both_rows madt_layout _ _ _ _ (each_row madt_layout its_entry (λ x. (its_is x).0) c.translation_services.now)
       (each_row madt_layout msi_entry (λ x. (msi_is x).0) c.msi_frames.now))))
@@ -218,11 +218,11 @@ module _ (c : GicContents) where
         let is = c.cpu_interfaces.now in
         let P = λ (x : GicCpuInterface). interface_checked x ≡ Ok tt in
         let each = both_known FitsInterface P is (recursion_from_All FitsInterface is f.cpu_interfaces)
-            (each_good interface_checked is good) in
+        (each_good interface_checked is good) in
         sorts h [] is [] [] [] refl (all_known (λ x. FitsInterface x
-            × P x) h gicc_kind (λ x g. gicc_says x g.0 g.1) is each)
+        × P x) h gicc_kind (λ x g. gicc_says x g.0 g.1) is each)
         (none_of h gicr_kind (λ x. refl) c.redistributors.now)
-            (none_of h its_kind (λ x. refl) c.translation_services.now)
+        (none_of h its_kind (λ x. refl) c.translation_services.now)
         (none_of h msi_kind (λ x. refl) c.msi_frames.now) ∙ append-nil is
 
     redistributors_are : filter_map (read.redistributors_in 6) (entries_read c) ≡ c.redistributors.now
@@ -233,7 +233,7 @@ module _ (c : GicContents) where
         sorts h [] [] rs [] [] refl (none_of h gicc_kind (λ x. refl) c.cpu_interfaces.now)
         (all_known P h gicr_kind gicr_says rs (recursion_from_All P rs f.redistributors))
         (none_of h its_kind (λ x. refl) c.translation_services.now) (none_of h msi_kind (λ x. refl) c.msi_frames.now)
-            ∙ append-nil rs
+        ∙ append-nil rs
 
     services_are : filter_map (read.translation_service_in 6) (entries_read c) ≡ c.translation_services.now
     services_are =
@@ -241,7 +241,7 @@ module _ (c : GicContents) where
         let ss = c.translation_services.now in
         let P = λ (x : GicTranslationService). All FitsField (its_fields x) in
         sorts h [] [] [] ss [] refl (none_of h gicc_kind (λ x. refl) c.cpu_interfaces.now)
-            (none_of h gicr_kind (λ x. refl) c.redistributors.now)
+        (none_of h gicr_kind (λ x. refl) c.redistributors.now)
         (all_known P h its_kind its_says ss (recursion_from_All P ss f.translation_services))
         (none_of h msi_kind (λ x. refl) c.msi_frames.now) ∙ append-nil ss
 
@@ -251,7 +251,7 @@ module _ (c : GicContents) where
         let ms = c.msi_frames.now in
         let P = λ (x : GicMsiFrame). All FitsField (msi_fields x) in
         sorts h [] [] [] [] ms refl (none_of h gicc_kind (λ x. refl) c.cpu_interfaces.now)
-            (none_of h gicr_kind (λ x. refl) c.redistributors.now)
+        (none_of h gicr_kind (λ x. refl) c.redistributors.now)
         (none_of h its_kind (λ x. refl) c.translation_services.now)
         (all_known P h msi_kind msi_says ms (recursion_from_All P ms f.msi_frames))
 
@@ -291,12 +291,10 @@ module _ (ids : TableIds) (c : GicContents) (t : List ℕ) (is : IsGicMadt ids c
 
   model_is : {A : Type 0} → read.model_beside {A = A} t c.distributor ≡ gic_read c
   model_is =
-      rw (
-        items_are read.cpu_interface_in ∙ interfaces_are c is.fit is.checked,
-        items_are read.redistributors_in ∙ redistributors_are c is.fit,
-        items_are read.translation_service_in ∙ services_are c is.fit,
-        items_are read.msi_frame_in ∙ frames_are c is.fit,
-      ) refl
+      rw (items_are read.cpu_interface_in ∙ interfaces_are c is.fit is.checked)
+      (rw (items_are read.redistributors_in ∙ redistributors_are c is.fit)
+      (rw (items_are read.translation_service_in ∙ services_are c is.fit)
+      (rw (items_are read.msi_frame_in ∙ frames_are c is.fit) refl)))
 
 pub gic_madt_read : {A : Type 0} → GicMadtIsRead A
 gic_madt_read {A = A} ids c t is = read_by {A = A} t (cut_of t).1 (filter_map read.distributor_in (entries_of t))

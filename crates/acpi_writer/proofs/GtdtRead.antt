@@ -81,8 +81,17 @@ are_good c good =
     let f = first_good (timer_checked c.el2_timer) _ e.1 in
     let g = first_good (base_checked c.counter_read_base) _ f.1 in
     let h = first_good (timer_checked c.virtual_el2_timer) _ g.1 in
-    record { control = a.0; secure_el1 = b.0; non_secure_el1 = d.0; virtual_el1 = e.0; el2 = f.0; read =
-        g.0; virtual_el2 = h.0; platform = h.1 }
+    record {
+      control = a.0;
+      secure_el1 = b.0;
+      non_secure_el1 = d.0;
+      virtual_el1 = e.0;
+      el2 = f.0;
+      read =
+          g.0;
+      virtual_el2 = h.0;
+      platform = h.1;
+    }
 
 module _ (ids : TableIds) (c : GtdtContents) (t : List ℕ) (is : IsGtdt ids c t) where
   good : AreGood c
@@ -109,7 +118,7 @@ module _ (ids : TableIds) (c : GtdtContents) (t : List ℕ) (is : IsGtdt ids c t
   unfolding gtdt_fields
   count_is =
       let few : length c.platform_timers.now % 2 ^ 32 ≡ length c.platform_timers.now =
-          omega (arith, is.written.short, body_long c, structures_many c.platform_timers.now all) in
+      omega (arith, is.written.short, body_long c, structures_many c.platform_timers.now all) in
       field 11 (lit< tt) ∙ few
 
   offset_is : field_of t 92 4 ≡ 104

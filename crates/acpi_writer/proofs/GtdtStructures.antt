@@ -55,10 +55,10 @@ frame_is f fits more good =
     let physical = modes_are f.physical_timer.trigger_mode f.physical_timer.polarity false false second.0 in
     let virtual = modes_are f.virtual_timer.trigger_mode f.virtual_timer.polarity false false second.1 in
     let common = flag_bits f.is_secure f.is_always_on false false in
-    rw (field 0 (lit< tt), field 2 (lit< tt), field 3 (lit< tt), field 4 (lit< tt), field 5 (lit< tt),
-        field 6 (lit< tt))
+    rw (field 0 (lit< tt), field 2 (lit< tt), field 3 (lit< tt), field 4 (lit< tt), field 5 (lit< tt))
+    (rw (field 6 (lit< tt))
     (rw (field 7 (lit< tt), field 8 (lit< tt), base_is f.el0_base first.0)
-    (rw (physical.0, physical.1, virtual.0, virtual.1, common.0, common.1) refl))
+    (rw (physical.0, physical.1, virtual.0, virtual.1, common.0, common.1) refl)))
 
 frame_long : (f : GtFrame) → length (frame_bytes f) ≡ 40
 unfolding frame_fields spelling
@@ -66,15 +66,22 @@ frame_long f = refl
 
 frames_long : (fs : List GtFrame) → length (flat_map frame_bytes fs) ≡ 40 * length fs
 frames_long [] = refl
-frames_long (f ∷ fs) = omega (arith, length-append (frame_bytes f) (flat_map frame_bytes fs), frame_long f,
-    frames_long fs)
+frames_long (f ∷ fs) = omega (
+  arith,
+  length-append (frame_bytes f) (flat_map frame_bytes fs),
+  frame_long f,
+  frames_long fs,
+)
 
 frames_are : (fs : List GtFrame) → AllByRecursion FitsFrame fs → AllByRecursion (λ f. frame_checked f ≡ Ok tt) fs
     → read.frames_in (length fs) (flat_map frame_bytes fs) ≡ fs
 frames_are [] all good = refl
 frames_are (f ∷ fs) all good =
-    rw (frame_is f all.0 (flat_map frame_bytes fs) good.0, drop_at (frame_bytes f) (flat_map frame_bytes fs) 40
-        (frame_long f)) (ap (λ z. f ∷ z) (frames_are fs all.1 good.1))
+    rw (
+      frame_is f all.0 (flat_map frame_bytes fs) good.0,
+      drop_at (frame_bytes f) (flat_map frame_bytes fs) 40
+          (frame_long f),
+    ) (ap (λ z. f ∷ z) (frames_are fs all.1 good.1))
 
 -- ---- structures
 
@@ -128,7 +135,7 @@ module _ (a : ℕ) (fs : List GtFrame) (few : length fs ≤ 1637) (fits : All Fi
   block_sound : read.is_sound block ≡ true
   block_sound =
       let within : nat_le (20 + 40 * length fs) (length block) ≡ true =
-          le-leb (20 + 40 * length fs) (length block) (omega (arith, block_long)) in
+      le-leb (20 + 40 * length fs) (length block) (omega (arith, block_long)) in
       rw (block_kind, block_count, block_offset, within) (or-true (length fs == 0))
 
   block_frames : AllByRecursion FitsFrame fs → AllByRecursion (λ f. frame_checked f ≡ Ok tt) fs
@@ -177,8 +184,7 @@ structure_is : (x : PlatformTimerContents) → IsGood x → IsEntry read.timers_
     × (1 ≤ length (structure_bytes x))
 structure_is (kinds.GtBlock b) h =
     let p = few_frames (length b.frames.now) _ h.1 in
-    let fits = recursion_from_All FitsFrame b.frames.now h.0.1 in
-    (
+    let fits = recursion_from_All FitsFrame b.frames.now h.0.1 in (
       block_is b.address b.frames.now p.0 h.0.0,
       block_sound b.address b.frames.now p.0 h.0.0,
       block_says b.address b.frames.now p.0 h.0.0 fits (each_good frame_checked b.frames.now p.1),
@@ -210,8 +216,12 @@ structures_rows xs all = each_row_known read.timers_layout IsGood structure_byte
 pub structures_many : (xs : List PlatformTimerContents) → AllByRecursion IsGood xs
     → length xs ≤ length (flat_map structure_bytes xs)
 structures_many [] all = lit≤ tt
-structures_many (x ∷ xs) all = omega (arith, length-append (structure_bytes x) (flat_map structure_bytes xs),
-    (structure_is x all.0).3, structures_many xs all.1)
+structures_many (x ∷ xs) all = omega (
+  arith,
+  length-append (structure_bytes x) (flat_map structure_bytes xs),
+  (structure_is x all.0).3,
+  structures_many xs all.1,
+)
 
 module _ (xs : List PlatformTimerContents) (all : AllByRecursion IsGood xs) where
   abbrev count : ℕ
@@ -223,7 +233,7 @@ module _ (xs : List PlatformTimerContents) (all : AllByRecursion IsGood xs) wher
   structures_are : read.structures_in count (flat_map structure_bytes xs) ≡ map structure_bytes xs
   structures_are =
       ap read.sound_front (rows_are_cut (read.timers_grammar count) (flat_map structure_bytes xs)
-          (map structure_bytes xs) few_rows (structures_rows xs all)).0 ∙ each_sound xs all
+      (map structure_bytes xs) few_rows (structures_rows xs all)).0 ∙ each_sound xs all
 
   pub timers_are : read.timers_in count (flat_map structure_bytes xs) ≡ map timer_read xs
   timers_are = ap (filter_map read.timer_of) structures_are ∙ each_known IsGood read.timer_of structure_bytes timer_read

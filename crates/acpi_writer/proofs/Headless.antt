@@ -29,8 +29,12 @@ use Rattle.acpi_writer.proofs.LaidRead.{front_lent, rest_lent}
 
 unsummed_long : (oem_id : List ℕ) (xsdt : ℕ) → length oem_id ≡ 6 → length (rsdp_unsummed oem_id xsdt) ≡ 36
 unfolding rsdp_unsummed spelling
-unsummed_long oem_id xsdt long = omega (arith, long, length-append oem_id
-    (2 ∷ (spelling 4 0 ++ (spelling 4 36 ++ (spelling 8 xsdt ++ replicate 4 0)))))
+unsummed_long oem_id xsdt long = omega (
+  arith,
+  long,
+  length-append oem_id
+      (2 ∷ (spelling 4 0 ++ (spelling 4 36 ++ (spelling 8 xsdt ++ replicate 4 0)))),
+)
 
 pub rsdp_long : (oem_id : List ℕ) (xsdt : ℕ) → length oem_id ≡ 6 → length (rsdp_bytes oem_id xsdt) ≡ 36
 unfolding rsdp_bytes
@@ -109,16 +113,20 @@ module _ (a b c d e f xsdt : ℕ) where
   checked : is_utf8 id ≡ true → check_rsdp (shape first second) ≡ Ok tt
   unfolding check_rsdp checked_length check_first check_sum
   checked text =
-      rw (signature_is first second, id_is first second, text, front_sum second, revision_is first second,
-          length_is first second, shape_long first second, all_of first second, whole_sum) refl
+      rw (signature_is first second, id_is first second, text, front_sum second, revision_is first second)
+      (rw (length_is first second, shape_long first second, all_of first second, whole_sum) refl)
 
   leads : xsdt < 2 ^ 64 → (xsdt == 0) ≡ false → root_of_rsdp (shape first second) ≡ root_pointer 2 Xsdt xsdt
   leads small some = rw (revision_is first second, xsdt_is first second small, some) refl
 
   six_read : is_utf8 id ≡ true → xsdt < 2 ^ 64 → (xsdt == 0) ≡ false → Leads id xsdt (rsdp_bytes id xsdt)
-  six_read text small some = record { checked = ap check_rsdp bytes_are ∙ checked text; oem_id_is =
-      ap (λ r. (rsdp_of r).oem_id) bytes_are ∙ id_is first second; leads =
-      ap root_of_rsdp bytes_are ∙ leads small some }
+  six_read text small some = record {
+    checked = ap check_rsdp bytes_are ∙ checked text;
+    oem_id_is =
+        ap (λ r. (rsdp_of r).oem_id) bytes_are ∙ id_is first second;
+    leads =
+        ap root_of_rsdp bytes_are ∙ leads small some;
+  }
 
 -- ---- an RSDP with any OEMID
 
@@ -198,11 +206,11 @@ has_facs m a c h fits e =
     let n : ℕ = facs_gap a in
     let zeros : List ℕ = replicate (64 - n) 0 in
     let from : at m (a + length (replicate {A = ℕ} n 0)) (length (facs_bytes c ++ zeros))
-        ≡ Some (facs_bytes c ++ zeros) = rest_lent m a (replicate n 0) (facs_bytes c ++ zeros) h e in
+    ≡ Some (facs_bytes c ++ zeros) = rest_lent m a (replicate n 0) (facs_bytes c ++ zeros) h e in
     let there : at m (a + length (replicate {A = ℕ} n 0)) (length (facs_bytes c)) ≡ Some (facs_bytes c) =
-        front_lent m (a + length (replicate {A = ℕ} n 0)) (facs_bytes c) zeros from in
+    front_lent m (a + length (replicate {A = ℕ} n 0)) (facs_bytes c) zeros from in
     let whole : at m (a + n) 64 ≡ Some (facs_bytes c) = ap (at m (a + n)) (sym (facs_long c))
-        ∙ ap (λ k. at m (a + k) (length (facs_bytes c))) (sym (length-replicate {A = ℕ} n 0)) ∙ there in
+    ∙ ap (λ k. at m (a + k) (length (facs_bytes c))) (sym (length-replicate {A = ℕ} n 0)) ∙ there in
     let long : at m (a + n) (length (facs_bytes c)) ≡ Some (facs_bytes c) = ap (at m (a + n)) (facs_long c) ∙ whole in
     let fields : IsReadAs c (facs_bytes c) = facs_read c (facs_bytes c) (record { fit = fits; bytes = refl }) in
     let head = at-front m (a + n) 36 (facs_bytes c) long (omega (arith, facs_long c)) in

@@ -85,7 +85,7 @@ rest_lent m a xs [] h e = nothing_lent m (a + length xs)
 rest_lent m a xs (y ∷ ys) h e =
     let f = lent_inside m a (length (xs ++ y ∷ ys)) (xs ++ y ∷ ys) (omega (arith, length-append xs (y ∷ ys))) e in
     (lent_is_inside m (a + length xs) (length (y ∷ ys)) (y ∷ ys) h (omega arith)).1
-        (f.0, f.1, holds_rest f.0 a xs (y ∷ ys) f.2)
+    (f.0, f.1, holds_rest f.0 a xs (y ∷ ys) f.2)
 
 -- ---- a valid table that is lent
 
@@ -98,10 +98,10 @@ unfolding check_table
 summed s t whole e =
     let names = bind_ok (check_names s (header_at t)) _ tt e in
     let long = holds_ok (nat_le 36 (field_of t 4 4) && nat_le (field_of t 4 4) (length t)) (SdtInvalidLength s)
-        (λ _. holds (sum_of (take (field_of t 4 4) t) == 0) (SdtInvalidChecksum s)) tt names.2 in
+    (λ _. holds (sum_of (take (field_of t 4 4) t) == 0) (SdtInvalidChecksum s)) tt names.2 in
     let all : take (field_of t 4 4) t ≡ t = ap (λ n. take n t) whole ∙ take_all (length t) t (omega arith) in
     ap sum_of (sym all) ∙ eqb-true (sum_of (take (field_of t 4 4) t)) 0
-        (holds_only (sum_of (take (field_of t 4 4) t) == 0) (SdtInvalidChecksum s) long.1)
+    (holds_only (sum_of (take (field_of t 4 4) t) == 0) (SdtInvalidChecksum s) long.1)
 
 header_length : (t : List ℕ) → (header_at t).length ≡ field_of t 4 4
 unfolding header_at
@@ -152,7 +152,7 @@ laid_found m a (t ∷ ts) h valid e s least enough =
     let filled = replicate (gap (length t)) 0 in
     let first : at m a (length t) ≡ Some t = front_lent m a t filled (front_lent m a (padded t) (laid ts) e) in
     step (is_named s t && nat_le least (length t)) a t (table_at m (sdt_kind s least) a) _ _
-        (there m a valid.0.0 t valid.0.1 first s least enough)
+    (there m a valid.0.0 t valid.0.1 first s least enough)
     (laid_found m (a + length (padded t)) ts h valid.1 (rest_lent m a (padded t) (laid ts) h e) s least enough)
 
 -- ---- a table whose Checksum is set
@@ -166,8 +166,8 @@ serves_named : (s : Signature) (least : ℕ) (table : List ℕ)
 unfolding header_at with_sum
 serves_named s least table =
     ap (λ p. bytes_eq p s.0 && nat_le least (length (with_sum 9 table)))
-        (part_front table 9 (sum_byte 9 table) 4 (lit≤ tt)) ∙ ap (λ n. is_named s table && nat_le least n)
-        (length-with_sum 9 table)
+    (part_front table 9 (sum_byte 9 table) 4 (lit≤ tt)) ∙ ap (λ n. is_named s table && nat_le least n)
+    (length-with_sum 9 table)
 
 abbrev summed_bytes : Region → List ℕ
 summed_bytes t = with_sum 9 t.bytes
@@ -189,7 +189,7 @@ first_after : (s : Signature) (least a : ℕ) (table : List ℕ) (before after :
 first_after s least a table [] after others named long = first_here s least table (map summed_bytes after) named long
 first_after s least a table (t ∷ before) after others named long =
     first_past s least t.bytes (map summed_bytes (before ++ record { start = a; bytes = table } ∷ after)) others.0
-        ∙ first_after s least a table before after others.1 named long
+    ∙ first_after s least a table before after others.1 named long
 
 -- what a lookup finds in the image
 pub found_in_image : (s : Signature) (least : ℕ) (p : Plan) (table : List ℕ) (first : HasFirst s p table)
@@ -197,7 +197,7 @@ pub found_in_image : (s : Signature) (least : ℕ) (p : Plan) (table : List ℕ)
     → bytes_found (lookup (records_of p) (kind s least (check_table s)) (pointers_of p)) ≡ Ok (with_sum 9 table)
 found_in_image s least p table first named enough long =
     lookup_is (records_of p) s least (pointers_of p) enough ∙ ap (first_of s least)
-        ((written_is_read p first.file first.bytes first.is_written).tables ∙ ap (map summed_bytes) first.tables)
+    ((written_is_read p first.file first.bytes first.is_written).tables ∙ ap (map summed_bytes) first.tables)
     ∙ first_after s least first.address table first.before first.after first.others named long
 
 -- ---- a table that is written
@@ -217,7 +217,7 @@ first_found : (s : Signature) (name : table.IsName s) (least revision : ℕ) (id
     → bytes_found (lookup (records_of p) (kind s least (check_table s)) (pointers_of p)) ≡ Ok t
 first_found s name least revision ids body t p is first enough long =
     found_in_image s least p t first (table.named s name revision ids body t is) enough
-        (omega (arith, long, table.long s name revision ids body t is)) ∙ ap fine (again s revision ids body t is)
+    (omega (arith, long, table.long s name revision ids body t is)) ∙ ap fine (again s revision ids body t is)
 
 same_found : (x y : List ℕ) → fine x ≡ fine y → x ≡ y
 same_found x y e = cc
@@ -236,7 +236,7 @@ pub madt_in_image : {A : Type 0} → MadtInImage A
 madt_in_image {A = A} p t ids c is first =
     let size = length-append (madt_fixed c.local_apic_address c.also_has_legacy_pics) (madt_entries c) in
     let found = first_found MADT madt_name 44 5 ids (madt_body c) t p is.written first (lit≤ tt)
-        (omega (arith, size, fixed_long c.local_apic_address c.also_has_legacy_pics)) in
+    (omega (arith, size, fixed_long c.local_apic_address c.also_has_legacy_pics)) in
     model_by_bytes {A = A} (lookup (records_of p) madt_kind (pointers_of p)) t found ∙ madt_read {A = A} ids c t is
 
 abbrev plat : {A : Type 0} → PlatformInfo A → Result (PlatformInfo A) AcpiError
@@ -250,8 +250,13 @@ same_model x y e = cc
 
 timed : {A : Type 0} (c : MadtContents) (profile : PowerProfile) (q : PlatformInfo A)
     (said : Result (Model A) AcpiError) (timer : Result (Option PmTimer) AcpiError) → said ≡ Ok (model_read c)
-    → (said >>= λ s. timer >>= λ found. plat (record { power_profile = profile; interrupt_model = s.0; processor_info =
-    s.1; pm_timer = found })) ≡ Ok q → HasPlatform c q
+    → (said >>= λ s. timer >>= λ found. plat (record {
+      power_profile = profile;
+      interrupt_model = s.0;
+      processor_info =
+          s.1;
+      pm_timer = found;
+    })) ≡ Ok q → HasPlatform c q
 timed c profile q (Err e) timer same is = absurd cc
 timed c profile q (Ok s) (Err e) same is = absurd cc
 timed c profile q (Ok s) (Ok found) same is =
@@ -298,5 +303,5 @@ hpet_by (Err d) b e = absurd cc
 pub hpet_in_image : HpetInImage
 hpet_in_image p t ids i is first =
     let found = first_found HPET hpet_name 56 1 ids (hpet_body i) t p is.written first (lit≤ tt)
-        (omega (arith, hpet_long i)) in
+    (omega (arith, hpet_long i)) in
     hpet_by (lookup (records_of p) hpet_kind (pointers_of p)) t found ∙ hpet_read ids i t is

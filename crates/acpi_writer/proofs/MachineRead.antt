@@ -68,16 +68,19 @@ pub table_there : (m : Memory) (p : ℕ) (s : Signature) (t : List ℕ) → IsVa
     → table_at m (plain_kind s) p ≡ Ok t
 table_there m p s t valid e =
     let named : is_named s t ≡ true = ap (λ l. bytes_eq l (letters_of s)) (letters_are s t valid)
-        ∙ same_bytes (letters_of s) in
+    ∙ same_bytes (letters_of s) in
     ok_from (table_at m (plain_kind s) p) t (there m p s t valid e s 36 (lit≤ tt)
-        ∙ rw (named, le-leb 36 (length t) (table_is t valid.taken).long) refl)
+    ∙ rw (named, le-leb 36 (length t) (table_is t valid.taken).long) refl)
 
 -- ---- the whole machine
 
 addresses_fit : (n a : ℕ) (ts : List (List ℕ)) → a + length (laid ts) < n → AllByRecursion (λ p. p < n) (addresses a ts)
 addresses_fit n a [] less = tt
-addresses_fit n a (t ∷ ts) less = (omega (arith, less), addresses_fit n (a + length (padded t)) ts
-    (omega (arith, less, length-append (padded t) (laid ts))))
+addresses_fit n a (t ∷ ts) less = (
+  omega (arith, less),
+  addresses_fit n (a + length (padded t)) ts
+      (omega (arith, less, length-append (padded t) (laid ts))),
+)
 
 -- what is known if the machine can be written
 record Facts (a : ℕ) (x : Machine) : Type 0 where
@@ -93,9 +96,9 @@ facts : (a : ℕ) (x : Machine) → IsWritable a x → Facts a x
 unfolding check_by
 facts a x is =
     let one = holds_ok (are_texts x.ids) BadName (λ _. holds (nat_lt (xsdt_length x) (2 ^ 32)) TooLong >>= λ _.
-        dsdt_written x.ids x.dsdt >>= λ _. check_tables x.ids x.tables.now) tt is.checked in
+    dsdt_written x.ids x.dsdt >>= λ _. check_tables x.ids x.tables.now) tt is.checked in
     let two = holds_ok (nat_lt (xsdt_length x) (2 ^ 32)) TooLong (λ _. dsdt_written x.ids x.dsdt >>= λ _.
-        check_tables x.ids x.tables.now) tt one.1 in
+    check_tables x.ids x.tables.now) tt one.1 in
     let three = bind_ok (dsdt_written x.ids x.dsdt) (λ _. check_tables x.ids x.tables.now) tt two.1 in
     let place = and_parts (not (a == 0)) ((a % 16 == 0) && nat_lt (a + tree_size x) (2 ^ 64)) is.place in
     record {
@@ -164,8 +167,14 @@ module _ (m : Memory) (rsdp a : ℕ) (x : Machine) (h : IsMemory m) (is : IsWrit
   -- ---- what is opened
 
   leads : Leads x.ids.oem_id a (rsdp_bytes x.ids.oem_id a)
-  leads = rsdp_read x.ids a (rsdp_bytes x.ids.oem_id a) (record { ids_fit = is.fit.ids; texts = known.texts; some =
-      known.some; small = omega (arith, known.ends); bytes = refl })
+  leads = rsdp_read x.ids a (rsdp_bytes x.ids.oem_id a) (record {
+    ids_fit = is.fit.ids;
+    texts = known.texts;
+    some =
+        known.some;
+    small = omega (arith, known.ends);
+    bytes = refl;
+  })
 
   rsdp_found : rsdp_at m rsdp ≡ Ok (rsdp_bytes x.ids.oem_id a)
   rsdp_found = rsdp_there m rsdp (rsdp_bytes x.ids.oem_id a) (rsdp_long x.ids.oem_id a is.fit.ids.oem_id) first
@@ -177,8 +186,13 @@ module _ (m : Memory) (rsdp a : ℕ) (x : Machine) (h : IsMemory m) (is : IsWrit
 
   root : IsRoot Xsdt x.ids (pointers_of a x) xsdt
   root = record {
-    written = record { ids_fit = is.fit.ids; texts = known.texts; short =
-        omega (arith, known.short, root_long contents_written (tables_address a x) x.ids x.tables.now); bytes = refl };
+    written = record {
+      ids_fit = is.fit.ids;
+      texts = known.texts;
+      short =
+          omega (arith, known.short, root_long contents_written (tables_address a x) x.ids x.tables.now);
+      bytes = refl;
+    };
     fit = All-from_recursion (λ p. p < 256 ^ 8) (pointers_of a x)
         (addresses_fit (256 ^ 8) (tables_address a x) (listed x) (omega (arith, listed_ends)));
   }
@@ -192,16 +206,18 @@ module _ (m : Memory) (rsdp a : ℕ) (x : Machine) (h : IsMemory m) (is : IsWrit
 
   found : (s : Signature) (c : TableContents) (least : ℕ) → first_of s x.tables.now ≡ Some c → 36 ≤ least
       → least ≤ length (bytes_of x.ids c)
-      → lookup m (sdt_kind s least) (pointers_of a x) ≡ Ok (place_of x.ids s (tables_address a x) x.tables.now,
-      bytes_of x.ids c)
+      → lookup m (sdt_kind s least) (pointers_of a x) ≡ Ok (
+        place_of x.ids s (tables_address a x) x.tables.now,
+        bytes_of x.ids c,
+      )
   found s c least is_first enough long = looked_up s least enough
       ∙ first_found x.ids s (tables_address a x) least c x.tables.now known.tables is_first long
 
   dsdt_found : (d : AmlContents) → x.dsdt ≡ Some d → table_at m (plain_kind DSDT) (dsdt_address a x) ≡ Ok (dsdt_of x)
   dsdt_found d some =
       let valid : IsValid DSDT (dsdt_of x) =
-          subst (IsValid DSDT) (sym (ap or_none known.dsdt_is))
-          (dsdt_is_valid x.ids x.dsdt d known.dsdt is.fit.ids some known.dsdt_is) in
+      subst (IsValid DSDT) (sym (ap or_none known.dsdt_is))
+      (dsdt_is_valid x.ids x.dsdt d known.dsdt is.fit.ids some known.dsdt_is) in
       table_there m (dsdt_address a x) DSDT (dsdt_of x) valid dsdt_lent
 
   aml_found : (c : FadtContents) (d : AmlContents) → first_of FADT x.tables.now ≡ Some (Fadt c) → x.dsdt ≡ Some d
@@ -210,7 +226,7 @@ module _ (m : Memory) (rsdp a : ℕ) (x : Machine) (h : IsMemory m) (is : IsWrit
   unfolding stream_at
   aml_found c d is_first some same =
       let fadt = fadt_found x.ids m (pointers_of a x) (λ s. place_of x.ids s (tables_address a x) x.tables.now)
-          x.tables.now known.tables found c is_first in
+      x.tables.now known.tables found c is_first in
       let leads_there = fadt.2.fields.dsdt in
       rw (fadt.1, leads_there, same, dsdt_found d some) refl
 
@@ -225,7 +241,7 @@ module _ (m : Memory) (rsdp a : ℕ) (x : Machine) (h : IsMemory m) (is : IsWrit
       → led_by facs_place m (pointers_of a x) ≡ Ok (range (facs_address a x) 64)
   led_there c f is_first some same =
       let fadt = fadt_found x.ids m (pointers_of a x) (λ s. place_of x.ids s (tables_address a x) x.tables.now)
-          x.tables.now known.tables found c is_first in
+      x.tables.now known.tables found c is_first in
       let leads_there = fadt.2.fields.facs in
       rw (fadt.1, leads_there, same, (facs_found f some).found) refl
 
@@ -281,8 +297,11 @@ module _ (a : ℕ) (x : Machine) (is : IsWritable (a + 48) x) where
   dsdt_known : dsdt_at a count ≡ Some (dsdt_address (a + 48) x)
   unfolding size_by
   dsdt_known =
-      rw (lt-ltb (36 + 8 * count) (2 ^ 32) facts_of.short, lt-ltb (a + (48 + rounded (36 + 8 * count))) (2 ^ 64)
-          (omega (arith, facts_of.ends)))
+      rw (
+        lt-ltb (36 + 8 * count) (2 ^ 32) facts_of.short,
+        lt-ltb (a + (48 + rounded (36 + 8 * count))) (2 ^ 64)
+            (omega (arith, facts_of.ends)),
+      )
       (ap some_address (omega arith))
 
   facs_known : (f : FacsContents) → x.facs ≡ Some f → facs_at a count x.dsdt ≡ Some (facs_address (a + 48) x)
@@ -290,9 +309,9 @@ module _ (a : ℕ) (x : Machine) (is : IsWritable (a + 48) x) where
   facs_known f some =
       let room : facs_room x.facs ≡ 128 = ap facs_room some in
       let within : ends_at + facs_gap ends_at < 2 ^ 64 = omega (arith, facts_of.ends, room, ends_is) in
-      rw (lt-ltb (36 + 8 * count) (2 ^ 32) facts_of.short, lt-ltb (dsdt_length x.dsdt) (2 ^ 32) dsdt_is.1,
-          lt-ltb (ends_at + facs_gap ends_at) (2 ^ 64) within)
-      (ap (λ p. some_address (p + facs_gap p)) ends_is)
+      rw (lt-ltb (36 + 8 * count) (2 ^ 32) facts_of.short, lt-ltb (dsdt_length x.dsdt) (2 ^ 32) dsdt_is.1)
+      (rw (lt-ltb (ends_at + facs_gap ends_at) (2 ^ 64) within)
+      (ap (λ p. some_address (p + facs_gap p)) ends_is))
 
 pub machine_read : {A : Type 0} → MachineIsRead A
 unfolding machine_by
@@ -304,8 +323,8 @@ machine_read {A = A} m a x h is e =
     let all : at m a (length (padded rsdp ++ tree_bytes (a + 48) x)) ≡ Some (padded rsdp ++ tree_bytes (a + 48) x) =
     ap (at m a) (omega (arith, length-append (padded rsdp) (tree_bytes (a + 48) x), filled, tree)) ∙ e in
     let front = front_lent m a rsdp (replicate (gap (length rsdp)) 0)
-        (front_lent m a (padded rsdp) (tree_bytes (a + 48) x) all) in
+    (front_lent m a (padded rsdp) (tree_bytes (a + 48) x) all) in
     let rest = rest_lent m a (padded rsdp) (tree_bytes (a + 48) x) h all in
     let both = tree_read {A = A} m a (a + 48) x h is (ap (at m a) (sym long) ∙ front)
-        (ap (λ n. at m (a + n) (tree_size x)) (sym filled) ∙ ap (at m (a + length (padded rsdp))) (sym tree) ∙ rest) in
+    (ap (λ n. at m (a + n) (tree_size x)) (sym filled) ∙ ap (at m (a + length (padded rsdp))) (sym tree) ∙ rest) in
     (both.0, both.1, record { dsdt = dsdt_known a x is; facs = facs_known a x is })

@@ -74,13 +74,23 @@ one_box e a some = rw some refl
 
 pub speaks_one : (e : List ℕ) (x : MadtItem) → IsEntry madt_layout e → said_of e ≡ Some (fine x) → box_of e ≡ None
     → Speaks e (x ∷ []) []
-speaks_one e x is said none = record { entries = e ∷ []; are = one_row madt_layout e is; said =
-    said_one e x said; boxed = no_box e none }
+speaks_one e x is said none = record {
+  entries = e ∷ [];
+  are = one_row madt_layout e is;
+  said =
+      said_one e x said;
+  boxed = no_box e none;
+}
 
 pub speaks_box : (e : List ℕ) (x : MadtItem) (a : ℕ) → IsEntry madt_layout e → said_of e ≡ Some (fine x)
     → box_of e ≡ Some a → Speaks e (x ∷ []) (a ∷ [])
-speaks_box e x a is said some = record { entries = e ∷ []; are = one_row madt_layout e is; said =
-    said_one e x said; boxed = one_box e a some }
+speaks_box e x a is said some = record {
+  entries = e ∷ [];
+  are = one_row madt_layout e is;
+  said =
+      said_one e x said;
+  boxed = one_box e a some;
+}
 
 pub speaks_both : (a b : List ℕ) (xs ys : List MadtItem) (us vs : List ℕ) → Speaks a xs us → Speaks b ys vs
     → Speaks (a ++ b) (xs ++ ys) (us ++ vs)

@@ -139,7 +139,7 @@ module _ (c : MadtContents) where
       let h = read.processor_in is_ap in
       sorts h (map (processor_read is_ap) c.processors.now) [] [] [] [] [] []
       (each_of h processor_item (processor_read is_ap) (λ x. refl) c.processors.now)
-          (no_address h c.local_apic_address refl)
+      (no_address h c.local_apic_address refl)
       (none_of h item.IoApic (λ x. refl) c.io_apics.now)
       (none_of h item.Override (λ x. refl) c.interrupt_source_overrides.now)
       (none_of h item.NmiSource (λ x. refl) c.nmi_sources.now)
@@ -172,17 +172,17 @@ module _ (c : MadtContents) (f : AreFit c) (lines : list_all (λ x. names_one x.
   entries_speak : Speaks (madt_entries c) (madt_items c) (boxes_read c.wakeup_mailbox)
   entries_speak =
       speaks_both _ _ _ _ _ _ (speaks_all FitsProcessor processor_entry processor_item processor_says c.processors.now
-          (recursion_from_All FitsProcessor c.processors.now f.processors))
+      (recursion_from_All FitsProcessor c.processors.now f.processors))
       (speaks_both _ _ _ _ _ _ (address_says c.local_apic_address f.local_apic_address)
       (speaks_both _ _ _ _ _ _ (speaks_all FitsIoApic io_apic_entry item.IoApic io_apic_says c.io_apics.now
-          (recursion_from_All FitsIoApic c.io_apics.now f.io_apics))
+      (recursion_from_All FitsIoApic c.io_apics.now f.io_apics))
       (speaks_both _ _ _ _ _ _ (speaks_all FitsOverride override_entry item.Override override_says
-          c.interrupt_source_overrides.now
-          (recursion_from_All FitsOverride c.interrupt_source_overrides.now f.overrides))
+      c.interrupt_source_overrides.now
+      (recursion_from_All FitsOverride c.interrupt_source_overrides.now f.overrides))
       (speaks_both _ _ _ _ _ _ (speaks_all FitsNmiSource nmi_source_entry item.NmiSource nmi_source_says
-          c.nmi_sources.now (recursion_from_All FitsNmiSource c.nmi_sources.now f.nmi_sources))
+      c.nmi_sources.now (recursion_from_All FitsNmiSource c.nmi_sources.now f.nmi_sources))
       (speaks_both _ _ _ _ _ _ (speaks_all (λ x. names_one x.processor ≡ true) nmi_line_entry item.NmiLine nmi_line_says
-          c.local_apic_nmi_lines.now (all_lines c.local_apic_nmi_lines.now lines))
+      c.local_apic_nmi_lines.now (all_lines c.local_apic_nmi_lines.now lines))
       (wakeup_says c.wakeup_mailbox f.wakeup))))))
 
 pub madt_name : table.IsName MADT
@@ -232,7 +232,7 @@ module _ (ids : TableIds) (c : MadtContents) (t : List ℕ) (is : IsMadt ids c t
   unfolding madt_at field_of
   legacy_is =
       ap (λ n. has_bit n 0) (table.field MADT madt_name 5 ids (madt_body c) t is.written 4 4
-          ∙ ap number (fixed_flags c.local_apic_address c.also_has_legacy_pics (madt_entries c)))
+      ∙ ap number (fixed_flags c.local_apic_address c.also_has_legacy_pics (madt_entries c)))
       ∙ bool_bit c.also_has_legacy_pics
 
   speaks : Speaks (drop 44 t) (madt_items c) (boxes_read c.wakeup_mailbox)
@@ -254,8 +254,8 @@ apic_is : {A : Type 0} (ids : TableIds) (c : MadtContents) (t : List ℕ) → Is
 apic_is ids c t is =
     let at = (madt_at t).local_apic_address in
     let address = last_by (nat_lt c.local_apic_address (2 ^ 32)) c.local_apic_address at refl (address_is ids c t is) in
-    rw (addresses_are c, io_apics_are c, lines_are c, overrides_are c, sources_are c, legacy_is ids c t is,
-        address) refl
+    rw (addresses_are c, io_apics_are c, lines_are c, overrides_are c, sources_are c, legacy_is ids c t is)
+    (rw (address) refl)
 
 -- with a first processor
 processors_of_are : {A : Type 0} (items : List MadtItem) (ps : List MadtProcessor)

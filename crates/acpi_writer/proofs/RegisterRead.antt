@@ -123,5 +123,5 @@ pub block_is : (t : List ℕ) (address size extended s : ℕ) (o : Option Generi
     → block_at t address size extended ≡ made s o
 unfolding block_at
 block_is t address size extended s o e p has x =
-    rw (e, filled_4 t (spelling 4 (port_of o)) address p (port_long (port_of o)), has,
-        filled_12 t (register_bytes o) extended x (register_long o)) refl
+    rw (e, filled_4 t (spelling 4 (port_of o)) address p (port_long (port_of o)), has)
+    (rw (filled_12 t (register_bytes o) extended x (register_long o)) refl)

@@ -68,9 +68,9 @@ unfolding hpet_at hpet_fields
 hpet_read ids i t is =
     let body = table.rest HPET hpet_name 1 ids (hpet_body i) t is.written in
     let field = λ (k : ℕ) (less : k < 7). read_end t 36 (hpet_fields i) body is.fit k less in
-    rw (field 1 (lit< tt), field 0 (lit< tt), field 3 (lit< tt), field 4 (lit< tt), field 5 (lit< tt),
-        field 6 (lit< tt))
-    (rw (protection i.page_protection) refl)
+    rw (field 1 (lit< tt), field 0 (lit< tt), field 3 (lit< tt), field 4 (lit< tt), field 5 (lit< tt))
+    (rw (field 6 (lit< tt))
+    (rw (protection i.page_protection) refl))
 
 pub hpet_valid : HpetIsValid
 hpet_valid ids i t is = table.valid HPET hpet_name 1 ids (hpet_body i) t is.written
@@ -132,15 +132,19 @@ after_entry e more = drop_at (mcfg_entry e) more 16 (entry_long e)
 
 entries_long : (es : List McfgEntry) → length (flat_map mcfg_entry es) ≡ 16 * length es
 entries_long [] = refl
-entries_long (e ∷ es) = omega (arith, length-append (mcfg_entry e) (flat_map mcfg_entry es), entry_long e,
-    entries_long es)
+entries_long (e ∷ es) = omega (
+  arith,
+  length-append (mcfg_entry e) (flat_map mcfg_entry es),
+  entry_long e,
+  entries_long es,
+)
 
 entries_in : (es : List McfgEntry) → AllByRecursion FitsMcfg es
     → mcfg_entries_in (length es) (flat_map mcfg_entry es) ≡ es
 entries_in [] all = refl
 entries_in (e ∷ es) all =
     rw (entry_at e (flat_map mcfg_entry es) all.0, after_entry e (flat_map mcfg_entry es))
-        (ap (λ z. e ∷ z) (entries_in es all.1))
+    (ap (λ z. e ∷ z) (entries_in es all.1))
 
 whole_entries : (es : List McfgEntry) → AllByRecursion FitsMcfg es → whole_mcfg_entries (flat_map mcfg_entry es) ≡ es
 whole_entries es all =
@@ -155,7 +159,7 @@ pub mcfg_read : McfgIsRead
 mcfg_read ids es t is =
     let rest : drop 44 t ≡ flat_map mcfg_entry es =
     sym (drop-drop 8 36 t) ∙ ap (drop 8) (table.rest MCFG mcfg_name 1 ids (mcfg_body es) t is.written)
-        ∙ drop_at mcfg_reserved (flat_map mcfg_entry es) 8 refl in
+    ∙ drop_at mcfg_reserved (flat_map mcfg_entry es) 8 refl in
     ap whole_mcfg_entries rest ∙ whole_entries es (recursion_from_All FitsMcfg es is.fit)
 
 pub mcfg_valid : McfgIsValid
@@ -184,16 +188,20 @@ module _ (ids : TableIds) (n : ℕ) (distances t : List ℕ) (is : IsSlit ids n 
   rest : drop 44 t ≡ distances
   rest =
       sym (drop-drop 8 36 t) ∙ ap (drop 8) (table.rest SLIT slit_name 1 ids (slit_body n distances) t is.written)
-          ∙ drop_at (spelling 8 n) distances 8 (length-spelling 8 n)
+      ∙ drop_at (spelling 8 n) distances 8 (length-spelling 8 n)
 
   long : length t ≡ 44 + length distances
-  long = omega (arith, table.long SLIT slit_name 1 ids (slit_body n distances) t is.written,
-      length-append (spelling 8 n) distances, length-spelling 8 n)
+  long = omega (
+    arith,
+    table.long SLIT slit_name 1 ids (slit_body n distances) t is.written,
+    length-append (spelling 8 n) distances,
+    length-spelling 8 n,
+  )
 
   place : (k : ℕ) → k < length distances → slice_get t (44 + k) ≡ slice_get distances k
   place k less =
       slice_get-get_or t (44 + k) 0 (omega (arith, long, less)) ∙ ap some
-          (sym (get_or-drop 44 t k 0) ∙ ap (λ l. get_or l k 0) rest) ∙ sym (slice_get-get_or distances k 0 less)
+      (sym (get_or-drop 44 t k 0) ∙ ap (λ l. get_or l k 0) rest) ∙ sym (slice_get-get_or distances k 0 less)
 
   distance : (from to : ℕ) → from < n → to < n → distance_of t from to ≡ slice_get distances (from * n + to)
   unfolding distance_of
@@ -232,7 +240,7 @@ same_body kind ps =
 pub root_read : RootIsRead
 root_read kind ids addresses t is =
     ap (pointers (width_of kind)) (table.rest (signature_of kind) (root_name kind) 1 ids (root_body kind addresses) t
-        is.written ∙ sym (same_body kind addresses))
+    is.written ∙ sym (same_body kind addresses))
     ∙ pointers_are kind addresses (recursion_from_All (λ a. a < 256 ^ width_of kind) addresses is.fit)
 
 dsdt_name : table.IsName DSDT
@@ -244,9 +252,15 @@ unfolding is_utf8 chars lib.Utf8.encode
 ssdt_name = record { a = _; b = _; c = _; d = _; letters = refl; text = refl; same = refl }
 
 pub dsdt_read : DsdtIsRead
-dsdt_read revision ids aml t is = record { valid = table.valid DSDT dsdt_name revision ids aml t is; aml_is =
-    table.rest DSDT dsdt_name revision ids aml t is }
+dsdt_read revision ids aml t is = record {
+  valid = table.valid DSDT dsdt_name revision ids aml t is;
+  aml_is =
+      table.rest DSDT dsdt_name revision ids aml t is;
+}
 
 pub ssdt_read : SsdtIsRead
-ssdt_read revision ids aml t is = record { valid = table.valid SSDT ssdt_name revision ids aml t is; aml_is =
-    table.rest SSDT ssdt_name revision ids aml t is }
+ssdt_read revision ids aml t is = record {
+  valid = table.valid SSDT ssdt_name revision ids aml t is;
+  aml_is =
+      table.rest SSDT ssdt_name revision ids aml t is;
+}

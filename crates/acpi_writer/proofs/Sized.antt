@@ -54,8 +54,11 @@ pub table_length : (s : Signature) (revision : ℕ) (ids : TableIds) (body : Lis
 unfolding table_bytes
 table_length s revision ids body letters are =
     length-with_sum 9 (unsummed s revision ids body)
-    ∙ omega (arith, length-append (table_head s revision ids (36 + length body)) body,
-    head_length s revision ids letters are (36 + length body))
+    ∙ omega (
+      arith,
+      length-append (table_head s revision ids (36 + length body)) body,
+      head_length s revision ids letters are (36 + length body),
+    )
 
 -- ---- more room, and less
 
@@ -106,7 +109,7 @@ pub moved_checked : (checked : Result (Unit {0}) WriterError) (s : Signature) (r
     → Moves (λ room. checked >>= λ _. table_written room s revision ids body)
 moved_checked checked s revision ids body letters are room other t e fits =
     through checked (table_written room s revision ids body) (table_written other s revision ids body) t
-        (λ p. moved_table s revision ids body letters are room other t p fits) e
+    (λ p. moved_table s revision ids body letters are room other t p fits) e
 
 pub moved_slit : (ids : TableIds) (n : ℕ) (distances : List ℕ) → AreIds ids
     → Moves (λ room. slit_written room ids n distances)
@@ -151,7 +154,7 @@ unwritten_by : (written : ℕ → Result (List ℕ) WriterError) → Moves writt
     → length (padded (or_none w)) ≤ room → or_none w ≡ []
 unwritten_by written moves room e (Ok t) all none within =
     let there : written room ≡ Ok t = moves most room t all
-        (omega (arith, within, length-append t (replicate (gap (length t)) 0))) in
+    (omega (arith, within, length-append t (replicate (gap (length t)) 0))) in
     absurd (different t e (sym there ∙ none))
 unwritten_by written moves room e (Err d) all none within = refl
 
@@ -165,8 +168,11 @@ count n = Ok n
 -- ---- filled up
 
 pub padded_long : (t : List ℕ) → length (padded t) ≡ rounded (length t)
-padded_long t = omega (arith, length-append t (replicate (gap (length t)) 0),
-    length-replicate {A = ℕ} (gap (length t)) 0)
+padded_long t = omega (
+  arith,
+  length-append t (replicate (gap (length t)) 0),
+  length-replicate {A = ℕ} (gap (length t)) 0,
+)
 
 -- what `put` leaves: the table, filled up, and what stood after it
 pub put_bytes : (old new out t : List ℕ) (size : ℕ) → size ≤ length old → drop size new ≡ drop size old
@@ -176,10 +182,10 @@ pub put_bytes : (old new out t : List ℕ) (size : ℕ) → size ≤ length old 
 put_bytes old new out t size within rest same is filled =
     let long : length t ≡ size = ap length is ∙ length-take-le size new (omega (arith, within, same)) in
     let after : drop (rounded size) new ≡ drop (rounded size) old =
-        sym (drop-drop (gap size) size new) ∙ ap (drop (gap size)) rest ∙ drop-drop (gap size) size old in
+    sym (drop-drop (gap size) size new) ∙ ap (drop (gap size)) rest ∙ drop-drop (gap size) size old in
     let whole : length (padded t) ≡ rounded size = padded_long t ∙ ap rounded long in
     filled ∙ ap (λ z. z ++ (replicate (gap size) 0 ++ drop (rounded size) new)) (sym is)
-        ∙ ap (λ z. t ++ (replicate (gap size) 0 ++ z)) after
+    ∙ ap (λ z. t ++ (replicate (gap size) 0 ++ z)) after
     ∙ sym (append_assoc t (replicate (gap size) 0) (drop (rounded size) old))
     ∙ ap (λ n. (t ++ replicate (gap n) 0) ++ drop (rounded size) old) (sym long)
     ∙ ap (λ n. padded t ++ drop n old) (sym whole)
@@ -219,7 +225,7 @@ pub listed_error : {A : Type 0} (w : Written A) (ids : TableIds) (cs : List A) (
     → listed_after w size ids (drop i cs) ≡ Err e
 listed_error w ids cs i size x e is less same =
     ap (listed_after w size ids) (opens cs i x is less) ∙ after_error (w most ids x) size e
-        (check_each w ids (drop (i + 1) cs)) (laid (map (bytes_by w ids) (drop (i + 1) cs))) same
+    (check_each w ids (drop (i + 1) cs)) (laid (map (bytes_by w ids) (drop (i + 1) cs))) same
 
 pub listed_step : {A : Type 0} (w : Written A) (Fits : A → Type 0) (ids : TableIds) (cs : List A) (i size more r : ℕ)
     (total : Result ℕ WriterError) (x : A) → x ≡ get_or cs i x → i < length cs → sized (w most ids x) ≡ Ok more
@@ -241,8 +247,16 @@ listed_step w Fits ids cs i size more r total x is less e fit short same before 
 put_long : {X : Type 0} (a k : ℕ) (xs ys : List X) → a + k ≤ length xs → length ys ≡ k
     → length (put_mid a k xs ys) ≡ length xs
 put_long a k xs ys within long =
-    omega (arith, length-append (take a xs) (ys ++ post_of a k xs), length-append ys (post_of a k xs),
-        length-take-le a xs (omega (arith, within)), length-drop a xs, length-drop k (drop a xs), within, long)
+    omega (
+      arith,
+      length-append (take a xs) (ys ++ post_of a k xs),
+      length-append ys (post_of a k xs),
+      length-take-le a xs (omega (arith, within)),
+      length-drop a xs,
+      length-drop k (drop a xs),
+      within,
+      long,
+    )
 
 pub addresses_step : {A : Type 0} (w : Written A) (ids : TableIds) (cs : List A) (i place at p long sum : ℕ)
     (out new total : List ℕ) (x : A) → x ≡ get_or cs i x → i < length cs → long ≡ 8 * length cs
@@ -260,11 +274,11 @@ addresses_step w ids cs i place at p long sum out new total x here_is less whole
     let opened : here ≡ bytes_by w ids x ∷ rest = ap (map (bytes_by w ids)) (opens cs i x here_is less) in
     let eight : length new ≡ 8 = ap length is ∙ length-spelling 8 place in
     let put = take-put_mid at (at + 8 - at) out new (at + 8) (omega (arith, eight))
-        (omega (arith, before.1, before.2, whole, less)) in
+    (omega (arith, before.1, before.2, whole, less)) in
     let next : List ℕ = flat_map (spelling 8) (addresses (place + p) rest) in
     let all : spelling 8 place ++ next ≡ flat_map (spelling 8) (addresses place here) =
     ap (λ n. spelling 8 place ++ flat_map (spelling 8) (addresses (place + n) rest)) size
-        ∙ sym (ap (λ ts. flat_map (spelling 8) (addresses place ts)) opened) in (
+    ∙ sym (ap (λ ts. flat_map (spelling 8) (addresses place ts)) opened) in (
       ap (λ z. z ++ next) put ∙ append_assoc (take at out) new next ∙ ap (λ z. take at out ++ (z ++ next)) is
           ∙ ap (λ z. take at out ++ z) all ∙ before.0,
       omega (arith, before.1),
@@ -286,23 +300,31 @@ put_step w ids cs i at p long out new total x here_is less size is before =
     let rest = map (bytes_by w ids) (drop (i + 1) cs) in
     let this = placed_by w ids x in
     let opened : map (bytes_by w ids) (drop i cs) ≡ bytes_by w ids x ∷ rest =
-        ap (map (bytes_by w ids)) (opens cs i x here_is less) in
+    ap (map (bytes_by w ids)) (opens cs i x here_is less) in
     let within : length part ≡ length out - at =
-        length-take-le (length out - at) (drop at out) (omega (arith, length-drop at out)) in
+    length-take-le (length out - at) (drop at out) (omega (arith, length-drop at out)) in
     let fills : length new ≡ length out - at =
-    omega (arith, ap length is, length-append this (drop (length this) part), length-drop (length this) part, within,
-        before.1, ap (λ ts. length (laid ts)) opened, length-append this (laid rest)) in
+    omega (
+      arith,
+      ap length is,
+      length-append this (drop (length this) part),
+      length-drop (length this) part,
+      within,
+      before.1,
+      ap (λ ts. length (laid ts)) opened,
+      length-append this (laid rest),
+    ) in
     let same : length (put_mid at (length out - at) out new) ≡ length out =
-        put_long at (length out - at) out new (omega (arith, before.1)) fills in
+    put_long at (length out - at) out new (omega (arith, before.1)) fills in
     let split : put_mid at (length out - at) out new ≡ (take at out ++ this)
-        ++ (drop (length this) part ++ post_of at (length out - at) out) =
+    ++ (drop (length this) part ++ post_of at (length out - at) out) =
     ap (λ z. take at out ++ (z ++ post_of at (length out - at) out)) is
-        ∙ ap (λ z. take at out ++ z) (append_assoc this (drop (length this) part) (post_of at (length out - at) out))
+    ∙ ap (λ z. take at out ++ z) (append_assoc this (drop (length this) part) (post_of at (length out - at) out))
     ∙ sym (append_assoc (take at out) this (drop (length this) part ++ post_of at (length out - at) out)) in
     let front : take (at + p) (put_mid at (length out - at) out new) ≡ take at out ++ this =
     ap (take (at + p)) split ∙ take_at (take at out ++ this) (drop (length this) part
-        ++ post_of at (length out - at) out) (at + p)
-        (omega (arith, size, length-append (take at out) this, length-take-le at out (omega (arith, before.1)))) in (
+    ++ post_of at (length out - at) out) (at + p)
+    (omega (arith, size, length-append (take at out) this, length-take-le at out (omega (arith, before.1)))) in (
       ap (λ z. z ++ laid rest) front ∙ append_assoc (take at out) this (laid rest)
           ∙ ap (λ z. take at out ++ z) (sym (ap laid opened)) ∙ before.0,
       omega (arith, same, before.1, size, ap (λ ts. length (laid ts)) opened, length-append this (laid rest)),
@@ -317,15 +339,23 @@ addresses_long a (t ∷ ts) = omega (arith, addresses_long (a + length (padded t
 
 pub spelled_long : (ps : List ℕ) → length (flat_map (spelling 8) ps) ≡ 8 * length ps
 spelled_long [] = refl
-spelled_long (p ∷ ps) = omega (arith, length-append (spelling 8 p) (flat_map (spelling 8) ps), length-spelling 8 p,
-    spelled_long ps)
+spelled_long (p ∷ ps) = omega (
+  arith,
+  length-append (spelling 8 p) (flat_map (spelling 8) ps),
+  length-spelling 8 p,
+  spelled_long ps,
+)
 
 -- the XSDT's body
 pub root_long : {A : Type 0} (w : Written A) (start : ℕ) (ids : TableIds) (cs : List A)
     → 36 + length (flat_map (spelling 8) (addresses start (map (bytes_by w ids) cs))) ≡ 36 + 8 * length cs
 root_long w start ids cs =
-    omega (arith, spelled_long (addresses start (map (bytes_by w ids) cs)),
-        addresses_long start (map (bytes_by w ids) cs), length-map cs (bytes_by w ids))
+    omega (
+      arith,
+      spelled_long (addresses start (map (bytes_by w ids) cs)),
+      addresses_long start (map (bytes_by w ids) cs),
+      length-map cs (bytes_by w ids),
+    )
 
 pub xsdt_long : {A : Type 0} (w : Written A) (start : ℕ) (x : MachineOf A) → AreIds x.ids
     → length (xsdt_from w start x) ≡ xsdt_length x
@@ -338,7 +368,7 @@ unfolding tree_by size_by
 tree_size_is w a x are =
     let xsdt = xsdt_by w a x in
     let first : length (padded xsdt) ≡ rounded (xsdt_length x) = padded_long xsdt
-        ∙ ap rounded (xsdt_long w (tables_address a x) x are) in
+    ∙ ap rounded (xsdt_long w (tables_address a x) x are) in
     let facs = facs_laid (dsdt_end a x) x.facs in
     omega (
       arith,
@@ -355,7 +385,7 @@ spelled_more : {X : Type 0} (f : X → List ℕ) (xs : List X) (i : ℕ) (d : X)
     → flat_map f (take (i + 1) xs) ≡ flat_map f (take i xs) ++ f (get_or xs i d)
 spelled_more f xs i d less =
     ap (flat_map f) (take_at_read xs i d less).1 ∙ flat_map-append f (take i xs) (get_or xs i d ∷ [])
-        ∙ ap (λ z. flat_map f (take i xs) ++ z) (append-nil (f (get_or xs i d)))
+    ∙ ap (λ z. flat_map f (take i xs) ++ z) (append-nil (f (get_or xs i d)))
 
 -- one more is measured
 pub measured_more : {X : Type 0} (f : X → List ℕ) (P : X → Type 0) (xs : List X) (i size more room : ℕ) (x : X)
@@ -364,8 +394,14 @@ pub measured_more : {X : Type 0} (f : X → List ℕ) (P : X → Type 0) (xs : L
     → Measures (Some more) (room - size) (f x) (P x)
     → Measures (Some (size + more)) room (flat_map f (take (i + 1) xs)) (All P (take (i + 1) xs))
 measured_more f P xs i size more room x is less before this = (
-  omega (arith, before.0, this.0, ap (λ y. length (f y)) is, ap length (spelled_more f xs i x less),
-      length-append (flat_map f (take i xs)) (f (get_or xs i x))),
+  omega (
+    arith,
+    before.0,
+    this.0,
+    ap (λ y. length (f y)) is,
+    ap length (spelled_more f xs i x less),
+    length-append (flat_map f (take i xs)) (f (get_or xs i x)),
+  ),
   omega (arith, before.1, this.1),
   All-more P xs i x less before.2 (subst P is this.2),
 )

@@ -77,8 +77,8 @@ base_by : (o : Option GenericAddress) → FitsRegister o → is_base o ≡ true 
     → base_found (address_bytes (register_or_zeros o)) ≡ option_map readable o
 base_by None h own somewhere = no_base
 base_by (Some a) h own somewhere =
-    rw (some_base (bytes_eq (address_bytes a) (replicate 12 0)) a refl h (is_off (a.address == 0) somewhere),
-        address_read a h own) refl
+    rw (some_base (bytes_eq (address_bytes a) (replicate 12 0)) a refl h (is_off (a.address == 0) somewhere))
+    (rw (address_read a h own) refl)
 
 filled : (a : GenericAddress) → address_bytes a ++ replicate (12 - length (address_bytes a)) 0 ≡ address_bytes a
 unfolding address_fields spelling
@@ -120,7 +120,7 @@ module _ (ids : TableIds) (c : SpcrContents) (t : List ℕ) (is : IsSpcr ids c t
   raw : filled_part t 40 12 ≡ address_bytes (register_or_zeros c.base_address)
   raw =
       let found : part t 40 12 ≡ address_bytes (register_or_zeros c.base_address) =
-          ap (take 12) (sym (drop-drop 4 36 t) ∙ ap (drop 4) rest) ∙ base_in c in
+      ap (take 12) (sym (drop-drop 4 36 t) ∙ ap (drop 4) rest) ∙ base_in c in
       ap (λ p. p ++ replicate (12 - length p) 0) found ∙ filled (register_or_zeros c.base_address)
 
   -- a field, by its place among them
@@ -187,7 +187,7 @@ module _ (ids : TableIds) (c : SpcrContents) (t : List ℕ) (is : IsSpcr ids c t
   unfolding spcr_at fixed_list
   named =
       let short : (length c.namespace_string.now + 1) % 2 ^ 16 ≡ length c.namespace_string.now + 1 =
-          omega (arith, is.short) in
+      omega (arith, is.short) in
       rw (at_place 26 (lit< tt), at_place 25 (lit< tt), short, within, name_in, name_text) refl
 
   says : SaysConsole c t
@@ -207,8 +207,16 @@ spcr_is ids c t written fit text good =
     let one = holds_ok (is_interface c.interface_type && is_base c.base_address) BadCode _ tt good in
     let two = holds_ok (is_somewhere c.base_address) NoAddress _ tt one.1 in
     let codes = and_parts (is_interface c.interface_type) (is_base c.base_address) one.0 in
-    record { written = written; fit = fit; interface = codes.0; base = codes.1; somewhere = two.0; short =
-        ltb-true (length c.namespace_string.now) 0xffff (was_true _ _ two.1); text = text }
+    record {
+      written = written;
+      fit = fit;
+      interface = codes.0;
+      base = codes.1;
+      somewhere = two.0;
+      short =
+          ltb-true (length c.namespace_string.now) 0xffff (was_true _ _ two.1);
+      text = text;
+    }
 
 -- with this name
 abbrev named_body : SpcrContents → List ℕ → List ℕ

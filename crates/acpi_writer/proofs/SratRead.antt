@@ -104,8 +104,14 @@ local_apic_says p fits =
     let field = λ (i : ℕ) (less : i < 9). read_at (local_apic_fields p) fits i less in
     let whole : p.domain % 256 + 256 * (p.domain / 256) ≡ p.domain = omega arith in
     speaks_one _ _ (local_apic_is p).0 ((local_apic_is p).1
-    ∙ rw (field 2 (lit< tt), field 3 (lit< tt), field 4 (lit< tt), field 5 (lit< tt), field 8 (lit< tt),
-    upper_domain p fits)
+    ∙ rw (
+      field 2 (lit< tt),
+      field 3 (lit< tt),
+      field 4 (lit< tt),
+      field 5 (lit< tt),
+      field 8 (lit< tt),
+      upper_domain p fits,
+    )
     (rw whole refl))
 
 x2apic_is : (p : ApicDomain) → let e = fields_bytes (local_x2apic_fields p) in IsEntry srat_layout e
@@ -200,7 +206,7 @@ ranges_by (r ∷ rs) all =
     let p = and_parts _ _ all in
     let q = and_parts _ _ p.0 in
     rw (range_by r.domain r.base r.length r.is_hot_pluggable r.is_non_volatile q.0)
-        (ap (λ ys. r ∷ ys) (ranges_by rs p.1))
+    (ap (λ ys. r ∷ ys) (ranges_by rs p.1))
 
 all_end : (rs : List MemoryRange) → list_all is_range rs ≡ true → list_all ends_below rs ≡ true
 all_end [] all = refl
@@ -213,28 +219,28 @@ module _ (c : SratContents) where
   ranges_are : list_all is_range c.ranges.now ≡ true → filter_map range_in (items c) ≡ c.ranges.now
   ranges_are all =
       three range_in (map apic_item c.apics.now) (map gicc_item c.giccs.now) (map memory_item c.ranges.now) [] []
-          c.ranges.now
+      c.ranges.now
       (none_of range_in apic_item (λ p. no_range_by (is_small p) p) c.apics.now)
-          (none_of range_in gicc_item (λ p. refl) c.giccs.now) (ranges_by c.ranges.now all)
+      (none_of range_in gicc_item (λ p. refl) c.giccs.now) (ranges_by c.ranges.now all)
 
   apics_are : (id : ℕ) → filter_map (apic_domain id) (items c) ≡ filter_map
       (λ p. if p.local_apic_id == id then Some p.domain else None) c.apics.now
   apics_are id =
       three (apic_domain id) (map apic_item c.apics.now) (map gicc_item c.giccs.now) (map memory_item c.ranges.now)
-          _ [] []
+      _ [] []
       (filtered (apic_domain id) apic_item (λ p. if p.local_apic_id == id then Some p.domain else None)
-          (λ p. apic_in_by (is_small p) id p) c.apics.now)
+      (λ p. apic_in_by (is_small p) id p) c.apics.now)
       (none_of (apic_domain id) gicc_item (λ p. refl) c.giccs.now)
-          (none_of (apic_domain id) memory_item (λ r. refl) c.ranges.now) ∙ append-nil _
+      (none_of (apic_domain id) memory_item (λ r. refl) c.ranges.now) ∙ append-nil _
 
   giccs_are : (uid : ℕ) → filter_map (processor_domain uid) (items c)
       ≡ filter_map (λ p. if p.processor_uid == uid then Some p.domain else None) c.giccs.now
   giccs_are uid =
       three (processor_domain uid) (map apic_item c.apics.now) (map gicc_item c.giccs.now)
-          (map memory_item c.ranges.now) [] _ []
+      (map memory_item c.ranges.now) [] _ []
       (none_of (processor_domain uid) apic_item (λ p. no_uid_by (is_small p) uid p) c.apics.now)
       (filtered (processor_domain uid) gicc_item (λ p. if p.processor_uid == uid then Some p.domain else None)
-          (λ p. refl) c.giccs.now)
+      (λ p. refl) c.giccs.now)
       (none_of (processor_domain uid) memory_item (λ r. refl) c.ranges.now) ∙ append-nil _
 
 -- ---- the table
@@ -246,11 +252,11 @@ srat_name = record { a = _; b = _; c = _; d = _; letters = refl; text = refl; sa
 entries_speak : (c : SratContents) → AreFit c → Speaks (srat_entries c) (items c)
 entries_speak c f =
     speaks_both _ _ _ _ (speaks_all FitsApic apic_entry apic_item apic_says c.apics.now
-        (recursion_from_All FitsApic c.apics.now f.apics))
+    (recursion_from_All FitsApic c.apics.now f.apics))
     (speaks_both _ _ _ _ (speaks_all FitsGicc gicc_entry gicc_item gicc_says c.giccs.now
-        (recursion_from_All FitsGicc c.giccs.now f.giccs))
+    (recursion_from_All FitsGicc c.giccs.now f.giccs))
     (speaks_all FitsRange memory_entry memory_item memory_says c.ranges.now
-        (recursion_from_All FitsRange c.ranges.now f.ranges)))
+    (recursion_from_All FitsRange c.ranges.now f.ranges)))
 
 told : (ranges : List MemoryRange) (t : List ℕ) → (cut_of t).1 ≡ [] → ranges_of t ≡ ranges
     → list_all ends_below ranges ≡ true → affinities_of t ≡ Ok ranges

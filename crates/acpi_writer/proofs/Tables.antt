@@ -70,8 +70,8 @@ raw_by : (s : Signature) (a b c d revision : ℕ) (ids : TableIds) (body : List 
     → unsummed s revision ids body ≡ fields a b c d (36 + length body) revision ids body
 unfolding table_head spelling
 raw_by s a b c d revision ids body letters =
-    rw (letters, append_assoc ids.oem_id (ids.oem_table_id ++ makers ids) body,
-    append_assoc ids.oem_table_id (makers ids) body) refl
+    rw (letters, append_assoc ids.oem_id (ids.oem_table_id ++ makers ids) body)
+    (rw (append_assoc ids.oem_table_id (makers ids) body) refl)
 
 module _ (s : Signature) (name : IsName s) (revision : ℕ) (ids : TableIds) (are : AreIds ids) (body : List ℕ) where
   raw_is : unsummed s revision ids body ≡ fields name.a name.b name.c name.d (36 + length body) revision ids body
@@ -81,8 +81,11 @@ module _ (s : Signature) (name : IsName s) (revision : ℕ) (ids : TableIds) (ar
   head_long = head_length s revision ids (ap length name.letters) are
 
   pub raw_long : length (unsummed s revision ids body) ≡ 36 + length body
-  raw_long = omega (arith, length-append (table_head s revision ids (36 + length body)) body,
-      head_long (36 + length body))
+  raw_long = omega (
+    arith,
+    length-append (table_head s revision ids (36 + length body)) body,
+    head_long (36 + length body),
+  )
 
   pub table_long : length (table_bytes s revision ids body) ≡ 36 + length body
   unfolding table_bytes
@@ -119,8 +122,8 @@ module _ (s : Signature) (name : IsName s) (revision : ℕ) (ids : TableIds) (ar
   unfolding spelling
   raw_table_id =
       ap (λ b. part b 16 8) raw_is ∙ ap (take 8)
-          (drop_at ids.oem_id (ids.oem_table_id ++ (makers ids ++ body)) 6 are.oem_id)
-          ∙ take_at ids.oem_table_id (makers ids ++ body) 8 are.oem_table_id
+      (drop_at ids.oem_id (ids.oem_table_id ++ (makers ids ++ body)) 6 are.oem_id)
+      ∙ take_at ids.oem_table_id (makers ids ++ body) 8 are.oem_table_id
 
   raw_is_table : are_texts ids ≡ true → 36 + length body < 2 ^ 32 → IsTable (unsummed s revision ids body)
   raw_is_table texts short =
@@ -145,15 +148,15 @@ is_taken : (b : List ℕ) → IsTable b → is_table b ≡ true
 unfolding is_table
 is_taken b is =
     and_from _ _ (le-leb 36 (length b) is.long)
-        (and_from _ _ (eq-eqb (field_of b 4 4) (length b) is.whole)
-        (and_from _ _ is.signature (and_from _ _ is.id is.table_id)))
+    (and_from _ _ (eq-eqb (field_of b 4 4) (length b) is.whole)
+    (and_from _ _ is.signature (and_from _ _ is.id is.table_id)))
 
 is_checked : (s : Signature) (b : List ℕ) → IsTable b → is_named s b ≡ true → sum_of b ≡ 0 → check_table s b ≡ Ok tt
 unfolding check_table check_names header_at
 is_checked s b is named sum =
     let all : take (length b) b ≡ b = take_all (length b) b (omega arith) in
-    rw (named, is.signature, is.id, is.table_id, is.whole, le-leb 36 (length b) is.long,
-        le-leb (length b) (length b) (omega arith), all, sum) refl
+    rw (named, is.signature, is.id, is.table_id, is.whole, le-leb 36 (length b) is.long)
+    (rw (le-leb (length b) (length b) (omega arith), all, sum) refl)
 
 module _ (s : Signature) (name : IsName s) (revision : ℕ) (ids : TableIds) (body table : List ℕ)
     (is : IsTableOf s revision ids body table) where
@@ -264,4 +267,4 @@ module _ (s : Signature) (a b c d revision : ℕ) (ids : TableIds) (body : List 
 pub ids_are_read : IdsAreRead
 ids_are_read s a b c d revision ids body table letters is =
     subst (λ (t : List ℕ). HasIds revision ids (header_at t)) (sym is.bytes)
-        (ids_read s a b c d revision ids body letters is.ids_fit)
+    (ids_read s a b c d revision ids body letters is.ids_fit)

@@ -20,7 +20,7 @@ use Rattle.acpi_writer.specs.declared.facs.FacsContents.{FacsContents}
 unfoldable pub facs_bytes : FacsContents → List ℕ
 facs_bytes c =
     letters_of FACS ++ (spelling 4 64 ++ (spelling 4 c.hardware_signature
-        ++ (spelling 4 c.waking_vector ++ (spelling 4 0
+    ++ (spelling 4 c.waking_vector ++ (spelling 4 0
     ++ ((bit_of c.supports_s4bios + 2 * bit_of c.supports_64_bit_wake) ∷ 0 ∷ 0 ∷ 0 ∷ (spelling 8 c.x_waking_vector
     ++ (2 ∷ replicate 31 0)))))))
 

@@ -55,10 +55,7 @@ pub(crate) fn facs_bytes(contents: &FacsContents) -> [u8; 64]
 /// OSPM Flags are 0. It has no checksum, and no header by which its makers are known.
 ///
 /// Returns `NoRoom` if the slice is shorter than the FACS.
-#[tactic(
-    auto,
-    unfolding(crate::specs::Facs::facs_written, crate::specs::Facs::facs_bytes, acpi_base::specs::Bytes::spelling)
-)]
+#[tactic(auto, unfolding(crate::specs::Facs::facs_written, crate::specs::Facs::facs_bytes, acpi_base::specs::Bytes::spelling))]
 pub fn write_facs(out: &mut [u8], contents: &FacsContents) -> Result<usize, WriterError>
     // The bytes, or the error, are those that are defined.
     ensures exact { Gives (λ n. take n out.new) result

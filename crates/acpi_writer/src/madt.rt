@@ -142,8 +142,7 @@ macro_rules! body_of {
 }
 
 impl<P: Spelled, I: Spelled, O: Spelled, S: Spelled, L: Spelled> Spelled
-    for MadtLists<'_, P, I, O, S, L>
-{
+    for MadtLists<'_, P, I, O, S, L> {
     ghost spelled = { λ x. bytes.madt_body_of x.local_apic_address x.also_has_legacy_pics x.wakeup_mailbox (record {
       processors = flat_map P.spelled x.processors.now;
       io_apics = flat_map I.spelled x.io_apics.now;

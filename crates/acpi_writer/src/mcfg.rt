@@ -46,7 +46,13 @@ pub fn write_mcfg_of<E: Spelled>(
         IsTableOf MCFG 1 ids.now (bytes.mcfg_reserved ++ flat_map E.spelled regions.now) (take n out.new)) }
     ensures fits { IfOk result (λ n. All E.fits regions.now) }
 {
-    write_table(out, Signature::MCFG, 1, ids, &Then(Field::Zeros(8), Each(regions)))
+    write_table(
+        out,
+        Signature::MCFG,
+        1,
+        ids,
+        &Then(Field::Zeros(8), Each(regions)),
+    )
 }
 
 /// How many bytes the MCFG has, or the first error of `write_mcfg_of` in a slice of any length.
@@ -55,7 +61,12 @@ pub fn mcfg_size<E: Spelled>(ids: &TableIds, regions: &[E]) -> Result<usize, Wri
     ensures short { IfOk result (λ n. n < 2 ^ 32) }
     ensures fits { IfOk result (λ n. All E.fits regions.now) }
 {
-    table_size(Signature::MCFG, 1, ids, &Then(Field::Zeros(8), Each(regions)))
+    table_size(
+        Signature::MCFG,
+        1,
+        ids,
+        &Then(Field::Zeros(8), Each(regions)),
+    )
 }
 
 /// Writes an MCFG of revision 1 to the front of a slice, and returns how many bytes it has: 44, and 16 for each region.

@@ -8,4 +8,4 @@ abbrev pub invariant-loop-table : goal.invariant-loop-table
 invariant-loop-table g l =
     let rest = map (bytes_by g.T.Listed.written l.ids) (drop l.table-index l.tables) in
     (take l.at l.out ++ laid rest ≡ laid (map (bytes_by g.T.Listed.written l.ids) l.tables))
-        × (l.at + length (laid rest) ≡ length l.out) × (length l.out ≡ length l.fn.out)
+    × (l.at + length (laid rest) ≡ length l.out) × (length l.out ≡ length l.fn.out)
