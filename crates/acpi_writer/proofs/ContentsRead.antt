@@ -1,12 +1,12 @@
 -- The tables that an XSDT lists, as they are written, and what a reader says of them where a lookup finds the first of
 -- each signature.
-use Rattle.std.proofs.Common.{◌≡◌, ℕ, ◌+◌, ◌*◌, ◌^◌, ◌<◌, ◌≤◌, Bool, true, false, List, [], ◌∷◌, length, map, Option, Some, None, Ok, refl, sym, ap, subst, if◌then◌else◌, Result, arith, lit≤, length-append}
-use Rattle.std.specs.Prelude.{◌&&◌, IsUtf8, not, slice_get}
+use Rattle.std.proofs.Common.{◌≡◌, ℕ, ◌+◌, ◌*◌, ◌<◌, ◌≤◌, Bool, true, false, List, [], ◌∷◌, length, map, Option, Some, None, Ok, refl, sym, ap, subst, if◌then◌else◌, Result, arith, lit≤, length-append}
+use Rattle.std.specs.Prelude.{◌&&◌, slice_get}
 use Rattle.std.specs.List.{AllByRecursion}
 use Rattle.std.specs.Str.{bytes_eq, is_utf8}
 use Rattle.std.proofs.lemmas.Bool.{and_parts, le-leb}
 use Rattle.std.proofs.lemmas.Slice.Eq.{bytes_eq-Decides}
-use Rattle.acpi_base.proofs.Steps.{bind_ok, holds_ok}
+use Rattle.acpi_base.proofs.Steps.{bind_ok}
 use Rattle.acpi_base.specs.Bytes.{part, spelling}
 use Rattle.acpi_base.specs.Header.{check_names, check_table, header_at}
 use Rattle.acpi_base.specs.Steps.{◌>>=◌, holds}
@@ -14,25 +14,24 @@ use Rattle.acpi_base.specs.Text.{letters_of}
 use Rattle.acpi_base.specs.declared.table.signature.Signature.{Signature}
 use Rattle.acpi_base.specs.declared.table.signature.TheConstants.Signature.{BGRT, FADT, GTDT, HPET, MADT, MCFG, SLIT, SPCR, SRAT, SSDT}
 use Rattle.acpi_writer.specs.Bgrt.{IsBgrt, bgrt_body, SaysImage}
-use Rattle.acpi_writer.specs.Checked.{all_checked}
 use Rattle.acpi_writer.specs.Contents.{FitsContents, bytes_of, contents_written, most, or_none, placed, signature_of}
 use Rattle.acpi_writer.specs.FadtBytes.{fadt_body, fadt_checked, fadt_written, fixed_of}
-use Rattle.acpi_writer.specs.FadtLaws.{AreFitFor, IsFadt}
-use Rattle.acpi_writer.specs.GicMadt.{AreGicFit, IsGicMadt, gic_body, gic_checked, gic_written, gic_read}
-use Rattle.acpi_writer.specs.Gtdt.{AreTimersFit, IsGtdt, gtdt_body, gtdt_checked, gtdt_written, SaysTimers}
+use Rattle.acpi_writer.specs.FadtLaws.{IsFadt}
+use Rattle.acpi_writer.specs.GicMadt.{IsGicMadt, gic_body, gic_checked, gic_written, gic_read}
+use Rattle.acpi_writer.specs.Gtdt.{IsGtdt, gtdt_body, gtdt_checked, gtdt_written, SaysTimers}
 use Rattle.acpi_writer.specs.HpetBytes.{hpet_body}
 use Rattle.acpi_writer.specs.HpetLaws.{IsHpet}
 use Rattle.acpi_writer.specs.ImageLaws.{is_named}
 use Rattle.acpi_writer.specs.Machine.{check_tables}
 use Rattle.acpi_writer.specs.MachineLaws.{AreValid, first_at, first_of, place_of, HasFadt, HasTable, Says, platform_read}
-use Rattle.acpi_writer.specs.MadtBytes.{is_empty, madt_body, madt_checked, madt_entries, madt_fixed, madt_written}
-use Rattle.acpi_writer.specs.MadtLaws.{AreFit, IsMadt, model_read}
+use Rattle.acpi_writer.specs.MadtBytes.{madt_body, madt_checked, madt_entries, madt_fixed, madt_written}
+use Rattle.acpi_writer.specs.MadtLaws.{IsMadt, model_read}
 use Rattle.acpi_writer.specs.McfgBytes.{mcfg_body}
 use Rattle.acpi_writer.specs.McfgLaws.{IsMcfg}
 use Rattle.acpi_writer.specs.Slit.{IsSlit, slit_body, slit_checked, slit_written}
 use Rattle.acpi_writer.specs.Spcr.{spcr_body, spcr_checked, spcr_written}
-use Rattle.acpi_writer.specs.SpcrLaws.{FitsSpcr, IsSpcr, SaysConsole}
-use Rattle.acpi_writer.specs.Srat.{SratContents, srat_body, srat_checked_by, srat_entries, srat_reserved, srat_written, srat_written_by}
+use Rattle.acpi_writer.specs.SpcrLaws.{IsSpcr, SaysConsole}
+use Rattle.acpi_writer.specs.Srat.{SratContents, srat_body, srat_checked_by, srat_entries, srat_reserved, srat_written_by}
 use Rattle.acpi_writer.specs.Table.{AreIds, IsTableOf, IsValid, table_written}
 use Rattle.acpi_writer.specs.declared.contents.TableContents.{TableContents}
 use Rattle.acpi_writer.specs.declared.contents.TableContents.TheVariants.{Bgrt, Fadt, GicMadt, Gtdt, Hpet, Madt, Mcfg, Slit, Spcr, Srat, Ssdt}

@@ -1,5 +1,5 @@
 -- What a reader finds in the structures that are written without the header of a table: an RSDP and a FACS.
-use Rattle.std.proofs.Common.{◌≡◌, ℕ, ◌^◌, ◌<◌, true, false, List, [], ◌∷◌, ◌++◌, length, take, Ok, refl, sym, ap, subst, ◌∙◌, arith, length-append, ◌+◌, ◌*◌, Bool, Some, ◌-◌, Option, None}
+use Rattle.std.proofs.Common.{◌≡◌, ℕ, ◌^◌, ◌<◌, true, false, List, [], ◌∷◌, ◌++◌, length, take, Ok, refl, sym, ap, subst, ◌∙◌, arith, length-append, ◌+◌, ◌*◌, Some, ◌-◌, Option, None}
 use Rattle.std.specs.Prelude.{◌==◌, replicate}
 use Rattle.std.specs.Str.{is_utf8}
 use Rattle.std.proofs.lemmas.Bool.{and_parts}

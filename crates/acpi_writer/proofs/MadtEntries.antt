@@ -34,10 +34,8 @@ use Rattle.acpi_base.specs.declared.model.interrupt.TriggerMode.{TriggerMode}
 use Rattle.acpi_writer.specs.declared.madt.MadtProcessor.{MadtProcessor}
 use Rattle.acpi_writer.specs.MadtBytes.{inti_flags, io_apic_fields, nmi_source_fields, override_fields, address_entries, apic_nmi_fields, io_apic_entry, is_small, local_apic_fields, local_x2apic_fields, long_uid, names_one, nmi_fields, nmi_line_entry, nmi_source_entry, override_address_fields, override_entry, processor_entry, short_uid, wakeup_entries, wakeup_fields, x2apic_nmi_fields}
 use Rattle.acpi_writer.specs.MadtLaws.{FitsAddress, FitsIoApic, FitsMailbox, FitsNmiSource, FitsOverride, FitsProcessor}
-use Rattle.acpi_base.specs.Bits.{has_bit}
 use Rattle.std.specs.List.{All}
-use Rattle.std.proofs.Common.{◌+◌, ◌*◌, lit<}
-use Rattle.acpi_writer.specs.Table.{bit_of}
+use Rattle.std.proofs.Common.{lit<}
 use Rattle.acpi_writer.specs.Fields.{FitsField, fields_bytes}
 use Rattle.acpi_writer.proofs.FieldsRead.{read_at}
 use Rattle.acpi_writer.proofs.Bits.{one, two_bits}

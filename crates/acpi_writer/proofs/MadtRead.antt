@@ -1,5 +1,5 @@
 -- What a reader finds in a MADT that is written, and when one is.
-use Rattle.std.proofs.Common.{◌≡◌, ℕ, ◌^◌, Bool, true, false, List, [], ◌∷◌, ◌++◌, length, map, drop, Option, Some, None, Result, Ok, refl, sym, ap, ◌∙◌, arith, ◌<◌, ◌≤◌, Err}
+use Rattle.std.proofs.Common.{◌≡◌, ℕ, ◌^◌, Bool, true, false, List, [], ◌∷◌, ◌++◌, length, map, drop, Option, Some, None, Result, Ok, refl, sym, ap, ◌∙◌, arith}
 use Rattle.std.specs.Prelude.{not, if◌then◌else◌, nat_lt, slice_get}
 use Rattle.std.specs.List.{AllByRecursion, filter_map, list_all, list_any}
 use Rattle.std.specs.Option.{ok_or}
@@ -16,14 +16,11 @@ use Rattle.acpi_base.specs.declared.error.AcpiError.{AcpiError}
 use Rattle.acpi_base.specs.declared.error.AcpiError.TheVariants.{InvalidMadt}
 use Rattle.acpi_base.specs.declared.error.MadtError.TheVariants.{UnexpectedEntry}
 use Rattle.acpi_base.specs.declared.model.interrupt.Apic.{Apic}
-use Rattle.acpi_base.specs.declared.model.interrupt.InterruptSourceOverride.{InterruptSourceOverride}
-use Rattle.acpi_base.specs.declared.model.interrupt.IoApic.{IoApic}
 use Rattle.acpi_base.specs.declared.model.interrupt.NmiLine.{NmiLine}
-use Rattle.acpi_base.specs.declared.model.interrupt.NmiSource.{NmiSource}
 use Rattle.acpi_base.specs.declared.model.item.MadtItem.{MadtItem}
 use Rattle.acpi_base.specs.declared.model.processor.ProcessorInfo.{ProcessorInfo}
 use Rattle.acpi_base.specs.declared.table.signature.TheConstants.Signature.{MADT}
-use Rattle.acpi_writer.specs.Table.{bit_of, IsTableOf, table_written}
+use Rattle.acpi_writer.specs.Table.{bit_of, IsTableOf}
 use Rattle.acpi_writer.specs.declared.ids.TableIds.{TableIds}
 use Rattle.acpi_writer.specs.declared.madt.MadtContents.{MadtContents}
 use Rattle.acpi_writer.specs.declared.madt.MadtProcessor.{MadtProcessor}
@@ -33,11 +30,7 @@ use Rattle.acpi_base.proofs.Steps.{holds_ok}
 use Rattle.acpi_writer.proofs.Bits.{is_off, was_true}
 use Rattle.acpi_writer.proofs.Rows.{all_of, both, each_of, none_of}
 use Rattle.acpi_writer.proofs.MadtEntries.{Speaks, address_items, address_says, boxes_read, io_apic_says, nmi_line_says, nmi_source_says, override_says, processor_item, processor_says, speaks_all, speaks_both, spoken_cut, spoken_mailbox, spoken_model, wakeup_items, wakeup_says}
-use Rattle.acpi_writer.specs.declared.error.WriterError.{WriterError}
 use Rattle.acpi_writer.specs.declared.error.WriterError.TheVariants.{IdOfAll, NoProcessor}
-use Rattle.acpi_writer.specs.declared.madt.gic.GicContents.{GicContents}
-use Rattle.acpi_writer.specs.Checked.{all_checked}
-use Rattle.acpi_writer.specs.GicMadt.{gic_body, gic_written, interface_checked}
 use Rattle.acpi_base.specs.Model as read
 use Rattle.acpi_base.specs.declared.model.interrupt.InterruptModel.TheVariants as model
 use Rattle.acpi_base.specs.declared.model.item.MadtItem.TheVariants as item

@@ -6,9 +6,9 @@ use Rattle.std.proofs.lemmas.List.{append-nil}
 use Rattle.acpi_base.specs.Address.{access_size_of, generic_address_of, size_code, space_code, space_of}
 use Rattle.acpi_base.specs.Bytes.{field_of, filled_part, part, spelling}
 use Rattle.acpi_base.specs.declared.address.AccessSize.{AccessSize}
-use Rattle.acpi_base.specs.declared.address.AccessSize.TheVariants.{Undefined, ByteAccess, WordAccess, DWordAccess, QWordAccess}
+use Rattle.acpi_base.specs.declared.address.AccessSize.TheVariants.{Undefined}
 use Rattle.acpi_base.specs.declared.address.AddressSpace.{AddressSpace}
-use Rattle.acpi_base.specs.declared.address.AddressSpace.TheVariants.{SystemMemory, SystemIo, PciConfigSpace, EmbeddedController, SMBus, SystemCmos, PciBarTarget, Ipmi, GeneralIo, GenericSerialBus, PlatformCommunicationsChannel, FunctionalFixedHardware, OemDefined}
+use Rattle.acpi_base.specs.declared.address.AddressSpace.TheVariants.{OemDefined}
 use Rattle.acpi_base.specs.declared.address.GenericAddress.{GenericAddress}
 use Rattle.acpi_fixed.specs.Gpe.{gpe_of}
 use Rattle.acpi_fixed.specs.Registers.{block_at, block_of, has_extended, optional_block_of, register_of, timer_block_of, usable_extended}

@@ -1,15 +1,12 @@
 -- What a reader finds in the short tables that are written: an HPET, a BGRT, an MCFG, a SLIT, root tables, and tables
 -- of
 -- AML.
-use Rattle.std.proofs.Common.{◌≡◌, ℕ, ◌^◌, ◌<◌, Result, Ok, refl, ap, ◌∙◌, arith, ◌+◌, ◌*◌, Bool, true, false, [], ◌∷◌, length, ◌/◌, List, ◌++◌, drop, sym, length-append, get_or, lit<}
-use Rattle.std.specs.Prelude.{◌==◌, if◌then◌else◌, flat_map, Option, Some, slice_get}
+use Rattle.std.proofs.Common.{◌≡◌, ℕ, ◌^◌, ◌<◌, Ok, refl, ap, ◌∙◌, arith, ◌+◌, ◌*◌, Bool, true, false, [], ◌∷◌, length, ◌/◌, List, ◌++◌, drop, sym, length-append, get_or, lit<}
+use Rattle.std.specs.Prelude.{flat_map, Option, Some, slice_get}
 use Rattle.std.specs.Str.{chars, is_utf8}
 use Rattle.acpi_base.proofs.Spelling.{number-spelling, length-spelling}
 use Rattle.acpi_base.specs.Bits.{bits_of, has_bit}
 use Rattle.acpi_base.specs.Bytes.{field_of, spelling}
-use Rattle.acpi_base.specs.Steps.{◌>>=◌, holds}
-use Rattle.acpi_base.specs.declared.error.AcpiError.{AcpiError}
-use Rattle.acpi_base.specs.declared.error.AcpiError.TheVariants.{InvalidGenericAddress}
 use Rattle.acpi_base.specs.declared.table.signature.TheConstants.Signature.{HPET, BGRT, MCFG, SLIT, DSDT, SSDT}
 use Rattle.acpi.specs.Hpet.{hpet_at, protection_of}
 use Rattle.acpi.specs.declared.hpet.HpetInfo.{HpetInfo}
@@ -19,7 +16,6 @@ use Rattle.acpi_writer.specs.HpetLaws.{HpetIsRead, HpetIsValid}
 use Rattle.acpi_writer.proofs.Bits.{was_true}
 use Rattle.acpi_writer.proofs.FieldsRead.{read_end, read_front}
 use Rattle.acpi_fixed.specs.Bgrt.{bgrt_at}
-use Rattle.acpi_fixed.specs.declared.bgrt.ImageType.TheVariants.{Bitmap, Reserved}
 use Rattle.acpi_writer.specs.Bgrt.{BgrtIsRead, BgrtIsValid, bgrt_body, bgrt_fields, degrees_of, orientation_code}
 use Rattle.acpi_writer.specs.Table.{bit_of, IsTableOf}
 use Rattle.acpi_writer.specs.declared.bgrt.BgrtContents.{BgrtContents}

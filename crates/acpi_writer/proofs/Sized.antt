@@ -1,23 +1,22 @@
 -- How many bytes tables have, one by one and laid out, and that the room for one changes only whether it fits.
 use Rattle.std.proofs.Common.{◌≡◌, ℕ, ◌+◌, ◌^◌, ◌<◌, ◌≤◌, true, List, [], length, Result, Ok, Err, refl, sym, ap, ◌∙◌, arith, length-append, ◌-◌, ◌∷◌, ◌++◌, take, drop, get_or, map, subst, append_assoc, length-drop, Some}
-use Rattle.std.specs.Prelude.{nat_le, nat_lt, not, replicate, ◌*◌, flat_map}
+use Rattle.std.specs.Prelude.{nat_le, nat_lt, replicate, ◌*◌, flat_map}
 use Rattle.std.proofs.lemmas.Bool.{leb-true, ltb-true}
 use Rattle.acpi_base.proofs.Steps.{holds_ok, same_ok}
-use Rattle.acpi_base.specs.Steps.{◌>>=◌, holds}
+use Rattle.acpi_base.specs.Steps.{◌>>=◌}
 use Rattle.acpi_base.specs.Text.{letters_of}
 use Rattle.acpi_base.specs.declared.table.signature.Signature.{Signature}
 use Rattle.acpi_base.specs.declared.table.signature.TheConstants.Signature.{BGRT, FADT, GTDT, HPET, MADT, MCFG, SLIT, SPCR, SRAT, SSDT, XSDT}
 use Rattle.acpi_numa.specs.declared.srat.affinities.MemoryRange.{MemoryRange}
 use Rattle.acpi_image.proofs.Written.{length-with_sum}
 use Rattle.acpi_writer.specs.Bgrt.{bgrt_body}
-use Rattle.acpi_writer.specs.Checked.{all_checked}
 use Rattle.acpi_writer.specs.Contents.{Moves, contents_written, most, or_none, Written, bytes_by, placed_by, sized}
 use Rattle.acpi_writer.specs.FadtBytes.{fadt_body, fadt_checked, fadt_written}
 use Rattle.acpi_writer.specs.GicMadt.{gic_body, gic_checked, gic_written}
 use Rattle.acpi_writer.specs.Gtdt.{gtdt_body, gtdt_checked, gtdt_written}
 use Rattle.acpi_writer.specs.HpetBytes.{hpet_body}
 use Rattle.acpi_writer.specs.Laid.{gap, padded, addresses, laid, rounded}
-use Rattle.acpi_writer.specs.MadtBytes.{is_empty, madt_body, madt_checked, madt_written}
+use Rattle.acpi_writer.specs.MadtBytes.{madt_body, madt_checked, madt_written}
 use Rattle.acpi_writer.specs.McfgBytes.{mcfg_body}
 use Rattle.acpi_writer.specs.Slit.{slit_body, slit_checked, slit_written}
 use Rattle.acpi_writer.specs.Spcr.{spcr_body, spcr_checked, spcr_written}
@@ -26,11 +25,7 @@ use Rattle.acpi_writer.specs.Table.{AreIds, are_texts, table_bytes, table_head, 
 use Rattle.acpi_writer.specs.declared.contents.TableContents.{TableContents}
 use Rattle.acpi_writer.specs.declared.contents.TableContents.TheVariants.{Bgrt, Fadt, GicMadt, Gtdt, Hpet, Madt, Mcfg, Slit, Spcr, Srat, Ssdt}
 use Rattle.acpi_writer.specs.declared.error.WriterError.{WriterError}
-use Rattle.acpi_writer.specs.declared.error.WriterError.TheVariants.{NoProcessor}
 use Rattle.acpi_writer.specs.declared.fadt.contents.FadtContents.{FadtContents}
-use Rattle.acpi_writer.specs.declared.gtdt.GtdtContents.{GtdtContents}
-use Rattle.acpi_writer.specs.declared.madt.gic.GicContents.{GicContents}
-use Rattle.acpi_writer.specs.declared.madt.MadtContents.{MadtContents}
 use Rattle.acpi_writer.specs.declared.ids.TableIds.{TableIds}
 use Rattle.acpi_writer.specs.declared.spcr.SpcrContents.{SpcrContents}
 use Rattle.acpi_writer.proofs.Tables.{head_length, it_fits}

@@ -16,7 +16,7 @@ use Rattle.acpi_base.specs.declared.error.AcpiError.{AcpiError}
 use Rattle.acpi_base.specs.declared.table.signature.TheConstants.Signature.{SPCR}
 use Rattle.acpi_base.specs.declared.tables.spcr.interface.SpcrInterfaceType.{SpcrInterfaceType}
 use Rattle.acpi_base.specs.declared.tables.spcr.interface.SpcrInterfaceType.TheVariants as interface
-use Rattle.acpi_writer.specs.Generic.{FitsAddress, FitsRegister, address_bytes, address_fields, is_named_space, register_or_zeros}
+use Rattle.acpi_writer.specs.Generic.{FitsAddress, FitsRegister, address_bytes, address_fields, register_or_zeros}
 use Rattle.acpi_writer.specs.Spcr.{baud_code, device_written, fixed_list, interface_code, is_base, is_interface, is_somewhere, spcr_body, spcr_checked, spcr_fields, spcr_written}
 use Rattle.acpi_writer.specs.SpcrLaws.{FitsSpcr, IsSpcr, SaysConsole, SaysDevice, SaysPort, SpcrIsRead, SpcrIsValid, readable}
 use Rattle.acpi_writer.specs.Table.{IsTableOf, if_checked, table_written}
